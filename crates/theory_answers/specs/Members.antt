@@ -1,11 +1,11 @@
 -- Members of a list, what keep and all test say of them, and comparisons of numbers that are known.
-use Prim.Native.Nat.{ℕ, zero, suc, _+_, _<_}
+use Prim.Native.Nat.{ℕ, zero, suc, _+_, _≤_, _<_}
 use native.Mathlib.Omega.{arith}
-use mathlib.Core.Path.{_≡_, refl, ap}
+use mathlib.Core.Path.{_≡_, refl, sym, ap, _∙_}
 use mathlib.Core.Logic.{_⊎_, inl, inr}
 use mathlib.Core.Bool.{Bool, true, false, _&&_}
 use mathlib.Core.List.{List, [], _∷_, _++_, map}
-use lib.ListN.{length, getD}
+use lib.ListN.{length, getD, drop, length-drop}
 use lib.Dec.{T, eqb, eqb→eq, eqb-refl}
 use Rattle.meaning.specs.Base.{In, keep, consIf, all, countFrom}
 use Rattle.theory_sets.specs.Tests.{T→true, and-left, and-right, and-intro}
@@ -72,3 +72,13 @@ pub in-count : (i n : ℕ) (k : ℕ) → In k (countFrom i n) → k < i + n
 in-count i zero k m = absurd m
 in-count i (suc n) k (inl p) = omega arith
 in-count i (suc n) k (inr j) = omega (arith, in-count (suc i) n k j)
+
+-- the first of what is left of a list
+pub drop-head : {A : Type 0} (n : ℕ) (l : List A) (x d : A) (xs : List A) → drop n l ≡ x ∷ xs → (n < length l) × (getD l n d ≡ x) × (drop (suc n) l ≡ xs)
+drop-head zero [] x d xs e = absurd (let z : _≡_ {A = ℕ} 0 1 = cc in omega arith)
+drop-head zero (y ∷ ys) x d xs e = (omega arith, cc, cc)
+drop-head (suc n) [] x d xs e = absurd (let z : _≡_ {A = ℕ} 0 1 = cc in omega arith)
+drop-head (suc n) (y ∷ ys) x d xs e = let h = drop-head n ys x d xs e in (omega (arith, h .0), h .1, h .2)
+
+pub drop-over : {A : Type 0} (n : ℕ) (l : List A) → drop n l ≡ [] → length l ≤ n
+drop-over n l e = omega (arith, sym (length-drop n l) ∙ ap length e)

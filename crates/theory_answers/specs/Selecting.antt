@@ -1,0 +1,127 @@
+-- 001's selectors lie among the registers that hold values, and where the targets lie.
+use Prim.Native.Nat.{ℕ, zero, suc, _+_, _-_, _≤_, _<_}
+use native.Mathlib.Omega.{arith}
+use mathlib.Core.Path.{_≡_, refl, sym, ap, _∙_, subst}
+use mathlib.Core.Bool.{false}
+use mathlib.Core.List.{List, [], _∷_, _++_, map, append-assoc}
+use lib.ListN.{getD, length, take, drop, length-append, length-drop, List·getD-append}
+use lib.Seq.{take-suc, getD-drop, getD-append-add}
+use lib.Dec.{T, eqb, eqb·suc-zero, eqb·zero-suc}
+use lib.IntN.{ℤ}
+use Rattle.meaning.specs.Base.{all, total}
+use Rattle.meaning.specs.Grammar.{Symbol, terminal, nonterminal, Occurrence, Function, const, copy, sum, diff, prod, maxi, mini, addc, quot, Condition, range, atmost, Production, Grammar, inh, syn, att, symbolAt, conditionPosition}
+use Rattle.meaning.specs.Value.{inRange, mark}
+use Rattle.meaning.specs.Rules.{Operands, Reads, Input, InputAt, Operand}
+use Rattle.meaning.specs.Scheme.{mapFunction, mapCondition, synBetween, selectInherited, selectAfter}
+use Rattle.meaning.specs.Selectors.{occurrence}
+use Rattle.meaning.specs.Machine.{readRegister}
+use Rattle.theory_sets.specs.Tests.{all-at, all-append}
+use Rattle.theory_answers.specs.Members.{differ-false, same-true}
+use Rattle.theory_answers.specs.WellFormed.{Available}
+
+-- ---- operands through a selector
+
+module _ {O Q : Type 0} {P : O → Type 0} (R : Q → Type 0) (sel : O → Q) (h : (o : O) → P o → R (sel o)) where
+  pub operands-through : (f : Function O) → Operands P f → Operands R (mapFunction sel f)
+  operands-through (const c) u = tt
+  operands-through (copy a) u = h a u
+  operands-through (sum a b) u = (h a (u .0), h b (u .1))
+  operands-through (diff a b) u = (h a (u .0), h b (u .1))
+  operands-through (prod a b) u = (h a (u .0), h b (u .1))
+  operands-through (maxi a b) u = (h a (u .0), h b (u .1))
+  operands-through (mini a b) u = (h a (u .0), h b (u .1))
+  operands-through (addc a c) u = h a u
+  operands-through (quot a c) u = h a u
+
+  pub reads-through : (c : Condition O) → Reads P c → Reads R (mapCondition sel c)
+  reads-through (range a l u) r = h a r
+  reads-through (atmost a b) r = (h a (r .0), h b (r .1))
+
+-- a condition reads inputs up to its own position
+pub reads-available : (g : Grammar) (p : Production) (k : ℕ) (c : Condition Occurrence) → conditionPosition c ≤ k → Reads (Input g p) c → Reads (Available g p k) c
+reads-available g p k (range a l u) h r = (r, h)
+reads-available g p k (atmost a b) h r = ((r .0, omega arith), (r .1, omega arith))
+
+-- what a rule reads is left before its target is evaluated
+pub operand-available : (g : Grammar) (p : Production) (n k : ℕ) (o : Occurrence) → ((k ≡ 0) → length (p .right) ≤ n) → k ≤ suc n → Operand g p k o → Available g p n o
+operand-available g p n zero o long l u = (u, bound (o .position) (o .attribute) u)
+  where
+    bound : (i a : ℕ) → InputAt g p i a → i ≤ n
+    bound zero a u = omega arith
+    bound (suc i) a u = omega (arith, u .0, long refl)
+operand-available g p n (suc k) o long l u = (u .0, omega (arith, u .1))
+
+-- ---- sums of counts
+
+total-snoc : (xs : List ℕ) (n : ℕ) → total (xs ++ (n ∷ [])) ≡ total xs + n
+total-snoc [] n = omega arith
+total-snoc (x ∷ xs) n = omega (arith, total-snoc xs n)
+
+map-snoc : {A B : Type 0} (f : A → B) (xs : List A) (x : A) → map f (xs ++ (x ∷ [])) ≡ map f xs ++ (f x ∷ [])
+map-snoc f [] x = refl
+map-snoc f (y ∷ ys) x = ap (λ r. f y ∷ r) (map-snoc f ys x)
+
+pub syn-none : (g : Grammar) (p : Production) (k : ℕ) → synBetween g p k k ≡ 0
+syn-none g p k = let e : k - k ≡ 0 = omega arith in rw e refl
+
+pub syn-more : (g : Grammar) (p : Production) (i k : ℕ) → i ≤ k → k < length (p .right) → synBetween g p i (suc k) ≡ synBetween g p i k + syn g (symbolAt p (suc k))
+syn-more g p i k h l =
+    let e : suc k - i ≡ suc (k - i) = omega arith in
+    let s : i + (k - i) ≡ k = omega arith in
+    let m : k - i < length (drop i (p .right)) = omega (arith, length-drop i (p .right)) in
+    rw (e, take-suc (drop i (p .right)) (k - i) (terminal 0) m, map-snoc, total-snoc, getD-drop, s) refl
+
+-- the symbol at position i + 1 is one of the first i + 1 + n
+syn-part : (g : Grammar) (p : Production) (i n : ℕ) → i + suc n ≤ length (p .right) → synBetween g p (suc i) (i + suc n) + syn g (symbolAt p (suc i)) ≤ synBetween g p 0 (i + suc n)
+syn-part g p i zero l =
+    let e : i + 1 ≡ suc i = omega arith in
+    rw e (omega (arith, syn-none g p (suc i), syn-more g p 0 i (omega arith) (omega arith)))
+syn-part g p i (suc n) l =
+    let e : i + suc (suc n) ≡ suc (i + suc n) = omega arith in
+    rw e (omega (arith, syn-part g p i n (omega arith), syn-more g p 0 (i + suc n) (omega arith) (omega arith), syn-more g p (suc i) (i + suc n) (omega arith) (omega arith)))
+
+-- ---- the selectors
+
+after-bounds : (g : Grammar) (p : Production) (n k a : ℕ) → n ≤ length (p .right) → InputAt g p k a → k ≤ n → (1 ≤ selectAfter g p n (occurrence k a)) × (selectAfter g p n (occurrence k a) ≤ synBetween g p 0 n + inh g (nonterminal (p .left)))
+after-bounds g p n zero a s h l = (omega (arith, h .0), omega (arith, h .1))
+after-bounds g p n (suc k) a s h l =
+    let m : ℕ = n - suc k in
+    let e : k + suc m ≡ n = omega arith in
+    let u : synBetween g p (suc k) n + syn g (symbolAt p (suc k)) ≤ synBetween g p 0 n = subst (λ z. synBetween g p (suc k) z + syn g (symbolAt p (suc k)) ≤ synBetween g p 0 z) e (syn-part g p k m (omega arith)) in
+    rw (eqb·suc-zero k) (omega (arith, h .1), omega (arith, h .1, h .2, u))
+
+-- with no registers added: every input up to the last symbol left lies in the registers of these and of the left side
+pub after-within : (g : Grammar) (p : Production) (n : ℕ) (o : Occurrence) → n ≤ length (p .right) → Available g p n o → (1 ≤ selectAfter g p n o) × (selectAfter g p n o ≤ synBetween g p 0 n + inh g (nonterminal (p .left)))
+after-within g p n o s h = after-bounds g p n (o .position) (o .attribute) s (h .0) (h .1)
+
+inherited-at : (g : Grammar) (p : Production) (n k a : ℕ) → k ≤ n → selectInherited g p (suc n) (occurrence k a) ≡ att g (symbolAt p (suc n)) + selectAfter g p n (occurrence k a)
+inherited-at g p n zero a l =
+    let e : suc n - 1 ≡ n = omega arith in
+    rw (eqb·zero-suc n, e) (omega arith)
+inherited-at g p n (suc k) a l =
+    let e : suc n - 1 ≡ n = omega arith in
+    let f : eqb (suc k) (suc n) ≡ false = differ-false (suc k) (suc n) (λ q. absurd (omega arith)) in
+    rw (f, eqb·suc-zero k, e) (omega arith)
+
+-- with the registers of the symbol at hand added: these come first
+pub inherited-over : (g : Grammar) (p : Production) (n : ℕ) (o : Occurrence) → o .position ≤ n → selectInherited g p (suc n) o ≡ att g (symbolAt p (suc n)) + selectAfter g p n o
+inherited-over g p n o l = inherited-at g p n (o .position) (o .attribute) l
+
+-- the target of a rule for an inherited attribute of the symbol at hand
+pub target-inherited : (g : Grammar) (p : Production) (k : ℕ) (o : Occurrence) → o .position ≡ k → selectInherited g p k o ≡ o .attribute
+target-inherited g p k o e = rw (same-true (o .position) k e)
+
+-- the target of a rule for a synthesized attribute of the left side
+pub target-after : (g : Grammar) (p : Production) (n : ℕ) (o : Occurrence) → o .position ≡ 0 → selectAfter g p n o ≡ synBetween g p 0 n + o .attribute
+target-after g p n o e = rw (same-true (o .position) 0 e)
+
+-- ---- registers
+
+-- a register among those that hold values
+pub reads-value : (pre mid post : List ℤ) (k : ℕ) → T (all inRange mid) → length pre < k → k ≤ length pre + length mid → T (inRange (readRegister (pre ++ (mid ++ post)) k))
+reads-value pre mid post k t a b =
+    let j : ℕ = k - 1 - length pre in
+    let e : k - 1 ≡ length pre + j = omega arith in
+    let i : j < length mid = omega arith in
+    let same : readRegister (pre ++ (mid ++ post)) k ≡ getD mid j mark = ap (λ z. getD (pre ++ (mid ++ post)) z mark) e ∙ (getD-append-add pre (mid ++ post) j mark ∙ List·getD-append mid post mark j i) in
+    subst (λ z. T (inRange z)) (sym same) (all-at inRange mid j mark i t)
