@@ -7,3 +7,5 @@ pub mod Selecting
 pub mod Shape
 pub mod Steps
 pub mod ShapeMoves
+pub mod ShapeMemory
+pub mod Handling
