@@ -9,3 +9,4 @@ pub mod Steps
 pub mod ShapeMoves
 pub mod ShapeMemory
 pub mod Handling
+pub mod Memory
