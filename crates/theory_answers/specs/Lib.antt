@@ -10,3 +10,4 @@ pub mod ShapeMoves
 pub mod ShapeMemory
 pub mod Handling
 pub mod Memory
+pub mod Bounds
