@@ -11,3 +11,5 @@ pub mod ShapeMemory
 pub mod Handling
 pub mod Memory
 pub mod Bounds
+pub mod Runs
+pub mod TableNumbers
