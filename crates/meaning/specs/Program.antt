@@ -1,12 +1,12 @@
 -- The program: the translation scheme of a grammar as 32-bit words, in the layout that docs/PROGRAM.md describes. 01: "Its content depends on the table alone, in a layout written in docs/"
--- Three sections: the directory, 64 words for each nonterminal; a record of 8 words for each production; then each production's body: where its expects stand, its entry tests, its scheme.
+-- Four sections: 8 words on the whole segment; the directory, 64 words for each nonterminal; a record of 8 words for each production; then each production's body: where its expects stand, its entry tests, its scheme.
 use Prim.Native.Nat.{ℕ, zero, suc, _+_, _*_}
 use mathlib.Core.Bool.{Bool, true, false, _&&_}
 use mathlib.Core.List.{List, [], _∷_, _++_, map}
 use lib.ListN.{length}
 use lib.Dec.{eqb}
 use Rattle.meaning.specs.Base.{countFrom}
-use Rattle.meaning.specs.Grammar.{Symbol, terminal, nonterminal, Function, const, copy, sum, diff, prod, maxi, mini, addc, quot, Rule, Condition, range, atmost, Production, Grammar, nonterminalCount}
+use Rattle.meaning.specs.Grammar.{Symbol, terminal, nonterminal, Function, const, copy, sum, diff, prod, maxi, mini, addc, quot, Rule, Condition, range, atmost, Production, Grammar, syn, nonterminalCount}
 use Rattle.meaning.specs.Scheme.{Instruction, add, evaluate, expect, test, remove, scheme, entryTests}
 use Rattle.meaning.specs.Sets.{TokenSet, has, starts}
 use Rattle.meaning.specs.Layout.{unsigned}
@@ -128,11 +128,27 @@ directory g = concat (map (λ n. map (directoryWord g n) (countFrom 0 64)) (coun
 
 -- ---- the whole
 
+abbrev pub directoryAddress : ℕ
+directoryAddress = 8
+
 abbrev pub recordsAddress : Grammar → ℕ
-recordsAddress g = 64 * nonterminalCount g
+recordsAddress g = directoryAddress + 64 * nonterminalCount g
 
 abbrev pub bodiesAddress : Grammar → ℕ
 bodiesAddress g = recordsAddress g + 8 * length (g .productions)
 
+-- the whole segment's scheme: its expect, and a word that says that nothing is left; where the records begin; the number of terminals; the start symbol's registers; the result attribute; the number of productions; a free word
+abbrev pub segmentWords : Grammar → List ℕ
+segmentWords g =
+    symbolHead (nonterminal (g .start))
+    ∷ 6
+    ∷ recordsAddress g
+    ∷ g .terminals
+    ∷ syn g (nonterminal (g .start))
+    ∷ g .result
+    ∷ length (g .productions)
+    ∷ 0
+    ∷ []
+
 abbrev pub programOf : Grammar → List ℕ
-programOf g = directory g ++ (recordsFrom g (bodiesAddress g) 0 (g .productions) ++ bodiesFrom g (bodiesAddress g) (g .productions))
+programOf g = segmentWords g ++ (directory g ++ (recordsFrom g (bodiesAddress g) 0 (g .productions) ++ bodiesFrom g (bodiesAddress g) (g .productions)))
