@@ -1,16 +1,14 @@
 -- A signed local holds bits: what is read back from them.
-use Prim.Native.Nat.{ℕ, _<_}
-use mathlib.Core.Path.{_≡_, refl, sym, ap, _∙_}
+use mathlib.Core.Path.{_≡_, refl}
 use mathlib.Core.Bool.{Bool, true, false}
 use native.Mathlib.Omega.{arith}
-use lib.IntN.{ℤ, pos, negsuc}
+use lib.IntN.{ℤ}
 use mir.Syntax.{w64}
 use mir.Facts.{toZ-ofZ}
 use mir.Val.{SFits, toZ, ofZ}
 use Rattle.meaning.specs.Value.{inRange, mark, pick}
 use Rattle.value.specs.Ranged.{ranged}
-use Rattle.value.specs.Computed.{computed}
-use Rattle.value.specs.Overflow.{in-range-size, fits64, computed-fits}
+use Rattle.value.specs.Overflow.{in-range-size, fits64}
 
 pub back : (z : ℤ) → SFits w64 z → toZ w64 (ofZ w64 z) ≡ z
 back z f = toZ-ofZ f

@@ -1,9 +1,8 @@
 -- A product is tested before it is made: where one factor is near 0 it fits an i64, and where none is it is no value.
-use Prim.Native.Nat.{ℕ, suc, _*_, _<_, _≤_}
 use native.Mathlib.Omega.{arith}
 use mathlib.Core.Path.{_≡_}
 use mathlib.Core.Bool.{Bool, true, false, _&&_}
-use lib.IntN.{ℤ, pos, negsuc, natAbs, _*ℤ_, *ℤ-comm}
+use lib.IntN.{ℤ, pos, negsuc, _*ℤ_, *ℤ-comm}
 use lib.Signed.{leZ}
 use mir.Syntax.{w64}
 use mir.Val.{SFits}

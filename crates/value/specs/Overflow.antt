@@ -3,8 +3,9 @@ use Prim.Native.Nat.{ℕ, zero, suc, _+_, _*_, _^_, _≤_, _<_}
 use native.Mathlib.Nat.{div-zero}
 use native.Mathlib.Omega.{arith}
 use mathlib.Core.Path.{_≡_, refl, ap}
-use mathlib.Core.Bool.{Bool, true, false}
+use mathlib.Core.Bool.{Bool, true, false, not}
 use mathlib.Core.List.{List, [], _∷_}
+use borrow.Author.Tests.{lt-leb}
 use lib.ListN.{getD}
 use lib.IntN.{ℤ, pos, negsuc, natAbs, _+ℤ_, _-ℤ_, _*ℤ_}
 use lib.Signed.{leZ, mag}
@@ -12,6 +13,8 @@ use mir.Syntax.{w64}
 use mir.Val.{SFits}
 use Rattle.meaning.specs.Grammar.{Function}
 use Rattle.meaning.specs.Value.{apply, inRange, lowest, highest, mark, pick, quotient}
+use Rattle.meaning.specs.Calls.{isMark}
+use Rattle.value.specs.Ranged.{ranged}
 use Rattle.value.specs.Computed.{larger, smaller, results, computed, numberOf, firstOperand, secondOperand, apply-computed}
 use Rattle.value.specs.Sizes.{natAbs-add, natAbs-sub, natAbs-quot, mul-at-most, inside}
 
@@ -31,6 +34,19 @@ large-out z h = is-no (inRange z) (λ e. clash (natAbs z) (in-range-size z e) h)
 
     clash : (n : ℕ) → n ≤ reach → reach < n → ⊥
     clash n p q = omega arith
+
+-- no value is the mark
+pub value-unmarked : (z : ℤ) → inRange z ≡ true → isMark z ≡ false
+value-unmarked (pos n) e = refl
+value-unmarked (negsuc n) e = lt-leb (mag mark) n (omega (arith, in-range-size (negsuc n) e))
+
+-- so an answer is the mark exactly where the number is no value
+pub ranged-marked : (z : ℤ) → isMark (ranged z) ≡ not (inRange z)
+ranged-marked z = at-pick (inRange z) refl
+  where
+    at-pick : (b : Bool) → inRange z ≡ b → isMark (pick b z mark) ≡ not b
+    at-pick true e = value-unmarked z e
+    at-pick false e = refl
 
 -- a 64-bit number above the lowest one
 abbrev pub Fits64 : ℤ → Type 0

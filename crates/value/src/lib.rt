@@ -1,22 +1,30 @@
+ghost use Prim.Native.Nat.{_+_, _<_, _≤_};
 ghost use mathlib.Core.Path.{_≡_};
 ghost use mathlib.Core.Bool.{true, _&&_};
-ghost use Prim.Native.Nat.{_<_};
+ghost use lib.ListN.{length};
 ghost use lib.IntN.{_+ℤ_, _-ℤ_, _*ℤ_};
 ghost use lib.Signed.{leZ};
-ghost use Rattle.meaning.specs.Value.{inRange};
 ghost use Rattle.meaning.specs.Calls.{isMark};
 ghost use Rattle.meaning.specs.Table.{byte, signed, constantAt};
-ghost use Rattle.value.specs.Ranged.{ranged};
-ghost use Rattle.value.specs.Computed.{larger as largerOf, smaller as smallerOf, computed};
+ghost use Rattle.meaning.specs.Value as Value;
+ghost use Rattle.meaning.specs.Value.{inRange};
+ghost use Rattle.value.specs.Computed as Computed;
+ghost use Rattle.value.specs.Computed.{computed};
 ghost use Rattle.value.specs.Constants.{wordAt};
-ghost use Rattle.meaning.specs.Value.{quotient as quotientOf};
+ghost use Rattle.value.specs.Ranged.{ranged};
 
 // 01: "the mark is the lowest 64-bit number".
 pub const MARK: i64 = i64::MIN;
 
-// The limits of a value.
+// 01: "Values are signed 32-bit": the one place in code where their limits stand.
 const LOWEST: i64 = -2147483648;
+
 const HIGHEST: i64 = 2147483647;
+
+// Two numbers further from 0 than this have a product that is no value; where one is not, the product fits an i64.
+const NEAR: i64 = 1000000;
+
+// ---- conditions
 
 pub fn at_most(a: i64, b: i64) -> bool
     ensures { λ r. ⌜ r ≡ leZ a b ⌝ }
@@ -32,6 +40,8 @@ pub fn in_bounds(v: i64, low: i64, high: i64) -> bool
     }
     false
 }
+
+// ---- values and the mark
 
 pub fn is_mark(v: i64) -> bool
     ensures { λ r. ⌜ r ≡ isMark v ⌝ }
@@ -55,6 +65,8 @@ pub fn within(z: i64) -> i64
     MARK
 }
 
+// ---- functions
+
 pub fn sum(a: i64, b: i64) -> i64
     requires { ⌜ (inRange a ≡ true) × (inRange b ≡ true) ⌝ }
     ensures { λ r. ⌜ r ≡ ranged (a +ℤ b) ⌝ }
@@ -69,9 +81,7 @@ pub fn difference(a: i64, b: i64) -> i64
     within(a - b)
 }
 
-// A product of two numbers beyond this is no value; where one of them is not beyond it, the product fits.
-const NEAR: i64 = 1000000;
-
+// Tested before it is made, so that it need not fit an i64.
 pub fn product(a: i64, b: i64) -> i64
     requires { ⌜ (inRange a ≡ true) × (inRange b ≡ true) ⌝ }
     ensures { λ r. ⌜ r ≡ ranged (a *ℤ b) ⌝ }
@@ -86,7 +96,7 @@ pub fn product(a: i64, b: i64) -> i64
 }
 
 pub fn larger(a: i64, b: i64) -> i64
-    ensures { λ r. ⌜ r ≡ largerOf a b ⌝ }
+    ensures { λ r. ⌜ r ≡ Computed.larger a b ⌝ }
 {
     if a <= b {
         return b;
@@ -95,7 +105,7 @@ pub fn larger(a: i64, b: i64) -> i64
 }
 
 pub fn smaller(a: i64, b: i64) -> i64
-    ensures { λ r. ⌜ r ≡ smallerOf a b ⌝ }
+    ensures { λ r. ⌜ r ≡ Computed.smaller a b ⌝ }
 {
     if a <= b {
         return a;
@@ -103,10 +113,10 @@ pub fn smaller(a: i64, b: i64) -> i64
     b
 }
 
-// a / c toward zero; 0 where c is 0.
+// Toward zero; by 0 it is 0, as in the definition.
 pub fn quotient(a: i64, c: i64) -> i64
     requires { ⌜ inRange a ≡ true ⌝ }
-    ensures { λ r. ⌜ r ≡ ranged (quotientOf a c) ⌝ }
+    ensures { λ r. ⌜ r ≡ ranged (Value.quotient a c) ⌝ }
 {
     if c == 0 {
         return 0;
@@ -114,6 +124,7 @@ pub fn quotient(a: i64, c: i64) -> i64
     within(a / c)
 }
 
+// The function of a number in 01: the first operand or const's constant is a, the second operand or constant is b.
 pub fn compute(function: u32, a: i64, b: i64) -> i64
     requires { ⌜ (inRange a ≡ true) × (inRange b ≡ true) ⌝ }
     ensures { λ r. ⌜ r ≡ ranged (computed function a b) ⌝ }
@@ -132,9 +143,11 @@ pub fn compute(function: u32, a: i64, b: i64) -> i64
     }
 }
 
+// ---- constants
+
 // The constant that a word stands for.
 pub fn constant(word: u32) -> i64
-    ensures { λ r. ⌜ r ≡ signed word ⌝ }
+    ensures { λ r. ⌜ (r ≡ signed word) × (inRange r ≡ true) ⌝ }
 {
     let z = word as i64;
     if word < 2147483648 {
@@ -143,27 +156,49 @@ pub fn constant(word: u32) -> i64
     z - 4294967296
 }
 
+fn wide(x: u8) -> u32
+    ensures { λ r. ⌜ (r ≡ x) × (r < 256) ⌝ }
+{
+    x as u32
+}
+
+// 0 past the end.
 fn byte_at(bytes: &[u8], at: usize) -> u32
     ensures { λ r. ⌜ (r ≡ byte (now (bytes .entry)) at) × (r < 256) ⌝ }
 {
     if bytes.len() <= at {
         return 0;
     }
-    bytes[at] as u32
+    wide(bytes[at])
 }
 
 // Four bytes as one number, the highest first.
+pub fn whole_word(bytes: &[u8], at: usize) -> u32
+    requires { ⌜ at + 4 ≤ length (now bytes) ⌝ }
+    ensures { λ r. ⌜ r ≡ wordAt (now (bytes .entry)) at ⌝ }
+{
+    let a = wide(bytes[at]);
+    let b = wide(bytes[at + 1]);
+    let c = wide(bytes[at + 2]);
+    let d = wide(bytes[at + 3]);
+    ((a * 256 + b) * 256 + c) * 256 + d
+}
+
+// The same, with 0 for each byte past the end.
 pub fn word_at(bytes: &[u8], at: usize) -> u32
     ensures { λ r. ⌜ r ≡ wordAt (now (bytes .entry)) at ⌝ }
 {
-    if bytes.len() <= at {
+    let len = bytes.len();
+    if len <= at {
         return 0;
+    }
+    if at + 4 <= len {
+        return whole_word(bytes, at);
     }
     let a = byte_at(bytes, at);
     let b = byte_at(bytes, at + 1);
     let c = byte_at(bytes, at + 2);
-    let d = byte_at(bytes, at + 3);
-    ((a * 256 + b) * 256 + c) * 256 + d
+    ((a * 256 + b) * 256 + c) * 256
 }
 
 pub fn constant_at(bytes: &[u8], at: usize) -> i64

@@ -1,21 +1,20 @@
-use mathlib.Core.Path.{_≡_, refl, sym}
-use native.Mathlib.Omega.{arith}
+use mathlib.Core.Path.{sym}
 use borrow.Author.Needs.{needs}
 use lib.ListN.{List·getD-eq-default}
 use Rattle.value.proofs.byte_at.Statement.{statement}
 use Rattle.value.proofs.byte_at.Tie as tie
 
 returns : tie.Need-returns
-returns c = (sym (List·getD-eq-default (c .before .args .bytes .now) 0 {n = c .before .args .at} (c .if1 .taken)), omega arith)
+returns c = (sym (List·getD-eq-default (c .before .before .args .bytes .now) 0 {n = c .before .before .args .at} (c .if1 .taken)), search needs)
 
-shared-slice-read-result : tie.Need-shared-slice-read-result
-shared-slice-read-result c = search needs
+shared-slice-read-wide : tie.Need-shared-slice-read-wide
+shared-slice-read-wide c = search needs
 
-cast-result : tie.Need-cast-result
-cast-result c = omega (arith, c .shared-slice-known .given (c .before .before .args .at))
+wide-requires : tie.Need-wide-requires
+wide-requires c κs = search needs
 
 returns-2 : tie.Need-returns-2
-returns-2 c = (refl, omega (arith, c .shared-slice-known .given (c .before .before .args .at)))
+returns-2 c = search needs
 
 pub byte-at-spec : {M : Type 1} → statement M
-byte-at-spec = tie.close (tie.spec returns shared-slice-read-result cast-result returns-2)
+byte-at-spec = tie.close (tie.spec returns shared-slice-read-wide wide-requires returns-2)

@@ -14,14 +14,6 @@ use Rattle.value.specs.Computed.{results, computed}
 use Rattle.value.proofs.Bits.{back, answer, locals}
 use Rattle.value.proofs.compute.Statement.{statement}
 use Rattle.value.proofs.compute.Tie as tie
-use Rattle.value.proofs.compute.Reads as reads
-use Rattle.value.proofs.compute.Lts as lts
-use Rattle.value.proofs.difference.Reads as difference-reads
-use Rattle.value.proofs.larger.Reads as larger-reads
-use Rattle.value.proofs.product.Reads as product-reads
-use Rattle.value.proofs.quotient.Reads as quotient-reads
-use Rattle.value.proofs.smaller.Reads as smaller-reads
-use Rattle.value.proofs.sum.Reads as sum-reads
 
 same : (c : tie.Start) → toZ w64 (ofZ w64 (c .args .a)) ≡ ranged (c .args .a)
 same c = back (c .args .a) (c .fits .a) ∙ sym (ranged-in (c .args .a) (c .pre .0))
@@ -44,71 +36,55 @@ past8 f l p q r s t = omega arith
 sum-requires : tie.Need-sum-requires
 sum-requires c κs = search needs
 
--- src/lib.rt:132:14
 difference-requires : tie.Need-difference-requires
 difference-requires c κs = search needs
 
--- src/lib.rt:133:14
 product-requires : tie.Need-product-requires
 product-requires c κs = search needs
 
--- src/lib.rt:134:14
 larger-requires : tie.Need-larger-requires
 larger-requires c κs = search needs
 
--- src/lib.rt:135:14
 smaller-requires : tie.Need-smaller-requires
 smaller-requires c κs = search needs
 
--- src/lib.rt:136:14
 sum-requires-2 : tie.Need-sum-requires-2
 sum-requires-2 c κs = search needs
 
--- src/lib.rt:137:14
 quotient-requires : tie.Need-quotient-requires
 quotient-requires c κs = search needs
 
--- src/lib.rt:124:1
 returns : tie.Need-returns
 returns c = rw (c .match .keys1) (same (c .before))
 
--- src/lib.rt:124:1
 returns-2 : tie.Need-returns-2
 returns-2 c = rw (c .match .keys2) (same (c .before))
 
--- src/lib.rt:124:1
 returns-3 : tie.Need-returns-3
 returns-3 c = rw (c .before .match .keys3) (answers 2 (c .before .before) (c .sum .ensures))
 
--- src/lib.rt:124:1
 returns-4 : tie.Need-returns-4
 returns-4 c = rw (c .before .match .keys4) (answers 3 (c .before .before) (c .difference .ensures))
 
--- src/lib.rt:124:1
 returns-5 : tie.Need-returns-5
 returns-5 c = rw (c .before .match .keys5) (answers 4 (c .before .before) (c .product .ensures))
 
--- src/lib.rt:124:1
 returns-6 : tie.Need-returns-6
 returns-6 c =
     let s = c .before .before in
     rw (c .before .match .keys6) (picked 5 s (c .larger .ensures) (pick-in (leZ (s .args .a) (s .args .b)) (s .args .b) (s .args .a) (s .pre .1) (s .pre .0)))
 
--- src/lib.rt:124:1
 returns-7 : tie.Need-returns-7
 returns-7 c =
     let s = c .before .before in
     rw (c .before .match .keys7) (picked 6 s (c .smaller .ensures) (pick-in (leZ (s .args .a) (s .args .b)) (s .args .a) (s .args .b) (s .pre .0) (s .pre .1)))
 
--- src/lib.rt:124:1
 returns-8 : tie.Need-returns-8
 returns-8 c = rw (c .before .match .keys8) (answers 7 (c .before .before) (c .sum2 .ensures))
 
--- src/lib.rt:124:1
 returns-9 : tie.Need-returns-9
 returns-9 c = rw (c .before .match .keys9) (answers 8 (c .before .before) (c .quotient .ensures))
 
--- src/lib.rt:124:1
 returns-10 : tie.Need-returns-10
 returns-10 c =
     let f = c .before .args .function in
