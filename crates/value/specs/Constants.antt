@@ -3,10 +3,9 @@ use Prim.Native.Nat.{ℕ, _+_, _*_, _-_, _≤_, _<_}
 use native.Mathlib.Decide.{decLt}
 use native.Mathlib.Omega.{arith}
 use mathlib.Core.Path.{_≡_, refl, ap}
-use mathlib.Core.Bool.{true, false}
+use mathlib.Core.Bool.{true}
 use mathlib.Core.List.{List}
 use borrow.Author.Tests.{lt-ltb, le-ltb, le-leb}
-use lib.Dec.{ltb}
 use lib.ListN.{length, List·getD-eq-default}
 use lib.IntN.{pos, negsuc, _-ℤ_}
 use lib.Signed.{mag}
@@ -28,6 +27,7 @@ signed-low n l = rw (lt-ltb n 2147483648 l, signed)
 pub signed-high : (n : ℕ) → 2147483648 ≤ n → signed n ≡ negsuc (4294967295 - n)
 signed-high n l = rw (le-ltb n 2147483648 l, signed)
 
+-- the number less 2 ^ 32
 pub wrapped : (n : ℕ) → 2147483648 ≤ n → n < 4294967296 → pos n -ℤ pos 4294967296 ≡ signed n
 wrapped n l h = rw (lt-ltb n 4294967296 h, signed-high n l) (ap negsuc (omega arith))
 

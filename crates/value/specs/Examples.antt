@@ -2,7 +2,7 @@
 use Prim.Native.Nat.{ℕ}
 use mathlib.Core.Path.{_≡_, refl}
 use mathlib.Core.List.{[], _∷_, map}
-use lib.IntN.{ℤ, pos, negsuc}
+use lib.IntN.{pos, negsuc}
 use Rattle.meaning.specs.Table.{signed, constantAt}
 use Rattle.meaning.specs.Value.{lowest, highest, mark}
 use Rattle.value.specs.Ranged.{ranged}

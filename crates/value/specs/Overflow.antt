@@ -1,6 +1,5 @@
 -- No overflow, for all functions at once: on values every exact result lies strictly between the lowest and the highest 64-bit number, so it fits an i64 and is not the mark.
-use Prim.Native.Nat.{ℕ, zero, suc, _+_, _*_, _^_, _≤_, _<_}
-use native.Mathlib.Nat.{div-zero}
+use Prim.Native.Nat.{ℕ, zero, suc, _^_, _≤_, _<_}
 use native.Mathlib.Omega.{arith}
 use mathlib.Core.Path.{_≡_, refl, ap}
 use mathlib.Core.Bool.{Bool, true, false, not}
@@ -14,9 +13,9 @@ use mir.Val.{SFits}
 use Rattle.meaning.specs.Grammar.{Function}
 use Rattle.meaning.specs.Value.{apply, inRange, lowest, highest, mark, pick, quotient}
 use Rattle.meaning.specs.Calls.{isMark}
-use Rattle.value.specs.Ranged.{ranged}
+use Rattle.value.specs.Ranged.{ranged, pick-in}
 use Rattle.value.specs.Computed.{larger, smaller, results, computed, numberOf, firstOperand, secondOperand, apply-computed}
-use Rattle.value.specs.Sizes.{natAbs-add, natAbs-sub, natAbs-quot, mul-at-most, inside}
+use Rattle.value.specs.Sizes.{natAbs-add, natAbs-sub, quotient-size, mul-at-most, inside}
 
 -- no value has a larger size
 abbrev pub reach : ℕ
@@ -41,31 +40,20 @@ value-unmarked (pos n) e = refl
 value-unmarked (negsuc n) e = lt-leb (mag mark) n (omega (arith, in-range-size (negsuc n) e))
 
 -- so an answer is the mark exactly where the number is no value
-pub ranged-marked : (z : ℤ) → isMark (ranged z) ≡ not (inRange z)
-ranged-marked z = at-pick (inRange z) refl
+pub isMark-ranged : (z : ℤ) → isMark (ranged z) ≡ not (inRange z)
+isMark-ranged z = at-pick (inRange z) refl
   where
     at-pick : (b : Bool) → inRange z ≡ b → isMark (pick b z mark) ≡ not b
     at-pick true e = value-unmarked z e
     at-pick false e = refl
 
--- a 64-bit number above the lowest one
+-- strictly between -2 ^ 63 and 2 ^ 63
 abbrev pub Fits64 : ℤ → Type 0
 Fits64 z = natAbs z < 2 ^ 63
 
 pub fits64 : (z : ℤ) → Fits64 z → SFits w64 z
 fits64 (pos n) h = record { sfits = h }
 fits64 (negsuc n) h = record { sfits = omega arith }
-
-pub quotient-size : (a c : ℤ) → natAbs (quotient a c) ≤ natAbs a
-quotient-size a c = natAbs-quot a c
-
-pub quotient-by-zero : (a : ℤ) → quotient a (pos 0) ≡ pos 0
-quotient-by-zero (pos n) = rw (div-zero n)
-quotient-by-zero (negsuc n) = rw (div-zero (suc n))
-
-pick-size : (t : Bool) (a b : ℤ) → natAbs a ≤ reach → natAbs b ≤ reach → natAbs (pick t a b) ≤ reach
-pick-size true a b p q = p
-pick-size false a b p q = q
 
 infixr 30 _also_
 data Each (P : ℤ → Type 0) : List ℤ → Type 0 where
@@ -85,8 +73,8 @@ computed-size f a b p q =
     let plus : Fits64 (a +ℤ b) = omega (arith, natAbs-add a b) in
     let minus : Fits64 (a -ℤ b) = omega (arith, natAbs-sub a b) in
     let times : Fits64 (a *ℤ b) = omega (arith, mul-at-most a b reach reach m n) in
-    let highest-of : Fits64 (larger a b) = omega (arith, pick-size (leZ a b) b a n m) in
-    let lowest-of : Fits64 (smaller a b) = omega (arith, pick-size (leZ a b) a b m n) in
+    let highest-of : Fits64 (larger a b) = omega (arith, in-range-size (larger a b) (pick-in (leZ a b) b a q p)) in
+    let lowest-of : Fits64 (smaller a b) = omega (arith, in-range-size (smaller a b) (pick-in (leZ a b) a b p q)) in
     let divided : Fits64 (quotient a b) = omega (arith, quotient-size a b) in
     let each : Each Fits64 (results a b) = itself also itself also plus also minus also times also highest-of also lowest-of also plus also divided also done in
     getD-each f (pos 0) each (omega arith)

@@ -1,14 +1,14 @@
 -- The size of a sum, a difference, a product and a quotient, and of a number between two bounds.
 use Prim.Native.Nat.{ℕ, zero, suc, _+_, _*_, _/_, _≤_, _<_}
-use native.Mathlib.Nat.{div-le-self, mul-le-mul-left, mul-le-mul-right, le-trans}
+use native.Mathlib.Nat.{div-le-self, div-zero, mul-le-mul-left, mul-le-mul-right, le-trans}
 use native.Mathlib.Omega.{arith}
 use mathlib.Core.Path.{_≡_, refl}
 use mathlib.Core.Bool.{Bool, true, false, _&&_, cond}
 use borrow.Author.Tests.{leb-true, leb-false}
 use lib.Dec.{ltb}
 use lib.IntN.{ℤ, pos, negsuc, negℤ, natAbs, _+ℤ_, _-ℤ_, _*ℤ_}
-use lib.Signed.{leZ, quotZ}
-use Rattle.meaning.specs.Value.{pick}
+use lib.Signed.{leZ}
+use Rattle.meaning.specs.Value.{quotient}
 
 pub natAbs-neg : (a : ℤ) → natAbs (negℤ a) ≡ natAbs a
 natAbs-neg (pos zero) = refl
@@ -34,11 +34,16 @@ natAbs-mul (pos a) (negsuc b) = natAbs-neg (pos (a * suc b))
 natAbs-mul (negsuc a) (pos b) = natAbs-neg (pos (suc a * b))
 natAbs-mul (negsuc a) (negsuc b) = refl
 
-pub natAbs-quot : (a b : ℤ) → natAbs (quotZ a b) ≤ natAbs a
-natAbs-quot (pos a) (pos b) = div-le-self a b
-natAbs-quot (pos a) (negsuc b) = rw (natAbs-neg (pos (a / suc b))) (div-le-self a (suc b))
-natAbs-quot (negsuc a) (pos b) = rw (natAbs-neg (pos (suc a / b))) (div-le-self (suc a) b)
-natAbs-quot (negsuc a) (negsuc b) = div-le-self (suc a) (suc b)
+-- ---- quotients
+pub quotient-size : (a c : ℤ) → natAbs (quotient a c) ≤ natAbs a
+quotient-size (pos a) (pos c) = div-le-self a c
+quotient-size (pos a) (negsuc c) = rw (natAbs-neg (pos (a / suc c))) (div-le-self a (suc c))
+quotient-size (negsuc a) (pos c) = rw (natAbs-neg (pos (suc a / c))) (div-le-self (suc a) c)
+quotient-size (negsuc a) (negsuc c) = div-le-self (suc a) (suc c)
+
+pub quotient-by-zero : (a : ℤ) → quotient a (pos 0) ≡ pos 0
+quotient-by-zero (pos n) = rw (div-zero n)
+quotient-by-zero (negsuc n) = rw (div-zero (suc n))
 
 -- ---- products
 products : (m n k l : ℕ) → m ≤ k → n ≤ l → m * n ≤ k * l
@@ -55,12 +60,12 @@ and-left : (a b : Bool) → (a && b) ≡ true → a ≡ true
 and-left true b e = refl
 and-left false b e = e
 
--- between -k and h the size is at most k, where h is at most k
+-- between -(k + 1) and h the size is at most k + 1, where h is at most k + 1
 pub inside : (z : ℤ) (k h : ℕ) → h ≤ suc k → (leZ (negsuc k) z && leZ z (pos h)) ≡ true → natAbs z ≤ suc k
 inside (pos n) k h p e = omega (arith, leb-true n h e)
 inside (negsuc n) k h p e = omega (arith, leb-true n k (and-left (leZ (negsuc k) (negsuc n)) true e))
 
--- outside -k and k the size is above k
+-- outside -(k + 1) and k + 1 the size is above k + 1
 pub outside : (z : ℤ) (k : ℕ) → (leZ (negsuc k) z && leZ z (pos (suc k))) ≡ false → suc k < natAbs z
 outside (pos n) k e = leb-false n (suc k) e
 outside (negsuc n) k e = omega (arith, leb-false n k (left-false (leZ (negsuc k) (negsuc n)) e))

@@ -124,7 +124,7 @@ pub fn quotient(a: i64, c: i64) -> i64
     within(a / c)
 }
 
-// The function of a number in 01: the first operand or const's constant is a, the second operand or constant is b.
+// A function by its number in 01. The constant stands for const's first operand, and for the second one of addc and quot.
 pub fn compute(function: u32, a: i64, b: i64) -> i64
     requires { ⌜ (inRange a ≡ true) × (inRange b ≡ true) ⌝ }
     ensures { λ r. ⌜ r ≡ ranged (computed function a b) ⌝ }

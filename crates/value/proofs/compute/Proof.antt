@@ -7,16 +7,17 @@ use lib.ListN.{List·getD-eq-default}
 use lib.IntN.{ℤ, pos}
 use lib.Signed.{leZ}
 use mir.Syntax.{w64}
+use mir.Facts.{toZ-ofZ}
 use mir.Val.{toZ, ofZ}
 use Rattle.meaning.specs.Value.{inRange}
 use Rattle.value.specs.Ranged.{ranged, ranged-in, pick-in}
 use Rattle.value.specs.Computed.{results, computed}
-use Rattle.value.proofs.Bits.{back, answer, locals}
+use Rattle.value.proofs.Bits.{answer, locals}
 use Rattle.value.proofs.compute.Statement.{statement}
 use Rattle.value.proofs.compute.Tie as tie
 
 same : (c : tie.Start) → toZ w64 (ofZ w64 (c .args .a)) ≡ ranged (c .args .a)
-same c = back (c .args .a) (c .fits .a) ∙ sym (ranged-in (c .args .a) (c .pre .0))
+same c = toZ-ofZ (c .fits .a) ∙ sym (ranged-in (c .args .a) (c .pre .0))
 
 -- a callee's answer, on the bits of the operands
 answers : (f : ℕ) (c : tie.Start) {r : ℤ} → r ≡ ranged (computed f (toZ w64 (ofZ w64 (c .args .a))) (toZ w64 (ofZ w64 (c .args .b)))) → toZ w64 (ofZ w64 r) ≡ ranged (computed f (c .args .a) (c .args .b))

@@ -2,18 +2,19 @@ use mathlib.Core.Path.{_≡_, sym, _∙_, ap}
 use borrow.Author.Needs.{needs}
 use lib.IntN.{_*ℤ_}
 use mir.Syntax.{w64}
+use mir.Facts.{toZ-ofZ}
 use mir.Val.{SFits}
 use Rattle.value.specs.Ranged.{ranged-out}
-use Rattle.value.proofs.Bits.{back, answer, fits2, through2}
+use Rattle.value.proofs.Bits.{answer, fits2, through2}
 use Rattle.value.proofs.Products.{near, near-left, near-right, both-far}
 use Rattle.value.proofs.product.Statement.{statement}
 use Rattle.value.proofs.product.Tie as tie
 
 tested-a : (c : tie.After-in-bounds) → near (c .before .args .a) ≡ c .in-bounds .result
-tested-a c = sym (c .in-bounds .ensures ∙ ap near (back (c .before .args .a) (c .before .fits .a)))
+tested-a c = sym (c .in-bounds .ensures ∙ ap near (toZ-ofZ (c .before .fits .a)))
 
 tested-b : (c : tie.After-in-bounds2) → near (c .before .before .before .args .b) ≡ c .in-bounds2 .result
-tested-b c = sym (c .in-bounds2 .ensures ∙ ap near (back (c .before .before .before .args .b) (c .before .before .before .fits .b)))
+tested-b c = sym (c .in-bounds2 .ensures ∙ ap near (toZ-ofZ (c .before .before .before .fits .b)))
 
 fits : (c : tie.Then1) → SFits w64 (c .before .before .args .a *ℤ c .before .before .args .b)
 fits c = near-left (c .before .before .args .a) (c .before .before .args .b) (tested-a (c .before) ∙ c .if1 .taken) (c .before .before .pre .1)

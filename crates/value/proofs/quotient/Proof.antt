@@ -3,11 +3,13 @@ use native.Mathlib.Omega.{arith}
 use borrow.Author.Needs.{needs}
 use lib.IntN.{ℤ, pos}
 use mir.Syntax.{w64}
+use mir.Facts.{toZ-ofZ}
 use mir.Val.{SFits, toZ}
 use Rattle.meaning.specs.Value.{quotient}
 use Rattle.value.specs.Ranged.{ranged}
-use Rattle.value.specs.Overflow.{in-range-size, quotient-size, quotient-by-zero, fits64}
-use Rattle.value.proofs.Bits.{back, answer, fits2, through2}
+use Rattle.value.specs.Overflow.{in-range-size, fits64}
+use Rattle.value.specs.Sizes.{quotient-size, quotient-by-zero}
+use Rattle.value.proofs.Bits.{answer, fits2, through2}
 use Rattle.value.proofs.quotient.Statement.{statement}
 use Rattle.value.proofs.quotient.Tie as tie
 
@@ -17,7 +19,7 @@ fits c = fits64 (quotient (c .args .a) (c .args .c)) (omega (arith, quotient-siz
 returns : tie.Need-returns
 returns c =
     let s = c .before in
-    let zero : s .args .c ≡ pos 0 = sym (back (s .args .c) (s .fits .c)) ∙ ap (toZ w64) (c .if1 .taken) in
+    let zero : s .args .c ≡ pos 0 = sym (toZ-ofZ (s .fits .c)) ∙ ap (toZ w64) (c .if1 .taken) in
     sym (ap (λ (z : ℤ). ranged (quotient (s .args .a) z)) zero ∙ ap ranged (quotient-by-zero (s .args .a)))
 
 div-within : tie.Need-div-within

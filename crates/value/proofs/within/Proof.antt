@@ -1,8 +1,8 @@
 use mathlib.Core.Path.{_≡_, sym, _∙_, ap}
 use mathlib.Core.Bool.{true, false}
+use mir.Facts.{toZ-ofZ}
 use borrow.Author.Needs.{needs}
 use Rattle.meaning.specs.Value.{inRange}
-use Rattle.value.proofs.Bits.{back}
 use Rattle.value.proofs.within.Statement.{statement}
 use Rattle.value.proofs.within.Tie as tie
 
@@ -10,7 +10,7 @@ in-range-requires : tie.Need-in-range-requires
 in-range-requires c κs = search needs
 
 tested : (c : tie.After-in-range) → inRange (c .before .args .z) ≡ c .in-range .result
-tested c = sym (c .in-range .ensures ∙ ap inRange (back (c .before .args .z) (c .before .fits .z)))
+tested c = sym (c .in-range .ensures ∙ ap inRange (toZ-ofZ (c .before .fits .z)))
 
 returns : tie.Need-returns
 returns c =
