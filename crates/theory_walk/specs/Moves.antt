@@ -20,7 +20,7 @@ use Rattle.theory_walk.specs.Present.{listed-formed, inherited-present, 
 abbrev closing : Grammar → Production → List Instruction
 closing g p = consIf (not (isEmpty (synthesizedRules g p))) (evaluate (synthesizedRules g p)) (remove (removed g p) ∷ [])
 
--- how many of the moves are made where r tokens are still to be read
+-- how many of the moves are made on r more tokens
 abbrev made : ℕ → List Act → ℕ
 made r ws = length (walkTo r ws)
 
