@@ -1,8 +1,8 @@
 -- No overflow, for all functions at once: on values every exact result lies strictly between the lowest and the highest 64-bit number, so it fits an i64 and is not the mark.
 use Prim.Native.Nat.{ℕ, zero, suc, _^_, _≤_, _<_}
 use native.Mathlib.Omega.{arith}
-use mathlib.Core.Path.{_≡_, refl, ap}
-use mathlib.Core.Bool.{Bool, true, false, not}
+use mathlib.Core.Path.{_≡_, refl, ap, _∙_}
+use mathlib.Core.Bool.{Bool, true, false, _&&_, not}
 use mathlib.Core.List.{List, [], _∷_}
 use borrow.Author.Tests.{lt-leb}
 use lib.ListN.{getD}
@@ -37,7 +37,11 @@ large-out z h = is-no (inRange z) (λ e. clash (natAbs z) (in-range-size z e) h)
 -- no value is the mark
 pub value-unmarked : (z : ℤ) → inRange z ≡ true → isMark z ≡ false
 value-unmarked (pos n) e = refl
-value-unmarked (negsuc n) e = lt-leb (mag mark) n (omega (arith, in-range-size (negsuc n) e))
+value-unmarked (negsuc n) e = ap (λ b. leZ mark (negsuc n) && b) (lt-leb (mag mark) n (omega (arith, in-range-size (negsuc n) e))) ∙ neither (leZ mark (negsuc n))
+  where
+    neither : (b : Bool) → (b && false) ≡ false
+    neither true = refl
+    neither false = refl
 
 -- so an answer is the mark exactly where the number is no value
 pub isMark-ranged : (z : ℤ) → isMark (ranged z) ≡ not (inRange z)

@@ -46,7 +46,7 @@ pub fn in_bounds(v: i64, low: i64, high: i64) -> bool
 pub fn is_mark(v: i64) -> bool
     ensures { λ r. ⌜ r ≡ isMark v ⌝ }
 {
-    v <= MARK
+    in_bounds(v, MARK, MARK)
 }
 
 pub fn in_range(v: i64) -> bool
