@@ -24,8 +24,8 @@ use Rattle.theory_sets.specs.Tests.{and-intro, and-left, and-right, or-left, or
 pub mark-is : (v : ℤ) → T (isMark v) → v ≡ mark
 mark-is (pos a) t = absurd t
 mark-is (negsuc a) t =
-    let b : 9223372036854775807 ≤ a = leb→le 9223372036854775807 a (and-left (leb 9223372036854775807 a) (leb a 9223372036854775807) t) in
-    let c : a ≤ 9223372036854775807 = leb→le a 9223372036854775807 (and-right (leb 9223372036854775807 a) (leb a 9223372036854775807) t) in
+    let b : a ≤ 9223372036854775807 = leb→le a 9223372036854775807 (and-left (leb a 9223372036854775807) (leb 9223372036854775807 a) t) in
+    let c : 9223372036854775807 ≤ a = leb→le 9223372036854775807 a (and-right (leb a 9223372036854775807) (leb 9223372036854775807 a) t) in
     ap negsuc (omega arith)
 
 -- registers that fit one stretch of cells, and those that fit the rest

@@ -13,3 +13,5 @@ pub mod Memory
 pub mod Bounds
 pub mod Runs
 pub mod TableNumbers
+pub mod Called
+pub mod Answers

@@ -61,6 +61,12 @@ coming-on g lent (token t) ts n us c d (inr s) w h =
     not-both true b e f = absurd (subst T (sym e ∙ f) tt)
     not-both false b e f = refl
 
+-- what stops a feed at e
+pub data FeedBlocks (e : Config) : ℕ → Type 0 where
+  manyTokens : e .tokens ≡ tokensLimit → FeedBlocks e 35
+  notToken : FeedBlocks e 20
+  atMove : {k : ℕ} (t : ℕ) → Blocks (token t) e k → FeedBlocks e k
+
 -- ---- the loop
 
 module _ (g : Grammar) (lent : Lent) (us₀ : List ℕ) (c₀ : Config) where
@@ -115,12 +121,6 @@ module _ (g : Grammar) (lent : Lent) (us₀ : List ℕ) (c₀ : Config) where
   advanced-from l ts c s = advanced l ts (c .tokens) (movesLimit - c .moves) c (omega (arith, s .led .few)) s
 
   -- ---- a feed
-
-  -- what stops a feed at e
-  pub data FeedBlocks (e : Config) : ℕ → Type 0 where
-    manyTokens : e .tokens ≡ tokensLimit → FeedBlocks e 35
-    notToken : FeedBlocks e 20
-    atMove : {k : ℕ} (t : ℕ) → Blocks (token t) e k → FeedBlocks e k
 
   abbrev pub Fed : Settled → Type 0
   Fed (stopped e) = Led [] e × T (waits (e .frames)) × (e .tokens ≤ tokensLimit)

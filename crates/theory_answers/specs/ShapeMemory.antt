@@ -123,6 +123,11 @@ pub fit-shaped : (g : Grammar) → WellFormed g → (ps : List ℕ) (rs : List �
 fit-shaped g wf ps rs (inl w) = waiting-shaped g wf (waiting g wf (w .1))
 fit-shaped g wf ps rs (inr l) = left-shaped g wf ps rs l
 
+-- and it waits
+pub fit-waits : (g : Grammar) → WellFormed g → (ps : List ℕ) (rs : List ℤ) → ((x : Symbol) × WaitsAt g ps rs x) ⊎ Left g ps rs → T (Machine.waits (map (frameOf g) ps))
+fit-waits g wf ps rs (inl w) = subst (λ fs. T (Machine.waits fs)) (waiting g wf (w .1) .isFrames) tt
+fit-waits g wf ps rs (inr l) = subst (λ z. T (Machine.waits (map (frameOf g) z))) (sym (l .place)) tt
+
 -- ---- and back, where the machine waits
 
 pub record AtStop (g : Grammar) (fs : List Frame) (rs : List ℤ) : Type 0 where
