@@ -1,0 +1,5 @@
+pub mod Members
+pub mod Reading
+pub mod Occurrences
+pub mod Invariant
+pub mod ReadWellFormed
