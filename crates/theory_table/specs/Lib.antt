@@ -3,3 +3,4 @@ pub mod Reading
 pub mod Occurrences
 pub mod Invariant
 pub mod ReadWellFormed
+pub mod AcceptedTable
