@@ -15,11 +15,12 @@ use Rattle.meaning.specs.Scheme.{mapFunction, mapCondition, rulesFor, condition
 use Rattle.meaning.specs.Machine.{readRegister, writeAll}
 use Rattle.meaning.specs.Tree.{Tree}
 use Rattle.meaning.specs.Rules.{OutputAt}
+use Rattle.meaning.specs.Part.{marks, synsOf, valueIn, Lefts, Front, Tested, Handed, Results}
+use Rattle.meaning.specs.Selectors.{occurrence}
 use Rattle.theory_base.specs.Members.{keep-in, all-in, in-map}
 use Rattle.theory_base.specs.WellFormed.{Evaluable}
-use Rattle.theory_base.specs.Nodes.{marks, synsOf, valueIn, Lefts, Front, Tested, Handed, Results}
 use Rattle.theory_base.specs.Agree.{operands-map, apply-agree, apply-map, reads-map, holds-agree, holds-map, reads-available}
-use Rattle.theory_base.specs.Selectors.{occ, past, length-syns, found-after, found-inherited, target-inherited}
+use Rattle.theory_base.specs.Selectors.{past, length-syns, found-after, found-inherited, target-inherited}
 use Rattle.theory_base.specs.Present.{for-in, in-for}
 use Rattle.theory_base.specs.Evaluate.{Written, written, distinct-keep}
 use Rattle.theory_base.specs.Values.{drop-head, drop-over, lefts-length, operands-available}
@@ -74,9 +75,9 @@ hand g p fp vs ts x xs base f d t = record {
         (distinct-keep (λ q. eqb (q .target .position) n) (p .rules) (fp .distinct))
         (λ q r i j e. let a = out q i in let b = out r j in occ-eq (q .target) (r .target) (a .0 ∙ sym (b .0)) (omega arith))
         (λ r i. let a = out r i in
-          let s : selectInherited g p n (r .target) ≡ r .target .attribute = subst (λ m. selectInherited g p n (occ m (r .target .attribute)) ≡ r .target .attribute) (sym (a .0)) (target-inherited g p n (r .target .attribute)) in
+          let s : selectInherited g p n (r .target) ≡ r .target .attribute = subst (λ m. selectInherited g p n (occurrence m (r .target .attribute)) ≡ r .target .attribute) (sym (a .0)) (target-inherited g p n (r .target .attribute)) in
           (omega (arith, s, a .1), omega arith))
-        (λ j l. let e = fp .every (occ n (suc j)) (k .0, omega arith, rw (k .1) l) in (e .0, for-in p n (e .0) (e .1) (ap (λ o. o .position) (e .2)), ap (λ o. o .attribute - 1) (e .2) ∙ omega arith))
+        (λ j l. let e = fp .every (occurrence n (suc j)) (k .0, omega arith, rw (k .1) l) in (e .0, for-in p n (e .0) (e .1) (ap (λ o. o .position) (e .2)), ap (λ o. o .attribute - 1) (e .2) ∙ omega arith))
         t
 
 -- ---- evaluate the left side's synthesized attributes
@@ -130,9 +131,9 @@ close g p fp vs ts base f d t = record {
         (distinct-keep (λ q. eqb (q .target .position) 0) (p .rules) (fp .distinct))
         (λ q r i j e. let a = out q i in let b = out r j in occ-eq (q .target) (r .target) (a .0 ∙ sym (b .0)) (omega arith))
         (λ r i. let a = out r i in
-          let z : sel (r .target) ≡ synBetween g p 0 (length ts) + r .target .attribute = subst (λ m. selectAfter g p (length (p .right)) (occ m (r .target .attribute)) ≡ synBetween g p 0 (length ts) + r .target .attribute) (sym (a .0)) (rw gone refl) in
+          let z : sel (r .target) ≡ synBetween g p 0 (length ts) + r .target .attribute = subst (λ m. selectAfter g p (length (p .right)) (occurrence m (r .target .attribute)) ≡ synBetween g p 0 (length ts) + r .target .attribute) (sym (a .0)) (rw gone refl) in
           (omega (arith, z, a .1, size), omega arith))
-        (λ j l. let e = fp .every (occ 0 (h + suc j)) (omega arith, omega arith) in (e .0, for-in p 0 (e .0) (e .1) (ap (λ o. o .position) (e .2)), ap (λ o. o .attribute - 1 - h) (e .2) ∙ omega arith))
+        (λ j l. let e = fp .every (occurrence 0 (h + suc j)) (omega arith, omega arith) in (e .0, for-in p 0 (e .0) (e .1) (ap (λ o. o .position) (e .2)), ap (λ o. o .attribute - 1 - h) (e .2) ∙ omega arith))
         t
     found : (r : Rule Occurrence) → h < r .target .attribute → getD (vs ++ w .made) (r .target .attribute - 1) (pos 0) ≡ getD (w .made) (slot (r .target)) (pos 0)
     found r l =
@@ -173,7 +174,7 @@ handed-one g p fp vs ts x xs is js d a b =
     ext-getD (pos 0) is js (a .sized ∙ sym (b .sized))
     (λ j l.
     let l′ : suc j ≤ inh g x = omega (arith, a .sized) in
-    let e = fp .every (occ (suc (length ts)) (suc j)) (k .0, omega arith, rw (k .1) l′) in
+    let e = fp .every (occurrence (suc (length ts)) (suc j)) (k .0, omega arith, rw (k .1) l′) in
     let at : e .0 .target .position ≡ suc (length ts) = ap (λ o. o .position) (e .2) in
     let cell : e .0 .target .attribute - 1 ≡ j = ap (λ o. o .attribute - 1) (e .2) ∙ omega arith in
     subst (λ z. getD is z (pos 0) ≡ getD js z (pos 0)) cell (a .rules (e .0) (e .1) at ∙ sym (b .rules (e .0) (e .1) at)))
@@ -183,7 +184,7 @@ results-one g p fp vs ts ss us s a b =
     ext-getD (pos 0) ss us (a .sized ∙ sym (b .sized))
     (λ j l.
     let h : ℕ = inh g (nonterminal (p .left)) in
-    let e = fp .every (occ 0 (h + suc j)) (omega arith, omega (arith, a .sized)) in
+    let e = fp .every (occurrence 0 (h + suc j)) (omega arith, omega (arith, a .sized)) in
     let at : e .0 .target .position ≡ 0 = ap (λ o. o .position) (e .2) in
     let cell : e .0 .target .attribute - 1 ≡ h + j = ap (λ o. o .attribute - 1) (e .2) ∙ omega arith in
     sym (past vs ss h j (pos 0) s) ∙ (subst (λ z. getD (vs ++ ss) z (pos 0) ≡ getD (vs ++ us) z (pos 0)) cell (a .rules (e .0) (e .1) at ∙ sym (b .rules (e .0) (e .1) at)) ∙ past vs us h j (pos 0) s))

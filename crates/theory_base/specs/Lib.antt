@@ -1,6 +1,5 @@
 pub mod Members
 pub mod WellFormed
-pub mod Nodes
 pub mod Agree
 pub mod Selectors
 pub mod Evaluate

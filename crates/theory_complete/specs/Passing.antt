@@ -16,11 +16,12 @@ use Rattle.meaning.specs.Scheme.{mapRule, mapCondition, rulesFor, conditionsAt,
 use Rattle.meaning.specs.Machine.{readRegister, writeAll}
 use Rattle.meaning.specs.Rules.{OutputAt, WellFormedProduction}
 use Rattle.meaning.specs.Tree.{Tree, Forest, leaf, node, noTrees, treeAnd, values, child, valueAt, RulesHold, WellEvaluated, WellEvaluateds, inheritedOf, synthesizedOf, waiting}
+use Rattle.meaning.specs.Part.{childOf, chosen, valueRow, valueIn, synsOf, marks, Lefts, Front, Handed, Results}
+use Rattle.meaning.specs.Selectors.{occurrence}
 use Rattle.theory_base.specs.Members.{T→true, all-take, all-drop, all-in, in-all, in-keep, map-in, getD-in}
 use Rattle.theory_base.specs.WellFormed.{Available, Evaluable, evaluable}
-use Rattle.theory_base.specs.Nodes.{childOf, chosen, valueRow, valueIn, synsOf, marks, Lefts, Front, Handed, Results}
 use Rattle.theory_base.specs.Agree.{operands-map, apply-agree, reads-map, holds-agree, reads-available}
-use Rattle.theory_base.specs.Selectors.{occ, syn-size, length-syns}
+use Rattle.theory_base.specs.Selectors.{syn-size, length-syns}
 use Rattle.theory_base.specs.Values.{stay-own, operands-available}
 use Rattle.theory_base.specs.Present.{in-for}
 use Rattle.theory_base.specs.Grow.{Hand, hand, Close, close, value-inherited, value-synthesized, test-value, handed-one, results-one}
@@ -56,7 +57,7 @@ firsts-good : (g : Grammar) (p : Production) (f : Forest) → WellEvaluateds g f
 firsts-good g p f w zero h = tt
 firsts-good g p f w (suc k) h = (omega (arith, length-firsts k f), subst (λ j. WellEvaluated g (child f k) (symbolAt p (suc j))) (sym (length-firsts k f)) (child-evaluated g f (p .right) k w h), firsts-good g p f w k (omega arith))
 
-row-same : (vs : List ℤ) (f : Forest) (k i a : ℕ) → i ≤ k → valueRow vs (firsts k f) i a ≡ valueAt vs f (occ i a)
+row-same : (vs : List ℤ) (f : Forest) (k i a : ℕ) → i ≤ k → valueRow vs (firsts k f) i a ≡ valueAt vs f (occurrence i a)
 row-same vs f k zero a l = refl
 row-same vs f k (suc i) a l = ap (λ t. getD (values t) (a - 1) (pos 0)) (child-firsts k f i l)
 
@@ -150,13 +151,13 @@ module _ (g : Grammar) (p : Production) (vs : List ℤ) (f : Forest) (e : Evalua
       value r i at =
           let o : OutputAt g p (suc k) (r .target .attribute) = subst (λ j. OutputAt g p j (r .target .attribute)) at (can .targets r i) in
           inherited-at g (child f k) x (r .target .attribute) w (o .1) (o .2)
-          ∙ (ap (λ j. valueAt vs f (occ j (r .target .attribute))) (sym at) ∙ sym (computes k r i (omega arith) (λ z. absurd (omega arith))))
+          ∙ (ap (λ j. valueAt vs f (occurrence j (r .target .attribute))) (sym at) ∙ sym (computes k r i (omega arith) (λ z. absurd (omega arith))))
 
   pub results : Results g p (inheritedIn g p vs) (firsts (length (p .right)) f) (synthesizedIn g p vs)
   results = record {
       sized = length-drop (inh g (symbolAt p 0)) vs ∙ omega (arith, e .size);
       ranged = all-drop inRange (inh g (symbolAt p 0)) vs (e .ranges);
-      rules = λ r i at. ap (λ z. getD z (r .target .attribute - 1) (pos 0)) (take-append-drop (inh g (symbolAt p 0)) vs) ∙ (ap (λ j. valueAt vs f (occ j (r .target .attribute))) (sym at) ∙ sym (computes (length (p .right)) r i (omega arith) (λ z. omega arith)))
+      rules = λ r i at. ap (λ z. getD z (r .target .attribute - 1) (pos 0)) (take-append-drop (inh g (symbolAt p 0)) vs) ∙ (ap (λ j. valueAt vs f (occurrence j (r .target .attribute))) (sym at) ∙ sym (computes (length (p .right)) r i (omega arith) (λ z. omega arith)))
     }
 
 -- ---- its registers

@@ -3,4 +3,5 @@ pub mod Reading
 pub mod Occurrences
 pub mod Invariant
 pub mod ReadWellFormed
+pub mod Numbers
 pub mod AcceptedTable
