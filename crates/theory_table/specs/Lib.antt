@@ -4,3 +4,5 @@ pub mod Occurrences
 pub mod Invariant
 pub mod ReadWellFormed
 pub mod Numbers
+pub mod LaidOutRead
+pub mod ReadLaidOut

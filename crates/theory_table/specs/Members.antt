@@ -1,11 +1,12 @@
 -- Truth values as facts, and members of lists.
 use Prim.Native.Nat.{ℕ, zero, suc, _+_, _≤_, _<_}
 use native.Mathlib.Omega.{arith}
-use mathlib.Core.Path.{_≡_, refl, ap, subst}
+use mathlib.Core.Path.{_≡_, refl, ap, _∙_, subst}
 use mathlib.Core.Logic.{_⊎_, inl, inr}
 use mathlib.Core.Bool.{Bool, true, false, _&&_, _||_, not}
-use mathlib.Core.List.{List, [], _∷_, _++_, map, reverse, reverseAux}
-use lib.ListN.{length, getD, drop}
+use mathlib.Core.List.{List, [], _∷_, _++_, map, reverse, reverseAux, reverse-cons, map-append}
+use lib.ListN.{length, getD}
+use lib.Seq.{append-snoc}
 use lib.Dec.{T, eqb, eqb→eq, eqb-refl}
 use Rattle.meaning.specs.Base.{all, any, countFrom, In}
 
@@ -117,6 +118,14 @@ pub map-in : {A B : Type 0} (f : A → B) (xs : List A) (y : B) → In y (map f 
 map-in f [] y i = absurd i
 map-in f (x ∷ xs) y (inl p) = (x, inl refl, p)
 map-in f (x ∷ xs) y (inr j) = let v = map-in f xs y j in (v .0, inr (v .1), v .2)
+
+-- ---- one element more of a list turned round
+
+pub one-more : {A : Type 0} (x : A) (done todo : List A) → reverse (x ∷ done) ++ todo ≡ reverse done ++ (x ∷ todo)
+one-more x done todo = ap (λ z. z ++ todo) (reverse-cons x done) ∙ append-snoc (reverse done) x todo
+
+pub map-one-more : {A B : Type 0} (f : A → B) (x : A) (done : List A) (todo : List B) → map f (reverse (x ∷ done)) ++ todo ≡ map f (reverse done) ++ (f x ∷ todo)
+map-one-more f x done todo = ap (λ z. map f z ++ todo) (reverse-cons x done) ∙ ap (λ z. z ++ todo) (map-append f (reverse done) (x ∷ [])) ∙ append-snoc (map f (reverse done)) (f x) todo
 
 -- ---- numbers counted from one on
 

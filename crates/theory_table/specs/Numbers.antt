@@ -6,8 +6,7 @@ use mathlib.Core.Path.{_≡_, refl, sym, ap, ap₂, _∙_, subst}
 use mathlib.Core.Logic.{_⊎_, inl, inr}
 use mathlib.Core.Bool.{Bool, true, false, not, _&&_, _||_}
 use mathlib.Core.List.{List, [], _∷_, _++_, map}
-use lib.ListN.{getD, length, drop, List·getD-eq-default}
-use lib.Seq.{ext-getD}
+use lib.ListN.{getD, length, List·getD-eq-default}
 use lib.IntN.{ℤ, pos, negsuc}
 use lib.Signed.{leZ}
 use lib.Dec.{T, eqb, ltb, leb, leb→le, le→leb, ltb→lt, lt→ltb, nltb→le}
@@ -125,7 +124,7 @@ listed-from f k zero (x ∷ xs) e h = absurd (omega arith)
 listed-from f k (suc n) [] e h = absurd (omega arith)
 listed-from f k (suc n) (x ∷ xs) e h = ap₂ _∷_ (h 0 (omega arith) ∙ ap f (omega arith)) (listed-from f (suc k) n xs (omega arith) (λ i l. h (suc i) (omega arith) ∙ ap f (omega arith)))
 
-listed : (n : ℕ) (b : List ℕ) → length b ≡ n → b ≡ map (byte b) (countFrom 0 n)
+pub listed : (n : ℕ) (b : List ℕ) → length b ≡ n → b ≡ map (byte b) (countFrom 0 n)
 listed n b e = listed-from (byte b) 0 n b e (λ i l. ap (byte b) (omega arith))
 
 -- ---- rules

@@ -67,18 +67,18 @@ module _ (s : State) (w : Whole s) where
   abbrev g : Grammar
   g = grammarOf s
 
-  size : length (g .counts) ≡ headerOf s .nonterminals
-  size = omega (arith, length-reverse (s .counts), w .inv .fewCounts, w .full .1)
+  pub all-counted : length (g .counts) ≡ headerOf s .nonterminals
+  all-counted = omega (arith, length-reverse (s .counts), w .inv .fewCounts, w .full .1)
 
   known : (x : Symbol) → KnownIn (headerOf s) x → Known g x
   known (terminal t) k = k
-  known (nonterminal n) k = omega (arith, size)
+  known (nonterminal n) k = omega (arith, all-counted)
 
   production-formed : (e : Entry) → EntryOk (headerOf s) (s .counts) e → T (complete s e) → WellFormedProduction g (productionOf e)
   production-formed e k c =
       let g′ : Grammar = countsOnly (s .counts) in
       record {
-        left = omega (arith, size, k .left);
+        left = omega (arith, all-counted, k .left);
         short = k .short;
         symbols = λ x i. known x (k .symbols x i);
         targets = λ r i. output-over g′ g (bare e) (productionOf e) refl refl refl (r .target .position) (r .target .attribute) (k .targets r (in-reverse r (e .rules) i));
@@ -104,8 +104,8 @@ module _ (s : State) (w : Whole s) where
       let start = w .inv .startOk (omega (arith, h .start, w .full .1)) in
       record {
         terminals = h .terminals;
-        nonterminals = (omega (arith, size, h .nonterminals .0), omega (arith, size, h .nonterminals .1));
-        start = omega (arith, size, h .start);
+        nonterminals = (omega (arith, all-counted, h .nonterminals .0), omega (arith, all-counted, h .nonterminals .1));
+        start = omega (arith, all-counted, h .start);
         attributes = λ c i. w .inv .attributes c (in-reverse c (s .counts) i);
         startAlone = start .0;
         result = (start .1, start .2);
