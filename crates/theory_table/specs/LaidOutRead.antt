@@ -87,7 +87,7 @@ module _ (g : Grammar) (wf : WellFormed g) where
           directions = subst (λ z. T (not (isInput s e (z .target)) && all (isInput s e) (operands (z .function)))) (sym (q .same)) (and (not (isInput s e (r .target))) (all (isInput s e) (operands f)) (o .1) (ins .1));
           once = subst (λ z. T (not (hasRule e (z .target)))) (sym (q .same)) (once-set e r once);
           leftward = subst (λ z. T (eqb (z .target .position) 0 || all (λ u. ltb (u .position) (z .target .position)) (operands (z .function)))) (sym (q .same)) (operands-leftward s e k f ops);
-          bounds = tt
+          bounds = tt;
         }
 
     condition-passed : (c : Condition Occurrence) → In c (p .conditions) → cn < 512 → Passed s condition (conditionBytes c)
@@ -103,7 +103,7 @@ module _ (g : Grammar) (wf : WellFormed g) where
           directions = subst (λ z. T (all (isInput s e) (reads z))) (sym (q .same)) (ins .1);
           once = tt;
           leftward = tt;
-          bounds = subst (λ z. T (elim z [ range o l h ↦ leZ l h | atmost o u ↦ not (eqb (o .position) 0 && eqb (u .position) 0) ])) (sym (q .same)) (proper-test c (w .proper c i))
+          bounds = subst (λ z. T (elim z [ range o l h ↦ leZ l h | atmost o u ↦ not (eqb (o .position) 0 && eqb (u .position) 0) ])) (sym (q .same)) (proper-test c (w .proper c i));
         }
 
     -- a production all of whose rules are read
@@ -126,12 +126,17 @@ module _ (g : Grammar) (wf : WellFormed g) where
       record {
         limits = and (leb 2 (length b) && leb (byte b 1) 12 && eqb (length b) (2 + byte b 1)) (ltb (length es) 128) (and (leb 2 (length b) && leb (byte b 1) 12) (eqb (length b) (2 + byte b 1)) (and (leb 2 (length b)) (leb (byte b 1) 12) (le→leb 2 (length b) (omega arith)) (le→leb (byte b 1) 12 (w .short))) (same-eqb (length b) (2 + byte b 1) (omega arith))) (lt→ltb (length es) 128 room);
         named = and (ltb (p .left) (nonterminalCount g)) (all (λ n. symbolKnown (st co es rn cn) (symbolOf n)) (map symbolByte (p .right))) (lt→ltb (p .left) (nonterminalCount g) (w .left)) (in-all (λ n. symbolKnown (st co es rn cn) (symbolOf n)) (map symbolByte (p .right)) (λ n i. symbol n (map-in symbolByte (p .right) n i)));
-        start = tt; directions = tt; once = tt; leftward = tt; bounds = tt
+        start = tt;
+        directions = tt;
+        once = tt;
+        leftward = tt;
+        bounds = tt;
       }
     where
       known : (x : Symbol) → Known g x → T (symbolKnown (st co es rn cn) x)
       known (terminal t) k = lt→ltb t (g .terminals) k
       known (nonterminal n) k = lt→ltb n (nonterminalCount g) k
+
       symbol : (n : ℕ) → (x : Symbol) × In x (p .right) × (n ≡ symbolByte x) → T (symbolKnown (st co es rn cn) (symbolOf n))
       symbol n v =
           let k = w .symbols (v .0) (v .1) in
@@ -189,14 +194,18 @@ module _ (g : Grammar) (wf : WellFormed g) where
 
   counts-passed : (co : List ℕ) (done : List Counts) (c : Counts) (todo : List Counts) → reverse done ++ (c ∷ todo) ≡ g .counts → Passed (mk (some headerIs) done co [] 0 0) counts (countsBytes c)
   counts-passed co done c todo q = record {
-        limits = le→leb (c .inherited + c .synthesized) 8 (wf .attributes c (subst (In c) q (in-right c (reverse done) (c ∷ todo) (inl refl))));
-        named = tt;
-        start = go (eqb (length done) (g .start)) refl;
-        directions = tt; once = tt; leftward = tt; bounds = tt
-      }
+    limits = le→leb (c .inherited + c .synthesized) 8 (wf .attributes c (subst (In c) q (in-right c (reverse done) (c ∷ todo) (inl refl))));
+    named = tt;
+    start = go (eqb (length done) (g .start)) refl;
+    directions = tt;
+    once = tt;
+    leftward = tt;
+    bounds = tt;
+  }
     where
       this : length done ≡ g .start → getD (g .counts) (g .start) noCounts ≡ c
       this e = subst (λ z. getD z (g .start) noCounts ≡ c) q (getD-at (reverse done) c todo noCounts (g .start) (length-reverse done ∙ e))
+
       go : (b : Bool) → eqb (length done) (g .start) ≡ b → T (not b || (eqb (c .inherited) 0 && within 1 (g .result) (c .synthesized)))
       go false e = tt
       go true e =
@@ -216,10 +225,14 @@ module _ (g : Grammar) (wf : WellFormed g) where
 
   header-passed : Passed nothingRead header (headerBytes g)
   header-passed = record {
-        limits = and (within 1 (g .terminals) 63) (within 1 (nonterminalCount g) 48) (within-is 1 (g .terminals) 63 (wf .terminals .0) (wf .terminals .1)) (within-is 1 (nonterminalCount g) 48 (wf .nonterminals .0) (wf .nonterminals .1));
-        named = lt→ltb (g .start) (nonterminalCount g) (wf .start);
-        start = tt; directions = tt; once = tt; leftward = tt; bounds = tt
-      }
+    limits = and (within 1 (g .terminals) 63) (within 1 (nonterminalCount g) 48) (within-is 1 (g .terminals) 63 (wf .terminals .0) (wf .terminals .1)) (within-is 1 (nonterminalCount g) 48 (wf .nonterminals .0) (wf .nonterminals .1));
+    named = lt→ltb (g .start) (nonterminalCount g) (wf .start);
+    start = tt;
+    directions = tt;
+    once = tt;
+    leftward = tt;
+    bounds = tt;
+  }
 
   table-found : (bs : List ℕ) → LaidOut g bs → Found nothingRead 0 bs
   table-found bs l = subst (Found nothingRead 0) (sym (l .isTable)) (found-field nothingRead 0 header (headerBytes g) (countsFields (g .counts) ++ l .rest) tt header-passed (counts-read (g .counts) [] [] 7 (l .rest) refl (l .productions)))

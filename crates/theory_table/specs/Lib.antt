@@ -6,3 +6,6 @@ pub mod ReadWellFormed
 pub mod Numbers
 pub mod LaidOutRead
 pub mod ReadLaidOut
+pub mod Exactly
+pub mod Rows
+pub mod Places

@@ -119,6 +119,11 @@ map-in f [] y i = absurd i
 map-in f (x ∷ xs) y (inl p) = (x, inl refl, p)
 map-in f (x ∷ xs) y (inr j) = let v = map-in f xs y j in (v .0, inr (v .1), v .2)
 
+pub map-at : {A B : Type 0} (f : A → B) (xs : List A) (k : ℕ) (d : A) (e : B) → k < length xs → getD (map f xs) k e ≡ f (getD xs k d)
+map-at f [] k d e l = absurd (omega arith)
+map-at f (x ∷ xs) zero d e l = refl
+map-at f (x ∷ xs) (suc k) d e l = map-at f xs k d e (omega arith)
+
 -- ---- one element more of a list turned round
 
 pub one-more : {A : Type 0} (x : A) (done todo : List A) → reverse (x ∷ done) ++ todo ≡ reverse done ++ (x ∷ todo)

@@ -50,7 +50,6 @@ joined-four x y z w a b c d =
     let e₄ : n % 256 ≡ w = omega arith in
     rw (e₁, e₂, e₃, e₄)
 
-
 constant-back : (c : ℤ) → InFourBytes c → let n : ℕ = unsigned c in signed (joined (n / 16777216 % 256) (n / 65536 % 256) (n / 256 % 256) (n % 256)) ≡ c
 constant-back (pos n) h =
     let l : n ≤ 2147483647 = leb→le n 2147483647 (h .1) in

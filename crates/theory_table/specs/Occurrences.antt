@@ -240,6 +240,7 @@ module _ (s : State) (e : Entry) where
           let c = facts-known s e k a l m (omega (arith, att-is s e k)) in
           let r = h k a (output-at s e k a c (subst (λ b. T (not b)) (sym q) tt)) in
           in-any (λ u. sameOccurrence (u .target) (occ k a)) (e .rules) (r .0) (r .1) (same-refl (r .0 .target) (occ k a) (r .2))
+
       at : (k : ℕ) → In k (countFrom 0 (suc (length (e .right)))) → (o : Occurrence) → (a : ℕ) × In a (countFrom 1 (attAt s e k)) × (o ≡ occ k a) → T (ruled o)
       at k i o w =
           let f = from-in 0 (suc (length (e .right))) k i in

@@ -43,10 +43,13 @@ rule-body s b h p =
   where
     right : Bool
     right = ltb 8 (byte b 2) || eqb (length b) (ruleLength (byte b 2))
+
     divides : Bool
     divides = not (eqb (byte b 2) 8) || (leZ (pos 1) (constantAt b 5) && leZ (constantAt b 5) (pos 1000000))
+
     fits : T right
     fits = both (leb 3 (length b) && ltb (s .rules) 1024) right (both (leb 3 (length b) && ltb (s .rules) 1024 && right) divides (p .limits) .0) .1
+
     go : byte b 2 ≤ 8 → T (ltb 8 (byte b 2)) ⊎ T (eqb (length b) (ruleLength (byte b 2))) → length b ≡ ruleLength (byte b 2)
     go n (inl t) = absurd (omega (arith, ltb→lt 8 (byte b 2) t))
     go n (inr t) = eqb→eq (length b) (ruleLength (byte b 2)) t
@@ -61,7 +64,7 @@ condition-body s b h p =
     go n (inr t) = eqb→eq (length b) (conditionLength (byte b 0)) t
 
 -- the body of a production: left side, length, symbols
-production-length : (s : State) (b : List ℕ) → Passed s production b → length b ≡ 2 + byte b 1
+pub production-length : (s : State) (b : List ℕ) → Passed s production b → length b ≡ 2 + byte b 1
 production-length s b p = eqb→eq (length b) (2 + byte b 1) (both (leb 2 (length b) && leb (byte b 1) 12) (eqb (length b) (2 + byte b 1)) (both (leb 2 (length b) && leb (byte b 1) 12 && eqb (length b) (2 + byte b 1)) (ltb (length (s .entries)) 128) (p .limits) .0) .1)
 
 production-body : (b : List ℕ) → length b ≡ 2 + byte b 1 → b ≡ byte b 0 ∷ length (map symbolOf (drop 2 b)) ∷ map Layout.symbolByte (map symbolOf (drop 2 b))
@@ -94,11 +97,18 @@ none-left e es ps = map-one-more productionOf e es ps ∙ ap₂ (λ rs cs. map p
 
 rest-of : {s u : State} {o : ℕ} {bs : List ℕ} → Reads s o bs u → (e : Entry) (es : List Entry) → s .entries ≡ e ∷ es → Full s → Bytes bs → Rest s e es bs u
 rest-of {s} (over f l t) e es q _ h = record {
-    rules = []; conditions = []; productions = []; body = []; rest = [];
-    own = Layout.nothing; others = Layout.nothing; isRest = refl;
-    isRead = ap (λ z. map productionOf (reverse z)) q ∙ sym (append-nil (map productionOf (reverse (e ∷ es)))) ∙ none-left e es [];
-    header = refl; counts = refl
-  }
+  rules = [];
+  conditions = [];
+  productions = [];
+  body = [];
+  rest = [];
+  own = Layout.nothing;
+  others = Layout.nothing;
+  isRest = refl;
+  isRead = ap (λ z. map productionOf (reverse z)) q ∙ sym (append-nil (map productionOf (reverse (e ∷ es)))) ∙ none-left e es [];
+  header = refl;
+  counts = refl;
+}
 rest-of {s} (more header high low b c n p r) e es q f h = absurd (T-not (isSome (s .header)) n (f .0))
 rest-of (more counts high low b c n p r) e es q f h = absurd (omega (arith, n .1, f .1))
 rest-of {s} (more {o = o} production high low b {rest} c n p r) e es q f h =
@@ -106,31 +116,49 @@ rest-of {s} (more {o = o} production high low b {rest} c n p r) e es q f h =
     let i = rest-of r new (e ∷ es) (ap (λ z. new ∷ z) q) f (rest-bytes 3 high low b rest h) in
     let q′ : Production = extended new (i .rules) (i .conditions) in
     record {
-      rules = []; conditions = []; productions = q′ ∷ i .productions; body = []; rest = field 3 (productionBytes q′) ++ (i .body ++ i .rest);
-      own = Layout.nothing; others = Layout.production q′ (i .own) (i .others);
+      rules = [];
+      conditions = [];
+      productions = q′ ∷ i .productions;
+      body = [];
+      rest = field 3 (productionBytes q′) ++ (i .body ++ i .rest);
+      own = Layout.nothing;
+      others = Layout.production q′ (i .own) (i .others);
       isRest = field-is 3 high low b (productionBytes q′) rest (low-small 3 high low b rest h) c (production-body b (production-length s b p)) ∙ ap (λ z. field 3 (productionBytes q′) ++ z) (i .isRest);
       isRead = i .isRead ∙ none-left e es (q′ ∷ i .productions);
-      header = i .header; counts = i .counts
+      header = i .header;
+      counts = i .counts;
     }
 rest-of {s} (more rule high low b {rest} c n p r) e es q f h =
     let x : Rule Occurrence = ruleOf b in
     let i = rest-of r (withRule e x) es (ap (onCurrent (λ z. withRule z x)) q) f (rest-bytes 4 high low b rest h) in
     record {
-      rules = x ∷ i .rules; conditions = i .conditions; productions = i .productions; body = field 4 (ruleBytes x) ++ i .body; rest = i .rest;
-      own = Layout.rule x (i .own); others = i .others;
+      rules = x ∷ i .rules;
+      conditions = i .conditions;
+      productions = i .productions;
+      body = field 4 (ruleBytes x) ++ i .body;
+      rest = i .rest;
+      own = Layout.rule x (i .own);
+      others = i .others;
       isRest = field-is 4 high low b (ruleBytes x) rest (low-small 4 high low b rest h) c (rule-body s b (body-bytes 4 high low b rest h) p) ∙ ap (λ z. field 4 (ruleBytes x) ++ z) (i .isRest) ∙ sym (append-assoc (field 4 (ruleBytes x)) (i .body) (i .rest));
       isRead = i .isRead ∙ ap (λ rs. map productionOf (reverse es) ++ (record { left = e .left; right = e .right; rules = rs; conditions = reverse (e .conditions) ++ i .conditions } ∷ i .productions)) (one-more x (e .rules) (i .rules));
-      header = i .header; counts = i .counts
+      header = i .header;
+      counts = i .counts;
     }
 rest-of {s} (more condition high low b {rest} c n p r) e es q f h =
     let x : Condition Occurrence = conditionOf b in
     let i = rest-of r (withCondition e x) es (ap (onCurrent (λ z. withCondition z x)) q) f (rest-bytes 5 high low b rest h) in
     record {
-      rules = i .rules; conditions = x ∷ i .conditions; productions = i .productions; body = field 5 (conditionBytes x) ++ i .body; rest = i .rest;
-      own = Layout.condition x (i .own); others = i .others;
+      rules = i .rules;
+      conditions = x ∷ i .conditions;
+      productions = i .productions;
+      body = field 5 (conditionBytes x) ++ i .body;
+      rest = i .rest;
+      own = Layout.condition x (i .own);
+      others = i .others;
       isRest = field-is 5 high low b (conditionBytes x) rest (low-small 5 high low b rest h) c (condition-body s b (body-bytes 5 high low b rest h) p) ∙ ap (λ z. field 5 (conditionBytes x) ++ z) (i .isRest) ∙ sym (append-assoc (field 5 (conditionBytes x)) (i .body) (i .rest));
       isRead = i .isRead ∙ ap (λ cs. map productionOf (reverse es) ++ (record { left = e .left; right = e .right; rules = reverse (e .rules) ++ i .rules; conditions = cs } ∷ i .productions)) (one-more x (e .conditions) (i .conditions));
-      header = i .header; counts = i .counts
+      header = i .header;
+      counts = i .counts;
     }
 
 -- ---- from the counts on
@@ -153,21 +181,24 @@ counts-of {s} (more counts high low b {rest} c n p r) k q h =
     let x : Counts = record { inherited = byte b 0; synthesized = byte b 1 } in
     let i = counts-of r k q (rest-bytes 2 high low b rest h) in
     record {
-      todo = x ∷ i .todo; rest = i .rest; others = i .others;
+      todo = x ∷ i .todo;
+      rest = i .rest;
+      others = i .others;
       isRest = field-is 2 high low b (countsBytes x) rest (low-small 2 high low b rest h) c (counts-body b (p .limits)) ∙ ap (λ z. field 2 (countsBytes x) ++ z) (i .isRest);
       header = i .header;
-      isRead = i .isRead ∙ one-more x (s .counts) (i .todo)
+      isRead = i .isRead ∙ one-more x (s .counts) (i .todo);
     }
 counts-of {s} (more {o = o} production high low b {rest} c n p r) k q h =
     let new : Entry = record { offset = o; left = byte b 0; right = map symbolOf (drop 2 b); rules = []; conditions = [] } in
     let i = rest-of r new [] (ap (λ z. new ∷ z) q) (n .0) (rest-bytes 3 high low b rest h) in
     let q′ : Production = extended new (i .rules) (i .conditions) in
     record {
-      todo = []; rest = field 3 (productionBytes q′) ++ (i .body ++ i .rest);
+      todo = [];
+      rest = field 3 (productionBytes q′) ++ (i .body ++ i .rest);
       others = subst (λ ps. Productions ps (field 3 (productionBytes q′) ++ (i .body ++ i .rest))) (sym (i .isRead)) (Layout.production q′ (i .own) (i .others));
       isRest = field-is 3 high low b (productionBytes q′) rest (low-small 3 high low b rest h) c (production-body b (production-length s b p)) ∙ ap (λ z. field 3 (productionBytes q′) ++ z) (i .isRest);
       header = i .header;
-      isRead = ap reverse (i .counts) ∙ sym (append-nil (reverse (s .counts)))
+      isRead = ap reverse (i .counts) ∙ sym (append-nil (reverse (s .counts)));
     }
 counts-of (more rule high low b c n p r) k q h = absurd (omega (arith, n .1, ap length q))
 counts-of (more condition high low b c n p r) k q h = absurd (omega (arith, n .1, ap length q))
@@ -190,7 +221,7 @@ laid-out {s} {u} (more header high low b {rest} c n p r) w k d q h =
     record {
       rest = i .rest;
       productions = i .others;
-      isTable = field-is 1 high low b (headerBytes (grammarOf u)) rest (low-small 1 high low b rest h) c (header-body b (p .limits) ∙ sym same) ∙ ap (λ z. field 1 (headerBytes (grammarOf u)) ++ z) (i .isRest ∙ ap (λ z. countsFields z ++ i .rest) (sym cs))
+      isTable = field-is 1 high low b (headerBytes (grammarOf u)) rest (low-small 1 high low b rest h) c (header-body b (p .limits) ∙ sym same) ∙ ap (λ z. field 1 (headerBytes (grammarOf u)) ++ z) (i .isRest ∙ ap (λ z. countsFields z ++ i .rest) (sym cs));
     }
 laid-out {s} (more counts high low b c n p r) w k d q h = absurd (T-not (isSome (s .header)) k (n .0))
 laid-out {s} (more production high low b c n p r) w k d q h = absurd (T-not (isSome (s .header)) k (n .0 .0))

@@ -87,7 +87,7 @@ module _ (s : State) (w : Whole s) where
         operands = λ r i. operands-map (operand-over g′ g (bare e) (productionOf e) refl refl refl (r .target .position)) (r .function) (k .operands r (in-reverse r (e .rules) i));
         constants = λ r i. k .constants r (in-reverse r (e .rules) i);
         reads = λ q i. reads-map (λ o u. input-over g′ g (bare e) (productionOf e) refl refl refl (o .position) (o .attribute) u) q (k .reads q (in-reverse q (e .conditions) i));
-        proper = λ q i. k .proper q (in-reverse q (e .conditions) i)
+        proper = λ q i. k .proper q (in-reverse q (e .conditions) i);
       }
 
   each-formed : (p : Production) → In p (g .productions) → WellFormedProduction g p
@@ -112,7 +112,7 @@ module _ (s : State) (w : Whole s) where
         productions = (omega (arith, many, many′, w .some-entry), omega (arith, many, many′, w .inv .fewEntries));
         rules = omega (arith, rule-total (s .entries), w .inv .rules .0, w .inv .rules .1);
         conditions = omega (arith, condition-total (s .entries), w .inv .conditions .0, w .inv .conditions .1);
-        each = each-formed
+        each = each-formed;
       }
 
 pub read-well-formed : (bs : List ℕ) (s : State) → readTable bs ≡ wellFormed s → WellFormed (grammarOf s)
