@@ -1,8 +1,8 @@
 -- A grammar that meets 01's rules is read from every table in which it is laid out.
-use Prim.Native.Nat.{ℕ, zero, suc, _+_, _/_, _%_, _≤_, _<_}
+use Prim.Native.Nat.{ℕ, suc, _+_, _/_, _%_, _≤_, _<_}
 use native.Mathlib.Omega.{arith}
 use mathlib.Core.Path.{_≡_, refl, sym, ap, ap₂, _∙_, subst}
-use mathlib.Core.Logic.{_⊎_, inl, inr}
+use mathlib.Core.Logic.{inl, inr}
 use mathlib.Core.Bool.{Bool, true, false, not, _&&_, _||_}
 use mathlib.Core.Option.{some}
 use mathlib.Core.List.{List, [], _∷_, _++_, map, reverse, reverse-reverse, append-assoc, append-nil}
@@ -13,11 +13,11 @@ use lib.IntN.{pos}
 use lib.Dec.{T, eqb, ltb, leb, eqb→eq, eqb-refl, le→leb, lt→ltb, not-T}
 use Rattle.meaning.specs.Base.{In, all, total}
 use Rattle.meaning.specs.Grammar.{Symbol, terminal, nonterminal, Occurrence, Function, Rule, Condition, range, atmost, Production, Counts, noCounts, Grammar, nonterminalCount}
-use Rattle.meaning.specs.Rules.{Operands, Operand, Reads, Input, OutputAt, Distinct, Proper, Known, WellFormed, WellFormedProduction}
+use Rattle.meaning.specs.Rules.{Operands, Operand, Distinct, Proper, Known, WellFormed, WellFormedProduction}
 use Rattle.meaning.specs.Layout as Layout
 use Rattle.meaning.specs.Layout.{field, symbolByte, headerBytes, countsBytes, productionBytes, ruleBytes, conditionBytes, RulesAndConditions, Productions, countsFields, LaidOut}
-use Rattle.meaning.specs.Table.{State, Header, Entry, Kind, header, counts, production, rule, condition, byte, within, symbolOf, symbolKnown, ruleOf, conditionOf, ruleLength, conditionLength, constantAt, operands, reads, occurrenceKnown, isInput, hasRule, complete, lastComplete, readField, withRule, withCondition, wellFormed, readTable, nothingRead, productionOf, grammarOf}
-use Rattle.theory_table.specs.Members.{and, both, reverse-in, or-left, or-right, in-all, in-right, in-reverse, map-in, one-more, map-one-more}
+use Rattle.meaning.specs.Table.{State, Header, Entry, Kind, header, counts, production, rule, condition, byte, within, symbolOf, symbolKnown, ruleLength, conditionLength, constantAt, operands, reads, occurrenceKnown, isInput, hasRule, complete, lastComplete, readField, withRule, withCondition, wellFormed, readTable, nothingRead, productionOf, grammarOf}
+use Rattle.theory_table.specs.Members.{and, both, reverse-in, in-all, in-right, in-reverse, map-in, one-more, map-one-more}
 use Rattle.theory_table.specs.Reading.{Passed, tagOf, Full, Next, over, more, reads-table}
 use Rattle.theory_table.specs.Reading as Reading
 use Rattle.theory_table.specs.Occurrences.{input-over, output-over, operand-over, at-output, operands-map, reads-map, operands-inputs, operands-leftward, reads-inputs, once-set, every-complete}

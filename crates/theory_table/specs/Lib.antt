@@ -5,6 +5,8 @@ pub mod Invariant
 pub mod ReadWellFormed
 pub mod Numbers
 pub mod LaidOutRead
+pub mod Bodies
+pub mod Stretches
 pub mod ReadLaidOut
 pub mod Exactly
 pub mod Rows

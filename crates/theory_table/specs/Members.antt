@@ -12,10 +12,6 @@ use Rattle.meaning.specs.Base.{all, any, countFrom, In}
 
 -- ---- tests
 
-pub T→true : (b : Bool) → T b → b ≡ true
-T→true true t = refl
-T→true false t = absurd t
-
 pub both : (a b : Bool) → T (a && b) → T a × T b
 both true b t = (tt, t)
 both false b t = absurd t

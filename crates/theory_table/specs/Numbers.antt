@@ -3,19 +3,18 @@ use Prim.Native.Nat.{ℕ, zero, suc, _+_, _-_, _*_, _/_, _%_, _≤_, _<_}
 use native.Mathlib.Omega.{arith}
 use native.Mathlib.Decide.{decLt}
 use mathlib.Core.Path.{_≡_, refl, sym, ap, ap₂, _∙_, subst}
-use mathlib.Core.Logic.{_⊎_, inl, inr}
 use mathlib.Core.Bool.{Bool, true, false, not, _&&_, _||_}
 use mathlib.Core.List.{List, [], _∷_, _++_, map}
 use lib.ListN.{getD, length, List·getD-eq-default}
 use lib.IntN.{ℤ, pos, negsuc}
 use lib.Signed.{leZ}
 use lib.Dec.{T, eqb, ltb, leb, leb→le, le→leb, ltb→lt, lt→ltb, nltb→le}
-use Rattle.meaning.specs.Base.{In, countFrom}
+use Rattle.meaning.specs.Base.{countFrom}
 use Rattle.meaning.specs.Grammar.{Symbol, terminal, nonterminal, Occurrence, Function, const, copy, sum, diff, prod, maxi, mini, addc, quot, Rule, Condition, range, atmost}
 use Rattle.meaning.specs.Rules.{InFourBytes, Constant, Proper}
 use Rattle.meaning.specs.Layout.{unsigned, fourBytes, constantBytes, occurrenceBytes, symbolByte, functionBytes, ruleBytes, conditionBytes, Bytes}
-use Rattle.meaning.specs.Table.{byte, signed, constantAt, occurrenceAt, symbolOf, functionOf, ruleOf, conditionOf, ruleLength, conditionLength}
-use Rattle.theory_table.specs.Members.{both, and, getD-in}
+use Rattle.meaning.specs.Table.{byte, signed, constantAt, occurrenceAt, symbolOf, ruleOf, conditionOf, ruleLength, conditionLength}
+use Rattle.theory_table.specs.Members.{and, getD-in}
 
 -- ---- lengths in two bytes
 

@@ -1,5 +1,5 @@
 -- Where in the bytes of a table that is read the header, the counts and the productions stand.
-use Prim.Native.Nat.{ℕ, zero, suc, _+_, _*_, _≤_, _<_}
+use Prim.Native.Nat.{ℕ, suc, _+_, _*_, _≤_, _<_}
 use native.Mathlib.Omega.{arith}
 use native.Mathlib.Decide.{decLt}
 use mathlib.Core.Path.{_≡_, refl, sym, ap, _∙_, subst}
@@ -8,15 +8,15 @@ use mathlib.Core.Bool.{Bool, true, false, not, _&&_}
 use mathlib.Core.List.{List, [], _∷_, _++_, map, reverse, reverse-cons}
 use lib.ListN.{getD, length, drop, length-append, length-map, length-drop, length-reverse, List·getD-append}
 use lib.Seq.{getD-at, getD-append-add, getD-drop}
-use lib.Dec.{T, eqb, ltb, leb, eqb→eq, T-not}
+use lib.Dec.{T, eqb, leb, eqb→eq, T-not}
 use Rattle.meaning.specs.Base.{In}
 use Rattle.meaning.specs.Grammar.{Symbol, terminal, Counts, noCounts, wholeProduction, productionAt, whole, pickProduction}
-use Rattle.meaning.specs.Table.{State, Header, Entry, noEntry, Kind, header, counts, production, rule, condition, isSome, headerOf, byte, within, symbolOf, readField, onCurrent, withRule, withCondition, ruleOf, conditionOf, wellFormed, readTable, nothingRead, productionOf, grammarOf}
+use Rattle.meaning.specs.Table.{State, Header, Entry, noEntry, Kind, header, counts, production, rule, condition, isSome, headerOf, byte, within, symbolOf, readField, onCurrent, withRule, withCondition, ruleOf, conditionOf, wellFormed, readTable, productionOf, grammarOf}
 use Rattle.meaning.specs.Judgement.{entryOffset, countsOffset}
 use Rattle.theory_table.specs.Members.{both, in-reverse, getD-in, map-at}
-use Rattle.theory_table.specs.Reading.{Reads, over, more, Passed, tagOf, Full, Next, table-reads}
+use Rattle.theory_table.specs.Reading.{Reads, over, more, Passed, tagOf, Next, table-reads}
 use Rattle.theory_table.specs.Invariant.{Inv, nothing-yet, keeps, mk}
-use Rattle.theory_table.specs.ReadLaidOut.{production-length}
+use Rattle.theory_table.specs.Bodies.{production-length}
 use Rattle.theory_table.specs.ReadWellFormed.{Whole, whole-table}
 
 -- ---- what stands where

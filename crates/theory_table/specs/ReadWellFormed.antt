@@ -1,15 +1,15 @@
 -- A table read without one of refusals 1 to 10 holds a grammar that meets 01's rules.
-use Prim.Native.Nat.{ℕ, zero, suc, _+_, _≤_, _<_}
+use Prim.Native.Nat.{ℕ, _+_, _<_}
 use native.Mathlib.Omega.{arith}
 use mathlib.Core.Path.{_≡_, refl, sym, ap, _∙_, subst}
 use mathlib.Core.Logic.{_⊎_, inl, inr}
-use mathlib.Core.List.{List, [], _∷_, _++_, map, reverse, reverseAux}
+use mathlib.Core.List.{List, [], _∷_, map, reverse, reverseAux}
 use lib.ListN.{length, length-map, length-reverse}
 use lib.Dec.{T}
 use Rattle.meaning.specs.Base.{In, total}
-use Rattle.meaning.specs.Grammar.{Symbol, terminal, nonterminal, Occurrence, Rule, Production, Grammar, Counts}
+use Rattle.meaning.specs.Grammar.{Symbol, terminal, nonterminal, Occurrence, Rule, Production, Grammar}
 use Rattle.meaning.specs.Rules.{Distinct, Known, WellFormed, WellFormedProduction}
-use Rattle.meaning.specs.Table.{State, Entry, Header, headerOf, isSome, complete, lastComplete, wellFormed, readTable, productionOf, grammarOf}
+use Rattle.meaning.specs.Table.{State, Entry, headerOf, complete, lastComplete, wellFormed, readTable, productionOf, grammarOf}
 use Rattle.theory_table.specs.Members.{in-reverse, reverse-in, map-in}
 use Rattle.theory_table.specs.Reading.{Reads, over, more, Full, table-reads}
 use Rattle.theory_table.specs.Occurrences.{input-over, output-over, operand-over, operands-map, reads-map, complete-every}
