@@ -1,6 +1,5 @@
 -- Demands 2 and 3 over every list of calls: the picture, the value, and no second tree.
 use Prim.Native.Nat.{ℕ, _≤_}
-use native.Mathlib.Omega.{arith}
 use mathlib.Core.Path.{_≡_, refl, sym, ap, ap₂, _∙_, subst}
 use mathlib.Core.Logic.{inl, inr}
 use mathlib.Core.Bool.{Bool, true, false}
@@ -21,7 +20,7 @@ use Rattle.meaning.specs.Statements.{History, OnlyTree, PictureAlways, ValueAlw
 use Rattle.theory_table.specs.AcceptedTable.{accepted-well-formed}
 use Rattle.theory_walk.specs.Moves.{moves-to, moves-all}
 use Rattle.theory_sound.specs.Histories.{Run, runs}
-use Rattle.theory_sound.specs.Answers.{finish-sound}
+use Rattle.theory_sound.specs.Answers.{finish-sound, not-value}
 use Rattle.theory_sound.specs.ValueSound.{moves-only}
 use Rattle.theory_demands.specs.ByGrammar.{performs-is, by-grammar}
 use Rattle.meaning.specs.Calls as Calls
@@ -64,9 +63,6 @@ picture-always program bs g m₀ ts us isOver r m t a h k f over =
     (d .0 ∙ drawn-record g w (ts ++ us) t k (length ts) isOver, d .1 ∙ drawn-stacks g t (length ts) isOver m₀)
 
 -- ---- the value
-
-not-value : {A : Type 0} {k j : ℕ} {v : ℤ} {n : ℕ} → refused k j ≡ value v n → A
-not-value e = absurd (let z : _≡_ {A = ℕ} 0 1 = cc in omega arith)
 
 closed-no : (g : Grammar) (r : Record) (m : Stacks) (called : Called) (v : ℤ) (n : ℕ) → r .isOpen ≡ false → whenFit g r m called .answer ≡ value v n → ⊥
 closed-no g r m called v n e h = go (r .isOpen) e h
