@@ -5,3 +5,10 @@ pub mod Invariant
 pub mod ReadWellFormed
 pub mod Numbers
 pub mod AcceptedTable
+pub mod LaidOutRead
+pub mod Bodies
+pub mod Stretches
+pub mod ReadLaidOut
+pub mod Exactly
+pub mod Rows
+pub mod Places

@@ -1,19 +1,16 @@
 -- Truth values as facts, and members of lists.
 use Prim.Native.Nat.{ℕ, zero, suc, _+_, _≤_, _<_}
 use native.Mathlib.Omega.{arith}
-use mathlib.Core.Path.{_≡_, refl, ap, subst}
+use mathlib.Core.Path.{_≡_, refl, ap, _∙_, subst}
 use mathlib.Core.Logic.{_⊎_, inl, inr}
 use mathlib.Core.Bool.{Bool, true, false, _&&_, _||_, not}
-use mathlib.Core.List.{List, [], _∷_, _++_, map, reverse, reverseAux}
-use lib.ListN.{length, getD, drop}
+use mathlib.Core.List.{List, [], _∷_, _++_, map, reverse, reverseAux, reverse-cons, map-append}
+use lib.ListN.{length, getD}
+use lib.Seq.{append-snoc}
 use lib.Dec.{T, eqb, eqb→eq, eqb-refl}
 use Rattle.meaning.specs.Base.{all, any, countFrom, In}
 
 -- ---- tests
-
-pub T→true : (b : Bool) → T b → b ≡ true
-T→true true t = refl
-T→true false t = absurd t
 
 pub both : (a b : Bool) → T (a && b) → T a × T b
 both true b t = (tt, t)
@@ -117,6 +114,19 @@ pub map-in : {A B : Type 0} (f : A → B) (xs : List A) (y : B) → In y (map f 
 map-in f [] y i = absurd i
 map-in f (x ∷ xs) y (inl p) = (x, inl refl, p)
 map-in f (x ∷ xs) y (inr j) = let v = map-in f xs y j in (v .0, inr (v .1), v .2)
+
+pub map-at : {A B : Type 0} (f : A → B) (xs : List A) (k : ℕ) (d : A) (e : B) → k < length xs → getD (map f xs) k e ≡ f (getD xs k d)
+map-at f [] k d e l = absurd (omega arith)
+map-at f (x ∷ xs) zero d e l = refl
+map-at f (x ∷ xs) (suc k) d e l = map-at f xs k d e (omega arith)
+
+-- ---- one element more of a list turned round
+
+pub one-more : {A : Type 0} (x : A) (done todo : List A) → reverse (x ∷ done) ++ todo ≡ reverse done ++ (x ∷ todo)
+one-more x done todo = ap (λ z. z ++ todo) (reverse-cons x done) ∙ append-snoc (reverse done) x todo
+
+pub map-one-more : {A B : Type 0} (f : A → B) (x : A) (done : List A) (todo : List B) → map f (reverse (x ∷ done)) ++ todo ≡ map f (reverse done) ++ (f x ∷ todo)
+map-one-more f x done todo = ap (λ z. map f z ++ todo) (reverse-cons x done) ∙ ap (λ z. z ++ todo) (map-append f (reverse done) (x ∷ [])) ∙ append-snoc (map f (reverse done)) (f x) todo
 
 -- ---- numbers counted from one on
 
