@@ -1,17 +1,17 @@
 -- A call that brings an accepted table and a long enough area is the call under the table's grammar.
-use Prim.Native.Nat.{ℕ, _≤_, _<_}
+use Prim.Native.Nat.{ℕ, _≤_}
 use native.Mathlib.Omega.{arith}
-use mathlib.Core.Path.{_≡_, refl, sym, ap, _∙_, subst}
+use mathlib.Core.Path.{_≡_, refl, ap, _∙_}
 use mathlib.Core.Bool.{Bool, true, false}
 use mathlib.Core.List.{List}
 use lib.ListN.{length}
-use lib.Dec.{T, ltb, ltb→lt, nltb→le, not-T}
+use lib.Dec.{ltb, ltb→lt, nltb→le}
 use Rattle.meaning.specs.Grammar.{Grammar}
-use Rattle.meaning.specs.Table.{State, Read, wellFormed, malformed, readTable, grammarOf}
+use Rattle.meaning.specs.Table.{Read, wellFormed, malformed, readTable, grammarOf}
 use Rattle.meaning.specs.Judgement.{Verdict, accepted, Accepted}
-use Rattle.meaning.specs.Decide.{judge, verdictOf}
-use Rattle.meaning.specs.Calls.{Record, Stacks, Called, Answer, more, refused, tableRefused, closedRecord, asBrought, openOf}
-use Rattle.meaning.specs.PublicCalls.{Checked, usable, unusable, checkedAs, check, Call, callOf, areaLength, written, Effect, effect, called, opens, performs}
+use Rattle.meaning.specs.Decide.{judge}
+use Rattle.meaning.specs.Calls.{Record, Stacks, Called, more, refused, tableRefused, closedRecord, asBrought, openOf}
+use Rattle.meaning.specs.PublicCalls.{Checked, usable, unusable, checkedAs, check, areaLength, written, Effect, effect, called, opens}
 use Rattle.theory_sets.specs.Accepted.{accepted→verdict}
 
 pub checks : (bs : List ℕ) (g : Grammar) (a : Accepted bs g) → check bs ≡ usable (a .state)

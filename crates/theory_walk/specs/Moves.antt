@@ -14,7 +14,8 @@ use Rattle.meaning.specs.Scheme.{Instruction, add, evaluate, expect, test, remo
 use Rattle.meaning.specs.Machine.{isExpect}
 use Rattle.meaning.specs.Tree.{Tree, Forest, leaf, node, noTrees, treeAnd, yield, yields, width, WellEvaluated, WellEvaluateds, isOpened, isLeft, areLeft, oneIf, countIf, movesOf, movesIn}
 use Rattle.meaning.specs.Walk.{Act, predicts, reads, performs, beforeExpect, afterExpect, walk, walkOn, walkTo}
-use Rattle.theory_walk.specs.Present.{listed-formed, inherited-present, synthesized-present, tests-present}
+use Rattle.theory_base.specs.WellFormed.{well-formed-at, evaluable}
+use Rattle.theory_base.specs.Present.{inherited-present, synthesized-present, tests-present}
 
 -- what a scheme has behind its last symbol's instructions
 abbrev closing : Grammar → Production → List Instruction
@@ -93,7 +94,7 @@ module _ (g : Grammar) (j : ℕ) where
       let r = productionAt g p in
       let z : b + 0 ≡ b = omega arith in
       walk-if g (j - b) p ws (not (isEmpty (synthesizedRules g r))) (evaluate (synthesizedRules g r)) (remove (removed g r) ∷ []) noTrees refl
-      ∙ rw (synthesized-present g r q, z) (omega arith)
+      ∙ rw (synthesized-present g r (evaluable q), z) (omega arith)
 
   -- one child, and the children behind it
   made-child : (b p k : ℕ) (t : Tree) (f : Forest) (is : List Instruction) (ws : List Act) (z : ℕ) → WellFormedProduction g (productionAt g p) → k < length (productionAt g p .right)
@@ -110,7 +111,7 @@ module _ (g : Grammar) (j : ℕ) where
       let e = walk-if g (j - b) p ws (not (isEmpty rules)) (evaluate rules) (expect x ∷ behind) (treeAnd t f) refl in
       let c = ap (made (j - b)) (append-assoc (walk g t) (walkOn g p behind f) ws) ∙ tree (walkOn g p behind f ++ ws) in
       let d = walk-if g (j - (b + width t)) p ws (not (isEmpty tests)) (test tests) is f refl in
-      a ∙ rw (e, c, d, others, inherited-present g r q k l, tests-present g r (suc k)) (sum-if (isLeft j b t) (areLeft j (b + width t) f) (oneIf (ltb 0 (att g x))) (oneIf (ltb 0 (inh g x))) (movesOf g j b t) (oneIf (not (isEmpty (conditionsAt r (suc k))))) (movesIn g j (b + width t) p (suc (suc k)) f) z)
+      a ∙ rw (e, c, d, others, inherited-present g r (evaluable q) k l, tests-present g r (suc k)) (sum-if (isLeft j b t) (areLeft j (b + width t) f) (oneIf (ltb 0 (att g x))) (oneIf (ltb 0 (inh g x))) (movesOf g j b t) (oneIf (not (isEmpty (conditionsAt r (suc k))))) (movesIn g j (b + width t) p (suc (suc k)) f) z)
 
 module _ (g : Grammar) (w : WellFormed g) (j : ℕ) where
   mutual
@@ -118,7 +119,7 @@ module _ (g : Grammar) (w : WellFormed g) (j : ℕ) where
     made-tree b x (leaf t) ws e = made-read j b t ws
     made-tree b x (node p vs f) ws e =
         made-predict j b p (walkOn g p (scheme g (productionAt g p)) f ++ ws)
-        ∙ (ap (λ n. countIf (isOpened j b) (suc n)) (made-in b p 0 f (productionAt g p .right) ws (listed-formed g w p (e .0 .listed)) refl (e .1))
+        ∙ (ap (λ n. countIf (isOpened j b) (suc n)) (made-in b p 0 f (productionAt g p .right) ws (well-formed-at g w p (e .0 .listed)) refl (e .1))
         ∙ when (isOpened j b) (areLeft j b f) (movesIn g j b p 1 f) (made (j - (b + length (yields f))) ws))
 
     made-in : (b p k : ℕ) (f : Forest) (xs : List Symbol) (ws : List Act) → WellFormedProduction g (productionAt g p) → drop k (productionAt g p .right) ≡ xs → WellEvaluateds g f xs
