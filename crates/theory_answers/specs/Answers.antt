@@ -20,7 +20,7 @@ use Rattle.meaning.specs.Calls.{Record, Stacks, Called, Answer, closedRecord, m
 use Rattle.meaning.specs.Fit.{Fit}
 use Rattle.meaning.specs.PublicCalls.{Checked, usable, unusable, checkedAs, check, Call, feed, finish, callOf, areaLength, written, Effect, effect, opens, performs}
 use Rattle.meaning.specs.Statements.{isTableNumber, openingAnswer, callAnswer, AlwaysAnswers, Met, tokensOf, staysOpen, MovesTo, CallsMove, EmptyFeed, LimitsOnly, HandlesAlways}
-use Rattle.theory_sets.specs.Tests.{T→true}
+use Rattle.theory_base.specs.Members.{T→true}
 use Rattle.theory_table.specs.ReadWellFormed.{read-well-formed}
 use Rattle.theory_answers.specs.FitTest.{fit-exactly}
 use Rattle.theory_answers.specs.ShapeMoves.{ShapedAt, shape-move}

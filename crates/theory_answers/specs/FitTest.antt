@@ -17,15 +17,16 @@ use Rattle.meaning.specs.Machine.{movesLimit, tokensLimit}
 use Rattle.meaning.specs.Calls.{Record, Stacks, lentOf, Cell, valued, marked, isMark, cellFits, cellsFit, synCells, waitingCells, isListed, placeWaits, awaited, placesFit, placeCells, stackFits, stacksFit}
 use Rattle.meaning.specs.Fit.{Values, WaitsAt, segment, inside, Left, Fit}
 use Rattle.meaning.specs.Statements.{FitExactly}
-use Rattle.theory_sets.specs.Tests.{and-intro, and-left, and-right, or-left, or-right, or-cases, all-at, all-intro}
+use Rattle.theory_base.specs.Members.{and, both, or-left, or-right, or-cases, at-all}
+use Rattle.theory_sets.specs.Tests.{all-at}
 
 -- ---- cells
 
 pub mark-is : (v : ℤ) → T (isMark v) → v ≡ mark
 mark-is (pos a) t = absurd t
 mark-is (negsuc a) t =
-    let b : a ≤ 9223372036854775807 = leb→le a 9223372036854775807 (and-left (leb a 9223372036854775807) (leb 9223372036854775807 a) t) in
-    let c : 9223372036854775807 ≤ a = leb→le 9223372036854775807 a (and-right (leb a 9223372036854775807) (leb 9223372036854775807 a) t) in
+    let b : a ≤ 9223372036854775807 = leb→le a 9223372036854775807 (both (leb a 9223372036854775807) (leb 9223372036854775807 a) t .0) in
+    let c : 9223372036854775807 ≤ a = leb→le 9223372036854775807 a (both (leb a 9223372036854775807) (leb 9223372036854775807 a) t .1) in
     ap negsuc (omega arith)
 
 -- registers that fit one stretch of cells, and those that fit the rest
@@ -40,28 +41,28 @@ fit-parts : (cs ds : List Cell) (vs : List ℤ) → T (cellsFit (cs ++ ds) vs) �
 fit-parts [] ds vs t = record { upper = []; lower = vs; joined = refl; first = tt; second = t }
 fit-parts (c ∷ cs) ds [] t = absurd t
 fit-parts (c ∷ cs) ds (v ∷ vs) t =
-    let r = fit-parts cs ds vs (and-right (cellFits c v) (cellsFit (cs ++ ds) vs) t) in
-    record { upper = v ∷ r .upper; lower = r .lower; joined = ap (λ z. v ∷ z) (r .joined); first = and-intro (cellFits c v) (cellsFit cs (r .upper)) (and-left (cellFits c v) (cellsFit (cs ++ ds) vs) t) (r .first); second = r .second }
+    let r = fit-parts cs ds vs (both (cellFits c v) (cellsFit (cs ++ ds) vs) t .1) in
+    record { upper = v ∷ r .upper; lower = r .lower; joined = ap (λ z. v ∷ z) (r .joined); first = and (cellFits c v) (cellsFit cs (r .upper)) (both (cellFits c v) (cellsFit (cs ++ ds) vs) t .0) (r .first); second = r .second }
 
 fit-append : (cs ds : List Cell) (xs ys : List ℤ) → T (cellsFit cs xs) → T (cellsFit ds ys) → T (cellsFit (cs ++ ds) (xs ++ ys))
 fit-append [] ds [] ys s t = t
 fit-append [] ds (x ∷ xs) ys s t = absurd s
 fit-append (c ∷ cs) ds [] ys s t = absurd s
-fit-append (c ∷ cs) ds (x ∷ xs) ys s t = and-intro (cellFits c x) (cellsFit (cs ++ ds) (xs ++ ys)) (and-left (cellFits c x) (cellsFit cs xs) s) (fit-append cs ds xs ys (and-right (cellFits c x) (cellsFit cs xs) s) t)
+fit-append (c ∷ cs) ds (x ∷ xs) ys s t = and (cellFits c x) (cellsFit (cs ++ ds) (xs ++ ys)) (both (cellFits c x) (cellsFit cs xs) s .0) (fit-append cs ds xs ys (both (cellFits c x) (cellsFit cs xs) s .1) t)
 
 values-fit : (n : ℕ) (vs : List ℤ) → Values n vs → T (cellsFit (replicate n valued) vs)
 values-fit zero [] v = tt
 values-fit zero (x ∷ xs) v = absurd (omega (arith, v .size))
 values-fit (suc n) [] v = absurd (omega (arith, v .size))
-values-fit (suc n) (x ∷ xs) v = and-intro (inRange x) (cellsFit (replicate n valued) xs) (and-left (inRange x) (all inRange xs) (v .ranged)) (values-fit n xs (record { size = omega (arith, v .size); ranged = and-right (inRange x) (all inRange xs) (v .ranged) }))
+values-fit (suc n) (x ∷ xs) v = and (inRange x) (cellsFit (replicate n valued) xs) (both (inRange x) (all inRange xs) (v .ranged) .0) (values-fit n xs (record { size = omega (arith, v .size); ranged = both (inRange x) (all inRange xs) (v .ranged) .1 }))
 
 fit-values : (n : ℕ) (vs : List ℤ) → T (cellsFit (replicate n valued) vs) → Values n vs
 fit-values zero [] t = record { size = refl; ranged = tt }
 fit-values zero (x ∷ xs) t = absurd t
 fit-values (suc n) [] t = absurd t
 fit-values (suc n) (x ∷ xs) t =
-    let r = fit-values n xs (and-right (inRange x) (cellsFit (replicate n valued) xs) t) in
-    record { size = ap suc (r .size); ranged = and-intro (inRange x) (all inRange xs) (and-left (inRange x) (cellsFit (replicate n valued) xs) t) (r .ranged) }
+    let r = fit-values n xs (both (inRange x) (cellsFit (replicate n valued) xs) t .1) in
+    record { size = ap suc (r .size); ranged = and (inRange x) (all inRange xs) (both (inRange x) (cellsFit (replicate n valued) xs) t .0) (r .ranged) }
 
 marks-fit : (n : ℕ) → T (cellsFit (replicate n marked) (replicate n mark))
 marks-fit zero = tt
@@ -71,7 +72,7 @@ fit-marks : (n : ℕ) (vs : List ℤ) → T (cellsFit (replicate n marked) vs) �
 fit-marks zero [] t = refl
 fit-marks zero (x ∷ xs) t = absurd t
 fit-marks (suc n) [] t = absurd t
-fit-marks (suc n) (x ∷ xs) t = ap₂ (λ z zs. z ∷ zs) (mark-is x (and-left (isMark x) (cellsFit (replicate n marked) xs) t)) (fit-marks n xs (and-right (isMark x) (cellsFit (replicate n marked) xs) t))
+fit-marks (suc n) (x ∷ xs) t = ap₂ (λ z zs. z ∷ zs) (mark-is x (both (isMark x) (cellsFit (replicate n marked) xs) t .0)) (fit-marks n xs (both (isMark x) (cellsFit (replicate n marked) xs) t .1))
 
 -- all of them valued, so their order does not matter
 syn-cells : (g : Grammar) (xs : List Symbol) (below : List Cell) → synCells g xs below ≡ replicate (total (map (syn g) xs)) valued ++ below
@@ -116,20 +117,20 @@ module _ (g : Grammar) (p q : ℕ) (qs : List ℕ) where
   place-on : T (placesFit g (p ∷ q ∷ qs)) → PlaceOn g p (q ∷ qs)
   unfolding isBelow isShort isNamed
   place-on t =
-      let abc : T (isBelow && placeWaits g p && isNamed) = and-left (isBelow && placeWaits g p && isNamed) (placesFit g (q ∷ qs)) t in
-      let ab : T (isBelow && placeWaits g p) = and-left (isBelow && placeWaits g p) isNamed abc in
-      (ltb→lt (p / 256) (length (g .productions)) (and-left isBelow (placeWaits g p) ab),
-        ltb→lt (p % 256) (length (productionAt g (p / 256) .right)) (and-right (isListed g (p / 256)) isShort (and-right isBelow (placeWaits g p) ab)),
-        nonterminal-is (productionAt g (p / 256) .left) (awaited g q) (and-right (isBelow && placeWaits g p) isNamed abc),
-        and-right (isBelow && placeWaits g p && isNamed) (placesFit g (q ∷ qs)) t)
+      let abc : T (isBelow && placeWaits g p && isNamed) = both (isBelow && placeWaits g p && isNamed) (placesFit g (q ∷ qs)) t .0 in
+      let ab : T (isBelow && placeWaits g p) = both (isBelow && placeWaits g p) isNamed abc .0 in
+      (ltb→lt (p / 256) (length (g .productions)) (both isBelow (placeWaits g p) ab .0),
+        ltb→lt (p % 256) (length (productionAt g (p / 256) .right)) (both (isListed g (p / 256)) isShort (both isBelow (placeWaits g p) ab .1) .1),
+        nonterminal-is (productionAt g (p / 256) .left) (awaited g q) (both (isBelow && placeWaits g p) isNamed abc .1),
+        both (isBelow && placeWaits g p && isNamed) (placesFit g (q ∷ qs)) t .1)
 
   on-place : PlaceOn g p (q ∷ qs) → T (placesFit g (p ∷ q ∷ qs))
   unfolding isBelow isShort isNamed
   on-place o =
       let a : T isBelow = lt→ltb (p / 256) (length (g .productions)) (o .0) in
-      let b : T (placeWaits g p) = and-intro (isListed g (p / 256)) isShort (or-left isBelow (eqb (p / 256) whole) a) (lt→ltb (p % 256) (length (productionAt g (p / 256) .right)) (o .1)) in
+      let b : T (placeWaits g p) = and (isListed g (p / 256)) isShort (or-left isBelow (eqb (p / 256) whole) a) (lt→ltb (p % 256) (length (productionAt g (p / 256) .right)) (o .1)) in
       let c : T isNamed = is-nonterminal (productionAt g (p / 256) .left) (awaited g q) (o .2) in
-      and-intro (isBelow && placeWaits g p && isNamed) (placesFit g (q ∷ qs)) (and-intro (isBelow && placeWaits g p) isNamed (and-intro isBelow (placeWaits g p) a b) c) (o .3)
+      and (isBelow && placeWaits g p && isNamed) (placesFit g (q ∷ qs)) (and (isBelow && placeWaits g p) isNamed (and isBelow (placeWaits g p) a b) c) (o .3)
 
 -- ---- places and registers that fit wait
 
@@ -227,7 +228,7 @@ module _ {A : Type 0} (f : A → Bool) (clear : A) (n h : ℕ) (mem : List A) (l
       is (getD mem i clear) (subst (λ z. T (f z)) same (all-at f (take (n - h) (drop h mem)) (i - h) clear s t))
 
   at-cleared : T (f clear) → ((i : ℕ) → h ≤ i → i < n → getD mem i clear ≡ clear) → T (all f (take (n - h) (drop h mem)))
-  at-cleared t is = all-intro f (take (n - h) (drop h mem)) clear (λ i l.
+  at-cleared t is = at-all f clear (take (n - h) (drop h mem)) (λ i l.
       let s : i < n - h = omega (arith, l, length-take (n - h) (drop h mem)) in
       let same : getD (take (n - h) (drop h mem)) i clear ≡ clear = getD-take (n - h) (drop h mem) i clear s ∙ (getD-drop h mem i clear ∙ is (h + i) (omega arith) (omega arith)) in
       subst (λ z. T (f z)) (sym same) t)
@@ -244,31 +245,31 @@ alone-is (p ∷ q ∷ qs) t = absurd t
 
 module _ (g : Grammar) (ps : List ℕ) (rs : List ℤ) where
   stands-fit : ((x : Symbol) × WaitsAt g ps rs x) ⊎ Left g ps rs → T (stackFits g ps rs)
-  stands-fit (inl w) = let r = waits-fit g (w .1) in or-left (placesFit g ps && cellsFit (placeCells g ps) rs) (alone ps && cellsFit (replicate (syn g (nonterminal (g .start))) valued) rs) (and-intro (placesFit g ps) (cellsFit (placeCells g ps) rs) (r .places) (r .cells))
+  stands-fit (inl w) = let r = waits-fit g (w .1) in or-left (placesFit g ps && cellsFit (placeCells g ps) rs) (alone ps && cellsFit (replicate (syn g (nonterminal (g .start))) valued) rs) (and (placesFit g ps) (cellsFit (placeCells g ps) rs) (r .places) (r .cells))
   stands-fit (inr l) = or-right (placesFit g ps && cellsFit (placeCells g ps) rs) (alone ps && cellsFit (replicate (syn g (nonterminal (g .start))) valued) rs)
-      (and-intro (alone ps) (cellsFit (replicate (syn g (nonterminal (g .start))) valued) rs) (subst (λ z. T (alone z)) (sym (l .place)) tt) (values-fit (syn g (nonterminal (g .start))) rs (l .results)))
+      (and (alone ps) (cellsFit (replicate (syn g (nonterminal (g .start))) valued) rs) (subst (λ z. T (alone z)) (sym (l .place)) tt) (values-fit (syn g (nonterminal (g .start))) rs (l .results)))
 
   fit-stands : T (stackFits g ps rs) → ((x : Symbol) × WaitsAt g ps rs x) ⊎ Left g ps rs
   fit-stands t = go (or-cases (placesFit g ps && cellsFit (placeCells g ps) rs) (alone ps && cellsFit (replicate (syn g (nonterminal (g .start))) valued) rs) t)
     where
       go : T (placesFit g ps && cellsFit (placeCells g ps) rs) ⊎ T (alone ps && cellsFit (replicate (syn g (nonterminal (g .start))) valued) rs) → ((x : Symbol) × WaitsAt g ps rs x) ⊎ Left g ps rs
-      go (inl u) = inl (awaitedTop g ps, fit-waits g ps rs (and-left (placesFit g ps) (cellsFit (placeCells g ps) rs) u) (and-right (placesFit g ps) (cellsFit (placeCells g ps) rs) u))
-      go (inr u) = inr (record { place = alone-is ps (and-left (alone ps) (cellsFit (replicate (syn g (nonterminal (g .start))) valued) rs) u); results = fit-values (syn g (nonterminal (g .start))) rs (and-right (alone ps) (cellsFit (replicate (syn g (nonterminal (g .start))) valued) rs) u) })
+      go (inl u) = inl (awaitedTop g ps, fit-waits g ps rs (both (placesFit g ps) (cellsFit (placeCells g ps) rs) u .0) (both (placesFit g ps) (cellsFit (placeCells g ps) rs) u .1))
+      go (inr u) = inr (record { place = alone-is ps (both (alone ps) (cellsFit (replicate (syn g (nonterminal (g .start))) valued) rs) u .0); results = fit-values (syn g (nonterminal (g .start))) rs (both (alone ps) (cellsFit (replicate (syn g (nonterminal (g .start))) valued) rs) u .1) })
 
 abbrev Seven : Bool → Bool → Bool → Bool → Bool → Bool → Bool → Type 0
 Seven a b c d e f h = T a × T b × T c × T d × T e × T f × T h
 
 seven : (a b c d e f h : Bool) → T (a && b && c && d && e && f && h) → Seven a b c d e f h
 seven a b c d e f h t =
-    let t6 = and-left (a && b && c && d && e && f) h t in
-    let t5 = and-left (a && b && c && d && e) f t6 in
-    let t4 = and-left (a && b && c && d) e t5 in
-    let t3 = and-left (a && b && c) d t4 in
-    let t2 = and-left (a && b) c t3 in
-    (and-left a b t2, and-right a b t2, and-right (a && b) c t3, and-right (a && b && c) d t4, and-right (a && b && c && d) e t5, and-right (a && b && c && d && e) f t6, and-right (a && b && c && d && e && f) h t)
+    let t6 = both (a && b && c && d && e && f) h t .0 in
+    let t5 = both (a && b && c && d && e) f t6 .0 in
+    let t4 = both (a && b && c && d) e t5 .0 in
+    let t3 = both (a && b && c) d t4 .0 in
+    let t2 = both (a && b) c t3 .0 in
+    (both a b t2 .0, both a b t2 .1, both (a && b) c t3 .1, both (a && b && c) d t4 .1, both (a && b && c && d) e t5 .1, both (a && b && c && d && e) f t6 .1, both (a && b && c && d && e && f) h t .1)
 
 all-seven : (a b c d e f h : Bool) → Seven a b c d e f h → T (a && b && c && d && e && f && h)
-all-seven a b c d e f h t = and-intro (a && b && c && d && e && f) h (and-intro (a && b && c && d && e) f (and-intro (a && b && c && d) e (and-intro (a && b && c) d (and-intro (a && b) c (and-intro a b (t .0) (t .1)) (t .2)) (t .3)) (t .4)) (t .5)) (t .6)
+all-seven a b c d e f h t = and (a && b && c && d && e && f) h (and (a && b && c && d && e) f (and (a && b && c && d) e (and (a && b && c) d (and (a && b) c (and a b (t .0) (t .1)) (t .2)) (t .3)) (t .4)) (t .5)) (t .6)
 
 module _ (g : Grammar) (r : Record) (m : Stacks) where
   abbrev tops : List ℕ

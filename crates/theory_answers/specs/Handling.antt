@@ -11,16 +11,19 @@ use Rattle.meaning.specs.Base.{In, all}
 use Rattle.meaning.specs.Grammar.{Symbol, terminal, nonterminal, Occurrence, Rule, Condition, Production, Grammar, inh, syn, att, productionAt, symbolAt, conditionPosition}
 use Rattle.meaning.specs.Value.{inRange, mark}
 use Rattle.meaning.specs.Scheme.{Instruction, add, evaluate, expect, test, remove, mapRule, mapCondition, inheritedRules, synthesizedRules, testsAfter, entryTests, rulesFor, conditionsAt, removed, synBetween, selectInherited, selectAfter}
-use Rattle.meaning.specs.Rules.{Operands, Reads, Operand, OutputAt, WellFormed}
+use Rattle.meaning.specs.Rules.{Operands, Reads, OutputAt, WellFormed}
 use Rattle.meaning.specs.Machine.{Frame, Config, readRegister}
 use Rattle.meaning.specs.Part.{marks, waitRest, frame}
 use Rattle.meaning.specs.Fit.{Values}
 use Rattle.meaning.specs.Statements.{Standing, Valued, Handles}
-use Rattle.theory_sets.specs.Tests.{all-append}
-use Rattle.theory_answers.specs.Members.{in-keep, map-in, drop-head, drop-over}
-use Rattle.theory_answers.specs.WellFormed.{Available, Evaluable, evaluable-at}
-use Rattle.theory_answers.specs.Selecting.{operands-through, reads-through, reads-available, operand-available, syn-none, after-within, inherited-over, target-inherited, target-after, reads-value}
-use Rattle.theory_answers.specs.Shape.{inhLeft, synLeft, Node, nodeRegisters, Stands, evaluable, Due, adds, hands, waits, tests, closes, removes, ends, Shaped, in-for}
+use Rattle.theory_base.specs.Members.{all-append, in-keep, map-in}
+use Rattle.theory_base.specs.Values.{operands-available, drop-head, drop-over}
+use Rattle.theory_base.specs.WellFormed.{Available, Evaluable, evaluable-at}
+use Rattle.theory_base.specs.Agree.{reads-available}
+use Rattle.theory_base.specs.Selectors.{syn-none, inherited-at}
+use Rattle.theory_base.specs.Present.{in-for}
+use Rattle.theory_answers.specs.Selecting.{operands-through, reads-through, after-within, target-of-inherited, target-of-synthesized, reads-value}
+use Rattle.theory_answers.specs.Shape.{inhLeft, synLeft, Node, nodeRegisters, Stands, evaluable, Due, adds, hands, waits, tests, closes, removes, ends, Shaped}
 
 -- a register among those that hold values
 valued-at : (c : Config) (pre mid post : List ℤ) (k : ℕ) → c .registers ≡ pre ++ (mid ++ post) → T (all inRange mid) → length pre < k → k ≤ length pre + length mid → Valued c k
@@ -66,13 +69,12 @@ module _ (g : Grammar) (wf : WellFormed g) (c : Config) (p k : ℕ) (vs ss : Lis
       let h = drop-head k (pr .right) x (terminal 0) xs e in
       let o : OutputAt g pr (suc k) (a .0 .target .attribute) = rw (b .0) at (fp .targets (a .0) (b .1)) in
       let top : a .0 .target .attribute ≤ inh g x = rw (h .1) at (o .2) in
-      let t : q .target ≡ a .0 .target .attribute = ap (λ z. z .target) (a .2) ∙ target-inherited g pr (suc k) (a .0 .target) (b .0) in
+      let t : q .target ≡ a .0 .target .attribute = ap (λ z. z .target) (a .2) ∙ target-of-inherited g pr (suc k) (a .0 .target) (b .0) in
       let size : length (c .registers) ≡ att g x + length (nodeRegisters ss vs (marks (synLeft g p)) base) = ap length r ∙ (length-append (marks (att g x)) (nodeRegisters ss vs (marks (synLeft g p)) base) ∙ ap (λ n. n + length (nodeRegisters ss vs (marks (synLeft g p)) base)) (length-replicate (att g x) mark)) in
-      let read : (u : Occurrence) → Operand g pr (a .0 .target .position) u → Valued c (sel u) = λ u v.
-          let w : Available g pr k u = operand-available g pr k (a .0 .target .position) u (λ z. absurd (omega (arith, b .0))) (omega (arith, b .0)) v in
-          let s : sel u ≡ length (marks (att g x)) + selectAfter g pr k u = inherited-over g pr k u (w .1) ∙ ap (λ n. n + selectAfter g pr k u) (ap (att g) (h .1) ∙ sym (length-replicate (att g x) mark)) in
+      let read : (u : Occurrence) → Available g pr k u → Valued c (sel u) = λ u w.
+          let s : sel u ≡ length (marks (att g x)) + selectAfter g pr k u = inherited-at g pr k (u .position) (u .attribute) (w .0) (w .1) .0 ∙ ap (λ n. n + selectAfter g pr k u) (ap (att g) (h .1) ∙ sym (length-replicate (att g x) mark)) in
           subst (Valued c) (sym s) (value-under (marks (att g x)) (marks (synLeft g p)) r u w) in
-      ((omega (arith, t, o .1), omega (arith, t, top, size)), subst (λ z. Operands (Valued c) (z .function)) (sym (a .2)) (operands-through (Valued c) sel read (a .0 .function) (fp .operands (a .0) (b .1))))
+      ((omega (arith, t, o .1), omega (arith, t, top, size)), subst (λ z. Operands (Valued c) (z .function)) (sym (a .2)) (operands-through (Valued c) sel read (a .0 .function) (operands-available g pr fp k (a .0) (b .1) (omega (arith, b .0)) (λ z. absurd (omega (arith, b .0))))))
 
   -- evaluate the left side's synthesized attributes
   closes-handle : drop k (productionAt g p .right) ≡ [] → c .registers ≡ nodeRegisters ss vs (marks (synLeft g p)) base → Handles g c (evaluate (synthesizedRules g (productionAt g p)))
@@ -84,12 +86,11 @@ module _ (g : Grammar) (wf : WellFormed g) (c : Config) (p k : ℕ) (vs ss : Lis
       let a = map-in (mapRule sel) (rulesFor pr 0) q i in
       let b = in-for pr 0 (a .0) (a .1) in
       let o : OutputAt g pr 0 (a .0 .target .attribute) = rw (b .0) at (fp .targets (a .0) (b .1)) in
-      let t : q .target ≡ synBetween g pr 0 k + a .0 .target .attribute = ap (λ y. y .target) (a .2) ∙ (target-after g pr (length (pr .right)) (a .0 .target) (b .0) ∙ ap (λ n. synBetween g pr 0 n + a .0 .target .attribute) z) in
+      let t : q .target ≡ synBetween g pr 0 k + a .0 .target .attribute = ap (λ y. y .target) (a .2) ∙ (target-of-synthesized g pr (length (pr .right)) (a .0 .target) (b .0) ∙ ap (λ n. synBetween g pr 0 n + a .0 .target .attribute) z) in
       let size : length (c .registers) ≡ length (ss ++ vs) + (synLeft g p + length base) = ap length (r ∙ sym (append-assoc ss vs (marks (synLeft g p) ++ base))) ∙ (length-append (ss ++ vs) (marks (synLeft g p) ++ base) ∙ ap (λ n. length (ss ++ vs) + n) (length-append (marks (synLeft g p)) base ∙ ap (λ n. n + length base) (length-replicate (synLeft g p) mark))) in
-      let read : (u : Occurrence) → Operand g pr (a .0 .target .position) u → Valued c (sel u) = λ u v.
-          let w : Available g pr k u = operand-available g pr k (a .0 .target .position) u (λ y. omega (arith, z)) (omega (arith, b .0)) v in
+      let read : (u : Occurrence) → Available g pr k u → Valued c (sel u) = λ u w.
           subst (λ n. Valued c (selectAfter g pr n u)) (sym z) (value-of (marks (synLeft g p)) r u w) in
-      ((omega (arith, t, o .0), omega (arith, t, o .1, size, known-size)), subst (λ y. Operands (Valued c) (y .function)) (sym (a .2)) (operands-through (Valued c) sel read (a .0 .function) (fp .operands (a .0) (b .1))))
+      ((omega (arith, t, o .0), omega (arith, t, o .1, size, known-size)), subst (λ y. Operands (Valued c) (y .function)) (sym (a .2)) (operands-through (Valued c) sel read (a .0 .function) (operands-available g pr fp k (a .0) (b .1) (omega (arith, b .0)) (λ y. omega (arith, z)))))
 
   -- the entry conditions of every production of the symbol waited at
   waits-handle : (x : Symbol) (is : List ℤ) (rest : List ℤ) → Values (inh g x) is → c .registers ≡ is ++ rest → Handles g c (expect x)

@@ -1,8 +1,4 @@
-pub mod Members
 pub mod FitTest
-pub mod WellFormed
-pub mod Evaluate
-pub mod Frames
 pub mod Selecting
 pub mod Shape
 pub mod Steps

@@ -15,7 +15,7 @@ use Rattle.meaning.specs.Machine.{Frame, Config, Lent, placeOf, movesLimit, tok
 use Rattle.meaning.specs.Part.{config, waitRest, frame}
 use Rattle.meaning.specs.Calls.{Record, Stacks, lentOf, lay, layAll, frameOf, configOf, recordOf}
 use Rattle.meaning.specs.Fit.{WaitsAt, segment, inside, Left, Fit}
-use Rattle.theory_answers.specs.Frames.{place-waits, frame-back}
+use Rattle.theory_base.specs.Frames.{place-waits, frame-back}
 use Rattle.theory_answers.specs.ShapeMemory.{AtStop}
 
 -- within what is lent and the limit of moves

@@ -10,7 +10,7 @@ use lib.Dec.{T, ltb, leb, ltb→lt, lt→ltb, leb→le, nleb→lt}
 use Rattle.meaning.specs.Grammar.{Grammar}
 use Rattle.meaning.specs.Machine.{Config, Lent, Look, token, over, Outcome, moved, blocked, Settled, stopped, failed, waits, next, lookAt, unread, isDone, isFinished, advance, advanceFrom, feedToken, feedAll, finishAll, tokensLimit, movesLimit}
 use Rattle.meaning.specs.Walk.{Act, actBy, Makes, nothing, andThen}
-use Rattle.theory_sets.specs.Tests.{T→true, and-left, and-right}
+use Rattle.theory_base.specs.Members.{T→true, both}
 use Rattle.theory_answers.specs.Steps.{AtHand, at-hand}
 use Rattle.theory_answers.specs.Bounds.{counts, look-free, no-read, Blocks, atLimit, blocks}
 
@@ -101,7 +101,7 @@ module _ (g : Grammar) (lent : Lent) (us₀ : List ℕ) (c₀ : Config) where
     stops : (c : Config) → Going l ts n c → waits (c .frames) && isDone l n c ≡ true → Going l ts n c × T (waits (c .frames)) × T (isDone l n c)
     stops c s w =
         let t : T (waits (c .frames) && isDone l n c) = rw w tt in
-        (s, and-left (waits (c .frames)) (isDone l n c) t, and-right (waits (c .frames)) (isDone l n c) t)
+        (s, both (waits (c .frames)) (isDone l n c) t .0, both (waits (c .frames)) (isDone l n c) t .1)
 
     advanced : (left : ℕ) (c : Config) → left + c .moves ≡ movesLimit → Going l ts n c → Advanced l ts n (advance left g lent l n c)
     advanced zero c m s = ready (waits (c .frames) && isDone l n c) refl (next g lent l c) refl

@@ -15,9 +15,9 @@ use Rattle.meaning.specs.Rules.{Operands, Reads, Input, InputAt, Operand}
 use Rattle.meaning.specs.Scheme.{mapFunction, mapCondition, synBetween, selectInherited, selectAfter}
 use Rattle.meaning.specs.Selectors.{occurrence}
 use Rattle.meaning.specs.Machine.{readRegister}
-use Rattle.theory_sets.specs.Tests.{all-at, all-append}
-use Rattle.theory_answers.specs.Members.{differ-false, same-true}
-use Rattle.theory_answers.specs.WellFormed.{Available}
+use Rattle.theory_sets.specs.Tests.{all-at}
+use Rattle.theory_base.specs.Selectors.{syn-none, syn-more, target-inherited, target-after}
+use Rattle.theory_base.specs.WellFormed.{Available}
 
 -- ---- operands through a selector
 
@@ -37,39 +37,7 @@ module _ {O Q : Type 0} {P : O → Type 0} (R : Q → Type 0) (sel : O → Q) (h
   reads-through (range a l u) r = h a r
   reads-through (atmost a b) r = (h a (r .0), h b (r .1))
 
--- a condition reads inputs up to its own position
-pub reads-available : (g : Grammar) (p : Production) (k : ℕ) (c : Condition Occurrence) → conditionPosition c ≤ k → Reads (Input g p) c → Reads (Available g p k) c
-reads-available g p k (range a l u) h r = (r, h)
-reads-available g p k (atmost a b) h r = ((r .0, omega arith), (r .1, omega arith))
-
--- what a rule reads is left before its target is evaluated
-pub operand-available : (g : Grammar) (p : Production) (n k : ℕ) (o : Occurrence) → ((k ≡ 0) → length (p .right) ≤ n) → k ≤ suc n → Operand g p k o → Available g p n o
-operand-available g p n zero o long l u = (u, bound (o .position) (o .attribute) u)
-  where
-    bound : (i a : ℕ) → InputAt g p i a → i ≤ n
-    bound zero a u = omega arith
-    bound (suc i) a u = omega (arith, u .0, long refl)
-operand-available g p n (suc k) o long l u = (u .0, omega (arith, u .1))
-
 -- ---- sums of counts
-
-total-snoc : (xs : List ℕ) (n : ℕ) → total (xs ++ (n ∷ [])) ≡ total xs + n
-total-snoc [] n = omega arith
-total-snoc (x ∷ xs) n = omega (arith, total-snoc xs n)
-
-map-snoc : {A B : Type 0} (f : A → B) (xs : List A) (x : A) → map f (xs ++ (x ∷ [])) ≡ map f xs ++ (f x ∷ [])
-map-snoc f [] x = refl
-map-snoc f (y ∷ ys) x = ap (λ r. f y ∷ r) (map-snoc f ys x)
-
-pub syn-none : (g : Grammar) (p : Production) (k : ℕ) → synBetween g p k k ≡ 0
-syn-none g p k = let e : k - k ≡ 0 = omega arith in rw e refl
-
-pub syn-more : (g : Grammar) (p : Production) (i k : ℕ) → i ≤ k → k < length (p .right) → synBetween g p i (suc k) ≡ synBetween g p i k + syn g (symbolAt p (suc k))
-syn-more g p i k h l =
-    let e : suc k - i ≡ suc (k - i) = omega arith in
-    let s : i + (k - i) ≡ k = omega arith in
-    let m : k - i < length (drop i (p .right)) = omega (arith, length-drop i (p .right)) in
-    rw (e, take-suc (drop i (p .right)) (k - i) (terminal 0) m, map-snoc, total-snoc, getD-drop, s) refl
 
 -- the symbol at position i + 1 is one of the first i + 1 + n
 syn-part : (g : Grammar) (p : Production) (i n : ℕ) → i + suc n ≤ length (p .right) → synBetween g p (suc i) (i + suc n) + syn g (symbolAt p (suc i)) ≤ synBetween g p 0 (i + suc n)
@@ -94,26 +62,13 @@ after-bounds g p n (suc k) a s h l =
 pub after-within : (g : Grammar) (p : Production) (n : ℕ) (o : Occurrence) → n ≤ length (p .right) → Available g p n o → (1 ≤ selectAfter g p n o) × (selectAfter g p n o ≤ synBetween g p 0 n + inh g (nonterminal (p .left)))
 after-within g p n o s h = after-bounds g p n (o .position) (o .attribute) s (h .0) (h .1)
 
-inherited-at : (g : Grammar) (p : Production) (n k a : ℕ) → k ≤ n → selectInherited g p (suc n) (occurrence k a) ≡ att g (symbolAt p (suc n)) + selectAfter g p n (occurrence k a)
-inherited-at g p n zero a l =
-    let e : suc n - 1 ≡ n = omega arith in
-    rw (eqb·zero-suc n, e) (omega arith)
-inherited-at g p n (suc k) a l =
-    let e : suc n - 1 ≡ n = omega arith in
-    let f : eqb (suc k) (suc n) ≡ false = differ-false (suc k) (suc n) (λ q. absurd (omega arith)) in
-    rw (f, eqb·suc-zero k, e) (omega arith)
-
--- with the registers of the symbol at hand added: these come first
-pub inherited-over : (g : Grammar) (p : Production) (n : ℕ) (o : Occurrence) → o .position ≤ n → selectInherited g p (suc n) o ≡ att g (symbolAt p (suc n)) + selectAfter g p n o
-inherited-over g p n o l = inherited-at g p n (o .position) (o .attribute) l
-
 -- the target of a rule for an inherited attribute of the symbol at hand
-pub target-inherited : (g : Grammar) (p : Production) (k : ℕ) (o : Occurrence) → o .position ≡ k → selectInherited g p k o ≡ o .attribute
-target-inherited g p k o e = rw (same-true (o .position) k e)
+pub target-of-inherited : (g : Grammar) (p : Production) (k : ℕ) (o : Occurrence) → o .position ≡ k → selectInherited g p k o ≡ o .attribute
+target-of-inherited g p k o e = subst (λ m. selectInherited g p k (occurrence m (o .attribute)) ≡ o .attribute) (sym e) (target-inherited g p k (o .attribute))
 
 -- the target of a rule for a synthesized attribute of the left side
-pub target-after : (g : Grammar) (p : Production) (n : ℕ) (o : Occurrence) → o .position ≡ 0 → selectAfter g p n o ≡ synBetween g p 0 n + o .attribute
-target-after g p n o e = rw (same-true (o .position) 0 e)
+pub target-of-synthesized : (g : Grammar) (p : Production) (n : ℕ) (o : Occurrence) → o .position ≡ 0 → selectAfter g p n o ≡ synBetween g p 0 n + o .attribute
+target-of-synthesized g p n o e = subst (λ m. selectAfter g p n (occurrence m (o .attribute)) ≡ synBetween g p 0 n + o .attribute) (sym e) (target-after g p n (o .attribute))
 
 -- ---- registers
 

@@ -17,8 +17,9 @@ use Rattle.meaning.specs.Machine.{Frame, Config}
 use Rattle.meaning.specs.Selectors.{occurrence}
 use Rattle.meaning.specs.Part.{marks, tailIf, tailOf, freshRest, leftRest, waitRest, frame}
 use Rattle.meaning.specs.Fit.{Values}
-use Rattle.theory_answers.specs.Members.{keep-in, in-keep, drop-head, in-map, same-true}
-use Rattle.theory_answers.specs.WellFormed.{Evaluable, evaluable-at, evaluable-whole}
+use Rattle.theory_base.specs.Values.{drop-head}
+use Rattle.theory_base.specs.Present.{inherited-present, synthesized-present}
+use Rattle.theory_base.specs.WellFormed.{Evaluable, evaluable-at, evaluable-whole}
 
 -- ---- nodes in progress
 
@@ -89,40 +90,8 @@ pub record Shaped (g : Grammar) (fs : List Frame) (rs : List ℤ) : Type 0 where
 
 -- ---- an absent instruction is stepped over
 
--- a rule of position k, and back
-pub for-in : (p : Production) (k : ℕ) (r : Rule Occurrence) → In r (p .rules) → r .target .position ≡ k → In r (rulesFor p k)
-for-in p k r i e = keep-in (λ q. eqb (q .target .position) k) (p .rules) r i (rw e (eqb-refl k))
-
-pub in-for : (p : Production) (k : ℕ) (r : Rule Occurrence) → In r (rulesFor p k) → (r .target .position ≡ k) × In r (p .rules)
-in-for p k r i = let h = in-keep (λ q. eqb (q .target .position) k) (p .rules) r i in (eqb→eq _ _ (h .0), h .1)
-
-none-in : {A : Type 0} (x : A) (l : List A) → isEmpty l ≡ true → In x l → ⊥
-none-in x [] e i = i
-none-in x (y ∷ ys) e i = let z : _≡_ {A = ℕ} 0 1 = cc in absurd (omega arith)
-
--- without rules for its inherited attributes a symbol has none
-no-inherited : (g : Grammar) (p : Production) → Evaluable g p → (n : ℕ) (x : Symbol) (xs : List Symbol) → drop n (p .right) ≡ x ∷ xs → isEmpty (inheritedRules g p (suc n)) ≡ true → inh g x ≡ 0
-no-inherited g p fp n x xs d e = go (inh g x) refl
-  where
-    go : (m : ℕ) → inh g x ≡ m → m ≡ 0
-    go zero q = refl
-    go (suc m) q =
-        let k = drop-head n (p .right) x (terminal 0) xs d in
-        let r = fp .every (occurrence (suc n) 1) (k .0, omega arith, rw (k .1) (omega (arith, q))) in
-        absurd (none-in (mapRule (selectInherited g p (suc n)) (r .0)) (inheritedRules g p (suc n)) e (in-map (mapRule (selectInherited g p (suc n))) (rulesFor p (suc n)) (r .0) (for-in p (suc n) (r .0) (r .1) (ap (λ o. o .position) (r .2)))))
-
-no-synthesized : (g : Grammar) (p : Production) → Evaluable g p → isEmpty (synthesizedRules g p) ≡ true → syn g (nonterminal (p .left)) ≡ 0
-no-synthesized g p fp e = go (syn g (nonterminal (p .left))) refl
-  where
-    h : ℕ
-    h = inh g (nonterminal (p .left))
-    sel : Occurrence → ℕ
-    sel = selectAfter g p (length (p .right))
-    go : (m : ℕ) → syn g (nonterminal (p .left)) ≡ m → m ≡ 0
-    go zero q = refl
-    go (suc m) q =
-        let r = fp .every (occurrence 0 (h + 1)) (omega arith, omega (arith, q)) in
-        absurd (none-in (mapRule sel (r .0)) (synthesizedRules g p) e (in-map (mapRule sel) (rulesFor p 0) (r .0) (for-in p 0 (r .0) (r .1) (ap (λ o. o .position) (r .2)))))
+absent : {A : Type 0} (l : List A) (n : ℕ) → not (isEmpty l) ≡ ltb 0 n → isEmpty l ≡ true → n ≡ 0
+absent l n e q = omega (arith, nltb→le 0 n (rw (← e) (rw q tt)))
 
 pub no-values : Values 0 []
 no-values = record { size = refl; ranged = tt }
@@ -144,7 +113,8 @@ module _ (g : Grammar) (wf : WellFormed g) (p k : ℕ) (vs ss : List ℤ) (fs : 
       go : (b : Bool) → isEmpty (inheritedRules g (productionAt g p) (suc k)) ≡ b → Shaped g (frame p (consIf (not b) (evaluate (inheritedRules g (productionAt g p) (suc k))) (waitRest g p k x xs)) ∷ fs) (marks (att g x) ++ own)
       go false q = shaped (evaluate (inheritedRules g (productionAt g p) (suc k)) ∷ waitRest g p k x xs) (marks (att g x)) (marks (synLeft g p)) (hands x xs e)
       go true q =
-          let z : inh g x ≡ 0 = no-inherited g (productionAt g p) (evaluable g wf st) k x xs e q in
+          let h = drop-head k (productionAt g p .right) x (terminal 0) xs e in
+          let z : inh g x ≡ 0 = absent (inheritedRules g (productionAt g p) (suc k)) (inh g x) (inherited-present g (productionAt g p) (evaluable g wf st) k (h .0) ∙ ap (λ y. ltb 0 (inh g y)) (h .1)) q in
           let m : syn g x ≡ att g x = omega (arith, z) in
           let v : Values (inh g x) [] = rw z no-values in
           subst (λ n. Shaped g (frame p (waitRest g p k x xs) ∷ fs) (marks n ++ own)) m (shaped (waitRest g p k x xs) (marks (syn g x)) (marks (synLeft g p)) (waits x xs [] e v))
@@ -163,7 +133,7 @@ module _ (g : Grammar) (wf : WellFormed g) (p k : ℕ) (vs ss : List ℤ) (fs : 
       close : eqb p whole ≡ false → (b : Bool) → isEmpty (synthesizedRules g (productionAt g p)) ≡ b → Shaped g (frame p (consIf (not b) (evaluate (synthesizedRules g (productionAt g p))) (remove (removed g (productionAt g p)) ∷ [])) ∷ fs) own
       close w false q = shaped (evaluate (synthesizedRules g (productionAt g p)) ∷ remove (removed g (productionAt g p)) ∷ []) [] (marks (synLeft g p)) (closes e w)
       close w true q =
-          let z : synLeft g p ≡ 0 = no-synthesized g (productionAt g p) (evaluable g wf st) q in
+          let z : synLeft g p ≡ 0 = absent (synthesizedRules g (productionAt g p)) (synLeft g p) (synthesized-present g (productionAt g p) (evaluable g wf st)) q in
           let v : Values (synLeft g p) [] = rw z no-values in
           subst (λ n. Shaped g (frame p (remove (removed g (productionAt g p)) ∷ []) ∷ fs) (nodeRegisters ss vs (marks n) base)) (sym z) (shaped (remove (removed g (productionAt g p)) ∷ []) [] [] (removes [] e w v))
       go : (b : Bool) → eqb p whole ≡ b → Shaped g (frame p (tailIf b g (productionAt g p)) ∷ fs) own

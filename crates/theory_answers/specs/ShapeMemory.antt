@@ -20,10 +20,11 @@ use Rattle.meaning.specs.Calls.{frameOf, result}
 use Rattle.meaning.specs.Part.{marks, waitRest, frame}
 use Rattle.meaning.specs.Fit.{Values, WaitsAt, Left}
 use Rattle.meaning.specs.Fit as Fit
-use Rattle.theory_sets.specs.Tests.{and-right, all-at}
-use Rattle.theory_answers.specs.Members.{drop-head, drop-over}
-use Rattle.theory_answers.specs.WellFormed.{whole-counts, well-formed-at}
-use Rattle.theory_answers.specs.Frames.{place-waits, frame-back}
+use Rattle.theory_base.specs.Members.{both}
+use Rattle.theory_sets.specs.Tests.{all-at}
+use Rattle.theory_base.specs.Values.{drop-head, drop-over}
+use Rattle.theory_base.specs.WellFormed.{whole-counts, well-formed-at}
+use Rattle.theory_base.specs.Frames.{place-waits, frame-back}
 use Rattle.theory_answers.specs.Shape.{inhLeft, synLeft, Node, nodeRegisters, Stands, segment, inside, Due, adds, hands, waits, tests, closes, removes, ends, Shaped, no-values, shaped}
 
 -- ---- a place and its frame
@@ -222,7 +223,7 @@ no-rest c p rest fs e t = go rest (subst (λ z. T (elim z as (λ x. Bool) [ [] �
   where
     go : (is : List Instruction) → T (eqb p whole && isEmpty is) → is ≡ []
     go [] t = refl
-    go (i ∷ is) t = absurd (and-right (eqb p whole) false t)
+    go (i ∷ is) t = absurd (both (eqb p whole) false t .1)
 
 pub result-ranged : (g : Grammar) → WellFormed g → (c : Config) → Shaped g (c .frames) (c .registers) → T (isFinished c) → T (inRange (result g c))
 result-ranged g wf c s t =

@@ -17,14 +17,16 @@ use Rattle.meaning.specs.Machine.{Frame, Config, Lent, Look, token, moved, next
 use Rattle.meaning.specs.Selectors.{occurrence}
 use Rattle.meaning.specs.Part.{marks, freshRest, leftRest, waitRest, frame, config}
 use Rattle.meaning.specs.Fit.{Values}
-use Rattle.theory_sets.specs.Tests.{all-append}
-use Rattle.theory_answers.specs.Members.{drop-head, drop-over}
-use Rattle.theory_answers.specs.WellFormed.{Evaluable}
-use Rattle.theory_answers.specs.Evaluate.{Written, written, distinct-keep}
-use Rattle.theory_answers.specs.Frames.{scheme-is}
-use Rattle.theory_answers.specs.Selecting.{syn-none, syn-more, target-inherited, target-after}
+use Rattle.theory_base.specs.Members.{all-append}
+use Rattle.theory_base.specs.Values.{drop-head, drop-over}
+use Rattle.theory_base.specs.WellFormed.{Evaluable}
+use Rattle.theory_base.specs.Evaluate.{Written, written, distinct-keep}
+use Rattle.theory_base.specs.Frames.{scheme-is}
+use Rattle.theory_base.specs.Selectors.{syn-none, syn-more}
+use Rattle.theory_base.specs.Present.{for-in, in-for}
+use Rattle.theory_answers.specs.Selecting.{target-of-inherited, target-of-synthesized}
 use Rattle.theory_answers.specs.Steps.{not-moved, move-of, Result, result, Predicted}
-use Rattle.theory_answers.specs.Shape.{inhLeft, synLeft, Node, nodeRegisters, Stands, segment, inside, evaluable, addedRest, Due, adds, hands, waits, tests, closes, removes, ends, Shaped, for-in, in-for, no-values, shaped, at-added, at-fresh, at-left}
+use Rattle.theory_answers.specs.Shape.{inhLeft, synLeft, Node, nodeRegisters, Stands, segment, inside, evaluable, addedRest, Due, adds, hands, waits, tests, closes, removes, ends, Shaped, no-values, shaped, at-added, at-fresh, at-left}
 
 occ-eq : (o u : Occurrence) → o .position ≡ u .position → o .attribute ≡ u .attribute → o ≡ u
 occ-eq o u e f = λ i. record { position = e i; attribute = f i }
@@ -64,7 +66,7 @@ handed g p fp k x xs rest d t = record {
     w = written slot (selectInherited g p n) old (rulesFor p n) (inh g x) [] (marks (syn g x) ++ rest)
         (distinct-keep (λ q. eqb (q .target .position) n) (p .rules) (fp .distinct))
         (λ q r i j e. let a = out q i in let b = out r j in occ-eq (q .target) (r .target) (a .0 ∙ sym (b .0)) (omega arith))
-        (λ r i. let a = out r i in (omega (arith, target-inherited g p n (r .target) (a .0), a .1), omega arith))
+        (λ r i. let a = out r i in (omega (arith, target-of-inherited g p n (r .target) (a .0), a .1), omega arith))
         (λ j l. let e = fp .every (occurrence n (suc j)) (head .0, omega arith, rw (head .1) l) in (e .0, for-in p n (e .0) (e .1) (ap (λ o. o .position) (e .2)), ap (λ o. o .attribute - 1) (e .2) ∙ omega arith))
         t
 
@@ -107,7 +109,7 @@ closed g p fp vs ss base sv se t = record {
     w = written slot sel old (rulesFor p 0) s (ss ++ vs) base
         (distinct-keep (λ q. eqb (q .target .position) 0) (p .rules) (fp .distinct))
         (λ q r i j e. let a = out q i in let b = out r j in occ-eq (q .target) (r .target) (a .0 ∙ sym (b .0)) (omega arith))
-        (λ r i. let a = out r i in (omega (arith, target-after g p n (r .target) (a .0), a .1, size), omega arith))
+        (λ r i. let a = out r i in (omega (arith, target-of-synthesized g p n (r .target) (a .0), a .1, size), omega arith))
         (λ j l. let e = fp .every (occurrence 0 (h + suc j)) (omega arith, omega arith) in (e .0, for-in p 0 (e .0) (e .1) (ap (λ o. o .position) (e .2)), ap (λ o. o .attribute - 1 - h) (e .2) ∙ omega arith))
         t
 

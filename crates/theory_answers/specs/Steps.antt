@@ -15,8 +15,7 @@ use Rattle.meaning.specs.Scheme.{Instruction, add, evaluate, expect, test, remo
 use Rattle.meaning.specs.Machine.{Frame, Config, Lent, Look, token, over, Outcome, moved, blocked, chooseOutcome, counted, next, nextOf, move, readRegister, writeAll, movesLimit, onward, parentOnward, accept, predict, push, waits, needsLook, alternatives, entered, isOf, lookNumber, unexpected, schemeAt}
 use Rattle.meaning.specs.Part.{marks, frame, config}
 use Rattle.meaning.specs.Sets.{starts, has}
-use Rattle.theory_sets.specs.Tests.{and-left}
-use Rattle.theory_answers.specs.Members.{in-keep, in-count}
+use Rattle.theory_base.specs.Members.{both, in-keep, from-in}
 
 pub not-moved : {k : ℕ} {d : Config} {A : Type 0} → blocked k ≡ moved d → A
 not-moved e = absurd (let z : _≡_ {A = ℕ} 0 1 = cc in omega arith)
@@ -82,8 +81,8 @@ pushed g lent n l c d (p ∷ ps) e h =
     let u = unless (ltb (lent .maxPlaces) (suc (length (c .frames)))) 32 (moved o) d h in
     record {
       production = p;
-      listed = omega (arith, in-count 0 (length (g .productions)) p (b .1));
-      left = eqb→eq (productionAt g p .left) n (and-left (eqb (productionAt g p .left) n) (has (starts g (productionAt g p)) (lookNumber l)) (b .0));
+      listed = omega (arith, from-in 0 (length (g .productions)) p (b .1) .1);
+      left = eqb→eq (productionAt g p .left) n (both (eqb (productionAt g p .left) n) (has (starts g (productionAt g p)) (lookNumber l)) (b .0) .0);
       fits = nltb→le (lent .maxPlaces) (suc (length (c .frames))) (u .0);
       result = moved-is o d (u .1)
     }

@@ -15,7 +15,7 @@ use Rattle.meaning.specs.Judgement.{Verdict, accepted, rejected, countsOffset, 
 use Rattle.meaning.specs.Decide.{judge, firstWhere, reachable, productive, isLeftRecursive, clashes}
 use Rattle.meaning.specs.PublicCalls.{Checked, usable, unusable, checkedAs, check}
 use Rattle.meaning.specs.Statements.{isTableNumber}
-use Rattle.theory_sets.specs.Tests.{and-left, and-right}
+use Rattle.theory_base.specs.Members.{both}
 
 abbrev Numbered : Read → Type 0
 Numbered (wellFormed s) = Unit {0}
@@ -23,11 +23,11 @@ Numbered (malformed n o) = T (isTableNumber n)
 
 lowest-number : (cs : List (Bool × ℕ)) → T (all (λ c. isTableNumber (c .1)) cs) → (lowestOf cs ≡ 0) ⊎ T (isTableNumber (lowestOf cs))
 lowest-number [] t = inl refl
-lowest-number (c ∷ cs) t = go (c .0) (lowest-number cs (and-right (isTableNumber (c .1)) (all (λ d. isTableNumber (d .1)) cs) t))
+lowest-number (c ∷ cs) t = go (c .0) (lowest-number cs (both (isTableNumber (c .1)) (all (λ d. isTableNumber (d .1)) cs) t .1))
   where
     go : (b : Bool) → (lowestOf cs ≡ 0) ⊎ T (isTableNumber (lowestOf cs)) → (_≡_ {A = ℕ} (elim b [ true ↦ lowestOf cs | false ↦ c .1 ]) 0) ⊎ T (isTableNumber (elim b [ true ↦ lowestOf cs | false ↦ c .1 ]))
     go true ih = ih
-    go false ih = inr (and-left (isTableNumber (c .1)) (all (λ d. isTableNumber (d .1)) cs) t)
+    go false ih = inr (both (isTableNumber (c .1)) (all (λ d. isTableNumber (d .1)) cs) t .0)
 
 field-number : (s : State) (f : Field) → (judgeField s f ≡ 0) ⊎ T (isTableNumber (judgeField s f))
 field-number s f = go (tagStands (stage s) (f .tag))
