@@ -1,27 +1,26 @@
 -- Demand 1: each call, for arbitrary bytes, areas, records, stacks and tokens, gives what it is for, or exactly one numbered refusal of 01.
-use Prim.Native.Nat.{ℕ, suc, _≤_, _<_}
+use Prim.Native.Nat.{ℕ, _≤_}
 use native.Mathlib.Omega.{arith}
 use mathlib.Core.Path.{_≡_, refl, sym, ap, _∙_, subst}
 use mathlib.Core.Logic.{_⊎_, inl, inr}
 use mathlib.Core.Bool.{Bool, true, false}
-use mathlib.Core.List.{List, [], _∷_, map, reverse}
+use mathlib.Core.List.{List, [], reverse}
 use lib.ListN.{length, take}
-use lib.Dec.{T, eqb, ltb}
-use Rattle.meaning.specs.Grammar.{Grammar, Look, token, over, syn, nonterminal}
-use Rattle.meaning.specs.Value.{inRange}
+use lib.Dec.{T, ltb}
+use Rattle.meaning.specs.Grammar.{Grammar, Look, token, over}
 use Rattle.meaning.specs.Rules.{WellFormed}
 use Rattle.meaning.specs.Table.{State, Read, wellFormed, malformed, readTable, grammarOf}
 use Rattle.meaning.specs.Judgement.{Verdict, accepted, rejected, Accepted}
 use Rattle.meaning.specs.Decide.{judge}
-use Rattle.meaning.specs.Scheme.{Instruction}
-use Rattle.meaning.specs.Machine.{Frame, Config, Lent, Settled, stopped, failed, next, moved, waits, opening, feedAll, finishAll, tokensLimit, movesLimit}
-use Rattle.meaning.specs.Walk.{Makes, nothing}
-use Rattle.meaning.specs.Calls.{Record, Stacks, Called, Answer, closedRecord, more, value, refused, tableRefused, lentOf, recordOf, layAll, configOf, frameOf, stacksFit, asBrought, openOf, afterFeed, afterFinish, whenFit, result}
+use Rattle.meaning.specs.Machine.{Config, Settled, stopped, failed, waits, opening, feedAll, finishAll, tokensLimit, movesLimit}
+use Rattle.meaning.specs.Walk.{nothing}
+use Rattle.meaning.specs.Calls.{Record, Stacks, Called, Answer, closedRecord, more, refused, tableRefused, lentOf, recordOf, layAll, configOf, stacksFit, asBrought, openOf, afterFeed, afterFinish, whenFit}
 use Rattle.meaning.specs.Fit.{Fit}
 use Rattle.meaning.specs.PublicCalls.{Checked, usable, unusable, checkedAs, check, Call, feed, finish, callOf, areaLength, written, Effect, effect, opens, performs}
-use Rattle.meaning.specs.Statements.{isTableNumber, openingAnswer, callAnswer, AlwaysAnswers, Met, tokensOf, staysOpen, MovesTo, CallsMove, EmptyFeed, LimitsOnly, HandlesAlways}
+use Rattle.meaning.specs.Statements.{isTableNumber, openingAnswer, callAnswer, AlwaysAnswers, Met, MovesTo, CallsMove, EmptyFeed, LimitsOnly, HandlesAlways}
 use Rattle.theory_base.specs.Members.{T→true}
 use Rattle.theory_table.specs.ReadWellFormed.{read-well-formed}
+use Rattle.theory_table.specs.AcceptedTable.{accepted-well-formed}
 use Rattle.theory_answers.specs.FitTest.{fit-exactly}
 use Rattle.theory_answers.specs.ShapeMoves.{ShapedAt, shape-move}
 use Rattle.theory_answers.specs.ShapeMemory.{fit-shaped, fit-waits, at-stop, result-ranged}
@@ -40,15 +39,13 @@ check-reads bs s h = go (readTable bs) refl h
     by : (u : State) (v : Verdict) → checkedAs u v ≡ usable s → u ≡ s
     by u accepted h = cc
     by u (rejected n o) h = absurd (let z : _≡_ {A = ℕ} 0 1 = cc in omega arith)
+
     go : (x : Read) → readTable bs ≡ x → elim x as (λ z. Checked) [ malformed n o ↦ unusable n o | wellFormed u ↦ checkedAs u (judge u) ] ≡ usable s → readTable bs ≡ wellFormed s
     go (malformed n o) e h = absurd (let z : _≡_ {A = ℕ} 0 1 = cc in omega arith)
     go (wellFormed u) e h = e ∙ ap wellFormed (by u (judge u) h)
 
 checked-formed : (bs : List ℕ) (s : State) → check bs ≡ usable s → WellFormed (grammarOf s)
 checked-formed bs s h = read-well-formed bs s (check-reads bs s h)
-
-pub accepted-formed : (bs : List ℕ) (g : Grammar) → Accepted bs g → WellFormed g
-accepted-formed bs g a = subst WellFormed (a .isGrammar) (read-well-formed bs (a .state) (a .isRead))
 
 -- ---- the moves of a call on what fits
 
@@ -82,9 +79,9 @@ module _ (Q : Answer → Record → Stacks → Type 0) (program : Grammar → Li
   by-cases short turned closed unfit h = go (ltb (length area) areaLength) (check bs) refl (check-number bs)
     where
       go : (b : Bool) (k : Checked) → check bs ≡ k → CheckedRight k → Leaves (elim b as (λ z. Effect) [
-          true ↦ effect (asBrought (refused 30 0) r m) area
+        | true ↦ effect (asBrought (refused 30 0) r m) area
         | false ↦ elim k as (λ z. Effect) [ unusable n o ↦ effect (asBrought (tableRefused n o) r m) area | usable s ↦ effect (callOf (grammarOf s) r m c) (written (program (grammarOf s)) area) ]
-        ])
+      ])
       go true k e t = short
       go false (unusable n o) e t = turned n o t
       go false (usable s) e t = subst Holds (sym (call-is (grammarOf s) r m c)) (when-fit (grammarOf s) (made (grammarOf s) r m c) closed unfit (h s e))
@@ -161,16 +158,17 @@ opens-right : (program : Grammar → List ℕ) (bs area : List ℕ) (m : Stacks)
 opens-right program bs area m = go (ltb (length area) areaLength) (check bs) (check-number bs)
   where
     opened : (a b : Bool) (g : Grammar) → T (openingAnswer (elim a as (λ z. Called) [
-        true ↦ asBrought (refused 31 0) closedRecord m
+      | true ↦ asBrought (refused 31 0) closedRecord m
       | false ↦ elim b as (λ z. Called) [ true ↦ asBrought (refused 32 0) closedRecord m | false ↦ record { answer = more 0; state = recordOf true (opening g); stacks = layAll g (opening g) m } ]
-      ] .answer))
+    ] .answer))
     opened true b g = tt
     opened false true g = tt
     opened false false g = tt
+
     go : (b : Bool) (k : Checked) → CheckedRight k → T (openingAnswer (elim b as (λ z. Effect) [
-        true ↦ effect (asBrought (refused 30 0) closedRecord m) area
+      | true ↦ effect (asBrought (refused 30 0) closedRecord m) area
       | false ↦ elim k as (λ z. Effect) [ unusable n o ↦ effect (asBrought (tableRefused n o) closedRecord m) area | usable s ↦ effect (openOf (grammarOf s) m) (written (program (grammarOf s)) area) ]
-      ] .answer))
+    ] .answer))
     go true k t = tt
     go false (unusable n o) t = t
     go false (usable s) t = opened (ltb (lentOf m .maxRegisters) (length (opening (grammarOf s) .registers))) (ltb (lentOf m .maxPlaces) 1) (grammarOf s)
@@ -238,7 +236,7 @@ module _ (program : Grammar → List ℕ) (bs area : List ℕ) (g : Grammar) (r 
   performs-met c = called-is program bs g (met .accepts) area (met .long) r m (λ h. callOf h r m c) ∙ ap (λ k. effect k (written (program g) area)) (call-is g r m c ∙ when-met g r m (made g r m c) (met .isOpen) (met .fits))
 
   wf : WellFormed g
-  wf = accepted-formed bs g (met .accepts)
+  wf = accepted-well-formed bs g (met .accepts)
 
   fed-to : (ts : List ℕ) (words : List ℕ) (o : Settled) → Fed g (lentOf m) ts (configOf g r m) o → MovesTo g m (configOf g r m) (feed ts) (effect (afterFeed g m o) words)
   fed-to ts words (stopped e) v =
@@ -260,7 +258,7 @@ calls-move program bs area g r m c met = subst (λ e. MovesTo g m (configOf g r 
 
 pub empty-feed : EmptyFeed
 empty-feed program bs area g r m met =
-    let f : WellFormed g = accepted-formed bs g (met .accepts) in
+    let f : WellFormed g = accepted-well-formed bs g (met .accepts) in
     let state : recordOf true (configOf g r m) ≡ r = ap (λ o. recordOf o (configOf g r m)) (sym (met .isOpen)) ∙ same-record g f r m (met .fits) in
     let stacks : layAll g (configOf g r m) m ≡ m = same-stacks g f r m (met .fits) in
     performs-met program bs area g r m met (feed []) ∙ (λ i. record { answer = more (r .moves); state = state i; stacks = stacks i; area = written (program g) area })
@@ -269,5 +267,5 @@ empty-feed program bs area g r m met =
 
 pub handles-always : HandlesAlways
 handles-always bs g r m a f ws us vs c mk p i is fs e =
-    let wf : WellFormed g = accepted-formed bs g a in
+    let wf : WellFormed g = accepted-well-formed bs g a in
     handles g wf c (makes-keep g (lentOf m) (ShapedAt g) (λ l x y s h. shape-move g wf (lentOf m) l x y s h) mk (fits-shaped g wf r m f)) p i is fs e

@@ -1,9 +1,9 @@
 -- What a move counts, what it keeps within, and what blocks it.
-use Prim.Native.Nat.{ℕ, zero, suc, _+_, _-_, _≤_, _<_}
+use Prim.Native.Nat.{ℕ, suc, _+_, _-_, _≤_, _<_}
 use native.Mathlib.Omega.{arith}
 use mathlib.Core.Path.{_≡_, refl, sym, ap, _∙_, subst}
 use mathlib.Core.Logic.{_⊎_, inl, inr}
-use mathlib.Core.Bool.{Bool, true, false, not}
+use mathlib.Core.Bool.{Bool, true, false}
 use mathlib.Core.List.{List, [], _∷_, _++_}
 use lib.ListN.{length, drop, length-append, length-replicate, length-drop, length-set}
 use lib.Dec.{T, ltb, leb, eqb, leb→le}
@@ -12,9 +12,9 @@ use Rattle.meaning.specs.Base.{all, isEmpty, keep}
 use Rattle.meaning.specs.Grammar.{Grammar, Rule, terminal, nonterminal}
 use Rattle.meaning.specs.Value.{apply, holds, inRange, mark}
 use Rattle.meaning.specs.Scheme.{Instruction, add, evaluate, expect, test, remove}
-use Rattle.meaning.specs.Machine.{Frame, Config, Lent, Look, token, over, Outcome, moved, blocked, chooseOutcome, counted, step, next, nextOf, move, readRegister, writeRegister, writeAll, movesLimit, onward, parentOnward, accept, predict, push, waits, alternatives, entered, unexpected, schemeAt}
+use Rattle.meaning.specs.Machine.{Frame, Config, Lent, Look, token, over, Outcome, moved, blocked, chooseOutcome, counted, step, next, nextOf, move, readRegister, writeRegister, writeAll, movesLimit, onward, parentOnward, accept, push, waits, alternatives, entered, unexpected, schemeAt}
 use Rattle.meaning.specs.Part.{marks, frame, config}
-use Rattle.theory_answers.specs.Steps.{AtHand, at-hand, Result, result, Predicted}
+use Rattle.theory_answers.specs.Steps.{at-hand, Result, result}
 use Rattle.theory_answers.specs.Memory.{Within}
 
 -- ---- what it counts
@@ -50,6 +50,7 @@ look-free g lent l k c w = go (c .frames) w
     at p (test cs ∷ is) fs w = refl
     at p (remove n ∷ is) fs w = refl
     at p (expect x ∷ is) fs w = absurd (subst T w tt)
+
     go : (fs : List Frame) → waits fs ≡ false → nextOf g lent l c fs ≡ nextOf g lent k c fs
     go [] w = absurd (subst T w tt)
     go (f ∷ fs) w = at (f .production) (f .rest) fs w
@@ -138,6 +139,7 @@ says-next g lent l c = go (c .frames)
     at : (p : ℕ) (is : List Instruction) (fs : List Frame) → Says l c (nextOf g lent l c (frame p is ∷ fs))
     at p [] fs = notExpected
     at p (i ∷ is) fs = says-counted l c (move g lent l c (frame p (i ∷ is)) fs i) (says-move g lent l c (frame p (i ∷ is)) fs i)
+
     go : (fs : List Frame) → Says l c (nextOf g lent l c fs)
     go [] = notExpected
     go (f ∷ fs) = at (f .production) (f .rest) fs

@@ -1,15 +1,14 @@
 -- 34's test is 34's meaning: `stacksFit` holds exactly where `Fit` does.
-use Prim.Native.Nat.{ℕ, zero, suc, _+_, _-_, _*_, _/_, _%_, _≤_, _<_, min}
+use Prim.Native.Nat.{ℕ, zero, suc, _+_, _-_, _*_, _/_, _%_, _≤_, _<_}
 use native.Mathlib.Omega.{arith}
 use mathlib.Core.Path.{_≡_, refl, sym, ap, ap₂, _∙_, subst, subst₂}
-use mathlib.Core.Logic.{_↔_, _⊎_, inl, inr}
-use mathlib.Core.Bool.{Bool, true, false, _&&_, _||_}
+use mathlib.Core.Logic.{_⊎_, inl, inr}
+use mathlib.Core.Bool.{Bool, false, _&&_}
 use mathlib.Core.List.{List, [], _∷_, _++_, map, reverse, append-assoc, append-nil}
-use lib.ListN.{getD, length, take, drop, replicate, length-append, length-replicate, length-drop, length-take, replicate-append-replicate}
+use lib.ListN.{getD, length, take, drop, replicate, length-drop, length-take, replicate-append-replicate}
 use lib.Seq.{getD-take, getD-drop}
 use lib.Dec.{T, eqb, eqb→eq, eqb-refl, ltb, ltb→lt, lt→ltb, leb, leb→le, le→leb}
 use lib.IntN.{ℤ, pos, negsuc}
-use lib.Signed.{leZ}
 use Rattle.meaning.specs.Base.{all, total}
 use Rattle.meaning.specs.Grammar.{Symbol, terminal, nonterminal, Grammar, productionAt, symbolAt, inh, syn, isNonterminal, whole}
 use Rattle.meaning.specs.Value.{inRange, mark}
@@ -118,11 +117,12 @@ module _ (g : Grammar) (p q : ℕ) (qs : List ℕ) where
   unfolding isBelow isShort isNamed
   place-on t =
       let abc : T (isBelow && placeWaits g p && isNamed) = both (isBelow && placeWaits g p && isNamed) (placesFit g (q ∷ qs)) t .0 in
-      let ab : T (isBelow && placeWaits g p) = both (isBelow && placeWaits g p) isNamed abc .0 in
-      (ltb→lt (p / 256) (length (g .productions)) (both isBelow (placeWaits g p) ab .0),
+      let ab : T (isBelow && placeWaits g p) = both (isBelow && placeWaits g p) isNamed abc .0 in (
+        ltb→lt (p / 256) (length (g .productions)) (both isBelow (placeWaits g p) ab .0),
         ltb→lt (p % 256) (length (productionAt g (p / 256) .right)) (both (isListed g (p / 256)) isShort (both isBelow (placeWaits g p) ab .1) .1),
         nonterminal-is (productionAt g (p / 256) .left) (awaited g q) (both (isBelow && placeWaits g p) isNamed abc .1),
-        both (isBelow && placeWaits g p && isNamed) (placesFit g (q ∷ qs)) t .1)
+        both (isBelow && placeWaits g p && isNamed) (placesFit g (q ∷ qs)) t .1,
+      )
 
   on-place : PlaceOn g p (q ∷ qs) → T (placesFit g (p ∷ q ∷ qs))
   unfolding isBelow isShort isNamed
@@ -160,15 +160,19 @@ module _ (g : Grammar) (p k : ℕ) (cells : List Cell) where
       let b = fit-parts (replicate (inh g x) valued) (replicate (syn g x) marked) (a .upper) (a .first) in
       let c = fit-parts (replicate passedCount valued) cells (a .lower) (subst (λ z. T (cellsFit z (a .lower))) (syn-cells g (take k (productionAt g p .right)) cells) (a .second)) in
       record {
-        inherited = b .upper; passed = c .upper; lower = c .lower; inheritedFit = fit-values (inh g x) (b .upper) (b .first); passedFit = fit-values passedCount (c .upper) (c .first);
+        inherited = b .upper;
+        passed = c .upper;
+        lower = c .lower;
+        inheritedFit = fit-values (inh g x) (b .upper) (b .first);
+        passedFit = fit-values passedCount (c .upper) (c .first);
         joined = a .joined ∙ ap₂ (λ y z. y ++ z) (b .joined ∙ ap (λ z. b .upper ++ z) (fit-marks (syn g x) (b .lower) (b .second))) (c .joined);
-        lowerFit = c .second
+        lowerFit = c .second;
       }
 
   place-fit : (vs ss rs : List ℤ) → Values (inh g x) vs → Values passedCount ss → T (cellsFit cells rs) → T (cellsFit cellsAt ((vs ++ replicate (syn g x) mark) ++ (ss ++ rs)))
   place-fit vs ss rs v s t =
       fit-append (waitingCells g x) (synCells g (take k (productionAt g p .right)) cells) (vs ++ replicate (syn g x) mark) (ss ++ rs) (waiting-fit g x vs v)
-        (subst (λ z. T (cellsFit z (ss ++ rs))) (sym (syn-cells g (take k (productionAt g p .right)) cells)) (fit-append (replicate passedCount valued) cells ss rs (values-fit passedCount ss s) t))
+      (subst (λ z. T (cellsFit z (ss ++ rs))) (sym (syn-cells g (take k (productionAt g p .right)) cells)) (fit-append (replicate passedCount valued) cells ss rs (values-fit passedCount ss s) t))
 
 no-cells : (vs : List ℤ) → T (cellsFit [] vs) → vs ≡ []
 no-cells [] t = refl
@@ -182,8 +186,8 @@ fit-waits g (p ∷ []) rs t u = bottom p rs (eqb→eq p 32768 t) u
     bottom p rs e u =
         let a = fit-parts (replicate (inh g (nonterminal (g .start))) valued) (replicate (syn g (nonterminal (g .start))) marked) rs (subst (λ z. T (cellsFit z rs)) (ap (λ n. placeCells g (n ∷ [])) e ∙ nothing-below) u) in
         subst (λ n. WaitsAt g (n ∷ []) rs (awaited g n)) (sym e)
-          (subst (λ z. WaitsAt g (32768 ∷ []) z (nonterminal (g .start))) (sym (a .joined ∙ ap (λ z. a .upper ++ z) (fit-marks (syn g (nonterminal (g .start))) (a .lower) (a .second))))
-            (segment (a .upper) (fit-values (inh g (nonterminal (g .start))) (a .upper) (a .first))))
+        (subst (λ z. WaitsAt g (32768 ∷ []) z (nonterminal (g .start))) (sym (a .joined ∙ ap (λ z. a .upper ++ z) (fit-marks (syn g (nonterminal (g .start))) (a .lower) (a .second))))
+        (segment (a .upper) (fit-values (inh g (nonterminal (g .start))) (a .upper) (a .first))))
       where
         nothing-below : placeCells g (32768 ∷ []) ≡ waitingCells g (nonterminal (g .start))
         nothing-below = append-nil (waitingCells g (nonterminal (g .start)))
@@ -214,7 +218,7 @@ waits-fit g (inside p k vs ss {ps} {rs} l s m v w below) =
     record {
       places = place-above g (p * 256 + k) ps (rw d l, rw (d, e) s, r .named ∙ rw d refl, r .places);
       cells = rw (d, e) (place-fit g p k (placeCells g ps) vs ss rs v w (r .cells));
-      named = rw (d, e) refl
+      named = rw (d, e) refl;
     }
 
 -- ---- cells above the heights
@@ -288,20 +292,25 @@ module _ (g : Grammar) (r : Record) (m : Stacks) where
 
   tests-fit : Tests → Fit g r m
   tests-fit t = record {
-      tokens = leb→le (r .tokens) tokensLimit (t .0); moves = leb→le (r .moves) movesLimit (t .1);
-      registerHeight = leb→le (r .registerHeight) (lentOf m .maxRegisters) (t .2); placeHeight = leb→le (r .placeHeight) (lentOf m .maxPlaces) (t .3);
-      stands = fit-stands g tops values (t .4);
-      registersCleared = cleared-at isMark mark (lentOf m .maxRegisters) (r .registerHeight) (m .registers) (omega arith) mark-is (t .5);
-      placesCleared = cleared-at isZero 0 (lentOf m .maxPlaces) (r .placeHeight) (m .places) (omega arith) (λ p u. eqb→eq p 0 u) (t .6)
-    }
+    tokens = leb→le (r .tokens) tokensLimit (t .0);
+    moves = leb→le (r .moves) movesLimit (t .1);
+    registerHeight = leb→le (r .registerHeight) (lentOf m .maxRegisters) (t .2);
+    placeHeight = leb→le (r .placeHeight) (lentOf m .maxPlaces) (t .3);
+    stands = fit-stands g tops values (t .4);
+    registersCleared = cleared-at isMark mark (lentOf m .maxRegisters) (r .registerHeight) (m .registers) (omega arith) mark-is (t .5);
+    placesCleared = cleared-at isZero 0 (lentOf m .maxPlaces) (r .placeHeight) (m .places) (omega arith) (λ p u. eqb→eq p 0 u) (t .6);
+  }
 
   fit-tests : Fit g r m → Tests
-  fit-tests f =
-      (le→leb (r .tokens) tokensLimit (f .tokens), le→leb (r .moves) movesLimit (f .moves),
-        le→leb (r .registerHeight) (lentOf m .maxRegisters) (f .registerHeight), le→leb (r .placeHeight) (lentOf m .maxPlaces) (f .placeHeight),
-        stands-fit g tops values (f .stands),
-        at-cleared isMark mark (lentOf m .maxRegisters) (r .registerHeight) (m .registers) (omega arith) tt (f .registersCleared),
-        at-cleared isZero 0 (lentOf m .maxPlaces) (r .placeHeight) (m .places) (omega arith) tt (f .placesCleared))
+  fit-tests f = (
+    le→leb (r .tokens) tokensLimit (f .tokens),
+    le→leb (r .moves) movesLimit (f .moves),
+    le→leb (r .registerHeight) (lentOf m .maxRegisters) (f .registerHeight),
+    le→leb (r .placeHeight) (lentOf m .maxPlaces) (f .placeHeight),
+    stands-fit g tops values (f .stands),
+    at-cleared isMark mark (lentOf m .maxRegisters) (r .registerHeight) (m .registers) (omega arith) tt (f .registersCleared),
+    at-cleared isZero 0 (lentOf m .maxPlaces) (r .placeHeight) (m .places) (omega arith) tt (f .placesCleared),
+  )
 
   test-of : T (stacksFit g r m) → Tests
   test-of t = seven (leb (r .tokens) tokensLimit) (leb (r .moves) movesLimit) (leb (r .registerHeight) (lentOf m .maxRegisters)) (leb (r .placeHeight) (lentOf m .maxPlaces)) (stackFits g tops values)
@@ -312,7 +321,6 @@ module _ (g : Grammar) (r : Record) (m : Stacks) where
   of-tests t = all-seven (leb (r .tokens) tokensLimit) (leb (r .moves) movesLimit) (leb (r .registerHeight) (lentOf m .maxRegisters)) (leb (r .placeHeight) (lentOf m .maxPlaces)) (stackFits g tops values)
       (all isMark (take (lentOf m .maxRegisters - r .registerHeight) (drop (r .registerHeight) (m .registers))))
       (all isZero (take (lentOf m .maxPlaces - r .placeHeight) (drop (r .placeHeight) (m .places)))) t
-
 
 pub fit-exactly : FitExactly
 fit-exactly g r m = ((λ t. tests-fit g r m (test-of g r m t)), (λ f. of-tests g r m (fit-tests g r m f)))

@@ -1,21 +1,20 @@
 -- What the instruction at hand reads and writes, in any configuration of the shape: selectors stand between 1 and the height, every register read holds a value in range.
-use Prim.Native.Nat.{ℕ, zero, suc, _+_, _-_, _≤_, _<_}
+use Prim.Native.Nat.{ℕ, suc, _+_, _≤_, _<_}
 use native.Mathlib.Omega.{arith}
-use mathlib.Core.Path.{_≡_, refl, sym, ap, _∙_, subst}
-use mathlib.Core.Bool.{Bool, true, false}
-use mathlib.Core.List.{List, [], _∷_, _++_, map, append-assoc, nil≢cons, head-eq-of-cons-eq}
-use lib.ListN.{getD, length, drop, length-append, length-replicate}
+use mathlib.Core.Path.{_≡_, sym, ap, _∙_, subst}
+use mathlib.Core.List.{List, [], _∷_, _++_, append-assoc, nil≢cons, head-eq-of-cons-eq}
+use lib.ListN.{length, drop, length-append, length-replicate}
 use lib.Dec.{T, eqb, eqb→eq}
 use lib.IntN.{ℤ}
 use Rattle.meaning.specs.Base.{In, all}
-use Rattle.meaning.specs.Grammar.{Symbol, terminal, nonterminal, Occurrence, Rule, Condition, Production, Grammar, inh, syn, att, productionAt, symbolAt, conditionPosition}
+use Rattle.meaning.specs.Grammar.{Symbol, terminal, nonterminal, Occurrence, Condition, Production, Grammar, inh, syn, att, productionAt, conditionPosition}
 use Rattle.meaning.specs.Value.{inRange, mark}
-use Rattle.meaning.specs.Scheme.{Instruction, add, evaluate, expect, test, remove, mapRule, mapCondition, inheritedRules, synthesizedRules, testsAfter, entryTests, rulesFor, conditionsAt, removed, synBetween, selectInherited, selectAfter}
+use Rattle.meaning.specs.Scheme.{Instruction, evaluate, expect, remove, mapRule, mapCondition, inheritedRules, synthesizedRules, testsAfter, rulesFor, conditionsAt, removed, synBetween, selectInherited, selectAfter}
 use Rattle.meaning.specs.Rules.{Operands, Reads, OutputAt, WellFormed}
 use Rattle.meaning.specs.Machine.{Frame, Config, readRegister}
-use Rattle.meaning.specs.Part.{marks, waitRest, frame}
+use Rattle.meaning.specs.Part.{marks, frame}
 use Rattle.meaning.specs.Fit.{Values}
-use Rattle.meaning.specs.Statements.{Standing, Valued, Handles}
+use Rattle.meaning.specs.Statements.{Valued, Handles}
 use Rattle.theory_base.specs.Members.{all-append, in-keep, map-in}
 use Rattle.theory_base.specs.Values.{operands-available, drop-head, drop-over}
 use Rattle.theory_base.specs.WellFormed.{Available, Evaluable, evaluable-at}
@@ -72,8 +71,8 @@ module _ (g : Grammar) (wf : WellFormed g) (c : Config) (p k : ℕ) (vs ss : Lis
       let t : q .target ≡ a .0 .target .attribute = ap (λ z. z .target) (a .2) ∙ target-of-inherited g pr (suc k) (a .0 .target) (b .0) in
       let size : length (c .registers) ≡ att g x + length (nodeRegisters ss vs (marks (synLeft g p)) base) = ap length r ∙ (length-append (marks (att g x)) (nodeRegisters ss vs (marks (synLeft g p)) base) ∙ ap (λ n. n + length (nodeRegisters ss vs (marks (synLeft g p)) base)) (length-replicate (att g x) mark)) in
       let read : (u : Occurrence) → Available g pr k u → Valued c (sel u) = λ u w.
-          let s : sel u ≡ length (marks (att g x)) + selectAfter g pr k u = inherited-at g pr k (u .position) (u .attribute) (w .0) (w .1) .0 ∙ ap (λ n. n + selectAfter g pr k u) (ap (att g) (h .1) ∙ sym (length-replicate (att g x) mark)) in
-          subst (Valued c) (sym s) (value-under (marks (att g x)) (marks (synLeft g p)) r u w) in
+      let s : sel u ≡ length (marks (att g x)) + selectAfter g pr k u = inherited-at g pr k (u .position) (u .attribute) (w .0) (w .1) .0 ∙ ap (λ n. n + selectAfter g pr k u) (ap (att g) (h .1) ∙ sym (length-replicate (att g x) mark)) in
+      subst (Valued c) (sym s) (value-under (marks (att g x)) (marks (synLeft g p)) r u w) in
       ((omega (arith, t, o .1), omega (arith, t, top, size)), subst (λ z. Operands (Valued c) (z .function)) (sym (a .2)) (operands-through (Valued c) sel read (a .0 .function) (operands-available g pr fp k (a .0) (b .1) (omega (arith, b .0)) (λ z. absurd (omega (arith, b .0))))))
 
   -- evaluate the left side's synthesized attributes
@@ -89,7 +88,7 @@ module _ (g : Grammar) (wf : WellFormed g) (c : Config) (p k : ℕ) (vs ss : Lis
       let t : q .target ≡ synBetween g pr 0 k + a .0 .target .attribute = ap (λ y. y .target) (a .2) ∙ (target-of-synthesized g pr (length (pr .right)) (a .0 .target) (b .0) ∙ ap (λ n. synBetween g pr 0 n + a .0 .target .attribute) z) in
       let size : length (c .registers) ≡ length (ss ++ vs) + (synLeft g p + length base) = ap length (r ∙ sym (append-assoc ss vs (marks (synLeft g p) ++ base))) ∙ (length-append (ss ++ vs) (marks (synLeft g p) ++ base) ∙ ap (λ n. length (ss ++ vs) + n) (length-append (marks (synLeft g p)) base ∙ ap (λ n. n + length base) (length-replicate (synLeft g p) mark))) in
       let read : (u : Occurrence) → Available g pr k u → Valued c (sel u) = λ u w.
-          subst (λ n. Valued c (selectAfter g pr n u)) (sym z) (value-of (marks (synLeft g p)) r u w) in
+      subst (λ n. Valued c (selectAfter g pr n u)) (sym z) (value-of (marks (synLeft g p)) r u w) in
       ((omega (arith, t, o .0), omega (arith, t, o .1, size, known-size)), subst (λ y. Operands (Valued c) (y .function)) (sym (a .2)) (operands-through (Valued c) sel read (a .0 .function) (operands-available g pr fp k (a .0) (b .1) (omega (arith, b .0)) (λ y. omega (arith, z)))))
 
   -- the entry conditions of every production of the symbol waited at
@@ -97,9 +96,9 @@ module _ (g : Grammar) (wf : WellFormed g) (c : Config) (p k : ℕ) (vs ss : Lis
   waits-handle x is rest v r q l named t i =
       let pr : Production = productionAt g q in
       conditions-read g pr (evaluable-at g wf q l) c 0 (λ o a.
-        let b = after-within g pr 0 o (omega arith) a in
-        let n : length is ≡ inh g (nonterminal (pr .left)) = v .size ∙ ap (inh g) named in
-        valued-at c [] is rest (selectAfter g pr 0 o) r (v .ranged) (omega (arith, b .0)) (omega (arith, b .1, n, syn-none g pr 0))) t i
+      let b = after-within g pr 0 o (omega arith) a in
+      let n : length is ≡ inh g (nonterminal (pr .left)) = v .size ∙ ap (inh g) named in
+      valued-at c [] is rest (selectAfter g pr 0 o) r (v .ranged) (omega (arith, b .0)) (omega (arith, b .1, n, syn-none g pr 0))) t i
 
   removes-handle : (rs : List ℤ) → drop k (productionAt g p .right) ≡ [] → c .registers ≡ nodeRegisters ss vs rs base → Handles g c (remove (removed g (productionAt g p)))
   removes-handle rs e r =

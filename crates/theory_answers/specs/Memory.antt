@@ -1,18 +1,18 @@
 -- What a call lays into the lent stacks fits and is read back; what fits is laid as it was.
-use Prim.Native.Nat.{ℕ, zero, suc, _+_, _-_, _*_, _≤_, _<_, min}
+use Prim.Native.Nat.{ℕ, suc, _+_, _-_, _≤_, _<_, min}
 use native.Mathlib.Omega.{arith}
 use mathlib.Core.Path.{_≡_, refl, sym, ap, ap₂, _∙_, subst, subst₂}
 use mathlib.Core.Logic.{_⊎_, inl, inr}
-use mathlib.Core.Bool.{Bool, true, false}
+use mathlib.Core.Bool.{Bool}
 use mathlib.Core.List.{List, [], _∷_, _++_, map, reverse, append-assoc, reverse-reverse}
 use lib.ListN.{getD, length, take, drop, replicate, length-append, length-replicate, length-drop, length-take, length-reverse, length-map, getD-replicate, take-append-drop, List·getD-append}
 use lib.Seq.{take-at, drop-at, getD-take, getD-drop, drop-drop, drop-cons}
 use lib.IntN.{ℤ}
-use Rattle.meaning.specs.Grammar.{Symbol, terminal, nonterminal, Grammar, productionAt, symbolAt}
+use Rattle.meaning.specs.Grammar.{Symbol, terminal, Grammar, productionAt, symbolAt}
 use Rattle.meaning.specs.Value.{mark}
 use Rattle.meaning.specs.Rules.{WellFormed}
-use Rattle.meaning.specs.Machine.{Frame, Config, Lent, placeOf, movesLimit, tokensLimit}
-use Rattle.meaning.specs.Part.{config, waitRest, frame}
+use Rattle.meaning.specs.Machine.{Config, Lent, placeOf, movesLimit, tokensLimit}
+use Rattle.meaning.specs.Part.{config}
 use Rattle.meaning.specs.Calls.{Record, Stacks, lentOf, lay, layAll, frameOf, configOf, recordOf}
 use Rattle.meaning.specs.Fit.{WaitsAt, segment, inside, Left, Fit}
 use Rattle.theory_base.specs.Frames.{place-waits, frame-back}
@@ -93,12 +93,13 @@ module _ (g : Grammar) (o : Bool) (c : Config) (m : Stacks) (s : AtStop g (c .fr
       let m′ : Stacks = layAll g c m in
       let e : lentOf m′ ≡ lentOf m = lent-kept g c m w in
       record {
-        tokens = t; moves = w .moves;
+        tokens = t;
+        moves = w .moves;
         registerHeight = subst (λ l. length (c .registers) ≤ l .maxRegisters) (sym e) (w .registers);
         placeHeight = subst (λ l. length (c .frames) ≤ l .maxPlaces) (sym e) (w .places);
         stands = subst₂ (λ ps rs. ((x : Symbol) × WaitsAt g ps rs x) ⊎ Left g ps rs) (sym places-read) (sym registers-read) (s .fits);
         registersCleared = λ i a b. lay-cleared (lentOf m .maxRegisters) mark (c .registers) (m .registers) i a (subst (λ l. i < l .maxRegisters) e b);
-        placesCleared = λ i a b. lay-cleared (lentOf m .maxPlaces) 0 placed (m .places) i (omega (arith, placed-size)) (subst (λ l. i < l .maxPlaces) e b)
+        placesCleared = λ i a b. lay-cleared (lentOf m .maxPlaces) 0 placed (m .places) i (omega (arith, placed-size)) (subst (λ l. i < l .maxPlaces) e b);
       }
 
 -- ---- what fits, read and laid again
@@ -136,5 +137,5 @@ module _ (g : Grammar) (wf : WellFormed g) (r : Record) (m : Stacks) (f : Fit g 
       let ps : List ℕ = reverse (take (r .placeHeight) (m .places)) in
       let a : lay (lentOf m .maxRegisters) mark (configOf g r m .registers) (m .registers) ≡ m .registers = lay-same (lentOf m .maxRegisters) (r .registerHeight) mark (m .registers) (f .registerHeight) (omega arith) (f .registersCleared) in
       let b : lay (lentOf m .maxPlaces) 0 (map (placeOf g) (configOf g r m .frames)) (m .places) ≡ m .places =
-          ap (λ z. lay (lentOf m .maxPlaces) 0 z (m .places)) (places-back g wf ps (reverse (take (r .registerHeight) (m .registers))) (f .stands)) ∙ lay-same (lentOf m .maxPlaces) (r .placeHeight) 0 (m .places) (f .placeHeight) (omega arith) (f .placesCleared) in
+      ap (λ z. lay (lentOf m .maxPlaces) 0 z (m .places)) (places-back g wf ps (reverse (take (r .registerHeight) (m .registers))) (f .stands)) ∙ lay-same (lentOf m .maxPlaces) (r .placeHeight) 0 (m .places) (f .placeHeight) (omega arith) (f .placesCleared) in
       λ i. record { registers = a i; places = b i }

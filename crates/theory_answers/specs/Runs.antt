@@ -5,13 +5,13 @@ use mathlib.Core.Path.{_≡_, refl, sym, ap, _∙_, subst}
 use mathlib.Core.Logic.{_⊎_, inl, inr}
 use mathlib.Core.Bool.{Bool, true, false, _&&_}
 use mathlib.Core.List.{List, [], _∷_, _++_}
-use lib.ListN.{length, drop}
+use lib.ListN.{drop}
 use lib.Dec.{T, ltb, leb, ltb→lt, lt→ltb, leb→le, nleb→lt}
 use Rattle.meaning.specs.Grammar.{Grammar}
 use Rattle.meaning.specs.Machine.{Config, Lent, Look, token, over, Outcome, moved, blocked, Settled, stopped, failed, waits, next, lookAt, unread, isDone, isFinished, advance, advanceFrom, feedToken, feedAll, finishAll, tokensLimit, movesLimit}
 use Rattle.meaning.specs.Walk.{Act, actBy, Makes, nothing, andThen}
 use Rattle.theory_base.specs.Members.{T→true, both}
-use Rattle.theory_answers.specs.Steps.{AtHand, at-hand}
+use Rattle.theory_answers.specs.Steps.{at-hand}
 use Rattle.theory_answers.specs.Bounds.{counts, look-free, no-read, Blocks, atLimit, blocks}
 
 -- what every move keeps, moves keep
@@ -82,7 +82,7 @@ module _ (g : Grammar) (lent : Lent) (us₀ : List ℕ) (c₀ : Config) where
       record {
         moves = s .moves ++ (actBy (a .production) (a .instruction) d ∷ []);
         made = andThen (a .production) (a .instruction) (a .rest) (a .below) d (s .made) (a .frames) h;
-        few = omega (arith, a .limit, counts g lent (lookAt us) c d h .moves)
+        few = omega (arith, a .limit, counts g lent (lookAt us) c d h .moves);
       }
 
   pub record Going (l : Look) (ts : List ℕ) (n : ℕ) (c : Config) : Type 0 where
@@ -137,12 +137,15 @@ module _ (g : Grammar) (lent : Lent) (us₀ : List ℕ) (c₀ : Config) where
       count : (us : List ℕ) (k : ℕ) → c .tokens < tokensLimit → Coming (token t) ts (c .tokens) us k → k ≤ tokensLimit
       count us k b (inl v) = omega (arith, v .1)
       count us k b (inr v) = omega (arith, v .1)
+
       behind : (us : List ℕ) (e : Config) → Led us e → Coming (token t) ts (c .tokens) us (e .tokens) → c .tokens < e .tokens → Led ts e
       behind us e r (inl v) d = absurd (omega (arith, v .1))
       behind us e r (inr v) d = subst (λ z. Led z e) (v .0) r
+
       read : c .tokens < tokensLimit → (o : Settled) → Advanced (token t) ts (c .tokens) o → FedOne ts o
       read b (stopped e) v = (behind (v .0 .left) e (v .0 .led) (v .0 .coming) (ltb→lt (c .tokens) (e .tokens) (v .2)), v .1, count (v .0 .left) (e .tokens) b (v .0 .coming))
       read b (failed e k) v = (v .0 .left, v .0 .led, count (v .0 .left) (e .tokens) b (v .0 .coming), atMove t (v .1))
+
       limited : (b : Bool) → leb tokensLimit (c .tokens) ≡ b → (k : Bool) → FedOne ts (elim b [ true ↦ failed c 35 | false ↦ elim k [ true ↦ advanceFrom g lent (token t) c | false ↦ failed c 20 ] ])
       limited true q k = (t ∷ ts, s, m, manyTokens (omega (arith, leb→le tokensLimit (c .tokens) (rw q tt))))
       limited false q true = read (nleb→lt tokensLimit (c .tokens) (rw q tt)) (advanceFrom g lent (token t) c) (advanced-from (token t) ts c (record { left = t ∷ ts; led = s; coming = inl (refl, refl) }))
@@ -167,6 +170,7 @@ module _ (g : Grammar) (lent : Lent) (us₀ : List ℕ) (c₀ : Config) where
     where
       back : (e : Config) → Going over [] (c .tokens) e → Led [] e
       back e r = subst (λ z. Led z e) (r .coming .0) (r .led)
+
       go : (o : Settled) → Advanced over [] (c .tokens) o → Finished o
       go (stopped e) v = (back e (v .0), v .2)
       go (failed e k) v = (back e (v .0), v .1)

@@ -1,17 +1,16 @@
 -- 001's selectors lie among the registers that hold values, and where the targets lie.
 use Prim.Native.Nat.{ℕ, zero, suc, _+_, _-_, _≤_, _<_}
 use native.Mathlib.Omega.{arith}
-use mathlib.Core.Path.{_≡_, refl, sym, ap, _∙_, subst}
-use mathlib.Core.Bool.{false}
-use mathlib.Core.List.{List, [], _∷_, _++_, map, append-assoc}
-use lib.ListN.{getD, length, take, drop, length-append, length-drop, List·getD-append}
-use lib.Seq.{take-suc, getD-drop, getD-append-add}
-use lib.Dec.{T, eqb, eqb·suc-zero, eqb·zero-suc}
+use mathlib.Core.Path.{_≡_, sym, ap, _∙_, subst}
+use mathlib.Core.List.{List, _++_}
+use lib.ListN.{getD, length, List·getD-append}
+use lib.Seq.{getD-append-add}
+use lib.Dec.{T, eqb·suc-zero}
 use lib.IntN.{ℤ}
-use Rattle.meaning.specs.Base.{all, total}
-use Rattle.meaning.specs.Grammar.{Symbol, terminal, nonterminal, Occurrence, Function, const, copy, sum, diff, prod, maxi, mini, addc, quot, Condition, range, atmost, Production, Grammar, inh, syn, att, symbolAt, conditionPosition}
+use Rattle.meaning.specs.Base.{all}
+use Rattle.meaning.specs.Grammar.{nonterminal, Occurrence, Function, const, copy, sum, diff, prod, maxi, mini, addc, quot, Condition, range, atmost, Production, Grammar, inh, syn, symbolAt}
 use Rattle.meaning.specs.Value.{inRange, mark}
-use Rattle.meaning.specs.Rules.{Operands, Reads, Input, InputAt, Operand}
+use Rattle.meaning.specs.Rules.{Operands, Reads, InputAt}
 use Rattle.meaning.specs.Scheme.{mapFunction, mapCondition, synBetween, selectInherited, selectAfter}
 use Rattle.meaning.specs.Selectors.{occurrence}
 use Rattle.meaning.specs.Machine.{readRegister}

@@ -1,21 +1,18 @@
 -- The shape of a configuration: how many registers stand for each node in progress, which of them hold values and which the mark. It speaks of no tree and of no rule's result, so it holds of every record and stacks that fit, and every move keeps it.
-use Prim.Native.Nat.{ℕ, zero, suc, _+_, _-_, _≤_, _<_}
+use Prim.Native.Nat.{ℕ, suc, _≤_, _<_}
 use native.Mathlib.Omega.{arith}
-use mathlib.Core.Path.{_≡_, refl, sym, ap, ap₂, _∙_, subst}
-use mathlib.Core.Logic.{_⊎_, inl, inr}
+use mathlib.Core.Path.{_≡_, refl, sym, ap, _∙_, subst}
 use mathlib.Core.Bool.{Bool, true, false, not}
-use mathlib.Core.List.{List, [], _∷_, _++_, map, append-assoc}
-use lib.ListN.{getD, length, drop, replicate}
-use lib.Dec.{T, eqb, eqb-refl, eqb→eq, ltb, nltb→le}
+use mathlib.Core.List.{List, [], _∷_, _++_}
+use lib.ListN.{length, drop}
+use lib.Dec.{eqb, eqb→eq, ltb, nltb→le}
 use lib.IntN.{ℤ}
-use Rattle.meaning.specs.Base.{In, consIf, isEmpty}
-use Rattle.meaning.specs.Grammar.{Symbol, terminal, nonterminal, Occurrence, Rule, Production, Grammar, inh, syn, att, productionAt, symbolAt, whole}
-use Rattle.meaning.specs.Value.{mark}
-use Rattle.meaning.specs.Scheme.{Instruction, add, evaluate, expect, test, remove, inheritedRules, synthesizedRules, testsAfter, rulesFor, removed, synBetween, mapRule, selectInherited, selectAfter}
-use Rattle.meaning.specs.Rules.{OutputAt, WellFormed}
-use Rattle.meaning.specs.Machine.{Frame, Config}
-use Rattle.meaning.specs.Selectors.{occurrence}
-use Rattle.meaning.specs.Part.{marks, tailIf, tailOf, freshRest, leftRest, waitRest, frame}
+use Rattle.meaning.specs.Base.{consIf, isEmpty}
+use Rattle.meaning.specs.Grammar.{Symbol, terminal, nonterminal, Grammar, inh, syn, att, productionAt, whole}
+use Rattle.meaning.specs.Scheme.{Instruction, add, evaluate, test, remove, inheritedRules, synthesizedRules, testsAfter, removed, synBetween}
+use Rattle.meaning.specs.Rules.{WellFormed}
+use Rattle.meaning.specs.Machine.{Frame}
+use Rattle.meaning.specs.Part.{marks, tailIf, freshRest, leftRest, waitRest, frame}
 use Rattle.meaning.specs.Fit.{Values}
 use Rattle.theory_base.specs.Values.{drop-head}
 use Rattle.theory_base.specs.Present.{inherited-present, synthesized-present}
@@ -102,9 +99,21 @@ module _ (g : Grammar) (wf : WellFormed g) (p k : ℕ) (vs ss : List ℤ) (fs : 
 
   pub shaped : (rest : List Instruction) (top results : List ℤ) → Due g p k rest top results → Shaped g (frame p rest ∷ fs) (top ++ nodeRegisters ss vs results base)
   shaped rest top results d = record {
-      production = p; passed = k; inherited = vs; values = ss; below = fs; base = base; rest = rest; top = top; results = results;
-      stands = st; node = nd; due = d; isFrames = refl; isRegisters = refl
-    }
+    production = p;
+    passed = k;
+    inherited = vs;
+    values = ss;
+    below = fs;
+    base = base;
+    rest = rest;
+    top = top;
+    results = results;
+    stands = st;
+    node = nd;
+    due = d;
+    isFrames = refl;
+    isRegisters = refl;
+  }
 
   -- the registers of the symbol at hand are added
   pub at-added : (x : Symbol) (xs : List Symbol) → drop k (productionAt g p .right) ≡ x ∷ xs → Shaped g (frame p (addedRest g p k x xs) ∷ fs) (marks (att g x) ++ own)
@@ -136,6 +145,7 @@ module _ (g : Grammar) (wf : WellFormed g) (p k : ℕ) (vs ss : List ℤ) (fs : 
           let z : synLeft g p ≡ 0 = absent (synthesizedRules g (productionAt g p)) (synLeft g p) (synthesized-present g (productionAt g p) (evaluable g wf st)) q in
           let v : Values (synLeft g p) [] = rw z no-values in
           subst (λ n. Shaped g (frame p (remove (removed g (productionAt g p)) ∷ []) ∷ fs) (nodeRegisters ss vs (marks n) base)) (sym z) (shaped (remove (removed g (productionAt g p)) ∷ []) [] [] (removes [] e w v))
+
       go : (b : Bool) → eqb p whole ≡ b → Shaped g (frame p (tailIf b g (productionAt g p)) ∷ fs) own
       go true w = shaped [] [] (marks (synLeft g p)) (ends e (eqb→eq p whole (rw w tt)))
       go false w = close w (isEmpty (synthesizedRules g (productionAt g p))) refl

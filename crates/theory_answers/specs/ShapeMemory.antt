@@ -3,14 +3,14 @@ use Prim.Native.Nat.{ℕ, zero, suc, _+_, _-_, _*_, _≤_, _<_}
 use native.Mathlib.Omega.{arith}
 use mathlib.Core.Path.{_≡_, refl, sym, ap, ap₂, _∙_, subst, subst₂}
 use mathlib.Core.Logic.{_⊎_, inl, inr}
-use mathlib.Core.Bool.{Bool, true, false, _&&_}
+use mathlib.Core.Bool.{Bool, false, _&&_}
 use mathlib.Core.List.{List, [], _∷_, _++_, map, append-assoc, append-nil, cons≢nil}
-use lib.ListN.{getD, length, drop, take, replicate}
+use lib.ListN.{length, drop, take}
 use lib.Seq.{drop-cons}
 use lib.Dec.{T, eqb}
 use lib.IntN.{ℤ}
-use Rattle.meaning.specs.Base.{all, total, isEmpty}
-use Rattle.meaning.specs.Grammar.{Symbol, terminal, nonterminal, Production, Grammar, inh, syn, att, productionAt, symbolAt, whole, wholeProduction}
+use Rattle.meaning.specs.Base.{total, isEmpty}
+use Rattle.meaning.specs.Grammar.{Symbol, terminal, nonterminal, Production, Grammar, inh, syn, productionAt, symbolAt, whole, wholeProduction}
 use Rattle.meaning.specs.Value.{inRange, mark}
 use Rattle.meaning.specs.Scheme.{Instruction, synBetween}
 use Rattle.meaning.specs.Rules.{WellFormed}
@@ -25,7 +25,7 @@ use Rattle.theory_sets.specs.Tests.{all-at}
 use Rattle.theory_base.specs.Values.{drop-head, drop-over}
 use Rattle.theory_base.specs.WellFormed.{whole-counts, well-formed-at}
 use Rattle.theory_base.specs.Frames.{place-waits, frame-back}
-use Rattle.theory_answers.specs.Shape.{inhLeft, synLeft, Node, nodeRegisters, Stands, segment, inside, Due, adds, hands, waits, tests, closes, removes, ends, Shaped, no-values, shaped}
+use Rattle.theory_answers.specs.Shape.{inhLeft, synLeft, Node, nodeRegisters, Stands, segment, inside, Due, adds, hands, waits, tests, closes, removes, ends, Shaped, no-values}
 
 -- ---- a place and its frame
 
@@ -75,20 +75,41 @@ pub record Waiting (g : Grammar) (fs : List Frame) (rs : List ℤ) (x : Symbol) 
 
 pub waiting-shaped : (g : Grammar) → WellFormed g → {fs : List Frame} {rs : List ℤ} {x : Symbol} → Waiting g fs rs x → Shaped g fs rs
 waiting-shaped g wf {x = x} w = record {
-    production = w .production; passed = w .passed; inherited = w .inherited; values = w .values; below = w .below; base = w .base;
-    rest = waitRest g (w .production) (w .passed) x (w .ahead); top = w .handed ++ marks (syn g x); results = marks (synLeft g (w .production));
-    stands = w .stands; node = w .node; due = waits x (w .ahead) (w .handed) (w .symbols) (w .ranged); isFrames = w .isFrames; isRegisters = w .isRegisters
-  }
+  production = w .production;
+  passed = w .passed;
+  inherited = w .inherited;
+  values = w .values;
+  below = w .below;
+  base = w .base;
+  rest = waitRest g (w .production) (w .passed) x (w .ahead);
+  top = w .handed ++ marks (syn g x);
+  results = marks (synLeft g (w .production));
+  stands = w .stands;
+  node = w .node;
+  due = waits x (w .ahead) (w .handed) (w .symbols) (w .ranged);
+  isFrames = w .isFrames;
+  isRegisters = w .isRegisters;
+}
 
 waiting : (g : Grammar) → WellFormed g → {ps : List ℕ} {rs : List ℤ} {x : Symbol} → WaitsAt g ps rs x → Waiting g (map (frameOf g) ps) rs x
 waiting g wf (Fit.segment vs v) =
     let none : marks (synLeft g whole) ≡ [] = ap marks (whole-syn g wf) in
     let own : nodeRegisters [] [] (marks (synLeft g whole)) [] ≡ [] = ap (λ z. z ++ []) none in
     record {
-      production = whole; passed = 0; ahead = []; handed = vs; inherited = []; values = []; below = []; base = []; stands = segment;
+      production = whole;
+      passed = 0;
+      ahead = [];
+      handed = vs;
+      inherited = [];
+      values = [];
+      below = [];
+      base = [];
+      stands = segment;
       node = record { inherited = values-none (inhLeft g whole) (whole-inh g wf); passed = no-values; within = omega arith };
-      symbols = refl; ranged = v; isFrames = refl;
-      isRegisters = ap (λ z. (vs ++ marks (syn g (nonterminal (g .start)))) ++ z) own ∙ append-nil (vs ++ marks (syn g (nonterminal (g .start))))
+      symbols = refl;
+      ranged = v;
+      isFrames = refl;
+      isRegisters = ap (λ z. (vs ++ marks (syn g (nonterminal (g .start)))) ++ z) own ∙ append-nil (vs ++ marks (syn g (nonterminal (g .start))));
     }
 waiting g wf (Fit.inside p k vs ss {ps} {rs} l s m v u w) =
     let b = waiting g wf w in
@@ -97,14 +118,20 @@ waiting g wf (Fit.inside p k vs ss {ps} {rs} l s m v u w) =
     let e : drop k right ≡ x ∷ drop (suc k) right = drop-cons right k (terminal 0) s in
     let st : Stands g p (frame (b .production) (waitRest g (b .production) (b .passed) (nonterminal (productionAt g p .left)) (b .ahead)) ∷ b .below) (nodeRegisters (b .values) (b .inherited) (marks (synLeft g (b .production))) (b .base)) = inside (b .production) (b .passed) (b .ahead) (b .inherited) (b .values) l (b .symbols) (b .node) (b .stands) in
     record {
-      production = p; passed = k; ahead = drop (suc k) right; handed = vs; inherited = b .handed; values = ss;
+      production = p;
+      passed = k;
+      ahead = drop (suc k) right;
+      handed = vs;
+      inherited = b .handed;
+      values = ss;
       below = frame (b .production) (waitRest g (b .production) (b .passed) (nonterminal (productionAt g p .left)) (b .ahead)) ∷ b .below;
       base = nodeRegisters (b .values) (b .inherited) (marks (synLeft g (b .production))) (b .base);
       stands = st;
       node = record { inherited = b .ranged; passed = rw (syn-from g (productionAt g p) k) u; within = omega arith };
-      symbols = e; ranged = v;
+      symbols = e;
+      ranged = v;
       isFrames = ap₂ (λ y ys. y ∷ ys) (sym (frame-back g wf p k x (drop (suc k) right) (inr l) m e)) (b .isFrames);
-      isRegisters = ap (λ z. (vs ++ marks (syn g x)) ++ (ss ++ z)) (sym (append-assoc (b .handed) (marks (synLeft g p)) (nodeRegisters (b .values) (b .inherited) (marks (synLeft g (b .production))) (b .base))) ∙ b .isRegisters)
+      isRegisters = ap (λ z. (vs ++ marks (syn g x)) ++ (ss ++ z)) (sym (append-assoc (b .handed) (marks (synLeft g p)) (nodeRegisters (b .values) (b .inherited) (marks (synLeft g (b .production))) (b .base))) ∙ b .isRegisters);
     }
 
 -- the start symbol is left
@@ -113,11 +140,20 @@ left-shaped g wf ps rs l =
     let none : marks (synLeft g whole) ≡ [] = ap marks (whole-syn g wf) in
     let size : syn g (nonterminal (g .start)) ≡ synBetween g (wholeProduction g) 0 1 = omega arith in
     record {
-      production = whole; passed = 1; inherited = []; values = rs; below = []; base = []; rest = []; top = []; results = marks (synLeft g whole); stands = segment;
+      production = whole;
+      passed = 1;
+      inherited = [];
+      values = rs;
+      below = [];
+      base = [];
+      rest = [];
+      top = [];
+      results = marks (synLeft g whole);
+      stands = segment;
       node = record { inherited = values-none (inhLeft g whole) (whole-inh g wf); passed = subst (λ n. Values n rs) size (l .results); within = omega arith };
       due = ends refl refl;
       isFrames = ap (map (frameOf g)) (sym (l .place));
-      isRegisters = ap (λ z. rs ++ (z ++ [])) none ∙ append-nil rs
+      isRegisters = ap (λ z. rs ++ (z ++ [])) none ∙ append-nil rs;
     }
 
 pub fit-shaped : (g : Grammar) → WellFormed g → (ps : List ℕ) (rs : List ℤ) → ((x : Symbol) × WaitsAt g ps rs x) ⊎ Left g ps rs → Shaped g (map (frameOf g) ps) rs
@@ -176,7 +212,7 @@ waits-on g wf (inside {p} q j ys us ts {fs} {base} l d n s) k vs ss nd x xs e is
     let registers : (is ++ marks (syn g y)) ++ (ss ++ ((vs ++ marks (synLeft g p)) ++ lower)) ≡ (is ++ marks (syn g x)) ++ (ss ++ (vs ++ (marks (synLeft g p) ++ lower))) = ap₂ (λ z zs. (is ++ marks (syn g z)) ++ (ss ++ zs)) named (append-assoc vs (marks (synLeft g p)) lower) in
     record {
       places = subst₂ (λ n z. WaitsAt g (n ∷ map (placeOf g) under) z x) (sym (place-waits g p k x xs e)) registers (subst (λ z. WaitsAt g ((p * 256 + k) ∷ map (placeOf g) under) ((is ++ marks (syn g y)) ++ (ss ++ ((vs ++ marks (synLeft g p)) ++ lower))) z) named w);
-      back = ap₂ (λ y ys. y ∷ ys) (place-back g wf st k x xs e) (r .back)
+      back = ap₂ (λ y ys. y ∷ ys) (place-back g wf st k x xs e) (r .back);
     }
 
 -- ---- a configuration of the shape that waits

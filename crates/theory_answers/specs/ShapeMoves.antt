@@ -1,21 +1,21 @@
 -- Every move keeps the shape.
-use Prim.Native.Nat.{ℕ, zero, suc, _+_, _-_, _≤_, _<_}
+use Prim.Native.Nat.{ℕ, suc, _+_, _-_, _≤_, _<_}
 use native.Mathlib.Omega.{arith}
 use mathlib.Core.Path.{_≡_, refl, sym, ap, ap₂, _∙_, subst, subst₂}
-use mathlib.Core.Bool.{Bool, true, false}
+use mathlib.Core.Bool.{false}
 use mathlib.Core.List.{List, [], _∷_, _++_, append-assoc}
-use lib.ListN.{getD, length, drop, length-append, length-replicate, replicate-append-replicate}
+use lib.ListN.{getD, length, drop, length-append, replicate-append-replicate}
 use lib.Seq.{drop-at}
 use lib.Dec.{T, eqb}
 use lib.IntN.{ℤ}
 use Rattle.meaning.specs.Base.{In, all}
-use Rattle.meaning.specs.Grammar.{Symbol, terminal, nonterminal, Occurrence, Rule, Production, Grammar, inh, syn, att, productionAt, symbolAt, whole}
+use Rattle.meaning.specs.Grammar.{Symbol, terminal, nonterminal, Occurrence, Rule, Production, Grammar, inh, syn, att, productionAt, whole}
 use Rattle.meaning.specs.Value.{apply, inRange, mark}
 use Rattle.meaning.specs.Scheme.{Instruction, add, evaluate, expect, test, remove, inheritedRules, synthesizedRules, testsAfter, rulesFor, removed, synBetween, selectInherited, selectAfter}
 use Rattle.meaning.specs.Rules.{OutputAt, WellFormed}
-use Rattle.meaning.specs.Machine.{Frame, Config, Lent, Look, token, moved, next, nextOf, readRegister, writeAll, schemeAt, parentOnward}
+use Rattle.meaning.specs.Machine.{Frame, Config, Lent, Look, moved, next, nextOf, readRegister, writeAll, schemeAt, parentOnward}
 use Rattle.meaning.specs.Selectors.{occurrence}
-use Rattle.meaning.specs.Part.{marks, freshRest, leftRest, waitRest, frame, config}
+use Rattle.meaning.specs.Part.{marks, freshRest, leftRest, waitRest, frame}
 use Rattle.meaning.specs.Fit.{Values}
 use Rattle.theory_base.specs.Members.{all-append}
 use Rattle.theory_base.specs.Values.{drop-head, drop-over}
@@ -26,7 +26,7 @@ use Rattle.theory_base.specs.Selectors.{syn-none, syn-more}
 use Rattle.theory_base.specs.Present.{for-in, in-for}
 use Rattle.theory_answers.specs.Selecting.{target-of-inherited, target-of-synthesized}
 use Rattle.theory_answers.specs.Steps.{not-moved, move-of, Result, result, Predicted}
-use Rattle.theory_answers.specs.Shape.{inhLeft, synLeft, Node, nodeRegisters, Stands, segment, inside, evaluable, addedRest, Due, adds, hands, waits, tests, closes, removes, ends, Shaped, no-values, shaped, at-added, at-fresh, at-left}
+use Rattle.theory_answers.specs.Shape.{synLeft, Node, nodeRegisters, Stands, segment, inside, evaluable, addedRest, Due, adds, hands, waits, tests, closes, removes, ends, Shaped, no-values, shaped, at-added, at-fresh, at-left}
 
 occ-eq : (o u : Occurrence) → o .position ≡ u .position → o .attribute ≡ u .attribute → o ≡ u
 occ-eq o u e f = λ i. record { position = e i; attribute = f i }
@@ -42,26 +42,32 @@ handed : (g : Grammar) (p : Production) → Evaluable g p → (k : ℕ) (x : Sym
     → T (all (λ r. inRange (apply (readRegister (marks (att g x) ++ rest)) (r .function))) (inheritedRules g p (suc k)))
     → Handed g p k x rest
 handed g p fp k x xs rest d t = record {
-      made = w .made;
-      values = record { size = w .sized; ranged = w .ranged };
-      registers = ap (λ z. writeAll (inheritedRules g p n) old z) split ∙ (w .registers ∙ sym (append-assoc (w .made) (marks (syn g x)) rest))
-    }
+  made = w .made;
+  values = record { size = w .sized; ranged = w .ranged };
+  registers = ap (λ z. writeAll (inheritedRules g p n) old z) split ∙ (w .registers ∙ sym (append-assoc (w .made) (marks (syn g x)) rest));
+}
   where
     n : ℕ
     n = suc k
+
     old : List ℤ
     old = marks (att g x) ++ rest
+
     slot : Occurrence → ℕ
     slot o = o .attribute - 1
+
     head : (k < length (p .right)) × (getD (p .right) k (terminal 0) ≡ x) × (drop (suc k) (p .right) ≡ xs)
     head = drop-head k (p .right) x (terminal 0) xs d
+
     split : old ≡ marks (inh g x) ++ (marks (syn g x) ++ rest)
     split = rw (← (replicate-append-replicate (inh g x) (syn g x) mark)) (append-assoc (marks (inh g x)) (marks (syn g x)) rest)
+
     out : (r : Rule Occurrence) → In r (rulesFor p n) → (r .target .position ≡ n) × (1 ≤ r .target .attribute) × (r .target .attribute ≤ inh g x)
     out r i =
         let h = in-for p n r i in
         let o : OutputAt g p n (r .target .attribute) = rw (h .0) at (fp .targets r (h .1)) in
         (h .0, o .1, rw (head .1) at (o .2))
+
     w : Written slot (selectInherited g p n) old (rulesFor p n) (inh g x) [] (marks (syn g x) ++ rest)
     w = written slot (selectInherited g p n) old (rulesFor p n) (inh g x) [] (marks (syn g x) ++ rest)
         (distinct-keep (λ q. eqb (q .target .position) n) (p .rules) (fp .distinct))
@@ -81,30 +87,38 @@ closed : (g : Grammar) (p : Production) → Evaluable g p → (vs ss base : List
     → T (all (λ r. inRange (apply (readRegister (nodeRegisters ss vs (marks (syn g (nonterminal (p .left)))) base)) (r .function))) (synthesizedRules g p))
     → Closed g p ss vs base
 closed g p fp vs ss base sv se t = record {
-      made = w .made;
-      values = record { size = w .sized; ranged = w .ranged };
-      registers = ap (λ z. writeAll (synthesizedRules g p) old z) (sym (append-assoc ss vs (marks s ++ base))) ∙ (w .registers ∙ append-assoc ss vs (w .made ++ base))
-    }
+  made = w .made;
+  values = record { size = w .sized; ranged = w .ranged };
+  registers = ap (λ z. writeAll (synthesizedRules g p) old z) (sym (append-assoc ss vs (marks s ++ base))) ∙ (w .registers ∙ append-assoc ss vs (w .made ++ base));
+}
   where
     s : ℕ
     s = syn g (nonterminal (p .left))
+
     h : ℕ
     h = inh g (nonterminal (p .left))
+
     n : ℕ
     n = length (p .right)
+
     sel : Occurrence → ℕ
     sel = selectAfter g p n
+
     old : List ℤ
     old = nodeRegisters ss vs (marks s) base
+
     slot : Occurrence → ℕ
     slot o = o .attribute - 1 - h
+
     size : length (ss ++ vs) ≡ synBetween g p 0 n + h
     size = length-append ss vs ∙ omega (arith, se, sv)
+
     out : (r : Rule Occurrence) → In r (rulesFor p 0) → (r .target .position ≡ 0) × (h < r .target .attribute) × (r .target .attribute ≤ h + s)
     out r i =
         let q = in-for p 0 r i in
         let o : OutputAt g p 0 (r .target .attribute) = rw (q .0) at (fp .targets r (q .1)) in
         (q .0, o .0, o .1)
+
     w : Written slot sel old (rulesFor p 0) s (ss ++ vs) base
     w = written slot sel old (rulesFor p 0) s (ss ++ vs) base
         (distinct-keep (λ q. eqb (q .target .position) 0) (p .rules) (fp .distinct))
@@ -126,7 +140,7 @@ node-more g p k vs ss n x xs e rs v =
     record {
       inherited = n .inherited;
       passed = record { size = length-append rs ss ∙ omega (arith, v .size, n .passed .size, m); ranged = all-append inRange rs ss (v .ranged) (n .passed .ranged) };
-      within = h .0
+      within = h .0;
     }
 
 nothing-of : (vs : List ℤ) → Values 0 vs → vs ≡ []
@@ -140,7 +154,7 @@ leave g wf (inside {p} q j xs us ts {fs} {base} l e n s) rs w v =
     let x : Symbol = nonterminal (productionAt g p .left) in
     let h = drop-head j (productionAt g q .right) x (terminal 0) xs e in
     subst (λ z. Shaped g (frame q (leftRest g q (suc j) xs) ∷ fs) z) (append-assoc rs ts (us ++ (marks (synLeft g q) ++ base)))
-      (at-left g wf q (suc j) us (rs ++ ts) fs base s (node-more g q j us ts n x xs e rs v) xs (h .2))
+    (at-left g wf q (suc j) us (rs ++ ts) fs base s (node-more g q j us ts n x xs e rs v) xs (h .2))
 
 module _ (g : Grammar) (wf : WellFormed g) (lent : Lent) (l : Look) (c d : Config) (p k : ℕ) (vs ss : List ℤ) (fs : List Frame) (base : List ℤ) (st : Stands g p fs base) (nd : Node g p k vs ss) where
   abbrev ours : List ℤ

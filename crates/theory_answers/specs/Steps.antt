@@ -1,18 +1,17 @@
 -- What one move of the machine leads to, by its instruction, and what blocks it.
 use Prim.Native.Nat.{ℕ, suc, _+_, _≤_, _<_}
 use native.Mathlib.Omega.{arith}
-use mathlib.Core.Path.{_≡_, refl, sym, ap, _∙_, subst}
-use mathlib.Core.Logic.{_⊎_, inl, inr}
+use mathlib.Core.Path.{_≡_, refl, sym, ap, subst}
+use mathlib.Core.Logic.{inl}
 use mathlib.Core.Bool.{Bool, true, false, not}
 use mathlib.Core.List.{List, [], _∷_, _++_}
 use lib.ListN.{length, drop}
-use lib.Dec.{T, ltb, leb, eqb, eqb→eq, nltb→le, nleb→lt, leb→le}
-use lib.IntN.{ℤ}
+use lib.Dec.{T, ltb, leb, eqb, eqb→eq, nltb→le, nleb→lt}
 use Rattle.meaning.specs.Base.{In, all, isEmpty, keep, countFrom}
-use Rattle.meaning.specs.Grammar.{Grammar, Rule, terminal, nonterminal, productionAt}
+use Rattle.meaning.specs.Grammar.{Grammar, terminal, nonterminal, productionAt}
 use Rattle.meaning.specs.Value.{apply, holds, inRange}
 use Rattle.meaning.specs.Scheme.{Instruction, add, evaluate, expect, test, remove}
-use Rattle.meaning.specs.Machine.{Frame, Config, Lent, Look, token, over, Outcome, moved, blocked, chooseOutcome, counted, next, nextOf, move, readRegister, writeAll, movesLimit, onward, parentOnward, accept, predict, push, waits, needsLook, alternatives, entered, isOf, lookNumber, unexpected, schemeAt}
+use Rattle.meaning.specs.Machine.{Frame, Config, Lent, Look, token, over, Outcome, moved, blocked, chooseOutcome, counted, next, nextOf, move, readRegister, writeAll, movesLimit, onward, parentOnward, accept, predict, push, alternatives, entered, isOf, lookNumber, unexpected, schemeAt}
 use Rattle.meaning.specs.Part.{marks, frame, config}
 use Rattle.meaning.specs.Sets.{starts, has}
 use Rattle.theory_base.specs.Members.{both, in-keep, from-in}
@@ -58,6 +57,7 @@ at-hand g lent l c d h = go (c .frames) refl h
     at p fs (i ∷ is) e h =
         let u = counted-moved c d (move g lent l c (frame p (i ∷ is)) fs i) h in
         record { production = p; below = fs; instruction = i; rest = is; frames = e; limit = u .0; makes = u .1 }
+
     go : (fs : List Frame) → c .frames ≡ fs → nextOf g lent l c fs ≡ moved d → AtHand g lent l c d
     go [] e h = not-moved h
     go (f ∷ fs) e h = at (f .production) fs (f .rest) e h
@@ -84,7 +84,7 @@ pushed g lent n l c d (p ∷ ps) e h =
       listed = omega (arith, from-in 0 (length (g .productions)) p (b .1) .1);
       left = eqb→eq (productionAt g p .left) n (both (eqb (productionAt g p .left) n) (has (starts g (productionAt g p)) (lookNumber l)) (b .0) .0);
       fits = nltb→le (lent .maxPlaces) (suc (length (c .frames))) (u .0);
-      result = moved-is o d (u .1)
+      result = moved-is o d (u .1);
     }
 
 predicted : (g : Grammar) (lent : Lent) (n : ℕ) (l : Look) (c d : Config) → predict g lent c n l ≡ moved d → Predicted g lent n c d

@@ -1,13 +1,12 @@
 -- A table is turned back with one of 01's numbers 1 to 13 only.
 use Prim.Native.Nat.{ℕ, zero, suc, _+_, _-_, _*_}
-use native.Mathlib.Omega.{arith}
 use mathlib.Core.Path.{_≡_, refl, sym, subst}
 use mathlib.Core.Logic.{_⊎_, inl, inr}
 use mathlib.Core.Bool.{Bool, true, false, _&&_, not}
 use mathlib.Core.Option.{Option, none, some}
 use mathlib.Core.List.{List, [], _∷_}
 use lib.ListN.{getD, length, take, drop}
-use lib.Dec.{T, eqb, leb, eqb-refl}
+use lib.Dec.{T, eqb, leb}
 use Rattle.meaning.specs.Base.{all, countFrom}
 use Rattle.meaning.specs.Grammar.{Grammar, nonterminalCount}
 use Rattle.meaning.specs.Table.{State, Field, Read, wellFormed, malformed, Stage, atHeader, atCounts, atFirst, atAny, stage, kindOf, byte, current, lastComplete, tagStands, limitsHold, known, startRight, directionsRight, setOnce, leftToRight, boundsRight, lowestOf, judgeField, readField, atEnd, readAll, readTable, nothingRead, grammarOf}
@@ -42,6 +41,7 @@ field-number s f = go (tagStands (stage s) (f .tag))
         ∷ (leftToRight s (kindOf (f .tag)) (f .body), 9)
         ∷ (boundsRight s (kindOf (f .tag)) (f .body), 10)
         ∷ []
+
     go : (b : Bool) → (_≡_ {A = ℕ} (elim b [ false ↦ 3 | true ↦ lowestOf faults ]) 0) ⊎ T (isTableNumber (elim b [ false ↦ 3 | true ↦ lowestOf faults ]))
     go false = inr tt
     go true = lowest-number faults tt
@@ -50,11 +50,11 @@ end-number : (s : State) (o : ℕ) → Numbered (atEnd s o)
 end-number s o = go (stage s) (lastComplete s)
   where
     go : (x : Stage) (b : Bool) → Numbered (elim x [
-        atHeader ↦ malformed 3 o
+      | atHeader ↦ malformed 3 o
       | atCounts ↦ malformed 3 o
       | atFirst ↦ malformed 3 o
       | atAny ↦ elim b [ true ↦ wellFormed s | false ↦ malformed 8 (current s .offset) ]
-      ])
+    ])
     go atHeader b = tt
     go atCounts b = tt
     go atFirst b = tt
@@ -77,12 +77,16 @@ read-number (suc n) s o (t ∷ bs) = go (eqb t 3 && not (lastComplete s)) (leb 2
   where
     size : ℕ
     size = byte bs 0 * 256 + byte bs 1
+
     body : List ℕ
     body = take size (drop 2 bs)
+
     number : ℕ
     number = judgeField s (record { offset = o; tag = t; body = body })
+
     rest : Read
     rest = readAll n (readField s o (kindOf t) body) (o + 3 + size) (drop (2 + size) bs)
+
     go : (a b : Bool) → Numbered rest → Numbered (elim a [ true ↦ malformed 8 (current s .offset) | false ↦ elim b [ false ↦ malformed 2 o | true ↦ elim (eqb number 0) [ false ↦ malformed number o | true ↦ rest ] ] ])
     go true b r = tt
     go false false r = tt
@@ -106,16 +110,17 @@ judge-number s = go (firstWhere (λ n. not (getD (reachable g) n false && getD (
   where
     g : Grammar
     g = grammarOf s
+
     go : (a b c : Option ℕ) → Ruled (elim a [
-        some n ↦ rejected 11 (countsOffset s n)
+      | some n ↦ rejected 11 (countsOffset s n)
       | none ↦ elim b [
-          some n ↦ rejected 12 (countsOffset s n)
+        | some n ↦ rejected 12 (countsOffset s n)
         | none ↦ elim c [
-            some p ↦ rejected 13 (entryOffset s p)
+          | some p ↦ rejected 13 (entryOffset s p)
           | none ↦ accepted
-          ]
         ]
-      ])
+      ]
+    ])
     go (some n) b c = tt
     go none (some n) c = tt
     go none none (some p) = tt
@@ -131,6 +136,7 @@ check-number bs = go (readTable bs) (table-number bs)
     by : (s : State) (v : Verdict) → Ruled v → CheckedRight (checkedAs s v)
     by s accepted t = tt
     by s (rejected n o) t = t
+
     go : (x : Read) → Numbered x → CheckedRight (elim x [ malformed n o ↦ unusable n o | wellFormed s ↦ checkedAs s (judge s) ])
     go (malformed n o) t = t
     go (wellFormed s) t = by s (judge s) (judge-number s)
