@@ -8,3 +8,4 @@ pub mod Grow
 pub mod Present
 pub mod Frames
 pub mod Walks
+pub mod Counted
