@@ -1,4 +1,4 @@
--- What a move adds to a good part: the child's inherited values, the left side's synthesized values, the conditions tested.
+-- What a move adds to a good node: the child's inherited values, the left side's synthesized values, the conditions tested.
 use Prim.Native.Nat.{ℕ, suc, _+_, _-_, _≤_, _<_}
 use native.Mathlib.Omega.{arith}
 use mathlib.Core.Path.{_≡_, refl, sym, ap, _∙_, subst}
