@@ -127,8 +127,8 @@ module _ (g : Grammar) (p : Production) (vs : List ℤ) (f : Forest) (e : Evalua
     ranged = all-take inRange (inh g (symbolAt p 0)) vs (e .ranges);
     lefts = firsts-good g p f (e .children) k h;
     rules = λ r i l m.
-      let m′ : r .target .position ≤ k = omega (arith, length-firsts k f) in
-      other-row (inheritedIn g p vs) vs (firsts k f) (r .target .position) (r .target .attribute) l ∙ (row-same vs f k (r .target .position) (r .target .attribute) m′ ∙ sym (computes k r i (omega arith) (λ z. absurd (omega arith))))
+        let m′ : r .target .position ≤ k = omega (arith, length-firsts k f) in
+        other-row (inheritedIn g p vs) vs (firsts k f) (r .target .position) (r .target .attribute) l ∙ (row-same vs f k (r .target .position) (r .target .attribute) m′ ∙ sym (computes k r i (omega arith) (λ z. absurd (omega arith))));
   }
 
   pub tested : (k : ℕ) (c : Condition Occurrence) → In c (p .conditions) → conditionPosition c ≤ k → T (holds (valueIn (inheritedIn g p vs) (firsts k f)) c)
@@ -138,15 +138,17 @@ module _ (g : Grammar) (p : Production) (vs : List ℤ) (f : Forest) (e : Evalua
 
   pub handed : (k : ℕ) → k < length (p .right) → Handed g p (inheritedIn g p vs) (firsts k f) (symbolAt p (suc k)) (inheritedOf g (child f k))
   handed k h = record {
-      sized = length-inherited g (child f k) x w;
-      ranged = inherited-range g (child f k) x w;
-      rules = λ r i z. value r i (z ∙ ap suc (length-firsts k f))
-    }
+    sized = length-inherited g (child f k) x w;
+    ranged = inherited-range g (child f k) x w;
+    rules = λ r i z. value r i (z ∙ ap suc (length-firsts k f));
+  }
     where
       x : Symbol
       x = symbolAt p (suc k)
+
       w : WellEvaluated g (child f k) x
       w = child-evaluated g f (p .right) k (e .children) h
+
       value : (r : Rule Occurrence) → In r (p .rules) → r .target .position ≡ suc k → getD (inheritedOf g (child f k)) (r .target .attribute - 1) (pos 0) ≡ apply (valueIn (inheritedIn g p vs) (firsts k f)) (r .function)
       value r i at =
           let o : OutputAt g p (suc k) (r .target .attribute) = subst (λ j. OutputAt g p j (r .target .attribute)) at (can .targets r i) in
@@ -155,10 +157,10 @@ module _ (g : Grammar) (p : Production) (vs : List ℤ) (f : Forest) (e : Evalua
 
   pub results : Results g p (inheritedIn g p vs) (firsts (length (p .right)) f) (synthesizedIn g p vs)
   results = record {
-      sized = length-drop (inh g (symbolAt p 0)) vs ∙ omega (arith, e .size);
-      ranged = all-drop inRange (inh g (symbolAt p 0)) vs (e .ranges);
-      rules = λ r i at. ap (λ z. getD z (r .target .attribute - 1) (pos 0)) (take-append-drop (inh g (symbolAt p 0)) vs) ∙ (ap (λ j. valueAt vs f (occurrence j (r .target .attribute))) (sym at) ∙ sym (computes (length (p .right)) r i (omega arith) (λ z. omega arith)))
-    }
+    sized = length-drop (inh g (symbolAt p 0)) vs ∙ omega (arith, e .size);
+    ranged = all-drop inRange (inh g (symbolAt p 0)) vs (e .ranges);
+    rules = λ r i at. ap (λ z. getD z (r .target .attribute - 1) (pos 0)) (take-append-drop (inh g (symbolAt p 0)) vs) ∙ (ap (λ j. valueAt vs f (occurrence j (r .target .attribute))) (sym at) ∙ sym (computes (length (p .right)) r i (omega arith) (λ z. omega arith)));
+  }
 
 -- ---- its registers
 

@@ -24,7 +24,7 @@ use Rattle.theory_sound.specs.Answers.{finish-sound, not-value}
 use Rattle.theory_sound.specs.ValueSound.{moves-only}
 use Rattle.theory_demands.specs.ByGrammar.{performs-is, by-grammar}
 use Rattle.meaning.specs.Calls as Calls
-use Rattle.meaning.specs.Demands as Counted
+use Rattle.theory_base.specs.Counted as Counted
 use Rattle.theory_demands.specs.Proved as Proved
 
 -- ---- the walk counted and the walk as a sequence
@@ -73,7 +73,6 @@ closed-no g r m called v n e h = go (r .isOpen) e h
 
 was-opened : {g : Grammar} {m₀ : Stacks} {ts : List ℕ} {b : Bool} {r : Record} {m : Stacks} → Counted.History g m₀ ts b r m → openOf g m₀ .answer ≡ Calls.more 0
 was-opened (Counted.opened e) = e
-was-opened (Counted.countsForNothing bs area c n o h p) = was-opened h
 was-opened (Counted.fed us h) = was-opened h
 was-opened (Counted.finished h) = was-opened h
 
