@@ -1,3 +1,4 @@
 pub mod Stands
 pub mod Code
 pub mod Addresses
+pub mod RuleCounts
