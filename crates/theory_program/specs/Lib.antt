@@ -2,3 +2,4 @@ pub mod Stands
 pub mod Code
 pub mod Addresses
 pub mod RuleCounts
+pub mod Proper
