@@ -4,3 +4,4 @@ pub mod Addresses
 pub mod RuleCounts
 pub mod Proper
 pub mod Unpacked
+pub mod SetWords
