@@ -5,3 +5,4 @@ pub mod RuleCounts
 pub mod Proper
 pub mod Unpacked
 pub mod SetWords
+pub mod Search
