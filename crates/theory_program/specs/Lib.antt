@@ -6,3 +6,4 @@ pub mod Proper
 pub mod Unpacked
 pub mod SetWords
 pub mod Search
+pub mod Sizes
