@@ -7,3 +7,4 @@ pub mod Unpacked
 pub mod SetWords
 pub mod Search
 pub mod Sizes
+pub mod SmallWords

@@ -111,7 +111,7 @@ keep-few f (x ∷ xs) = go (f x) (keep-few f xs)
 pub production-in : (g : Grammar) → WellFormed g → (p : ℕ) → p < length (g .productions) → In (productionAt g p) (g .productions)
 production-in g w p l = subst (λ q. In q (g .productions)) (sym (production-is g w p l)) (getD-in (g .productions) p (wholeProduction g) l)
 
-some-present : {A : Type 0} (xs : List A) → T (not (isEmpty xs)) → 1 ≤ length xs
+pub some-present : {A : Type 0} (xs : List A) → T (not (isEmpty xs)) → 1 ≤ length xs
 some-present [] t = absurd t
 some-present (x ∷ xs) t = omega arith
 

@@ -6,7 +6,7 @@ use mathlib.Core.Logic.{_⊎_, inl, inr}
 use mathlib.Core.Bool.{Bool, true, false, not}
 use mathlib.Core.List.{List, [], _∷_, _++_, map}
 use lib.ListN.{length, length-append, length-map}
-use lib.Dec.{T, eqb, ltb, leb, leb→le, le→leb, eqb→eq, T-not, nleb→lt}
+use lib.Dec.{T, eqb, ltb, leb, leb→le, le→leb, eqb→eq}
 use Rattle.meaning.specs.Base.{In, keep, consIf, total, isEmpty}
 use Rattle.meaning.specs.Grammar.{Symbol, Occurrence, Rule, Condition, Production, Grammar, att, nonterminalCount, conditionPosition}
 use Rattle.meaning.specs.Rules.{WellFormedProduction, WellFormed}
@@ -14,7 +14,7 @@ use Rattle.meaning.specs.Scheme.{Instruction, add, evaluate, expect, test, remo
 use Rattle.meaning.specs.Program.{concat, ruleWords, conditionWords, instructionWords, schemeWords, bodySize, recordsFrom, bodiesFrom, directory, bodiesAddress, segmentWords, programOf}
 use Rattle.theory_program.specs.Code.{rules-length, conditions-length}
 use Rattle.theory_program.specs.Addresses.{directory-length, records-length, bodies-length}
-use Rattle.theory_program.specs.Proper.{keep-few}
+use Rattle.theory_program.specs.Proper.{keep-few, some-present}
 
 -- ---- items by their position
 
@@ -46,15 +46,11 @@ words-if : (b : Bool) (i : Instruction) (is : List Instruction) (m : ℕ) → (T
 words-if true i is m h = omega (arith, length-append (instructionWords i) (schemeWords is), h tt)
 words-if false i is m h = omega arith
 
-some-rule : {A : Type 0} (xs : List A) → T (not (isEmpty xs)) → 1 ≤ length xs
-some-rule [] t = absurd t
-some-rule (x ∷ xs) t = omega arith
-
 evaluate-words : (rs : List (Rule ℕ)) → T (not (isEmpty rs)) → length (instructionWords (evaluate rs)) ≤ 3 * length rs
-evaluate-words rs t = omega (arith, rules-length rs, some-rule rs t)
+evaluate-words rs t = omega (arith, rules-length rs, some-present rs t)
 
 test-words : (cs : List (Condition ℕ)) → T (not (isEmpty cs)) → length (instructionWords (test cs)) ≤ 4 * length cs
-test-words cs t = omega (arith, conditions-length cs, some-rule cs t)
+test-words cs t = omega (arith, conditions-length cs, some-present cs t)
 
 module _ (g : Grammar) (p : Production) where
   -- how many rules and conditions the positions from k on have
