@@ -153,10 +153,7 @@ module _ {g : Grammar} {ws : List ℕ} (s : Begins g ws) where
       ∙ (stands-word here (64 * n + u) (omega (arith, directory-length g))
       ∙ (row-at (directoryWord g) 64 0 (nonterminalCount g) n u l m ∙ ap (λ k. directoryWord g k u) (omega arith)))
 
-  pub segment-word : (j : ℕ) → j < 8 → getD ws j 0 ≡ getD (segmentWords g) j 0
-  segment-word j l = ap (λ a. getD ws a 0) (omega arith) ∙ stands-word segment-at j l
-
-  -- the whole segment's scheme; word 1 says that nothing is left
+  -- the whole segment's scheme
   pub whole-at : CodeAt ws 0 (schemeAt g whole)
   whole-at = record { words = stands-left (symbolHead (nonterminal (g .start)) ∷ []) (drop 1 (segmentWords g)) segment-at }
 
@@ -165,9 +162,6 @@ module _ {g : Grammar} {ws : List ℕ} (s : Begins g ws) where
     record-at =
         let here = record-in g (bodiesAddress g) 0 (g .productions) p (wholeProduction g) (bodyAddress g p) p l refl (omega arith) in
         subst (λ q. Stands ws (recordAddress g p) (recordWords g (bodyAddress g p) p q (drop (suc p) (g .productions)))) (sym (production-is g w p l)) (stands-in (stands-left records bodies behind-directory) here)
-
-    pub record-word : (j : ℕ) → j < 8 → getD ws (recordAddress g p + j) 0 ≡ getD (recordWords g (bodyAddress g p) p (productionAt g p) (drop (suc p) (g .productions))) j 0
-    record-word j m = stands-word record-at j m
 
     pub body-at : Stands ws (bodyAddress g p) (bodyWords g (bodyAddress g p) (productionAt g p))
     body-at =

@@ -6,5 +6,6 @@ pub mod Proper
 pub mod Unpacked
 pub mod SetWords
 pub mod Search
+pub mod Records
 pub mod Sizes
 pub mod SmallWords
