@@ -7,5 +7,6 @@ pub mod Unpacked
 pub mod SetWords
 pub mod Search
 pub mod Records
+pub mod Resuming
 pub mod Sizes
 pub mod SmallWords

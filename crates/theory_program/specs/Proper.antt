@@ -43,6 +43,9 @@ ProperInstruction g (expect x) = Known g x
 ProperInstruction g (test cs) = (1 ≤ length cs) × (length cs ≤ 512) × ((c : Condition ℕ) → In c cs → ProperCondition c)
 ProperInstruction g (remove n) = n ≤ 104
 
+abbrev pub AllProper : Grammar → List Instruction → Type 0
+AllProper g is = (i : Instruction) → In i is → ProperInstruction g i
+
 -- ---- operands under a map
 
 operands-map : {O : Type 0} (P : O → Type 0) (Q : ℕ → Type 0) (s : O → ℕ) → ((o : O) → P o → Q (s o)) → (f : Function O) → Operands P f → Operands Q (mapFunction s f)
@@ -235,16 +238,13 @@ module _ (g : Grammar) (w : WellFormed g) (p : Production) (listed : In p (g .pr
   formed : WellFormedProduction g p
   formed = w .each p listed
 
-  abbrev AllProper : List Instruction → Type 0
-  AllProper is = (i : Instruction) → In i is → ProperInstruction g i
-
   conditions-most : length (p .conditions) ≤ 512
   conditions-most = omega (arith, in-total (λ q. length (q .conditions)) (g .productions) p listed, w .conditions)
 
   evaluate-proper : (rs : List (Rule ℕ)) → length rs ≤ 8 → ((r : Rule ℕ) → In r rs → ProperRule r) → T (not (isEmpty rs)) → ProperInstruction g (evaluate rs)
   evaluate-proper rs m h t = (some-present rs t, m, h)
 
-  symbol-proper : (k : ℕ) (x : Symbol) (rest : List Instruction) → Known g x → AllProper rest → AllProper (symbolScheme g p (suc k) x rest)
+  symbol-proper : (k : ℕ) (x : Symbol) (rest : List Instruction) → Known g x → AllProper g rest → AllProper g (symbolScheme g p (suc k) x rest)
   symbol-proper k x rest known h =
       let rules = inheritedRules g p (suc k) in
       let tests = testsAfter g p (suc k) in
@@ -254,11 +254,11 @@ module _ (g : Grammar) (w : WellFormed g) (p : Production) (listed : In p (g .pr
       let onEvaluate = in-if (ProperInstruction g) (not (isEmpty rules)) (evaluate rules) (expect x ∷ behind) (evaluate-proper rules (inherited-most g w p formed k) (inherited-proper g w p formed k)) onExpect in
       in-if (ProperInstruction g) (ltb 0 (att g x)) (add (att g x)) (consIf (not (isEmpty rules)) (evaluate rules) (expect x ∷ behind)) (λ t. (ltb→lt 0 (att g x) t, att-most g w x)) onEvaluate
 
-  symbols-proper : (k : ℕ) (xs : List Symbol) (rest : List Instruction) → ((x : Symbol) → In x xs → Known g x) → AllProper rest → AllProper (symbolsScheme g p (suc k) xs rest)
+  symbols-proper : (k : ℕ) (xs : List Symbol) (rest : List Instruction) → ((x : Symbol) → In x xs → Known g x) → AllProper g rest → AllProper g (symbolsScheme g p (suc k) xs rest)
   symbols-proper k [] rest known h = h
   symbols-proper k (x ∷ xs) rest known h = symbol-proper k x (symbolsScheme g p (suc (suc k)) xs rest) (known x (inl refl)) (symbols-proper (suc k) xs rest (λ y i. known y (inr i)) h)
 
-  pub scheme-proper : (i : Instruction) → In i (scheme g p) → ProperInstruction g i
+  pub scheme-proper : AllProper g (scheme g p)
   scheme-proper =
       let rules = synthesizedRules g p in
       let tail = remove (removed g p) ∷ [] in
