@@ -45,8 +45,11 @@ expectAddress g p k = getD (expectsAt (schemeAddress g p) (scheme g (productionA
 
 -- ---- a production by its number
 
+pub not-whole : (g : Grammar) → WellFormed g → (p : ℕ) → p < length (g .productions) → eqb p whole ≡ false
+not-whole g w p l = differ-false p whole (λ e. let m = w .productions .1 in omega arith)
+
 pub production-is : (g : Grammar) → WellFormed g → (p : ℕ) → p < length (g .productions) → productionAt g p ≡ getD (g .productions) p (wholeProduction g)
-production-is g w p l = ap (λ b. pickProduction b (wholeProduction g) (getD (g .productions) p (wholeProduction g))) (differ-false p whole (λ e. let m = w .productions .1 in omega arith))
+production-is g w p l = ap (λ b. pickProduction b (wholeProduction g) (getD (g .productions) p (wholeProduction g))) (not-whole g w p l)
 
 -- ---- lengths
 

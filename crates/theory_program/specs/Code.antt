@@ -2,8 +2,10 @@
 use Prim.Native.Nat.{ℕ, zero, suc, _+_, _*_, _/_, _%_, _≤_, _<_}
 use native.Mathlib.Omega.{arith}
 use mathlib.Core.Path.{_≡_, refl, sym, ap, _∙_, subst}
+use mathlib.Core.Logic.{_⊎_, inl, inr}
 use mathlib.Core.List.{List, [], _∷_, _++_, map, append-assoc}
 use lib.ListN.{length, getD, length-append}
+use Rattle.meaning.specs.Base.{In}
 use Rattle.meaning.specs.Grammar.{Symbol, terminal, nonterminal, Function, const, copy, sum, diff, prod, maxi, mini, addc, quot, Rule, Condition, range, atmost}
 use Rattle.meaning.specs.Scheme.{Instruction, add, evaluate, expect, test, remove}
 use Rattle.meaning.specs.Machine.{expects}
@@ -153,6 +155,16 @@ expects-length a (add n ∷ is) = omega (arith, expects-length (a + length (inst
 expects-length a (evaluate rs ∷ is) = omega (arith, expects-length (a + length (instructionWords (evaluate rs))) is)
 expects-length a (test cs ∷ is) = omega (arith, expects-length (a + length (instructionWords (test cs))) is)
 expects-length a (remove n ∷ is) = omega (arith, expects-length (a + length (instructionWords (remove n))) is)
+
+-- an expect stands in its scheme
+pub expects-below : (a : ℕ) (is : List Instruction) (v : ℕ) → In v (expectsAt a is) → v < a + length (schemeWords is)
+expects-below a [] v i = absurd i
+expects-below a (expect x ∷ is) v (inl e) = omega arith
+expects-below a (expect x ∷ is) v (inr i) = omega (arith, expects-below (suc a) is v i)
+expects-below a (add n ∷ is) v i = omega (arith, expects-below (a + length (instructionWords (add n))) is v i)
+expects-below a (evaluate rs ∷ is) v i = omega (arith, expects-below (a + length (instructionWords (evaluate rs))) is v i, length-append (instructionWords (evaluate rs)) (schemeWords is))
+expects-below a (test cs ∷ is) v i = omega (arith, expects-below (a + length (instructionWords (test cs))) is v i, length-append (instructionWords (test cs)) (schemeWords is))
+expects-below a (remove n ∷ is) v i = omega (arith, expects-below (a + length (instructionWords (remove n))) is v i)
 
 -- the code from the expect of a symbol on
 pub code-from : {ws : List ℕ} (a : ℕ) (is : List Instruction) (k : ℕ) → k < expects is → CodeAt ws a is → CodeAt ws (getD (expectsAt a is) k 0) (fromExpect is k)

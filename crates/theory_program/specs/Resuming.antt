@@ -1,5 +1,5 @@
 -- A place, and the code from which its production goes on.
-use Prim.Native.Nat.{ℕ, zero, suc, _+_, _/_, _%_, _≤_, _<_}
+use Prim.Native.Nat.{ℕ, zero, suc, _/_, _%_, _<_}
 use native.Mathlib.Omega.{arith}
 use mathlib.Core.Path.{_≡_, refl, sym, ap, _∙_, subst}
 use mathlib.Core.Logic.{_⊎_, inl, inr}
@@ -14,13 +14,9 @@ use Rattle.meaning.specs.Scheme.{Instruction, add, evaluate, expect, test, remo
 use Rattle.meaning.specs.Machine.{schemeIf, schemeAt}
 use Rattle.meaning.specs.Calls.{fromExpect, frameOf, isListed, placeWaits}
 use Rattle.theory_sets.specs.Tests.{and-left, and-right, or-cases}
-use Rattle.theory_sound.specs.Members.{differ-false}
 use Rattle.theory_program.specs.Code.{CodeAt}
-use Rattle.theory_program.specs.Addresses.{Begins, expectAddress, whole-at, expect-at}
+use Rattle.theory_program.specs.Addresses.{Begins, expectAddress, not-whole, whole-at, expect-at}
 use Rattle.theory_program.specs.Proper.{ProperInstruction, AllProper, production-in, scheme-proper}
-
-pub not-whole : (g : Grammar) → WellFormed g → (p : ℕ) → p < length (g .productions) → eqb p whole ≡ false
-not-whole g w p l = differ-false p whole (λ e. let m = w .productions .1 in omega arith)
 
 pub scheme-listed : (g : Grammar) → WellFormed g → (p : ℕ) → p < length (g .productions) → schemeAt g p ≡ scheme g (productionAt g p)
 scheme-listed g w p l = ap (λ b. schemeIf b g (productionAt g p)) (not-whole g w p l)

@@ -8,12 +8,14 @@ use mathlib.Core.List.{List, [], _∷_, _++_, map}
 use lib.ListN.{length, length-append, length-map}
 use lib.Dec.{T, eqb, ltb, leb, leb→le, le→leb, eqb→eq}
 use Rattle.meaning.specs.Base.{In, keep, consIf, total, isEmpty}
-use Rattle.meaning.specs.Grammar.{Symbol, Occurrence, Rule, Condition, Production, Grammar, att, nonterminalCount, conditionPosition}
+use Rattle.meaning.specs.Grammar.{Symbol, Occurrence, Rule, Condition, Production, Grammar, att, nonterminalCount, productionAt, conditionPosition}
 use Rattle.meaning.specs.Rules.{WellFormedProduction, WellFormed}
 use Rattle.meaning.specs.Scheme.{Instruction, add, evaluate, expect, test, remove, mapRule, mapCondition, selectInherited, selectAfter, rulesFor, conditionsAt, entryTests, testsAfter, inheritedRules, synthesizedRules, removed, symbolScheme, symbolsScheme, scheme}
-use Rattle.meaning.specs.Program.{concat, ruleWords, conditionWords, instructionWords, schemeWords, bodySize, recordsFrom, bodiesFrom, directory, bodiesAddress, segmentWords, programOf}
-use Rattle.theory_program.specs.Code.{rules-length, conditions-length}
-use Rattle.theory_program.specs.Addresses.{directory-length, records-length, bodies-length}
+use Rattle.meaning.specs.Program.{concat, ruleWords, conditionWords, instructionWords, schemeWords, expectsAt, bodySize, recordsFrom, bodiesFrom, directory, bodiesAddress, segmentWords, programOf}
+use Rattle.theory_table.specs.Members.{getD-in}
+use Rattle.theory_program.specs.Stands.{stands-whole, stands-within}
+use Rattle.theory_program.specs.Code.{rules-length, conditions-length, expects-length, expects-below}
+use Rattle.theory_program.specs.Addresses.{bodyAddress, schemeAddress, expectAddress, Begins, body-at, body-length, expects-scheme, directory-length, records-length, bodies-length}
 use Rattle.theory_program.specs.Proper.{keep-few, some-present}
 
 -- ---- items by their position
@@ -104,3 +106,19 @@ program-most g w =
 -- the shortest area that a call takes is long enough
 pub program-fits : (g : Grammar) → WellFormed g → length (programOf g) ≤ 16384
 program-fits g w = omega (arith, program-most g w)
+
+-- ---- every address is in the program
+
+module _ (g : Grammar) (w : WellFormed g) (p : ℕ) (l : p < length (g .productions)) where
+  abbrev itself : Begins g (programOf g)
+  itself = record { words = stands-whole (programOf g) }
+
+  pub body-within : bodyAddress g p + bodySize g (productionAt g p) ≤ length (programOf g)
+  body-within = omega (arith, stands-within (body-at itself w p l), body-length g (bodyAddress g p) (productionAt g p))
+
+  pub expect-within : (k : ℕ) → k < length (productionAt g p .right) → expectAddress g p k < length (programOf g)
+  expect-within k m =
+      let s = scheme g (productionAt g p) in
+      let es = expectsAt (schemeAddress g p) s in
+      let long : length es ≡ length (productionAt g p .right) = expects-length (schemeAddress g p) s ∙ expects-scheme g (productionAt g p) in
+      omega (arith, expects-below (schemeAddress g p) s (expectAddress g p k) (getD-in es k 0 (omega (arith, long))), body-within)

@@ -15,6 +15,7 @@ use Rattle.meaning.specs.Sets.{has, starts}
 use Rattle.meaning.specs.Program.{concat, packed, functionWords, ruleWords, conditionWords, symbolHead, instructionWords, schemeWords, expectsAt, entryWords, schemeOffset, bodyWords, bodySize, bodiesFrom, firstOf, recordWords, recordsFrom, directoryWord, directory, recordsAddress, bodiesAddress, segmentWords, programOf}
 use Rattle.theory_table.specs.Numbers.{unsigned-small, divisor-in}
 use Rattle.theory_table.specs.Members.{map-in}
+use Rattle.theory_program.specs.Code.{expects-below}
 use Rattle.theory_program.specs.Proper.{Selector, ProperRule, ProperCondition, ProperInstruction, att-most, scheme-proper, entry-proper, entry-most}
 use Rattle.theory_program.specs.SetWords.{bits-small}
 use Rattle.theory_program.specs.Sizes.{program-length, program-most}
@@ -87,16 +88,6 @@ instruction-small g w (evaluate rs) p = small-cons (1 + 8 * length rs) (concat (
 instruction-small g w (expect x) p = small-cons (symbolHead x) [] (symbol-small g w x p) small-nil
 instruction-small g w (test cs) p = small-cons (4 + 8 * length cs) (concat (map conditionWords cs)) (omega (arith, p .1)) (small-concat conditionWords cs (λ c i. condition-small c (p .2 c i)))
 instruction-small g w (remove n) p = small-cons (5 + 8 * n) [] (omega arith) small-nil
-
--- an expect stands in its scheme
-pub expects-below : (a : ℕ) (is : List Instruction) (v : ℕ) → In v (expectsAt a is) → v < a + length (schemeWords is)
-expects-below a [] v i = absurd i
-expects-below a (expect x ∷ is) v (inl e) = omega arith
-expects-below a (expect x ∷ is) v (inr i) = omega (arith, expects-below (suc a) is v i)
-expects-below a (add n ∷ is) v i = omega (arith, expects-below (a + length (instructionWords (add n))) is v i)
-expects-below a (evaluate rs ∷ is) v i = omega (arith, expects-below (a + length (instructionWords (evaluate rs))) is v i, length-append (instructionWords (evaluate rs)) (schemeWords is))
-expects-below a (test cs ∷ is) v i = omega (arith, expects-below (a + length (instructionWords (test cs))) is v i, length-append (instructionWords (test cs)) (schemeWords is))
-expects-below a (remove n ∷ is) v i = omega (arith, expects-below (a + length (instructionWords (remove n))) is v i)
 
 first-below : (f : Production → Bool) (i : ℕ) (ps : List Production) → firstOf f i ps ≤ i + length ps
 first-below f i [] = omega arith
