@@ -10,3 +10,4 @@ pub mod Records
 pub mod Resuming
 pub mod Sizes
 pub mod SmallWords
+pub mod AddressRows
