@@ -1,5 +1,4 @@
 -- Addresses, words taken apart and searches in the program of 01's grammar of words and tags.
-use Prim.Native.Nat.{ℕ}
 use mathlib.Core.Path.{_≡_, refl}
 use mathlib.Core.List.{[], _∷_}
 use lib.IntN.{pos, negsuc}

@@ -1,16 +1,16 @@
 -- Where everything stands in a list that begins with the program: the words on the whole segment, the directory, the records, the bodies.
-use Prim.Native.Nat.{ℕ, zero, suc, _+_, _-_, _*_, _≤_, _<_}
+use Prim.Native.Nat.{ℕ, zero, suc, _+_, _-_, _*_, _<_}
 use native.Mathlib.Omega.{arith}
 use mathlib.Core.Path.{_≡_, refl, sym, ap, _∙_, subst}
-use mathlib.Core.Bool.{Bool, true, false, not}
+use mathlib.Core.Bool.{false, not}
 use mathlib.Core.List.{List, [], _∷_, _++_, map}
 use lib.ListN.{length, getD, take, drop, length-append, length-map, List·getD-append}
 use lib.Seq.{getD-append-add}
 use lib.Dec.{eqb}
 use Rattle.meaning.specs.Base.{countFrom, total, isEmpty}
-use Rattle.meaning.specs.Grammar.{Symbol, nonterminal, Production, Grammar, nonterminalCount, productionAt, pickProduction, whole, wholeProduction}
+use Rattle.meaning.specs.Grammar.{nonterminal, Production, Grammar, nonterminalCount, productionAt, pickProduction, whole, wholeProduction}
 use Rattle.meaning.specs.Rules.{WellFormed}
-use Rattle.meaning.specs.Scheme.{Instruction, evaluate, expect, remove, removed, scheme, entryTests, synthesizedRules}
+use Rattle.meaning.specs.Scheme.{evaluate, remove, removed, scheme, entryTests, synthesizedRules}
 use Rattle.meaning.specs.Machine.{expects, schemeAt}
 use Rattle.meaning.specs.Calls.{fromExpect}
 use Rattle.meaning.specs.PublicCalls.{written}

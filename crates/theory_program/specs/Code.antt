@@ -1,16 +1,16 @@
 -- Instructions, rules and conditions as words that stand in a list: what the first word says, and where the others stand.
-use Prim.Native.Nat.{ℕ, zero, suc, _+_, _*_, _/_, _%_, _≤_, _<_}
+use Prim.Native.Nat.{ℕ, zero, suc, _+_, _*_, _/_, _%_, _<_}
 use native.Mathlib.Omega.{arith}
-use mathlib.Core.Path.{_≡_, refl, sym, ap, _∙_, subst}
-use mathlib.Core.Logic.{_⊎_, inl, inr}
-use mathlib.Core.List.{List, [], _∷_, _++_, map, append-assoc}
+use mathlib.Core.Path.{_≡_, refl, ap, _∙_}
+use mathlib.Core.Logic.{inl, inr}
+use mathlib.Core.List.{List, [], _∷_, map}
 use lib.ListN.{length, getD, length-append}
 use Rattle.meaning.specs.Base.{In}
 use Rattle.meaning.specs.Grammar.{Symbol, terminal, nonterminal, Function, const, copy, sum, diff, prod, maxi, mini, addc, quot, Rule, Condition, range, atmost}
 use Rattle.meaning.specs.Scheme.{Instruction, add, evaluate, expect, test, remove}
 use Rattle.meaning.specs.Machine.{expects}
 use Rattle.meaning.specs.Calls.{fromExpect}
-use Rattle.meaning.specs.Program.{concat, packed, functionWords, ruleWords, conditionWords, symbolHead, instructionWords, schemeWords, expectsAt}
+use Rattle.meaning.specs.Program.{concat, functionWords, ruleWords, conditionWords, symbolHead, instructionWords, schemeWords, expectsAt}
 use Rattle.theory_program.specs.Stands.{Stands, stands-at, stands-left, stands-right, stands-tail, stands-word, stands-head}
 
 pub record RulesAt (ws : List ℕ) (a : ℕ) (rs : List (Rule ℕ)) : Type 0 where

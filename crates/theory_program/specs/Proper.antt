@@ -2,12 +2,11 @@
 use Prim.Native.Nat.{ℕ, zero, suc, _+_, _-_, _*_, _≤_, _<_}
 use native.Mathlib.Omega.{arith}
 use native.Mathlib.Decide.{decLt}
-use mathlib.Core.Path.{_≡_, refl, sym, ap, _∙_, subst}
-use mathlib.Core.Logic.{_⊎_, inl, inr}
+use mathlib.Core.Path.{_≡_, refl, sym, ap, subst}
+use mathlib.Core.Logic.{inl, inr}
 use mathlib.Core.Bool.{Bool, true, false, not}
 use mathlib.Core.List.{List, [], _∷_, map}
 use lib.ListN.{length, getD, take, drop, length-map, length-take, length-drop, List·getD-eq-default}
-use lib.Seq.{drop-cons}
 use lib.Dec.{T, eqb, ltb, ltb→lt, eqb→eq}
 use Rattle.meaning.specs.Base.{In, keep, consIf, total, isEmpty}
 use Rattle.meaning.specs.Grammar.{Symbol, terminal, nonterminal, Occurrence, Function, const, copy, sum, diff, prod, maxi, mini, addc, quot, Rule, Condition, range, atmost, Production, Grammar, noCounts, inh, syn, att, symbolAt, productionAt, wholeProduction, conditionPosition}
@@ -180,10 +179,10 @@ module _ (g : Grammar) (w : WellFormed g) (p : Production) (f : WellFormedProduc
   module _ (k : ℕ) (s : Occurrence → ℕ) (target : (o : Occurrence) → o .position ≡ k → Output g p o → Selector (s o)) (operand : (o : Occurrence) → Operand g p k o → Selector (s o)) where
     rule-proper : (q : Rule Occurrence) → q .target .position ≡ k → In q (p .rules) → ProperRule (mapRule s q)
     rule-proper q e i = record {
-        target = target (q .target) e (f .targets q i);
-        operands = operands-map (Operand g p k) Selector s operand (q .function) (subst (λ n. Operands (Operand g p n) (q .function)) e (f .operands q i));
-        constant = constant-map s (q .function) (f .constants q i)
-      }
+      target = target (q .target) e (f .targets q i);
+      operands = operands-map (Operand g p k) Selector s operand (q .function) (subst (λ n. Operands (Operand g p n) (q .function)) e (f .operands q i));
+      constant = constant-map s (q .function) (f .constants q i);
+    }
 
     rules-proper : (r : Rule ℕ) → In r (map (mapRule s) (rulesFor p k)) → ProperRule r
     rules-proper r i =

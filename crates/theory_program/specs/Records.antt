@@ -1,10 +1,10 @@
 -- The words on the whole segment and those of a production's record, one by one.
-use Prim.Native.Nat.{ℕ, zero, suc, _+_, _*_, _/_, _%_, _^_, _≤_, _<_}
+use Prim.Native.Nat.{ℕ, _+_, _*_, _/_, _%_, _^_, _<_}
 use native.Mathlib.Omega.{arith}
 use native.Mathlib.Decide.{decLt}
-use mathlib.Core.Path.{_≡_, refl, sym, ap, _∙_, subst}
+use mathlib.Core.Path.{_≡_, sym, ap, _∙_, subst}
 use mathlib.Core.Logic.{_↔_}
-use mathlib.Core.List.{List, [], _∷_}
+use mathlib.Core.List.{List}
 use lib.ListN.{length, getD}
 use lib.Dec.{T}
 use Rattle.meaning.specs.Grammar.{Grammar, nonterminal, syn, productionAt}
@@ -37,7 +37,7 @@ segment-words {g} {ws} b =
       terminals = stands-word s 3 (omega arith);
       registers = stands-word s 4 (omega arith);
       result = stands-word s 5 (omega arith);
-      productions = stands-word s 6 (omega arith)
+      productions = stands-word s 6 (omega arith);
     }
 
 -- where place u of a set is: in the first word or in the second
@@ -73,7 +73,7 @@ module _ {g : Grammar} {ws : List ℕ} (b : Begins g ws) (w : WellFormed g) (p :
         body = stands-word s 4 (omega arith);
         tests = stands-word s 5 (omega arith);
         scheme = stands-word s 6 (omega arith);
-        symbols = stands-word s 7 (omega arith)
+        symbols = stands-word s 7 (omega arith);
       }
 
   -- what comes next is in the set where its bit is set in the word that has it

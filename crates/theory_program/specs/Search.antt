@@ -3,7 +3,7 @@ use Prim.Native.Nat.{ℕ, zero, suc, _+_, _-_, _≤_, _<_}
 use native.Mathlib.Omega.{arith}
 use mathlib.Core.Path.{_≡_, refl, sym, ap, _∙_, subst}
 use mathlib.Core.Logic.{_↔_}
-use mathlib.Core.Bool.{Bool, true, false, _&&_, not}
+use mathlib.Core.Bool.{Bool, true, false, _&&_}
 use mathlib.Core.List.{List, [], _∷_}
 use lib.ListN.{length, getD, drop, length-drop}
 use lib.Seq.{getD-drop}
@@ -16,7 +16,7 @@ use Rattle.meaning.specs.Scheme.{choose}
 use Rattle.meaning.specs.Sets.{has, starts}
 use Rattle.meaning.specs.Machine.{Look, lookNumber, isOf, alternatives, entered}
 use Rattle.meaning.specs.Program.{firstOf, directoryWord}
-use Rattle.theory_sets.specs.Tests.{T→true, and-intro, and-left, and-right}
+use Rattle.theory_sets.specs.Tests.{T→true, and-left, and-right}
 use Rattle.theory_sets.specs.Alternatives.{keep-keep}
 use Rattle.theory_program.specs.Addresses.{production-is}
 

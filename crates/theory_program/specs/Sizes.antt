@@ -1,17 +1,17 @@
 -- How long the program of a well-formed grammar gets.
-use Prim.Native.Nat.{ℕ, zero, suc, _+_, _*_, _≤_, _<_}
+use Prim.Native.Nat.{ℕ, suc, _+_, _*_, _≤_, _<_}
 use native.Mathlib.Omega.{arith}
-use mathlib.Core.Path.{_≡_, refl, sym, ap, _∙_}
-use mathlib.Core.Logic.{_⊎_, inl, inr}
+use mathlib.Core.Path.{_≡_, refl, _∙_}
+use mathlib.Core.Logic.{inl, inr}
 use mathlib.Core.Bool.{Bool, true, false, not}
 use mathlib.Core.List.{List, [], _∷_, _++_, map}
 use lib.ListN.{length, length-append, length-map}
 use lib.Dec.{T, eqb, ltb, leb, leb→le, le→leb, eqb→eq}
 use Rattle.meaning.specs.Base.{In, keep, consIf, total, isEmpty}
-use Rattle.meaning.specs.Grammar.{Symbol, Occurrence, Rule, Condition, Production, Grammar, att, nonterminalCount, productionAt, conditionPosition}
-use Rattle.meaning.specs.Rules.{WellFormedProduction, WellFormed}
+use Rattle.meaning.specs.Grammar.{Symbol, Occurrence, Rule, Condition, Production, Grammar, att, productionAt, conditionPosition}
+use Rattle.meaning.specs.Rules.{WellFormed}
 use Rattle.meaning.specs.Scheme.{Instruction, add, evaluate, expect, test, remove, mapRule, mapCondition, selectInherited, selectAfter, rulesFor, conditionsAt, entryTests, testsAfter, inheritedRules, synthesizedRules, removed, symbolScheme, symbolsScheme, scheme}
-use Rattle.meaning.specs.Program.{concat, ruleWords, conditionWords, instructionWords, schemeWords, expectsAt, bodySize, recordsFrom, bodiesFrom, directory, bodiesAddress, segmentWords, programOf}
+use Rattle.meaning.specs.Program.{instructionWords, schemeWords, expectsAt, bodySize, recordsFrom, bodiesFrom, directory, bodiesAddress, segmentWords, programOf}
 use Rattle.theory_table.specs.Members.{getD-in}
 use Rattle.theory_program.specs.Stands.{stands-whole, stands-within}
 use Rattle.theory_program.specs.Code.{rules-length, conditions-length, expects-length, expects-below}
@@ -83,9 +83,18 @@ module _ (g : Grammar) (p : Production) where
       let tail = remove (removed g p) ∷ [] in
       let onRules = words-if (not (isEmpty rules)) (evaluate rules) tail (3 * length rules) (evaluate-words rules) in
       let onSymbols = symbols-words 1 (p .right) (consIf (not (isEmpty rules)) (evaluate rules) tail) in
-      omega (arith, onRules, onSymbols, conditions-length (entryTests g p), length-map (rulesFor p 0) (mapRule (selectAfter g p (length (p .right)))), length-map (conditionsAt p 0) (mapCondition (selectAfter g p 0))
-      , apart (λ (r : Rule Occurrence). r .target .position) 0 (p .rules), apart conditionPosition 0 (p .conditions)
-      , keep-few (onward (λ (r : Rule Occurrence). r .target .position) 0) (p .rules), keep-few (onward conditionPosition 0) (p .conditions))
+      omega (
+        arith,
+        onRules,
+        onSymbols,
+        conditions-length (entryTests g p),
+        length-map (rulesFor p 0) (mapRule (selectAfter g p (length (p .right)))),
+        length-map (conditionsAt p 0) (mapCondition (selectAfter g p 0)),
+        apart (λ (r : Rule Occurrence). r .target .position) 0 (p .rules),
+        apart conditionPosition 0 (p .conditions),
+        keep-few (onward (λ (r : Rule Occurrence). r .target .position) 0) (p .rules),
+        keep-few (onward conditionPosition 0) (p .conditions),
+      )
 
 -- ---- all of it
 

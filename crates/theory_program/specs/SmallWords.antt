@@ -1,22 +1,22 @@
 -- Every word of a well-formed grammar's program is a 32-bit number.
-use Prim.Native.Nat.{ℕ, zero, suc, _+_, _*_, _^_, _≤_, _<_}
+use Prim.Native.Nat.{ℕ, suc, _+_, _*_, _≤_, _<_}
 use native.Mathlib.Omega.{arith}
-use mathlib.Core.Path.{_≡_, refl, sym, ap, _∙_, subst}
-use mathlib.Core.Logic.{_⊎_, inl, inr}
+use mathlib.Core.Path.{refl}
+use mathlib.Core.Logic.{inl, inr}
 use mathlib.Core.Bool.{Bool, true, false, _&&_}
 use mathlib.Core.List.{List, [], _∷_, _++_, map}
-use lib.ListN.{length, getD, length-append}
+use lib.ListN.{length}
 use lib.Dec.{eqb}
 use Rattle.meaning.specs.Base.{In, countFrom, total}
-use Rattle.meaning.specs.Grammar.{Symbol, terminal, nonterminal, Function, const, copy, sum, diff, prod, maxi, mini, addc, quot, Rule, Condition, range, atmost, Production, Grammar, syn, nonterminalCount}
+use Rattle.meaning.specs.Grammar.{Symbol, terminal, nonterminal, Function, const, copy, sum, diff, prod, maxi, mini, addc, quot, Condition, range, atmost, Production, Grammar, nonterminalCount}
 use Rattle.meaning.specs.Rules.{Known, WellFormed}
 use Rattle.meaning.specs.Scheme.{Instruction, add, evaluate, expect, test, remove, scheme, entryTests}
 use Rattle.meaning.specs.Sets.{has, starts}
-use Rattle.meaning.specs.Program.{concat, packed, functionWords, ruleWords, conditionWords, symbolHead, instructionWords, schemeWords, expectsAt, entryWords, schemeOffset, bodyWords, bodySize, bodiesFrom, firstOf, recordWords, recordsFrom, directoryWord, directory, recordsAddress, bodiesAddress, segmentWords, programOf}
+use Rattle.meaning.specs.Program.{concat, packed, functionWords, ruleWords, conditionWords, symbolHead, instructionWords, schemeWords, expectsAt, entryWords, schemeOffset, bodyWords, bodySize, bodiesFrom, firstOf, recordWords, recordsFrom, directoryWord, directory, bodiesAddress, segmentWords, programOf}
 use Rattle.theory_table.specs.Numbers.{unsigned-small, divisor-in}
 use Rattle.theory_table.specs.Members.{map-in}
 use Rattle.theory_program.specs.Code.{expects-below}
-use Rattle.theory_program.specs.Proper.{Selector, ProperRule, ProperCondition, ProperInstruction, att-most, scheme-proper, entry-proper, entry-most}
+use Rattle.theory_program.specs.Proper.{ProperRule, ProperCondition, ProperInstruction, att-most, scheme-proper, entry-proper, entry-most}
 use Rattle.theory_program.specs.SetWords.{bits-small}
 use Rattle.theory_program.specs.Sizes.{program-length, program-most}
 
