@@ -1,5 +1,5 @@
 -- Instructions, rules and conditions as words that stand in a list: what the first word says, and where the others stand.
-use Prim.Native.Nat.{ℕ, zero, suc, _+_, _*_, _/_, _%_, _<_}
+use Prim.Native.Nat.{ℕ, zero, suc, _+_, _*_, _/_, _%_, _≤_, _<_}
 use native.Mathlib.Omega.{arith}
 use mathlib.Core.Path.{_≡_, refl, ap, _∙_}
 use mathlib.Core.Logic.{inl, inr}
@@ -104,7 +104,8 @@ some-word (expect x) = omega arith
 some-word (test cs) = omega arith
 some-word (remove n) = omega arith
 
-low-operation : (i : Instruction) → operation i < 8
+-- 6 is no operation: it says that nothing is left
+pub low-operation : (i : Instruction) → operation i ≤ 5
 low-operation (add n) = omega arith
 low-operation (evaluate rs) = omega arith
 low-operation (expect (terminal t)) = omega arith
@@ -145,6 +146,56 @@ code-test {ws} {a} {cs} {is} s =
 
 pub code-remove : {ws : List ℕ} {a n : ℕ} {is : List Instruction} → CodeAt ws a (remove n ∷ is) → (getD ws a 0 ≡ 5 + 8 * n) × CodeAt ws (a + 1) is
 code-remove s = (stands-head (s .words), code-next s)
+
+-- ---- which instruction a number means
+
+pub is-add : (i : Instruction) → operation i ≡ 0 → i ≡ add (operand i)
+is-add (add n) e = refl
+is-add (evaluate rs) e = absurd (omega arith)
+is-add (expect (terminal t)) e = absurd (omega arith)
+is-add (expect (nonterminal n)) e = absurd (omega arith)
+is-add (test cs) e = absurd (omega arith)
+is-add (remove n) e = absurd (omega arith)
+
+pub is-evaluate : (i : Instruction) → operation i ≡ 1 → (rs : List (Rule ℕ)) × (i ≡ evaluate rs)
+is-evaluate (add n) e = absurd (omega arith)
+is-evaluate (evaluate rs) e = (rs, refl)
+is-evaluate (expect (terminal t)) e = absurd (omega arith)
+is-evaluate (expect (nonterminal n)) e = absurd (omega arith)
+is-evaluate (test cs) e = absurd (omega arith)
+is-evaluate (remove n) e = absurd (omega arith)
+
+pub is-terminal : (i : Instruction) → operation i ≡ 2 → i ≡ expect (terminal (operand i))
+is-terminal (add n) e = absurd (omega arith)
+is-terminal (evaluate rs) e = absurd (omega arith)
+is-terminal (expect (terminal t)) e = refl
+is-terminal (expect (nonterminal n)) e = absurd (omega arith)
+is-terminal (test cs) e = absurd (omega arith)
+is-terminal (remove n) e = absurd (omega arith)
+
+pub is-nonterminal : (i : Instruction) → operation i ≡ 3 → i ≡ expect (nonterminal (operand i))
+is-nonterminal (add n) e = absurd (omega arith)
+is-nonterminal (evaluate rs) e = absurd (omega arith)
+is-nonterminal (expect (terminal t)) e = absurd (omega arith)
+is-nonterminal (expect (nonterminal n)) e = refl
+is-nonterminal (test cs) e = absurd (omega arith)
+is-nonterminal (remove n) e = absurd (omega arith)
+
+pub is-test : (i : Instruction) → operation i ≡ 4 → (cs : List (Condition ℕ)) × (i ≡ test cs)
+is-test (add n) e = absurd (omega arith)
+is-test (evaluate rs) e = absurd (omega arith)
+is-test (expect (terminal t)) e = absurd (omega arith)
+is-test (expect (nonterminal n)) e = absurd (omega arith)
+is-test (test cs) e = (cs, refl)
+is-test (remove n) e = absurd (omega arith)
+
+pub is-remove : (i : Instruction) → operation i ≡ 5 → i ≡ remove (operand i)
+is-remove (add n) e = absurd (omega arith)
+is-remove (evaluate rs) e = absurd (omega arith)
+is-remove (expect (terminal t)) e = absurd (omega arith)
+is-remove (expect (nonterminal n)) e = absurd (omega arith)
+is-remove (test cs) e = absurd (omega arith)
+is-remove (remove n) e = refl
 
 -- ---- expects
 
