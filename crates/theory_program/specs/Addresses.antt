@@ -2,13 +2,12 @@
 use Prim.Native.Nat.{ℕ, zero, suc, _+_, _-_, _*_, _<_}
 use native.Mathlib.Omega.{arith}
 use mathlib.Core.Path.{_≡_, refl, sym, ap, _∙_, subst}
-use mathlib.Core.Bool.{false, not}
+use mathlib.Core.Bool.{not}
 use mathlib.Core.List.{List, [], _∷_, _++_, map}
 use lib.ListN.{length, getD, take, drop, length-append, length-map, List·getD-append}
 use lib.Seq.{getD-append-add}
-use lib.Dec.{eqb}
 use Rattle.meaning.specs.Base.{countFrom, total, isEmpty}
-use Rattle.meaning.specs.Grammar.{nonterminal, Production, Grammar, nonterminalCount, productionAt, pickProduction, whole, wholeProduction}
+use Rattle.meaning.specs.Grammar.{nonterminal, Production, Grammar, nonterminalCount, productionAt, whole, wholeProduction}
 use Rattle.meaning.specs.Rules.{WellFormed}
 use Rattle.meaning.specs.Scheme.{evaluate, remove, removed, scheme, entryTests, synthesizedRules}
 use Rattle.meaning.specs.Machine.{expects, schemeAt}
@@ -16,8 +15,8 @@ use Rattle.meaning.specs.Calls.{fromExpect}
 use Rattle.meaning.specs.PublicCalls.{written}
 use Rattle.meaning.specs.Program.{concat, schemeWords, expectsAt, entryWords, schemeOffset, bodyWords, bodySize, bodiesFrom, recordWords, recordsFrom, directoryWord, directory, recordsAddress, bodiesAddress, segmentWords, programOf, symbolHead}
 use Rattle.theory_sets.specs.Tests.{tabled, length-countFrom}
-use Rattle.theory_sound.specs.Members.{differ-false}
-use Rattle.theory_sound.specs.Places.{expects-skip, expects-symbols}
+use Rattle.theory_base.specs.WellFormed.{listed-at}
+use Rattle.theory_base.specs.Frames.{expects-skip, expects-symbols}
 use Rattle.theory_program.specs.Stands.{Stands, stands-at, stands-in, stands-first, stands-behind, stands-left, stands-right, stands-word}
 use Rattle.theory_program.specs.Code.{CodeAt, ConditionsAt, conditions-length, expects-length, code-from}
 
@@ -42,14 +41,6 @@ schemeAddress g p = bodyAddress g p + schemeOffset g (productionAt g p)
 -- of the expect of the symbol after the first k
 abbrev pub expectAddress : Grammar → ℕ → ℕ → ℕ
 expectAddress g p k = getD (expectsAt (schemeAddress g p) (scheme g (productionAt g p))) k 0
-
--- ---- a production by its number
-
-pub not-whole : (g : Grammar) → WellFormed g → (p : ℕ) → p < length (g .productions) → eqb p whole ≡ false
-not-whole g w p l = differ-false p whole (λ e. let m = w .productions .1 in omega arith)
-
-pub production-is : (g : Grammar) → WellFormed g → (p : ℕ) → p < length (g .productions) → productionAt g p ≡ getD (g .productions) p (wholeProduction g)
-production-is g w p l = ap (λ b. pickProduction b (wholeProduction g) (getD (g .productions) p (wholeProduction g))) (not-whole g w p l)
 
 -- ---- lengths
 
@@ -164,13 +155,13 @@ module _ {g : Grammar} {ws : List ℕ} (s : Begins g ws) where
     pub record-at : Stands ws (recordAddress g p) (recordWords g (bodyAddress g p) p (productionAt g p) (drop (suc p) (g .productions)))
     record-at =
         let here = record-in g (bodiesAddress g) 0 (g .productions) p (wholeProduction g) (bodyAddress g p) p l refl (omega arith) in
-        subst (λ q. Stands ws (recordAddress g p) (recordWords g (bodyAddress g p) p q (drop (suc p) (g .productions)))) (sym (production-is g w p l)) (stands-in (stands-left records bodies behind-directory) here)
+        subst (λ q. Stands ws (recordAddress g p) (recordWords g (bodyAddress g p) p q (drop (suc p) (g .productions)))) (sym (listed-at g w p l)) (stands-in (stands-left records bodies behind-directory) here)
 
     pub body-at : Stands ws (bodyAddress g p) (bodyWords g (bodyAddress g p) (productionAt g p))
     body-at =
         let here = body-in g (bodiesAddress g) (g .productions) p (wholeProduction g) (bodyAddress g p) l refl in
         let all = stands-right records bodies behind-directory in
-        subst (λ q. Stands ws (bodyAddress g p) (bodyWords g (bodyAddress g p) q)) (sym (production-is g w p l)) (stands-at (bodyAddress g p) (omega (arith, records-length g (bodiesAddress g) 0 (g .productions))) (stands-in all here))
+        subst (λ q. Stands ws (bodyAddress g p) (bodyWords g (bodyAddress g p) q)) (sym (listed-at g w p l)) (stands-at (bodyAddress g p) (omega (arith, records-length g (bodiesAddress g) 0 (g .productions))) (stands-in all here))
 
     abbrev addresses : List ℕ
     addresses = expectsAt (schemeAddress g p) (scheme g (productionAt g p))

@@ -11,9 +11,10 @@ use Rattle.meaning.specs.Rules.{WellFormed}
 use Rattle.meaning.specs.Scheme.{Instruction, add, evaluate, expect, test, remove, scheme, choose}
 use Rattle.meaning.specs.Machine.{schemeIf, schemeAt}
 use Rattle.meaning.specs.Calls.{fromExpect, frameOf, isListed, placeWaits}
-use Rattle.theory_sets.specs.Tests.{and-left, and-right, or-cases}
+use Rattle.theory_base.specs.Members.{both, or-cases}
+use Rattle.theory_base.specs.WellFormed.{not-whole}
 use Rattle.theory_program.specs.Code.{CodeAt}
-use Rattle.theory_program.specs.Addresses.{Begins, expectAddress, not-whole, whole-at, expect-at}
+use Rattle.theory_program.specs.Addresses.{Begins, expectAddress, whole-at, expect-at}
 use Rattle.theory_program.specs.Proper.{ProperInstruction, AllProper, production-in, scheme-proper}
 
 pub scheme-listed : (g : Grammar) → WellFormed g → (p : ℕ) → p < length (g .productions) → schemeAt g p ≡ scheme g (productionAt g p)
@@ -46,7 +47,8 @@ module _ {g : Grammar} {ws : List ℕ} (b : Begins g ws) (w : WellFormed g) wher
   pub place-code : (q : ℕ) → T (placeWaits g q) → CodeAt ws (placeAddress g q) (frameOf g q .rest)
   place-code q t =
       let right = length (productionAt g (q / 256) .right) in
-      code-waits (q / 256) (q % 256) (listed-cases g (q / 256) (and-left (isListed g (q / 256)) (ltb (q % 256) right) t)) (ltb→lt (q % 256) right (and-right (isListed g (q / 256)) (ltb (q % 256) right) t))
+      let h = both (isListed g (q / 256)) (ltb (q % 256) right) t in
+      code-waits (q / 256) (q % 256) (listed-cases g (q / 256) (h .0)) (ltb→lt (q % 256) right (h .1))
 
 -- ---- what the instructions hold
 

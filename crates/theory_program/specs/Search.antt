@@ -16,9 +16,9 @@ use Rattle.meaning.specs.Scheme.{choose}
 use Rattle.meaning.specs.Sets.{has, starts}
 use Rattle.meaning.specs.Machine.{Look, lookNumber, isOf, alternatives, entered}
 use Rattle.meaning.specs.Program.{firstOf, directoryWord}
-use Rattle.theory_sets.specs.Tests.{T→true, and-left, and-right}
+use Rattle.theory_base.specs.Members.{T→true, both}
+use Rattle.theory_base.specs.WellFormed.{listed-at}
 use Rattle.theory_sets.specs.Alternatives.{keep-keep}
-use Rattle.theory_program.specs.Addresses.{production-is}
 
 -- ---- the first of some numbers, plus 1, or 0
 
@@ -94,7 +94,7 @@ module _ (g : Grammar) (w : WellFormed g) where
   first-listed : (f : Production → Bool) (i : ℕ) → firstOf f i (drop i (g .productions)) ≡ firstFrom (λ k. f (productionAt g k)) i (length (g .productions) - i)
   first-listed f i =
       first-numbered f (λ k. f (productionAt g k)) i (drop i (g .productions)) (wholeProduction g)
-      (λ k l. ap f (production-is g w (i + k) (omega (arith, length-drop i (g .productions))) ∙ sym (getD-drop i (g .productions) k (wholeProduction g))))
+      (λ k l. ap f (listed-at g w (i + k) (omega (arith, length-drop i (g .productions))) ∙ sym (getD-drop i (g .productions) k (wholeProduction g))))
       ∙ ap (firstFrom (λ k. f (productionAt g k)) i) (length-drop i (g .productions))
 
   -- the directory names the first alternative
@@ -112,7 +112,8 @@ module _ (g : Grammar) (w : WellFormed g) where
   pub directory-listed : (n : ℕ) (look : Look) (p : ℕ) → directoryWord g n (lookNumber look) ≡ suc p → (p < length (g .productions)) × (productionAt g p .left ≡ n) × T (has (starts g (productionAt g p)) (lookNumber look))
   directory-listed n look p e =
       let h = first-passes (isOf g n look) 0 (length (g .productions)) p (sym (directory-is n look) ∙ e) in
-      (omega (arith, h .1), eqb→eq (productionAt g p .left) n (and-left (isLeft g n p) (has (starts g (productionAt g p)) (lookNumber look)) (h .2)), and-right (isLeft g n p) (has (starts g (productionAt g p)) (lookNumber look)) (h .2))
+      let k = both (isLeft g n p) (has (starts g (productionAt g p)) (lookNumber look)) (h .2) in
+      (omega (arith, h .1), eqb→eq (productionAt g p .left) n (k .0), k .1)
 
   next-is : (p : ℕ) → nextWord g p ≡ firstFrom (isLeft g (productionAt g p .left)) (suc p) (length (g .productions) - suc p)
   next-is p = first-listed (λ q. eqb (q .left) (productionAt g p .left)) (suc p)
@@ -158,7 +159,7 @@ module _ (g : Grammar) (w : WellFormed g) (rs : List ℤ) (n : ℕ) (look : Look
       let m = length (g .productions) in
       let z : m - p ≡ suc (m - suc p) = omega arith in
       let y : suc p + (m - suc p) ≡ m = omega arith in
-      let skips = first-skips wanted (isLeft g n) (λ k t. and-left (isLeft g n k) (holding k) (and-left (isOf g n look k) (entered g rs k) t)) (suc p) (m - suc p) in
+      let skips = first-skips wanted (isLeft g n) (λ k t. both (isLeft g n k) (holding k) (both (isOf g n look k) (entered g rs k) t .0) .0) (suc p) (m - suc p) in
       let next : firstFrom (isLeft g n) (suc p) (m - suc p) ≡ nextWord g p = subst (λ r. firstFrom (isLeft g r) (suc p) (m - suc p) ≡ nextWord g p) e (sym (next-is g w p)) in
       ap (firstFrom wanted p) z
       ∙ (first-kept (wanted p) p (keep wanted (countFrom (suc p) (m - suc p)))
@@ -170,7 +171,7 @@ module _ (g : Grammar) (w : WellFormed g) (rs : List ℤ) (n : ℕ) (look : Look
   found-start =
       let m = length (g .productions) in
       let z : 0 + m ≡ m = omega arith in
-      let skips = first-skips wanted (isOf g n look) (λ k t. and-left (isOf g n look k) (entered g rs k) t) 0 m in
+      let skips = first-skips wanted (isOf g n look) (λ k t. both (isOf g n look k) (entered g rs k) t .0) 0 m in
       sym (ap firstNumber (keep-keep (isOf g n look) (entered g rs) (countFrom 0 m)) ∙ (skips ∙ (ap (λ k. resumed wanted k (firstFrom (isOf g n look) 0 m)) z ∙ ap (resumed wanted m) (sym (directory-is g w n look)))))
 
   pub found-turn : (p : ℕ) → p < length (g .productions) → productionAt g p .left ≡ n → passes g rs look p ≡ false → found g rs n look (suc p) ≡ found g rs n look (nextWord g p)

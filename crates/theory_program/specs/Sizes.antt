@@ -12,7 +12,7 @@ use Rattle.meaning.specs.Grammar.{Symbol, Occurrence, Rule, Condition, Producti
 use Rattle.meaning.specs.Rules.{WellFormed}
 use Rattle.meaning.specs.Scheme.{Instruction, add, evaluate, expect, test, remove, mapRule, mapCondition, selectInherited, selectAfter, rulesFor, conditionsAt, entryTests, testsAfter, inheritedRules, synthesizedRules, removed, symbolScheme, symbolsScheme, scheme}
 use Rattle.meaning.specs.Program.{instructionWords, schemeWords, expectsAt, bodySize, recordsFrom, bodiesFrom, directory, bodiesAddress, segmentWords, programOf}
-use Rattle.theory_table.specs.Members.{getD-in}
+use Rattle.theory_base.specs.Members.{getD-in}
 use Rattle.theory_program.specs.Stands.{stands-whole, stands-within}
 use Rattle.theory_program.specs.Code.{rules-length, conditions-length, expects-length, expects-below}
 use Rattle.theory_program.specs.Addresses.{bodyAddress, schemeAddress, expectAddress, Begins, body-at, body-length, expects-scheme, directory-length, records-length, bodies-length}

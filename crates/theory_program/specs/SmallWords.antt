@@ -2,7 +2,7 @@
 use Prim.Native.Nat.{ℕ, suc, _+_, _*_, _≤_, _<_}
 use native.Mathlib.Omega.{arith}
 use mathlib.Core.Path.{refl}
-use mathlib.Core.Logic.{inl, inr}
+use mathlib.Core.Logic.{_⊎_, inl, inr}
 use mathlib.Core.Bool.{Bool, true, false, _&&_}
 use mathlib.Core.List.{List, [], _∷_, _++_, map}
 use lib.ListN.{length}
@@ -14,7 +14,7 @@ use Rattle.meaning.specs.Scheme.{Instruction, add, evaluate, expect, test, remo
 use Rattle.meaning.specs.Sets.{has, starts}
 use Rattle.meaning.specs.Program.{concat, packed, functionWords, ruleWords, conditionWords, symbolHead, instructionWords, schemeWords, expectsAt, entryWords, schemeOffset, bodyWords, bodySize, bodiesFrom, firstOf, recordWords, recordsFrom, directoryWord, directory, bodiesAddress, segmentWords, programOf}
 use Rattle.theory_table.specs.Numbers.{unsigned-small, divisor-in}
-use Rattle.theory_table.specs.Members.{map-in}
+use Rattle.theory_base.specs.Members.{map-in, in-append}
 use Rattle.theory_program.specs.Code.{expects-below}
 use Rattle.theory_program.specs.Proper.{ProperRule, ProperCondition, ProperInstruction, att-most, scheme-proper, entry-proper, entry-most}
 use Rattle.theory_program.specs.SetWords.{bits-small}
@@ -42,9 +42,11 @@ each-small [] h = small-nil
 each-small (x ∷ xs) h = small-cons x xs (h .0) (each-small xs (h .1))
 
 small-append : (xs ys : List ℕ) → Small xs → Small ys → Small (xs ++ ys)
-small-append [] ys h k v i = k v i
-small-append (x ∷ xs) ys h k v (inl e) = h v (inl e)
-small-append (x ∷ xs) ys h k v (inr i) = small-append xs ys (λ u j. h u (inr j)) k v i
+small-append xs ys h k v i = go (in-append v xs ys i)
+  where
+    go : In v xs ⊎ In v ys → v < 4294967296
+    go (inl j) = h v j
+    go (inr j) = k v j
 
 small-concat : {A : Type 0} (f : A → List ℕ) (xs : List A) → ((x : A) → In x xs → Small (f x)) → Small (concat (map f xs))
 small-concat f [] h = small-nil
