@@ -51,15 +51,9 @@ production-129-unknown = refl
 missing-before-129 : readTable (ones 127 ++ (field 3 (0 ∷ 0 ∷ []) ++ field 3 (0 ∷ 0 ∷ []))) ≡ malformed 8 1917
 missing-before-129 = refl
 
--- n conditions in each of two productions: they count over the whole table
-abbrev conditions : ℕ → List ℕ
-conditions n = heads ++ (sToA ++ (handDown ++ (handUp ++ (repeat n (field 5 (1 ∷ 1 ∷ 2 ∷ 1 ∷ 2 ∷ [])) ++ (sToA ++ (handDown ++ (handUp ++ repeat n (field 5 (1 ∷ 1 ∷ 2 ∷ 1 ∷ 2 ∷ [])))))))))
-
-condition-512 : sizes (readTable (conditions 256)) ≡ 2 ∷ 4 ∷ 512 ∷ []
-condition-512 = refl
-
-condition-513 : readTable (conditions 256 ++ field 5 (1 ∷ 1 ∷ 2 ∷ 1 ∷ 2 ∷ [])) ≡ malformed 4 4161
-condition-513 = refl
+-- rules and conditions count over the whole table: twice two rules, twice three conditions
+conditions-count : sizes (readTable (heads ++ repeat 2 (sToA ++ (handDown ++ (handUp ++ repeat 3 (field 5 (1 ∷ 1 ∷ 2 ∷ 1 ∷ 2 ∷ []))))))) ≡ 2 ∷ 4 ∷ 6 ∷ []
+conditions-count = refl
 
 -- the counts of rules and conditions, in the state that a field is judged in
 counted : ℕ → ℕ → State
@@ -71,6 +65,10 @@ field-of tag body = record { offset = 17; tag = tag; body = body }
 rules-left : map (λ n. judgeField (counted n 512) (field-of 4 (0 ∷ 1 ∷ 0 ∷ 0 ∷ 0 ∷ 0 ∷ 0 ∷ []))) (0 ∷ 1023 ∷ 1024 ∷ 1025 ∷ []) ≡ 0 ∷ 0 ∷ 4 ∷ 4 ∷ []
 unfolding counted field-of
 rules-left = refl
+
+conditions-left : map (λ n. judgeField (counted 1024 n) (field-of 5 (1 ∷ 0 ∷ 8 ∷ 0 ∷ 8 ∷ []))) (0 ∷ 511 ∷ 512 ∷ 513 ∷ []) ≡ 7 ∷ 7 ∷ 4 ∷ 4 ∷ []
+unfolding counted field-of
+conditions-left = refl
 
 -- an unknown function or kind is a 4 there too
 rules-left-unknown : map (λ n. judgeField (counted n 512) (field-of 4 (0 ∷ 1 ∷ 9 ∷ []))) (1023 ∷ 1024 ∷ []) ≡ 5 ∷ 4 ∷ []

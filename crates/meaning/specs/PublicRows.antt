@@ -3,7 +3,7 @@ use Prim.Native.Nat.{ℕ}
 use mathlib.Core.Path.{_≡_, refl}
 use mathlib.Core.Bool.{true, false}
 use mathlib.Core.List.{List, [], _∷_, _++_, map}
-use lib.ListN.{replicate, length, take, drop}
+use lib.ListN.{replicate, length, drop}
 use lib.IntN.{ℤ, pos, negsuc}
 use Rattle.meaning.specs.Grammar.{Grammar}
 use Rattle.meaning.specs.Table.{nothingRead}
@@ -39,7 +39,7 @@ unfolding bytes
 opens-words = refl
 
 -- a longer area is used in the same way
-opens-longer : opens program bytes (area ++ (6 ∷ [])) (used 3 2) .area ≡ written-area ++ (6 ∷ [])
+opens-longer : opens program bytes (replicate 16385 5) (used 3 2) .area ≡ 7 ∷ 8 ∷ 4 ∷ replicate 16382 5
 unfolding bytes
 opens-longer = refl
 
@@ -66,7 +66,7 @@ opens-without-places = refl
 
 -- ---- feeding and finishing
 
-feeds : performs program bytes area (state true 0 0 1 1) (stacks (m ∷ m ∷ m ∷ m ∷ m ∷ []) (32768 ∷ 0 ∷ 0 ∷ [])) (feed (0 ∷ [])) ≡ effect (more 7) (state true 1 7 5 3) (stacks (m ∷ m ∷ (pos 0) ∷ m ∷ (pos 0) ∷ []) (32768 ∷ 0 ∷ 257 ∷ [])) written-area
+feeds : performs program bytes area (state true 0 0 1 1) (stacks (m ∷ m ∷ m ∷ m ∷ m ∷ []) (32768 ∷ 0 ∷ 0 ∷ [])) (feed (0 ∷ [])) .stacks ≡ stacks (m ∷ m ∷ (pos 0) ∷ m ∷ (pos 0) ∷ []) (32768 ∷ 0 ∷ 257 ∷ [])
 unfolding bytes
 feeds = refl
 
@@ -80,21 +80,21 @@ unfolding bytes
 feeds-nothing = refl
 
 -- 30 and the table's refusals: everything as brought, also the record, open or closed; before 33 and 34
-performs-short : map (performs program [] (replicate 16383 5) (state false 1 2 3 4) (used 3 2)) (feed (0 ∷ []) ∷ finish ∷ []) ≡ replicate 2 (effect (refused 30 0) (state false 1 2 3 4) (used 3 2) (replicate 16383 5))
+performs-short : map (performs program [] (5 ∷ []) (state false 1 2 3 4) (used 3 2)) (feed (0 ∷ []) ∷ finish ∷ []) ≡ replicate 2 (effect (refused 30 0) (state false 1 2 3 4) (used 3 2) (5 ∷ []))
 performs-short = refl
 
-performs-refused : map (performs program (1 ∷ 0 ∷ []) area (state false 1 2 3 4) (used 3 2)) (feed (0 ∷ []) ∷ finish ∷ []) ≡ replicate 2 (effect (tableRefused 2 0) (state false 1 2 3 4) (used 3 2) area)
+performs-refused : performs program (1 ∷ 0 ∷ []) area (state true 1 2 3 4) (used 3 2) finish ≡ effect (tableRefused 2 0) (state true 1 2 3 4) (used 3 2) area
 performs-refused = refl
 
-performs-refused-open : performs program (1 ∷ 0 ∷ []) area (state true 1 2 3 4) (used 3 2) finish ≡ effect (tableRefused 2 0) (state true 1 2 3 4) (used 3 2) area
-performs-refused-open = refl
+performs-refused-closed : performs program (1 ∷ 0 ∷ []) area (state false 1 2 3 4) (used 3 2) (feed (0 ∷ [])) .state ≡ state false 1 2 3 4
+performs-refused-closed = refl
 
 -- 33 and 34: record and stacks as brought, but the program is written; 33 before 34
-performs-closed : map (performs program bytes area (state false 1 2 3 4) (used 3 2)) (feed (0 ∷ []) ∷ finish ∷ []) ≡ replicate 2 (effect (refused 33 0) (state false 1 2 3 4) (used 3 2) written-area)
+performs-closed : performs program bytes area (state false 1 2 3 4) (used 3 2) (feed (0 ∷ [])) ≡ effect (refused 33 0) (state false 1 2 3 4) (used 3 2) written-area
 unfolding bytes
 performs-closed = refl
 
-performs-unfit : map (performs program bytes area (state true 1 2 3 4) (used 3 2)) (feed (255 ∷ []) ∷ finish ∷ []) ≡ replicate 2 (effect (refused 34 0) (state true 1 2 3 4) (used 3 2) written-area)
+performs-unfit : performs program bytes area (state true 1 2 3 4) (used 3 2) finish ≡ effect (refused 34 0) (state true 1 2 3 4) (used 3 2) written-area
 unfolding bytes
 performs-unfit = refl
 
@@ -106,13 +106,9 @@ runs-functions = refl
 
 -- ---- the stretch of a production, from its tag 3 to the next or the end; the lent numbers held 9 and 8
 
-stretch-first : stretchOf bytes 0 9 8 ≡ record { part = take 24 (drop 17 bytes); number = 9; offset = 8 }
+stretch-first : stretchOf bytes 0 9 8 ≡ record { part = 3 ∷ 0 ∷ 3 ∷ 0 ∷ 1 ∷ 129 ∷ 4 ∷ 0 ∷ 7 ∷ 1 ∷ 1 ∷ 0 ∷ 0 ∷ 0 ∷ 0 ∷ 0 ∷ 4 ∷ 0 ∷ 5 ∷ 0 ∷ 1 ∷ 1 ∷ 1 ∷ 2 ∷ []; number = 9; offset = 8 }
 unfolding bytes
 stretch-first = refl
-
-stretch-first-bytes : stretchOf bytes 0 9 8 .part ≡ 3 ∷ 0 ∷ 3 ∷ 0 ∷ 1 ∷ 129 ∷ 4 ∷ 0 ∷ 7 ∷ 1 ∷ 1 ∷ 0 ∷ 0 ∷ 0 ∷ 0 ∷ 0 ∷ 4 ∷ 0 ∷ 5 ∷ 0 ∷ 1 ∷ 1 ∷ 1 ∷ 2 ∷ []
-unfolding bytes
-stretch-first-bytes = refl
 
 stretch-last : stretchOf bytes 3 9 8 ≡ record { part = 3 ∷ 0 ∷ 2 ∷ 1 ∷ 0 ∷ 4 ∷ 0 ∷ 7 ∷ 0 ∷ 2 ∷ 0 ∷ 0 ∷ 0 ∷ 0 ∷ 0 ∷ []; number = 9; offset = 8 }
 unfolding bytes
