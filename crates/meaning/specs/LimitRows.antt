@@ -40,12 +40,9 @@ ones n = header 1 1 0 1 ++ (counts 0 1 ++ repeat n (field 3 (0 ∷ 0 ∷ []) ++ 
 production-128 : sizes (readTable (ones 128)) ≡ 128 ∷ 128 ∷ 0 ∷ []
 production-128 = refl
 
-production-129 : readTable (ones 129) ≡ malformed 4 1932
+-- 4 before 5: the symbol is unknown
+production-129 : readTable (ones 128 ++ field 3 (0 ∷ 1 ∷ 9 ∷ [])) ≡ malformed 4 1932
 production-129 = refl
-
--- 4 before 5
-production-129-unknown : readTable (ones 128 ++ field 3 (0 ∷ 1 ∷ 9 ∷ [])) ≡ malformed 4 1932
-production-129-unknown = refl
 
 -- after a production that lacks its rule, 8 comes first
 missing-before-129 : readTable (ones 127 ++ (field 3 (0 ∷ 0 ∷ []) ++ field 3 (0 ∷ 0 ∷ []))) ≡ malformed 8 1917
