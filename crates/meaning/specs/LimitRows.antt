@@ -4,7 +4,7 @@ use mathlib.Core.Path.{_≡_, refl}
 use mathlib.Core.Option.{some}
 use mathlib.Core.List.{List, [], _∷_, _++_, map}
 use lib.ListN.{replicate, length}
-use Rattle.meaning.specs.Table.{Read, wellFormed, malformed, readTable, State, Field, judgeField}
+use Rattle.meaning.specs.Table.{Read, wellFormed, malformed, readTable, State, Entry, Field, judgeField}
 use Rattle.meaning.specs.Judgement.{rejected}
 use Rattle.meaning.specs.Decide.{verdictOf}
 use Rattle.meaning.specs.Layout.{field}
@@ -37,9 +37,6 @@ one-short-field = refl
 abbrev ones : ℕ → List ℕ
 ones n = header 1 1 0 1 ++ (counts 0 1 ++ repeat n (field 3 (0 ∷ 0 ∷ []) ++ field 4 (0 ∷ 1 ∷ 0 ∷ 0 ∷ 0 ∷ 0 ∷ 0 ∷ [])))
 
-production-128 : sizes (readTable (ones 128)) ≡ 128 ∷ 128 ∷ 0 ∷ []
-production-128 = refl
-
 -- 4 before 5: the symbol is unknown
 production-129 : readTable (ones 128 ++ field 3 (0 ∷ 1 ∷ 9 ∷ [])) ≡ malformed 4 1932
 production-129 = refl
@@ -52,26 +49,36 @@ missing-before-129 = refl
 conditions-count : sizes (readTable (heads ++ repeat 2 (sToA ++ (handDown ++ (handUp ++ repeat 3 (field 5 (1 ∷ 1 ∷ 2 ∷ 1 ∷ 2 ∷ []))))))) ≡ 2 ∷ 4 ∷ 6 ∷ []
 conditions-count = refl
 
--- the counts of rules and conditions, in the state that a field is judged in
-counted : ℕ → ℕ → State
-counted rules conditions = record { header = some (record { terminals = 1; nonterminals = 1; start = 0; result = 1 }); counts = record { inherited = 0; synthesized = 8 } ∷ []; countsOffsets = 7 ∷ []; entries = record { offset = 12; left = 0; right = []; rules = []; conditions = [] } ∷ []; rules = rules; conditions = conditions }
+-- ---- the counts in the state that a field is judged in
+
+abbrev entry : Entry
+entry = record { offset = 12; left = 0; right = []; rules = []; conditions = [] }
+
+-- n productions, of which the last has no rules
+counted : ℕ → ℕ → ℕ → State
+counted productions rules conditions = record { header = some (record { terminals = 1; nonterminals = 1; start = 0; result = 1 }); counts = record { inherited = 0; synthesized = 8 } ∷ []; countsOffsets = 7 ∷ []; entries = replicate productions entry; rules = rules; conditions = conditions }
 
 field-of : ℕ → List ℕ → Field
 field-of tag body = record { offset = 17; tag = tag; body = body }
 
-rules-left : map (λ n. judgeField (counted n 512) (field-of 4 (0 ∷ 1 ∷ 0 ∷ 0 ∷ 0 ∷ 0 ∷ 0 ∷ []))) (0 ∷ 1023 ∷ 1024 ∷ 1025 ∷ []) ≡ 0 ∷ 0 ∷ 4 ∷ 4 ∷ []
+productions-left : map (λ n. judgeField (counted n 1024 512) (field-of 3 (0 ∷ 0 ∷ []))) (0 ∷ 127 ∷ 128 ∷ 129 ∷ []) ≡ 0 ∷ 0 ∷ 4 ∷ 4 ∷ []
+unfolding counted field-of
+productions-left = refl
+
+rules-left : map (λ n. judgeField (counted 1 n 512) (field-of 4 (0 ∷ 1 ∷ 0 ∷ 0 ∷ 0 ∷ 0 ∷ 0 ∷ []))) (0 ∷ 1023 ∷ 1024 ∷ 1025 ∷ []) ≡ 0 ∷ 0 ∷ 4 ∷ 4 ∷ []
 unfolding counted field-of
 rules-left = refl
 
-conditions-left : map (λ n. judgeField (counted 1024 n) (field-of 5 (1 ∷ 0 ∷ 8 ∷ 0 ∷ 8 ∷ []))) (0 ∷ 511 ∷ 512 ∷ 513 ∷ []) ≡ 7 ∷ 7 ∷ 4 ∷ 4 ∷ []
+-- the condition reads an output: a 7
+conditions-left : map (λ n. judgeField (counted 1 1024 n) (field-of 5 (1 ∷ 0 ∷ 8 ∷ 0 ∷ 8 ∷ []))) (0 ∷ 511 ∷ 512 ∷ 513 ∷ []) ≡ 7 ∷ 7 ∷ 4 ∷ 4 ∷ []
 unfolding counted field-of
 conditions-left = refl
 
 -- an unknown function or kind is a 4 there too
-rules-left-unknown : map (λ n. judgeField (counted n 512) (field-of 4 (0 ∷ 1 ∷ 9 ∷ []))) (1023 ∷ 1024 ∷ []) ≡ 5 ∷ 4 ∷ []
+rules-left-unknown : map (λ n. judgeField (counted 1 n 512) (field-of 4 (0 ∷ 1 ∷ 9 ∷ []))) (1023 ∷ 1024 ∷ []) ≡ 5 ∷ 4 ∷ []
 unfolding counted field-of
 rules-left-unknown = refl
 
-conditions-left-unknown : map (λ n. judgeField (counted 1024 n) (field-of 5 (2 ∷ []))) (511 ∷ 512 ∷ []) ≡ 5 ∷ 4 ∷ []
+conditions-left-unknown : map (λ n. judgeField (counted 1 1024 n) (field-of 5 (2 ∷ []))) (511 ∷ 512 ∷ []) ≡ 5 ∷ 4 ∷ []
 unfolding counted field-of
 conditions-left-unknown = refl
