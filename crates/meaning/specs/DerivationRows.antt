@@ -5,7 +5,7 @@ use mathlib.Core.Logic.{inl, inr}
 use mathlib.Core.List.{List, [], _∷_}
 use lib.IntN.{ℤ, pos}
 use lib.Dec.{lit<}
-use Rattle.meaning.specs.Grammar.{Symbol, terminal, nonterminal, const, copy, range, Production, Grammar}
+use Rattle.meaning.specs.Grammar.{Symbol, terminal, nonterminal, token, over, const, copy, range, Production, Grammar}
 use Rattle.meaning.specs.Derivation.{Derives, itself, step, Reachable, Productive, LeftRecursive, First, Follow, Starts, Clash}
 use Rattle.meaning.specs.Words.{words, p1, occ, rule}
 
@@ -30,18 +30,18 @@ first-word = (L ∷ [], itself)
 first-open : First words (L ∷ []) 1
 first-open = (L ∷ terminal 2 ∷ L ∷ [], step 2 [] [] (lit< tt) itself)
 
-follow-close : Follow words 1 2
-follow-close = inl (terminal 1 ∷ [], L ∷ [], step 0 [] [] (lit< tt) (step 2 [] [] (lit< tt) itself))
+follow-close : Follow words 1 (token 2)
+follow-close = (terminal 1 ∷ [], L ∷ [], step 0 [] [] (lit< tt) (step 2 [] [] (lit< tt) itself))
 
-follow-end : Follow words 1 63
-follow-end = inr (refl, ([], step 0 [] [] (lit< tt) itself))
+follow-end : Follow words 1 over
+follow-end = ([], step 0 [] [] (lit< tt) itself)
 
 -- L to nothing starts with close and with the end
-starts-close : Starts words 3 2
+starts-close : Starts words 3 (token 2)
 starts-close = inr (itself, follow-close)
 
-starts-end : Starts words 3 63
-starts-end = inr (itself, follow-end)
+starts-end : Starts words 3 over
+starts-end = (itself, follow-end)
 
 -- ---- S to L; L to L 0, or nothing
 
@@ -74,4 +74,4 @@ ranges a b = record {
 -- both hold the token, and d = 5 enters both
 clash : Clash (ranges (pos 5) (pos 5)) 2 1
 unfolding ranges
-clash = record { left = refl; meet = (0, inl ([], itself), inl ([], itself)); enter = inr (inr (pos 5 ∷ [], refl, tt, tt, tt)) }
+clash = record { left = refl; meet = (token 0, inl ([], itself), inl ([], itself)); enter = inr (inr (pos 5 ∷ [], refl, tt, tt, tt)) }
