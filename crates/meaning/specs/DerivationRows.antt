@@ -47,12 +47,15 @@ starts-end = (itself, follow-end)
 
 recursive : Grammar
 recursive = record {
-  terminals = 1; counts = record { inherited = 0; synthesized = 1 } ∷ record { inherited = 0; synthesized = 0 } ∷ []; start = 0; result = 1;
+  terminals = 1;
+  counts = record { inherited = 0; synthesized = 1 } ∷ record { inherited = 0; synthesized = 0 } ∷ [];
+  start = 0;
+  result = 1;
   productions =
-    record { left = 0; right = L ∷ []; rules = rule (occ 0 1) (const (pos 0)) ∷ []; conditions = [] }
-    ∷ record { left = 1; right = L ∷ terminal 0 ∷ []; rules = []; conditions = [] }
-    ∷ record { left = 1; right = []; rules = []; conditions = [] }
-    ∷ []
+      record { left = 0; right = L ∷ []; rules = rule (occ 0 1) (const (pos 0)) ∷ []; conditions = [] }
+      ∷ record { left = 1; right = L ∷ terminal 0 ∷ []; rules = []; conditions = [] }
+      ∷ record { left = 1; right = []; rules = []; conditions = [] }
+      ∷ [];
 }
 
 left-recursive : LeftRecursive recursive 1
@@ -63,12 +66,15 @@ left-recursive = (1, terminal 0 ∷ [], lit< tt, refl, itself)
 
 ranges : ℤ → ℤ → Grammar
 ranges a b = record {
-  terminals = 1; counts = record { inherited = 0; synthesized = 1 } ∷ record { inherited = 1; synthesized = 1 } ∷ []; start = 0; result = 1;
+  terminals = 1;
+  counts = record { inherited = 0; synthesized = 1 } ∷ record { inherited = 1; synthesized = 1 } ∷ [];
+  start = 0;
+  result = 1;
   productions =
-    record { left = 0; right = L ∷ []; rules = rule (occ 1 1) (const (pos 0)) ∷ rule (occ 0 1) (copy (occ 1 2)) ∷ []; conditions = [] }
-    ∷ record { left = 1; right = terminal 0 ∷ []; rules = rule (occ 0 2) (const (pos 0)) ∷ []; conditions = range (occ 0 1) (pos 0) a ∷ [] }
-    ∷ record { left = 1; right = terminal 0 ∷ []; rules = rule (occ 0 2) (const (pos 0)) ∷ []; conditions = range (occ 0 1) b (pos 9) ∷ [] }
-    ∷ []
+      record { left = 0; right = L ∷ []; rules = rule (occ 1 1) (const (pos 0)) ∷ rule (occ 0 1) (copy (occ 1 2)) ∷ []; conditions = [] }
+      ∷ record { left = 1; right = terminal 0 ∷ []; rules = rule (occ 0 2) (const (pos 0)) ∷ []; conditions = range (occ 0 1) (pos 0) a ∷ [] }
+      ∷ record { left = 1; right = terminal 0 ∷ []; rules = rule (occ 0 2) (const (pos 0)) ∷ []; conditions = range (occ 0 1) b (pos 9) ∷ [] }
+      ∷ [];
 }
 
 -- both hold the token, and d = 5 enters both

@@ -166,13 +166,15 @@ declared = record {
   moves = lit≤ tt;
   registerHeight = lit≤ tt;
   placeHeight = lit≤ tt;
-  stands = inl (nonterminal 1,
+  stands = inl (
+    nonterminal 1,
     inside 2 1 (pos 1 ∷ []) [] (lit< tt) (lit< tt) (lit< tt) (record { size = refl; ranged = tt }) (record { size = refl; ranged = tt })
-    (inside 1 1 (pos 0 ∷ []) [] (lit< tt) (lit< tt) (lit< tt) (record { size = refl; ranged = tt }) (record { size = refl; ranged = tt })
-    (inside 0 0 (pos 0 ∷ []) [] (lit< tt) (lit< tt) (lit< tt) (record { size = refl; ranged = tt }) (record { size = refl; ranged = tt })
-    (segment [] (record { size = refl; ranged = tt })))));
+        (inside 1 1 (pos 0 ∷ []) [] (lit< tt) (lit< tt) (lit< tt) (record { size = refl; ranged = tt }) (record { size = refl; ranged = tt })
+        (inside 0 0 (pos 0 ∷ []) [] (lit< tt) (lit< tt) (lit< tt) (record { size = refl; ranged = tt }) (record { size = refl; ranged = tt })
+        (segment [] (record { size = refl; ranged = tt })))),
+  );
   registersCleared = λ i l h. absurd (omega (arith, l, h));
-  placesCleared = λ i l h. absurd (omega (arith, l, h))
+  placesCleared = λ i l h. absurd (omega (arith, l, h));
 }
 
 declared-left : Fit words (state true 2 11 1 1) (stacks ((pos 4) ∷ []) (32769 ∷ []))
@@ -183,5 +185,5 @@ declared-left = record {
   placeHeight = lit≤ tt;
   stands = inr (record { place = refl; results = record { size = refl; ranged = tt } });
   registersCleared = λ i l h. absurd (omega (arith, l, h));
-  placesCleared = λ i l h. absurd (omega (arith, l, h))
+  placesCleared = λ i l h. absurd (omega (arith, l, h));
 }

@@ -135,7 +135,7 @@ part-of-tree : PartOf wide wideTree last-added
 part-of-tree = record {
   node = record { values = pos 3 ∷ pos 4 ∷ pos 7 ∷ []; ahead = treeAnd y4 noTrees; isNode = refl; isInherited = refl };
   point = tt;
-  below = (record { values = pos 7 ∷ []; ahead = treeAnd (node 1 (pos 3 ∷ pos 4 ∷ pos 7 ∷ []) (forestOnto (y4 ∷ x3 ∷ leaf 0 ∷ y1 ∷ []) noTrees)) noTrees; isNode = refl; isInherited = refl }, (record { values = []; ahead = treeAnd wideTree noTrees; isNode = refl; isInherited = refl }, tt))
+  below = (record { values = pos 7 ∷ []; ahead = treeAnd (node 1 (pos 3 ∷ pos 4 ∷ pos 7 ∷ []) (forestOnto (y4 ∷ x3 ∷ leaf 0 ∷ y1 ∷ []) noTrees)) noTrees; isNode = refl; isInherited = refl }, (record { values = []; ahead = treeAnd wideTree noTrees; isNode = refl; isInherited = refl }, tt));
 }
 
 -- what the opening leaves is a good part
@@ -150,5 +150,5 @@ opened-good : Good wide opened
 unfolding opened
 opened-good = record {
   node = (record { sized = refl; ranged = tt; lefts = tt; rules = λ r i. absurd i }, (refl, (λ c i. absurd i), record { sized = refl; ranged = tt; rules = λ r i. absurd i }));
-  stands = (refl, refl)
+  stands = (refl, refl);
 }

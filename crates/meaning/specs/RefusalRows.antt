@@ -40,11 +40,14 @@ fourth-open = refl
 -- S to A 0, where n of A must be 0; A to 0, where it is n
 abbrev tested : ℤ → Grammar
 tested n = record {
-  terminals = 1; counts = record { inherited = 0; synthesized = 1 } ∷ record { inherited = 0; synthesized = 1 } ∷ []; start = 0; result = 1;
+  terminals = 1;
+  counts = record { inherited = 0; synthesized = 1 } ∷ record { inherited = 0; synthesized = 1 } ∷ [];
+  start = 0;
+  result = 1;
   productions =
-    record { left = 0; right = nonterminal 1 ∷ terminal 0 ∷ []; rules = rule (occ 0 1) (copy (occ 1 1)) ∷ []; conditions = range (occ 1 1) (pos 0) (pos 0) ∷ [] }
-    ∷ record { left = 1; right = terminal 0 ∷ []; rules = rule (occ 0 1) (const n) ∷ []; conditions = [] }
-    ∷ []
+      record { left = 0; right = nonterminal 1 ∷ terminal 0 ∷ []; rules = rule (occ 0 1) (copy (occ 1 1)) ∷ []; conditions = range (occ 1 1) (pos 0) (pos 0) ∷ [] }
+      ∷ record { left = 1; right = terminal 0 ∷ []; rules = rule (occ 0 1) (const n) ∷ []; conditions = [] }
+      ∷ [];
 }
 
 -- the failed test leaves its place uncounted: 0, not 1
@@ -57,13 +60,16 @@ test-holds = refl
 -- S to L with d = v; L to A by either of two productions, entered for d from 0 to 4 and from 5 to 9. Both ask that n of A is 0; A to nothing, and n is 1
 abbrev twoWays : ℤ → ℤ → Grammar
 twoWays v n = record {
-  terminals = 1; counts = record { inherited = 0; synthesized = 1 } ∷ record { inherited = 1; synthesized = 1 } ∷ record { inherited = 0; synthesized = 1 } ∷ []; start = 0; result = 1;
+  terminals = 1;
+  counts = record { inherited = 0; synthesized = 1 } ∷ record { inherited = 1; synthesized = 1 } ∷ record { inherited = 0; synthesized = 1 } ∷ [];
+  start = 0;
+  result = 1;
   productions =
-    record { left = 0; right = nonterminal 1 ∷ []; rules = rule (occ 1 1) (const v) ∷ rule (occ 0 1) (copy (occ 1 2)) ∷ []; conditions = [] }
-    ∷ record { left = 1; right = nonterminal 2 ∷ []; rules = rule (occ 0 2) (const (pos 5)) ∷ []; conditions = range (occ 0 1) (pos 0) (pos 4) ∷ range (occ 1 1) (pos 0) (pos 0) ∷ [] }
-    ∷ record { left = 1; right = nonterminal 2 ∷ []; rules = rule (occ 0 2) (const (pos 6)) ∷ []; conditions = range (occ 0 1) (pos 5) (pos 9) ∷ range (occ 1 1) (pos 0) (pos 0) ∷ [] }
-    ∷ record { left = 2; right = []; rules = rule (occ 0 1) (const n) ∷ []; conditions = [] }
-    ∷ []
+      record { left = 0; right = nonterminal 1 ∷ []; rules = rule (occ 1 1) (const v) ∷ rule (occ 0 1) (copy (occ 1 2)) ∷ []; conditions = [] }
+      ∷ record { left = 1; right = nonterminal 2 ∷ []; rules = rule (occ 0 2) (const (pos 5)) ∷ []; conditions = range (occ 0 1) (pos 0) (pos 4) ∷ range (occ 1 1) (pos 0) (pos 0) ∷ [] }
+      ∷ record { left = 1; right = nonterminal 2 ∷ []; rules = rule (occ 0 2) (const (pos 6)) ∷ []; conditions = range (occ 0 1) (pos 5) (pos 9) ∷ range (occ 1 1) (pos 0) (pos 0) ∷ [] }
+      ∷ record { left = 2; right = []; rules = rule (occ 0 1) (const n) ∷ []; conditions = [] }
+      ∷ [];
 }
 
 enters-first : thenFinish (twoWays (pos 4) (pos 0)) (openOf (twoWays (pos 4) (pos 0)) (used 5 4)) ≡ called (value (pos 5) 13) (state false 0 13 1 1) (stacks ((pos 5) ∷ m ∷ m ∷ m ∷ m ∷ []) (32769 ∷ 0 ∷ 0 ∷ 0 ∷ []))
@@ -84,11 +90,14 @@ no-second-try = refl
 
 abbrev sums : ℤ → ℤ → Grammar
 sums a b = record {
-  terminals = 1; counts = record { inherited = 0; synthesized = 2 } ∷ record { inherited = 0; synthesized = 1 } ∷ []; start = 0; result = 1;
+  terminals = 1;
+  counts = record { inherited = 0; synthesized = 2 } ∷ record { inherited = 0; synthesized = 1 } ∷ [];
+  start = 0;
+  result = 1;
   productions =
-    record { left = 0; right = nonterminal 1 ∷ []; rules = rule (occ 0 1) (addc (occ 1 1) (pos 1)) ∷ rule (occ 0 2) (addc (occ 1 1) b) ∷ []; conditions = [] }
-    ∷ record { left = 1; right = terminal 0 ∷ []; rules = rule (occ 0 1) (const a) ∷ []; conditions = [] }
-    ∷ []
+      record { left = 0; right = nonterminal 1 ∷ []; rules = rule (occ 0 1) (addc (occ 1 1) (pos 1)) ∷ rule (occ 0 2) (addc (occ 1 1) b) ∷ []; conditions = [] }
+      ∷ record { left = 1; right = terminal 0 ∷ []; rules = rule (occ 0 1) (const a) ∷ []; conditions = [] }
+      ∷ [];
 }
 
 -- evaluated all or none: the first attribute would be 2147483647, the second 2147483648

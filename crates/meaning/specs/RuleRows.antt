@@ -17,12 +17,16 @@ use Rattle.meaning.specs.Samples.{header, counts, handDown, handUp, firs
 
 -- each function by its number, constants with their sign, conditions beside the rules
 functions-read : grammar (readTable functions) ≡ record {
-  terminals = 1; counts = record { inherited = 0; synthesized = 8 } ∷ record { inherited = 1; synthesized = 2 } ∷ []; start = 0; result = 8;
+  terminals = 1;
+  counts = record { inherited = 0; synthesized = 8 } ∷ record { inherited = 1; synthesized = 2 } ∷ [];
+  start = 0;
+  result = 8;
   productions = record {
-      left = 0; right = nonterminal 1 ∷ [];
-      rules = rule (occ 1 1) (const (negsuc 6)) ∷ rule (occ 0 1) (copy (occ 1 2)) ∷ rule (occ 0 2) (sum (occ 1 2) (occ 1 3)) ∷ rule (occ 0 3) (diff (occ 1 2) (occ 1 3)) ∷ rule (occ 0 4) (prod (occ 1 2) (occ 1 3)) ∷ rule (occ 0 5) (maxi (occ 1 2) (occ 1 3)) ∷ rule (occ 0 6) (mini (occ 1 2) (occ 1 3)) ∷ rule (occ 0 7) (addc (occ 1 2) (negsuc 499)) ∷ rule (occ 0 8) (quot (occ 1 2) (pos 1000000)) ∷ [];
-      conditions = range (occ 1 2) (negsuc 2147483647) (pos 2147483647) ∷ atmost (occ 1 2) (occ 1 3) ∷ []
-    } ∷ record { left = 1; right = terminal 0 ∷ []; rules = rule (occ 0 2) (copy (occ 0 1)) ∷ rule (occ 0 3) (const (pos 2)) ∷ []; conditions = [] } ∷ []
+    left = 0;
+    right = nonterminal 1 ∷ [];
+    rules = rule (occ 1 1) (const (negsuc 6)) ∷ rule (occ 0 1) (copy (occ 1 2)) ∷ rule (occ 0 2) (sum (occ 1 2) (occ 1 3)) ∷ rule (occ 0 3) (diff (occ 1 2) (occ 1 3)) ∷ rule (occ 0 4) (prod (occ 1 2) (occ 1 3)) ∷ rule (occ 0 5) (maxi (occ 1 2) (occ 1 3)) ∷ rule (occ 0 6) (mini (occ 1 2) (occ 1 3)) ∷ rule (occ 0 7) (addc (occ 1 2) (negsuc 499)) ∷ rule (occ 0 8) (quot (occ 1 2) (pos 1000000)) ∷ [];
+    conditions = range (occ 1 2) (negsuc 2147483647) (pos 2147483647) ∷ atmost (occ 1 2) (occ 1 3) ∷ [];
+  } ∷ record { left = 1; right = terminal 0 ∷ []; rules = rule (occ 0 2) (copy (occ 0 1)) ∷ rule (occ 0 3) (const (pos 2)) ∷ []; conditions = [] } ∷ [];
 }
 unfolding functions grammar
 functions-read = refl

@@ -16,21 +16,25 @@ Y = nonterminal 2
 -- X to Y 0 X Y. X has inherited 1, 2 and synthesized 3, Y has inherited 1 and synthesized 2, 3
 abbrev pub wide1 : Production
 wide1 = record {
-  left = 1; right = Y ∷ terminal 0 ∷ X ∷ Y ∷ [];
+  left = 1;
+  right = Y ∷ terminal 0 ∷ X ∷ Y ∷ [];
   rules = rule (occ 1 1) (sum (occ 0 1) (occ 0 2)) ∷ rule (occ 0 3) (sum (occ 4 2) (occ 1 3)) ∷ rule (occ 3 1) (copy (occ 1 2)) ∷ rule (occ 4 1) (diff (occ 3 3) (occ 1 3)) ∷ rule (occ 3 2) (copy (occ 0 1)) ∷ [];
-  conditions = atmost (occ 4 3) (occ 1 3) ∷ range (occ 0 2) (pos 0) (pos 5) ∷ atmost (occ 0 1) (occ 1 2) ∷ range (occ 3 3) (negsuc 0) (pos 9) ∷ range (occ 0 1) (negsuc 9) (pos 9) ∷ []
+  conditions = atmost (occ 4 3) (occ 1 3) ∷ range (occ 0 2) (pos 0) (pos 5) ∷ atmost (occ 0 1) (occ 1 2) ∷ range (occ 3 3) (negsuc 0) (pos 9) ∷ range (occ 0 1) (negsuc 9) (pos 9) ∷ [];
 }
 
 -- S to X; X to 1; Y to 2
 abbrev pub wide : Grammar
 wide = record {
-  terminals = 3; counts = record { inherited = 0; synthesized = 1 } ∷ record { inherited = 2; synthesized = 1 } ∷ record { inherited = 1; synthesized = 2 } ∷ []; start = 0; result = 1;
+  terminals = 3;
+  counts = record { inherited = 0; synthesized = 1 } ∷ record { inherited = 2; synthesized = 1 } ∷ record { inherited = 1; synthesized = 2 } ∷ [];
+  start = 0;
+  result = 1;
   productions =
-    record { left = 0; right = X ∷ []; rules = rule (occ 1 1) (const (pos 3)) ∷ rule (occ 1 2) (const (pos 4)) ∷ rule (occ 0 1) (copy (occ 1 3)) ∷ []; conditions = [] }
-    ∷ wide1
-    ∷ record { left = 1; right = terminal 1 ∷ []; rules = rule (occ 0 3) (copy (occ 0 1)) ∷ []; conditions = [] }
-    ∷ record { left = 2; right = terminal 2 ∷ []; rules = rule (occ 0 2) (copy (occ 0 1)) ∷ rule (occ 0 3) (addc (occ 0 1) (pos 1)) ∷ []; conditions = [] }
-    ∷ []
+      record { left = 0; right = X ∷ []; rules = rule (occ 1 1) (const (pos 3)) ∷ rule (occ 1 2) (const (pos 4)) ∷ rule (occ 0 1) (copy (occ 1 3)) ∷ []; conditions = [] }
+      ∷ wide1
+      ∷ record { left = 1; right = terminal 1 ∷ []; rules = rule (occ 0 3) (copy (occ 0 1)) ∷ []; conditions = [] }
+      ∷ record { left = 2; right = terminal 2 ∷ []; rules = rule (occ 0 2) (copy (occ 0 1)) ∷ rule (occ 0 3) (addc (occ 0 1) (pos 1)) ∷ []; conditions = [] }
+      ∷ [];
 }
 
 -- ---- symbols and positions

@@ -61,12 +61,12 @@ over = refl
 abbrev acts : ℕ → Grammar → Lent → List ℕ → Config → List Act
 acts zero g l us c = []
 acts (suc n) g l us c = elim (c .frames) [
-    [] ↦ []
+  | [] ↦ []
   | f ∷ fs ↦ elim (f .rest) [
-      [] ↦ []
+    | [] ↦ []
     | i ∷ is ↦ elim (next g l (lookAt us) c) [ blocked k ↦ [] | moved d ↦ actBy (f .production) i d ∷ acts n g l (unread c d us) d ]
-    ]
   ]
+]
 
 machine-walks : acts 50 words (lent 9 6) segment (opening words) ≡ walk words tree
 machine-walks = refl
