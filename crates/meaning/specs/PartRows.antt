@@ -47,6 +47,29 @@ walked-by-machine : feedAll words (lent 9 9) (0 ∷ 1 ∷ []) (opening words) �
 unfolding walked
 walked-by-machine = refl
 
+-- ---- open close word: an ancestor with left children
+
+walked-second : Part
+walked-second =
+    partAt (open-node 1 (pos 0 ∷ []) (leaf 0 ∷ [])) (valued (nonterminal 1) (pos 0 ∷ []) [])
+    (waits-at (open-node 2 (pos 0 ∷ []) (leaf 2 ∷ node 3 (pos 1 ∷ pos 5 ∷ []) noTrees ∷ leaf 1 ∷ [])) (nonterminal 1) []
+    ∷ waits-at (open-node 0 [] []) (nonterminal 1) []
+    ∷ waits-at (open-node whole [] []) (nonterminal 0) []
+    ∷ [])
+
+second-tokens : yieldPart walked-second ≡ 1 ∷ 2 ∷ 0 ∷ []
+unfolding walked-second
+second-tokens = refl
+
+-- 5 in place of the 0 that the first list synthesizes, to tell it from d
+second-registers : drawRegisters words walked-second ≡ pos 0 ∷ m ∷ pos 0 ∷ m ∷ pos 5 ∷ pos 0 ∷ m ∷ m ∷ []
+unfolding walked-second
+second-registers = refl
+
+second-places : reverse (map (placeOf words) (drawFrames words walked-second)) ≡ 32768 ∷ 0 ∷ 515 ∷ 257 ∷ []
+unfolding walked-second
+second-places = refl
+
 -- ---- X to Y 0 X Y, at each point
 
 -- after n moves on these tokens

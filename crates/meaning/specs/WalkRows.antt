@@ -9,7 +9,7 @@ use lib.Dec.{lit<, lit≤}
 use Rattle.meaning.specs.Base.{countFrom}
 use Rattle.meaning.specs.Grammar.{Grammar, Function, const, copy, sum, addc, Rule, nonterminal}
 use Rattle.meaning.specs.Scheme.{Instruction, add, evaluate, expect, test, remove, scheme}
-use Rattle.meaning.specs.Machine.{Config, Frame, Lent, Outcome, moved, blocked, opening, next, lookAt, unread}
+use Rattle.meaning.specs.Machine.{Config, Frame, Lent, Outcome, moved, blocked, opening, next, lookAt, unread, writeAll}
 use Rattle.meaning.specs.Tree.{Tree, Forest, leaf, node, noTrees, treeAnd, yield, movesOf, picture, TreeOf, valueOf, isLeft}
 use Rattle.meaning.specs.Walk.{Act, predicts, reads, performs, walk, walkTo, actBy, Makes, nothing, andThen}
 use Rattle.meaning.specs.Drawn.{registersFor, depth, WalkFits, drawnRecord, drawnStacks, drawnMoves}
@@ -75,6 +75,10 @@ machine-walks = refl
 two-moves : Makes words (lent 9 6) segment (opening words) (predicts 0 ∷ performs 0 (add 2) ∷ []) segment (record { frames = record { production = 0; rest = evaluate (r 1 (const (pos 0)) ∷ []) ∷ expect (nonterminal 1) ∷ evaluate (r 2 (copy 1) ∷ []) ∷ remove 1 ∷ [] } ∷ record { production = 128; rest = expect (nonterminal 0) ∷ [] } ∷ []; registers = m ∷ m ∷ m ∷ []; tokens = 0; moves = 2 })
 two-moves = andThen _ _ _ _ _ (andThen _ _ _ _ _ nothing refl refl) refl refl
 
+-- the evaluations of one move read the registers as they stood before it
+all-at-once : writeAll (r 1 (copy 2) ∷ r 2 (copy 1) ∷ []) (pos 7 ∷ pos 8 ∷ []) (pos 7 ∷ pos 8 ∷ []) ≡ pos 8 ∷ pos 7 ∷ []
+all-at-once = refl
+
 -- ---- what is lent: 9 registers and 6 places do, one less of either does not
 
 its-registers : registersFor words 1 tree ≡ 9
@@ -132,6 +136,12 @@ wide-stops = refl
 wide-registers : registersFor wide 1 wideTree ≡ 10
 wide-registers = refl
 
+wide-depth : depth wideTree ≡ 3
+wide-depth = refl
+
+wide-lent : map (λ l. thenFeed wide wideSegment (openOf wide l) .answer) (used 10 4 ∷ used 9 4 ∷ used 10 3 ∷ []) ≡ more 30 ∷ refused 31 3 ∷ refused 32 0 ∷ []
+wide-lent = refl
+
 -- ---- record and stacks drawn, at each stop
 
 wide-drawn : ℕ → Called
@@ -154,3 +164,24 @@ words-at = refl
 
 words-over : thenFinish words (thenFeed words segment (openOf words (used 12 7))) ≡ called (value (pos 2) 32) (drawnRecord words tree 4 true) (drawnStacks words tree 4 true (used 12 7))
 words-over = refl
+
+-- open close word: the second list stands on what the first has synthesized
+
+secondTree : Tree
+secondTree =
+    node 0 (pos 1 ∷ []) (treeAnd
+    (node 2 (pos 0 ∷ pos 1 ∷ []) (treeAnd (leaf 1) (treeAnd
+    (node 3 (pos 1 ∷ pos 0 ∷ []) noTrees) (treeAnd (leaf 2) (treeAnd
+    (node 1 (pos 0 ∷ pos 1 ∷ []) (treeAnd (leaf 0) (treeAnd (node 3 (pos 0 ∷ pos 0 ∷ []) noTrees) noTrees)))
+    noTrees))))) noTrees)
+
+second-drawn : ℕ → Called
+second-drawn j = called (more (movesOf words j 0 secondTree)) (drawnRecord words secondTree j false) (drawnStacks words secondTree j false (used 12 7))
+
+second-at : map (λ j. thenFeed words (take j (1 ∷ 2 ∷ 0 ∷ [])) (openOf words (used 12 7))) (countFrom 0 4) ≡ map second-drawn (countFrom 0 4)
+unfolding second-drawn secondTree
+second-at = refl
+
+second-over : thenFinish words (thenFeed words (1 ∷ 2 ∷ 0 ∷ []) (openOf words (used 12 7))) ≡ called (value (pos 1) 26) (drawnRecord words secondTree 3 true) (drawnStacks words secondTree 3 true (used 12 7))
+unfolding secondTree
+second-over = refl
