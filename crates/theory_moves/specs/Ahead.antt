@@ -1,17 +1,22 @@
 -- The children that a node in progress still has to come, of a well evaluated tree's node.
-use Prim.Native.Nat.{ℕ, zero, suc, _+_, _≤_, _<_}
+use Prim.Native.Nat.{ℕ, suc, _+_}
 use native.Mathlib.Omega.{arith}
-use mathlib.Core.Path.{_≡_, refl, sym, ap, _∙_, subst}
-use mathlib.Core.List.{List, [], _∷_, _++_}
+use mathlib.Core.Path.{_≡_, refl, sym, ap, ap₂, _∙_, subst}
+use mathlib.Core.List.{List, [], _∷_}
 use lib.ListN.{length, drop}
 use Rattle.meaning.specs.Grammar.{Grammar, Symbol}
-use Rattle.meaning.specs.Tree.{Tree, Forest, noTrees, treeAnd, child, yields, WellEvaluated, WellEvaluateds}
+use Rattle.meaning.specs.Tree.{Tree, Forest, noTrees, treeAnd, child, WellEvaluated, WellEvaluateds}
 use Rattle.meaning.specs.Part.{forestOnto}
-use Rattle.theory_sound.specs.Values.{child-onto, drop-head}
-use Rattle.theory_complete.specs.Walk.{Foreseen, Foreseens}
+use Rattle.theory_base.specs.Values.{child-onto, drop-head}
+use Rattle.theory_complete.specs.Passing.{firsts}
+use Rattle.theory_complete.specs.Walk.{Foreseens}
 
 pub ahead-child : (ts : List Tree) (u : Tree) (f : Forest) → child (forestOnto ts (treeAnd u f)) (length ts) ≡ u
 ahead-child ts u f = let e : length ts ≡ length ts + 0 = omega arith in ap (child (forestOnto ts (treeAnd u f))) e ∙ child-onto ts (treeAnd u f) 0
+
+pub onto-firsts : (ts : List Tree) (f : Forest) → firsts (length ts) (forestOnto ts f) ≡ ts
+onto-firsts [] f = refl
+onto-firsts (t ∷ ts) f = ap₂ _∷_ (ahead-child ts t f) (onto-firsts ts (treeAnd t f))
 
 pub ahead-evaluated : (g : Grammar) (ts : List Tree) (f : Forest) (xs : List Symbol) → WellEvaluateds g (forestOnto ts f) xs → WellEvaluateds g f (drop (length ts) xs)
 ahead-evaluated g [] f xs w = w

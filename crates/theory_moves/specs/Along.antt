@@ -1,16 +1,18 @@
 -- The node of a tree that stands on the ancestors of a part, and what comes after it.
-use Prim.Native.Nat.{ℕ, zero, suc}
-use mathlib.Core.Path.{_≡_, refl, sym, ap, _∙_, subst}
+use Prim.Native.Nat.{ℕ, _+_}
+use mathlib.Core.Path.{_≡_, sym, ap, _∙_, subst}
 use mathlib.Core.List.{List, [], _∷_, _++_, append-assoc, append-nil}
-use lib.ListN.{length, take, drop}
+use lib.ListN.{length, drop}
 use lib.IntN.{ℤ}
-use Rattle.meaning.specs.Base.{In}
-use Rattle.meaning.specs.Grammar.{Grammar, Symbol, nonterminal, Occurrence, Rule, att, productionAt, whole}
-use Rattle.meaning.specs.Value.{apply}
-use Rattle.meaning.specs.Tree.{Tree, Forest, leaf, node, noTrees, treeAnd, yield, yields, child, valueAt, inheritedOf, RulesHold, WellEvaluated, WellEvaluateds}
-use Rattle.meaning.specs.Part.{Open, Ancestor, yieldsOf, yieldBelow, forestOnto, rooted, childrenOf, nodeOn, Begins, BeginBelow}
-use Rattle.theory_sound.specs.Values.{yields-onto}
+use Rattle.meaning.specs.Grammar.{Grammar, Symbol, nonterminal, att, productionAt, whole}
+use Rattle.meaning.specs.Tree.{Tree, Forest, node, noTrees, treeAnd, yield, yields, child, inheritedOf, WellEvaluated, WellEvaluateds}
+use Rattle.meaning.specs.Rules.{WellFormed}
+use Rattle.meaning.specs.Part.{Ancestor, yieldsOf, yieldBelow, forestOnto, rooted, childrenOf, nodeOn, BeginBelow}
+use Rattle.theory_base.specs.WellFormed.{whole-counts, evaluable-whole}
+use Rattle.theory_base.specs.Values.{yields-onto}
+use Rattle.theory_complete.specs.Passing.{Evaluated}
 use Rattle.theory_complete.specs.Walk.{Foreseen, Foreseens}
+use Rattle.theory_complete.specs.Subtree.{node-evaluated}
 use Rattle.theory_moves.specs.Ahead.{ahead-child, ahead-evaluated, ahead-foreseen}
 
 -- u is t's node on these ancestors, each of which begins t's node there; rest is the tokens after u's
@@ -49,13 +51,8 @@ along-yield g t (a ∷ bs) u rest h =
 
 -- a node of a well evaluated tree, or the whole segment's on top of it, each of whose predicts finds the node's production
 pub record Sits (g : Grammar) (p : ℕ) (vs : List ℤ) (f : Forest) (rest : List ℕ) : Type 0 where
-  pub children : WellEvaluateds g f (productionAt g p .right)
-  pub rules : RulesHold vs f (productionAt g p .rules)
-  pub size : length vs ≡ att g (nonterminal (productionAt g p .left))
+  pub evaluated : Evaluated g (productionAt g p) vs f
   pub foreseen : Foreseens g rest f
-
-node-sits : (g : Grammar) (p : ℕ) (vs : List ℤ) (f : Forest) (x : Symbol) (rest : List ℕ) → WellEvaluated g (node p vs f) x → Foreseen g rest (node p vs f) → Sits g p vs f rest
-node-sits g p vs f x rest w o = record { children = w .1; rules = w .0 .rules; size = w .0 .size ∙ ap (att g) (w .0 .symbol); foreseen = o .1 }
 
 -- the child at hand of such a node
 record Child (g : Grammar) (u : Tree) (rest : List ℕ) : Type 0 where
@@ -64,26 +61,27 @@ record Child (g : Grammar) (u : Tree) (rest : List ℕ) : Type 0 where
   foreseen : Foreseen g rest u
 
 child-sits : (g : Grammar) (p : ℕ) (vs : List ℤ) (ts : List Tree) (u : Tree) (f : Forest) (later : List ℕ) → Sits g p vs (forestOnto ts (treeAnd u f)) later → Child g u (yields f ++ later)
-child-sits g p vs ts u f later s = go (drop (length ts) (productionAt g p .right)) (ahead-evaluated g ts (treeAnd u f) (productionAt g p .right) (s .children))
+child-sits g p vs ts u f later s = go (drop (length ts) (productionAt g p .right)) (ahead-evaluated g ts (treeAnd u f) (productionAt g p .right) (s .evaluated .children))
   where
     go : (xs : List Symbol) → WellEvaluateds g (treeAnd u f) xs → Child g u (yields f ++ later)
     go [] w = absurd w
     go (x ∷ xs) w = record { symbol = x; evaluated = w .0; foreseen = ahead-foreseen g later ts (treeAnd u f) (s .foreseen) .0 }
 
 -- of the tree, and of each node on the way
-module _ (g : Grammar) (t : Tree) (bare : att g (nonterminal 255) ≡ 0) (w : WellEvaluated g t (nonterminal (g .start))) (o : Foreseen g [] t) where
+module _ (g : Grammar) (formed : WellFormed g) (t : Tree) (w : WellEvaluated g t (nonterminal (g .start))) (o : Foreseen g [] t) where
   root-sits : (p : ℕ) (vs : List ℤ) (f : Forest) (rest : List ℕ) → node p vs f ≡ rooted t → rest ≡ [] → Sits g p vs f rest
   root-sits p vs f rest e r =
       let a : p ≡ whole = cc in
       let b : vs ≡ [] = cc in
       let c : f ≡ treeAnd t noTrees = cc in
-      rw (a, b, c, r) (record { children = (w, tt); rules = tt; size = sym bare; foreseen = (o, tt) })
+      let size : 0 ≡ att g (nonterminal 255) = sym (ap (λ k. k .inherited + k .synthesized) (whole-counts g formed)) in
+      rw (a, b, c, r) (record { evaluated = record { formed = evaluable-whole g formed; children = (w, tt); size = size; ranges = tt; rules = tt; conditions = tt }; foreseen = (o, tt) })
 
   pub along-sits : (bs : List Ancestor) (p : ℕ) (vs : List ℤ) (f : Forest) (rest : List ℕ) → Along g t bs (node p vs f) rest → Sits g p vs f rest
   along-sits [] p vs f rest h = root-sits p vs f rest (h .isRoot) (h .isRest)
   along-sits (a ∷ bs) p vs f rest h =
       let k = child-sits g (a .node .production) (h .values) (a .node .children) (node p vs f) (h .after) (h .later) (along-sits bs _ _ _ (h .later) (h .parent)) in
-      node-sits g p vs f (k .symbol) rest (k .evaluated) (subst (λ z. Foreseen g z (node p vs f)) (sym (h .isRest)) (k .foreseen))
+      record { evaluated = node-evaluated g formed (k .symbol) p vs f (k .evaluated); foreseen = subst (λ z. Foreseen g z (node p vs f)) (sym (h .isRest)) (k .foreseen) .1 }
 
   -- below the whole segment's it is well evaluated
   pub along-evaluated : (a : Ancestor) (bs : List Ancestor) (u : Tree) (rest : List ℕ) → Along g t (a ∷ bs) u rest → (x : Symbol) × WellEvaluated g u x

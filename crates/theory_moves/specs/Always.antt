@@ -11,25 +11,13 @@ use Rattle.meaning.specs.Machine.{Config, Lent, opening}
 use Rattle.meaning.specs.Tree.{Tree, WellEvaluated, TreeOf}
 use Rattle.meaning.specs.Walk.{Act, Makes}
 use Rattle.meaning.specs.Statements.{SelectorsAlways, ReturnsAlways}
-use Rattle.theory_sets.specs.Accepted.{accepted-sane}
-use Rattle.theory_sets.specs.StartSets.{starts-is}
-use Rattle.theory_sound.specs.TableFormed.{accepted-formed}
+use Rattle.theory_sets.specs.Accepted.{Sane, accepted-sane}
 use Rattle.theory_sound.specs.Runs.{Shows}
 use Rattle.theory_sound.specs.Ready.{selectors-find}
 use Rattle.theory_sound.specs.Nested.{part-returns}
-use Rattle.theory_complete.specs.Predicting.{SetsRight}
-use Rattle.theory_complete.specs.Walk.{Foreseen}
-use Rattle.theory_complete.specs.Halves.{formed, foreseen}
+use Rattle.theory_complete.specs.Halves.{foreseen}
 use Rattle.theory_moves.specs.Begun.{Begun, part-of}
 use Rattle.theory_moves.specs.Made.{Made, made}
-
--- the computed FIRST-then-FOLLOW sets of an accepted table are those of its derivations
-sets-right : (bs : List ℕ) (g : Grammar) → Accepted bs g → SetsRight g
-sets-right bs g a = λ p m l. starts-is (accepted-sane bs g a .fits .sound) (λ n h. accepted-sane bs g a .useful n h .0) p l m
-
--- each predict of a tree's walk finds the node's production
-foreseen-all : (bs : List ℕ) (g : Grammar) → Accepted bs g → (t : Tree) → WellEvaluated g t (nonterminal (g .start)) → Foreseen g [] t
-foreseen-all bs g a t w = foreseen sets-right bs g a _ t (record { evaluated = w; read = refl })
 
 first-part : (xs ys zs : List ℕ) → xs ++ zs ≡ ys ++ zs → xs ≡ ys
 first-part xs ys zs e =
@@ -40,7 +28,8 @@ first-part xs ys zs e =
 module _ (bs : List ℕ) (g : Grammar) (a : Accepted bs g) (lent : Lent) (ws : List Act) (ts us : List ℕ) (c : Config) (m : Makes g lent (ts ++ us) (opening g) ws us c) where
   reached : (s : Shows g ts c) × ((t : Tree) → TreeOf g (ts ++ us) t → Begun g t (s .part .node) (s .part .below))
   reached =
-      let k = made g (accepted-formed bs g a) (formed bs g a) (foreseen-all bs g a) lent (ts ++ us) ws us c m in
+      let s = accepted-sane bs g a in
+      let k = made g (s .formed) lent (ts ++ us) (foreseen g s (ts ++ us)) ws us c m in
       subst (λ z. (s : Shows g z c) × ((t : Tree) → TreeOf g (ts ++ us) t → Begun g t (s .part .node) (s .part .below))) (sym (first-part ts (k .read) us (k .split))) (k .shows, k .ofTree)
 
 -- 01: "A selector finds its attribute if its register is the named occurrence's and, when read, holds the tree's value"
@@ -48,10 +37,10 @@ pub selectors-always : SelectorsAlways
 selectors-always bs g a lent ws ts us c m p i is fs e =
     let r = reached bs g a lent ws ts us c m in
     let s = r .0 in
-    selectors-find g (accepted-formed bs g a) ts us c s
-    (λ t w pt gn. part-of g (accepted-formed bs g a) (formed bs g a) t (w .evaluated) (foreseen-all bs g a t (w .evaluated)) (s .part .node) (s .part .below) (r .1 t w) (s .good .stands) pt gn)
+    selectors-find g (accepted-sane bs g a .formed) ts us c s
+    (λ t w pt gn. part-of g (accepted-sane bs g a .formed) t (w .evaluated) (foreseen g (accepted-sane bs g a) (ts ++ us) t w) (s .part .node) (s .part .below) (r .1 t w) (s .good .stands) pt gn)
     p i is fs e
 
 -- when a part of the tree is left, the registers below its results are those it was entered with
 pub returns-always : ReturnsAlways
-returns-always bs g a lent ws ts us c z m p x is fs e k = part-returns g (accepted-formed bs g a) lent ts us c z (reached bs g a lent ws ts us c m .0) p x is fs e k
+returns-always bs g a lent ws ts us c z m p x is fs e k = part-returns g (accepted-sane bs g a .formed) lent ts us c z (reached bs g a lent ws ts us c m .0) p x is fs e k

@@ -12,13 +12,12 @@ use Rattle.meaning.specs.Grammar.{Grammar, Production, Symbol, terminal, nonter
 use Rattle.meaning.specs.Value.{mark}
 use Rattle.meaning.specs.Machine.{Look, lookAt, alternatives, entered}
 use Rattle.meaning.specs.Tree.{Tree, Forest, leaf, node, noTrees, treeAnd, child, yield, yields, inheritedOf, synthesizedOf, waiting, RulesHold, WellEvaluated, WellEvaluateds}
+use Rattle.meaning.specs.Rules.{WellFormed}
 use Rattle.meaning.specs.Part.{Open, Point, fresh, added, valued, left, closing, Ancestor, Part, yieldsOf, yieldBelow, yieldPart, forestOnto, marks, drawBelow, drawRegisters, Handed, GoodNode, Stands, Good, Begins, Reaches, PartOf}
-use Rattle.theory_sound.specs.Formed as Sound
-use Rattle.theory_sound.specs.Selectors.{syn-size}
-use Rattle.theory_sound.specs.Values.{yields-onto, drop-head, treeOf, complete}
+use Rattle.theory_base.specs.Selectors.{syn-size}
+use Rattle.theory_base.specs.Values.{yields-onto, treeOf, complete}
 use Rattle.theory_sound.specs.Steps.{Mode, looking}
-use Rattle.theory_sound.specs.Moves.{Grown, within, waits, ends, reads, predicts, removes, nodeOf, partOf, waitingAt, withChild, formed-at, whole-counts}
-use Rattle.theory_complete.specs.Formed.{Formed}
+use Rattle.theory_sound.specs.Moves.{Grown, within, waits, ends, reads, predicts, removes, nodeOf, partOf, waitingAt, withChild, node-evaluable}
 use Rattle.theory_complete.specs.Walk.{Chosen, Foreseen, Foreseens}
 use Rattle.theory_moves.specs.Ahead.{ahead-child, ahead-evaluated, ahead-foreseen, Next, next-child}
 use Rattle.theory_moves.specs.Along.{Along, along-node, along-below, along-yield, Sits, along-sits, along-evaluated}
@@ -46,27 +45,19 @@ only-leaf : (g : Grammar) (u : Tree) (x : Symbol) (c : ℕ) → WellEvaluated g 
 only-leaf g (leaf d) x c w e = cc
 only-leaf g (node p vs f) x c w e = let s = w .0 .symbol in let z : _≡_ {A = ℕ} 0 1 = cc in absurd (omega arith)
 
-module _ (g : Grammar) (sound : Sound.Formed g) (formed : Formed g) (t : Tree) (w : WellEvaluated g t (nonterminal (g .start))) (fore : Foreseen g [] t) where
-  bare : att g (nonterminal 255) ≡ 0
-  bare = ap (λ c. c .inherited + c .synthesized) (whole-counts g sound)
-
+module _ (g : Grammar) (formed : WellFormed g) (t : Tree) (w : WellEvaluated g t (nonterminal (g .start))) (fore : Foreseen g [] t) where
   begun-sits : (o : Open) (bs : List Ancestor) (b : Begun g t o bs) → Sits g (o .production) (b .values) (forestOnto (o .children) (b .ahead)) (b .rest)
-  begun-sits o bs b = along-sits g t bare w fore bs (o .production) (b .values) (forestOnto (o .children) (b .ahead)) (b .rest) (b .along)
+  begun-sits o bs b = along-sits g formed t w fore bs (o .production) (b .values) (forestOnto (o .children) (b .ahead)) (b .rest) (b .along)
 
   -- the tree's next child
   next-of : (o : Open) (bs : List Ancestor) (b : Begun g t o bs) (x : Symbol) (xs : List Symbol) → drop (length (o .children)) (productionAt g (o .production) .right) ≡ x ∷ xs → Next g (b .ahead) x
-  next-of o bs b x xs d = next-child g (b .ahead) x xs (subst (WellEvaluateds g (b .ahead)) d (ahead-evaluated g (o .children) (b .ahead) (productionAt g (o .production) .right) (begun-sits o bs b .children)))
+  next-of o bs b x xs d = next-child g (b .ahead) x xs (subst (WellEvaluateds g (b .ahead)) d (ahead-evaluated g (o .children) (b .ahead) (productionAt g (o .production) .right) (begun-sits o bs b .evaluated .children)))
 
   -- the values handed to it are the tree's
-  next-handed : (o : Open) (bs : List Ancestor) (b : Begun g t o bs) → Stands g (o .production) (o .inherited) bs → (x : Symbol) (is : List ℤ) (xs : List Symbol) (gn : GoodNode g o (valued x is xs)) → inheritedOf g (next-of o bs b x xs (gn .1 .0) .tree) ≡ is
-  next-handed o bs b st x is xs gn =
-      let n = next-of o bs b x xs (gn .1 .0) in
+  next-handed : (o : Open) (bs : List Ancestor) (b : Begun g t o bs) (x : Symbol) (is : List ℤ) (xs : List Symbol) → GoodNode g o (valued x is xs) → inheritedOf g (child (forestOnto (o .children) (b .ahead)) (length (o .children))) ≡ is
+  next-handed o bs b x is xs gn =
       let p : Production = productionAt g (o .production) in
-      same-handed g p (formed-at g sound (o .production) (o .inherited) bs st) (b .values) (o .children) (n .tree) (n .after) x xs is
-      (ap length (b .inherited) ∙ gn .0 .sized)
-      (subst (λ z. RulesHold (b .values) (forestOnto (o .children) z) (p .rules)) (n .isNext) (begun-sits o bs b .rules))
-      (n .evaluated) (gn .1 .0)
-      (subst (λ z. Handed g p z (o .children) x is) (sym (b .inherited)) (gn .1 .2))
+      same-handed g p (b .values) (o .children) (b .ahead) x xs is (begun-sits o bs b .evaluated) (gn .1 .0) (subst (λ z. Handed g p z (o .children) x is) (sym (b .inherited)) (gn .1 .2))
 
   -- ---- one child more
 
@@ -122,7 +113,7 @@ module _ (g : Grammar) (sound : Sound.Formed g) (formed : Formed g) (t : Tree) (
   begun-predict : (o : Open) (bs : List Ancestor) (p : ℕ) (vs : List ℤ) (ys : List Symbol) (x : Symbol) (xs : List Symbol) (us : List ℕ) → Good g (partOf (nodeOf p vs []) (fresh ys) (waitingAt o x xs ∷ bs))
       → In p (keep (entered g (drawRegisters g (partOf (nodeOf p vs []) (fresh ys) (waitingAt o x xs ∷ bs)))) (alternatives g (productionAt g p .left) (lookAt us)))
       → (b : Begun g t o bs) → yields (b .ahead) ++ b .rest ≡ us → Begun g t (nodeOf p vs []) (waitingAt o x xs ∷ bs)
-  begun-predict o bs p vs ys x xs us gd pick b pos = go (n .tree) (n .isNext) (n .evaluated) (subst (Foreseens g (b .rest)) (n .isNext) (ahead-foreseen g (b .rest) (o .children) (b .ahead) (begun-sits o bs b .foreseen)) .0) (next-handed o bs b (gd .stands .3) x vs xs gn)
+  begun-predict o bs p vs ys x xs us gd pick b pos = go (n .tree) (n .isNext) (n .evaluated) (subst (Foreseens g (b .rest)) (n .isNext) (ahead-foreseen g (b .rest) (o .children) (b .ahead) (begun-sits o bs b .foreseen)) .0) (ap (inheritedOf g) (sym (ap (λ z. child (forestOnto (o .children) z) (length (o .children))) (n .isNext) ∙ ahead-child (o .children) (n .tree) (n .after))) ∙ next-handed o bs b x vs xs gn)
     where
       gn : GoodNode g o (valued x vs xs)
       gn = gd .stands .2
@@ -138,7 +129,7 @@ module _ (g : Grammar) (sound : Sound.Formed g) (formed : Formed g) (t : Tree) (
 
   is-node : (o : Open) (a : Ancestor) (bs : List Ancestor) (b : Begun g t o (a ∷ bs)) (ss : List ℤ) (y : Symbol) → length (o .inherited) ≡ inh g (nonterminal (productionAt g (o .production) .left)) → WellEvaluated g (treeOf (o .production) (o .inherited ++ ss) (o .children)) y → node (o .production) (b .values) (forestOnto (o .children) (b .ahead)) ≡ treeOf (o .production) (o .inherited ++ ss) (o .children)
   is-node o a bs b ss y s v =
-      let k = along-evaluated g t bare w fore a bs _ (b .rest) (b .along) in
+      let k = along-evaluated g formed t w fore a bs _ (b .rest) (b .along) in
       same-node g formed (o .production) (b .values) (o .inherited ++ ss) (o .children) (b .ahead) (k .0) y (k .1) v (b .inherited ∙ sym (take-at (o .inherited) ss (inh g (nonterminal (productionAt g (o .production) .left))) s))
 
   begun-remove : (o : Open) (a : Ancestor) (bs : List Ancestor) (ss : List ℤ) → length (o .inherited) ≡ inh g (nonterminal (productionAt g (o .production) .left)) → Good g (partOf (withChild (a .node) (treeOf (o .production) (o .inherited ++ ss) (o .children))) (left (a .ahead)) bs) → Begun g t o (a ∷ bs) → Begun g t (withChild (a .node) (treeOf (o .production) (o .inherited ++ ss) (o .children))) bs
@@ -166,12 +157,10 @@ module _ (g : Grammar) (sound : Sound.Formed g) (formed : Formed g) (t : Tree) (
   reaches o bs b st (fresh xs) gn = tt
   reaches o bs b st (added x xs) gn = tt
   reaches o bs b st (left xs) gn = tt
-  reaches o bs b st (valued x is xs) gn =
-      let n = next-of o bs b x xs (gn .1 .0) in
-      ap (λ z. inheritedOf g (child (forestOnto (o .children) z) (length (o .children)))) (n .isNext) ∙ (ap (inheritedOf g) (ahead-child (o .children) (n .tree) (n .after)) ∙ next-handed o bs b st x is xs gn)
-  reaches o [] b st (closing ss) gn = absurd (omega (arith, st .0, gn .1 .3, sound .productions))
+  reaches o bs b st (valued x is xs) gn = next-handed o bs b x is xs gn
+  reaches o [] b st (closing ss) gn = absurd (omega (arith, st .0, gn .1 .3, formed .productions .1))
   reaches o (a ∷ bs) b st (closing ss) gn =
-      let good = complete g (o .production) (gn .1 .3) (formed-at g sound (o .production) (o .inherited) (a ∷ bs) st) (o .inherited) ss (o .children) (gn .0) (gn .1 .1) (gn .1 .2) (gn .1 .0) in
+      let good = complete g (o .production) (gn .1 .3) (node-evaluable g formed (o .production) (o .inherited) (a ∷ bs) st) (o .inherited) ss (o .children) (gn .0) (gn .1 .1) (gn .1 .2) (gn .1 .0) in
       ap (synthesizedOf g) (is-node o a bs b ss (nonterminal (productionAt g (o .production) .left)) (gn .0 .sized) good) ∙ drop-at (o .inherited) ss (inh g (nonterminal (productionAt g (o .production) .left))) (gn .0 .sized)
 
   pub part-of : (o : Open) (bs : List Ancestor) → Begun g t o bs → Stands g (o .production) (o .inherited) bs → (pt : Point) → GoodNode g o pt → PartOf g t (partOf o pt bs)

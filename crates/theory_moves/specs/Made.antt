@@ -7,17 +7,16 @@ use mathlib.Core.List.{List, [], _∷_, _++_, append-assoc}
 use lib.ListN.{length, take, drop, length-append, length-map}
 use lib.Seq.{take-at, take-nil}
 use Rattle.meaning.specs.Base.{keep, In}
-use Rattle.meaning.specs.Grammar.{Grammar, nonterminal, inh, productionAt}
-use Rattle.meaning.specs.Machine.{Config, Lent, moved, next, opening, lookAt, unread, token, alternatives, entered}
+use Rattle.meaning.specs.Grammar.{Grammar, nonterminal, inh, productionAt, token}
+use Rattle.meaning.specs.Machine.{Config, Lent, moved, next, opening, lookAt, unread, alternatives, entered}
 use Rattle.meaning.specs.Tree.{Tree, noTrees, treeAnd, WellEvaluated, TreeOf}
+use Rattle.meaning.specs.Rules.{WellFormed}
 use Rattle.meaning.specs.Part.{Part, yieldPart, drawFrame, drawFrames, drawRegisters}
 use Rattle.meaning.specs.Walk.{Act, topProduction, Makes, nothing, andThen}
-use Rattle.theory_sound.specs.Formed as Sound
 use Rattle.theory_sound.specs.Steps.{looking, Predicted}
 use Rattle.theory_sound.specs.Moves.{Moved, nodeOf}
 use Rattle.theory_sound.specs.Runs.{Shows, opening-shows, moves-to, shows-same, shows-read}
 use Rattle.theory_sound.specs.Nested.{only-predict}
-use Rattle.theory_complete.specs.Formed.{Formed}
 use Rattle.theory_complete.specs.Walk.{Foreseen}
 use Rattle.theory_moves.specs.Begun.{Begun, still, begun-move}
 
@@ -32,10 +31,10 @@ look-is : (vs : List ℕ) (c : ℕ) → looking (lookAt vs) ≡ looking (token c
 look-is [] c e = let z : _≡_ {A = ℕ} 0 1 = cc in absurd (omega arith)
 look-is (u ∷ vs) c e = let z : u ≡ c = cc in ap (λ n. n ∷ vs) z
 
-module _ (g : Grammar) (sound : Sound.Formed g) (formed : Formed g) (foreseen : (t : Tree) → WellEvaluated g t (nonterminal (g .start)) → Foreseen g [] t) (lent : Lent) (stream : List ℕ) where
+module _ (g : Grammar) (formed : WellFormed g) (lent : Lent) (stream : List ℕ) (foreseen : (t : Tree) → TreeOf g stream t → Foreseen g [] t) where
   made-nothing : Made g stream stream (opening g)
   made-nothing = record {
-        read = []; split = refl; shows = opening-shows g sound;
+        read = []; split = refl; shows = opening-shows g formed;
         ofTree = λ t w. record { values = []; ahead = treeAnd t noTrees; rest = []; along = record { isRoot = refl; isRest = refl }; inherited = take-nil (inh g (nonterminal 255)) }
       }
 
@@ -58,18 +57,18 @@ module _ (g : Grammar) (sound : Sound.Formed g) (formed : Formed g) (foreseen : 
       s : Shows g (m .read) d
       s = m .shows
       v : Moved g (looking (lookAt vs)) (s .part .node) (s .part .below) (d .tokens) (d .moves) e
-      v = moves-to g sound lent (looking (lookAt vs)) (m .read) d e s h
+      v = moves-to g formed lent (looking (lookAt vs)) (m .read) d e s h
       begun : (t : Tree) → TreeOf g stream t → Begun g t (v .part .node) (v .part .below)
       begun t w =
           let b = m .ofTree t w in
-          begun-move g sound formed t (w .evaluated) (foreseen t (w .evaluated)) (v .grown) (v .good) (s .good .node .0 .sized) vs (picked vs d e m v h) b (still g t (s .part .node) (s .part .below) b (m .read) vs (s .read) (w .read ∙ m .split))
+          begun-move g formed t (w .evaluated) (foreseen t w) (v .grown) (v .good) (s .good .node .0 .sized) vs (picked vs d e m v h) b (still g t (s .part .node) (s .part .below) b (m .read) vs (s .read) (w .read ∙ m .split))
       go : ((d .tokens ≡ e .tokens) × (yieldPart (s .part) ≡ yieldPart (v .part))) ⊎ ((c : ℕ) × (looking (lookAt vs) ≡ looking (token c)) × (suc (d .tokens) ≡ e .tokens) × (yieldPart (s .part) ++ (c ∷ []) ≡ yieldPart (v .part))) → Made g stream (unread d e vs) e
       go (inl r) =
           let none : e .tokens - d .tokens ≡ 0 = omega (arith, r .0) in
           record {
             read = m .read;
             split = m .split ∙ ap (λ n. m .read ++ drop n vs) (sym none);
-            shows = shows-same g sound lent (looking (lookAt vs)) (m .read) d e s v (r .0) (r .1);
+            shows = shows-same g formed lent (looking (lookAt vs)) (m .read) d e s v (r .0) (r .1);
             ofTree = begun
           }
       go (inr r) =
@@ -78,7 +77,7 @@ module _ (g : Grammar) (sound : Sound.Formed g) (formed : Formed g) (foreseen : 
           record {
             read = m .read ++ (r .0 ∷ []);
             split = m .split ∙ (ap (λ z. m .read ++ z) (sym rest) ∙ sym (append-assoc (m .read) (r .0 ∷ []) (drop (e .tokens - d .tokens) vs)));
-            shows = shows-read g sound lent (looking (lookAt vs)) (m .read) d e s v (r .0) (r .2) (r .3);
+            shows = shows-read g formed lent (looking (lookAt vs)) (m .read) d e s v (r .0) (r .2) (r .3);
             ofTree = begun
           }
 
