@@ -1,7 +1,7 @@
 pub mod FitTest
 pub mod Selecting
-pub mod Shape
 pub mod Steps
+pub mod Shape
 pub mod ShapeMoves
 pub mod ShapeMemory
 pub mod Handling
