@@ -19,13 +19,13 @@ use Rattle.theory_moves.specs.Ahead.{ahead-child, ahead-evaluated, ahead
 abbrev pub Along : Grammar → Tree → List Ancestor → Tree → List ℕ → Type 0
 Along g t [] u rest = record { isRoot : u ≡ rooted t; isRest : rest ≡ [] }
 Along g t (a ∷ bs) u rest = record {
-      values : List ℤ;
-      after : Forest;
-      later : List ℕ;
-      parent : Along g t bs (node (a .node .production) values (forestOnto (a .node .children) (treeAnd u after))) later;
-      inherited : inheritedOf g (node (a .node .production) values (forestOnto (a .node .children) (treeAnd u after))) ≡ a .node .inherited;
-      isRest : rest ≡ yields after ++ later
-    }
+  values : List ℤ;
+  after : Forest;
+  later : List ℕ;
+  parent : Along g t bs (node (a .node .production) values (forestOnto (a .node .children) (treeAnd u after))) later;
+  inherited : inheritedOf g (node (a .node .production) values (forestOnto (a .node .children) (treeAnd u after))) ≡ a .node .inherited;
+  isRest : rest ≡ yields after ++ later;
+}
 
 pub along-node : (g : Grammar) (t : Tree) (bs : List Ancestor) (u : Tree) (rest : List ℕ) → Along g t bs u rest → nodeOn t bs ≡ u
 along-node g t [] u rest h = sym (h .isRoot)

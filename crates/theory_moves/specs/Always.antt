@@ -1,23 +1,23 @@
 -- Demand 3's sentences on selectors and on the registers below a part, for every accepted table.
-use Prim.Native.Nat.{ℕ, _+_}
+use Prim.Native.Nat.{ℕ}
 use native.Mathlib.Omega.{arith}
 use mathlib.Core.Path.{_≡_, refl, sym, ap, _∙_, subst}
-use mathlib.Core.List.{List, [], _∷_, _++_}
+use mathlib.Core.List.{List, _++_}
 use lib.ListN.{length, take, length-append}
 use lib.Seq.{take-at}
-use Rattle.meaning.specs.Grammar.{Grammar, nonterminal}
+use Rattle.meaning.specs.Grammar.{Grammar}
 use Rattle.meaning.specs.Judgement.{Accepted}
 use Rattle.meaning.specs.Machine.{Config, Lent, opening}
-use Rattle.meaning.specs.Tree.{Tree, WellEvaluated, TreeOf}
+use Rattle.meaning.specs.Tree.{Tree, TreeOf}
 use Rattle.meaning.specs.Walk.{Act, Makes}
 use Rattle.meaning.specs.Statements.{SelectorsAlways, ReturnsAlways}
-use Rattle.theory_sets.specs.Accepted.{Sane, accepted-sane}
+use Rattle.theory_sets.specs.Accepted.{accepted-sane}
 use Rattle.theory_sound.specs.Runs.{Shows}
 use Rattle.theory_sound.specs.Ready.{selectors-find}
 use Rattle.theory_sound.specs.Nested.{part-returns}
 use Rattle.theory_complete.specs.Halves.{foreseen}
 use Rattle.theory_moves.specs.Begun.{Begun, part-of}
-use Rattle.theory_moves.specs.Made.{Made, made}
+use Rattle.theory_moves.specs.Made.{made}
 
 first-part : (xs ys zs : List ℕ) → xs ++ zs ≡ ys ++ zs → xs ≡ ys
 first-part xs ys zs e =

@@ -1,22 +1,22 @@
 -- A part that has begun a given tree: each move from it leads to a part that has begun the same tree.
-use Prim.Native.Nat.{ℕ, zero, suc, _+_, _≤_, _<_}
+use Prim.Native.Nat.{ℕ, suc, _<_}
 use native.Mathlib.Omega.{arith}
 use mathlib.Core.Path.{_≡_, refl, sym, ap, _∙_, subst}
-use mathlib.Core.Logic.{_⊎_, inl, inr}
+use mathlib.Core.Logic.{inl, inr}
 use mathlib.Core.List.{List, [], _∷_, _++_, append-assoc}
-use lib.ListN.{getD, length, take, drop, replicate, length-append}
+use lib.ListN.{length, drop, replicate}
 use lib.Seq.{drop-cons, drop-at, take-at}
 use lib.IntN.{ℤ}
 use Rattle.meaning.specs.Base.{keep, In}
-use Rattle.meaning.specs.Grammar.{Grammar, Production, Symbol, terminal, nonterminal, inh, syn, att, productionAt, symbolAt}
+use Rattle.meaning.specs.Grammar.{Grammar, Production, Symbol, terminal, nonterminal, inh, syn, productionAt, symbolAt}
 use Rattle.meaning.specs.Value.{mark}
-use Rattle.meaning.specs.Machine.{Look, lookAt, alternatives, entered}
-use Rattle.meaning.specs.Tree.{Tree, Forest, leaf, node, noTrees, treeAnd, child, yield, yields, inheritedOf, synthesizedOf, waiting, RulesHold, WellEvaluated, WellEvaluateds}
+use Rattle.meaning.specs.Machine.{lookAt, alternatives, entered}
+use Rattle.meaning.specs.Tree.{Tree, Forest, leaf, node, treeAnd, child, yield, yields, inheritedOf, synthesizedOf, waiting, WellEvaluated, WellEvaluateds}
 use Rattle.meaning.specs.Rules.{WellFormed}
-use Rattle.meaning.specs.Part.{Open, Point, fresh, added, valued, left, closing, Ancestor, Part, yieldsOf, yieldBelow, yieldPart, forestOnto, marks, drawBelow, drawRegisters, Handed, GoodNode, Stands, Good, Begins, Reaches, PartOf}
+use Rattle.meaning.specs.Part.{Open, Point, fresh, added, valued, left, closing, Ancestor, Part, yieldsOf, yieldBelow, forestOnto, marks, drawBelow, drawRegisters, Handed, GoodNode, Stands, Good, Reaches, PartOf}
 use Rattle.theory_base.specs.Selectors.{syn-size}
 use Rattle.theory_base.specs.Values.{yields-onto, treeOf, complete}
-use Rattle.theory_sound.specs.Steps.{Mode, looking}
+use Rattle.theory_sound.specs.Steps.{Mode}
 use Rattle.theory_sound.specs.Moves.{Grown, within, waits, ends, reads, predicts, removes, nodeOf, partOf, waitingAt, withChild, node-evaluable}
 use Rattle.theory_complete.specs.Walk.{Chosen, Foreseen, Foreseens}
 use Rattle.theory_moves.specs.Ahead.{ahead-child, ahead-evaluated, ahead-foreseen, Next, next-child}
@@ -63,10 +63,12 @@ module _ (g : Grammar) (formed : WellFormed g) (t : Tree) (w : WellEvaluated g t
 
   begun-more : (o : Open) (bs : List Ancestor) (b : Begun g t o bs) (u : Tree) (f : Forest) → b .ahead ≡ treeAnd u f → Begun g t (withChild o u) bs
   begun-more o bs b u f e = record {
-        values = b .values; ahead = f; rest = b .rest;
-        along = subst (λ z. Along g t bs (node (o .production) (b .values) (forestOnto (o .children) z)) (b .rest)) e (b .along);
-        inherited = b .inherited
-      }
+    values = b .values;
+    ahead = f;
+    rest = b .rest;
+    along = subst (λ z. Along g t bs (node (o .production) (b .values) (forestOnto (o .children) z)) (b .rest)) e (b .along);
+    inherited = b .inherited;
+  }
 
   begun-read : (o : Open) (bs : List Ancestor) (c : ℕ) (xs : List Symbol) → Good g (partOf (withChild o (leaf c)) (left xs) bs) → Begun g t o bs → Begun g t (withChild o (leaf c)) bs
   begun-read o bs c xs gd b =
@@ -84,31 +86,41 @@ module _ (g : Grammar) (formed : WellFormed g) (t : Tree) (w : WellEvaluated g t
     where
       below : List ℤ
       below = drawBelow g (waitingAt o x xs ∷ bs)
+
       one : In p (q ∷ []) → p ≡ q
       one (inl z) = z
       one (inr z) = absurd z
+
       lefts : productionAt g p .left ≡ productionAt g q .left
       lefts = let s = v .0 .symbol in cc
+
       size : syn g (nonterminal (productionAt g p .left)) ≡ length (synthesizedOf g (node q ws h))
       size = ap (syn g) (sym e) ∙ sym (syn-size g (node q ws h) x v)
+
       registers : drawRegisters g (partOf (nodeOf p vs []) (fresh ys) (waitingAt o x xs ∷ bs)) ≡ waiting g (node q ws h) ++ below
       registers = sym (append-assoc vs (marks (syn g (nonterminal (productionAt g p .left)))) below) ∙ (λ j. (sym i j ++ replicate (size j) mark) ++ below)
+
       stream : us ≡ yields h ++ (yields f ++ rest)
       stream = sym pos ∙ append-assoc (yields h) (yields f) rest
+
       same : keep (entered g (drawRegisters g (partOf (nodeOf p vs []) (fresh ys) (waitingAt o x xs ∷ bs)))) (alternatives g (productionAt g p .left) (lookAt us)) ≡ keep (entered g (waiting g (node q ws h) ++ below)) (alternatives g (productionAt g q .left) (lookAt (yields h ++ (yields f ++ rest))))
       same = λ j. keep (entered g (registers j)) (alternatives g (lefts j) (lookAt (stream j)))
 
   begun-below : (o : Open) (bs : List Ancestor) (b : Begun g t o bs) (p : ℕ) (ws vs : List ℤ) (h f : Forest) (x : Symbol) (xs : List Symbol) → b .ahead ≡ treeAnd (node p ws h) f → inheritedOf g (node p ws h) ≡ vs → Begun g t (nodeOf p vs []) (waitingAt o x xs ∷ bs)
   begun-below o bs b p ws vs h f x xs e i = record {
-        values = ws; ahead = h; rest = yields f ++ b .rest;
-        along = record {
-          values = b .values; after = f; later = b .rest;
-          parent = subst (λ z. Along g t bs (node (o .production) (b .values) (forestOnto (o .children) z)) (b .rest)) e (b .along);
-          inherited = b .inherited;
-          isRest = refl
-        };
-        inherited = i
-      }
+    values = ws;
+    ahead = h;
+    rest = yields f ++ b .rest;
+    along = record {
+      values = b .values;
+      after = f;
+      later = b .rest;
+      parent = subst (λ z. Along g t bs (node (o .production) (b .values) (forestOnto (o .children) z)) (b .rest)) e (b .along);
+      inherited = b .inherited;
+      isRest = refl;
+    };
+    inherited = i;
+  }
 
   begun-predict : (o : Open) (bs : List Ancestor) (p : ℕ) (vs : List ℤ) (ys : List Symbol) (x : Symbol) (xs : List Symbol) (us : List ℕ) → Good g (partOf (nodeOf p vs []) (fresh ys) (waitingAt o x xs ∷ bs))
       → In p (keep (entered g (drawRegisters g (partOf (nodeOf p vs []) (fresh ys) (waitingAt o x xs ∷ bs)))) (alternatives g (productionAt g p .left) (lookAt us)))
@@ -117,8 +129,10 @@ module _ (g : Grammar) (formed : WellFormed g) (t : Tree) (w : WellEvaluated g t
     where
       gn : GoodNode g o (valued x vs xs)
       gn = gd .stands .2
+
       n : Next g (b .ahead) x
       n = next-of o bs b x xs (gn .1 .0)
+
       go : (u : Tree) → b .ahead ≡ treeAnd u (n .after) → WellEvaluated g u x → Foreseen g (yields (n .after) ++ b .rest) u → inheritedOf g u ≡ vs → Begun g t (nodeOf p vs []) (waitingAt o x xs ∷ bs)
       go (leaf c) e v k i = let s : x ≡ nonterminal (productionAt g p .left) = gd .stands .1 in let z : _≡_ {A = ℕ} 0 1 = cc in absurd (omega arith)
       go (node q ws h) e v k i =
@@ -169,5 +183,5 @@ module _ (g : Grammar) (formed : WellFormed g) (t : Tree) (w : WellEvaluated g t
       record {
         node = record { values = b .values; ahead = b .ahead; isNode = e; isInherited = ap (inheritedOf g) e ∙ b .inherited };
         point = subst (λ u. Reaches g u (length (o .children)) pt) (sym e) (reaches o bs b st pt gn);
-        below = along-below g t bs _ (b .rest) (b .along)
+        below = along-below g t bs _ (b .rest) (b .along);
       }

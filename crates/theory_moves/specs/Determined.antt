@@ -1,6 +1,6 @@
 -- The rules determine a node's values: a part that begins a tree's node has handed the next child that node's values, and once complete it is that node.
 use Prim.Native.Nat.{ℕ, suc}
-use mathlib.Core.Path.{_≡_, sym, ap, subst}
+use mathlib.Core.Path.{_≡_, ap, subst}
 use mathlib.Core.List.{List, [], _∷_}
 use lib.ListN.{length, drop}
 use lib.IntN.{ℤ}

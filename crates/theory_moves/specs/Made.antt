@@ -1,20 +1,20 @@
 -- Whatever the opening leads to shows a good part that has read a first part of the stream, and has begun the stream's tree, if it has one.
-use Prim.Native.Nat.{ℕ, zero, suc, _+_, _-_, _<_}
+use Prim.Native.Nat.{ℕ, suc, _-_, _<_}
 use native.Mathlib.Omega.{arith}
 use mathlib.Core.Path.{_≡_, refl, sym, ap, _∙_, subst₂}
 use mathlib.Core.Logic.{_⊎_, inl, inr}
 use mathlib.Core.List.{List, [], _∷_, _++_, append-assoc}
-use lib.ListN.{length, take, drop, length-append, length-map}
-use lib.Seq.{take-at, take-nil}
+use lib.ListN.{length, drop, length-map}
+use lib.Seq.{take-nil}
 use Rattle.meaning.specs.Base.{keep, In}
 use Rattle.meaning.specs.Grammar.{Grammar, nonterminal, inh, productionAt, token}
 use Rattle.meaning.specs.Machine.{Config, Lent, moved, next, opening, lookAt, unread, alternatives, entered}
-use Rattle.meaning.specs.Tree.{Tree, noTrees, treeAnd, WellEvaluated, TreeOf}
+use Rattle.meaning.specs.Tree.{Tree, noTrees, treeAnd, TreeOf}
 use Rattle.meaning.specs.Rules.{WellFormed}
-use Rattle.meaning.specs.Part.{Part, yieldPart, drawFrame, drawFrames, drawRegisters}
+use Rattle.meaning.specs.Part.{yieldPart, drawFrame, drawRegisters}
 use Rattle.meaning.specs.Walk.{Act, topProduction, Makes, nothing, andThen}
-use Rattle.theory_sound.specs.Steps.{looking, Predicted}
-use Rattle.theory_sound.specs.Moves.{Moved, nodeOf}
+use Rattle.theory_sound.specs.Steps.{looking}
+use Rattle.theory_sound.specs.Moves.{Moved}
 use Rattle.theory_sound.specs.Runs.{Shows, opening-shows, moves-to, shows-same, shows-read}
 use Rattle.theory_sound.specs.Nested.{only-predict}
 use Rattle.theory_complete.specs.Walk.{Foreseen}
@@ -34,9 +34,11 @@ look-is (u ∷ vs) c e = let z : u ≡ c = cc in ap (λ n. n ∷ vs) z
 module _ (g : Grammar) (formed : WellFormed g) (lent : Lent) (stream : List ℕ) (foreseen : (t : Tree) → TreeOf g stream t → Foreseen g [] t) where
   made-nothing : Made g stream stream (opening g)
   made-nothing = record {
-        read = []; split = refl; shows = opening-shows g formed;
-        ofTree = λ t w. record { values = []; ahead = treeAnd t noTrees; rest = []; along = record { isRoot = refl; isRest = refl }; inherited = take-nil (inh g (nonterminal 255)) }
-      }
+    read = [];
+    split = refl;
+    shows = opening-shows g formed;
+    ofTree = λ t w. record { values = []; ahead = treeAnd t noTrees; rest = []; along = record { isRoot = refl; isRest = refl }; inherited = take-nil (inh g (nonterminal 255)) };
+  }
 
   -- the production of a predict, as the part shows it
   picked : (vs : List ℕ) (d e : Config) (m : Made g stream vs d) (v : Moved g (looking (lookAt vs)) (m .shows .part .node) (m .shows .part .below) (d .tokens) (d .moves) e) → next g lent (lookAt vs) d ≡ moved e
@@ -56,12 +58,15 @@ module _ (g : Grammar) (formed : WellFormed g) (lent : Lent) (stream : List ℕ)
     where
       s : Shows g (m .read) d
       s = m .shows
+
       v : Moved g (looking (lookAt vs)) (s .part .node) (s .part .below) (d .tokens) (d .moves) e
       v = moves-to g formed lent (looking (lookAt vs)) (m .read) d e s h
+
       begun : (t : Tree) → TreeOf g stream t → Begun g t (v .part .node) (v .part .below)
       begun t w =
           let b = m .ofTree t w in
           begun-move g formed t (w .evaluated) (foreseen t w) (v .grown) (v .good) (s .good .node .0 .sized) vs (picked vs d e m v h) b (still g t (s .part .node) (s .part .below) b (m .read) vs (s .read) (w .read ∙ m .split))
+
       go : ((d .tokens ≡ e .tokens) × (yieldPart (s .part) ≡ yieldPart (v .part))) ⊎ ((c : ℕ) × (looking (lookAt vs) ≡ looking (token c)) × (suc (d .tokens) ≡ e .tokens) × (yieldPart (s .part) ++ (c ∷ []) ≡ yieldPart (v .part))) → Made g stream (unread d e vs) e
       go (inl r) =
           let none : e .tokens - d .tokens ≡ 0 = omega (arith, r .0) in
@@ -69,7 +74,7 @@ module _ (g : Grammar) (formed : WellFormed g) (lent : Lent) (stream : List ℕ)
             read = m .read;
             split = m .split ∙ ap (λ n. m .read ++ drop n vs) (sym none);
             shows = shows-same g formed lent (looking (lookAt vs)) (m .read) d e s v (r .0) (r .1);
-            ofTree = begun
+            ofTree = begun;
           }
       go (inr r) =
           let one : e .tokens - d .tokens ≡ 1 = omega (arith, r .2) in
@@ -78,7 +83,7 @@ module _ (g : Grammar) (formed : WellFormed g) (lent : Lent) (stream : List ℕ)
             read = m .read ++ (r .0 ∷ []);
             split = m .split ∙ (ap (λ z. m .read ++ z) (sym rest) ∙ sym (append-assoc (m .read) (r .0 ∷ []) (drop (e .tokens - d .tokens) vs)));
             shows = shows-read g formed lent (looking (lookAt vs)) (m .read) d e s v (r .0) (r .2) (r .3);
-            ofTree = begun
+            ofTree = begun;
           }
 
   pub made : (ws : List Act) (us : List ℕ) (c : Config) → Makes g lent stream (opening g) ws us c → Made g stream us c
