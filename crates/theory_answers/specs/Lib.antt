@@ -1,7 +1,6 @@
 pub mod FitTest
 pub mod Selecting
 pub mod Shape
-pub mod Steps
 pub mod ShapeMoves
 pub mod ShapeMemory
 pub mod Handling

@@ -14,9 +14,9 @@ use Rattle.meaning.specs.Rules.{Operands, Reads, InputAt}
 use Rattle.meaning.specs.Scheme.{mapFunction, mapCondition, synBetween, selectInherited, selectAfter}
 use Rattle.meaning.specs.Selectors.{occurrence}
 use Rattle.meaning.specs.Machine.{readRegister}
-use Rattle.theory_sets.specs.Tests.{all-at}
 use Rattle.theory_base.specs.Selectors.{syn-none, syn-more, target-inherited, target-after}
 use Rattle.theory_base.specs.WellFormed.{Available}
+use Rattle.theory_sets.specs.Tests.{all-at}
 
 -- ---- operands through a selector
 
