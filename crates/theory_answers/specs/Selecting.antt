@@ -1,7 +1,7 @@
 -- 001's selectors lie among the registers that hold values, and where the targets lie.
 use Prim.Native.Nat.{ℕ, zero, suc, _+_, _-_, _≤_, _<_}
 use native.Mathlib.Omega.{arith}
-use mathlib.Core.Path.{_≡_, sym, ap, _∙_, subst}
+use mathlib.Core.Path.{_≡_, refl, sym, ap, _∙_, subst}
 use mathlib.Core.List.{List, _++_}
 use lib.ListN.{getD, length, List·getD-append}
 use lib.Seq.{getD-append-add}
@@ -14,9 +14,9 @@ use Rattle.meaning.specs.Rules.{Operands, Reads, InputAt}
 use Rattle.meaning.specs.Scheme.{mapFunction, mapCondition, synBetween, selectInherited, selectAfter}
 use Rattle.meaning.specs.Selectors.{occurrence}
 use Rattle.meaning.specs.Machine.{readRegister}
-use Rattle.theory_base.specs.Selectors.{syn-none, syn-more, target-inherited, target-after}
-use Rattle.theory_base.specs.WellFormed.{Available}
 use Rattle.theory_sets.specs.Tests.{all-at}
+use Rattle.theory_base.specs.Selectors.{syn-none, syn-more, target-inherited}
+use Rattle.theory_base.specs.WellFormed.{Available}
 
 -- ---- operands through a selector
 
@@ -67,7 +67,7 @@ target-of-inherited g p k o e = subst (λ m. selectInherited g p k (occurrence m
 
 -- the target of a rule for a synthesized attribute of the left side
 pub target-of-synthesized : (g : Grammar) (p : Production) (n : ℕ) (o : Occurrence) → o .position ≡ 0 → selectAfter g p n o ≡ synBetween g p 0 n + o .attribute
-target-of-synthesized g p n o e = subst (λ m. selectAfter g p n (occurrence m (o .attribute)) ≡ synBetween g p 0 n + o .attribute) (sym e) (target-after g p n (o .attribute))
+target-of-synthesized g p n o e = subst (λ m. selectAfter g p n (occurrence m (o .attribute)) ≡ synBetween g p 0 n + o .attribute) (sym e) refl
 
 -- ---- registers
 
