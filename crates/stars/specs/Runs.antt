@@ -1,18 +1,18 @@
 -- Runs of the grammar of words and tags from its table's bytes: an opening, a feed and a finish, each on the memory that the call before left.
 use Prim.Native.Nat.{ℕ, _≤_}
 use native.Mathlib.Omega.{arith}
-use mathlib.Core.Path.{_≡_, refl, sym}
+use mathlib.Core.Path.{_≡_, refl}
 use mathlib.Core.List.{List, [], _∷_}
 use lib.ListN.{length, drop, length-append, length-drop}
 use Rattle.meaning.specs.Grammar.{Grammar}
 use Rattle.meaning.specs.Table.{State, Read, wellFormed, malformed, readTable, nothingRead}
 use Rattle.meaning.specs.Judgement.{accepted, Accepted}
-use Rattle.meaning.specs.Calls.{Called, Stacks, openOf}
+use Rattle.meaning.specs.Calls.{Called, Stacks, closedRecord, openOf}
 use Rattle.meaning.specs.PublicCalls.{Call, feed, finish, callOf, areaLength, written, Effect, effect, opens, performs}
 use Rattle.meaning.specs.TableRows.{bytes}
 use Rattle.meaning.specs.Words.{words}
 use Rattle.theory_sets.specs.Accepted.{judged-is}
-use Rattle.theory_demands.specs.ByGrammar.{opens-is, performs-is}
+use Rattle.theory_answers.specs.Called.{called-is}
 
 stateOf : Read → State
 stateOf (wellFormed s) = s
@@ -53,12 +53,15 @@ module _ (program : Grammar → List ℕ) (area : List ℕ) (l : areaLength ≤ 
   abbrev after : List ℕ → List ℕ
   after ws = written (program words) ws
 
+  next-words : (e : Effect) (c : Call) → areaLength ≤ length (e .area) → next program bytes e c ≡ effect (callOf words (e .state) (e .stacks) c) (after (e .area))
+  next-words e c h = called-is program bytes words words-accepted (e .area) h (e .state) (e .stacks) (λ g. callOf g (e .state) (e .stacks) c)
+
   pub fed-words : fed program bytes area m ts ≡ effect (fedBy words m ts) (after (after area))
   fed-words =
       let l₁ = long (program words) area l in
-      rw (opens-is program bytes words words-accepted area m l) (performs-is program bytes words words-accepted (after area) (openOf words m .state) (openOf words m .stacks) (feed ts) l₁)
+      rw (called-is program bytes words words-accepted area l closedRecord m (λ g. openOf g m)) (next-words (effect (openOf words m) (after area)) (feed ts) l₁)
 
   pub finished-words : finished program bytes area m ts ≡ effect (finishedBy words m ts) (after (after (after area)))
   finished-words =
       let l₂ = long (program words) (after area) (long (program words) area l) in
-      rw fed-words (performs-is program bytes words words-accepted (after (after area)) (fedBy words m ts .state) (fedBy words m ts .stacks) finish l₂)
+      rw fed-words (next-words (effect (fedBy words m ts) (after (after area))) finish l₂)

@@ -4,8 +4,9 @@ pub mod Agree
 pub mod Selectors
 pub mod Evaluate
 pub mod Values
-pub mod Grow
 pub mod Present
+pub mod Grow
 pub mod Frames
-pub mod Walks
 pub mod Counted
+pub mod Walks
+pub mod Steps

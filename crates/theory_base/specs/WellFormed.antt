@@ -42,12 +42,12 @@ whole-counts g f = List·getD-eq-default (g .counts) noCounts (omega (arith, f .
 
 pub evaluable-whole : (g : Grammar) → WellFormed g → Evaluable g (wholeProduction g)
 evaluable-whole g f = record {
-      targets = λ r i. absurd i;
-      distinct = tt;
-      every = λ o u. absurd (none-out (o .position) (o .attribute) u);
-      operands = λ r i. absurd i;
-      reads = λ c i. absurd i
-    }
+  targets = λ r i. absurd i;
+  distinct = tt;
+  every = λ o u. absurd (none-out (o .position) (o .attribute) u);
+  operands = λ r i. absurd i;
+  reads = λ c i. absurd i;
+}
   where
     none-out : (k a : ℕ) → OutputAt g (wholeProduction g) k a → ⊥
     none-out zero a u = omega (arith, u .0, u .1, ap (λ c. c .inherited) (whole-counts g f), ap (λ c. c .synthesized) (whole-counts g f))

@@ -28,6 +28,7 @@ accepted-exactly bs b g = (forth, back)
         let w = well-formed-exactly bs b g .0 (a .state, a .isRead, a .isGrammar) in
         let l : LaterRules g = subst LaterRules (a .isGrammar) (later-rules (a .state) (a .judged)) in
         record { short = w .2; laidOut = w .0; wellFormed = w .1; useful = l .0; noRecursion = l .1; noClash = l .2 }
+
     back : Meets bs g → Accepted bs g
     back m =
         let r = well-formed-exactly bs b g .1 (m .laidOut, m .wellFormed, m .short) in

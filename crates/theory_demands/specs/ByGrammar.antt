@@ -9,7 +9,7 @@ use Rattle.meaning.specs.Judgement.{Accepted}
 use Rattle.meaning.specs.Calls.{Record, Stacks, closedRecord, openOf}
 use Rattle.meaning.specs.PublicCalls.{Call, feed, finish, callOf, areaLength, written, effect, opens, performs}
 use Rattle.meaning.specs.Statements.{History, opened, countsForNothing, fed, finished}
-use Rattle.theory_demands.specs.Called.{called-is, opened-long}
+use Rattle.theory_answers.specs.Called.{called-is, opened-long}
 use Rattle.theory_base.specs.Counted as ByGrammar
 
 module _ (program : Grammar → List ℕ) (bs : List ℕ) (g : Grammar) (a : Accepted bs g) where

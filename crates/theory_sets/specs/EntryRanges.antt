@@ -48,5 +48,5 @@ entries-fit g f p l =
     let w : WellFormedProduction g q = well-formed-at g f p l in
     in-all (entry (inh g (nonterminal (q .left)))) (entryTests g q)
     (λ d i. let m = map-in (mapCondition (selectAfter g q 0)) (conditionsAt q 0) d i in
-      let k = in-keep (λ c. eqb (conditionPosition c) 0) (q .conditions) (m .0) (m .1) in
-      rw (m .2) (entry-fits g q (m .0) (k .0) (w .reads (m .0) (k .1)) (w .proper (m .0) (k .1))))
+    let k = in-keep (λ c. eqb (conditionPosition c) 0) (q .conditions) (m .0) (m .1) in
+    rw (m .2) (entry-fits g q (m .0) (k .0) (w .reads (m .0) (k .1)) (w .proper (m .0) (k .1))))

@@ -12,7 +12,7 @@ use lib.Dec.{T, eqb, ltb, leb, eqb→eq, leb→le, ltb→lt}
 use Rattle.meaning.specs.Base.{all}
 use Rattle.meaning.specs.Layout.{field, symbolByte, ruleBytes, conditionBytes, Bytes}
 use Rattle.meaning.specs.Table.{State, production, rule, condition, byte, within, symbolOf, ruleOf, conditionOf, ruleLength, conditionLength, constantAt, operands, reads, occurrenceKnown, current}
-use Rattle.theory_table.specs.Members.{both, or-cases, in-left, in-right}
+use Rattle.theory_base.specs.Members.{both, or-cases, in-left, in-right}
 use Rattle.theory_table.specs.Reading.{Passed}
 use Rattle.theory_table.specs.Numbers.{high-byte, low-byte, bytes-back, rule-bytes, condition-bytes, listed}
 

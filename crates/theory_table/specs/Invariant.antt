@@ -16,7 +16,7 @@ use Rattle.meaning.specs.Grammar.{Symbol, terminal, nonterminal, Occurrence, Fu
 use Rattle.meaning.specs.Rules.{Operands, Reads, Input, Output, Operand, Distinct, Constant, Proper, InFourBytes}
 use Rattle.meaning.specs.Table as Table
 use Rattle.meaning.specs.Table.{State, Header, Entry, Kind, header, counts, production, rule, condition, noHeader, headerOf, isSome, byte, signed, constantAt, occurrenceAt, within, symbolOf, symbolKnown, functionOf, ruleOf, conditionOf, occurrenceKnown, isInput, hasRule, complete, lastComplete, readField, withRule, withCondition, productionOf, grammarOf, nothingRead}
-use Rattle.theory_table.specs.Members.{both, in-some, all-in, map-in}
+use Rattle.theory_base.specs.Members.{both, in-some, all-in, map-in}
 use Rattle.theory_table.specs.Reading.{Passed, Next, Full}
 use Rattle.theory_table.specs.Occurrences.{input-over, output-over, operand-over, output-at, operands-map, reads-map, rule-operands, condition-reads, set-once}
 

@@ -17,7 +17,7 @@ use Rattle.meaning.specs.Rules.{Operands, Operand, Distinct, Proper, Known, Wel
 use Rattle.meaning.specs.Layout as Layout
 use Rattle.meaning.specs.Layout.{field, symbolByte, headerBytes, countsBytes, productionBytes, ruleBytes, conditionBytes, RulesAndConditions, Productions, countsFields, LaidOut}
 use Rattle.meaning.specs.Table.{State, Header, Entry, Kind, header, counts, production, rule, condition, byte, within, symbolOf, symbolKnown, ruleLength, conditionLength, constantAt, operands, reads, occurrenceKnown, isInput, hasRule, complete, lastComplete, readField, withRule, withCondition, wellFormed, readTable, nothingRead, productionOf, grammarOf}
-use Rattle.theory_table.specs.Members.{and, both, reverse-in, in-all, in-right, in-reverse, map-in, one-more, map-one-more}
+use Rattle.theory_base.specs.Members.{and, both, reverse-in, in-all, in-right, in-reverse, map-in, one-more, map-one-more}
 use Rattle.theory_table.specs.Reading.{Passed, tagOf, Full, Next, over, more, reads-table}
 use Rattle.theory_table.specs.Reading as Reading
 use Rattle.theory_table.specs.Occurrences.{input-over, output-over, operand-over, at-output, operands-map, reads-map, operands-inputs, operands-leftward, reads-inputs, once-set, every-complete}

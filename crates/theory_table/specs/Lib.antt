@@ -1,10 +1,9 @@
-pub mod Members
 pub mod Reading
 pub mod Occurrences
 pub mod Invariant
 pub mod ReadWellFormed
-pub mod Numbers
 pub mod AcceptedTable
+pub mod Numbers
 pub mod LaidOutRead
 pub mod Bodies
 pub mod Stretches

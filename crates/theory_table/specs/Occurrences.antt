@@ -11,7 +11,7 @@ use Rattle.meaning.specs.Base.{all, countFrom, In}
 use Rattle.meaning.specs.Grammar.{Symbol, terminal, nonterminal, Occurrence, Function, const, copy, sum, diff, prod, maxi, mini, addc, quot, Rule, Condition, range, atmost, Production, Grammar, countsIn, inh, att, symbolAt}
 use Rattle.meaning.specs.Rules.{Operands, Reads, Input, InputAt, OutputAt, Operand}
 use Rattle.meaning.specs.Table.{State, Entry, countsAt, entrySymbol, occurrenceKnown, isInput, isInherited, within, operands, reads, sameOccurrence, hasRule, occurrencesAt, complete, productionOf, grammarOf, sameAs}
-use Rattle.theory_table.specs.Members.{both, and, or-cases, or-right, not-not, all-in, in-all, any-in, in-any, in-map, map-in, in-from, from-in}
+use Rattle.theory_base.specs.Members.{both, and, or-cases, or-right, not-not, all-in, in-all, any-in, in-any, in-map, map-in, in-from, from-in}
 
 abbrev occ : ℕ → ℕ → Occurrence
 occ k a = record { position = k; attribute = a }

@@ -13,7 +13,7 @@ use Rattle.meaning.specs.Base.{In}
 use Rattle.meaning.specs.Grammar.{Symbol, terminal, Counts, noCounts, wholeProduction, productionAt, whole, pickProduction}
 use Rattle.meaning.specs.Table.{State, Header, Entry, noEntry, Kind, header, counts, production, rule, condition, isSome, headerOf, byte, within, symbolOf, readField, onCurrent, withRule, withCondition, ruleOf, conditionOf, wellFormed, readTable, productionOf, grammarOf}
 use Rattle.meaning.specs.Judgement.{entryOffset, countsOffset}
-use Rattle.theory_table.specs.Members.{both, in-reverse, getD-in, map-at}
+use Rattle.theory_base.specs.Members.{both, in-reverse, getD-in, map-at}
 use Rattle.theory_table.specs.Reading.{Reads, over, more, Passed, tagOf, Next, table-reads}
 use Rattle.theory_table.specs.Invariant.{Inv, nothing-yet, keeps, mk}
 use Rattle.theory_table.specs.Bodies.{production-length}

@@ -11,7 +11,7 @@ use lib.Dec.{T, T-not}
 use Rattle.meaning.specs.Grammar.{Counts}
 use Rattle.meaning.specs.Layout.{field, headerBytes, countsBytes, countsFields, LaidOut, Bytes}
 use Rattle.meaning.specs.Table.{State, Header, noHeader, noEntry, header, counts, production, rule, condition, isSome, headerOf, byte, wellFormed, readTable, grammarOf}
-use Rattle.theory_table.specs.Members.{one-more}
+use Rattle.theory_base.specs.Members.{one-more}
 use Rattle.theory_table.specs.Reading.{Reads, over, more, table-reads}
 use Rattle.theory_table.specs.ReadWellFormed.{Whole, whole-table, all-counted}
 use Rattle.theory_table.specs.Bodies.{field-is, low-small, rest-bytes, counts-body, header-body}

@@ -10,7 +10,7 @@ use Rattle.meaning.specs.Base.{In, total}
 use Rattle.meaning.specs.Grammar.{Symbol, terminal, nonterminal, Occurrence, Rule, Production, Grammar}
 use Rattle.meaning.specs.Rules.{Distinct, Known, WellFormed, WellFormedProduction}
 use Rattle.meaning.specs.Table.{State, Entry, headerOf, complete, lastComplete, wellFormed, readTable, productionOf, grammarOf}
-use Rattle.theory_table.specs.Members.{in-reverse, reverse-in, map-in}
+use Rattle.theory_base.specs.Members.{in-reverse, reverse-in, map-in}
 use Rattle.theory_table.specs.Reading.{Reads, over, more, Full, table-reads}
 use Rattle.theory_table.specs.Occurrences.{input-over, output-over, operand-over, operands-map, reads-map, complete-every}
 use Rattle.theory_table.specs.Invariant.{KnownIn, EntryOk, Inv, nothing-yet, all-complete, keeps, countsOnly, bare, ruleCount, conditionCount}

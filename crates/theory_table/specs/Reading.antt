@@ -9,7 +9,7 @@ use lib.ListN.{length, take, drop, length-append, length-drop, take-append-drop}
 use lib.Seq.{length-take-le, take-append-seam, drop-append-seam}
 use lib.Dec.{T, eqb, ltb, leb, eqb→eq, leb→le, le→leb, ltb→lt, lt→ltb, nltb→le}
 use Rattle.meaning.specs.Table.{State, Kind, header, counts, production, rule, condition, Stage, atHeader, atCounts, atFirst, atAny, stage, tagStands, kindOf, isSome, headerOf, byte, limitsHold, known, startRight, directionsRight, setOnce, leftToRight, boundsRight, lowestOf, judgeField, current, lastComplete, readField, Read, wellFormed, malformed, atEnd, readAll, readTable, nothingRead}
-use Rattle.theory_table.specs.Members.{both, and, or-cases, not-not}
+use Rattle.theory_base.specs.Members.{both, and, or-cases, not-not}
 
 -- ---- a field that no number judges
 

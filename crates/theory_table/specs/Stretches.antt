@@ -10,7 +10,7 @@ use Rattle.meaning.specs.Grammar.{Occurrence, Rule, Condition}
 use Rattle.meaning.specs.Layout as Layout
 use Rattle.meaning.specs.Layout.{field, productionBytes, ruleBytes, conditionBytes, RulesAndConditions, Productions, Bytes}
 use Rattle.meaning.specs.Table.{State, Entry, noEntry, header, counts, production, rule, condition, isSome, byte, symbolOf, ruleOf, conditionOf, withRule, withCondition, onCurrent, productionOf}
-use Rattle.theory_table.specs.Members.{one-more}
+use Rattle.theory_base.specs.Members.{one-more}
 use Rattle.theory_table.specs.Reading.{Reads, over, more, Passed, Full}
 use Rattle.theory_table.specs.Bodies.{field-is, low-small, body-bytes, rest-bytes, rule-body, condition-body, production-body, production-length}
 

@@ -32,9 +32,9 @@ long-enough area l = go (ltb (length area) areaLength) refl
 module _ (program : Grammar → List ℕ) (bs : List ℕ) (g : Grammar) (a : Accepted bs g) (area : List ℕ) (l : areaLength ≤ length area) (brought : Record) (m : Stacks) (made : Grammar → Called) where
   abbrev past30 : Bool → Effect
   past30 b = elim b as (λ z. Effect) [
-      true ↦ effect (asBrought (refused 30 0) brought m) area
+    | true ↦ effect (asBrought (refused 30 0) brought m) area
     | false ↦ elim (check bs) as (λ z. Effect) [ unusable n o ↦ effect (asBrought (tableRefused n o) brought m) area | usable s ↦ effect (made (grammarOf s)) (written (program (grammarOf s)) area) ]
-    ]
+  ]
 
   pub called-is : called program bs area brought m made ≡ effect (made g) (written (program g) area)
   called-is =
@@ -47,8 +47,8 @@ pub opened-long : (program : Grammar → List ℕ) (bs area : List ℕ) (m : Sta
 opened-long program bs area m n h = go (ltb (length area) areaLength) refl h
   where
     go : (b : Bool) → ltb (length area) areaLength ≡ b → (elim b as (λ z. Effect) [
-        true ↦ effect (asBrought (refused 30 0) closedRecord m) area
+      | true ↦ effect (asBrought (refused 30 0) closedRecord m) area
       | false ↦ elim (check bs) as (λ z. Effect) [ unusable k o ↦ effect (asBrought (tableRefused k o) closedRecord m) area | usable s ↦ effect (openOf (grammarOf s) m) (written (program (grammarOf s)) area) ]
-      ]) .answer ≡ more n → areaLength ≤ length area
+    ]) .answer ≡ more n → areaLength ≤ length area
     go true e h = let z : _≡_ {A = ℕ} 0 1 = cc in absurd (omega arith)
     go false e h = nltb→le (length area) areaLength (rw e tt)
