@@ -1,12 +1,11 @@
 -- What 01 says by derivations, shown on small grammars: reachable, productive, FIRST, FOLLOW, left recursion, clashes.
-use Prim.Native.Nat.{ℕ}
-use mathlib.Core.Path.{_≡_, refl}
+use mathlib.Core.Path.{refl}
 use mathlib.Core.Logic.{inl, inr}
-use mathlib.Core.List.{List, [], _∷_}
+use mathlib.Core.List.{[], _∷_}
 use lib.IntN.{ℤ, pos}
 use lib.Dec.{lit<}
-use Rattle.meaning.specs.Grammar.{Symbol, terminal, nonterminal, token, over, const, copy, range, Production, Grammar}
-use Rattle.meaning.specs.Derivation.{Derives, itself, step, Reachable, Productive, LeftRecursive, First, Follow, Starts, Clash}
+use Rattle.meaning.specs.Grammar.{Symbol, terminal, nonterminal, token, over, const, copy, range, Grammar}
+use Rattle.meaning.specs.Derivation.{itself, step, Reachable, Productive, LeftRecursive, First, Follow, Starts, Clash}
 use Rattle.meaning.specs.Words.{words, p1, occ, rule}
 
 abbrev L : Symbol

@@ -9,8 +9,8 @@ use lib.ListN.{replicate}
 use lib.IntN.{ℤ, pos, negsuc}
 use lib.Dec.{lit<, lit≤}
 use Rattle.meaning.specs.Grammar.{nonterminal}
-use Rattle.meaning.specs.Calls.{Called, Answer, more, value, refused, stacksFit, openOf, feedOf, finishOf}
-use Rattle.meaning.specs.Fit.{Fit, WaitsAt, segment, inside, Left, Values}
+use Rattle.meaning.specs.Calls.{more, refused, stacksFit, openOf, feedOf, finishOf}
+use Rattle.meaning.specs.Fit.{Fit, segment, inside}
 use Rattle.meaning.specs.Words.{words}
 use Rattle.meaning.specs.SchemeRows.{wide}
 use Rattle.meaning.specs.CallRows.{m, state, stacks, called}

@@ -1,13 +1,11 @@
 -- The listing, byte for byte: 01's own, a refusal's line, each function and each kind of condition, numbers of several digits and negative ones.
-use Prim.Native.Nat.{ℕ}
 use Prim.Native.Char.{code}
 use Prim.Native.String.{String, len, charAt}
 use mathlib.Core.Path.{_≡_, refl}
-use mathlib.Core.List.{List, [], _∷_, _++_, map}
-use lib.IntN.{ℤ, pos, negsuc}
+use mathlib.Core.List.{[], _∷_, _++_, map}
+use lib.IntN.{pos, negsuc}
 use Rattle.meaning.specs.Base.{countFrom}
-use Rattle.meaning.specs.Grammar.{Grammar, Function, const, copy, sum, diff, prod, maxi, mini, addc, quot, Condition, range, atmost}
-use Rattle.meaning.specs.Listing.{Text, listing, number, integer, refusalLine, functionText, conditionText, productionLines}
+use Rattle.meaning.specs.Listing.{Text, number, integer, refusalLine, productionLines}
 use Rattle.meaning.specs.PublicCalls.{joined, printed}
 use Rattle.meaning.specs.Samples.{functions, small}
 use Rattle.meaning.specs.SchemeRows.{wide, wide1}

@@ -6,8 +6,8 @@ use mathlib.Core.List.{List, [], _∷_, map, reverse}
 use lib.IntN.{ℤ, pos, negsuc}
 use lib.Dec.{lit≤}
 use Rattle.meaning.specs.Grammar.{Grammar, Symbol, terminal, nonterminal, Occurrence, whole}
-use Rattle.meaning.specs.Machine.{Config, Lent, Outcome, moved, blocked, opening, next, lookAt, unread, placeOf, feedAll, stopped}
-use Rattle.meaning.specs.Tree.{Tree, Forest, leaf, node, noTrees, treeAnd}
+use Rattle.meaning.specs.Machine.{Config, moved, blocked, opening, next, lookAt, unread, placeOf, feedAll, stopped}
+use Rattle.meaning.specs.Tree.{Tree, leaf, node, noTrees, treeAnd}
 use Rattle.meaning.specs.Part.{Open, Point, fresh, added, valued, left, closing, Ancestor, Part, yieldPart, valueIn, drawFrames, drawRegisters, drawPart, forestOnto, Good, PartOf}
 use Rattle.meaning.specs.Selectors.{partAt, partNames, FindsTarget, Finds}
 use Rattle.meaning.specs.Words.{words, occ, lent}

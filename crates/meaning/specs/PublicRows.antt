@@ -5,7 +5,7 @@ use mathlib.Core.Bool.{true, false}
 use mathlib.Core.List.{List, [], _∷_, _++_, map}
 use lib.ListN.{replicate, length, drop}
 use lib.Dec.{ltb}
-use lib.IntN.{ℤ, pos, negsuc}
+use lib.IntN.{pos, negsuc}
 use Rattle.meaning.specs.Grammar.{Grammar}
 use Rattle.meaning.specs.Calls.{Record, Stacks, Answer, more, value, refused, tableRefused, closedRecord}
 use Rattle.meaning.specs.PublicCalls.{called, feed, finish, areaLength, written, Effect, opens, performs, stretchOf}

@@ -5,8 +5,8 @@ use mathlib.Core.Bool.{true, false}
 use mathlib.Core.List.{List, [], _∷_, map}
 use lib.ListN.{replicate}
 use lib.IntN.{ℤ, pos, negsuc}
-use Rattle.meaning.specs.Grammar.{Symbol, terminal, nonterminal, Function, const, copy, addc, Condition, range, Occurrence, Grammar}
-use Rattle.meaning.specs.Calls.{Called, Stacks, Answer, more, value, refused, closedRecord, openOf, feedOf, finishOf}
+use Rattle.meaning.specs.Grammar.{terminal, nonterminal, const, copy, addc, range, Grammar}
+use Rattle.meaning.specs.Calls.{Called, more, value, refused, closedRecord, openOf, feedOf, finishOf}
 use Rattle.meaning.specs.Words.{words, occ, rule}
 use Rattle.meaning.specs.SchemeRows.{wide}
 use Rattle.meaning.specs.CallRows.{m, state, stacks, called, used, thenFeed, thenFinish}

@@ -2,9 +2,9 @@
 use Prim.Native.Nat.{ℕ, suc}
 use mathlib.Core.Path.{_≡_, refl}
 use mathlib.Core.List.{List, [], _∷_, _++_, map}
-use lib.ListN.{replicate, getD}
-use lib.IntN.{ℤ, pos, negsuc}
-use Rattle.meaning.specs.Grammar.{Grammar, Production, Rule, Function, const, copy, sum, diff, prod, maxi, mini, addc, quot, Condition, range, atmost, Occurrence, terminal, nonterminal}
+use lib.ListN.{replicate}
+use lib.IntN.{pos, negsuc}
+use Rattle.meaning.specs.Grammar.{const, copy, sum, diff, prod, maxi, mini, addc, quot, range, atmost, terminal, nonterminal}
 use Rattle.meaning.specs.Table.{readTable, signed}
 use Rattle.meaning.specs.Judgement.{Verdict, accepted, rejected}
 use Rattle.meaning.specs.Decide.{verdictOf}

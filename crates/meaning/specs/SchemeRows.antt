@@ -1,11 +1,11 @@
 -- A grammar whose symbols have several attributes, with conditions at several positions: its selectors and its scheme.
 use Prim.Native.Nat.{ℕ}
 use mathlib.Core.Path.{_≡_, refl}
-use mathlib.Core.List.{List, [], _∷_, map}
-use lib.IntN.{ℤ, pos, negsuc}
-use Rattle.meaning.specs.Grammar.{Symbol, terminal, nonterminal, Occurrence, Function, const, copy, sum, diff, addc, Rule, Condition, range, atmost, Production, Grammar, conditionPosition, productionAt, symbolAt, inh, syn, att}
-use Rattle.meaning.specs.Scheme.{add, evaluate, expect, test, remove, scheme, entryTests, testsAfter, selectInherited, selectAfter, synBetween, removed}
-use Rattle.meaning.specs.Words.{words, p3, occ, rule}
+use mathlib.Core.List.{[], _∷_, map}
+use lib.IntN.{pos, negsuc}
+use Rattle.meaning.specs.Grammar.{Symbol, terminal, nonterminal, Function, const, copy, sum, diff, addc, Rule, range, atmost, Production, Grammar, conditionPosition, productionAt, symbolAt, att}
+use Rattle.meaning.specs.Scheme.{add, evaluate, expect, test, remove, scheme, entryTests, selectInherited, selectAfter}
+use Rattle.meaning.specs.Words.{words, occ, rule}
 
 abbrev X : Symbol
 X = nonterminal 1

@@ -6,8 +6,8 @@ use mathlib.Core.List.{List, [], _∷_, _++_, map}
 use lib.ListN.{length}
 use Rattle.meaning.specs.Table.{readTable}
 use Rattle.meaning.specs.Judgement.{Verdict, accepted, rejected}
-use Rattle.meaning.specs.Decide.{verdictOf, productive, reachable, isLeftRecursive}
-use Rattle.meaning.specs.Sets.{nullable, first, follow, starts, singleton, emptySet, _∪_}
+use Rattle.meaning.specs.Decide.{verdictOf}
+use Rattle.meaning.specs.Sets.{nullable, first, follow, starts, singleton, _∪_}
 use Rattle.meaning.specs.Layout.{field}
 use Rattle.meaning.specs.TableRows.{grammar}
 use Rattle.meaning.specs.Samples.{header, counts}

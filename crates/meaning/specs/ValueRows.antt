@@ -1,11 +1,11 @@
 -- Values: the range and its ends, the mark, each function with negative operands, the two kinds of condition.
 use Prim.Native.Nat.{ℕ, _-_, _*_}
 use mathlib.Core.Path.{_≡_, refl}
-use mathlib.Core.Bool.{Bool, true, false}
-use mathlib.Core.List.{List, [], _∷_, map}
+use mathlib.Core.Bool.{true, false}
+use mathlib.Core.List.{[], _∷_, map}
 use lib.ListN.{getD}
 use lib.IntN.{ℤ, pos, negsuc}
-use Rattle.meaning.specs.Grammar.{Function, const, copy, sum, diff, prod, maxi, mini, addc, quot, Condition, range, atmost}
+use Rattle.meaning.specs.Grammar.{Function, const, copy, sum, diff, prod, maxi, mini, addc, quot, range, atmost}
 use Rattle.meaning.specs.Value.{lowest, highest, inRange, mark, quotient, apply, holds}
 
 -- negsuc n is -(n + 1)

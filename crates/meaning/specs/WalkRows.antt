@@ -4,17 +4,17 @@ use mathlib.Core.Path.{_≡_, refl}
 use mathlib.Core.Bool.{true, false}
 use mathlib.Core.List.{List, [], _∷_, map}
 use lib.ListN.{length, take}
-use lib.IntN.{ℤ, pos, negsuc}
+use lib.IntN.{pos, negsuc}
 use lib.Dec.{lit<, lit≤}
 use Rattle.meaning.specs.Base.{countFrom}
 use Rattle.meaning.specs.Grammar.{Grammar, Function, const, copy, sum, addc, Rule, nonterminal}
-use Rattle.meaning.specs.Scheme.{Instruction, add, evaluate, expect, test, remove, scheme}
-use Rattle.meaning.specs.Machine.{Config, Frame, Lent, Outcome, moved, blocked, opening, next, lookAt, unread, writeAll}
-use Rattle.meaning.specs.Tree.{Tree, Forest, leaf, node, noTrees, treeAnd, yield, movesOf, picture, TreeOf, valueOf, isLeft}
+use Rattle.meaning.specs.Scheme.{add, evaluate, expect, remove}
+use Rattle.meaning.specs.Machine.{Config, Lent, moved, blocked, opening, next, lookAt, unread, writeAll}
+use Rattle.meaning.specs.Tree.{Tree, leaf, node, noTrees, treeAnd, movesOf, TreeOf, valueOf}
 use Rattle.meaning.specs.Walk.{Act, predicts, reads, performs, walk, walkTo, actBy, Makes, nothing, andThen}
 use Rattle.meaning.specs.Drawn.{registersFor, depth, WalkFits, drawnRecord, drawnStacks, drawnMoves}
 use Rattle.meaning.specs.Calls.{Called, more, value, refused, openOf}
-use Rattle.meaning.specs.Words.{words, p0, lent}
+use Rattle.meaning.specs.Words.{words, lent}
 use Rattle.meaning.specs.Pictures.{tree, segment}
 use Rattle.meaning.specs.SchemeRows.{wide}
 use Rattle.meaning.specs.CallRows.{m, called, used, thenFeed, thenFinish}

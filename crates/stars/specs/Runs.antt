@@ -2,7 +2,7 @@
 use Prim.Native.Nat.{ℕ, _≤_}
 use native.Mathlib.Omega.{arith}
 use mathlib.Core.Path.{_≡_, refl}
-use mathlib.Core.List.{List, [], _∷_}
+use mathlib.Core.List.{List}
 use lib.ListN.{length, drop, length-append, length-drop}
 use Rattle.meaning.specs.Grammar.{Grammar}
 use Rattle.meaning.specs.Table.{State, Read, wellFormed, malformed, readTable, nothingRead}
