@@ -177,6 +177,18 @@ declared = record {
   placesCleared = λ i l h. absurd (omega (arith, l, h));
 }
 
+-- before the second list of L to open L close L: what the first has synthesized lies between
+declared-passed : Fit words (state true 0 0 6 3) (stacks (m ∷ m ∷ pos 0 ∷ pos 5 ∷ m ∷ pos 3 ∷ []) (32768 ∷ 0 ∷ 515 ∷ []))
+declared-passed = record {
+  tokens = lit≤ tt;
+  moves = lit≤ tt;
+  registerHeight = lit≤ tt;
+  placeHeight = lit≤ tt;
+  stands = inl (nonterminal 1, inside 2 3 (pos 3 ∷ []) (pos 5 ∷ []) (lit< tt) (lit< tt) (lit< tt) (record { size = refl; ranged = tt }) (record { size = refl; ranged = tt }) (inside 0 0 (pos 0 ∷ []) [] (lit< tt) (lit< tt) (lit< tt) (record { size = refl; ranged = tt }) (record { size = refl; ranged = tt }) (segment [] (record { size = refl; ranged = tt }))));
+  registersCleared = λ i l h. absurd (omega (arith, l, h));
+  placesCleared = λ i l h. absurd (omega (arith, l, h));
+}
+
 declared-left : Fit words (state true 2 11 1 1) (stacks ((pos 4) ∷ []) (32769 ∷ []))
 declared-left = record {
   tokens = lit≤ tt;
