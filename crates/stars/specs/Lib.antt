@@ -1,3 +1,3 @@
 pub mod Ranges
 pub mod Runs
-pub mod Starred
+pub mod Stars

@@ -16,14 +16,14 @@ use Rattle.meaning.specs.ListingRows.{codes, listing-of-words}
 use Rattle.stars.specs.Ranges.{twoRanges, Verdicts, verdicts, apart, touching}
 use Rattle.stars.specs.Runs.{fed, finished, fedBy, finishedBy, fed-words, finished-words}
 
--- stacks of these lengths, whatever their cells held
+-- stacks of these lengths, which held v in every register and p in every place
 abbrev pub lent : ℕ → ℕ → ℤ → ℕ → Stacks
 lent rs ps v p = record { registers = replicate rs v; places = replicate ps p }
 
 abbrev pub withoutArea : Effect → Called
 withoutArea e = record { answer = e .answer; state = e .state; stacks = e .stacks }
 
--- for every program, every area that is long enough, and whatever the cells of the stacks held
+-- for every program, every area that is long enough, and whatever v and p the stacks held
 abbrev pub Always : ((Grammar → List ℕ) → List ℕ → ℤ → ℕ → Type 0) → Type 0
 Always P = (program : Grammar → List ℕ) (area : List ℕ) → areaLength ≤ length area → (v : ℤ) (p : ℕ) → P program area v p
 
