@@ -29,7 +29,7 @@ use Rattle.theory_demands.specs.ByGrammar.{opens-is, performs-is}
 -- ---- the counter counts the moves
 
 module _ (g : Grammar) (lent : Lent) where
-  counted : {us vs : List ℕ} {c d : Config} {ws : List Act} → Makes g lent us c ws vs d → d .moves ≡ length ws + c .moves
+  pub counted : {us vs : List ℕ} {c d : Config} {ws : List Act} → Makes g lent us c ws vs d → d .moves ≡ length ws + c .moves
   counted {c = c} nothing = omega arith
   counted (andThen {ws = ws} {vs = vs} {d = d} p i is fs e m f h) =
       let n = counts g lent (lookAt vs) d e h .moves in
@@ -38,17 +38,17 @@ module _ (g : Grammar) (lent : Lent) where
 
 -- ---- open, with any tokens still to come; closed, with those that were not read
 
-abbrev Leads : Grammar → Stacks → List ℕ → Config → Type 0
+abbrev pub Leads : Grammar → Stacks → List ℕ → Config → Type 0
 Leads g m₀ ts c = (us : List ℕ) → Runs.Led g (lentOf m₀) (ts ++ us) (opening g) us c
 
-record Ended (g : Grammar) (m₀ : Stacks) (ts : List ℕ) (r : Record) (m : Stacks) : Type 0 where
-  config : Config
-  unread : List ℕ
-  led : Runs.Led g (lentOf m₀) ts (opening g) unread config
-  isRecord : r ≡ recordOf false config
-  isStacks : m ≡ layAll g config m₀
+pub record Ended (g : Grammar) (m₀ : Stacks) (ts : List ℕ) (r : Record) (m : Stacks) : Type 0 where
+  pub config : Config
+  pub unread : List ℕ
+  pub led : Runs.Led g (lentOf m₀) ts (opening g) unread config
+  pub isRecord : r ≡ recordOf false config
+  pub isStacks : m ≡ layAll g config m₀
 
-abbrev Stands : Grammar → Stacks → List ℕ → Record → Stacks → Type 0
+abbrev pub Stands : Grammar → Stacks → List ℕ → Record → Stacks → Type 0
 Stands g m₀ ts r m = ((o : OpenRun g m₀ ts r m) × Leads g m₀ ts (o .config)) ⊎ Ended g m₀ ts r m
 
 start-leads : (g : Grammar) (m₀ : Stacks) → Leads g m₀ [] (opening g)
@@ -120,7 +120,7 @@ module _ (g : Grammar) (w : WellFormed g) (m₀ : Stacks) where
 
 -- ---- the whole list
 
-stands : (program : Grammar → List ℕ) (bs : List ℕ) (g : Grammar) (a : Accepted bs g) (m₀ : Stacks) {ts : List ℕ} {isOver : Bool} {r : Record} {m : Stacks} → History program bs m₀ ts isOver r m → Stands g m₀ ts r m
+pub stands : (program : Grammar → List ℕ) (bs : List ℕ) (g : Grammar) (a : Accepted bs g) (m₀ : Stacks) {ts : List ℕ} {isOver : Bool} {r : Record} {m : Stacks} → History program bs m₀ ts isOver r m → Stands g m₀ ts r m
 stands program bs g a m₀ (opened area h) =
     let e = sym (opens-is program bs g a area m₀ (opened-long program bs area m₀ 0 h)) in
     subst (λ z. Stands g m₀ [] (z .state) (z .stacks)) e (inl (begun g (accepted-well-formed bs g a) m₀ (ap (λ z. z .answer) e ∙ h)))

@@ -4,17 +4,17 @@ use native.Mathlib.Omega.{arith}
 use mathlib.Core.Path.{_≡_, refl, sym, ap, ap₂, _∙_, subst}
 use mathlib.Core.Logic.{_⊎_, inl, inr}
 use mathlib.Core.Bool.{Bool, true, false, not}
-use mathlib.Core.List.{List, [], _∷_, _++_, map, append-assoc}
-use lib.ListN.{length, drop, length-append, length-map}
+use mathlib.Core.List.{List, [], _∷_, _++_, append-assoc}
+use lib.ListN.{length, drop, length-append}
 use lib.Dec.{eqb, ltb}
 use lib.IntN.{ℤ}
 use Rattle.meaning.specs.Base.{consIf, isEmpty}
 use Rattle.meaning.specs.Grammar.{Grammar, Symbol, Rule, terminal, nonterminal, att, productionAt, whole, Look, token}
 use Rattle.meaning.specs.Scheme.{Instruction, add, evaluate, expect, test, remove, scheme, inheritedRules, synthesizedRules, testsAfter, removed}
 use Rattle.meaning.specs.Machine.{Frame, Config, Lent, moved, next, nextOf, move, isExpect, parentOnward, schemeAt}
-use Rattle.meaning.specs.Tree.{Tree, Forest, leaf, node, noTrees, treeAnd, child, yield}
+use Rattle.meaning.specs.Tree.{Tree, Forest, leaf, node, noTrees, treeAnd, child}
 use Rattle.meaning.specs.Rules.{WellFormed}
-use Rattle.meaning.specs.Part.{Open, Point, fresh, added, valued, left, closing, Ancestor, Part, yieldsOf, yieldBelow, yieldPart, forestOnto, tailIf, freshRest, leftRest, waitRest, drawRest, frame, drawFrame, drawFrames, childrenOf, nodeOn}
+use Rattle.meaning.specs.Part.{Open, Point, fresh, added, valued, left, closing, Ancestor, Part, yieldsOf, yieldBelow, yieldPart, forestOnto, tailIf, freshRest, leftRest, waitRest, drawRest, frame, drawFrames, childrenOf, nodeOn}
 use Rattle.meaning.specs.Walk.{Act, performs, walk, walkOn, topProduction, actBy}
 use Rattle.meaning.specs.Walk as Walk
 use Rattle.theory_base.specs.Values.{treeOf}
