@@ -7,11 +7,11 @@ use mathlib.Core.Bool.{Bool, true, false, _&&_}
 use mathlib.Core.List.{List, [], _∷_, _++_, append-nil}
 use lib.ListN.{drop}
 use lib.Dec.{T, ltb, leb, ltb→lt, lt→ltb, leb→le, nleb→lt}
-use Rattle.meaning.specs.Grammar.{Grammar}
-use Rattle.meaning.specs.Machine.{Config, Lent, Look, token, over, Outcome, moved, blocked, Settled, stopped, failed, waits, next, lookAt, unread, isDone, isFinished, advance, advanceFrom, feedToken, feedAll, finishAll, tokensLimit, movesLimit}
+use Rattle.meaning.specs.Grammar.{Grammar, Look, token, over}
+use Rattle.meaning.specs.Machine.{Config, Lent, Outcome, moved, blocked, Settled, stopped, failed, waits, next, lookAt, unread, isDone, isFinished, advance, advanceFrom, feedToken, feedAll, finishAll, tokensLimit, movesLimit}
 use Rattle.meaning.specs.Walk.{Act, actBy, Makes, nothing, andThen}
 use Rattle.theory_base.specs.Members.{T→true, both}
-use Rattle.theory_answers.specs.Steps.{at-hand}
+use Rattle.theory_base.specs.Steps.{at-hand}
 use Rattle.theory_answers.specs.Bounds.{counts, look-free, no-read, Blocks, atLimit, blocks}
 
 -- what every move keeps, moves keep

@@ -9,11 +9,11 @@ use lib.Seq.{drop-at}
 use lib.Dec.{T, eqb}
 use lib.IntN.{ℤ}
 use Rattle.meaning.specs.Base.{In, all}
-use Rattle.meaning.specs.Grammar.{Symbol, terminal, nonterminal, Occurrence, Rule, Production, Grammar, inh, syn, att, productionAt, whole}
+use Rattle.meaning.specs.Grammar.{Symbol, terminal, nonterminal, Occurrence, Rule, Production, Grammar, inh, syn, att, productionAt, whole, Look}
 use Rattle.meaning.specs.Value.{apply, inRange, mark}
 use Rattle.meaning.specs.Scheme.{Instruction, add, evaluate, expect, test, remove, inheritedRules, synthesizedRules, testsAfter, rulesFor, removed, synBetween, selectInherited, selectAfter}
 use Rattle.meaning.specs.Rules.{OutputAt, WellFormed}
-use Rattle.meaning.specs.Machine.{Frame, Config, Lent, Look, moved, next, nextOf, readRegister, writeAll, schemeAt, parentOnward}
+use Rattle.meaning.specs.Machine.{Frame, Config, Lent, moved, next, nextOf, readRegister, writeAll, schemeAt, parentOnward}
 use Rattle.meaning.specs.Selectors.{occurrence}
 use Rattle.meaning.specs.Part.{marks, freshRest, leftRest, waitRest, frame}
 use Rattle.meaning.specs.Fit.{Values}
@@ -24,8 +24,8 @@ use Rattle.theory_base.specs.Evaluate.{Written, written, distinct-keep}
 use Rattle.theory_base.specs.Frames.{scheme-is}
 use Rattle.theory_base.specs.Selectors.{syn-none, syn-more}
 use Rattle.theory_base.specs.Present.{for-in, in-for}
+use Rattle.theory_base.specs.Steps.{not-moved, move-of, Result, result, Predicted}
 use Rattle.theory_answers.specs.Selecting.{target-of-inherited, target-of-synthesized}
-use Rattle.theory_answers.specs.Steps.{not-moved, move-of, Result, result, Predicted}
 use Rattle.theory_answers.specs.Shape.{synLeft, Node, nodeRegisters, Stands, segment, inside, evaluable, addedRest, Due, adds, hands, waits, tests, closes, removes, ends, Shaped, no-values, shaped, at-added, at-fresh, at-left}
 
 occ-eq : (o u : Occurrence) → o .position ≡ u .position → o .attribute ≡ u .attribute → o ≡ u
@@ -170,7 +170,7 @@ module _ (g : Grammar) (wf : WellFormed g) (lent : Lent) (l : Look) (c d : Confi
       subst (ShapedAt g) (u .1) (subst (λ z. Shaped g (frame p (leftRest g p (suc k) xs) ∷ fs) z) (sym r′) (at-left g wf p (suc k) vs ss fs base st n xs (h .2)))
 
   by-predict : (n : ℕ) (xs : List Symbol) (is : List ℤ) → drop k (productionAt g p .right) ≡ nonterminal n ∷ xs → Values (inh g (nonterminal n)) is → c .frames ≡ frame p (waitRest g p k (nonterminal n) xs) ∷ fs → c .registers ≡ (is ++ marks (syn g (nonterminal n))) ++ ours
-      → Predicted g lent n c d → ShapedAt g d
+      → Predicted g lent n l (c .frames) (c .registers) (c .tokens) (c .moves) d → ShapedAt g d
   by-predict n xs is e v f r u =
       let q : ℕ = u .production in
       let named : nonterminal (productionAt g q .left) ≡ nonterminal n = ap nonterminal (u .left) in
@@ -222,7 +222,7 @@ module _ (g : Grammar) (wf : WellFormed g) (lent : Lent) (l : Look) (c d : Confi
   by-due (waits (nonterminal n) xs is e v) f r h = by-predict n xs is e v f r (leads (expect (nonterminal n)) (leftRest g p (suc k) xs) f h)
   by-due (tests xs e) f r h =
       let u = leads (test (testsAfter g (productionAt g p) k)) (freshRest g p k xs) f h in
-      subst (ShapedAt g) u (subst (λ z. Shaped g (frame p (freshRest g p k xs) ∷ fs) z) (sym r) (at-fresh g wf p k vs ss fs base st nd xs e))
+      subst (ShapedAt g) (u .1) (subst (λ z. Shaped g (frame p (freshRest g p k xs) ∷ fs) z) (sym r) (at-fresh g wf p k vs ss fs base st nd xs e))
   by-due (closes e w) f r h = by-close e w r (leads (evaluate (synthesizedRules g (productionAt g p))) (remove (removed g (productionAt g p)) ∷ []) f h)
   by-due (removes rs e w v) f r h = by-remove rs e w v r (leads (remove (removed g (productionAt g p))) [] f h)
   by-due (ends e w) f r h = not-moved (subst (λ z. nextOf g lent l c z ≡ moved d) f h)

@@ -9,3 +9,4 @@ pub mod Grow
 pub mod Frames
 pub mod Counted
 pub mod Walks
+pub mod Steps

@@ -13,18 +13,18 @@ use Rattle.meaning.specs.Judgement.{Accepted}
 use Rattle.meaning.specs.Machine.{Config, Lent, Settled, stopped, failed, opening, next, lookAt, moved, feedAll, finishAll, waits, tokensLimit}
 use Rattle.meaning.specs.Walk.{Act, actBy, Makes, nothing, andThen}
 use Rattle.meaning.specs.Calls.{Record, Stacks, Called, lentOf, layAll, recordOf, openOf, feedOf, finishOf, afterFeed, afterFinish}
-use Rattle.meaning.specs.Calls as Calls
 use Rattle.meaning.specs.PublicCalls.{feed, finish}
 use Rattle.meaning.specs.Statements.{Reached, ReachedAlways, History, opened, countsForNothing, fed, finished}
 use Rattle.theory_table.specs.AcceptedTable.{accepted-well-formed}
-use Rattle.theory_sound.specs.Memory.{lay-over}
+use Rattle.theory_answers.specs.Memory.{lay-over}
+use Rattle.theory_answers.specs.Bounds.{counts}
+use Rattle.theory_answers.specs.Called.{opened-long}
 use Rattle.theory_sound.specs.Histories.{OpenRun}
 use Rattle.theory_sound.specs.Follow.{Stopped}
 use Rattle.theory_sound.specs.CallSound.{Held, held-feed, feed-is, finish-is, opening-held}
-use Rattle.theory_answers.specs.Bounds.{counts}
-use Rattle.theory_answers.specs.Runs as Runs
-use Rattle.theory_answers.specs.Called.{opened-long}
 use Rattle.theory_demands.specs.ByGrammar.{opens-is, performs-is}
+use Rattle.meaning.specs.Calls as Calls
+use Rattle.theory_answers.specs.Runs as Runs
 
 -- ---- the counter counts the moves
 

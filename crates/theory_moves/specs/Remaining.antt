@@ -1,7 +1,7 @@
 -- The moves that a tree's walk still has to make from a part that has begun the tree: each move of the machine is the first of them.
 use Prim.Native.Nat.{ℕ, suc, _+_, _<_}
 use native.Mathlib.Omega.{arith}
-use mathlib.Core.Path.{_≡_, refl, sym, ap, ap₂, _∙_, subst}
+use mathlib.Core.Path.{_≡_, refl, sym, ap, ap₂, _∙_}
 use mathlib.Core.Logic.{_⊎_, inl, inr}
 use mathlib.Core.Bool.{Bool, true, false, not}
 use mathlib.Core.List.{List, [], _∷_, _++_, append-assoc}
@@ -11,16 +11,16 @@ use lib.IntN.{ℤ}
 use Rattle.meaning.specs.Base.{consIf, isEmpty}
 use Rattle.meaning.specs.Grammar.{Grammar, Symbol, Rule, terminal, nonterminal, att, productionAt, whole, Look, token}
 use Rattle.meaning.specs.Scheme.{Instruction, add, evaluate, expect, test, remove, scheme, inheritedRules, synthesizedRules, testsAfter, removed}
-use Rattle.meaning.specs.Machine.{Frame, Config, Lent, moved, next, nextOf, move, isExpect, parentOnward, schemeAt}
+use Rattle.meaning.specs.Machine.{Frame, Config, Lent, moved, next, isExpect, parentOnward, schemeAt}
 use Rattle.meaning.specs.Tree.{Tree, Forest, leaf, node, noTrees, treeAnd, child}
 use Rattle.meaning.specs.Rules.{WellFormed}
 use Rattle.meaning.specs.Part.{Open, Point, fresh, added, valued, left, closing, Ancestor, Part, yieldsOf, yieldBelow, yieldPart, forestOnto, tailIf, freshRest, leftRest, waitRest, drawRest, frame, drawFrames, childrenOf, nodeOn}
 use Rattle.meaning.specs.Walk.{Act, performs, walk, walkOn, topProduction, actBy}
 use Rattle.meaning.specs.Walk as Walk
 use Rattle.theory_base.specs.Values.{treeOf}
-use Rattle.theory_sound.specs.Steps.{Mode, looking, below-limit, Result, result}
-use Rattle.theory_sound.specs.Bounds.{length-parent}
-use Rattle.theory_sound.specs.Moves.{Grown, within, waits, ends, reads, predicts, removes, Moved, nodeOf, partOf, waitingAt, withChild}
+use Rattle.theory_base.specs.Steps.{move-of, Result, result}
+use Rattle.theory_answers.specs.Bounds.{length-parent}
+use Rattle.theory_sound.specs.Moves.{Grown, within, reads, predicts, removes, Moved, nodeOf, partOf, waitingAt, withChild}
 use Rattle.theory_sound.specs.Runs.{Shows}
 use Rattle.theory_sound.specs.Nested.{frames-are}
 use Rattle.theory_complete.specs.Subtree.{dropF, dropF-next, scheme-at}
@@ -121,8 +121,8 @@ data Did (g : Grammar) (lent : Lent) (l : Look) (d e : Config) (p : ℕ) (is : L
 
 did : (g : Grammar) (lent : Lent) (l : Look) (d e : Config) (p : ℕ) (i : Instruction) (is : List Instruction) (fs : List Frame) → Result g lent l d (frame p (i ∷ is)) fs i e → Did g lent l d e p is fs i
 did g lent l d e p (add n) is fs r = inside (add n) refl (ap (λ z. z .frames) (sym (r .1))) (ap (λ z. z .tokens) (sym (r .1)))
-did g lent l d e p (evaluate rs) is fs r = inside (evaluate rs) refl (ap (λ z. z .frames) (sym r)) (ap (λ z. z .tokens) (sym r))
-did g lent l d e p (test cs) is fs r = inside (test cs) refl (ap (λ z. z .frames) (sym r)) (ap (λ z. z .tokens) (sym r))
+did g lent l d e p (evaluate rs) is fs r = inside (evaluate rs) refl (ap (λ z. z .frames) (sym (r .1))) (ap (λ z. z .tokens) (sym (r .1)))
+did g lent l d e p (test cs) is fs r = inside (test cs) refl (ap (λ z. z .frames) (sym (r .1))) (ap (λ z. z .tokens) (sym (r .1)))
 did g lent l d e p (remove n) is fs r = popped n (ap (λ z. z .frames) (sym r))
 did g lent l d e p (expect (terminal c)) is fs r = accepted c (r .0) (ap (λ z. z .frames) (sym (r .1))) (ap (λ z. z .tokens) (sym (r .1)))
 did g lent l d e p (expect (nonterminal n)) is fs r = pushed n (r .production) (r .listed) (ap (λ z. z .frames) (sym (r .result)))
@@ -185,7 +185,7 @@ one-more : (xs ys : List ℕ) (c : ℕ) → length (xs ++ (ys ++ (c ∷ []))) �
 one-more xs ys c = omega (arith, length-append xs (ys ++ (c ∷ [])), length-append ys (c ∷ []), length-append xs ys)
 
 module _ (g : Grammar) (formed : WellFormed g) (lent : Lent) (l : Look) (t : Tree) (d e : Config) (pt : Point) (p : ℕ) (is : List Instruction) (fs : List Frame) where
-  first-by : {m : Mode} {o : Open} {bs : List Ancestor} {q : Part} (i : Instruction) → Grown m o bs q → Did g lent l d e p is fs i → m ≡ looking l
+  first-by : {m : Look} {o : Open} {bs : List Ancestor} {q : Part} (i : Instruction) → Grown m o bs q → Did g lent l d e p is fs i → m ≡ l
       → drawFrames g (partOf o pt bs) ≡ frame p (i ∷ is) ∷ fs → d .frames ≡ frame p (i ∷ is) ∷ fs → drawFrames g q ≡ e .frames → length fs ≡ length bs → length (e .frames) ≡ suc (length (q .below))
       → e .tokens + length (yieldBelow bs ++ yieldsOf (o .children)) ≡ d .tokens + length (yieldPart q)
       → Begun g t (q .node) (q .below) → remaining g t (partOf o pt bs) ≡ actBy p i e ∷ remaining g t q
@@ -193,8 +193,6 @@ module _ (g : Grammar) (formed : WellFormed g) (lent : Lent) (l : Look) (t : Tre
   first-by i (within k pt′) (popped n fr) m old now new high deep grew b = absurd (omega (arith, high, deep, ap length fr, length-parent fs))
   first-by i (within k pt′) (accepted c r fr tk) m old now new high deep grew b = absurd (omega (arith, grew, tk))
   first-by i (within k pt′) (pushed n q r fr) m old now new high deep grew b = absurd (omega (arith, high, deep, ap length fr, ap length now))
-  first-by i (waits x vs xs) v m old now new high deep grew b = absurd (let z : _≡_ {A = ℕ} 0 1 = cc in omega arith)
-  first-by i (ends w) v m old now new high deep grew b = absurd (let z : _≡_ {A = ℕ} 0 1 = cc in omega arith)
   first-by i (reads {o} {bs} c xs) (inside j z fr tk) m old now new high deep grew b = absurd (omega (arith, grew, tk, one-more (yieldBelow bs) (yieldsOf (o .children)) c))
   first-by i (reads c xs) (popped n fr) m old now new high deep grew b = absurd (omega (arith, high, deep, ap length fr, length-parent fs))
   first-by i (reads {o} {bs} c xs) (accepted k r fr tk) m old now new high deep grew b =
@@ -210,15 +208,15 @@ module _ (g : Grammar) (formed : WellFormed g) (lent : Lent) (l : Look) (t : Tre
   first-by i (removes {bs = bs} k ss) (accepted c r fr tk) m old now new high deep grew b = absurd (omega (arith, high, deep, ap length fr))
   first-by i (removes {bs = bs} k ss) (pushed n q r fr) m old now new high deep grew b = absurd (omega (arith, high, deep, ap length fr, ap length now))
 
-grew-alike : (n k : ℕ) (m : Mode) (xs ys : List ℕ) → ((n ≡ k) × (xs ≡ ys)) ⊎ ((c : ℕ) × (m ≡ looking (token c)) × (suc n ≡ k) × (xs ++ (c ∷ []) ≡ ys)) → k + length xs ≡ n + length ys
+grew-alike : (n k : ℕ) (m : Look) (xs ys : List ℕ) → ((n ≡ k) × (xs ≡ ys)) ⊎ ((c : ℕ) × (m ≡ token c) × (suc n ≡ k) × (xs ++ (c ∷ []) ≡ ys)) → k + length xs ≡ n + length ys
 grew-alike n k m xs ys (inl r) = omega (arith, r .0, ap length (r .1))
 grew-alike n k m xs ys (inr r) = omega (arith, r .2, ap length (r .3), length-append xs (r .0 ∷ []))
 
 -- from a configuration that shows a part, to one whose part has begun the tree
-pub first-move : (g : Grammar) → WellFormed g → (lent : Lent) (l : Look) (t : Tree) (ts : List ℕ) (d e : Config) (s : Shows g ts d) (v : Moved g (looking l) (s .part .node) (s .part .below) (d .tokens) (d .moves) e)
+pub first-move : (g : Grammar) → WellFormed g → (lent : Lent) (l : Look) (t : Tree) (ts : List ℕ) (d e : Config) (s : Shows g ts d) (v : Moved g l (s .part .node) (s .part .below) (d .tokens) (d .moves) e)
     → (p : ℕ) (i : Instruction) (is : List Instruction) (fs : List Frame) → d .frames ≡ frame p (i ∷ is) ∷ fs → next g lent l d ≡ moved e
     → Begun g t (v .part .node) (v .part .below) → remaining g t (s .part) ≡ actBy p i e ∷ remaining g t (v .part)
 first-move g formed lent l t ts d e s v p i is fs now h b =
-    let r = result g lent l d (frame p (i ∷ is)) fs i e (below-limit (d .moves) (move g lent l d (frame p (i ∷ is)) fs i) e (subst (λ z. nextOf g lent l d z ≡ moved e) now h) .1) in
+    let r = result g lent l d (frame p (i ∷ is)) fs i e (move-of g lent l d e p i is fs now h .1) in
     let high = frames-are g (s .part) (d .frames) (s .frames) in
-    first-by g formed lent l t d e (s .part .point) p is fs i (v .grown) (did g lent l d e p i is fs r) refl (s .frames ∙ now) now (v .frames) (omega (arith, high, ap length now)) (frames-are g (v .part) (e .frames) (v .frames)) (grew-alike (d .tokens) (e .tokens) (looking l) (yieldPart (s .part)) (yieldPart (v .part)) (v .reading)) b
+    first-by g formed lent l t d e (s .part .point) p is fs i (v .grown) (did g lent l d e p i is fs r) refl (s .frames ∙ now) now (v .frames) (omega (arith, high, ap length now)) (frames-are g (v .part) (e .frames) (v .frames)) (grew-alike (d .tokens) (e .tokens) l (yieldPart (s .part)) (yieldPart (v .part)) (v .reading)) b
