@@ -17,7 +17,6 @@ use Rattle.meaning.specs.Calls.{lentOf, layAll, recordOf}
 use Rattle.meaning.specs.Drawn.{drawnMoves, drawnRecord}
 use Rattle.meaning.specs.Statements.{WalkAlways}
 use Rattle.theory_base.specs.Members.{no-elements}
-use Rattle.theory_moves.specs.Made.{Made}
 use Rattle.theory_moves.specs.Always.{accepted-made}
 use Rattle.theory_demands.specs.Pictures.{picture-always}
 use Rattle.theory_demands.specs.Reaching.{counted, Stands, stands}
