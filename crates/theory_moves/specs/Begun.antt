@@ -30,7 +30,7 @@ pub record Begun (g : Grammar) (t : Tree) (o : Open) (bs : List Ancestor) : Type
   pub along : Along g t bs (node (o .production) values (forestOnto (o .children) ahead)) rest
   pub inherited : inheritedOf g (node (o .production) values (forestOnto (o .children) ahead)) ≡ o .inherited
 
-pub cancel : {A : Type 0} (xs ys zs : List A) → xs ++ ys ≡ xs ++ zs → ys ≡ zs
+cancel : {A : Type 0} (xs ys zs : List A) → xs ++ ys ≡ xs ++ zs → ys ≡ zs
 cancel xs ys zs e = sym (drop-at xs ys (length xs) refl) ∙ (ap (drop (length xs)) e ∙ drop-at xs zs (length xs) refl)
 
 -- what is still to come of the tree is what is still to come of the segment
