@@ -1,5 +1,5 @@
 -- Demand 3 for any tokens: every list of calls stands at a configuration that so many moves from the opening lead to.
-use Prim.Native.Nat.{ℕ, zero, suc, _+_, _≤_}
+use Prim.Native.Nat.{ℕ, _+_, _≤_}
 use native.Mathlib.Omega.{arith}
 use mathlib.Core.Path.{_≡_, refl, sym, ap, ap₂, _∙_, subst}
 use mathlib.Core.Logic.{_⊎_, inl, inr}
@@ -10,7 +10,7 @@ use lib.Dec.{T, ltb, nltb→le}
 use Rattle.meaning.specs.Grammar.{Grammar}
 use Rattle.meaning.specs.Rules.{WellFormed}
 use Rattle.meaning.specs.Judgement.{Accepted}
-use Rattle.meaning.specs.Machine.{Config, Lent, Settled, stopped, failed, opening, next, lookAt, moved, feedAll, finishAll, waits, tokensLimit}
+use Rattle.meaning.specs.Machine.{Config, Lent, Settled, stopped, failed, opening, lookAt, feedAll, finishAll, tokensLimit}
 use Rattle.meaning.specs.Walk.{Act, actBy, Makes, nothing, andThen}
 use Rattle.meaning.specs.Calls.{Record, Stacks, Called, lentOf, layAll, recordOf, openOf, feedOf, finishOf, afterFeed, afterFinish}
 use Rattle.meaning.specs.PublicCalls.{feed, finish}

@@ -18,6 +18,7 @@ use Rattle.theory_sound.specs.Runs.{Shows, opening-shows, moves-to, shows-same,
 use Rattle.theory_sound.specs.Nested.{only-predict}
 use Rattle.theory_complete.specs.Walk.{Foreseen}
 use Rattle.theory_moves.specs.Begun.{Begun, still, begun-move}
+use Rattle.theory_answers.specs.Runs.{look-is}
 
 -- c has read a first part of the stream, us is still to come
 pub record Made (g : Grammar) (stream us : List ℕ) (c : Config) : Type 0 where
@@ -25,10 +26,6 @@ pub record Made (g : Grammar) (stream us : List ℕ) (c : Config) : Type 0 where
   pub split : stream ≡ read ++ us
   pub shows : Shows g read c
   pub ofTree : (t : Tree) → TreeOf g stream t → Begun g t (shows .part .node) (shows .part .below)
-
-look-is : (vs : List ℕ) (c : ℕ) → lookAt vs ≡ token c → vs ≡ c ∷ drop 1 vs
-look-is [] c e = let z : _≡_ {A = ℕ} 0 1 = cc in absurd (omega arith)
-look-is (u ∷ vs) c e = let z : u ≡ c = cc in ap (λ n. n ∷ vs) z
 
 module _ (g : Grammar) (formed : WellFormed g) (lent : Lent) (stream : List ℕ) (foreseen : (t : Tree) → TreeOf g stream t → Foreseen g [] t) where
   made-nothing : Made g stream stream (opening g)
