@@ -17,9 +17,12 @@ use Rattle.meaning.specs.Calls.{lentOf, layAll, recordOf}
 use Rattle.meaning.specs.Drawn.{drawnMoves, drawnRecord}
 use Rattle.meaning.specs.Statements.{WalkAlways}
 use Rattle.theory_base.specs.Members.{no-elements}
+use Rattle.theory_table.specs.AcceptedTable.{accepted-well-formed}
+use Rattle.theory_sound.specs.Histories.{Run, runs}
 use Rattle.theory_moves.specs.Always.{accepted-made}
+use Rattle.theory_demands.specs.ByGrammar.{by-grammar}
 use Rattle.theory_demands.specs.Pictures.{picture-always}
-use Rattle.theory_demands.specs.Reaching.{counted, Stands, stands}
+use Rattle.theory_demands.specs.Reaching.{counted}
 
 -- ---- what is drawn is a first part of the walk
 
@@ -45,16 +48,10 @@ module _ (bs : List ℕ) (g : Grammar) (a : Accepted bs g) (lent : Lent) (stream
       let size : length ws ≡ length (drawnMoves g t j isOver) = omega (arith, counted g lent m, n) in
       sym (take-at ws _ (length ws) refl) ∙ (ap (take (length ws)) k ∙ (ap (λ z. take z (walk g t)) size ∙ drawn-first g t j isOver))
 
-  -- as many tokens read as the stream has
-  all-read : {ws : List Act} {us : List ℕ} {c : Config} → Makes g lent stream (opening g) ws us c → c .tokens ≡ length stream → us ≡ []
-  all-read {us = us} m n =
-      let k = accepted-made bs g a lent stream m in
-      no-elements us (omega (arith, ap length (k .split), length-append (k .read) us, k .shows .tokens, n))
-
 -- ---- the whole list
 
 pub walk-always : WalkAlways
-walk-always program bs g m₀ ts us isOver r m t a h k f over = go isOver over (picture-always program bs g m₀ ts us isOver r m t a h k f over .0) (stands program bs g a m₀ h)
+walk-always program bs g m₀ ts us isOver r m t a h k f over = go isOver over (picture-always program bs g m₀ ts us isOver r m t a h k f over .0) (runs g (accepted-well-formed bs g a) m₀ ts isOver r m (by-grammar program bs g a h))
   where
     Found : Bool → Type 0
     Found b = (c : Config) × Makes g (lentOf m₀) (ts ++ us) (opening g) (drawnMoves g t (length ts) b) us c × (r ≡ recordOf (r .isOpen) c) × (m ≡ layAll g c m₀)
@@ -67,10 +64,10 @@ walk-always program bs g m₀ ts us isOver r m t a h k f over = go isOver over (
         let n : c .moves ≡ length (drawnMoves g t (length ts) b) = ap (λ z. z .moves) (sym e ∙ d) in
         (c, subst (λ z. Makes g (lentOf m₀) (ts ++ us) (opening g) z us c) (moves-drawn bs g a (lentOf m₀) (ts ++ us) t k (length ts) b y n) y, same-record o c e, x)
 
-    go : (b : Bool) → (b ≡ true → us ≡ []) → r ≡ drawnRecord g t (length ts) b → Stands g m₀ ts r m → Found b
-    go b u d (inl o) = at b (o .1 us .moves) (o .0 .config) d true (o .0 .isRecord) (o .0 .isStacks) (o .1 us .made)
+    go : (b : Bool) → (b ≡ true → us ≡ []) → r ≡ drawnRecord g t (length ts) b → Run g m₀ ts r m → Found b
+    go b u d (inl o) = at b (o .leads us .moves) (o .config) d true (o .isRecord) (o .isStacks) (o .leads us .made)
     go true u d (inr o) =
-        let none = all-read bs g a (lentOf m₀) ts (o .led .made) (ap (λ z. z .tokens) (sym (o .isRecord) ∙ d)) in
+        let none : o .unread ≡ [] = no-elements (o .unread) (omega (arith, ap length (o .joined), length-append (o .before) (o .unread), o .held .shows .tokens, ap (λ z. z .tokens) (sym (o .isRecord) ∙ d))) in
         let e : us ≡ [] = u refl in
         at true (o .led .moves) (o .config) d false (o .isRecord) (o .isStacks) (subst (λ z. Makes g (lentOf m₀) (ts ++ z) (opening g) (o .led .moves) z (o .config)) (sym e) (subst (λ z. Makes g (lentOf m₀) z (opening g) (o .led .moves) [] (o .config)) (sym (append-nil ts)) (subst (λ z. Makes g (lentOf m₀) ts (opening g) (o .led .moves) z (o .config)) none (o .led .made))))
     go false u d (inr o) = absurd (subst T (ap (λ z. z .isOpen) (sym d ∙ o .isRecord)) tt)

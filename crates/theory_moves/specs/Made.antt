@@ -14,6 +14,7 @@ use Rattle.meaning.specs.Tree.{Tree, noTrees, treeAnd, TreeOf}
 use Rattle.meaning.specs.Rules.{WellFormed}
 use Rattle.meaning.specs.Part.{yieldPart, frame, drawFrame, drawRegisters}
 use Rattle.meaning.specs.Walk.{Act, walk, topProduction, actBy, Makes, nothing, andThen}
+use Rattle.theory_answers.specs.Runs.{look-is}
 use Rattle.theory_sound.specs.Moves.{Moved}
 use Rattle.theory_sound.specs.Runs.{Shows, opening-shows, moves-to, shows-same, shows-read}
 use Rattle.theory_sound.specs.Nested.{only-predict}
@@ -28,10 +29,6 @@ pub record Made (g : Grammar) (stream : List ℕ) (ws : List Act) (us : List ℕ
   pub shows : Shows g read c
   pub ofTree : (t : Tree) → TreeOf g stream t → Begun g t (shows .part .node) (shows .part .below)
   pub walked : (t : Tree) → TreeOf g stream t → ws ++ remaining g t (shows .part) ≡ walk g t
-
-look-is : (vs : List ℕ) (c : ℕ) → lookAt vs ≡ token c → vs ≡ c ∷ drop 1 vs
-look-is [] c e = let z : _≡_ {A = ℕ} 0 1 = cc in absurd (omega arith)
-look-is (u ∷ vs) c e = let z : u ≡ c = cc in ap (λ n. n ∷ vs) z
 
 module _ (g : Grammar) (formed : WellFormed g) (lent : Lent) (stream : List ℕ) (foreseen : (t : Tree) → TreeOf g stream t → Foreseen g [] t) where
   made-nothing : Made g stream [] stream (opening g)

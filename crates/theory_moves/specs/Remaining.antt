@@ -18,12 +18,13 @@ use Rattle.meaning.specs.Part.{Open, Point, fresh, added, valued, left, closing
 use Rattle.meaning.specs.Walk.{Act, performs, walk, walkOn, topProduction, actBy}
 use Rattle.meaning.specs.Walk as Walk
 use Rattle.theory_base.specs.Values.{treeOf}
+use Rattle.theory_base.specs.Frames.{scheme-listed}
 use Rattle.theory_base.specs.Steps.{move-of, Result, result}
 use Rattle.theory_answers.specs.Bounds.{length-parent}
 use Rattle.theory_sound.specs.Moves.{Grown, within, reads, predicts, removes, Moved, nodeOf, partOf, waitingAt, withChild}
 use Rattle.theory_sound.specs.Runs.{Shows}
 use Rattle.theory_sound.specs.Nested.{frames-are}
-use Rattle.theory_complete.specs.Subtree.{dropF, dropF-next, scheme-at}
+use Rattle.theory_complete.specs.Subtree.{dropF, dropF-next}
 use Rattle.theory_moves.specs.Ahead.{ahead-child}
 use Rattle.theory_moves.specs.Along.{along-node}
 use Rattle.theory_moves.specs.Begun.{Begun}
@@ -171,7 +172,7 @@ module _ (g : Grammar) (t : Tree) (o : Open) (pt : Point) (p : ℕ) (is : List I
       let u = node q (b .values) (b .ahead) in
       let up : Begun g t (withChild o u) bs = record { values = b .along .values; ahead = b .along .after; rest = b .along .later; along = b .along .parent; inherited = b .along .inherited } in
       let same : q ≡ k = ap topProduction (new ∙ made) in
-      let sch : scheme g (productionAt g q) ≡ freshRest g q 0 ys = ap (λ z. scheme g (productionAt g z)) same ∙ (sym (scheme-at g formed k listed) ∙ sym (ap topRest (new ∙ made))) in
+      let sch : scheme g (productionAt g q) ≡ freshRest g q 0 ys = ap (λ z. scheme g (productionAt g z)) same ∙ (sym (scheme-listed g formed k listed) ∙ sym (ap topRest (new ∙ made))) in
       let below : walkOn g p is f ≡ walkOn g (o .production) (leftRest g (o .production) (suc (length (o .children))) xs) f = sym (ap (λ z. walkOn g (topProduction (drop 1 z)) (drop 1 (topRest (drop 1 z))) f) (new ∙ made)) in
       let own : walkOn g q (scheme g (productionAt g q)) (b .ahead) ≡ walkOn g q (freshRest g q 0 ys) (comes t (waitingAt o x xs ∷ bs) 0) = ap₂ (walkOn g q) sch (sym (comes-next g t (nodeOf q vs []) (waitingAt o x xs ∷ bs) b)) in
       at-top bs (expect (nonterminal n)) fs old
