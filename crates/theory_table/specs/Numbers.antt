@@ -52,22 +52,27 @@ joined-four x y z w a b c d =
     rw (e₁, e₂, e₃, e₄)
 
 
-constant-back : (c : ℤ) → InFourBytes c → let n : ℕ = unsigned c in signed (joined (n / 16777216 % 256) (n / 65536 % 256) (n / 256 % 256) (n % 256)) ≡ c
-constant-back (pos n) h =
-    let l : n ≤ 2147483647 = leb→le n 2147483647 (h .1) in
-    ap signed (four-joined n (omega arith)) ∙ go (ltb n 2147483648) (lt→ltb n 2147483648 (omega arith))
+pub unsigned-small : (c : ℤ) → InFourBytes c → unsigned c < 4294967296
+unsigned-small (pos n) h = let l = leb→le n 2147483647 (h .1) in omega arith
+unsigned-small (negsuc n) h = omega arith
+
+pub signed-unsigned : (c : ℤ) → InFourBytes c → signed (unsigned c) ≡ c
+signed-unsigned (pos n) h = let l = leb→le n 2147483647 (h .1) in go (ltb n 2147483648) (lt→ltb n 2147483648 (omega arith))
   where
     go : (b : Bool) → T b → _≡_ {A = ℤ} (elim b [ true ↦ pos n | false ↦ negsuc (4294967295 - n) ]) (pos n)
     go true t = refl
     go false t = absurd t
-constant-back (negsuc n) h =
+signed-unsigned (negsuc n) h =
     let l : n ≤ 2147483647 = leb→le n 2147483647 (h .0) in
     let m : ℕ = 4294967295 - n in
-    ap signed (four-joined m (omega arith)) ∙ go (ltb m 2147483648) (λ t. let k = ltb→lt m 2147483648 t in omega arith) (omega arith)
+    go (ltb m 2147483648) (λ t. let k = ltb→lt m 2147483648 t in omega arith) (omega arith)
   where
     go : (b : Bool) → (T b → ⊥) → 4294967295 - (4294967295 - n) ≡ n → _≡_ {A = ℤ} (elim b [ true ↦ pos (4294967295 - n) | false ↦ negsuc (4294967295 - (4294967295 - n)) ]) (negsuc n)
     go true t e = absurd (t tt)
     go false t e = ap negsuc e
+
+constant-back : (c : ℤ) → InFourBytes c → let n : ℕ = unsigned c in signed (joined (n / 16777216 % 256) (n / 65536 % 256) (n / 256 % 256) (n % 256)) ≡ c
+constant-back c h = ap signed (four-joined (unsigned c) (unsigned-small c h)) ∙ signed-unsigned c h
 
 unsigned-signed : (n : ℕ) → n < 4294967296 → unsigned (signed n) ≡ n
 unsigned-signed n l = go (ltb n 2147483648)
@@ -171,7 +176,7 @@ pub record RuleRead (r : Rule Occurrence) : Type 0 where
 abbrev ruleWith : Occurrence → Function Occurrence → Rule Occurrence
 ruleWith o f = record { target = o; function = f }
 
-divisor-in : (c : ℤ) → T (leZ (pos 1) c) × T (leZ c (pos 1000000)) → InFourBytes c
+pub divisor-in : (c : ℤ) → T (leZ (pos 1) c) × T (leZ c (pos 1000000)) → InFourBytes c
 divisor-in (pos n) h = (tt, le→leb n 2147483647 (omega (arith, leb→le n 1000000 (h .1))))
 divisor-in (negsuc n) h = absurd (h .0)
 

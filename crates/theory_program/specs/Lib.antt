@@ -1,0 +1,5 @@
+pub mod Stands
+pub mod Code
+pub mod Addresses
+pub mod RuleCounts
+pub mod Proper
