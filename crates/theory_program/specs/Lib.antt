@@ -3,3 +3,4 @@ pub mod Code
 pub mod Addresses
 pub mod RuleCounts
 pub mod Proper
+pub mod Unpacked
