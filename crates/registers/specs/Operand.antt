@@ -1,0 +1,82 @@
+-- The operands of a rule by its words: where a selector is 0, the constant stands for the operand.
+use Prim.Native.Nat.{ℕ, zero, suc, _+_, _*_, _/_, _%_, _≤_, _<_}
+use native.Mathlib.Omega.{arith}
+use mathlib.Core.Path.{_≡_, refl, sym, ap, ap₂, _∙_}
+use mathlib.Core.Bool.{Bool, true, false}
+use lib.ListN.{length, getD}
+use mathlib.Core.List.{List}
+use lib.Dec.{T}
+use lib.IntN.{ℤ}
+use Rattle.meaning.specs.Rules.{Operands}
+use Rattle.meaning.specs.Value.{apply, inRange}
+use Rattle.meaning.specs.Table.{signed}
+use Rattle.meaning.specs.Machine.{readRegister}
+use Rattle.meaning.specs.Program.{functionWords, ruleWords}
+use Rattle.value.specs.Computed.{computed}
+use Rattle.theory_program.specs.Unpacked.{functionFrom, ruleFrom}
+use Rattle.registers.specs.Read.{Valued}
+
+abbrev pub operandOf : List ℤ → ℕ → ℤ → ℤ
+operandOf rs zero c = c
+operandOf rs (suc k) c = readRegister rs (suc k)
+
+abbrev pub Fetched : List ℤ → ℕ → Type 0
+Fetched rs zero = Unit {0}
+Fetched rs (suc k) = Valued rs (suc k)
+
+pub record Operation (rs : List ℤ) (w k : ℕ) : Type 0 where
+  pub first : Fetched rs (w / 2048 % 128)
+  pub second : Fetched rs (w / 262144)
+  pub result : apply (readRegister rs) (ruleFrom w k .function) ≡ computed (w / 128 % 16) (operandOf rs (w / 2048 % 128) (signed k)) (operandOf rs (w / 262144) (signed k))
+
+-- ---- one operand
+
+pub fetched-some : (rs : List ℤ) (s : ℕ) → 1 ≤ s → Fetched rs s → Valued rs s
+fetched-some rs zero l f = absurd (omega arith)
+fetched-some rs (suc k) l f = f
+
+pub operand-some : (rs : List ℤ) (s : ℕ) (c : ℤ) → 1 ≤ s → operandOf rs s c ≡ readRegister rs s
+operand-some rs zero c l = absurd (omega arith)
+operand-some rs (suc k) c l = refl
+
+pub operand-none : (rs : List ℤ) (s : ℕ) (c : ℤ) → s ≡ 0 → operandOf rs s c ≡ c
+operand-none rs s c e = rw e
+
+valued-fetched : (rs : List ℤ) (s : ℕ) → Valued rs s → Fetched rs s
+valued-fetched rs zero v = tt
+valued-fetched rs (suc k) v = v
+
+none-fetched : (rs : List ℤ) (s : ℕ) → s ≡ 0 → Fetched rs s
+none-fetched rs s e = rw e tt
+
+-- ---- the words of a rule
+
+module _ (rs : List ℤ) (c : ℤ) (t a b w : ℕ) (low : t < 128) (isFirst : w / 2048 % 128 ≡ a) (isSecond : w / 262144 ≡ b) where
+  abbrev Meant : ℕ → Type 0
+  Meant f = Fetched rs a × Fetched rs b × (apply (readRegister rs) (functionFrom f a b c) ≡ computed f (operandOf rs a c) (operandOf rs b c))
+
+  with-two : (f : ℕ) → Valued rs a → Valued rs b → apply (readRegister rs) (functionFrom f a b c) ≡ computed f (readRegister rs a) (readRegister rs b) → Meant f
+  with-two f p q e = (valued-fetched rs a p, valued-fetched rs b q, e ∙ sym (ap₂ (computed f) (operand-some rs a c (p .0)) (operand-some rs b c (q .0))))
+
+  with-one : (f : ℕ) → Valued rs a → b ≡ 0 → apply (readRegister rs) (functionFrom f a b c) ≡ computed f (readRegister rs a) c → Meant f
+  with-one f p z e = (valued-fetched rs a p, none-fetched rs b z, e ∙ sym (ap₂ (computed f) (operand-some rs a c (p .0)) (operand-none rs b c z)))
+
+  meant : (f : ℕ) → w / 128 % 16 ≡ f → w ≡ getD (functionWords t (functionFrom f a b c)) 0 0 → Operands (Valued rs) (functionFrom f a b c) → Meant f
+  meant zero n e p =
+      let y : a ≡ 0 = omega arith in
+      let z : b ≡ 0 = omega arith in
+      (none-fetched rs a y, none-fetched rs b z, sym (operand-none rs a c y))
+  meant (suc zero) n e p = with-one 1 p (omega arith) refl
+  meant (suc (suc zero)) n e p = with-two 2 (p .0) (p .1) refl
+  meant (suc (suc (suc zero))) n e p = with-two 3 (p .0) (p .1) refl
+  meant (suc (suc (suc (suc zero)))) n e p = with-two 4 (p .0) (p .1) refl
+  meant (suc (suc (suc (suc (suc zero))))) n e p = with-two 5 (p .0) (p .1) refl
+  meant (suc (suc (suc (suc (suc (suc zero)))))) n e p = with-two 6 (p .0) (p .1) refl
+  meant (suc (suc (suc (suc (suc (suc (suc zero))))))) n e p = with-one 7 p (omega arith) refl
+  meant (suc (suc (suc (suc (suc (suc (suc (suc zero)))))))) n e p = with-one 8 p (omega arith) refl
+  meant (suc (suc (suc (suc (suc (suc (suc (suc (suc f))))))))) n e p = absurd (omega arith)
+
+pub operation : (rs : List ℤ) (w k : ℕ) → w ≡ getD (ruleWords (ruleFrom w k)) 0 0 → Operands (Valued rs) (ruleFrom w k .function) → Operation rs w k
+operation rs w k e p =
+    let m = meant rs (signed k) (w % 128) (w / 2048 % 128) (w / 262144) w (omega arith) refl refl (w / 128 % 16) refl e p in
+    record { first = m .0; second = m .1; result = m .2 }
