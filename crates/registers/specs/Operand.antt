@@ -2,18 +2,19 @@
 use Prim.Native.Nat.{ℕ, zero, suc, _+_, _*_, _/_, _%_, _≤_, _<_}
 use native.Mathlib.Omega.{arith}
 use mathlib.Core.Path.{_≡_, refl, sym, ap, ap₂, _∙_}
-use mathlib.Core.Bool.{Bool, true, false}
+use mathlib.Core.Bool.{Bool, true, false, _&&_}
 use lib.ListN.{length, getD}
 use mathlib.Core.List.{List}
 use lib.Dec.{T}
 use lib.IntN.{ℤ}
-use Rattle.meaning.specs.Rules.{Operands}
-use Rattle.meaning.specs.Value.{apply, inRange}
+use lib.Signed.{leZ}
+use Rattle.meaning.specs.Rules.{Operands, Reads}
+use Rattle.meaning.specs.Value.{apply, holds, inRange}
 use Rattle.meaning.specs.Table.{signed}
 use Rattle.meaning.specs.Machine.{readRegister}
 use Rattle.meaning.specs.Program.{functionWords, ruleWords}
 use Rattle.value.specs.Computed.{computed}
-use Rattle.theory_program.specs.Unpacked.{functionFrom, ruleFrom}
+use Rattle.theory_program.specs.Unpacked.{functionFrom, ruleFrom, conditionOfKind}
 use Rattle.registers.specs.Read.{Valued}
 
 abbrev pub operandOf : List ℤ → ℕ → ℤ → ℤ
@@ -48,6 +49,23 @@ valued-fetched rs (suc k) v = v
 
 none-fetched : (rs : List ℤ) (s : ℕ) → s ≡ 0 → Fetched rs s
 none-fetched rs s e = rw e tt
+
+-- ---- a condition by its kind
+
+module _ (rs : List ℤ) (a b : ℕ) (l h : ℤ) where
+  pub first-read : (k : Bool) → Reads (Valued rs) (conditionOfKind k a b l h) → Valued rs a
+  first-read true v = v
+  first-read false v = v .0
+
+  pub second-read : (k : Bool) → k ≡ false → Reads (Valued rs) (conditionOfKind k a b l h) → Valued rs b
+  second-read true e v = absurd (let z : _≡_ {A = ℕ} 0 1 = cc in omega arith)
+  second-read false e v = v .1
+
+  pub range-holds : (k : Bool) → k ≡ true → holds (readRegister rs) (conditionOfKind k a b l h) ≡ leZ l (readRegister rs a) && leZ (readRegister rs a) h
+  range-holds k e = rw e
+
+  pub atmost-holds : (k : Bool) → k ≡ false → holds (readRegister rs) (conditionOfKind k a b l h) ≡ leZ (readRegister rs a) (readRegister rs b)
+  atmost-holds k e = rw e
 
 -- ---- the words of a rule
 

@@ -6,6 +6,7 @@ ghost use lib.ListN.{length, drop};
 ghost use Rattle.meaning.specs.Base.{all};
 ghost use Rattle.meaning.specs.Calls.{lay};
 ghost use Rattle.meaning.specs.Machine.{readRegister};
+ghost use Rattle.meaning.specs.Rules.{Reads};
 ghost use Rattle.meaning.specs.Table.{signed};
 ghost use Rattle.meaning.specs.Value.{holds, inRange, mark};
 ghost use Rattle.value.specs.Computed.{computed};
@@ -36,4 +37,39 @@ pub fn remove(registers: &mut [i64], height: usize, count: usize)
         i += 1;
         registers[height - i] = value::MARK;
     }
+}
+
+// ---- test
+
+// One condition by its three words: kind 0 is a range.
+fn condition(registers: &[i64], height: usize, word: u32, low: u32, high: u32) -> bool
+    requires { ⌜ (height ≤ length (now registers)) × Reads (Valued (stack height (now registers))) (conditionFrom word low high) ⌝ }
+    ensures { λ r. ⌜ r ≡ holds (readRegister (stack height (now (registers .entry)))) (conditionFrom word low high) ⌝ }
+{
+    let a = read(registers, height, word % 128);
+    if word / 128 % 16 == 0 {
+        return value::in_bounds(a, value::constant(low), value::constant(high));
+    }
+    value::at_most(a, read(registers, height, word / 2048 % 128))
+}
+
+// Whether `count` conditions, whose words stand from `at` on, hold.
+pub fn test(registers: &[i64], height: usize, program: &[u32], at: usize, count: usize) -> bool
+    requires { ⌜ (height ≤ length (now registers)) × Tests (now program) at count (stack height (now registers)) ⌝ }
+    ensures { λ r. ⌜ r ≡ all (holds (readRegister (stack height (now (registers .entry))))) (conditionsFrom (now (program .entry)) at count) ⌝ }
+{
+    let mut i = 0;
+    let mut p = at;
+    while i < count {
+        let word = program[p];
+        let low = program[p + 1];
+        let high = program[p + 2];
+        if condition(registers, height, word, low, high) {
+            i += 1;
+            p += 3;
+        } else {
+            return false;
+        }
+    }
+    true
 }
