@@ -25,6 +25,12 @@ abbrev pub Fetched : List ℤ → ℕ → Type 0
 Fetched rs zero = Unit {0}
 Fetched rs (suc k) = Valued rs (suc k)
 
+-- the two words are those of a rule whose operands have values
+pub record Applies (rs : List ℤ) (w k : ℕ) : Type 0 where
+  pub written : w ≡ getD (ruleWords (ruleFrom w k)) 0 0
+  pub operands : Operands (Valued rs) (ruleFrom w k .function)
+
+-- its operands, and its result from them
 pub record Operation (rs : List ℤ) (w k : ℕ) : Type 0 where
   pub first : Fetched rs (w / 2048 % 128)
   pub second : Fetched rs (w / 262144)
@@ -94,7 +100,7 @@ module _ (rs : List ℤ) (c : ℤ) (t a b w : ℕ) (low : t < 128) (isFirst : w 
   meant (suc (suc (suc (suc (suc (suc (suc (suc zero)))))))) n e p = with-one 8 p (omega arith) refl
   meant (suc (suc (suc (suc (suc (suc (suc (suc (suc f))))))))) n e p = absurd (omega arith)
 
-pub operation : (rs : List ℤ) (w k : ℕ) → w ≡ getD (ruleWords (ruleFrom w k)) 0 0 → Operands (Valued rs) (ruleFrom w k .function) → Operation rs w k
-operation rs w k e p =
-    let m = meant rs (signed k) (w % 128) (w / 2048 % 128) (w / 262144) w (omega arith) refl refl (w / 128 % 16) refl e p in
+pub operation : {rs : List ℤ} {w k : ℕ} → Applies rs w k → Operation rs w k
+operation {rs} {w} {k} q =
+    let m = meant rs (signed k) (w % 128) (w / 2048 % 128) (w / 262144) w (omega arith) refl refl (w / 128 % 16) refl (q .written) (q .operands) in
     record { first = m .0; second = m .1; result = m .2 }

@@ -1,20 +1,20 @@
 // The moves of 01 that work on the register stack. The stack lies in the first `height` cells of the lent registers; register 1 is the top, at index `height - 1`.
-ghost use Prim.Native.Nat.{_≤_, _/_, _%_};
+ghost use Prim.Native.Nat.{_≤_};
 ghost use mathlib.Core.Path.{_≡_};
 ghost use mathlib.Core.Bool.{true};
-ghost use lib.ListN.{length, drop};
+ghost use mathlib.Core.List.{map};
+ghost use lib.ListN.{length, take, drop};
 ghost use Rattle.meaning.specs.Base.{all};
 ghost use Rattle.meaning.specs.Calls.{lay};
 ghost use Rattle.meaning.specs.Machine.{readRegister};
 ghost use Rattle.meaning.specs.Rules.{Reads};
 ghost use Rattle.meaning.specs.Table.{signed};
-ghost use Rattle.meaning.specs.Value.{holds, inRange, mark};
-ghost use Rattle.value.specs.Computed.{computed};
+ghost use Rattle.meaning.specs.Value.{apply, holds, inRange, mark};
 ghost use Rattle.value.specs.Ranged.{ranged};
-ghost use Rattle.theory_program.specs.Unpacked.{conditionFrom};
+ghost use Rattle.theory_program.specs.Unpacked.{ruleFrom, conditionFrom};
 ghost use Rattle.registers.specs.Stack.{stack};
-ghost use Rattle.registers.specs.Read.{Standing, Valued, Tests, conditionsFrom};
-ghost use Rattle.registers.specs.Operand.{Fetched, operandOf};
+ghost use Rattle.registers.specs.Read.{Valued, Tests, conditionsFrom, Evaluates, Evaluated, rulesFrom, valuesFit};
+ghost use Rattle.registers.specs.Operand.{Fetched, operandOf, Applies};
 
 // A register that stands.
 pub fn read(registers: &[i64], height: usize, selector: u32) -> i64
@@ -72,4 +72,27 @@ pub fn test(registers: &[i64], height: usize, program: &[u32], at: usize, count:
         }
     }
     true
+}
+
+// ---- evaluate
+
+// A register by its selector; where that is 0, the constant.
+fn operand(registers: &[i64], height: usize, selector: u32, constant: u32) -> i64
+    requires { ⌜ (height ≤ length (now registers)) × Fetched (stack height (now registers)) selector ⌝ }
+    ensures { λ r. ⌜ (r ≡ operandOf (stack height (now (registers .entry))) selector (signed constant)) × (inRange r ≡ true) ⌝ }
+{
+    if selector == 0 {
+        return value::constant(constant);
+    }
+    read(registers, height, selector)
+}
+
+// The value of a rule by its two words; the mark where it is out of range.
+fn result(registers: &[i64], height: usize, word: u32, constant: u32) -> i64
+    requires { ⌜ (height ≤ length (now registers)) × Applies (stack height (now registers)) word constant ⌝ }
+    ensures { λ r. ⌜ r ≡ ranged (apply (readRegister (stack height (now (registers .entry)))) (ruleFrom word constant .function)) ⌝ }
+{
+    let a = operand(registers, height, word / 2048 % 128, constant);
+    let b = operand(registers, height, word / 262144, constant);
+    value::compute(word / 128 % 16, a, b)
 }
