@@ -22,13 +22,19 @@ use Rattle.registers.specs.Stack.{stack}
 
 -- ---- n rules, or conditions, from an address on
 
+abbrev pub ruleHere : List ℕ → ℕ → Rule ℕ
+ruleHere ws a = ruleFrom (getD ws a 0) (getD ws (a + 1) 0)
+
 unfoldable pub rulesFrom : List ℕ → ℕ → ℕ → List (Rule ℕ)
 rulesFrom ws a zero = []
-rulesFrom ws a (suc n) = ruleFrom (getD ws a 0) (getD ws (a + 1) 0) ∷ rulesFrom ws (a + 2) n
+rulesFrom ws a (suc n) = ruleHere ws a ∷ rulesFrom ws (a + 2) n
+
+abbrev pub conditionHere : List ℕ → ℕ → Condition ℕ
+conditionHere ws a = conditionFrom (getD ws a 0) (getD ws (a + 1) 0) (getD ws (a + 2) 0)
 
 unfoldable pub conditionsFrom : List ℕ → ℕ → ℕ → List (Condition ℕ)
 conditionsFrom ws a zero = []
-conditionsFrom ws a (suc n) = conditionFrom (getD ws a 0) (getD ws (a + 1) 0) (getD ws (a + 2) 0) ∷ conditionsFrom ws (a + 3) n
+conditionsFrom ws a (suc n) = conditionHere ws a ∷ conditionsFrom ws (a + 3) n
 
 -- they are those that stand there
 pub rules-read : {ws : List ℕ} {a : ℕ} (rules : List (Rule ℕ)) → RulesAt ws a rules → ((r : Rule ℕ) → In r rules → ProperRule r) → rulesFrom ws a (length rules) ≡ rules
@@ -76,13 +82,21 @@ evaluates {ws} {a} rules rs s p v =
 
 -- ---- what evaluating rules leaves
 
+abbrev pub valueOf : List ℤ → Rule ℕ → ℤ
+valueOf rs r = apply (readRegister rs) (r .function)
+
 -- 01: "all or none"
 abbrev pub valuesFit : List (Rule ℕ) → List ℤ → Bool
-valuesFit rules rs = all (λ r. inRange (apply (readRegister rs) (r .function))) rules
+valuesFit rules rs = all (λ r. inRange (valueOf rs r)) rules
 
 abbrev pub afterRules : Bool → List (Rule ℕ) → List ℤ → List ℤ
 afterRules true rules rs = writeAll rules rs rs
 afterRules false rules rs = rs
+
+-- the answer, and the values where it is yes
+pub record Computed (rules : List (Rule ℕ)) (rs : List ℤ) (r : Bool) (vs : List ℤ) : Type 0 where
+  pub answer : r ≡ valuesFit rules rs
+  pub values : r ≡ true → vs ≡ map (valueOf rs) rules
 
 -- from memory m, whose first h cells are the stack, to m′
 pub record Evaluated (rules : List (Rule ℕ)) (h : ℕ) (m : List ℤ) (r : Bool) (m′ : List ℤ) : Type 0 where

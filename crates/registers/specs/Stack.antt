@@ -7,6 +7,7 @@ use lib.ListN.{length, getD, set, take, drop, replicate, length-append, length-r
 use lib.Seq.{length-take-le, take-at, drop-at, set-at, set-set, set-append-left, getD-append-seam, set-append-seam}
 use Rattle.meaning.specs.Calls.{lay}
 use Rattle.theory_complete.specs.Lists.{getD-any}
+use Rattle.theory_complete.specs.Memory.{lay-stack}
 
 -- the first h cells, the top first
 abbrev pub stack : {A : Type 0} → ℕ → List A → List A
@@ -107,3 +108,14 @@ module _ {A : Type 0} (clear : A) (h : ℕ) (mem : List A) (l : h ≤ length mem
       let e = stack-length h mem l in
       getD-any mem (h - k) d clear (omega arith)
       ∙ (ap (λ z. getD z (h - k) clear) (sym stack-laid) ∙ (ap (λ j. getD (lay h clear (stack h mem) mem) (j - k) clear) (sym e) ∙ lay-read h clear (stack h mem) mem k clear m (omega arith)))
+
+  pub write-laid : (k : ℕ) (v : A) → 1 ≤ k → k ≤ h → set mem (h - k) v ≡ lay h clear (set (stack h mem) (k - 1) v) mem
+  write-laid k v m n =
+      let e = stack-length h mem l in
+      ap (λ z. set z (h - k) v) (sym stack-laid) ∙ (ap (λ j. set (lay h clear (stack h mem) mem) (j - k) v) (sym e) ∙ sym (lay-write h clear (stack h mem) mem k v m (omega arith)))
+
+  pub stack-write : (k : ℕ) (v : A) → 1 ≤ k → k ≤ h → stack h (set mem (h - k) v) ≡ set (stack h mem) (k - 1) v
+  stack-write k v m n =
+      let ys : List A = set (stack h mem) (k - 1) v in
+      let e : length ys ≡ h = length-set (stack h mem) (k - 1) v ∙ stack-length h mem l in
+      ap (stack h) (write-laid k v m n) ∙ (ap (λ j. stack j (lay h clear ys mem)) (sym e) ∙ lay-stack h clear ys mem (omega arith))

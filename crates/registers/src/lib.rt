@@ -6,14 +6,14 @@ ghost use mathlib.Core.List.{map};
 ghost use lib.ListN.{length, take, drop};
 ghost use Rattle.meaning.specs.Base.{all};
 ghost use Rattle.meaning.specs.Calls.{lay};
-ghost use Rattle.meaning.specs.Machine.{readRegister};
+ghost use Rattle.meaning.specs.Machine.{readRegister, writeAll};
 ghost use Rattle.meaning.specs.Rules.{Reads};
 ghost use Rattle.meaning.specs.Table.{signed};
 ghost use Rattle.meaning.specs.Value.{apply, holds, inRange, mark};
 ghost use Rattle.value.specs.Ranged.{ranged};
 ghost use Rattle.theory_program.specs.Unpacked.{ruleFrom, conditionFrom};
 ghost use Rattle.registers.specs.Stack.{stack};
-ghost use Rattle.registers.specs.Read.{Valued, Tests, conditionsFrom, Evaluates, Evaluated, rulesFrom, valuesFit};
+ghost use Rattle.registers.specs.Read.{Valued, Tests, conditionsFrom, rulesFrom, valueOf, Evaluates, Computed, Evaluated};
 ghost use Rattle.registers.specs.Operand.{Fetched, operandOf, Applies};
 
 // A register that stands.
@@ -95,4 +95,55 @@ fn result(registers: &[i64], height: usize, word: u32, constant: u32) -> i64
     let a = operand(registers, height, word / 2048 % 128, constant);
     let b = operand(registers, height, word / 262144, constant);
     value::compute(word / 128 % 16, a, b)
+}
+
+// The values of `count` rules, whose words stand from `at` on, into `values`; false at the first one out of range.
+fn compute_all(registers: &[i64], height: usize, program: &[u32], at: usize, count: usize, values: &mut [i64]) -> bool
+    requires { ⌜ (height ≤ length (now registers)) × (count ≤ length (now values)) × Evaluates (now program) at count (stack height (now registers)) ⌝ }
+    ensures { λ r. ⌜ Computed (rulesFrom (now (program .entry)) at count) (stack height (now (registers .entry))) r (take count (now (values .exit))) ⌝ }
+{
+    let mut i = 0;
+    let mut p = at;
+    while i < count {
+        let word = program[p];
+        let constant = program[p + 1];
+        let v = result(registers, height, word, constant);
+        if value::is_mark(v) {
+            return false;
+        }
+        values[i] = v;
+        i += 1;
+        p += 2;
+    }
+    true
+}
+
+// Writes the values of the rules to their targets.
+fn write_all(registers: &mut [i64], height: usize, program: &[u32], at: usize, count: usize, values: &[i64])
+    requires { ⌜ (height ≤ length (now registers)) × (count ≤ length (now values)) × Evaluates (now program) at count (stack height (now registers)) × (take count (now values) ≡ map (valueOf (stack height (now registers))) (rulesFrom (now program) at count)) ⌝ }
+    ensures { λ r. ⌜ now (registers .exit) ≡ lay height mark (writeAll (rulesFrom (now (program .entry)) at count) (stack height (now (registers .entry))) (stack height (now (registers .entry)))) (now (registers .entry)) ⌝ }
+{
+    let mut i = 0;
+    let mut p = at;
+    while i < count {
+        let word = program[p];
+        let below = (word % 128) as usize;
+        let v = values[i];
+        registers[height - below] = v;
+        i += 1;
+        p += 2;
+    }
+}
+
+// Evaluates `count` rules, whose words stand from `at` on. 01: "all or none".
+pub fn evaluate(registers: &mut [i64], height: usize, program: &[u32], at: usize, count: usize) -> bool
+    requires { ⌜ (height ≤ length (now registers)) × (count ≤ 8) × Evaluates (now program) at count (stack height (now registers)) ⌝ }
+    ensures { λ r. ⌜ Evaluated (rulesFrom (now (program .entry)) at count) height (now (registers .entry)) r (now (registers .exit)) ⌝ }
+{
+    let mut values = [0i64; 8];
+    if compute_all(registers, height, program, at, count, &mut values) {
+        write_all(registers, height, program, at, count, &values);
+        return true;
+    }
+    false
 }

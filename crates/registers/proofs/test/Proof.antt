@@ -12,7 +12,7 @@ use Rattle.meaning.specs.Machine.{readRegister}
 use Rattle.meaning.specs.Value.{holds}
 use Rattle.registers.specs.Stack.{stack}
 use Rattle.registers.specs.Read.{Tests, conditionsFrom}
-use Rattle.registers.proofs.Loops.{conditionHere, conditions-turn, conditions-end, reads-turn, tests-turn}
+use Rattle.registers.proofs.Loops.{conditions-turn, conditions-end, reads-turn, tests-turn}
 use Rattle.registers.proofs.test.Statement.{statement}
 use Rattle.registers.proofs.test.Tie as tie
 
