@@ -1,16 +1,16 @@
 -- A list of calls that bring the accepted table, among any that count for nothing, is a list of calls under its grammar.
 use Prim.Native.Nat.{ℕ, _≤_}
-use mathlib.Core.Path.{_≡_, refl, sym, ap, _∙_, subst, subst₂}
+use mathlib.Core.Path.{_≡_, sym, ap, _∙_, subst}
 use mathlib.Core.Bool.{Bool, true, false}
 use mathlib.Core.List.{List, [], _++_}
 use lib.ListN.{length}
 use Rattle.meaning.specs.Grammar.{Grammar}
 use Rattle.meaning.specs.Judgement.{Accepted}
-use Rattle.meaning.specs.Calls.{Record, Stacks, Called, Answer, more, closedRecord, openOf}
-use Rattle.meaning.specs.PublicCalls.{Call, feed, finish, callOf, areaLength, written, Effect, effect, opens, performs}
+use Rattle.meaning.specs.Calls.{Record, Stacks, closedRecord, openOf}
+use Rattle.meaning.specs.PublicCalls.{Call, feed, finish, callOf, areaLength, written, effect, opens, performs}
 use Rattle.meaning.specs.Statements.{History, opened, countsForNothing, fed, finished}
-use Rattle.meaning.specs.Demands as ByGrammar
-use Rattle.theory_demands.specs.Called.{called-is, opened-long}
+use Rattle.theory_answers.specs.Called.{called-is, opened-long}
+use Rattle.theory_base.specs.Counted as ByGrammar
 
 module _ (program : Grammar → List ℕ) (bs : List ℕ) (g : Grammar) (a : Accepted bs g) where
   pub opens-is : (area : List ℕ) (m : Stacks) → areaLength ≤ length area → opens program bs area m ≡ effect (openOf g m) (written (program g) area)

@@ -1,10 +1,9 @@
 -- Demands 2 and 3 over every list of calls: the picture, the value, and no second tree.
-use Prim.Native.Nat.{ℕ, zero, suc, _≤_}
-use native.Mathlib.Omega.{arith}
+use Prim.Native.Nat.{ℕ, _≤_}
 use mathlib.Core.Path.{_≡_, refl, sym, ap, ap₂, _∙_, subst}
-use mathlib.Core.Logic.{_↔_, inl, inr}
-use mathlib.Core.Bool.{Bool, true, false, not}
-use mathlib.Core.List.{List, [], _∷_, _++_, append-nil}
+use mathlib.Core.Logic.{inl, inr}
+use mathlib.Core.Bool.{Bool, true, false}
+use mathlib.Core.List.{List, [], _++_, append-nil}
 use lib.ListN.{length}
 use lib.IntN.{ℤ}
 use lib.Dec.{T}
@@ -13,25 +12,20 @@ use Rattle.meaning.specs.Rules.{WellFormed}
 use Rattle.meaning.specs.Judgement.{Accepted}
 use Rattle.meaning.specs.Tree.{Tree, TreeOf, valueOf, movesOf}
 use Rattle.meaning.specs.Walk.{walk}
-use Rattle.meaning.specs.Calls.{Record, Stacks, Called, Answer, refused, value, lentOf, openOf, feedOf, finishOf, whenFit, stacksFit, asBrought, afterFinish, configOf}
-use Rattle.meaning.specs.Calls as Calls
+use Rattle.meaning.specs.Calls.{Record, Stacks, Called, refused, value, lentOf, openOf, feedOf, finishOf, whenFit, stacksFit, asBrought, afterFinish, configOf}
 use Rattle.meaning.specs.Machine.{finishAll}
-use Rattle.meaning.specs.PublicCalls.{finish, areaLength, performs}
+use Rattle.meaning.specs.PublicCalls.{finish}
 use Rattle.meaning.specs.Drawn.{WalkFits, drawnMoves, drawnRecord, drawnStacks}
 use Rattle.meaning.specs.Statements.{History, OnlyTree, PictureAlways, ValueAlways}
-use Rattle.meaning.specs.Demands as Counted
-use Rattle.theory_table.specs.ReadWellFormed.{read-well-formed}
+use Rattle.theory_table.specs.AcceptedTable.{accepted-well-formed}
 use Rattle.theory_walk.specs.Moves.{moves-to, moves-all}
-use Rattle.theory_sound.specs.Formed.{Formed}
-use Rattle.theory_sound.specs.TableFormed.{accepted-formed}
 use Rattle.theory_sound.specs.Histories.{Run, runs}
-use Rattle.theory_sound.specs.Answers.{Answered, finish-sound}
+use Rattle.theory_sound.specs.Answers.{finish-sound, not-value}
 use Rattle.theory_sound.specs.ValueSound.{moves-only}
 use Rattle.theory_demands.specs.ByGrammar.{performs-is, by-grammar}
+use Rattle.meaning.specs.Calls as Calls
+use Rattle.theory_base.specs.Counted as Counted
 use Rattle.theory_demands.specs.Proved as Proved
-
-pub accepted-well-formed : (bs : List ℕ) (g : Grammar) → Accepted bs g → WellFormed g
-accepted-well-formed bs g a = subst WellFormed (a .isGrammar) (read-well-formed bs (a .state) (a .isRead))
 
 -- ---- the walk counted and the walk as a sequence
 
@@ -70,9 +64,6 @@ picture-always program bs g m₀ ts us isOver r m t a h k f over =
 
 -- ---- the value
 
-not-value : {A : Type 0} {k j : ℕ} {v : ℤ} {n : ℕ} → refused k j ≡ value v n → A
-not-value e = absurd (let z : _≡_ {A = ℕ} 0 1 = cc in omega arith)
-
 closed-no : (g : Grammar) (r : Record) (m : Stacks) (called : Called) (v : ℤ) (n : ℕ) → r .isOpen ≡ false → whenFit g r m called .answer ≡ value v n → ⊥
 closed-no g r m called v n e h = go (r .isOpen) e h
   where
@@ -82,7 +73,6 @@ closed-no g r m called v n e h = go (r .isOpen) e h
 
 was-opened : {g : Grammar} {m₀ : Stacks} {ts : List ℕ} {b : Bool} {r : Record} {m : Stacks} → Counted.History g m₀ ts b r m → openOf g m₀ .answer ≡ Calls.more 0
 was-opened (Counted.opened e) = e
-was-opened (Counted.countsForNothing bs area c n o h p) = was-opened h
 was-opened (Counted.fed us h) = was-opened h
 was-opened (Counted.finished h) = was-opened h
 
@@ -90,7 +80,7 @@ module _ (bs : List ℕ) (g : Grammar) (a : Accepted bs g) (m₀ : Stacks) (ts :
   forth : Run g m₀ ts r m → finishOf g r m .answer ≡ value v n → (t : Tree) × TreeOf g ts t × WalkFits g (lentOf m₀) t × (valueOf g t ≡ v) × (length (walk g t) ≡ n)
   forth (inl o) h =
       let e = ap₂ (λ x y. finishOf g x y .answer) (o .isRecord) (o .isStacks) in
-      let s = finish-sound g (accepted-formed bs g a) m₀ ts (o .config) (o .stop) v n (sym e ∙ h) in
+      let s = finish-sound g (accepted-well-formed bs g a) m₀ ts (o .config) (o .stop) v n (sym e ∙ h) in
       let w = accepted-well-formed bs g a in
       (s .tree, s .isTree, fits-walked g w ts (s .tree) (s .isTree) m₀ (s .fits), s .isValue, sym (all-moves g w ts (s .tree) (s .isTree)) ∙ s .moves)
   forth (inr o) h = absurd (closed-no g r m (afterFinish g m (finishAll g (lentOf m) (configOf g r m))) v n (ap (λ z. z .isOpen) (o .isRecord)) h)
@@ -116,4 +106,4 @@ pub value-always : ValueAlways
 value-always program bs area g m₀ ts r m a l h v n =
     let e = ap (λ z. z .answer) (performs-is program bs g a area r m finish l) in
     let c = by-grammar program bs g a h in
-    ((λ x. forth bs g a m₀ ts r m v n (runs g (accepted-formed bs g a) m₀ ts false r m c) (sym e ∙ x)), (λ x. e ∙ back bs g a m₀ ts r m v n c x))
+    ((λ x. forth bs g a m₀ ts r m v n (runs g (accepted-well-formed bs g a) m₀ ts false r m c) (sym e ∙ x)), (λ x. e ∙ back bs g a m₀ ts r m v n c x))

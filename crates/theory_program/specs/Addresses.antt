@@ -1,23 +1,22 @@
 -- Where everything stands in a list that begins with the program: the words on the whole segment, the directory, the records, the bodies.
-use Prim.Native.Nat.{ℕ, zero, suc, _+_, _-_, _*_, _≤_, _<_}
+use Prim.Native.Nat.{ℕ, zero, suc, _+_, _-_, _*_, _<_}
 use native.Mathlib.Omega.{arith}
 use mathlib.Core.Path.{_≡_, refl, sym, ap, _∙_, subst}
-use mathlib.Core.Bool.{Bool, true, false, not}
+use mathlib.Core.Bool.{not}
 use mathlib.Core.List.{List, [], _∷_, _++_, map}
 use lib.ListN.{length, getD, take, drop, length-append, length-map, List·getD-append}
 use lib.Seq.{getD-append-add}
-use lib.Dec.{eqb}
 use Rattle.meaning.specs.Base.{countFrom, total, isEmpty}
-use Rattle.meaning.specs.Grammar.{Symbol, nonterminal, Production, Grammar, nonterminalCount, productionAt, pickProduction, whole, wholeProduction}
+use Rattle.meaning.specs.Grammar.{nonterminal, Production, Grammar, nonterminalCount, productionAt, whole, wholeProduction}
 use Rattle.meaning.specs.Rules.{WellFormed}
-use Rattle.meaning.specs.Scheme.{Instruction, evaluate, expect, remove, removed, scheme, entryTests, synthesizedRules}
+use Rattle.meaning.specs.Scheme.{evaluate, remove, removed, scheme, entryTests, synthesizedRules}
 use Rattle.meaning.specs.Machine.{expects, schemeAt}
 use Rattle.meaning.specs.Calls.{fromExpect}
 use Rattle.meaning.specs.PublicCalls.{written}
 use Rattle.meaning.specs.Program.{concat, schemeWords, expectsAt, entryWords, schemeOffset, bodyWords, bodySize, bodiesFrom, recordWords, recordsFrom, directoryWord, directory, recordsAddress, bodiesAddress, segmentWords, programOf, symbolHead}
 use Rattle.theory_sets.specs.Tests.{tabled, length-countFrom}
-use Rattle.theory_sound.specs.Members.{differ-false}
-use Rattle.theory_sound.specs.Places.{expects-skip, expects-symbols}
+use Rattle.theory_base.specs.WellFormed.{listed-at}
+use Rattle.theory_base.specs.Frames.{expects-skip, expects-symbols}
 use Rattle.theory_program.specs.Stands.{Stands, stands-at, stands-in, stands-first, stands-behind, stands-left, stands-right, stands-word}
 use Rattle.theory_program.specs.Code.{CodeAt, ConditionsAt, conditions-length, expects-length, code-from}
 
@@ -42,11 +41,6 @@ schemeAddress g p = bodyAddress g p + schemeOffset g (productionAt g p)
 -- of the expect of the symbol after the first k
 abbrev pub expectAddress : Grammar → ℕ → ℕ → ℕ
 expectAddress g p k = getD (expectsAt (schemeAddress g p) (scheme g (productionAt g p))) k 0
-
--- ---- a production by its number
-
-pub production-is : (g : Grammar) → WellFormed g → (p : ℕ) → p < length (g .productions) → productionAt g p ≡ getD (g .productions) p (wholeProduction g)
-production-is g w p l = ap (λ b. pickProduction b (wholeProduction g) (getD (g .productions) p (wholeProduction g))) (differ-false p whole (λ e. let m = w .productions .1 in omega arith))
 
 -- ---- lengths
 
@@ -153,10 +147,7 @@ module _ {g : Grammar} {ws : List ℕ} (s : Begins g ws) where
       ∙ (stands-word here (64 * n + u) (omega (arith, directory-length g))
       ∙ (row-at (directoryWord g) 64 0 (nonterminalCount g) n u l m ∙ ap (λ k. directoryWord g k u) (omega arith)))
 
-  pub segment-word : (j : ℕ) → j < 8 → getD ws j 0 ≡ getD (segmentWords g) j 0
-  segment-word j l = ap (λ a. getD ws a 0) (omega arith) ∙ stands-word segment-at j l
-
-  -- the whole segment's scheme; word 1 says that nothing is left
+  -- the whole segment's scheme
   pub whole-at : CodeAt ws 0 (schemeAt g whole)
   whole-at = record { words = stands-left (symbolHead (nonterminal (g .start)) ∷ []) (drop 1 (segmentWords g)) segment-at }
 
@@ -164,16 +155,13 @@ module _ {g : Grammar} {ws : List ℕ} (s : Begins g ws) where
     pub record-at : Stands ws (recordAddress g p) (recordWords g (bodyAddress g p) p (productionAt g p) (drop (suc p) (g .productions)))
     record-at =
         let here = record-in g (bodiesAddress g) 0 (g .productions) p (wholeProduction g) (bodyAddress g p) p l refl (omega arith) in
-        subst (λ q. Stands ws (recordAddress g p) (recordWords g (bodyAddress g p) p q (drop (suc p) (g .productions)))) (sym (production-is g w p l)) (stands-in (stands-left records bodies behind-directory) here)
-
-    pub record-word : (j : ℕ) → j < 8 → getD ws (recordAddress g p + j) 0 ≡ getD (recordWords g (bodyAddress g p) p (productionAt g p) (drop (suc p) (g .productions))) j 0
-    record-word j m = stands-word record-at j m
+        subst (λ q. Stands ws (recordAddress g p) (recordWords g (bodyAddress g p) p q (drop (suc p) (g .productions)))) (sym (listed-at g w p l)) (stands-in (stands-left records bodies behind-directory) here)
 
     pub body-at : Stands ws (bodyAddress g p) (bodyWords g (bodyAddress g p) (productionAt g p))
     body-at =
         let here = body-in g (bodiesAddress g) (g .productions) p (wholeProduction g) (bodyAddress g p) l refl in
         let all = stands-right records bodies behind-directory in
-        subst (λ q. Stands ws (bodyAddress g p) (bodyWords g (bodyAddress g p) q)) (sym (production-is g w p l)) (stands-at (bodyAddress g p) (omega (arith, records-length g (bodiesAddress g) 0 (g .productions))) (stands-in all here))
+        subst (λ q. Stands ws (bodyAddress g p) (bodyWords g (bodyAddress g p) q)) (sym (listed-at g w p l)) (stands-at (bodyAddress g p) (omega (arith, records-length g (bodiesAddress g) 0 (g .productions))) (stands-in all here))
 
     abbrev addresses : List ℕ
     addresses = expectsAt (schemeAddress g p) (scheme g (productionAt g p))

@@ -1,14 +1,16 @@
 -- Instructions, rules and conditions as words that stand in a list: what the first word says, and where the others stand.
 use Prim.Native.Nat.{ℕ, zero, suc, _+_, _*_, _/_, _%_, _≤_, _<_}
 use native.Mathlib.Omega.{arith}
-use mathlib.Core.Path.{_≡_, refl, sym, ap, _∙_, subst}
-use mathlib.Core.List.{List, [], _∷_, _++_, map, append-assoc}
+use mathlib.Core.Path.{_≡_, refl, ap, _∙_}
+use mathlib.Core.Logic.{inl, inr}
+use mathlib.Core.List.{List, [], _∷_, map}
 use lib.ListN.{length, getD, length-append}
+use Rattle.meaning.specs.Base.{In}
 use Rattle.meaning.specs.Grammar.{Symbol, terminal, nonterminal, Function, const, copy, sum, diff, prod, maxi, mini, addc, quot, Rule, Condition, range, atmost}
 use Rattle.meaning.specs.Scheme.{Instruction, add, evaluate, expect, test, remove}
 use Rattle.meaning.specs.Machine.{expects}
 use Rattle.meaning.specs.Calls.{fromExpect}
-use Rattle.meaning.specs.Program.{concat, packed, functionWords, ruleWords, conditionWords, symbolHead, instructionWords, schemeWords, expectsAt}
+use Rattle.meaning.specs.Program.{concat, functionWords, ruleWords, conditionWords, symbolHead, instructionWords, schemeWords, expectsAt}
 use Rattle.theory_program.specs.Stands.{Stands, stands-at, stands-left, stands-right, stands-tail, stands-word, stands-head}
 
 pub record RulesAt (ws : List ℕ) (a : ℕ) (rs : List (Rule ℕ)) : Type 0 where
@@ -102,7 +104,8 @@ some-word (expect x) = omega arith
 some-word (test cs) = omega arith
 some-word (remove n) = omega arith
 
-low-operation : (i : Instruction) → operation i < 8
+-- 6 is no operation: it says that nothing is left
+pub low-operation : (i : Instruction) → operation i ≤ 5
 low-operation (add n) = omega arith
 low-operation (evaluate rs) = omega arith
 low-operation (expect (terminal t)) = omega arith
@@ -144,6 +147,56 @@ code-test {ws} {a} {cs} {is} s =
 pub code-remove : {ws : List ℕ} {a n : ℕ} {is : List Instruction} → CodeAt ws a (remove n ∷ is) → (getD ws a 0 ≡ 5 + 8 * n) × CodeAt ws (a + 1) is
 code-remove s = (stands-head (s .words), code-next s)
 
+-- ---- which instruction a number means
+
+pub is-add : (i : Instruction) → operation i ≡ 0 → i ≡ add (operand i)
+is-add (add n) e = refl
+is-add (evaluate rs) e = absurd (omega arith)
+is-add (expect (terminal t)) e = absurd (omega arith)
+is-add (expect (nonterminal n)) e = absurd (omega arith)
+is-add (test cs) e = absurd (omega arith)
+is-add (remove n) e = absurd (omega arith)
+
+pub is-evaluate : (i : Instruction) → operation i ≡ 1 → (rs : List (Rule ℕ)) × (i ≡ evaluate rs)
+is-evaluate (add n) e = absurd (omega arith)
+is-evaluate (evaluate rs) e = (rs, refl)
+is-evaluate (expect (terminal t)) e = absurd (omega arith)
+is-evaluate (expect (nonterminal n)) e = absurd (omega arith)
+is-evaluate (test cs) e = absurd (omega arith)
+is-evaluate (remove n) e = absurd (omega arith)
+
+pub is-terminal : (i : Instruction) → operation i ≡ 2 → i ≡ expect (terminal (operand i))
+is-terminal (add n) e = absurd (omega arith)
+is-terminal (evaluate rs) e = absurd (omega arith)
+is-terminal (expect (terminal t)) e = refl
+is-terminal (expect (nonterminal n)) e = absurd (omega arith)
+is-terminal (test cs) e = absurd (omega arith)
+is-terminal (remove n) e = absurd (omega arith)
+
+pub is-nonterminal : (i : Instruction) → operation i ≡ 3 → i ≡ expect (nonterminal (operand i))
+is-nonterminal (add n) e = absurd (omega arith)
+is-nonterminal (evaluate rs) e = absurd (omega arith)
+is-nonterminal (expect (terminal t)) e = absurd (omega arith)
+is-nonterminal (expect (nonterminal n)) e = refl
+is-nonterminal (test cs) e = absurd (omega arith)
+is-nonterminal (remove n) e = absurd (omega arith)
+
+pub is-test : (i : Instruction) → operation i ≡ 4 → (cs : List (Condition ℕ)) × (i ≡ test cs)
+is-test (add n) e = absurd (omega arith)
+is-test (evaluate rs) e = absurd (omega arith)
+is-test (expect (terminal t)) e = absurd (omega arith)
+is-test (expect (nonterminal n)) e = absurd (omega arith)
+is-test (test cs) e = (cs, refl)
+is-test (remove n) e = absurd (omega arith)
+
+pub is-remove : (i : Instruction) → operation i ≡ 5 → i ≡ remove (operand i)
+is-remove (add n) e = absurd (omega arith)
+is-remove (evaluate rs) e = absurd (omega arith)
+is-remove (expect (terminal t)) e = absurd (omega arith)
+is-remove (expect (nonterminal n)) e = absurd (omega arith)
+is-remove (test cs) e = absurd (omega arith)
+is-remove (remove n) e = refl
+
 -- ---- expects
 
 pub expects-length : (a : ℕ) (is : List Instruction) → length (expectsAt a is) ≡ expects is
@@ -153,6 +206,16 @@ expects-length a (add n ∷ is) = omega (arith, expects-length (a + length (inst
 expects-length a (evaluate rs ∷ is) = omega (arith, expects-length (a + length (instructionWords (evaluate rs))) is)
 expects-length a (test cs ∷ is) = omega (arith, expects-length (a + length (instructionWords (test cs))) is)
 expects-length a (remove n ∷ is) = omega (arith, expects-length (a + length (instructionWords (remove n))) is)
+
+-- an expect stands in its scheme
+pub expects-below : (a : ℕ) (is : List Instruction) (v : ℕ) → In v (expectsAt a is) → v < a + length (schemeWords is)
+expects-below a [] v i = absurd i
+expects-below a (expect x ∷ is) v (inl e) = omega arith
+expects-below a (expect x ∷ is) v (inr i) = omega (arith, expects-below (suc a) is v i)
+expects-below a (add n ∷ is) v i = omega (arith, expects-below (a + length (instructionWords (add n))) is v i)
+expects-below a (evaluate rs ∷ is) v i = omega (arith, expects-below (a + length (instructionWords (evaluate rs))) is v i, length-append (instructionWords (evaluate rs)) (schemeWords is))
+expects-below a (test cs ∷ is) v i = omega (arith, expects-below (a + length (instructionWords (test cs))) is v i, length-append (instructionWords (test cs)) (schemeWords is))
+expects-below a (remove n ∷ is) v i = omega (arith, expects-below (a + length (instructionWords (remove n))) is v i)
 
 -- the code from the expect of a symbol on
 pub code-from : {ws : List ℕ} (a : ℕ) (is : List Instruction) (k : ℕ) → k < expects is → CodeAt ws a is → CodeAt ws (getD (expectsAt a is) k 0) (fromExpect is k)

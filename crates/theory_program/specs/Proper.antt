@@ -2,21 +2,24 @@
 use Prim.Native.Nat.{ℕ, zero, suc, _+_, _-_, _*_, _≤_, _<_}
 use native.Mathlib.Omega.{arith}
 use native.Mathlib.Decide.{decLt}
-use mathlib.Core.Path.{_≡_, refl, sym, ap, _∙_, subst}
-use mathlib.Core.Logic.{_⊎_, inl, inr}
+use mathlib.Core.Path.{_≡_, refl, sym, ap, subst}
+use mathlib.Core.Logic.{inl, inr}
 use mathlib.Core.Bool.{Bool, true, false, not}
 use mathlib.Core.List.{List, [], _∷_, map}
 use lib.ListN.{length, getD, take, drop, length-map, length-take, length-drop, List·getD-eq-default}
-use lib.Seq.{drop-cons}
-use lib.Dec.{T, eqb, ltb, ltb→lt, eqb→eq}
+use lib.Dec.{T, eqb, ltb, ltb→lt, eqb·suc-zero}
 use Rattle.meaning.specs.Base.{In, keep, consIf, total, isEmpty}
-use Rattle.meaning.specs.Grammar.{Symbol, terminal, nonterminal, Occurrence, Function, const, copy, sum, diff, prod, maxi, mini, addc, quot, Rule, Condition, range, atmost, Production, Grammar, noCounts, inh, syn, att, symbolAt, productionAt, wholeProduction, conditionPosition}
+use Rattle.meaning.specs.Grammar.{Symbol, terminal, nonterminal, Occurrence, Function, const, copy, sum, diff, prod, maxi, mini, addc, quot, Rule, Condition, range, atmost, Production, Grammar, noCounts, syn, att, symbolAt, productionAt, wholeProduction, conditionPosition}
 use Rattle.meaning.specs.Rules.{Operands, Reads, Input, InputAt, Output, OutputAt, Operand, Known, InFourBytes, Constant, Proper, WellFormedProduction, WellFormed}
-use Rattle.meaning.specs.Scheme.{Instruction, add, evaluate, expect, test, remove, mapFunction, mapCondition, mapRule, synBetween, choose, selectInherited, selectAfter, rulesFor, conditionsAt, entryTests, testsAfter, inheritedRules, synthesizedRules, removed, symbolScheme, symbolsScheme, scheme}
-use Rattle.theory_table.specs.Members.{getD-in, map-in}
-use Rattle.theory_sound.specs.Members.{in-keep, differ-false, same-true}
-use Rattle.theory_program.specs.RuleCounts.{distinct-keep, rules-few}
-use Rattle.theory_program.specs.Addresses.{production-is}
+use Rattle.meaning.specs.Selectors.{occurrence}
+use Rattle.meaning.specs.Scheme.{Instruction, add, evaluate, expect, test, remove, mapFunction, mapCondition, mapRule, synBetween, selectInherited, selectAfter, rulesFor, conditionsAt, entryTests, testsAfter, inheritedRules, synthesizedRules, removed, symbolScheme, symbolsScheme, scheme}
+use Rattle.theory_base.specs.Members.{in-keep, getD-in, map-in}
+use Rattle.theory_base.specs.WellFormed.{listed-at}
+use Rattle.theory_base.specs.Selectors.{inherited-at}
+use Rattle.theory_base.specs.Present.{in-for}
+use Rattle.theory_base.specs.Evaluate.{distinct-keep}
+use Rattle.theory_answers.specs.Selecting.{operands-through, reads-through, target-of-inherited, target-of-synthesized}
+use Rattle.theory_program.specs.RuleCounts.{rules-few}
 
 -- ---- what is said
 
@@ -43,18 +46,10 @@ ProperInstruction g (expect x) = Known g x
 ProperInstruction g (test cs) = (1 ≤ length cs) × (length cs ≤ 512) × ((c : Condition ℕ) → In c cs → ProperCondition c)
 ProperInstruction g (remove n) = n ≤ 104
 
--- ---- operands under a map
+abbrev pub AllProper : Grammar → List Instruction → Type 0
+AllProper g is = (i : Instruction) → In i is → ProperInstruction g i
 
-operands-map : {O : Type 0} (P : O → Type 0) (Q : ℕ → Type 0) (s : O → ℕ) → ((o : O) → P o → Q (s o)) → (f : Function O) → Operands P f → Operands Q (mapFunction s f)
-operands-map P Q s k (const c) h = tt
-operands-map P Q s k (copy a) h = k a h
-operands-map P Q s k (sum a b) h = (k a (h .0), k b (h .1))
-operands-map P Q s k (diff a b) h = (k a (h .0), k b (h .1))
-operands-map P Q s k (prod a b) h = (k a (h .0), k b (h .1))
-operands-map P Q s k (maxi a b) h = (k a (h .0), k b (h .1))
-operands-map P Q s k (mini a b) h = (k a (h .0), k b (h .1))
-operands-map P Q s k (addc a c) h = k a h
-operands-map P Q s k (quot a c) h = k a h
+-- ---- constants under a map
 
 constant-map : {O P : Type 0} (s : O → P) (f : Function O) → Constant f → Constant (mapFunction s f)
 constant-map s (const c) h = h
@@ -67,9 +62,13 @@ constant-map s (mini a b) h = tt
 constant-map s (addc a c) h = h
 constant-map s (quot a c) h = h
 
-condition-map : (P : Occurrence → Type 0) (s : Occurrence → ℕ) → ((o : Occurrence) → P o → Selector (s o)) → (c : Condition Occurrence) → Reads P c → Proper c → ProperCondition (mapCondition s c)
-condition-map P s k (range a l h) r p = record { reads = k a r; bounds = (p .0, p .1) }
-condition-map P s k (atmost a b) r p = record { reads = (k a (r .0), k b (r .1)); bounds = tt }
+bounds-map : {O P : Type 0} (s : O → P) (c : Condition O) → Bounds c → Bounds (mapCondition s c)
+bounds-map s (range a l h) b = b
+bounds-map s (atmost a b) h = tt
+
+proper-bounds : (c : Condition Occurrence) → Proper c → Bounds c
+proper-bounds (range a l h) p = (p .0, p .1)
+proper-bounds (atmost a b) p = tt
 
 -- ---- counts of attributes
 
@@ -109,67 +108,42 @@ keep-few f (x ∷ xs) = go (f x) (keep-few f xs)
     go false h = omega arith
 
 pub production-in : (g : Grammar) → WellFormed g → (p : ℕ) → p < length (g .productions) → In (productionAt g p) (g .productions)
-production-in g w p l = subst (λ q. In q (g .productions)) (sym (production-is g w p l)) (getD-in (g .productions) p (wholeProduction g) l)
+production-in g w p l = subst (λ q. In q (g .productions)) (sym (listed-at g w p l)) (getD-in (g .productions) p (wholeProduction g) l)
 
-some-present : {A : Type 0} (xs : List A) → T (not (isEmpty xs)) → 1 ≤ length xs
+pub some-present : {A : Type 0} (xs : List A) → T (not (isEmpty xs)) → 1 ≤ length xs
 some-present [] t = absurd t
 some-present (x ∷ xs) t = omega arith
 
 -- ---- selectors
 
 module _ (g : Grammar) (w : WellFormed g) (p : Production) (f : WellFormedProduction g p) where
-  -- the registers of the symbols passed, then an attribute
-  past-symbols : (i k a : ℕ) → 1 ≤ a → a ≤ 8 → Selector (synBetween g p i k + a)
-  past-symbols i k a l m = (omega arith, omega (arith, syn-most g w p (f .short) i k))
-
-  choose-is : (P : ℕ → Type 0) (b : Bool) (m n : ℕ) → (T b → P m) → (T (not b) → P n) → P (choose b m n)
-  choose-is P true m n h k = h tt
-  choose-is P false m n h k = k tt
-
-  -- an occurrence by what follows from where it stands
-  input-left : (k a : ℕ) → T (eqb k 0) → InputAt g p k a → (1 ≤ a) × (a ≤ 8)
-  input-left zero a t i = (i .0, omega (arith, i .1, att-most g w (nonterminal (p .left))))
-  input-left (suc k) a t i = let z : suc k ≡ 0 = eqb→eq (suc k) 0 t in absurd (omega arith)
-
-  input-right : (k a : ℕ) → T (not (eqb k 0)) → InputAt g p k a → (1 ≤ a - inh g (symbolAt p k)) × (a - inh g (symbolAt p k) ≤ 8)
-  input-right zero a t i = absurd t
-  input-right (suc k) a t i = (omega (arith, i .1), omega (arith, i .2, att-most g w (symbolAt p (suc k))))
-
   output-small : (k a : ℕ) → OutputAt g p k a → (1 ≤ a) × (a ≤ 8)
   output-small zero a o = (omega (arith, o .0), omega (arith, o .1, att-most g w (nonterminal (p .left))))
   output-small (suc k) a o = (o .1, omega (arith, o .2, att-most g w (symbolAt p (suc k))))
 
-  after-selects : (k : ℕ) (o : Occurrence) → Input g p o → Selector (selectAfter g p k o)
-  after-selects k o i =
-      let inner = synBetween g p (o .position) k + (o .attribute - inh g (symbolAt p (o .position))) in
-      choose-is Selector (eqb (o .position) 0) (synBetween g p 0 k + o .attribute) inner
-      (λ t. let h = input-left (o .position) (o .attribute) t i in past-symbols 0 k (o .attribute) (h .0) (h .1))
-      (λ t. let h = input-right (o .position) (o .attribute) t i in past-symbols (o .position) k (o .attribute - inh g (symbolAt p (o .position))) (h .0) (h .1))
+  -- the registers of the symbols passed, then an attribute
+  after-at : (n k a : ℕ) → InputAt g p k a → (1 ≤ selectAfter g p n (occurrence k a)) × (selectAfter g p n (occurrence k a) ≤ 104)
+  after-at n zero a i = (omega (arith, i .0), omega (arith, i .1, att-most g w (nonterminal (p .left)), syn-most g w p (f .short) 0 n))
+  after-at n (suc k) a i = rw (eqb·suc-zero k) (omega (arith, i .1), omega (arith, i .2, att-most g w (symbolAt p (suc k)), syn-most g w p (f .short) (suc k) n))
 
-  after-target : (k : ℕ) (o : Occurrence) → o .position ≡ 0 → Output g p o → Selector (selectAfter g p k o)
-  after-target k o e u =
+  after-selects : (n : ℕ) (o : Occurrence) → Input g p o → Selector (selectAfter g p n o)
+  after-selects n o i = let h = after-at n (o .position) (o .attribute) i in (h .0, omega (arith, h .1))
+
+  after-target : (n : ℕ) (o : Occurrence) → o .position ≡ 0 → Output g p o → Selector (selectAfter g p n o)
+  after-target n o e u =
       let h = output-small (o .position) (o .attribute) u in
-      let inner = synBetween g p (o .position) k + (o .attribute - inh g (symbolAt p (o .position))) in
-      subst (λ b. Selector (choose b (synBetween g p 0 k + o .attribute) inner)) (sym (same-true (o .position) 0 e)) (past-symbols 0 k (o .attribute) (h .0) (h .1))
+      subst Selector (sym (target-of-synthesized g p n o e)) (omega (arith, h .0), omega (arith, h .1, syn-most g w p (f .short) 0 n))
 
-  inherited-selects : (k : ℕ) (o : Occurrence) → Operand g p (suc k) o → Selector (selectInherited g p (suc k) o)
-  inherited-selects k o i =
-      let x = symbolAt p (suc k) in
-      let outer = att g x + synBetween g p 0 (suc k - 1) + o .attribute in
-      let inner = att g x + synBetween g p (o .position) (suc k - 1) + (o .attribute - inh g (symbolAt p (o .position))) in
-      let apart = differ-false (o .position) (suc k) (λ e. omega (arith, i .1)) in
-      subst (λ b. Selector (choose b (o .attribute) (choose (eqb (o .position) 0) outer inner))) (sym apart)
-      (choose-is Selector (eqb (o .position) 0) outer inner
-      (λ t. let h = input-left (o .position) (o .attribute) t (i .0) in (omega (arith, h .0), omega (arith, h .1, att-most g w x, syn-most g w p (f .short) 0 (suc k - 1))))
-      (λ t. let h = input-right (o .position) (o .attribute) t (i .0) in (omega (arith, h .0), omega (arith, h .1, att-most g w x, syn-most g w p (f .short) (o .position) (suc k - 1)))))
+  inherited-selects : (n : ℕ) (o : Occurrence) → Operand g p (suc n) o → Selector (selectInherited g p (suc n) o)
+  inherited-selects n o i =
+      let h = after-at n (o .position) (o .attribute) (i .0) in
+      let e = inherited-at g p n (o .position) (o .attribute) (i .0) (i .1) .0 in
+      (omega (arith, e, h .0), omega (arith, e, h .1, att-most g w (symbolAt p (suc n))))
 
-  inherited-target : (k : ℕ) (o : Occurrence) → o .position ≡ suc k → Output g p o → Selector (selectInherited g p (suc k) o)
-  inherited-target k o e u =
+  inherited-target : (n : ℕ) (o : Occurrence) → o .position ≡ suc n → Output g p o → Selector (selectInherited g p (suc n) o)
+  inherited-target n o e u =
       let h = output-small (o .position) (o .attribute) u in
-      let x = symbolAt p (suc k) in
-      let outer = att g x + synBetween g p 0 (suc k - 1) + o .attribute in
-      let inner = att g x + synBetween g p (o .position) (suc k - 1) + (o .attribute - inh g (symbolAt p (o .position))) in
-      subst (λ b. Selector (choose b (o .attribute) (choose (eqb (o .position) 0) outer inner))) (sym (same-true (o .position) (suc k) e)) (h .0, omega (arith, h .1))
+      subst Selector (sym (target-of-inherited g p (suc n) o e)) (h .0, omega (arith, h .1))
 
   -- ---- rules
 
@@ -177,26 +151,26 @@ module _ (g : Grammar) (w : WellFormed g) (p : Production) (f : WellFormedProduc
   module _ (k : ℕ) (s : Occurrence → ℕ) (target : (o : Occurrence) → o .position ≡ k → Output g p o → Selector (s o)) (operand : (o : Occurrence) → Operand g p k o → Selector (s o)) where
     rule-proper : (q : Rule Occurrence) → q .target .position ≡ k → In q (p .rules) → ProperRule (mapRule s q)
     rule-proper q e i = record {
-        target = target (q .target) e (f .targets q i);
-        operands = operands-map (Operand g p k) Selector s operand (q .function) (subst (λ n. Operands (Operand g p n) (q .function)) e (f .operands q i));
-        constant = constant-map s (q .function) (f .constants q i)
-      }
+      target = target (q .target) e (f .targets q i);
+      operands = operands-through Selector s operand (q .function) (subst (λ n. Operands (Operand g p n) (q .function)) e (f .operands q i));
+      constant = constant-map s (q .function) (f .constants q i);
+    }
 
     rules-proper : (r : Rule ℕ) → In r (map (mapRule s) (rulesFor p k)) → ProperRule r
     rules-proper r i =
         let m = map-in (mapRule s) (rulesFor p k) r i in
-        let h = in-keep (λ q. eqb (q .target .position) k) (p .rules) (m .0) (m .1) in
-        subst ProperRule (sym (m .2)) (rule-proper (m .0) (eqb→eq (m .0 .target .position) k (h .0)) (h .1))
+        let h = in-for p k (m .0) (m .1) in
+        subst ProperRule (sym (m .2)) (rule-proper (m .0) (h .0) (h .1))
 
     rules-most : length (map (mapRule s) (rulesFor p k)) ≤ 8
     rules-most =
-        let few = rules-few k 8 (rulesFor p k) (distinct-keep (λ q. eqb (q .target .position) k) (p .rules) (f .distinct)) (λ q i. facts q (in-keep (λ r. eqb (r .target .position) k) (p .rules) q i)) in
+        let few = rules-few k 8 (rulesFor p k) (distinct-keep (λ q. eqb (q .target .position) k) (p .rules) (f .distinct)) (λ q i. facts q (in-for p k q i)) in
         omega (arith, few, length-map (rulesFor p k) (mapRule s))
       where
-        facts : (q : Rule Occurrence) → T (eqb (q .target .position) k) × In q (p .rules) → (q .target .position ≡ k) × (1 ≤ q .target .attribute) × (q .target .attribute ≤ 8)
+        facts : (q : Rule Occurrence) → (q .target .position ≡ k) × In q (p .rules) → (q .target .position ≡ k) × (1 ≤ q .target .attribute) × (q .target .attribute ≤ 8)
         facts q h =
             let o = output-small (q .target .position) (q .target .attribute) (f .targets q (h .1)) in
-            (eqb→eq (q .target .position) k (h .0), o .0, o .1)
+            (h .0, o .0, o .1)
 
   pub inherited-proper : (k : ℕ) (r : Rule ℕ) → In r (inheritedRules g p (suc k)) → ProperRule r
   inherited-proper k = rules-proper (suc k) (selectInherited g p (suc k)) (inherited-target k) (inherited-selects k)
@@ -216,7 +190,7 @@ module _ (g : Grammar) (w : WellFormed g) (p : Production) (f : WellFormedProduc
   tests-proper k c i =
       let m = map-in (mapCondition (selectAfter g p k)) (conditionsAt p k) c i in
       let h = in-keep (λ d. eqb (conditionPosition d) k) (p .conditions) (m .0) (m .1) in
-      subst ProperCondition (sym (m .2)) (condition-map (Input g p) (selectAfter g p k) (after-selects k) (m .0) (f .reads (m .0) (h .1)) (f .proper (m .0) (h .1)))
+      subst ProperCondition (sym (m .2)) (record { reads = reads-through Selector (selectAfter g p k) (after-selects k) (m .0) (f .reads (m .0) (h .1)); bounds = bounds-map (selectAfter g p k) (m .0) (proper-bounds (m .0) (f .proper (m .0) (h .1))) })
 
   pub tests-most : (k : ℕ) → length (testsAfter g p k) ≤ length (p .conditions)
   tests-most k = omega (arith, length-map (conditionsAt p k) (mapCondition (selectAfter g p k)), keep-few (λ c. eqb (conditionPosition c) k) (p .conditions))
@@ -235,16 +209,13 @@ module _ (g : Grammar) (w : WellFormed g) (p : Production) (listed : In p (g .pr
   formed : WellFormedProduction g p
   formed = w .each p listed
 
-  abbrev AllProper : List Instruction → Type 0
-  AllProper is = (i : Instruction) → In i is → ProperInstruction g i
-
   conditions-most : length (p .conditions) ≤ 512
   conditions-most = omega (arith, in-total (λ q. length (q .conditions)) (g .productions) p listed, w .conditions)
 
   evaluate-proper : (rs : List (Rule ℕ)) → length rs ≤ 8 → ((r : Rule ℕ) → In r rs → ProperRule r) → T (not (isEmpty rs)) → ProperInstruction g (evaluate rs)
   evaluate-proper rs m h t = (some-present rs t, m, h)
 
-  symbol-proper : (k : ℕ) (x : Symbol) (rest : List Instruction) → Known g x → AllProper rest → AllProper (symbolScheme g p (suc k) x rest)
+  symbol-proper : (k : ℕ) (x : Symbol) (rest : List Instruction) → Known g x → AllProper g rest → AllProper g (symbolScheme g p (suc k) x rest)
   symbol-proper k x rest known h =
       let rules = inheritedRules g p (suc k) in
       let tests = testsAfter g p (suc k) in
@@ -254,11 +225,11 @@ module _ (g : Grammar) (w : WellFormed g) (p : Production) (listed : In p (g .pr
       let onEvaluate = in-if (ProperInstruction g) (not (isEmpty rules)) (evaluate rules) (expect x ∷ behind) (evaluate-proper rules (inherited-most g w p formed k) (inherited-proper g w p formed k)) onExpect in
       in-if (ProperInstruction g) (ltb 0 (att g x)) (add (att g x)) (consIf (not (isEmpty rules)) (evaluate rules) (expect x ∷ behind)) (λ t. (ltb→lt 0 (att g x) t, att-most g w x)) onEvaluate
 
-  symbols-proper : (k : ℕ) (xs : List Symbol) (rest : List Instruction) → ((x : Symbol) → In x xs → Known g x) → AllProper rest → AllProper (symbolsScheme g p (suc k) xs rest)
+  symbols-proper : (k : ℕ) (xs : List Symbol) (rest : List Instruction) → ((x : Symbol) → In x xs → Known g x) → AllProper g rest → AllProper g (symbolsScheme g p (suc k) xs rest)
   symbols-proper k [] rest known h = h
   symbols-proper k (x ∷ xs) rest known h = symbol-proper k x (symbolsScheme g p (suc (suc k)) xs rest) (known x (inl refl)) (symbols-proper (suc k) xs rest (λ y i. known y (inr i)) h)
 
-  pub scheme-proper : (i : Instruction) → In i (scheme g p) → ProperInstruction g i
+  pub scheme-proper : AllProper g (scheme g p)
   scheme-proper =
       let rules = synthesizedRules g p in
       let tail = remove (removed g p) ∷ [] in

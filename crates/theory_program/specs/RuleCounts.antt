@@ -1,8 +1,8 @@
 -- Rules for one symbol set different attributes, so there are at most as many as it has attributes.
-use Prim.Native.Nat.{ℕ, zero, suc, _+_, _≤_, _<_}
+use Prim.Native.Nat.{ℕ, zero, suc, _≤_}
 use native.Mathlib.Omega.{arith}
-use mathlib.Core.Path.{_≡_, refl, sym, ap, _∙_, subst}
-use mathlib.Core.Logic.{_⊎_, inl, inr}
+use mathlib.Core.Path.{_≡_, refl, sym, ap, _∙_}
+use mathlib.Core.Logic.{inl, inr}
 use mathlib.Core.Bool.{Bool, true, false, not}
 use mathlib.Core.List.{List, [], _∷_}
 use lib.ListN.{length}
@@ -10,7 +10,8 @@ use lib.Dec.{T, eqb, eqb→eq, eqb-refl, T-not, not-T}
 use Rattle.meaning.specs.Base.{In, keep, consIf}
 use Rattle.meaning.specs.Grammar.{Occurrence, Rule}
 use Rattle.meaning.specs.Rules.{Distinct}
-use Rattle.theory_sound.specs.Members.{in-keep}
+use Rattle.theory_base.specs.Members.{in-keep}
+use Rattle.theory_base.specs.Evaluate.{distinct-keep}
 
 keep-all : {A : Type 0} (f : A → Bool) (xs : List A) → ((x : A) → In x xs → T (f x)) → keep f xs ≡ xs
 keep-all f [] h = refl
@@ -19,14 +20,6 @@ keep-all f (x ∷ xs) h = go (f x) (h x (inl refl)) (keep-all f xs (λ y i. h y 
     go : (b : Bool) → T b → keep f xs ≡ xs → consIf b x (keep f xs) ≡ x ∷ xs
     go true t e = ap (λ l. x ∷ l) e
     go false t e = absurd t
-
-pub distinct-keep : (f : Rule Occurrence → Bool) (rs : List (Rule Occurrence)) → Distinct rs → Distinct (keep f rs)
-distinct-keep f [] d = tt
-distinct-keep f (r ∷ rs) d = go (f r) (distinct-keep f rs (d .1))
-  where
-    go : (b : Bool) → Distinct (keep f rs) → Distinct (consIf b r (keep f rs))
-    go true k = ((λ q i. d .0 q (in-keep f rs q i .1)), k)
-    go false k = k
 
 -- the rules that do not set attribute a
 abbrev others : ℕ → Rule Occurrence → Bool

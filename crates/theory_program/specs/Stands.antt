@@ -1,5 +1,5 @@
 -- Words that stand in a list from an address on.
-use Prim.Native.Nat.{ℕ, zero, suc, _+_, _≤_, _<_}
+use Prim.Native.Nat.{ℕ, _+_, _≤_, _<_}
 use native.Mathlib.Omega.{arith}
 use mathlib.Core.Path.{_≡_, refl, sym, ap, _∙_, subst}
 use mathlib.Core.List.{List, [], _∷_, _++_, append-assoc, append-nil}
@@ -22,11 +22,11 @@ stands-at b e s = record { before = s .before; after = s .after; isList = s .isL
 -- in the words that stand there
 pub stands-in : {ws : List ℕ} {a : ℕ} {xs : List ℕ} {b : ℕ} {ys : List ℕ} → Stands ws a xs → Stands xs b ys → Stands ws (a + b) ys
 stands-in {ys = ys} s t = record {
-    before = s .before ++ t .before;
-    after = t .after ++ s .after;
-    isList = s .isList ∙ (ap (λ l. s .before ++ (l ++ s .after)) (t .isList) ∙ regroup);
-    address = length-append (s .before) (t .before) ∙ omega (arith, s .address, t .address)
-  }
+  before = s .before ++ t .before;
+  after = t .after ++ s .after;
+  isList = s .isList ∙ (ap (λ l. s .before ++ (l ++ s .after)) (t .isList) ∙ regroup);
+  address = length-append (s .before) (t .before) ∙ omega (arith, s .address, t .address);
+}
   where
     regroup : s .before ++ ((t .before ++ (ys ++ t .after)) ++ s .after) ≡ (s .before ++ t .before) ++ (ys ++ (t .after ++ s .after))
     regroup = ap (λ l. s .before ++ l) (append-assoc (t .before) (ys ++ t .after) (s .after) ∙ ap (λ l. t .before ++ l) (append-assoc ys (t .after) (s .after))) ∙ sym (append-assoc (s .before) (t .before) (ys ++ (t .after ++ s .after)))

@@ -1,7 +1,7 @@
 -- Words taken apart: a rule's two words and a condition's three give the rule and the condition back.
-use Prim.Native.Nat.{ℕ, zero, suc, _+_, _*_, _/_, _%_, _≤_, _<_}
+use Prim.Native.Nat.{ℕ, _+_, _/_, _%_, _<_}
 use native.Mathlib.Omega.{arith}
-use mathlib.Core.Path.{_≡_, refl, sym, ap, ap₂, _∙_}
+use mathlib.Core.Path.{_≡_, refl, ap₂, _∙_}
 use mathlib.Core.Bool.{Bool, true, false}
 use mathlib.Core.List.{List, [], _∷_}
 use lib.ListN.{getD}
@@ -13,7 +13,7 @@ use Rattle.meaning.specs.Table.{signed}
 use Rattle.meaning.specs.Program.{packed, ruleWords, conditionWords}
 use Rattle.theory_table.specs.Numbers.{signed-unsigned, divisor-in}
 use Rattle.theory_program.specs.Code.{RulesAt, ConditionsAt, rule-first, condition-first}
-use Rattle.theory_program.specs.Proper.{Selector, ProperRule, ProperCondition}
+use Rattle.theory_program.specs.Proper.{ProperRule, ProperCondition}
 
 -- ---- four numbers in one word
 

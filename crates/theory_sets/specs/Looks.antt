@@ -10,8 +10,10 @@ use Rattle.meaning.specs.Base.{all}
 use Rattle.meaning.specs.Grammar.{Symbol, terminal, nonterminal, Look, token, over, Grammar, productionAt, nonterminalCount}
 use Rattle.meaning.specs.Derivation.{Derives, itself, step, Listed, First, Follow, Starts, startForm}
 use Rattle.meaning.specs.Sets.{endNumber, Possible, lookNumber}
-use Rattle.theory_sets.specs.Tests.{and-intro, and-left, and-right, all-left, all-right, all-append}
-use Rattle.theory_sets.specs.Productions.{Sound, known}
+use Rattle.meaning.specs.Rules.{WellFormed}
+use Rattle.theory_base.specs.Members.{and, all-append, both}
+use Rattle.theory_sets.specs.Tests.{all-left, all-right}
+use Rattle.theory_sets.specs.Productions.{known, symbols}
 
 -- ---- what a number stands for
 
@@ -22,18 +24,18 @@ lookIf false u = token u
 abbrev pub lookOf : ℕ → Look
 lookOf u = lookIf (eqb u endNumber) u
 
-module _ {g : Grammar} (s : Sound g) where
+module _ {g : Grammar} (s : WellFormed g) where
   pub look-back : (l : Look) → Possible g l → lookOf (lookNumber l) ≡ l
   look-back over p = refl
   look-back (token t) p = go (eqb t endNumber) (λ h. eqb→eq t endNumber h)
     where
       go : (b : Bool) → (T b → t ≡ endNumber) → lookIf b t ≡ token t
-      go true k = let e = k tt in let m = s .tokens in absurd (omega arith)
+      go true k = let e = k tt in let m = s .terminals .1 in absurd (omega arith)
       go false k = refl
 
   pub number-fits : (l : Look) → Possible g l → lookNumber l < 64
   number-fits over p = omega arith
-  number-fits (token t) p = let m = s .tokens in omega arith
+  number-fits (token t) p = let m = s .terminals .1 in omega arith
 
   -- ---- what derivations lead to
 
@@ -41,23 +43,23 @@ module _ {g : Grammar} (s : Sound g) where
   derived-known itself t = t
   derived-known (step p b a l d) t =
       let x = nonterminal (productionAt g p .left) in
-      derived-known d (all-append (known g) b (productionAt g p .right ++ a) (all-left (known g) b (x ∷ a) t) (all-append (known g) (productionAt g p .right) a (s .symbols p l) (and-right (known g x) (all (known g) a) (all-right (known g) b (x ∷ a) t))))
+      derived-known d (all-append (known g) b (productionAt g p .right ++ a) (all-left (known g) b (x ∷ a) t) (all-append (known g) (productionAt g p .right) a (symbols s p l) (both (known g x) (all (known g) a) (all-right (known g) b (x ∷ a) t) .1)))
 
   start-known : T (all (known g) (startForm g))
-  start-known = and-intro (known g (nonterminal (g .start))) true (lt→ltb (g .start) (nonterminalCount g) (s .start)) tt
+  start-known = and (known g (nonterminal (g .start))) true (lt→ltb (g .start) (nonterminalCount g) (s .start)) tt
 
   pub First→possible : (xs : List Symbol) (u : ℕ) → T (all (known g) xs) → First g xs u → Possible g (token u)
-  First→possible xs u c d = ltb→lt u (g .terminals) (and-left (known g (terminal u)) (all (known g) (d .0)) (derived-known (d .1) c))
+  First→possible xs u c d = ltb→lt u (g .terminals) (both (known g (terminal u)) (all (known g) (d .0)) (derived-known (d .1) c) .0)
 
   pub Follow→possible : (n : ℕ) (l : Look) → Follow g n l → Possible g l
   Follow→possible n over r = tt
   Follow→possible n (token u) r =
       let c = all-right (known g) (r .0) (nonterminal n ∷ terminal u ∷ r .1) (derived-known (r .2) start-known) in
-      ltb→lt u (g .terminals) (and-left (known g (terminal u)) (all (known g) (r .1)) (and-right (known g (nonterminal n)) (all (known g) (terminal u ∷ r .1)) c))
+      ltb→lt u (g .terminals) (both (known g (terminal u)) (all (known g) (r .1)) (both (known g (nonterminal n)) (all (known g) (terminal u ∷ r .1)) c .1) .0)
 
   pub Starts→possible : (p : ℕ) (l : Look) → Listed g p → Starts g p l → Possible g l
   Starts→possible p over l d = tt
-  Starts→possible p (token u) l (inl d) = First→possible (productionAt g p .right) u (s .symbols p l) d
+  Starts→possible p (token u) l (inl d) = First→possible (productionAt g p .right) u (symbols s p l) d
   Starts→possible p (token u) l (inr d) = Follow→possible (productionAt g p .left) (token u) (d .1)
 
   -- what is said of a possible token is said of what its number stands for

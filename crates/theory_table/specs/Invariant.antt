@@ -1,7 +1,7 @@
 -- What holds of everything read so far, and that each field that passes keeps it.
 use Prim.Native.Nat.{ℕ, zero, suc, _+_, _-_, _*_, _≤_, _<_}
 use native.Mathlib.Omega.{arith}
-use mathlib.Core.Path.{_≡_, refl, sym, ap, _∙_, subst}
+use mathlib.Core.Path.{_≡_, refl, sym, _∙_, subst}
 use mathlib.Core.Logic.{_⊎_, inl, inr}
 use mathlib.Core.Bool.{Bool, true, false, not, _&&_, _||_}
 use mathlib.Core.Option.{Option, none, some}
@@ -16,7 +16,7 @@ use Rattle.meaning.specs.Grammar.{Symbol, terminal, nonterminal, Occurrence, Fu
 use Rattle.meaning.specs.Rules.{Operands, Reads, Input, Output, Operand, Distinct, Constant, Proper, InFourBytes}
 use Rattle.meaning.specs.Table as Table
 use Rattle.meaning.specs.Table.{State, Header, Entry, Kind, header, counts, production, rule, condition, noHeader, headerOf, isSome, byte, signed, constantAt, occurrenceAt, within, symbolOf, symbolKnown, functionOf, ruleOf, conditionOf, occurrenceKnown, isInput, hasRule, complete, lastComplete, readField, withRule, withCondition, productionOf, grammarOf, nothingRead}
-use Rattle.theory_table.specs.Members.{both, and, in-some, all-in, map-in}
+use Rattle.theory_base.specs.Members.{both, in-some, all-in, map-in}
 use Rattle.theory_table.specs.Reading.{Passed, Next, Full}
 use Rattle.theory_table.specs.Occurrences.{input-over, output-over, operand-over, output-at, operands-map, reads-map, rule-operands, condition-reads, set-once}
 
@@ -41,6 +41,7 @@ constant-of b h = go (byte b 2) h
   where
     fs : List (Function Occurrence)
     fs = const (constantAt b 3) ∷ copy (occurrenceAt b 3) ∷ sum (occurrenceAt b 3) (occurrenceAt b 5) ∷ diff (occurrenceAt b 3) (occurrenceAt b 5) ∷ prod (occurrenceAt b 3) (occurrenceAt b 5) ∷ maxi (occurrenceAt b 3) (occurrenceAt b 5) ∷ mini (occurrenceAt b 3) (occurrenceAt b 5) ∷ addc (occurrenceAt b 3) (constantAt b 5) ∷ quot (occurrenceAt b 3) (constantAt b 5) ∷ []
+
     go : (f : ℕ) → T (not (eqb f 8) || divisor (constantAt b 5)) → Constant (getD fs f (const (pos 0)))
     go zero h = constant-in b 3
     go (suc zero) h = tt
@@ -100,34 +101,46 @@ pub record EntryOk (h : Header) (cs : List Counts) (e : Entry) : Type 0 where
 module _ (s : State) (h : Header) (e : Entry) (k : EntryOk h (s .counts) e) where
   with-rule : (r : Rule Occurrence) → T (occurrenceKnown s e (r .target)) → T (all (occurrenceKnown s e) (Table.operands (r .function))) → T (not (isInput s e (r .target))) → T (all (isInput s e) (Table.operands (r .function))) → T (not (hasRule e (r .target))) → T (eqb (r .target .position) 0 || all (λ o. ltb (o .position) (r .target .position)) (Table.operands (r .function))) → Constant (r .function) → EntryOk h (s .counts) (withRule e r)
   with-rule r a b c d once l con = record {
-        left = k .left; short = k .short; symbols = k .symbols;
-        targets = λ q i. target q i;
-        distinct = ((λ q i p. set-once e r once q i p), k .distinct);
-        operands = λ q i. operand q i;
-        constants = λ q i. constant q i;
-        reads = k .reads; proper = k .proper
-      }
+    left = k .left;
+    short = k .short;
+    symbols = k .symbols;
+    targets = λ q i. target q i;
+    distinct = ((λ q i p. set-once e r once q i p), k .distinct);
+    operands = λ q i. operand q i;
+    constants = λ q i. constant q i;
+    reads = k .reads;
+    proper = k .proper;
+  }
     where
       target : (q : Rule Occurrence) → (q ≡ r) ⊎ In q (e .rules) → Output (countsOnly (s .counts)) (bare e) (q .target)
       target q (inl p) = rw p (output-over (grammarOf s) (countsOnly (s .counts)) (productionOf e) (bare e) refl refl refl (r .target .position) (r .target .attribute) (output-at s e (r .target .position) (r .target .attribute) a c))
       target q (inr i) = k .targets q i
+
       operand : (q : Rule Occurrence) → (q ≡ r) ⊎ In q (e .rules) → Operands (Operand (countsOnly (s .counts)) (bare e) (q .target .position)) (q .function)
       operand q (inl p) = rw p (operands-map (operand-over (grammarOf s) (countsOnly (s .counts)) (productionOf e) (bare e) refl refl refl (r .target .position)) (r .function) (rule-operands s e (r .target .position) (r .function) b d l))
       operand q (inr i) = k .operands q i
+
       constant : (q : Rule Occurrence) → (q ≡ r) ⊎ In q (e .rules) → Constant (q .function)
       constant q (inl p) = rw p con
       constant q (inr i) = k .constants q i
 
   with-condition : (c : Condition Occurrence) → T (all (occurrenceKnown s e) (Table.reads c)) → T (all (isInput s e) (Table.reads c)) → Proper c → EntryOk h (s .counts) (withCondition e c)
   with-condition c a b p = record {
-        left = k .left; short = k .short; symbols = k .symbols; targets = k .targets; distinct = k .distinct; operands = k .operands; constants = k .constants;
-        reads = λ q i. read q i;
-        proper = λ q i. right q i
-      }
+    left = k .left;
+    short = k .short;
+    symbols = k .symbols;
+    targets = k .targets;
+    distinct = k .distinct;
+    operands = k .operands;
+    constants = k .constants;
+    reads = λ q i. read q i;
+    proper = λ q i. right q i;
+  }
     where
       read : (q : Condition Occurrence) → (q ≡ c) ⊎ In q (e .conditions) → Reads (Input (countsOnly (s .counts)) (bare e)) q
       read q (inl z) = rw z (reads-map (λ o u. input-over (grammarOf s) (countsOnly (s .counts)) (productionOf e) (bare e) refl refl refl (o .position) (o .attribute) u) c (condition-reads s e c a b))
       read q (inr i) = k .reads q i
+
       right : (q : Condition Occurrence) → (q ≡ c) ⊎ In q (e .conditions) → Proper q
       right q (inl z) = rw z p
       right q (inr i) = k .proper q i
@@ -183,46 +196,54 @@ no-header (some h) t = absurd t
 module _ (s : State) (v : Inv s) (o : ℕ) (b : List ℕ) where
   read-header : T (not (isSome (s .header))) → Passed s header b → Inv (readField s o header b)
   read-header n p = record {
-        header = λ t. record { terminals = (leb→le 1 (byte b 0) (l₃ .0), leb→le (byte b 0) 63 (l₃ .1)); nonterminals = (leb→le 1 (byte b 1) (l₄ .0), leb→le (byte b 1) 48 (l₄ .1)); start = ltb→lt (byte b 2) (byte b 1) (p .named) };
-        fewCounts = omega (arith, none);
-        attributes = v .attributes;
-        startOk = λ l. absurd (omega (arith, none));
-        filled = λ l. absurd (unfilled l);
-        fewEntries = v .fewEntries;
-        entries = λ e i. absurd (unfilled (in-some e (s .entries) i));
-        completes = λ e i. absurd (unfilled (in-some e (s .entries) (in-drop e (s .entries) i)));
-        rules = v .rules; conditions = v .conditions
-      }
+    header = λ t. record { terminals = (leb→le 1 (byte b 0) (l₃ .0), leb→le (byte b 0) 63 (l₃ .1)); nonterminals = (leb→le 1 (byte b 1) (l₄ .0), leb→le (byte b 1) 48 (l₄ .1)); start = ltb→lt (byte b 2) (byte b 1) (p .named) };
+    fewCounts = omega (arith, none);
+    attributes = v .attributes;
+    startOk = λ l. absurd (omega (arith, none));
+    filled = λ l. absurd (unfilled l);
+    fewEntries = v .fewEntries;
+    entries = λ e i. absurd (unfilled (in-some e (s .entries) i));
+    completes = λ e i. absurd (unfilled (in-some e (s .entries) (in-drop e (s .entries) i)));
+    rules = v .rules;
+    conditions = v .conditions;
+  }
     where
       l₁ : T (eqb (length b) 4 && within 1 (byte b 0) 63) × T (within 1 (byte b 1) 48)
       l₁ = both (eqb (length b) 4 && within 1 (byte b 0) 63) (within 1 (byte b 1) 48) (p .limits)
+
       l₃ : T (leb 1 (byte b 0)) × T (leb (byte b 0) 63)
       l₃ = both (leb 1 (byte b 0)) (leb (byte b 0) 63) (both (eqb (length b) 4) (within 1 (byte b 0) 63) (l₁ .0) .1)
+
       l₄ : T (leb 1 (byte b 1)) × T (leb (byte b 1) 48)
       l₄ = both (leb 1 (byte b 1)) (leb (byte b 1) 48) (l₁ .1)
+
       none : length (s .counts) ≡ 0
       none = let z = no-header (s .header) n in omega (arith, v .fewCounts)
+
       unfilled : 0 < length (s .entries) → ⊥
       unfilled l = T-not (isSome (s .header)) n (v .filled l .0)
 
   read-counts : T (isSome (s .header)) → length (s .counts) < headerOf s .nonterminals → Passed s counts b → Inv (readField s o counts b)
   read-counts t l p = record {
-        header = v .header;
-        fewCounts = l;
-        attributes = λ c i. few c i;
-        startOk = λ m. subst (StartOk (headerOf s)) (sym (reverse-cons new (s .counts))) (go m (eqb (length (s .counts)) (headerOf s .start)) refl);
-        filled = λ m. absurd (omega (arith, v .filled m .1));
-        fewEntries = v .fewEntries;
-        entries = λ e i. absurd (omega (arith, v .filled (in-some e (s .entries) i) .1));
-        completes = λ e i. absurd (omega (arith, v .filled (in-some e (s .entries) (in-drop e (s .entries) i)) .1));
-        rules = v .rules; conditions = v .conditions
-      }
+    header = v .header;
+    fewCounts = l;
+    attributes = λ c i. few c i;
+    startOk = λ m. subst (StartOk (headerOf s)) (sym (reverse-cons new (s .counts))) (go m (eqb (length (s .counts)) (headerOf s .start)) refl);
+    filled = λ m. absurd (omega (arith, v .filled m .1));
+    fewEntries = v .fewEntries;
+    entries = λ e i. absurd (omega (arith, v .filled (in-some e (s .entries) i) .1));
+    completes = λ e i. absurd (omega (arith, v .filled (in-some e (s .entries) (in-drop e (s .entries) i)) .1));
+    rules = v .rules;
+    conditions = v .conditions;
+  }
     where
       new : Counts
       new = record { inherited = byte b 0; synthesized = byte b 1 }
+
       few : (c : Counts) → (c ≡ new) ⊎ In c (s .counts) → c .inherited + c .synthesized ≤ 8
       few c (inl e) = rw e (leb→le (byte b 0 + byte b 1) 8 (both (eqb (length b) 2) (leb (byte b 0 + byte b 1) 8) (p .limits) .1))
       few c (inr i) = v .attributes c i
+
       right : length (s .counts) ≡ headerOf s .start → (byte b 0 ≡ 0) × (1 ≤ headerOf s .result) × (headerOf s .result ≤ byte b 1)
       right q =
           let w = both (eqb (byte b 0) 0) (within 1 (headerOf s .result) (byte b 1)) (implied (eqb (length (s .counts)) (headerOf s .start)) (eqb (byte b 0) 0 && within 1 (headerOf s .result) (byte b 1)) (p .start) (rw q (eqb-refl (headerOf s .start)))) in
@@ -232,6 +253,7 @@ module _ (s : State) (v : Inv s) (o : ℕ) (b : List ℕ) where
           implied : (a c : Bool) → T (not a || c) → T a → T c
           implied true c t u = t
           implied false c t u = absurd u
+
       go : headerOf s .start < suc (length (s .counts)) → (c : Bool) → eqb (length (s .counts)) (headerOf s .start) ≡ c → StartOk (headerOf s) (reverse (s .counts) ++ (new ∷ []))
       go m true e =
           let q : length (s .counts) ≡ headerOf s .start = eqb→eq (length (s .counts)) (headerOf s .start) (rw e tt) in
@@ -242,34 +264,50 @@ module _ (s : State) (v : Inv s) (o : ℕ) (b : List ℕ) where
 
   read-production : Full s → T (lastComplete s) → Passed s production b → Inv (readField s o production b)
   read-production f t p = record {
-        header = v .header; fewCounts = v .fewCounts; attributes = v .attributes; startOk = v .startOk;
-        filled = λ m. f;
-        fewEntries = ltb→lt (length (s .entries)) 128 (l₁ .1);
-        entries = λ e i. entry e i;
-        completes = λ e i. all-complete s v t e i;
-        rules = (omega (arith, v .rules .0), v .rules .1); conditions = (omega (arith, v .conditions .0), v .conditions .1)
-      }
+    header = v .header;
+    fewCounts = v .fewCounts;
+    attributes = v .attributes;
+    startOk = v .startOk;
+    filled = λ m. f;
+    fewEntries = ltb→lt (length (s .entries)) 128 (l₁ .1);
+    entries = λ e i. entry e i;
+    completes = λ e i. all-complete s v t e i;
+    rules = (omega (arith, v .rules .0), v .rules .1);
+    conditions = (omega (arith, v .conditions .0), v .conditions .1);
+  }
     where
       new : Entry
       new = record { offset = o; left = byte b 0; right = map symbolOf (drop 2 b); rules = []; conditions = [] }
+
       l₁ : T (leb 2 (length b) && leb (byte b 1) 12 && eqb (length b) (2 + byte b 1)) × T (ltb (length (s .entries)) 128)
       l₁ = both (leb 2 (length b) && leb (byte b 1) 12 && eqb (length b) (2 + byte b 1)) (ltb (length (s .entries)) 128) (p .limits)
+
       l₂ : T (leb 2 (length b) && leb (byte b 1) 12) × T (eqb (length b) (2 + byte b 1))
       l₂ = both (leb 2 (length b) && leb (byte b 1) 12) (eqb (length b) (2 + byte b 1)) (l₁ .0)
+
       l₃ : T (leb 2 (length b)) × T (leb (byte b 1) 12)
       l₃ = both (leb 2 (length b)) (leb (byte b 1) 12) (l₂ .0)
+
       names : T (ltb (byte b 0) (headerOf s .nonterminals)) × T (all (λ n. symbolKnown s (symbolOf n)) (drop 2 b))
       names = both (ltb (byte b 0) (headerOf s .nonterminals)) (all (λ n. symbolKnown s (symbolOf n)) (drop 2 b)) (p .named)
+
       symbol : (x : Symbol) → T (symbolKnown s x) → KnownIn (headerOf s) x
       symbol (terminal x) k = ltb→lt x (headerOf s .terminals) k
       symbol (nonterminal n) k = ltb→lt n (headerOf s .nonterminals) k
+
       ok : EntryOk (headerOf s) (s .counts) new
       ok = record {
         left = ltb→lt (byte b 0) (headerOf s .nonterminals) (names .0);
         short = omega (arith, length-map (drop 2 b) symbolOf, length-drop 2 b, eqb→eq (length b) (2 + byte b 1) (l₂ .1), leb→le (byte b 1) 12 (l₃ .1));
         symbols = λ x i. let w = map-in symbolOf (drop 2 b) x i in rw (w .2) (symbol (symbolOf (w .0)) (all-in (λ n. symbolKnown s (symbolOf n)) (drop 2 b) (names .1) (w .0) (w .1)));
-        targets = λ r i. absurd i; distinct = tt; operands = λ r i. absurd i; constants = λ r i. absurd i; reads = λ q i. absurd i; proper = λ q i. absurd i
+        targets = λ r i. absurd i;
+        distinct = tt;
+        operands = λ r i. absurd i;
+        constants = λ r i. absurd i;
+        reads = λ q i. absurd i;
+        proper = λ q i. absurd i;
       }
+
       entry : (e : Entry) → (e ≡ new) ⊎ In e (s .entries) → EntryOk (headerOf s) (s .counts) e
       entry e (inl q) = rw q ok
       entry e (inr i) = v .entries e i
@@ -295,10 +333,16 @@ module _ (hd : Option Header) (cs : List Counts) (co : List ℕ) (rn cn o : ℕ)
       let room = ltb→lt rn 1024 (both (leb 3 (length b)) (ltb rn 1024) (m′ .0) .1) in
       let k = with-rule s (headerOf s) e (v .entries e (inl refl)) r (c .1) (a .1) (d .0) (d .1) (p .once) (p .leftward) (constant-of b (m .1)) in
       record {
-        header = v .header; fewCounts = v .fewCounts; attributes = v .attributes; startOk = v .startOk; filled = v .filled; fewEntries = v .fewEntries;
+        header = v .header;
+        fewCounts = v .fewCounts;
+        attributes = v .attributes;
+        startOk = v .startOk;
+        filled = v .filled;
+        fewEntries = v .fewEntries;
         entries = replaced e (withRule e r) es v k;
         completes = v .completes;
-        rules = (omega (arith, v .rules .0), room); conditions = v .conditions
+        rules = (omega (arith, v .rules .0), room);
+        conditions = v .conditions;
       }
 
   read-condition : (es : List Entry) → Inv (mk hd cs co es rn cn) → 0 < length es → Passed (mk hd cs co es rn cn) condition b → Inv (readField (mk hd cs co es rn cn) o condition b)
@@ -311,10 +355,16 @@ module _ (hd : Option Header) (cs : List Counts) (co : List ℕ) (rn cn o : ℕ)
       let room = ltb→lt cn 512 (both (leb 1 (length b)) (ltb cn 512) (m .0) .1) in
       let k = with-condition s (headerOf s) e (v .entries e (inl refl)) c (a .1) (p .directions) (proper-from c (ends-in b) (p .bounds)) in
       record {
-        header = v .header; fewCounts = v .fewCounts; attributes = v .attributes; startOk = v .startOk; filled = v .filled; fewEntries = v .fewEntries;
+        header = v .header;
+        fewCounts = v .fewCounts;
+        attributes = v .attributes;
+        startOk = v .startOk;
+        filled = v .filled;
+        fewEntries = v .fewEntries;
         entries = replaced e (withCondition e c) es v k;
         completes = v .completes;
-        rules = v .rules; conditions = (omega (arith, v .conditions .0), room)
+        rules = v .rules;
+        conditions = (omega (arith, v .conditions .0), room);
       }
 
 pub keeps : (s : State) (o : ℕ) (k : Kind) (b : List ℕ) → Inv s → Next s k → Passed s k b → Inv (readField s o k b)

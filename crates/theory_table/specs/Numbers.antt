@@ -3,20 +3,18 @@ use Prim.Native.Nat.{ℕ, zero, suc, _+_, _-_, _*_, _/_, _%_, _≤_, _<_}
 use native.Mathlib.Omega.{arith}
 use native.Mathlib.Decide.{decLt}
 use mathlib.Core.Path.{_≡_, refl, sym, ap, ap₂, _∙_, subst}
-use mathlib.Core.Logic.{_⊎_, inl, inr}
 use mathlib.Core.Bool.{Bool, true, false, not, _&&_, _||_}
 use mathlib.Core.List.{List, [], _∷_, _++_, map}
-use lib.ListN.{getD, length, drop, List·getD-eq-default}
-use lib.Seq.{ext-getD}
+use lib.ListN.{getD, length, List·getD-eq-default}
 use lib.IntN.{ℤ, pos, negsuc}
 use lib.Signed.{leZ}
 use lib.Dec.{T, eqb, ltb, leb, leb→le, le→leb, ltb→lt, lt→ltb, nltb→le}
-use Rattle.meaning.specs.Base.{In, countFrom}
+use Rattle.meaning.specs.Base.{countFrom}
 use Rattle.meaning.specs.Grammar.{Symbol, terminal, nonterminal, Occurrence, Function, const, copy, sum, diff, prod, maxi, mini, addc, quot, Rule, Condition, range, atmost}
 use Rattle.meaning.specs.Rules.{InFourBytes, Constant, Proper}
 use Rattle.meaning.specs.Layout.{unsigned, fourBytes, constantBytes, occurrenceBytes, symbolByte, functionBytes, ruleBytes, conditionBytes, Bytes}
-use Rattle.meaning.specs.Table.{byte, signed, constantAt, occurrenceAt, symbolOf, functionOf, ruleOf, conditionOf, ruleLength, conditionLength}
-use Rattle.theory_table.specs.Members.{both, and, getD-in}
+use Rattle.meaning.specs.Table.{byte, signed, constantAt, occurrenceAt, symbolOf, ruleOf, conditionOf, ruleLength, conditionLength}
+use Rattle.theory_base.specs.Members.{and, getD-in}
 
 -- ---- lengths in two bytes
 
@@ -50,7 +48,6 @@ joined-four x y z w a b c d =
     let e₃ : n / 256 % 256 ≡ z = omega arith in
     let e₄ : n % 256 ≡ w = omega arith in
     rw (e₁, e₂, e₃, e₄)
-
 
 pub unsigned-small : (c : ℤ) → InFourBytes c → unsigned c < 4294967296
 unsigned-small (pos n) h = let l = leb→le n 2147483647 (h .1) in omega arith
@@ -130,7 +127,7 @@ listed-from f k zero (x ∷ xs) e h = absurd (omega arith)
 listed-from f k (suc n) [] e h = absurd (omega arith)
 listed-from f k (suc n) (x ∷ xs) e h = ap₂ _∷_ (h 0 (omega arith) ∙ ap f (omega arith)) (listed-from f (suc k) n xs (omega arith) (λ i l. h (suc i) (omega arith) ∙ ap f (omega arith)))
 
-listed : (n : ℕ) (b : List ℕ) → length b ≡ n → b ≡ map (byte b) (countFrom 0 n)
+pub listed : (n : ℕ) (b : List ℕ) → length b ≡ n → b ≡ map (byte b) (countFrom 0 n)
 listed n b e = listed-from (byte b) 0 n b e (λ i l. ap (byte b) (omega arith))
 
 -- ---- rules

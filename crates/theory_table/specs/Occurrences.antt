@@ -3,15 +3,15 @@ use Prim.Native.Nat.{ℕ, zero, suc, _+_, _≤_, _<_}
 use native.Mathlib.Omega.{arith}
 use mathlib.Core.Path.{_≡_, refl, sym, ap, _∙_, subst}
 use mathlib.Core.Logic.{_⊎_, inl, inr}
-use mathlib.Core.Bool.{Bool, true, false, not, _&&_, _||_}
-use mathlib.Core.List.{List, [], _∷_}
+use mathlib.Core.Bool.{Bool, true, false, not, _||_}
+use mathlib.Core.List.{[], _∷_}
 use lib.ListN.{length, getD}
 use lib.Dec.{T, eqb, eqb→eq, eqb-refl, ltb, leb, leb→le, le→leb, nleb→lt, ltb→lt, lt→ltb, eqb·suc-zero, T-not, not-T}
-use Rattle.meaning.specs.Base.{all, any, countFrom, In}
+use Rattle.meaning.specs.Base.{all, countFrom, In}
 use Rattle.meaning.specs.Grammar.{Symbol, terminal, nonterminal, Occurrence, Function, const, copy, sum, diff, prod, maxi, mini, addc, quot, Rule, Condition, range, atmost, Production, Grammar, countsIn, inh, att, symbolAt}
-use Rattle.meaning.specs.Rules.{Operands, Reads, Input, InputAt, Output, OutputAt, Operand}
+use Rattle.meaning.specs.Rules.{Operands, Reads, Input, InputAt, OutputAt, Operand}
 use Rattle.meaning.specs.Table.{State, Entry, countsAt, entrySymbol, occurrenceKnown, isInput, isInherited, within, operands, reads, sameOccurrence, hasRule, occurrencesAt, complete, productionOf, grammarOf, sameAs}
-use Rattle.theory_table.specs.Members.{both, and, or-cases, or-left, or-right, not-not, all-in, in-all, any-in, in-any, in-map, map-in, in-from, from-in}
+use Rattle.theory_base.specs.Members.{both, and, or-cases, or-right, not-not, all-in, in-all, any-in, in-any, in-map, map-in, in-from, from-in}
 
 abbrev occ : ℕ → ℕ → Occurrence
 occ k a = record { position = k; attribute = a }
@@ -240,6 +240,7 @@ module _ (s : State) (e : Entry) where
           let c = facts-known s e k a l m (omega (arith, att-is s e k)) in
           let r = h k a (output-at s e k a c (subst (λ b. T (not b)) (sym q) tt)) in
           in-any (λ u. sameOccurrence (u .target) (occ k a)) (e .rules) (r .0) (r .1) (same-refl (r .0 .target) (occ k a) (r .2))
+
       at : (k : ℕ) → In k (countFrom 0 (suc (length (e .right)))) → (o : Occurrence) → (a : ℕ) × In a (countFrom 1 (attAt s e k)) × (o ≡ occ k a) → T (ruled o)
       at k i o w =
           let f = from-in 0 (suc (length (e .right))) k i in

@@ -1,16 +1,16 @@
 -- A table read without one of refusals 1 to 10 holds a grammar that meets 01's rules.
-use Prim.Native.Nat.{ℕ, zero, suc, _+_, _≤_, _<_}
+use Prim.Native.Nat.{ℕ, _+_, _<_}
 use native.Mathlib.Omega.{arith}
 use mathlib.Core.Path.{_≡_, refl, sym, ap, _∙_, subst}
 use mathlib.Core.Logic.{_⊎_, inl, inr}
-use mathlib.Core.List.{List, [], _∷_, _++_, map, reverse, reverseAux}
+use mathlib.Core.List.{List, [], _∷_, map, reverse, reverseAux}
 use lib.ListN.{length, length-map, length-reverse}
 use lib.Dec.{T}
 use Rattle.meaning.specs.Base.{In, total}
-use Rattle.meaning.specs.Grammar.{Symbol, terminal, nonterminal, Occurrence, Rule, Production, Grammar, Counts}
+use Rattle.meaning.specs.Grammar.{Symbol, terminal, nonterminal, Occurrence, Rule, Production, Grammar}
 use Rattle.meaning.specs.Rules.{Distinct, Known, WellFormed, WellFormedProduction}
-use Rattle.meaning.specs.Table.{State, Entry, Header, headerOf, isSome, complete, lastComplete, wellFormed, readTable, productionOf, grammarOf}
-use Rattle.theory_table.specs.Members.{in-reverse, reverse-in, map-in}
+use Rattle.meaning.specs.Table.{State, Entry, headerOf, complete, lastComplete, wellFormed, readTable, productionOf, grammarOf}
+use Rattle.theory_base.specs.Members.{in-reverse, reverse-in, map-in}
 use Rattle.theory_table.specs.Reading.{Reads, over, more, Full, table-reads}
 use Rattle.theory_table.specs.Occurrences.{input-over, output-over, operand-over, operands-map, reads-map, complete-every}
 use Rattle.theory_table.specs.Invariant.{KnownIn, EntryOk, Inv, nothing-yet, all-complete, keeps, countsOnly, bare, ruleCount, conditionCount}
@@ -67,18 +67,18 @@ module _ (s : State) (w : Whole s) where
   abbrev g : Grammar
   g = grammarOf s
 
-  size : length (g .counts) ≡ headerOf s .nonterminals
-  size = omega (arith, length-reverse (s .counts), w .inv .fewCounts, w .full .1)
+  pub all-counted : length (g .counts) ≡ headerOf s .nonterminals
+  all-counted = omega (arith, length-reverse (s .counts), w .inv .fewCounts, w .full .1)
 
   known : (x : Symbol) → KnownIn (headerOf s) x → Known g x
   known (terminal t) k = k
-  known (nonterminal n) k = omega (arith, size)
+  known (nonterminal n) k = omega (arith, all-counted)
 
   production-formed : (e : Entry) → EntryOk (headerOf s) (s .counts) e → T (complete s e) → WellFormedProduction g (productionOf e)
   production-formed e k c =
       let g′ : Grammar = countsOnly (s .counts) in
       record {
-        left = omega (arith, size, k .left);
+        left = omega (arith, all-counted, k .left);
         short = k .short;
         symbols = λ x i. known x (k .symbols x i);
         targets = λ r i. output-over g′ g (bare e) (productionOf e) refl refl refl (r .target .position) (r .target .attribute) (k .targets r (in-reverse r (e .rules) i));
@@ -87,7 +87,7 @@ module _ (s : State) (w : Whole s) where
         operands = λ r i. operands-map (operand-over g′ g (bare e) (productionOf e) refl refl refl (r .target .position)) (r .function) (k .operands r (in-reverse r (e .rules) i));
         constants = λ r i. k .constants r (in-reverse r (e .rules) i);
         reads = λ q i. reads-map (λ o u. input-over g′ g (bare e) (productionOf e) refl refl refl (o .position) (o .attribute) u) q (k .reads q (in-reverse q (e .conditions) i));
-        proper = λ q i. k .proper q (in-reverse q (e .conditions) i)
+        proper = λ q i. k .proper q (in-reverse q (e .conditions) i);
       }
 
   each-formed : (p : Production) → In p (g .productions) → WellFormedProduction g p
@@ -104,15 +104,15 @@ module _ (s : State) (w : Whole s) where
       let start = w .inv .startOk (omega (arith, h .start, w .full .1)) in
       record {
         terminals = h .terminals;
-        nonterminals = (omega (arith, size, h .nonterminals .0), omega (arith, size, h .nonterminals .1));
-        start = omega (arith, size, h .start);
+        nonterminals = (omega (arith, all-counted, h .nonterminals .0), omega (arith, all-counted, h .nonterminals .1));
+        start = omega (arith, all-counted, h .start);
         attributes = λ c i. w .inv .attributes c (in-reverse c (s .counts) i);
         startAlone = start .0;
         result = (start .1, start .2);
         productions = (omega (arith, many, many′, w .some-entry), omega (arith, many, many′, w .inv .fewEntries));
         rules = omega (arith, rule-total (s .entries), w .inv .rules .0, w .inv .rules .1);
         conditions = omega (arith, condition-total (s .entries), w .inv .conditions .0, w .inv .conditions .1);
-        each = each-formed
+        each = each-formed;
       }
 
 pub read-well-formed : (bs : List ℕ) (s : State) → readTable bs ≡ wellFormed s → WellFormed (grammarOf s)

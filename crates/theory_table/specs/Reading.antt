@@ -5,11 +5,11 @@ use mathlib.Core.Path.{_≡_, refl, sym, ap, _∙_, subst}
 use mathlib.Core.Logic.{_⊎_, inl, inr}
 use mathlib.Core.Bool.{Bool, true, false, _&&_, _||_, not}
 use mathlib.Core.List.{List, [], _∷_, _++_}
-use lib.ListN.{length, take, drop, getD, length-append, length-drop, take-append-drop}
+use lib.ListN.{length, take, drop, length-append, length-drop, take-append-drop}
 use lib.Seq.{length-take-le, take-append-seam, drop-append-seam}
-use lib.Dec.{T, eqb, ltb, leb, eqb→eq, eqb-refl, leb→le, le→leb, ltb→lt, lt→ltb, nltb→le, T-not, not-T}
-use Rattle.meaning.specs.Table.{State, Field, Kind, header, counts, production, rule, condition, Stage, atHeader, atCounts, atFirst, atAny, stage, tagStands, kindOf, isSome, headerOf, byte, limitsHold, known, startRight, directionsRight, setOnce, leftToRight, boundsRight, lowestOf, judgeField, current, lastComplete, readField, Read, wellFormed, malformed, atEnd, readAll, readTable, nothingRead}
-use Rattle.theory_table.specs.Members.{T→true, both, and, or-cases, not-not}
+use lib.Dec.{T, eqb, ltb, leb, eqb→eq, leb→le, le→leb, ltb→lt, lt→ltb, nltb→le}
+use Rattle.meaning.specs.Table.{State, Kind, header, counts, production, rule, condition, Stage, atHeader, atCounts, atFirst, atAny, stage, tagStands, kindOf, isSome, headerOf, byte, limitsHold, known, startRight, directionsRight, setOnce, leftToRight, boundsRight, lowestOf, judgeField, current, lastComplete, readField, Read, wellFormed, malformed, atEnd, readAll, readTable, nothingRead}
+use Rattle.theory_base.specs.Members.{both, and, or-cases, not-not}
 
 -- ---- a field that no number judges
 
@@ -128,14 +128,18 @@ next-of s t u m = go (stage s) (stood s) u
   where
     whole : t ≡ 3 → T (lastComplete s)
     whole e = not-not (lastComplete s) (subst (λ n. T (not (eqb n 3 && not (lastComplete s)))) e m)
+
     three : Full s → t ≡ 3 → NextOf s t
     three f e = (production, e, (f, whole e))
+
     later : Full s → 0 < length (s .entries) → T (eqb t 3) ⊎ T (eqb t 4) → NextOf s t
     later f l (inl v) = three f (eqb→eq t 3 v)
     later f l (inr v) = (rule, eqb→eq t 4 v, (f, l))
+
     any : Full s → 0 < length (s .entries) → T (eqb t 3 || eqb t 4) ⊎ T (eqb t 5) → NextOf s t
     any f l (inl v) = later f l (or-cases (eqb t 3) (eqb t 4) v)
     any f l (inr v) = (condition, eqb→eq t 5 v, (f, l))
+
     go : (x : Stage) → Stood s x → T (tagStands x t) → NextOf s t
     go atHeader h v = (header, eqb→eq t 1 v, h)
     go atCounts h v = (counts, eqb→eq t 2 v, h)
@@ -168,6 +172,7 @@ stands s production n = (go (isSome (s .header)) (n .0 .0) (ltb (length (s .coun
     whole : (b : Bool) → T b → T (not (not b))
     whole true t = tt
     whole false t = absurd t
+
     go : (a : Bool) → T a → (b : Bool) → (T b → ⊥) → (c : Bool) → T (tagStands (stageBy a b c) 3)
     go false v b w c = absurd v
     go true v true w c = absurd (w tt)

@@ -8,17 +8,15 @@ use lib.ListN.{length, drop, length-append, length-drop}
 use lib.Seq.{drop-cons}
 use lib.Dec.{ltb, ltb→lt, lt→ltb}
 use Rattle.meaning.specs.Base.{consIf, isEmpty}
-use Rattle.meaning.specs.Grammar.{Symbol, terminal, Production, Grammar, inh, att, productionAt, symbolAt}
+use Rattle.meaning.specs.Grammar.{Symbol, terminal, Grammar, inh, att, productionAt, symbolAt}
 use Rattle.meaning.specs.Rules.{WellFormedProduction, WellFormed}
 use Rattle.meaning.specs.Scheme.{Instruction, add, evaluate, expect, test, remove, conditionsAt, inheritedRules, synthesizedRules, testsAfter, removed, symbolScheme, symbolsScheme, scheme}
 use Rattle.meaning.specs.Machine.{isExpect}
 use Rattle.meaning.specs.Tree.{Tree, Forest, leaf, node, noTrees, treeAnd, yield, yields, width, WellEvaluated, WellEvaluateds, isOpened, isLeft, areLeft, oneIf, countIf, movesOf, movesIn}
 use Rattle.meaning.specs.Walk.{Act, predicts, reads, performs, beforeExpect, afterExpect, walk, walkOn, walkTo}
-use Rattle.theory_walk.specs.Present.{listed-formed, inherited-present, synthesized-present, tests-present}
-
--- what a scheme has behind its last symbol's instructions
-abbrev closing : Grammar → Production → List Instruction
-closing g p = consIf (not (isEmpty (synthesizedRules g p))) (evaluate (synthesizedRules g p)) (remove (removed g p) ∷ [])
+use Rattle.theory_base.specs.WellFormed.{well-formed-at, evaluable}
+use Rattle.theory_base.specs.Present.{inherited-present, synthesized-present, tests-present}
+use Rattle.meaning.specs.Part.{tailIf}
 
 -- how many of the moves are made on r more tokens
 abbrev made : ℕ → List Act → ℕ
@@ -88,12 +86,12 @@ when false b n z = refl
 
 module _ (g : Grammar) (j : ℕ) where
   -- behind the last child: an evaluate where the left side has synthesized attributes, and the remove
-  made-closing : (b p : ℕ) (ws : List Act) → WellFormedProduction g (productionAt g p) → made (j - b) (walkOn g p (closing g (productionAt g p)) noTrees ++ ws) ≡ movesIn g j b p 1 noTrees + made (j - (b + 0)) ws
+  made-closing : (b p : ℕ) (ws : List Act) → WellFormedProduction g (productionAt g p) → made (j - b) (walkOn g p (tailIf false g (productionAt g p)) noTrees ++ ws) ≡ movesIn g j b p 1 noTrees + made (j - (b + 0)) ws
   made-closing b p ws q =
       let r = productionAt g p in
       let z : b + 0 ≡ b = omega arith in
       walk-if g (j - b) p ws (not (isEmpty (synthesizedRules g r))) (evaluate (synthesizedRules g r)) (remove (removed g r) ∷ []) noTrees refl
-      ∙ rw (synthesized-present g r q, z) (omega arith)
+      ∙ rw (synthesized-present g r (evaluable q), z) (omega arith)
 
   -- one child, and the children behind it
   made-child : (b p k : ℕ) (t : Tree) (f : Forest) (is : List Instruction) (ws : List Act) (z : ℕ) → WellFormedProduction g (productionAt g p) → k < length (productionAt g p .right)
@@ -110,7 +108,7 @@ module _ (g : Grammar) (j : ℕ) where
       let e = walk-if g (j - b) p ws (not (isEmpty rules)) (evaluate rules) (expect x ∷ behind) (treeAnd t f) refl in
       let c = ap (made (j - b)) (append-assoc (walk g t) (walkOn g p behind f) ws) ∙ tree (walkOn g p behind f ++ ws) in
       let d = walk-if g (j - (b + width t)) p ws (not (isEmpty tests)) (test tests) is f refl in
-      a ∙ rw (e, c, d, others, inherited-present g r q k l, tests-present g r (suc k)) (sum-if (isLeft j b t) (areLeft j (b + width t) f) (oneIf (ltb 0 (att g x))) (oneIf (ltb 0 (inh g x))) (movesOf g j b t) (oneIf (not (isEmpty (conditionsAt r (suc k))))) (movesIn g j (b + width t) p (suc (suc k)) f) z)
+      a ∙ rw (e, c, d, others, inherited-present g r (evaluable q) k l, tests-present g r (suc k)) (sum-if (isLeft j b t) (areLeft j (b + width t) f) (oneIf (ltb 0 (att g x))) (oneIf (ltb 0 (inh g x))) (movesOf g j b t) (oneIf (not (isEmpty (conditionsAt r (suc k))))) (movesIn g j (b + width t) p (suc (suc k)) f) z)
 
 module _ (g : Grammar) (w : WellFormed g) (j : ℕ) where
   mutual
@@ -118,11 +116,11 @@ module _ (g : Grammar) (w : WellFormed g) (j : ℕ) where
     made-tree b x (leaf t) ws e = made-read j b t ws
     made-tree b x (node p vs f) ws e =
         made-predict j b p (walkOn g p (scheme g (productionAt g p)) f ++ ws)
-        ∙ (ap (λ n. countIf (isOpened j b) (suc n)) (made-in b p 0 f (productionAt g p .right) ws (listed-formed g w p (e .0 .listed)) refl (e .1))
+        ∙ (ap (λ n. countIf (isOpened j b) (suc n)) (made-in b p 0 f (productionAt g p .right) ws (well-formed-at g w p (e .0 .listed)) refl (e .1))
         ∙ when (isOpened j b) (areLeft j b f) (movesIn g j b p 1 f) (made (j - (b + length (yields f))) ws))
 
     made-in : (b p k : ℕ) (f : Forest) (xs : List Symbol) (ws : List Act) → WellFormedProduction g (productionAt g p) → drop k (productionAt g p .right) ≡ xs → WellEvaluateds g f xs
-        → made (j - b) (walkOn g p (symbolsScheme g (productionAt g p) (suc k) xs (closing g (productionAt g p))) f ++ ws) ≡ movesIn g j b p (suc k) f + countIf (areLeft j b f) (made (j - (b + length (yields f))) ws)
+        → made (j - b) (walkOn g p (symbolsScheme g (productionAt g p) (suc k) xs (tailIf false g (productionAt g p))) f ++ ws) ≡ movesIn g j b p (suc k) f + countIf (areLeft j b f) (made (j - (b + length (yields f))) ws)
     made-in b p k noTrees [] ws q d e = made-closing g j b p ws q
     made-in b p k noTrees (x ∷ xs) ws q d e = absurd e
     made-in b p k (treeAnd t f) [] ws q d e = absurd e
@@ -134,7 +132,7 @@ module _ (g : Grammar) (w : WellFormed g) (j : ℕ) where
         let later : drop (suc k) (r .right) ≡ xs = cc in
         let n : b + length (yield t ++ yields f) ≡ b + width t + length (yields f) = omega (arith, length-append (yield t) (yields f)) in
         let z = made (j - (b + length (yields (treeAnd t f)))) ws in
-        let is = symbolsScheme g r (suc (suc k)) xs (closing g r) in
+        let is = symbolsScheme g r (suc (suc k)) xs (tailIf false g r) in
         let others = subst (λ m. made (j - (b + width t)) (walkOn g p is f ++ ws) ≡ movesIn g j (b + width t) p (suc (suc k)) f + countIf (areLeft j (b + width t) f) (made (j - m) ws)) (sym n) (made-in (b + width t) p (suc k) f xs ws q later (e .1)) in
         subst (λ y. made (j - b) (walkOn g p (symbolScheme g r (suc k) y is) (treeAnd t f) ++ ws) ≡ movesIn g j b p (suc k) (treeAnd t f) + countIf (areLeft j b (treeAnd t f)) z) here
         (made-child g j b p k t f is ws z q l (λ vs. made-tree b x t vs (e .0)) others)
