@@ -6,8 +6,8 @@ use mathlib.Core.List.{List, [], _∷_, _++_, append-assoc, append-nil, reverse,
 use lib.ListN.{length, getD, set, take, drop, replicate, length-append, length-reverse, length-replicate, length-set, length-drop, take-append-drop, replicate-append-replicate, List·getD-append}
 use lib.Seq.{length-take-le, take-at, drop-at, set-at, set-set, set-append-left, getD-append-seam, set-append-seam}
 use Rattle.meaning.specs.Calls.{lay}
-use Rattle.theory_complete.specs.Lists.{getD-any}
-use Rattle.theory_complete.specs.Memory.{lay-stack}
+use Rattle.theory_base.specs.Members.{getD-any}
+use Rattle.theory_answers.specs.Memory.{lay-front, lay-above, lay-length, lay-same}
 
 -- the first h cells, the top first
 abbrev pub stack : {A : Type 0} → ℕ → List A → List A
@@ -45,6 +45,9 @@ reverse-replicate (suc k) a =
 module _ {A : Type 0} (n : ℕ) (clear : A) where
   lay-split : (xs mem : List A) → lay n clear xs mem ≡ reverse xs ++ (replicate (n - length xs) clear ++ drop n mem)
   lay-split xs mem = append-assoc (reverse xs) (replicate (n - length xs) clear) (drop n mem)
+
+  pub lay-stack : (xs mem : List A) → stack (length xs) (lay n clear xs mem) ≡ xs
+  lay-stack xs mem = ap reverse (lay-front n clear xs mem) ∙ reverse-reverse xs
 
   -- place k, counted from 1 at the top
   pub lay-read : (xs mem : List A) (k : ℕ) (d : A) → 1 ≤ k → k ≤ length xs → getD (lay n clear xs mem) (length xs - k) d ≡ getD xs (k - 1) d
@@ -87,10 +90,9 @@ module _ {A : Type 0} (n : ℕ) (clear : A) where
   pub lay-over : (xs ys mem : List A) → length ys ≤ length xs → length xs ≤ n → lay (length xs) clear ys (lay n clear xs mem) ≡ lay n clear ys mem
   lay-over xs ys mem l m =
       let h : ℕ = length xs in
-      let d : drop h (lay n clear xs mem) ≡ replicate (n - h) clear ++ drop n mem = ap (drop h) (lay-split xs mem) ∙ drop-at (reverse xs) (replicate (n - h) clear ++ drop n mem) h (length-reverse xs) in
       let e : (h - length ys) + (n - h) ≡ n - length ys = omega arith in
       let r : replicate (h - length ys) clear ++ replicate (n - h) clear ≡ replicate (n - length ys) clear = replicate-append-replicate (h - length ys) (n - h) clear ∙ ap (λ j. replicate j clear) e in
-      ap (λ z. (reverse ys ++ replicate (h - length ys) clear) ++ z) d
+      ap (λ z. (reverse ys ++ replicate (h - length ys) clear) ++ z) (lay-above n clear xs mem)
       ∙ (sym (append-assoc (reverse ys ++ replicate (h - length ys) clear) (replicate (n - h) clear) (drop n mem))
       ∙ ap (λ z. z ++ drop n mem) (append-assoc (reverse ys) (replicate (h - length ys) clear) (replicate (n - h) clear) ∙ ap (λ z. reverse ys ++ z) r))
 
@@ -99,9 +101,7 @@ module _ {A : Type 0} (n : ℕ) (clear : A) where
 module _ {A : Type 0} (clear : A) (h : ℕ) (mem : List A) (l : h ≤ length mem) where
   -- what stands there is its own stack
   pub stack-laid : lay h clear (stack h mem) mem ≡ mem
-  stack-laid =
-      let e : h - length (stack h mem) ≡ 0 = omega (arith, stack-length h mem l) in
-      rw (e, append-nil (reverse (stack h mem)), reverse-reverse (take h mem)) (take-append-drop h mem)
+  stack-laid = lay-same h h clear mem (omega arith) l (λ i p q. absurd (omega arith))
 
   pub stack-read : (k : ℕ) (d : A) → 1 ≤ k → k ≤ h → getD mem (h - k) d ≡ getD (stack h mem) (k - 1) clear
   stack-read k d m n =
@@ -118,4 +118,4 @@ module _ {A : Type 0} (clear : A) (h : ℕ) (mem : List A) (l : h ≤ length mem
   stack-write k v m n =
       let ys : List A = set (stack h mem) (k - 1) v in
       let e : length ys ≡ h = length-set (stack h mem) (k - 1) v ∙ stack-length h mem l in
-      ap (stack h) (write-laid k v m n) ∙ (ap (λ j. stack j (lay h clear ys mem)) (sym e) ∙ lay-stack h clear ys mem (omega arith))
+      ap (stack h) (write-laid k v m n) ∙ (ap (λ j. stack j (lay h clear ys mem)) (sym e) ∙ lay-stack h clear ys mem)

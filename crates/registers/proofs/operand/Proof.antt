@@ -8,7 +8,7 @@ use lib.IntN.{ℤ}
 use Rattle.meaning.specs.Table.{signed}
 use Rattle.meaning.specs.Machine.{readRegister}
 use Rattle.meaning.specs.Value.{inRange}
-use Rattle.theory_complete.specs.Lists.{true-of-T}
+use Rattle.theory_base.specs.Members.{T→true}
 use Rattle.registers.specs.Stack.{stack, stack-length}
 use Rattle.registers.specs.Read.{Valued}
 use Rattle.registers.specs.Operand.{fetched-some, operand-some, operand-none}
@@ -40,7 +40,7 @@ returns-2 c =
     let s = c .before .before in
     let v = valued (c .before) in
     let e = held (sfits-of (c .read .ok)) (c .read .ensures) in
-    (e ∙ sym (operand-some (stackAt s) (s .args .selector) (signed (s .args .constant)) (v .0)), ap inRange e ∙ true-of-T (inRange (readRegister (stackAt s) (s .args .selector))) (v .2))
+    (e ∙ sym (operand-some (stackAt s) (s .args .selector) (signed (s .args .constant)) (v .0)), ap inRange e ∙ T→true (inRange (readRegister (stackAt s) (s .args .selector))) (v .2))
 
 pub operand-spec : {M : Type 1} → statement M
 operand-spec = tie.close (tie.spec constant-requires returns read-requires returns-2)
