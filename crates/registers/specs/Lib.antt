@@ -1,3 +1,4 @@
 pub mod Stack
 pub mod Read
 pub mod Operand
+pub mod Laid
