@@ -16,7 +16,7 @@ use Rattle.meaning.specs.Calls.{lay, isMark}
 use Rattle.value.specs.Ranged.{ranged, ranged-in}
 use Rattle.value.specs.Overflow.{isMark-ranged}
 use Rattle.registers.specs.Stack.{stack, stack-length, stack-laid, stack-write, lay-write}
-use Rattle.registers.specs.Read.{ruleHere, rulesFrom, valueOf, valuesFit, Evaluates, Computed}
+use Rattle.registers.specs.Read.{ruleHere, rulesFrom, valueOf, valuesFit, Evaluates, Computed, Evaluated}
 use Rattle.registers.proofs.Loops.{rules-turn, rules-end, evaluates-turn, target-turn}
 
 -- ---- computing: i of n values are in vs, and p is where the next rule stands
@@ -125,3 +125,18 @@ module _ {ws : List ℕ} {at n h : ℕ} {m₀ vs : List ℤ} (low : h ≤ length
 
     pub writing-end : n ≤ i → m ≡ lay h mark (writeAll (rulesFrom ws at n) rs rs) m₀
     writing-end l = sym (ap (λ z. lay h mark z m₀) (w .written ∙ ap (λ qs. writeAll qs rs (stack h m)) (rules-end ws p n i l)) ∙ w .laid)
+
+-- ---- one rule alone, whose value is v or the mark
+
+module _ (ws : List ℕ) (at h : ℕ) (m : List ℤ) (low : h ≤ length m) (e : Evaluates ws at 1 (stack h m)) (v : ℤ) (is : v ≡ ranged (valueOf (stack h m) (ruleHere ws at))) where
+  start : Computing ws at 1 (stack h m) 0 at (v ∷ [])
+  start = computing-start (v ∷ []) e
+
+  pub one-written : isMark v ≡ false → Evaluated (rulesFrom ws at 1) h m true (set m (h - getD ws at 0 % 128) v)
+  one-written f =
+      let c = computing-end (computing-turn start (omega arith) v is (omega arith) f) (omega arith) (omega arith) in
+      let w = writing-turn {vs = v ∷ []} low (writing-start low e (c .values refl)) (omega arith) (omega arith) in
+      record { answer = c .answer; memory = writing-end low w (omega arith) }
+
+  pub one-kept : isMark v ≡ true → Evaluated (rulesFrom ws at 1) h m false m
+  one-kept f = record { answer = computing-stop start (omega arith) v is [] f .answer; memory = sym (stack-laid mark h m low) }

@@ -5,13 +5,13 @@ use mathlib.Core.Path.{_≡_, refl, sym, ap, _∙_}
 use mathlib.Core.Bool.{Bool, true, false}
 use mathlib.Core.List.{List, [], _∷_, _++_}
 use lib.IntN.{ℤ}
-use lib.ListN.{length, set, drop, replicate, length-append, length-replicate, length-set, length-drop}
+use lib.ListN.{length, getD, set, drop, replicate, length-append, length-replicate, length-set, length-drop}
 use Rattle.meaning.specs.Grammar.{Rule}
 use Rattle.meaning.specs.Value.{mark}
 use Rattle.meaning.specs.Calls.{lay}
 use Rattle.theory_answers.specs.Bounds.{length-writeAll}
-use Rattle.theory_answers.specs.Memory.{lay-length}
-use Rattle.registers.specs.Stack.{stack, lay-stack, lay-write, lay-add, lay-push, lay-over}
+use Rattle.theory_answers.specs.Memory.{lay-length, lay-same}
+use Rattle.registers.specs.Stack.{stack, stack-length, lay-stack, lay-write, lay-add, lay-push, lay-over}
 use Rattle.registers.specs.Read.{afterRules, valuesFit, Evaluated}
 
 -- the stack xs, of height h, in the first n cells of mem; base is what memory was before any stack was laid
@@ -20,6 +20,10 @@ pub record Laid {A : Type 0} (n : ℕ) (clear : A) (base mem : List A) (h : ℕ)
   pub height : length xs ≡ h
   pub room : h ≤ n
   pub long : n ≤ length base
+
+-- what stands in memory with all above it clear
+pub laid-found : {A : Type 0} (n : ℕ) (clear : A) (mem : List A) (h : ℕ) → h ≤ n → n ≤ length mem → ((i : ℕ) → h ≤ i → i < n → getD mem i clear ≡ clear) → Laid n clear mem mem h (stack h mem)
+laid-found n clear mem h l m c = record { memory = sym (lay-same n h clear mem l m c); height = stack-length h mem (omega arith); room = l; long = m }
 
 module _ {A : Type 0} {n : ℕ} {clear : A} {base mem : List A} {h : ℕ} {xs : List A} (s : Laid n clear base mem h xs) where
   pub laid-length : length mem ≡ length base

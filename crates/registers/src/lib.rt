@@ -135,11 +135,30 @@ fn write_all(registers: &mut [i64], height: usize, program: &[u32], at: usize, c
     }
 }
 
+// One rule alone: its value is written at once.
+fn evaluate_one(registers: &mut [i64], height: usize, program: &[u32], at: usize) -> bool
+    requires { ⌜ (height ≤ length (now registers)) × Evaluates (now program) at 1 (stack height (now registers)) ⌝ }
+    ensures { λ r. ⌜ Evaluated (rulesFrom (now (program .entry)) at 1) height (now (registers .entry)) r (now (registers .exit)) ⌝ }
+{
+    let word = program[at];
+    let constant = program[at + 1];
+    let below = (word % 128) as usize;
+    let v = result(registers, height, word, constant);
+    if value::is_mark(v) {
+        return false;
+    }
+    registers[height - below] = v;
+    true
+}
+
 // Evaluates `count` rules, whose words stand from `at` on. 01: "all or none".
 pub fn evaluate(registers: &mut [i64], height: usize, program: &[u32], at: usize, count: usize) -> bool
     requires { ⌜ (height ≤ length (now registers)) × (count ≤ 8) × Evaluates (now program) at count (stack height (now registers)) ⌝ }
     ensures { λ r. ⌜ Evaluated (rulesFrom (now (program .entry)) at count) height (now (registers .entry)) r (now (registers .exit)) ⌝ }
 {
+    if count == 1 {
+        return evaluate_one(registers, height, program, at);
+    }
     let mut values = [0i64; 8];
     if compute_all(registers, height, program, at, count, &mut values) {
         write_all(registers, height, program, at, count, &values);
