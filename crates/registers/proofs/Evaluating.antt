@@ -1,9 +1,9 @@
 -- The two loops of an evaluation, a turn at a time: the values are computed, then written.
-use Prim.Native.Nat.{ℕ, zero, suc, _+_, _-_, _%_, _≤_, _<_}
+use Prim.Native.Nat.{ℕ, _+_, _-_, _%_, _≤_, _<_}
 use native.Mathlib.Numerals.{add-one}
 use native.Mathlib.Omega.{arith}
 use mathlib.Core.Path.{_≡_, refl, sym, ap, ap₂, _∙_}
-use mathlib.Core.Bool.{Bool, true, false, _&&_, not}
+use mathlib.Core.Bool.{true, false, _&&_, not}
 use mathlib.Core.List.{List, [], _∷_, _++_, map, append-assoc, append-nil}
 use borrow.Author.Tests.{not-true, not-false}
 use lib.IntN.{ℤ, pos}
@@ -50,15 +50,15 @@ module _ {ws : List ℕ} {at n : ℕ} {rs : List ℤ} where
             left = evaluates-turn ws p n i rs l (c .left);
             answer = here l ∙ ap (λ b. b && valuesFit (rulesFrom ws (p + 2) (n - (i + 1))) rs) f;
             values =
-              c .values
-              ∙ (ap (λ qs. take i vs ++ map (valueOf rs) qs) (rules-turn ws p n i l)
-              ∙ (ap (λ x. take i vs ++ (x ∷ rest)) (sym is)
-              ∙ (sym (append-assoc (take i vs) (v ∷ []) rest)
-              ∙ ap (λ z. z ++ rest) (sym (ap (λ j. take j (set vs i v)) (add-one i) ∙ take-suc-set vs i v k)))));
+                c .values
+                ∙ (ap (λ qs. take i vs ++ map (valueOf rs) qs) (rules-turn ws p n i l)
+                ∙ (ap (λ x. take i vs ++ (x ∷ rest)) (sym is)
+                ∙ (sym (append-assoc (take i vs) (v ∷ []) rest)
+                ∙ ap (λ z. z ++ rest) (sym (ap (λ j. take j (set vs i v)) (add-one i) ∙ take-suc-set vs i v k)))));
           }
 
-      pub computing-stop : (ws′ : List ℤ) → isMark v ≡ true → Computed (rulesFrom ws at n) rs false ws′
-      computing-stop ws′ m =
+      pub computing-stop : (us : List ℤ) → isMark v ≡ true → Computed (rulesFrom ws at n) rs false us
+      computing-stop us m =
           let f : inRange (valueOf rs (ruleHere ws p)) ≡ false = not-true _ (sym marked ∙ m) in
           record { answer = sym (here l ∙ ap (λ b. b && valuesFit (rulesFrom ws (p + 2) (n - (i + 1))) rs) f); values = λ t. absurd (let z : _≡_ {A = ℕ} 0 1 = cc in omega arith) }
 
@@ -114,13 +114,13 @@ module _ {ws : List ℕ} {at n h : ℕ} {m₀ vs : List ℤ} (low : h ≤ length
           values = cc;
           sameLength = length-set m (h - t) v ∙ w .sameLength;
           laid =
-            ap (λ z. lay h mark z m₀) sw
-            ∙ (lay-write h mark (stack h m) m₀ t v (s .0) (omega arith)
-            ∙ ap₂ (λ z j. set z (j - t) v) (w .laid) e);
+              ap (λ z. lay h mark z m₀) sw
+              ∙ (lay-write h mark (stack h m) m₀ t v (s .0) (omega arith)
+              ∙ ap₂ (λ z j. set z (j - t) v) (w .laid) e);
           written =
-            w .written
-            ∙ (ap (λ qs. writeAll qs rs (stack h m)) (rules-turn ws p n i l)
-            ∙ ap (λ z. writeAll rest rs z) (ap (λ x. set (stack h m) (t - 1) x) (sym is) ∙ sym sw));
+              w .written
+              ∙ (ap (λ qs. writeAll qs rs (stack h m)) (rules-turn ws p n i l)
+              ∙ ap (λ z. writeAll rest rs z) (ap (λ x. set (stack h m) (t - 1) x) (sym is) ∙ sym sw));
         }
 
     pub writing-end : n ≤ i → m ≡ lay h mark (writeAll (rulesFrom ws at n) rs rs) m₀

@@ -7,8 +7,6 @@ use lib.ListN.{length, getD, set, drop, length-drop}
 use lib.Seq.{drop-cons}
 use lib.IntN.{ℤ}
 use mathlib.Core.Logic.{inl, inr}
-use Rattle.meaning.specs.Base.{In}
-use Rattle.meaning.specs.Grammar.{Rule, Condition}
 use Rattle.meaning.specs.Rules.{Operands, Reads}
 use Rattle.meaning.specs.Calls.{lay}
 use Rattle.theory_program.specs.Stands.{stands-within}

@@ -2,3 +2,4 @@ pub mod Stack
 pub mod Read
 pub mod Operand
 pub mod Laid
+pub mod Examples

@@ -1,15 +1,14 @@
 -- The operands of a rule by its words: where a selector is 0, the constant stands for the operand.
-use Prim.Native.Nat.{ℕ, zero, suc, _+_, _*_, _/_, _%_, _≤_, _<_}
+use Prim.Native.Nat.{ℕ, zero, suc, _/_, _%_, _≤_, _<_}
 use native.Mathlib.Omega.{arith}
-use mathlib.Core.Path.{_≡_, refl, sym, ap, ap₂, _∙_}
+use mathlib.Core.Path.{_≡_, refl, sym, ap₂, _∙_}
 use mathlib.Core.Bool.{Bool, true, false, _&&_}
-use lib.ListN.{length, getD}
+use lib.ListN.{getD}
 use mathlib.Core.List.{List}
-use lib.Dec.{T}
 use lib.IntN.{ℤ}
 use lib.Signed.{leZ}
 use Rattle.meaning.specs.Rules.{Operands, Reads}
-use Rattle.meaning.specs.Value.{apply, holds, inRange}
+use Rattle.meaning.specs.Value.{apply, holds}
 use Rattle.meaning.specs.Table.{signed}
 use Rattle.meaning.specs.Machine.{readRegister}
 use Rattle.meaning.specs.Program.{functionWords, ruleWords}

@@ -1,7 +1,7 @@
 -- The rules and conditions that a program's words say, and what they ask of the registers that stand.
-use Prim.Native.Nat.{ℕ, zero, suc, _+_, _-_, _*_, _/_, _%_, _≤_, _<_}
+use Prim.Native.Nat.{ℕ, zero, suc, _+_, _*_, _≤_}
 use native.Mathlib.Omega.{arith}
-use mathlib.Core.Path.{_≡_, refl, sym, ap, ap₂, _∙_, subst}
+use mathlib.Core.Path.{_≡_, refl, sym, ap₂, subst}
 use mathlib.Core.Logic.{inl, inr}
 use mathlib.Core.Bool.{Bool, true, false}
 use mathlib.Core.List.{List, [], _∷_, map}
@@ -11,7 +11,7 @@ use lib.IntN.{ℤ}
 use Rattle.meaning.specs.Base.{In, all}
 use Rattle.meaning.specs.Grammar.{Rule, Condition}
 use Rattle.meaning.specs.Rules.{Operands, Reads}
-use Rattle.meaning.specs.Value.{apply, holds, inRange, mark}
+use Rattle.meaning.specs.Value.{apply, inRange, mark}
 use Rattle.meaning.specs.Machine.{readRegister, writeAll}
 use Rattle.meaning.specs.Calls.{lay}
 use Rattle.theory_program.specs.Stands.{stands-within}

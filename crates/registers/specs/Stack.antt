@@ -2,12 +2,12 @@
 use Prim.Native.Nat.{ℕ, zero, suc, _+_, _-_, _≤_, _<_}
 use native.Mathlib.Omega.{arith}
 use mathlib.Core.Path.{_≡_, refl, sym, ap, _∙_}
-use mathlib.Core.List.{List, [], _∷_, _++_, append-assoc, append-nil, reverse, reverse-cons, reverse-append, reverse-reverse}
-use lib.ListN.{length, getD, set, take, drop, replicate, length-append, length-reverse, length-replicate, length-set, length-drop, take-append-drop, replicate-append-replicate, List·getD-append}
-use lib.Seq.{length-take-le, take-at, drop-at, set-at, set-set, set-append-left, getD-append-seam, set-append-seam}
+use mathlib.Core.List.{List, [], _∷_, _++_, append-assoc, reverse, reverse-cons, reverse-append, reverse-reverse}
+use lib.ListN.{length, getD, set, take, drop, replicate, length-append, length-reverse, length-replicate, length-set, replicate-append-replicate, List·getD-append}
+use lib.Seq.{length-take-le, set-at, set-set, set-append-left, getD-append-seam, set-append-seam}
 use Rattle.meaning.specs.Calls.{lay}
 use Rattle.theory_base.specs.Members.{getD-any}
-use Rattle.theory_answers.specs.Memory.{lay-front, lay-above, lay-length, lay-same}
+use Rattle.theory_answers.specs.Memory.{lay-front, lay-above, lay-same}
 
 -- the first h cells, the top first
 abbrev pub stack : {A : Type 0} → ℕ → List A → List A

@@ -21,8 +21,8 @@ pub fn read(registers: &[i64], height: usize, selector: u32) -> i64
     requires { ⌜ (height ≤ length (now registers)) × (1 ≤ selector) × (selector ≤ height) ⌝ }
     ensures { λ r. ⌜ r ≡ readRegister (stack height (now (registers .entry))) selector ⌝ }
 {
-    let below = selector as usize;
-    registers[height - below]
+    let k = selector as usize;
+    registers[height - k]
 }
 
 // ---- remove
@@ -98,7 +98,14 @@ fn result(registers: &[i64], height: usize, word: u32, constant: u32) -> i64
 }
 
 // The values of `count` rules, whose words stand from `at` on, into `values`; false at the first one out of range.
-fn compute_all(registers: &[i64], height: usize, program: &[u32], at: usize, count: usize, values: &mut [i64]) -> bool
+fn compute_all(
+    registers: &[i64],
+    height: usize,
+    program: &[u32],
+    at: usize,
+    count: usize,
+    values: &mut [i64],
+) -> bool
     requires { ⌜ (height ≤ length (now registers)) × (count ≤ length (now values)) × Evaluates (now program) at count (stack height (now registers)) ⌝ }
     ensures { λ r. ⌜ Computed (rulesFrom (now (program .entry)) at count) (stack height (now (registers .entry))) r (take count (now (values .exit))) ⌝ }
 {
@@ -119,7 +126,14 @@ fn compute_all(registers: &[i64], height: usize, program: &[u32], at: usize, cou
 }
 
 // Writes the values of the rules to their targets.
-fn write_all(registers: &mut [i64], height: usize, program: &[u32], at: usize, count: usize, values: &[i64])
+fn write_all(
+    registers: &mut [i64],
+    height: usize,
+    program: &[u32],
+    at: usize,
+    count: usize,
+    values: &[i64],
+)
     requires { ⌜ (height ≤ length (now registers)) × (count ≤ length (now values)) × Evaluates (now program) at count (stack height (now registers)) × (take count (now values) ≡ map (valueOf (stack height (now registers))) (rulesFrom (now program) at count)) ⌝ }
     ensures { λ r. ⌜ now (registers .exit) ≡ lay height mark (writeAll (rulesFrom (now (program .entry)) at count) (stack height (now (registers .entry))) (stack height (now (registers .entry)))) (now (registers .entry)) ⌝ }
 {
@@ -152,7 +166,13 @@ fn evaluate_one(registers: &mut [i64], height: usize, program: &[u32], at: usize
 }
 
 // Evaluates `count` rules, whose words stand from `at` on. 01: "all or none".
-pub fn evaluate(registers: &mut [i64], height: usize, program: &[u32], at: usize, count: usize) -> bool
+pub fn evaluate(
+    registers: &mut [i64],
+    height: usize,
+    program: &[u32],
+    at: usize,
+    count: usize,
+) -> bool
     requires { ⌜ (height ≤ length (now registers)) × (count ≤ 8) × Evaluates (now program) at count (stack height (now registers)) ⌝ }
     ensures { λ r. ⌜ Evaluated (rulesFrom (now (program .entry)) at count) height (now (registers .entry)) r (now (registers .exit)) ⌝ }
 {

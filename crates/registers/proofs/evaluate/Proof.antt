@@ -1,9 +1,8 @@
-use Prim.Native.Nat.{ℕ, _≤_}
+use Prim.Native.Nat.{ℕ}
 use native.Mathlib.Omega.{arith}
-use mathlib.Core.Path.{_≡_, sym, _∙_, subst}
+use mathlib.Core.Path.{sym, _∙_, subst}
 use borrow.Author.Needs.{needs}
 use denote.Ref.{now}
-use lib.ListN.{length}
 use Rattle.meaning.specs.Value.{mark}
 use Rattle.registers.specs.Stack.{stack, stack-laid}
 use Rattle.registers.specs.Read.{rulesFrom, Evaluates, Evaluated}

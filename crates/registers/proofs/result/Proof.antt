@@ -1,5 +1,5 @@
 use Prim.Native.Nat.{_/_, _%_}
-use mathlib.Core.Path.{_≡_, sym, ap, ap₂, _∙_}
+use mathlib.Core.Path.{sym, ap₂, _∙_}
 use borrow.Author.Needs.{needs, sfits-of}
 use denote.Ref.{now}
 use Rattle.value.specs.Computed.{computed}
