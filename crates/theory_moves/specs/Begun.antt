@@ -8,7 +8,7 @@ use lib.ListN.{length, drop, replicate}
 use lib.Seq.{drop-cons, drop-at, take-at}
 use lib.IntN.{ℤ}
 use Rattle.meaning.specs.Base.{keep, In}
-use Rattle.meaning.specs.Grammar.{Grammar, Production, Symbol, terminal, nonterminal, inh, syn, productionAt, symbolAt}
+use Rattle.meaning.specs.Grammar.{Grammar, Production, Symbol, terminal, nonterminal, inh, syn, productionAt, symbolAt, Look}
 use Rattle.meaning.specs.Value.{mark}
 use Rattle.meaning.specs.Machine.{lookAt, alternatives, entered}
 use Rattle.meaning.specs.Tree.{Tree, Forest, leaf, node, treeAnd, child, yield, yields, inheritedOf, synthesizedOf, waiting, WellEvaluated, WellEvaluateds}
@@ -16,8 +16,7 @@ use Rattle.meaning.specs.Rules.{WellFormed}
 use Rattle.meaning.specs.Part.{Open, Point, fresh, added, valued, left, closing, Ancestor, Part, yieldsOf, yieldBelow, forestOnto, marks, drawBelow, drawRegisters, Handed, GoodNode, Stands, Good, Reaches, PartOf}
 use Rattle.theory_base.specs.Selectors.{syn-size}
 use Rattle.theory_base.specs.Values.{yields-onto, treeOf, complete}
-use Rattle.theory_sound.specs.Steps.{Mode}
-use Rattle.theory_sound.specs.Moves.{Grown, within, waits, ends, reads, predicts, removes, nodeOf, partOf, waitingAt, withChild, node-evaluable}
+use Rattle.theory_sound.specs.Moves.{Grown, within, reads, predicts, removes, nodeOf, partOf, waitingAt, withChild, node-evaluable}
 use Rattle.theory_complete.specs.Walk.{Chosen, Foreseen, Foreseens}
 use Rattle.theory_moves.specs.Ahead.{ahead-child, ahead-evaluated, ahead-foreseen, Next, next-child}
 use Rattle.theory_moves.specs.Along.{Along, along-node, along-below, along-yield, Sits, along-sits, along-evaluated}
@@ -155,12 +154,10 @@ module _ (g : Grammar) (formed : WellFormed g) (t : Tree) (w : WellEvaluated g t
 
   -- ---- a move
 
-  pub begun-move : {m : Mode} {o : Open} {bs : List Ancestor} {q : Part} → Grown m o bs q → Good g q → length (o .inherited) ≡ inh g (nonterminal (productionAt g (o .production) .left)) → (us : List ℕ)
+  pub begun-move : {m : Look} {o : Open} {bs : List Ancestor} {q : Part} → Grown m o bs q → Good g q → length (o .inherited) ≡ inh g (nonterminal (productionAt g (o .production) .left)) → (us : List ℕ)
       → (length bs < length (q .below) → In (q .node .production) (keep (entered g (drawRegisters g q)) (alternatives g (productionAt g (q .node .production) .left) (lookAt us))))
       → (b : Begun g t o bs) → yields (b .ahead) ++ b .rest ≡ us → Begun g t (q .node) (q .below)
   begun-move (within l pt) gd s us pick b pos = b
-  begun-move (waits x is xs) gd s us pick b pos = b
-  begun-move (ends e) gd s us pick b pos = b
   begun-move (reads {o} {bs} c xs) gd s us pick b pos = begun-read o bs c xs gd b
   begun-move (predicts {o} {bs} l p vs ys x xs) gd s us pick b pos = begun-predict o bs p vs ys x xs us gd (pick (omega arith)) b pos
   begun-move (removes {o} {b = a} {bs} l ss) gd s us pick b pos = begun-remove o a bs ss s gd b

@@ -13,12 +13,12 @@ use Rattle.meaning.specs.Tree.{Tree, noTrees, treeAnd, TreeOf}
 use Rattle.meaning.specs.Rules.{WellFormed}
 use Rattle.meaning.specs.Part.{yieldPart, drawFrame, drawRegisters}
 use Rattle.meaning.specs.Walk.{Act, topProduction, Makes, nothing, andThen}
-use Rattle.theory_sound.specs.Steps.{looking}
 use Rattle.theory_sound.specs.Moves.{Moved}
 use Rattle.theory_sound.specs.Runs.{Shows, opening-shows, moves-to, shows-same, shows-read}
 use Rattle.theory_sound.specs.Nested.{only-predict}
 use Rattle.theory_complete.specs.Walk.{Foreseen}
 use Rattle.theory_moves.specs.Begun.{Begun, still, begun-move}
+use Rattle.theory_answers.specs.Runs.{look-is}
 
 -- c has read a first part of the stream, us is still to come
 pub record Made (g : Grammar) (stream us : List ℕ) (c : Config) : Type 0 where
@@ -26,10 +26,6 @@ pub record Made (g : Grammar) (stream us : List ℕ) (c : Config) : Type 0 where
   pub split : stream ≡ read ++ us
   pub shows : Shows g read c
   pub ofTree : (t : Tree) → TreeOf g stream t → Begun g t (shows .part .node) (shows .part .below)
-
-look-is : (vs : List ℕ) (c : ℕ) → looking (lookAt vs) ≡ looking (token c) → vs ≡ c ∷ drop 1 vs
-look-is [] c e = let z : _≡_ {A = ℕ} 0 1 = cc in absurd (omega arith)
-look-is (u ∷ vs) c e = let z : u ≡ c = cc in ap (λ n. n ∷ vs) z
 
 module _ (g : Grammar) (formed : WellFormed g) (lent : Lent) (stream : List ℕ) (foreseen : (t : Tree) → TreeOf g stream t → Foreseen g [] t) where
   made-nothing : Made g stream stream (opening g)
@@ -41,7 +37,7 @@ module _ (g : Grammar) (formed : WellFormed g) (lent : Lent) (stream : List ℕ)
   }
 
   -- the production of a predict, as the part shows it
-  picked : (vs : List ℕ) (d e : Config) (m : Made g stream vs d) (v : Moved g (looking (lookAt vs)) (m .shows .part .node) (m .shows .part .below) (d .tokens) (d .moves) e) → next g lent (lookAt vs) d ≡ moved e
+  picked : (vs : List ℕ) (d e : Config) (m : Made g stream vs d) (v : Moved g (lookAt vs) (m .shows .part .node) (m .shows .part .below) (d .tokens) (d .moves) e) → next g lent (lookAt vs) d ≡ moved e
       → length (m .shows .part .below) < length (v .part .below) → In (v .part .node .production) (keep (entered g (drawRegisters g (v .part))) (alternatives g (productionAt g (v .part .node .production) .left) (lookAt vs)))
   picked vs d e m v h deeper =
       let old = length-map (m .shows .part .below) (drawFrame g) in
@@ -59,21 +55,21 @@ module _ (g : Grammar) (formed : WellFormed g) (lent : Lent) (stream : List ℕ)
       s : Shows g (m .read) d
       s = m .shows
 
-      v : Moved g (looking (lookAt vs)) (s .part .node) (s .part .below) (d .tokens) (d .moves) e
-      v = moves-to g formed lent (looking (lookAt vs)) (m .read) d e s h
+      v : Moved g (lookAt vs) (s .part .node) (s .part .below) (d .tokens) (d .moves) e
+      v = moves-to g formed lent (lookAt vs) (m .read) d e s h
 
       begun : (t : Tree) → TreeOf g stream t → Begun g t (v .part .node) (v .part .below)
       begun t w =
           let b = m .ofTree t w in
           begun-move g formed t (w .evaluated) (foreseen t w) (v .grown) (v .good) (s .good .node .0 .sized) vs (picked vs d e m v h) b (still g t (s .part .node) (s .part .below) b (m .read) vs (s .read) (w .read ∙ m .split))
 
-      go : ((d .tokens ≡ e .tokens) × (yieldPart (s .part) ≡ yieldPart (v .part))) ⊎ ((c : ℕ) × (looking (lookAt vs) ≡ looking (token c)) × (suc (d .tokens) ≡ e .tokens) × (yieldPart (s .part) ++ (c ∷ []) ≡ yieldPart (v .part))) → Made g stream (unread d e vs) e
+      go : ((d .tokens ≡ e .tokens) × (yieldPart (s .part) ≡ yieldPart (v .part))) ⊎ ((c : ℕ) × (lookAt vs ≡ token c) × (suc (d .tokens) ≡ e .tokens) × (yieldPart (s .part) ++ (c ∷ []) ≡ yieldPart (v .part))) → Made g stream (unread d e vs) e
       go (inl r) =
           let none : e .tokens - d .tokens ≡ 0 = omega (arith, r .0) in
           record {
             read = m .read;
             split = m .split ∙ ap (λ n. m .read ++ drop n vs) (sym none);
-            shows = shows-same g formed lent (looking (lookAt vs)) (m .read) d e s v (r .0) (r .1);
+            shows = shows-same g formed lent (lookAt vs) (m .read) d e s v (r .0) (r .1);
             ofTree = begun;
           }
       go (inr r) =
@@ -82,7 +78,7 @@ module _ (g : Grammar) (formed : WellFormed g) (lent : Lent) (stream : List ℕ)
           record {
             read = m .read ++ (r .0 ∷ []);
             split = m .split ∙ (ap (λ z. m .read ++ z) (sym rest) ∙ sym (append-assoc (m .read) (r .0 ∷ []) (drop (e .tokens - d .tokens) vs)));
-            shows = shows-read g formed lent (looking (lookAt vs)) (m .read) d e s v (r .0) (r .2) (r .3);
+            shows = shows-read g formed lent (lookAt vs) (m .read) d e s v (r .0) (r .2) (r .3);
             ofTree = begun;
           }
 
