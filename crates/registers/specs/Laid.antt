@@ -2,17 +2,11 @@
 use Prim.Native.Nat.{ℕ, _+_, _-_, _≤_, _<_}
 use native.Mathlib.Omega.{arith}
 use mathlib.Core.Path.{_≡_, sym, ap, _∙_}
-use mathlib.Core.Bool.{Bool, true, false}
 use mathlib.Core.List.{List, _∷_, _++_}
-use lib.IntN.{ℤ}
 use lib.ListN.{length, getD, set, drop, replicate, length-append, length-replicate, length-set, length-drop}
-use Rattle.meaning.specs.Grammar.{Rule}
-use Rattle.meaning.specs.Value.{mark}
 use Rattle.meaning.specs.Calls.{lay}
-use Rattle.theory_answers.specs.Bounds.{length-writeAll}
 use Rattle.theory_answers.specs.Memory.{lay-length, lay-same}
 use Rattle.registers.specs.Stack.{stack, stack-length, lay-stack, lay-write, lay-add, lay-push, lay-over}
-use Rattle.registers.specs.Read.{afterRules, valuesFit, Evaluated}
 
 -- the stack xs, of height h, in the first n cells of mem; base is what memory was before any stack was laid
 pub record Laid {A : Type 0} (n : ℕ) (clear : A) (base mem : List A) (h : ℕ) (xs : List A) : Type 0 where
@@ -75,13 +69,3 @@ module _ {A : Type 0} {n : ℕ} {clear : A} {base mem : List A} {h : ℕ} {xs : 
 
   pub laid-remove : (k : ℕ) → k ≤ h → Laid n clear base (lay h clear (drop k (stack h mem)) mem) (h - k) (drop k xs)
   laid-remove k l = rw laid-stack (laid-over (h - k) (drop k xs) (length-drop k xs ∙ ap (λ j. j - k) (s .height)) (omega arith))
-
--- ---- registers
-
--- rules that were evaluated
-pub laid-evaluated : {n : ℕ} {base mem : List ℤ} {h : ℕ} {rs : List ℤ} → Laid n mark base mem h rs → (rules : List (Rule ℕ)) (r : Bool) (mem′ : List ℤ) → Evaluated rules h mem r mem′ → (r ≡ valuesFit rules rs) × Laid n mark base mem′ h (afterRules r rules rs)
-laid-evaluated {h = h} {rs = rs} s rules r mem′ v = (v .answer ∙ ap (valuesFit rules) (laid-stack s), rw (v .memory, laid-stack s) (laid-over s h (afterRules r rules rs) (same r) (omega arith)))
-  where
-    same : (b : Bool) → length (afterRules b rules rs) ≡ h
-    same true = length-writeAll rules rs rs ∙ s .height
-    same false = s .height
