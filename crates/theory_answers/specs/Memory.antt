@@ -27,10 +27,10 @@ pub record Within (lent : Lent) (c : Config) : Type 0 where
 -- ---- one stack laid
 
 module _ {A : Type 0} (n : ℕ) (clear : A) (xs mem : List A) where
-  lay-front : take (length xs) (lay n clear xs mem) ≡ reverse xs
+  pub lay-front : take (length xs) (lay n clear xs mem) ≡ reverse xs
   lay-front = ap (λ z. take (length xs) z) (append-assoc (reverse xs) (replicate (n - length xs) clear) (drop n mem)) ∙ take-at (reverse xs) (replicate (n - length xs) clear ++ drop n mem) (length xs) (length-reverse xs)
 
-  lay-above : drop (length xs) (lay n clear xs mem) ≡ replicate (n - length xs) clear ++ drop n mem
+  pub lay-above : drop (length xs) (lay n clear xs mem) ≡ replicate (n - length xs) clear ++ drop n mem
   lay-above = ap (λ z. drop (length xs) z) (append-assoc (reverse xs) (replicate (n - length xs) clear) (drop n mem)) ∙ drop-at (reverse xs) (replicate (n - length xs) clear ++ drop n mem) (length xs) (length-reverse xs)
 
   lay-cleared : (i : ℕ) → length xs ≤ i → i < n → getD (lay n clear xs mem) i clear ≡ clear
@@ -42,7 +42,7 @@ module _ {A : Type 0} (n : ℕ) (clear : A) (xs mem : List A) where
       ∙ (ap (λ z. getD z j clear) lay-above
       ∙ (List·getD-append (replicate (n - length xs) clear) (drop n mem) clear j s ∙ getD-replicate (n - length xs) j clear clear (omega arith)))
 
-  lay-length : length xs ≤ n → n ≤ length mem → length (lay n clear xs mem) ≡ length mem
+  pub lay-length : length xs ≤ n → n ≤ length mem → length (lay n clear xs mem) ≡ length mem
   lay-length h l = length-append (reverse xs ++ replicate (n - length xs) clear) (drop n mem) ∙ omega (arith, length-append (reverse xs) (replicate (n - length xs) clear), length-reverse xs, length-replicate (n - length xs) clear, length-drop n mem)
 
   lay-rest : length xs ≤ n → drop n (lay n clear xs mem) ≡ drop n mem
@@ -53,7 +53,7 @@ all-clear clear [] h = refl
 all-clear clear (x ∷ xs) h = ap₂ (λ y ys. y ∷ ys) (h 0 (omega arith)) (all-clear clear xs (λ i l. h (suc i) (omega arith)))
 
 -- what stands, with all above it cleared, is laid as it was
-lay-same : {A : Type 0} (n h : ℕ) (clear : A) (mem : List A) → h ≤ n → n ≤ length mem → ((i : ℕ) → h ≤ i → i < n → getD mem i clear ≡ clear) → lay n clear (reverse (take h mem)) mem ≡ mem
+pub lay-same : {A : Type 0} (n h : ℕ) (clear : A) (mem : List A) → h ≤ n → n ≤ length mem → ((i : ℕ) → h ≤ i → i < n → getD mem i clear ≡ clear) → lay n clear (reverse (take h mem)) mem ≡ mem
 lay-same {A = A} n h clear mem a b is =
     let size : length (reverse (take h mem)) ≡ h = length-reverse (take h mem) ∙ (length-take h mem ∙ omega arith) in
     let middle : List A = take (n - h) (drop h mem) in

@@ -35,6 +35,10 @@ unread-one c d t us ts e h =
     let z : d .tokens - c .tokens ≡ 1 = omega (arith, h) in
     ap (λ n. drop n us) z ∙ ap (λ l. drop 1 l) e
 
+pub look-is : (vs : List ℕ) (c : ℕ) → lookAt vs ≡ token c → vs ≡ c ∷ drop 1 vs
+look-is [] c e = let z : _≡_ {A = ℕ} 0 1 = cc in absurd (omega arith)
+look-is (u ∷ vs) c e = let z : u ≡ c = cc in ap (λ n. n ∷ vs) z
+
 over-token : {A : Type 0} (t : ℕ) → over ≡ token t → A
 over-token t e = absurd (let z : _≡_ {A = ℕ} 0 1 = cc in omega arith)
 

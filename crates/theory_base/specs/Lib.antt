@@ -5,6 +5,7 @@ pub mod Selectors
 pub mod Evaluate
 pub mod Values
 pub mod Present
+pub mod Evaluations
 pub mod Grow
 pub mod Frames
 pub mod Counted

@@ -98,7 +98,7 @@ must-push g lent n l c d (p ∷ ps) e h =
       left = eqb→eq (productionAt g p .left) n (k .0);
       entry = a .0;
       fits = nltb→le (lent .maxPlaces) (suc (length (c .frames))) (u .0);
-      result = moved-is o d (u .1)
+      result = moved-is o d (u .1);
     }
 
 must-foresee : (g : Grammar) (lent : Lent) (n : ℕ) (l : Look) (c d : Config) → predict g lent c n l ≡ moved d → Predicted g lent n l (c .frames) (c .registers) (c .tokens) (c .moves) d
