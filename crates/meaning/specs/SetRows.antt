@@ -109,6 +109,10 @@ recursive-start = refl
 right-recursive : verdict (s (129 ∷ []) ++ (a (130 ∷ 129 ∷ []) ++ (a [] ++ b (2 ∷ [])))) ≡ accepted
 right-recursive = refl
 
+-- the start symbol may stand on a right side, and have several productions
+start-inside : verdictOf (header 1 1 0 1 ++ (counts 0 1 ++ (s (0 ∷ 128 ∷ []) ++ s []))) ≡ accepted
+start-inside = refl
+
 -- 12 before 13: S clashes
 recursive-before-clash : verdict (s (0 ∷ []) ++ (s (0 ∷ 129 ∷ 130 ∷ []) ++ (a (129 ∷ 0 ∷ []) ++ (a (1 ∷ []) ++ b (2 ∷ []))))) ≡ rejected 12 12
 recursive-before-clash = refl
