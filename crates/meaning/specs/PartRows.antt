@@ -35,7 +35,7 @@ walked-tokens : yieldPart walked ≡ 0 ∷ 1 ∷ []
 unfolding walked
 walked-tokens = refl
 
-walked-registers : drawRegisters words walked ≡ (pos 1) ∷ m ∷ (pos 0) ∷ m ∷ (pos 0) ∷ m ∷ m ∷ []
+walked-registers : drawRegisters words walked ≡ (pos 1) ∷ m ∷ pos 0 ∷ m ∷ pos 0 ∷ m ∷ m ∷ []
 unfolding walked
 walked-registers = refl
 
@@ -123,7 +123,7 @@ at-end = refl
 at-closing : machine 27 ≡ drawPart wide (in-X (y4 ∷ x3 ∷ leaf 0 ∷ y1 ∷ []) (closing (pos 7 ∷ []))) 4 27
 at-closing = refl
 
-at-closing-registers : machine 27 .registers ≡ (negsuc 0) ∷ (pos 0) ∷ (pos 7) ∷ (pos 7) ∷ (pos 8) ∷ (pos 3) ∷ (pos 4) ∷ (pos 7) ∷ m ∷ []
+at-closing-registers : machine 27 .registers ≡ (negsuc 0) ∷ pos 0 ∷ pos 7 ∷ pos 7 ∷ pos 8 ∷ pos 3 ∷ pos 4 ∷ pos 7 ∷ m ∷ []
 at-closing-registers = refl
 
 -- ---- values of occurrences
@@ -131,12 +131,12 @@ at-closing-registers = refl
 abbrev last-added : Part
 last-added = in-X (x3 ∷ leaf 0 ∷ y1 ∷ []) (added Y [])
 
-values : map (valueIn (pos 3 ∷ pos 4 ∷ []) (x3 ∷ leaf 0 ∷ y1 ∷ [])) (occ 0 1 ∷ occ 0 2 ∷ occ 1 1 ∷ occ 1 2 ∷ occ 1 3 ∷ occ 3 2 ∷ occ 3 3 ∷ []) ≡ (pos 3) ∷ (pos 4) ∷ (pos 7) ∷ (pos 7) ∷ (pos 8) ∷ (pos 3) ∷ (pos 7) ∷ []
+values : map (valueIn (pos 3 ∷ pos 4 ∷ []) (x3 ∷ leaf 0 ∷ y1 ∷ [])) (occ 0 1 ∷ occ 0 2 ∷ occ 1 1 ∷ occ 1 2 ∷ occ 1 3 ∷ occ 3 2 ∷ occ 3 3 ∷ []) ≡ (pos 3) ∷ pos 4 ∷ pos 7 ∷ pos 7 ∷ pos 8 ∷ pos 3 ∷ pos 7 ∷ []
 values = refl
 
 -- ---- what a selector finds: registers 1 to 9 of the node
 
-names : partNames wide last-added ≡ (occ 4 1) ∷ (occ 4 2) ∷ (occ 4 3) ∷ (occ 3 3) ∷ (occ 1 2) ∷ (occ 1 3) ∷ (occ 0 1) ∷ (occ 0 2) ∷ (occ 0 3) ∷ []
+names : partNames wide last-added ≡ (occ 4 1) ∷ occ 4 2 ∷ occ 4 3 ∷ occ 3 3 ∷ occ 1 2 ∷ occ 1 3 ∷ occ 0 1 ∷ occ 0 2 ∷ occ 0 3 ∷ []
 names = refl
 
 finds : Finds wide last-added 4 (occ 3 3) (pos 7)

@@ -60,11 +60,11 @@ opens-without-places area h = rw (h, called)
 
 -- ---- feeding and finishing
 
-feeds : (area : List ℕ) → Long area → performs program bytes area (state true 0 0 1 1) (stacks (m ∷ m ∷ m ∷ m ∷ m ∷ []) (32768 ∷ 0 ∷ 0 ∷ [])) (feed (0 ∷ [])) ≡ effect (more 7) (state true 1 7 5 3) (stacks (m ∷ m ∷ (pos 0) ∷ m ∷ (pos 0) ∷ []) (32768 ∷ 0 ∷ 257 ∷ [])) (after area)
+feeds : (area : List ℕ) → Long area → performs program bytes area (state true 0 0 1 1) (stacks (m ∷ m ∷ m ∷ m ∷ m ∷ []) (32768 ∷ 0 ∷ 0 ∷ [])) (feed (0 ∷ [])) ≡ effect (more 7) (state true 1 7 5 3) (stacks (m ∷ m ∷ pos 0 ∷ m ∷ pos 0 ∷ []) (32768 ∷ 0 ∷ 257 ∷ [])) (after area)
 unfolding bytes
 feeds area h = rw (h, called)
 
-finishes : (area : List ℕ) → Long area → performs program bytes area (state true 0 0 1 1) (stacks (m ∷ m ∷ m ∷ []) (32768 ∷ 0 ∷ 0 ∷ [])) finish ≡ effect (value (pos 0) 8) (state false 0 8 1 1) (stacks ((pos 0) ∷ m ∷ m ∷ []) (32769 ∷ 0 ∷ 0 ∷ [])) (after area)
+finishes : (area : List ℕ) → Long area → performs program bytes area (state true 0 0 1 1) (stacks (m ∷ m ∷ m ∷ []) (32768 ∷ 0 ∷ 0 ∷ [])) finish ≡ effect (value (pos 0) 8) (state false 0 8 1 1) (stacks (pos 0 ∷ m ∷ m ∷ []) (32769 ∷ 0 ∷ 0 ∷ [])) (after area)
 unfolding bytes
 finishes area h = rw (h, called)
 
@@ -94,7 +94,7 @@ performs-unfit area h = rw (h, called)
 
 -- ---- each function, run: n of A is -7, its m is 2, and the registers of S lie the first attribute on top
 
-runs-functions : (area : List ℕ) → Long area → performs program functions area (state true 0 0 8 1) (stacks (replicate 12 m) (32768 ∷ 0 ∷ 0 ∷ [])) (feed (0 ∷ [])) .stacks ≡ stacks ((pos 0) ∷ (negsuc 506) ∷ (negsuc 6) ∷ (pos 2) ∷ (negsuc 13) ∷ (negsuc 8) ∷ (negsuc 4) ∷ (negsuc 6) ∷ m ∷ m ∷ m ∷ m ∷ []) (32769 ∷ 0 ∷ 0 ∷ [])
+runs-functions : (area : List ℕ) → Long area → performs program functions area (state true 0 0 8 1) (stacks (replicate 12 m) (32768 ∷ 0 ∷ 0 ∷ [])) (feed (0 ∷ [])) .stacks ≡ stacks (pos 0 ∷ negsuc 506 ∷ negsuc 6 ∷ pos 2 ∷ negsuc 13 ∷ negsuc 8 ∷ negsuc 4 ∷ negsuc 6 ∷ m ∷ m ∷ m ∷ m ∷ []) (32769 ∷ 0 ∷ 0 ∷ [])
 unfolding functions
 runs-functions area h = rw (h, called)
 

@@ -16,7 +16,7 @@ use Rattle.meaning.specs.CallRows.{m, state, stacks, called, used, thenF
 unknown-token : map (λ t. thenFeed words (t ∷ []) (openOf words (used 3 2))) (3 ∷ 255 ∷ []) ≡ replicate 2 (called (refused 20 0) (state false 0 0 1 1) (stacks (m ∷ m ∷ m ∷ []) (32768 ∷ 0 ∷ [])))
 unknown-token = refl
 
-unknown-second : thenFeed words (0 ∷ 3 ∷ 0 ∷ []) (openOf words (used 8 5)) ≡ called (refused 20 1) (state false 1 7 5 3) (stacks (m ∷ m ∷ (pos 0) ∷ m ∷ (pos 0) ∷ m ∷ m ∷ m ∷ []) (32768 ∷ 0 ∷ 257 ∷ 0 ∷ 0 ∷ []))
+unknown-second : thenFeed words (0 ∷ 3 ∷ 0 ∷ []) (openOf words (used 8 5)) ≡ called (refused 20 1) (state false 1 7 5 3) (stacks (m ∷ m ∷ pos 0 ∷ m ∷ pos 0 ∷ m ∷ m ∷ m ∷ []) (32768 ∷ 0 ∷ 257 ∷ 0 ∷ 0 ∷ []))
 unknown-second = refl
 
 -- ---- 21: in no alternative's set, not the expected one, after the start symbol is left
@@ -25,7 +25,7 @@ no-alternative : thenFeed wide (0 ∷ []) (openOf wide (used 2 2)) ≡ called (r
 no-alternative = refl
 
 -- 0 is expected after Y
-not-expected : thenFeed wide (2 ∷ 1 ∷ []) (openOf wide (used 12 4)) ≡ called (refused 21 1) (state false 1 11 6 3) (stacks (m ∷ m ∷ (pos 4) ∷ (pos 3) ∷ (pos 8) ∷ (pos 7) ∷ m ∷ m ∷ m ∷ m ∷ m ∷ m ∷ []) (32768 ∷ 0 ∷ 257 ∷ 0 ∷ []))
+not-expected : thenFeed wide (2 ∷ 1 ∷ []) (openOf wide (used 12 4)) ≡ called (refused 21 1) (state false 1 11 6 3) (stacks (m ∷ m ∷ pos 4 ∷ pos 3 ∷ pos 8 ∷ pos 7 ∷ m ∷ m ∷ m ∷ m ∷ m ∷ m ∷ []) (32768 ∷ 0 ∷ 257 ∷ 0 ∷ []))
 not-expected = refl
 
 -- word close: the moves for the close that need no token of their own are made
@@ -34,7 +34,7 @@ after-start-left = refl
 
 -- ---- 22: no alternative that holds the token is entered
 
-fourth-open : thenFeed words (1 ∷ 1 ∷ 1 ∷ 1 ∷ []) (openOf words (used 12 6)) ≡ called (refused 22 3) (state false 3 15 9 5) (stacks (m ∷ m ∷ (pos 0) ∷ m ∷ (pos 1) ∷ m ∷ (pos 2) ∷ m ∷ (pos 3) ∷ m ∷ m ∷ m ∷ []) (32768 ∷ 0 ∷ 513 ∷ 513 ∷ 513 ∷ 0 ∷ []))
+fourth-open : thenFeed words (1 ∷ 1 ∷ 1 ∷ 1 ∷ []) (openOf words (used 12 6)) ≡ called (refused 22 3) (state false 3 15 9 5) (stacks (m ∷ m ∷ pos 0 ∷ m ∷ pos 1 ∷ m ∷ pos 2 ∷ m ∷ pos 3 ∷ m ∷ m ∷ m ∷ []) (32768 ∷ 0 ∷ 513 ∷ 513 ∷ 513 ∷ 0 ∷ []))
 fourth-open = refl
 
 -- S to A 0, where n of A must be 0; A to 0, where it is n
@@ -51,10 +51,10 @@ tested n = record {
 }
 
 -- the failed test leaves its place uncounted: 0, not 1
-test-fails : thenFeed (tested (pos 1)) (0 ∷ 0 ∷ []) (openOf (tested (pos 1)) (used 4 4)) ≡ called (refused 22 1) (state false 1 6 2 2) (stacks (m ∷ (pos 1) ∷ m ∷ m ∷ []) (32768 ∷ 0 ∷ 0 ∷ 0 ∷ []))
+test-fails : thenFeed (tested (pos 1)) (0 ∷ 0 ∷ []) (openOf (tested (pos 1)) (used 4 4)) ≡ called (refused 22 1) (state false 1 6 2 2) (stacks (m ∷ pos 1 ∷ m ∷ m ∷ []) (32768 ∷ 0 ∷ 0 ∷ 0 ∷ []))
 test-fails = refl
 
-test-holds : thenFeed (tested (pos 0)) (0 ∷ []) (openOf (tested (pos 0)) (used 4 4)) ≡ called (more 7) (state true 1 7 2 2) (stacks (m ∷ (pos 0) ∷ m ∷ m ∷ []) (32768 ∷ 1 ∷ 0 ∷ 0 ∷ []))
+test-holds : thenFeed (tested (pos 0)) (0 ∷ []) (openOf (tested (pos 0)) (used 4 4)) ≡ called (more 7) (state true 1 7 2 2) (stacks (m ∷ pos 0 ∷ m ∷ m ∷ []) (32768 ∷ 1 ∷ 0 ∷ 0 ∷ []))
 test-holds = refl
 
 -- S to L with d = v; L to A by either of two productions, entered for d from 0 to 4 and from 5 to 9. Both ask that n of A is 0; A to nothing, and n is 1
@@ -72,18 +72,18 @@ twoWays v n = record {
       ∷ [];
 }
 
-enters-first : thenFinish (twoWays (pos 4) (pos 0)) (openOf (twoWays (pos 4) (pos 0)) (used 5 4)) ≡ called (value (pos 5) 13) (state false 0 13 1 1) (stacks ((pos 5) ∷ m ∷ m ∷ m ∷ m ∷ []) (32769 ∷ 0 ∷ 0 ∷ 0 ∷ []))
+enters-first : thenFinish (twoWays (pos 4) (pos 0)) (openOf (twoWays (pos 4) (pos 0)) (used 5 4)) ≡ called (value (pos 5) 13) (state false 0 13 1 1) (stacks (pos 5 ∷ m ∷ m ∷ m ∷ m ∷ []) (32769 ∷ 0 ∷ 0 ∷ 0 ∷ []))
 enters-first = refl
 
 enters-second : thenFinish (twoWays (pos 5) (pos 0)) (openOf (twoWays (pos 5) (pos 0)) (used 5 4)) .answer ≡ value (pos 6) 13
 enters-second = refl
 
 -- none is entered, at the end
-enters-none : map (λ v. thenFinish (twoWays v (pos 0)) (openOf (twoWays v (pos 0)) (used 5 4))) (pos 10 ∷ []) ≡ called (refused 22 0) (state false 0 3 3 2) (stacks (m ∷ m ∷ (pos 10) ∷ m ∷ m ∷ []) (32768 ∷ 0 ∷ 0 ∷ 0 ∷ [])) ∷ []
+enters-none : map (λ v. thenFinish (twoWays v (pos 0)) (openOf (twoWays v (pos 0)) (used 5 4))) (pos 10 ∷ []) ≡ called (refused 22 0) (state false 0 3 3 2) (stacks (m ∷ m ∷ pos 10 ∷ m ∷ m ∷ []) (32768 ∷ 0 ∷ 0 ∷ 0 ∷ [])) ∷ []
 enters-none = refl
 
 -- a condition that fails later does not bring the other production in
-no-second-try : thenFinish (twoWays (pos 4) (pos 1)) (openOf (twoWays (pos 4) (pos 1)) (used 5 4)) ≡ called (refused 22 0) (state false 0 8 4 3) (stacks (m ∷ m ∷ (pos 4) ∷ (pos 1) ∷ m ∷ []) (32768 ∷ 0 ∷ 256 ∷ 0 ∷ []))
+no-second-try : thenFinish (twoWays (pos 4) (pos 1)) (openOf (twoWays (pos 4) (pos 1)) (used 5 4)) ≡ called (refused 22 0) (state false 0 8 4 3) (stacks (m ∷ m ∷ pos 4 ∷ pos 1 ∷ m ∷ []) (32768 ∷ 0 ∷ 256 ∷ 0 ∷ []))
 no-second-try = refl
 
 -- ---- 23: a value outside 32 bits. S to 0 with two attributes; A to 0 hands up v
@@ -101,13 +101,13 @@ sums a b = record {
 }
 
 -- evaluated all or none: the first attribute would be 2147483647, the second 2147483648
-too-great : thenFeed (sums (pos 2147483646) (pos 2)) (0 ∷ []) (openOf (sums (pos 2147483646) (pos 2)) (used 4 4)) ≡ called (refused 23 1) (state false 1 6 3 2) (stacks (m ∷ m ∷ (pos 2147483646) ∷ m ∷ []) (32768 ∷ 1 ∷ 0 ∷ 0 ∷ []))
+too-great : thenFeed (sums (pos 2147483646) (pos 2)) (0 ∷ []) (openOf (sums (pos 2147483646) (pos 2)) (used 4 4)) ≡ called (refused 23 1) (state false 1 6 3 2) (stacks (m ∷ m ∷ pos 2147483646 ∷ m ∷ []) (32768 ∷ 1 ∷ 0 ∷ 0 ∷ []))
 too-great = refl
 
 too-low : thenFeed (sums (negsuc 2147483647) (negsuc 0)) (0 ∷ []) (openOf (sums (negsuc 2147483647) (negsuc 0)) (used 4 4)) .answer ≡ refused 23 1
 too-low = refl
 
-great-enough : thenFeed (sums (pos 2147483646) (pos 1)) (0 ∷ []) (openOf (sums (pos 2147483646) (pos 1)) (used 4 4)) ≡ called (more 8) (state true 1 8 2 1) (stacks ((pos 2147483647) ∷ (pos 2147483647) ∷ m ∷ m ∷ []) (32769 ∷ 0 ∷ 0 ∷ 0 ∷ []))
+great-enough : thenFeed (sums (pos 2147483646) (pos 1)) (0 ∷ []) (openOf (sums (pos 2147483646) (pos 1)) (used 4 4)) ≡ called (more 8) (state true 1 8 2 1) (stacks (pos 2147483647 ∷ pos 2147483647 ∷ m ∷ m ∷ []) (32769 ∷ 0 ∷ 0 ∷ 0 ∷ []))
 great-enough = refl
 
 -- a constant too
@@ -120,7 +120,7 @@ second-result = refl
 
 -- ---- 24: over where a token is expected, or where no alternative holds the end
 
-close-expected : thenFinish words (thenFeed words (1 ∷ []) (openOf words (used 8 5))) ≡ called (refused 24 1) (state false 1 10 4 3) (stacks (m ∷ m ∷ (pos 0) ∷ (pos 0) ∷ m ∷ m ∷ m ∷ m ∷ []) (32768 ∷ 0 ∷ 514 ∷ 0 ∷ 0 ∷ []))
+close-expected : thenFinish words (thenFeed words (1 ∷ []) (openOf words (used 8 5))) ≡ called (refused 24 1) (state false 1 10 4 3) (stacks (m ∷ m ∷ pos 0 ∷ pos 0 ∷ m ∷ m ∷ m ∷ m ∷ []) (32768 ∷ 0 ∷ 514 ∷ 0 ∷ 0 ∷ []))
 close-expected = refl
 
 no-end : thenFinish wide (openOf wide (used 2 2)) ≡ called (refused 24 0) (state false 0 0 1 1) (stacks (m ∷ m ∷ []) (32768 ∷ 0 ∷ []))
@@ -141,18 +141,18 @@ open-without-places = refl
 two-registers : thenFinish words (openOf words (used 2 3)) ≡ called (refused 31 0) (state false 0 1 1 2) (stacks (m ∷ m ∷ []) (32768 ∷ 0 ∷ 0 ∷ []))
 two-registers = refl
 
-two-places : thenFinish words (openOf words (used 3 2)) ≡ called (refused 32 0) (state false 0 3 3 2) (stacks (m ∷ m ∷ (pos 0) ∷ []) (32768 ∷ 0 ∷ []))
+two-places : thenFinish words (openOf words (used 3 2)) ≡ called (refused 32 0) (state false 0 3 3 2) (stacks (m ∷ m ∷ pos 0 ∷ []) (32768 ∷ 0 ∷ []))
 two-places = refl
 
-registers-in-feed : thenFeed words (0 ∷ 0 ∷ []) (openOf words (used 5 5)) ≡ called (refused 31 2) (state false 2 9 5 4) (stacks (m ∷ m ∷ (pos 0) ∷ m ∷ (pos 0) ∷ []) (32768 ∷ 0 ∷ 257 ∷ 257 ∷ 0 ∷ []))
+registers-in-feed : thenFeed words (0 ∷ 0 ∷ []) (openOf words (used 5 5)) ≡ called (refused 31 2) (state false 2 9 5 4) (stacks (m ∷ m ∷ pos 0 ∷ m ∷ pos 0 ∷ []) (32768 ∷ 0 ∷ 257 ∷ 257 ∷ 0 ∷ []))
 registers-in-feed = refl
 
-places-in-feed : thenFeed words (0 ∷ 0 ∷ []) (openOf words (used 9 3)) ≡ called (refused 32 1) (state false 1 7 5 3) (stacks (m ∷ m ∷ (pos 0) ∷ m ∷ (pos 0) ∷ m ∷ m ∷ m ∷ m ∷ []) (32768 ∷ 0 ∷ 257 ∷ []))
+places-in-feed : thenFeed words (0 ∷ 0 ∷ []) (openOf words (used 9 3)) ≡ called (refused 32 1) (state false 1 7 5 3) (stacks (m ∷ m ∷ pos 0 ∷ m ∷ pos 0 ∷ m ∷ m ∷ m ∷ m ∷ []) (32768 ∷ 0 ∷ 257 ∷ []))
 places-in-feed = refl
 
 -- inside one predict: 21 or 24, then 22, then 32. Three places are lent and stand; the top one waits at L with d = 3
 at-inner : List ℕ → Called
-at-inner ts = feedOf words (state true 1 7 5 3) (stacks (m ∷ m ∷ (pos 3) ∷ m ∷ (pos 3) ∷ []) (32768 ∷ 0 ∷ 257 ∷ [])) ts
+at-inner ts = feedOf words (state true 1 7 5 3) (stacks (m ∷ m ∷ pos 3 ∷ m ∷ pos 3 ∷ []) (32768 ∷ 0 ∷ 257 ∷ [])) ts
 
 condition-before-place : at-inner (1 ∷ []) .answer ≡ refused 22 1
 unfolding at-inner
@@ -176,7 +176,7 @@ closed-feed = refl
 closed-finish : finishOf words (state false 9 9 9 9) (used 1 1) ≡ called (refused 33 0) (state false 9 9 9 9) (used 1 1)
 closed-finish = refl
 
-finished-twice : thenFinish words (thenFinish words (openOf words (used 3 3))) ≡ called (refused 33 0) (state false 0 8 1 1) (stacks ((pos 0) ∷ m ∷ m ∷ []) (32769 ∷ 0 ∷ 0 ∷ []))
+finished-twice : thenFinish words (thenFinish words (openOf words (used 3 3))) ≡ called (refused 33 0) (state false 0 8 1 1) (stacks (pos 0 ∷ m ∷ m ∷ []) (32769 ∷ 0 ∷ 0 ∷ []))
 finished-twice = refl
 
 -- 33 before 34: these stacks do not fit either
@@ -194,7 +194,7 @@ at-start : ℕ → ℕ → List ℕ → Called
 at-start t n ts = feedOf words (state true t n 1 1) (stacks (m ∷ m ∷ m ∷ []) (32768 ∷ 0 ∷ [])) ts
 
 at-end : ℕ → ℕ → List ℕ → Called
-at-end t n ts = feedOf words (state true t n 1 1) (stacks ((pos 4) ∷ []) (32769 ∷ [])) ts
+at-end t n ts = feedOf words (state true t n 1 1) (stacks (pos 4 ∷ []) (32769 ∷ [])) ts
 
 -- the 65,536th token: before 20, before 21, before any move
 token-limit : map (λ t. at-start 65535 0 (t ∷ [])) (0 ∷ 2 ∷ 200 ∷ []) ≡ replicate 3 (called (refused 35 65535) (state false 65535 0 1 1) (stacks (m ∷ m ∷ m ∷ []) (32768 ∷ 0 ∷ [])))
@@ -205,7 +205,7 @@ token-limit-after-start : map (λ t. at-end 65535 0 (t ∷ []) .answer) (0 ∷ 2
 unfolding at-end
 token-limit-after-start = refl
 
-last-token : at-start 65534 0 (0 ∷ []) ≡ called (refused 32 65534) (state false 65534 3 3 2) (stacks (m ∷ m ∷ (pos 0) ∷ []) (32768 ∷ 0 ∷ []))
+last-token : at-start 65534 0 (0 ∷ []) ≡ called (refused 32 65534) (state false 65534 3 3 2) (stacks (m ∷ m ∷ pos 0 ∷ []) (32768 ∷ 0 ∷ []))
 unfolding at-start
 last-token = refl
 
@@ -214,7 +214,7 @@ token-limit-empty : at-start 65535 0 [] .answer ≡ more 0
 unfolding at-start
 token-limit-empty = refl
 
-token-limit-finish : finishOf words (state true 65535 0 1 1) (stacks ((pos 4) ∷ []) (32769 ∷ [])) .answer ≡ value (pos 4) 0
+token-limit-finish : finishOf words (state true 65535 0 1 1) (stacks (pos 4 ∷ []) (32769 ∷ [])) .answer ≡ value (pos 4) 0
 token-limit-finish = refl
 
 -- 20 before the 35 of a move
@@ -233,18 +233,18 @@ move-limit-no-alternative = refl
 move-limit-end : finishOf wide (state true 7 4294967295 1 1) (stacks (m ∷ []) (32768 ∷ [])) .answer ≡ refused 35 7
 move-limit-end = refl
 
-move-limit-after-start : at-end 7 4294967295 (0 ∷ []) ≡ called (refused 21 7) (state false 7 4294967295 1 1) (stacks ((pos 4) ∷ []) (32769 ∷ []))
+move-limit-after-start : at-end 7 4294967295 (0 ∷ []) ≡ called (refused 21 7) (state false 7 4294967295 1 1) (stacks (pos 4 ∷ []) (32769 ∷ []))
 unfolding at-end
 move-limit-after-start = refl
 
-move-limit-finished : finishOf words (state true 7 4294967295 1 1) (stacks ((pos 4) ∷ []) (32769 ∷ [])) ≡ called (value (pos 4) 4294967295) (state false 7 4294967295 1 1) (stacks ((pos 4) ∷ []) (32769 ∷ []))
+move-limit-finished : finishOf words (state true 7 4294967295 1 1) (stacks (pos 4 ∷ []) (32769 ∷ [])) ≡ called (value (pos 4) 4294967295) (state false 7 4294967295 1 1) (stacks (pos 4 ∷ []) (32769 ∷ []))
 move-limit-finished = refl
 
 -- before 22 and before 32
-move-limit-condition : feedOf words (state true 1 4294967295 5 3) (stacks (m ∷ m ∷ (pos 3) ∷ m ∷ (pos 3) ∷ []) (32768 ∷ 0 ∷ 257 ∷ [])) (1 ∷ []) .answer ≡ refused 35 1
+move-limit-condition : feedOf words (state true 1 4294967295 5 3) (stacks (m ∷ m ∷ pos 3 ∷ m ∷ pos 3 ∷ []) (32768 ∷ 0 ∷ 257 ∷ [])) (1 ∷ []) .answer ≡ refused 35 1
 move-limit-condition = refl
 
-move-limit-place : feedOf words (state true 1 4294967295 5 3) (stacks (m ∷ m ∷ (pos 3) ∷ m ∷ (pos 3) ∷ []) (32768 ∷ 0 ∷ 257 ∷ [])) (0 ∷ []) .answer ≡ refused 35 1
+move-limit-place : feedOf words (state true 1 4294967295 5 3) (stacks (m ∷ m ∷ pos 3 ∷ m ∷ pos 3 ∷ []) (32768 ∷ 0 ∷ 257 ∷ [])) (0 ∷ []) .answer ≡ refused 35 1
 move-limit-place = refl
 
 -- the last move allowed is made; before 31: one register is lent, and the next move would be an add
@@ -252,12 +252,12 @@ last-move : feedOf words (state true 0 4294967294 1 1) (stacks (m ∷ []) (32768
 last-move = refl
 
 -- before 23: S's value would be too great
-move-limit-value : feedOf (sums (pos 2147483647) (pos 0)) (state true 0 4294967289 2 1) (stacks (m ∷ m ∷ m ∷ []) (32768 ∷ 0 ∷ 0 ∷ [])) (0 ∷ []) ≡ called (refused 35 1) (state false 1 4294967295 3 2) (stacks (m ∷ m ∷ (pos 2147483647) ∷ []) (32768 ∷ 1 ∷ 0 ∷ []))
+move-limit-value : feedOf (sums (pos 2147483647) (pos 0)) (state true 0 4294967289 2 1) (stacks (m ∷ m ∷ m ∷ []) (32768 ∷ 0 ∷ 0 ∷ [])) (0 ∷ []) ≡ called (refused 35 1) (state false 1 4294967295 3 2) (stacks (m ∷ m ∷ pos 2147483647 ∷ []) (32768 ∷ 1 ∷ 0 ∷ []))
 move-limit-value = refl
 
 -- exactly enough moves: 8 for no tokens
 enough-moves : finishOf words (state true 0 4294967287 1 1) (stacks (m ∷ m ∷ m ∷ []) (32768 ∷ 0 ∷ 0 ∷ [])) .answer ≡ value (pos 0) 4294967295
 enough-moves = refl
 
-one-move-short : finishOf words (state true 0 4294967288 1 1) (stacks (m ∷ m ∷ m ∷ []) (32768 ∷ 0 ∷ 0 ∷ [])) ≡ called (refused 35 0) (state false 0 4294967295 2 2) (stacks ((pos 0) ∷ (pos 0) ∷ m ∷ []) (32768 ∷ 1 ∷ 0 ∷ []))
+one-move-short : finishOf words (state true 0 4294967288 1 1) (stacks (m ∷ m ∷ m ∷ []) (32768 ∷ 0 ∷ 0 ∷ [])) ≡ called (refused 35 0) (state false 0 4294967295 2 2) (stacks (pos 0 ∷ pos 0 ∷ m ∷ []) (32768 ∷ 1 ∷ 0 ∷ []))
 one-move-short = refl
