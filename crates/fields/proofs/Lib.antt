@@ -1,0 +1,4 @@
+pub mod Demands
+pub mod Walks
+pub mod Rest
+pub mod Judged
