@@ -5,8 +5,9 @@ use mathlib.Core.Bool.{Bool, true, false, _&&_}
 use mathlib.Core.List.{List}
 use lib.ListN.{getD, length}
 use lib.Dec.{eqb, leb}
+use lib.Signed.{leZ}
 use Rattle.meaning.specs.Base.{all, countFrom}
-use Rattle.meaning.specs.Table.{byte}
+use Rattle.meaning.specs.Table.{byte, signed}
 use Rattle.fields.specs.Demand.{holds, lacks, equal, differs, atMost, below, ifEqual, ifBelow}
 
 -- no symbol has more than 8 attributes
@@ -36,7 +37,7 @@ fourAt b i = ((byte b i * 256 + byte b (i + 1)) * 256 + byte b (i + 2)) * 256 + 
 
 -- two's complement: the first is at most the second
 unfoldable pub inOrder : ℕ → ℕ → Bool
-inOrder x y = leb ((x + 2147483648) % 4294967296) ((y + 2147483648) % 4294967296)
+inOrder x y = leZ (signed x) (signed y)
 
 -- ---- the note: bit a - 1 of the number at a position is attribute a
 

@@ -15,6 +15,7 @@ use Rattle.rules.proofs.Bits.{ones-tested, one-bit}
 use lib.Pow.{pow-pos, pow-lt, shr-le}
 use lib.Bits.{bitOr, bitAnd}
 use lib.Dec.{eqb, leb}
+use Rattle.rules.proofs.Order.{order-tested}
 -- END FILL
 use Rattle.rules.proofs.condition.in_order.Statement.{statement}
 use Rattle.rules.proofs.condition.in_order.Tie as tie
@@ -31,8 +32,7 @@ add-result-2 c = search needs
 
 -- src/condition.rt:8:1
 returns : tie.Need-returns
-unfolding inOrder
-returns c = refl
+returns c = order-tested _ _ (omega arith) (omega arith)
 
 pub in-order-spec : {M : Type 1} → statement M
 in-order-spec = tie.close (tie.spec add-result add-result-2 returns)
