@@ -29,7 +29,7 @@ pub fn size_at(table: &[u8], at: usize) -> usize
 }
 
 // The lowest number that applies to the body of a tag 1 field, or 0.
-pub fn header_fault(body: &[u8]) -> usize
+pub fn header_fault(body: &[u8]) -> u8
     ensures { λ r. ⌜ r ≡ headerFault (now (body .entry)) ⌝ }
 {
     if body.len() != 4 {
@@ -57,7 +57,7 @@ pub fn header_fault(body: &[u8]) -> usize
 }
 
 // The lowest number that applies to the body of the tag 2 field of nonterminal n, or 0.
-pub fn counts_fault(n: usize, start: usize, result: usize, body: &[u8]) -> usize
+pub fn counts_fault(n: usize, start: usize, result: usize, body: &[u8]) -> u8
     ensures { λ r. ⌜ r ≡ countsFault n start result (now (body .entry)) ⌝ }
 {
     if body.len() != 2 {
@@ -109,7 +109,7 @@ pub fn symbols_known(terminals: usize, nonterminals: usize, body: &[u8]) -> bool
 }
 
 // The lowest number that applies to the body of a tag 3 field after p others, or 0.
-pub fn production_fault(terminals: usize, nonterminals: usize, p: usize, body: &[u8]) -> usize
+pub fn production_fault(terminals: usize, nonterminals: usize, p: usize, body: &[u8]) -> u8
     ensures { λ r. ⌜ r ≡ productionFault terminals nonterminals p (now (body .entry)) ⌝ }
 {
     if body.len() < 2 {

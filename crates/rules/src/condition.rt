@@ -12,7 +12,7 @@ pub fn in_order(x: usize, y: usize) -> bool
     (x + 2147483648) % 4294967296 <= (y + 2147483648) % 4294967296
 }
 
-pub fn range_fault(width: usize, inh: &[u8; 13], syn: &[u8; 13], body: &[u8]) -> usize
+pub fn range_fault(width: usize, inh: &[u8; 13], syn: &[u8; 13], body: &[u8]) -> u8
     requires { ⌜ width ≤ 12 ⌝ }
     ensures { λ r. ⌜ r ≡ rangeFault width (now (inh .entry)) (now (syn .entry)) (now (body .entry)) ⌝ }
 {
@@ -34,7 +34,7 @@ pub fn range_fault(width: usize, inh: &[u8; 13], syn: &[u8; 13], body: &[u8]) ->
     0
 }
 
-pub fn at_most_fault(width: usize, inh: &[u8; 13], syn: &[u8; 13], body: &[u8]) -> usize
+pub fn at_most_fault(width: usize, inh: &[u8; 13], syn: &[u8; 13], body: &[u8]) -> u8
     requires { ⌜ width ≤ 12 ⌝ }
     ensures { λ r. ⌜ r ≡ atMostFault width (now (inh .entry)) (now (syn .entry)) (now (body .entry)) ⌝ }
 {
@@ -65,7 +65,7 @@ pub fn at_most_fault(width: usize, inh: &[u8; 13], syn: &[u8; 13], body: &[u8]) 
 }
 
 // The lowest number that applies to the body of a tag 5 field after c others, or 0.
-pub fn condition_fault(c: usize, width: usize, inh: &[u8; 13], syn: &[u8; 13], body: &[u8]) -> usize
+pub fn condition_fault(c: usize, width: usize, inh: &[u8; 13], syn: &[u8; 13], body: &[u8]) -> u8
     requires { ⌜ width ≤ 12 ⌝ }
     ensures { λ r. ⌜ r ≡ conditionFault c width (now (inh .entry)) (now (syn .entry)) (now (body .entry)) ⌝ }
 {

@@ -84,7 +84,7 @@ pub fn divisor_fits(f: usize, body: &[u8]) -> bool
 }
 
 // The lowest of 5 and 7 that applies to a target and two operands of these classes, or 0.
-pub fn class_fault(target: usize, first: usize, second: usize) -> usize
+pub fn class_fault(target: usize, first: usize, second: usize) -> u8
     ensures { λ r. ⌜ r ≡ classFault target first second ⌝ }
 {
     if target == 0 {
@@ -109,7 +109,7 @@ pub fn class_fault(target: usize, first: usize, second: usize) -> usize
 }
 
 // The lowest of 8 and 9 that applies to a rule with n operands, or 0.
-pub fn rule_order(note: &[u8; 13], n: usize, body: &[u8]) -> usize
+pub fn rule_order(note: &[u8; 13], n: usize, body: &[u8]) -> u8
     requires { ⌜ (3 + 2 * n ≤ length (now body)) × (byte (now body) 0 < 13) × (1 ≤ byte (now body) 1) × (byte (now body) 1 ≤ 8) ⌝ }
     ensures { λ r. ⌜ r ≡ ruleOrder (now (note .entry)) n (now (body .entry)) ⌝ }
 {
@@ -130,7 +130,7 @@ pub fn rule_order(note: &[u8; 13], n: usize, body: &[u8]) -> usize
     0
 }
 
-pub fn rule_uses(width: usize, inh: &[u8; 13], syn: &[u8; 13], note: &[u8; 13], body: &[u8], n: usize) -> usize
+pub fn rule_uses(width: usize, inh: &[u8; 13], syn: &[u8; 13], note: &[u8; 13], body: &[u8], n: usize) -> u8
     requires { ⌜ Small width (now inh) (now syn) × (3 + 2 * n ≤ length (now body)) ⌝ }
     ensures { λ r. ⌜ r ≡ ruleUses width (now (inh .entry)) (now (syn .entry)) (now (note .entry)) (now (body .entry)) n ⌝ }
 {
@@ -145,7 +145,7 @@ pub fn rule_uses(width: usize, inh: &[u8; 13], syn: &[u8; 13], note: &[u8; 13], 
 }
 
 // The lowest number that applies to the body of a tag 4 field after r others, or 0.
-pub fn rule_fault(r: usize, width: usize, inh: &[u8; 13], syn: &[u8; 13], note: &[u8; 13], body: &[u8]) -> usize
+pub fn rule_fault(r: usize, width: usize, inh: &[u8; 13], syn: &[u8; 13], note: &[u8; 13], body: &[u8]) -> u8
     requires { ⌜ Small width (now inh) (now syn) ⌝ }
     ensures { λ q. ⌜ q ≡ ruleFault r width (now (inh .entry)) (now (syn .entry)) (now (note .entry)) (now (body .entry)) ⌝ }
 {
