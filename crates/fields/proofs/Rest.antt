@@ -8,8 +8,8 @@ use native.Mathlib.Nat.{not-suc-le-zero}
 use native.Mathlib.Numerals.{add-one}
 use lib.Dec.{eqb, leb}
 use lib.ListN.{length, getD, take, drop, length-drop, drop-of-length-le}
-use lib.Seq.{drop-cons, getD-drop, drop-drop}
-use borrow.Author.Tests.{le-leb, lt-leb, leb-true}
+use lib.Seq.{drop-cons, getD-drop, getD-take, drop-drop, length-take-le}
+use borrow.Author.Tests.{le-leb, lt-leb, leb-true, eqb-true, eq-eqb, ne-eqb}
 use Rattle.meaning.specs.Table.{byte, State, Field, Read, malformed, readAll, readTable, atEnd, lastComplete, current, judgeField, readField, kindOf, nothingRead}
 use Rattle.fields.specs.Field.{lengthAt, bodyAt, Whole, Short, rest, judged}
 
@@ -146,3 +146,53 @@ module _ (t : List ℕ) (s : State) (at : ℕ) (inside : at < length t) where
   rest-field size w p =
       first-step ∙ stepped-field _ _ _ _ _ _ p (is-whole size w)
       ∙ ap₂ (λ b r. judged (judgeField s (fieldOf at (byte t at) b)) at r) (same-body size w) (same-after size w)
+
+-- ---- the same as one equation for each way a field can go
+
+judged-by : (x : Bool) (n o : ℕ) (a b : Read) → eqb n 0 ≡ x → (n ≡ 0 → a ≡ b) → judged n o a ≡ judged n o b
+unfolding judged
+judged-by true n o a b e h = ap (λ r. judged n o r) (h (eqb-true n 0 e))
+judged-by false n o a b e h =
+    ap (λ x. elim x [ false ↦ malformed n o | true ↦ a ]) e ∙ sym (ap (λ x. elim x [ false ↦ malformed n o | true ↦ b ]) e)
+
+pub judged-same : (n o : ℕ) (a b : Read) → (n ≡ 0 → a ≡ b) → judged n o a ≡ judged n o b
+judged-same n o a b h = judged-by (eqb n 0) n o a b refl h
+
+pub judged-fine : (n o : ℕ) (a : Read) → n ≡ 0 → judged n o a ≡ a
+unfolding judged
+judged-fine n o a e = ap (λ x. elim x [ false ↦ malformed n o | true ↦ a ]) (eq-eqb n 0 e)
+
+pub judged-refused : (n o : ℕ) (a : Read) → (n ≡ 0 → ⊥) → judged n o a ≡ malformed n o
+unfolding judged
+judged-refused n o a h = ap (λ x. elim x [ false ↦ malformed n o | true ↦ a ]) (ne-eqb n 0 h)
+
+pub calm-complete : (s : State) (tag : ℕ) → lastComplete s ≡ true → (eqb tag 3 && not (lastComplete s)) ≡ false
+calm-complete s tag e = ap (λ x. eqb tag 3 && not x) e ∙ and-false (eqb tag 3)
+  where
+    and-false : (x : Bool) → x && false ≡ false
+    and-false true = refl
+    and-false false = refl
+
+pub calm-other : (s : State) (tag : ℕ) → (tag ≡ 3 → ⊥) → (eqb tag 3 && not (lastComplete s)) ≡ false
+calm-other s tag n = ap (λ x. x && not (lastComplete s)) (ne-eqb tag 3 n)
+
+module _ (t : List ℕ) (s : State) (at : ℕ) (inside : at < length t) (calm : (eqb (byte t at) 3 && not (lastComplete s)) ≡ false) (after : Read) where
+  pub step-short : Short t at → rest t s at ≡ judged 2 at after
+  step-short h = rest-short t s at inside calm h ∙ sym (judged-refused 2 at after (λ e. absurd (let z : _≡_ {A = ℕ} 2 0 = e in omega arith)))
+
+  pub step-field :
+      (size : ℕ) → Whole t at size → (number : ℕ) → judgeField s (fieldOf at (byte t at) (bodyAt t at size)) ≡ number
+      → (number ≡ 0 → rest t (readField s at (kindOf (byte t at)) (bodyAt t at size)) (at + 3 + size) ≡ after)
+      → rest t s at ≡ judged number at after
+  step-field size w number e h =
+      rest-field t s at inside size w calm
+      ∙ ap (λ n. judged n at (rest t (readField s at (kindOf (byte t at)) (bodyAt t at size)) (at + 3 + size))) e
+      ∙ judged-same number at _ after h
+
+-- the body of a field that is whole
+module _ (t : List ℕ) (at size : ℕ) where
+  pub body-length : at + 3 + size ≤ length t → length (bodyAt t at size) ≡ size
+  body-length h = length-take-le size (drop (at + 3) t) (omega (arith, length-drop (at + 3) t))
+
+  pub body-byte : (i : ℕ) → i < size → byte (bodyAt t at size) i ≡ byte t (at + 3 + i)
+  body-byte i h = getD-take size (drop (at + 3) t) i 0 h ∙ getD-drop (at + 3) t i 0
