@@ -1,16 +1,19 @@
 -- What the numbers of rules and conditions say of each other.
 use Prim.Native.Nat.{ℕ, zero, suc, _+_, _-_, _*_, _≤_, _<_}
 use mathlib.Core.Path.{_≡_, refl, sym, _∙_, ap}
-use mathlib.Core.Bool.{Bool, true, false, _&&_}
+use mathlib.Core.Bool.{Bool, true, false, _&&_, cond}
 use mathlib.Core.Logic.{⊎-elim}
 use mathlib.Core.List.{List}
 use native.Mathlib.Omega.{arith}
+use lib.Dec.{eqb}
 use lib.ListN.{getD, length}
+use borrow.Author.Tests.{eqb-true}
 use Rattle.meaning.specs.Base.{all, countFrom}
 use Rattle.meaning.specs.Table.{byte}
 use Rattle.fields.specs.Demand.{ifEqual, ifBelow}
+use Rattle.fields.proofs.Fine.{equal-fine, atMost-fine, below-fine, holds-fine}
 use Rattle.fields.proofs.Demands.{differs-not, equal-yes, equal-no, below-yes, below-no}
-use Rattle.rules.specs.Rule.{Small, classAt, classIn, classFault, orElse, lengthOf, operandCount, divisorFits, ruleUses, allCount}
+use Rattle.rules.specs.Rule.{Small, classAt, classIn, classFault, orElse, lengthOf, operandCount, operandClass, divisorFits, ruleOrder, ruleUses, ruleFault, allCount}
 use Rattle.rules.proofs.Bits.{lt-or-le}
 
 pub else-first : (x y : ℕ) {z : ℕ} → z ≡ x → (z ≡ 0 → ⊥) → z ≡ orElse x y
@@ -82,6 +85,30 @@ uses-ready width inh syn b n t x y {number} small long is e z =
     ( long, omega (arith, small .0), class-first width inh syn (byte b 0) (byte b 1) known
     , omega (arith, class-last width inh syn (byte b 0) (byte b 1) known, small .1 (byte b 0) inside)
     )
+
+else-fine : (x y : ℕ) → orElse x y ≡ 0 → x ≡ 0
+unfolding orElse ifEqual
+else-fine x y e = go (eqb x 0) refl
+  where
+    go : (b : Bool) → eqb x 0 ≡ b → x ≡ 0
+    go true q = eqb-true x 0 q
+    go false q = sym (ap (λ (z : Bool). cond z y x) q) ∙ e
+
+-- the target of a rule without a fault
+pub rule-fine :
+    (r width : ℕ) (inh syn note b : List ℕ) → Small width inh syn → ruleFault r width inh syn note b ≡ 0
+    → (3 ≤ length b) × (byte b 0 < 13) × (1 ≤ byte b 1) × (byte b 1 ≤ 8)
+unfolding ruleFault ruleUses
+rule-fine r width inh syn note b small e =
+    let q = atMost-fine (λ z. omega arith) 3 (length b) e in
+    let u = below-fine (λ z. omega arith) r 1024 (q .1) in
+    let v = atMost-fine (λ z. omega arith) (byte b 2) 8 (u .1) in
+    let w = equal-fine (λ z. omega arith) (length b) (lengthOf (byte b 2)) (v .1) in
+    let x = holds-fine (λ z. omega arith) (divisorFits (byte b 2) b) (w .1) in
+    let n = operandCount (byte b 2) in
+    let y = else-fine (classFault (classIn width inh syn b 0) (operandClass width inh syn b n 0) (operandClass width inh syn b n 1)) (ruleOrder note n b) (x .1) in
+    let k = uses-ready width inh syn b 0 (classIn width inh syn b 0) (operandClass width inh syn b n 0) (operandClass width inh syn b n 1) small (omega (arith, q .0)) refl refl y in
+    (q .0, k .1, k .2, k .3)
 
 pub ap3 : {A B : Type 0} (f : A → A → A → B) {x x′ y y′ z z′ : A} → x ≡ x′ → y ≡ y′ → z ≡ z′ → f x y z ≡ f x′ y′ z′
 ap3 f p q r = cc

@@ -1,3 +1,4 @@
 pub mod Steps
 pub mod Counting
 pub mod Placing
+pub mod Walking
