@@ -2,3 +2,4 @@ pub mod Steps
 pub mod Counting
 pub mod Placing
 pub mod Walking
+pub mod Producing

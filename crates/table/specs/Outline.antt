@@ -42,17 +42,26 @@ abbrev pub symbolByte : List ℕ → ℕ → ℕ
 symbolByte b zero = 128 + byte b 0
 symbolByte b (suc k) = byte b (k + 2)
 
+-- the counts at the positions of a production, written from its body
+pub record Written (b counts places : List ℕ) : Type 0 where
+  pub each : (k : ℕ) → k + 1 < length b → getD places k 0 ≡ countOf counts (symbolByte b k)
+
 -- the row of a production: its left side, the length of its right side, its symbols as the table has them
 pub record RowOf (rows offsets : List ℕ) (p : ℕ) (e : Entry) : Type 0 where
   pub left : getD rows (16 * p) 0 ≡ e .left
   pub size : getD rows (16 * p + 1) 0 ≡ length (e .right)
   pub symbols : (k : ℕ) → k < length (e .right) → symbolOf (getD rows (16 * p + (k + 2)) 0) ≡ getD (e .right) k (terminal 0)
+  pub short : length (e .right) ≤ 12
   pub offset : getD offsets p 0 ≡ e .offset
+
+-- what holds of each element of a list, the latest first, and its number
+abbrev pub Numbered : {A : Type 0} → (ℕ → A → Type 0) → List A → Type 0
+Numbered P [] = Unit {0}
+Numbered P (x ∷ xs) = P (length xs) x × Numbered P xs
 
 -- the rows of productions, the latest first
 abbrev pub Laid : List ℕ → List ℕ → List Entry → Type 0
-Laid rows offsets [] = Unit {0}
-Laid rows offsets (e ∷ es) = RowOf rows offsets (length es) e × Laid rows offsets es
+Laid rows offsets es = Numbered (RowOf rows offsets) es
 
 -- the outline of a table that was read whole
 pub record Outline (s : State) (sizes : Sizes) (inherited synthesized rows offsets : List ℕ) : Type 0 where

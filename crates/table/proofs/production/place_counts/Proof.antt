@@ -88,7 +88,7 @@ loop-again c = (omega arith, omega arith, placing-more _ _ _ _ _ (c .before .bef
 
 -- src/production.rt:24:1
 returns : tie.Need-returns Inv-loop μ-loop
-returns c = λ k h. c .before .loop .inv .2 .each k (omega arith)
+returns c = record { each = λ k h. c .before .loop .inv .2 .each k (omega arith) }
 
 pub place-counts-spec : {M : Type 1} → statement M
 place-counts-spec =
