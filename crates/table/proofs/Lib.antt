@@ -3,3 +3,4 @@ pub mod Counting
 pub mod Placing
 pub mod Walking
 pub mod Producing
+pub mod Rows

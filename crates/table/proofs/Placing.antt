@@ -9,7 +9,7 @@ use lib.ListN.{length, getD, set, length-set}
 use lib.Seq.{getD-set-same, getD-set-other}
 use Rattle.meaning.specs.Table.{byte}
 use Rattle.rules.proofs.Bits.{lt-or-le}
-use Rattle.table.specs.Outline.{countOf, symbolByte}
+use Rattle.table.specs.Outline.{countOf, symbolByte, Copied}
 
 -- the counts of positions below k are written
 pub record Placing (b counts places : List ℕ) (k : ℕ) : Type 0 where
@@ -42,18 +42,12 @@ placing-more b counts places k x p one room e = record { each = each; kept = len
             ∙ ap (countOf counts) (symbol-byte b k one ∙ ap (symbolByte b) (sym q)))
           (lt-or-le j k)
 
--- k bytes of the row of production p are written
-pub record Copying (rows₀ : List ℕ) (p : ℕ) (b rows : List ℕ) (k : ℕ) : Type 0 where
-  pub before : (i : ℕ) → i < 16 * p → getD rows i 0 ≡ getD rows₀ i 0
-  pub row : (j : ℕ) → j < k → getD rows (16 * p + j) 0 ≡ byte b j
-  pub kept : length rows ≡ 2048
-
-pub copying-start : (rows : List ℕ) (p : ℕ) (b : List ℕ) → length rows ≡ 2048 → Copying rows p b rows 0
+pub copying-start : (rows : List ℕ) (p : ℕ) (b : List ℕ) → length rows ≡ 2048 → Copied rows p b rows 0
 copying-start rows p b l = record { before = λ i h. refl; row = λ j h. absurd (not-suc-le-zero h); kept = l }
 
 pub copying-more :
-    (rows₀ : List ℕ) (p : ℕ) (b rows : List ℕ) (k : ℕ) → Copying rows₀ p b rows k → 16 * p + k < 2048
-    → Copying rows₀ p b (set rows (16 * p + k) (byte b k)) (k + 1)
+    (rows₀ : List ℕ) (p : ℕ) (b rows : List ℕ) (k : ℕ) → Copied rows₀ p b rows k → 16 * p + k < 2048
+    → Copied rows₀ p b (set rows (16 * p + k) (byte b k)) (k + 1)
 copying-more rows₀ p b rows k c room =
     record {
       before = λ i h. getD-set-other rows (16 * p + k) i (byte b k) 0 (λ q. omega arith) ∙ c .before i h;

@@ -7,7 +7,7 @@ use mathlib.Core.Logic.{⊎-elim}
 use native.Mathlib.Omega.{arith}
 use native.Mathlib.Nat.{not-suc-le-zero}
 use lib.Dec.{ltb}
-use lib.ListN.{length, getD, take, drop, length-drop, length-map, List·getD-map}
+use lib.ListN.{length, getD, take, drop, length-drop, length-take, length-map, List·getD-map}
 use lib.Seq.{getD-drop}
 use borrow.Author.Tests.{ltb-true, ltb-false, lt-ltb, le-ltb}
 use Rattle.meaning.specs.Grammar.{Counts, noCounts, Symbol, terminal, nonterminal, countsIn}
@@ -120,6 +120,9 @@ module _ (t : List ℕ) (at p terminals nonterminals : ℕ) (inside : at < lengt
 pub part-in : (t : List ℕ) (at w : ℕ) → w ≡ widthIn t at → take (at + 5 + w - (at + 3)) (drop (at + 3) t) ≡ bodyIn t at
 part-in t at w e = ap (λ (n : ℕ). take n (drop (at + 3) t)) {x = at + 5 + w - (at + 3)} {y = 2 + widthIn t at} (omega arith)
 
+pub part-short : (t : List ℕ) (at w : ℕ) → w ≤ 12 → length (take (at + 5 + w - (at + 3)) (drop (at + 3) t)) ≤ 14
+part-short t at w l = omega (arith, length-take (at + 5 + w - (at + 3)) (drop (at + 3) t))
+
 module _ {A : Type 0} (d : A) where
   reverse-past : (xs ys : List A) (m : ℕ) → getD (reverseAux xs ys) (length xs + m) d ≡ getD ys m d
   reverse-past [] ys m = ap (λ (i : ℕ). getD ys i d) {x = 0 + m} {y = m} (omega arith)
@@ -199,13 +202,13 @@ unfolding symbolKnown ifBelow
 known-below terminals n k e l = ltb-true (k - 128) n (sym (ap (λ (b : Bool). cond b (ltb k terminals) (ltb (k - 128) n)) (le-ltb k 128 l)) ∙ e)
 
 module _ (t : List ℕ) (at p terminals nonterminals : ℕ) (inh syn : List ℕ) (known : ProductionKnown t at p terminals nonterminals) where
-  long-in : length (bodyIn t at) ≡ 2 + widthIn t at
+  pub long-in : length (bodyIn t at) ≡ 2 + widthIn t at
   long-in = body-length t at (2 + widthIn t at) (omega (arith, known .long))
 
-  left-byte : byte (bodyIn t at) 0 ≡ leftIn t at
+  pub left-byte : byte (bodyIn t at) 0 ≡ leftIn t at
   left-byte = body-byte t at (2 + widthIn t at) 0 (omega arith) ∙ ap (byte t) {x = at + 3 + 0} {y = at + 3} (omega arith)
 
-  right-symbol : (k : ℕ) → symbolIn (leftIn t at) (rightIn t at) (suc k) ≡ symbolOf (byte (bodyIn t at) (k + 2))
+  pub right-symbol : (k : ℕ) → symbolIn (leftIn t at) (rightIn t at) (suc k) ≡ symbolOf (byte (bodyIn t at) (k + 2))
   right-symbol k =
       List·getD-map symbolOf (drop 2 (bodyIn t at)) k 0
       ∙ ap symbolOf (getD-drop 2 (bodyIn t at) k 0 ∙ ap (byte (bodyIn t at)) {x = 2 + k} {y = k + 2} (omega arith))

@@ -46,6 +46,12 @@ symbolByte b (suc k) = byte b (k + 2)
 pub record Written (b counts places : List ℕ) : Type 0 where
   pub each : (k : ℕ) → k + 1 < length b → getD places k 0 ≡ countOf counts (symbolByte b k)
 
+-- k bytes of a production's body are copied to its row, and the rows before stay
+pub record Copied (rows₀ : List ℕ) (p : ℕ) (b rows : List ℕ) (k : ℕ) : Type 0 where
+  pub before : (i : ℕ) → i < 16 * p → getD rows i 0 ≡ getD rows₀ i 0
+  pub row : (j : ℕ) → j < k → getD rows (16 * p + j) 0 ≡ byte b j
+  pub kept : length rows ≡ 2048
+
 -- the row of a production: its left side, the length of its right side, its symbols as the table has them
 pub record RowOf (rows offsets : List ℕ) (p : ℕ) (e : Entry) : Type 0 where
   pub left : getD rows (16 * p) 0 ≡ e .left

@@ -9,9 +9,9 @@ use Prim.Native.Nat.{ℕ, zero, suc, _+_, _-_, _*_, _≤_, _<_, _^_, _/_, _%_}
 use mathlib.Core.Bool.{Bool, true, false, _&&_, not}
 use mathlib.Core.List.{List, [], _∷_}
 use lib.ListN.{length, getD, take, drop, set}
-use Rattle.table.specs.Outline.{countOf, symbolByte}
+use Rattle.table.specs.Outline.{countOf, symbolByte, Copied}
 use Rattle.meaning.specs.Table.{byte}
-use Rattle.table.proofs.Placing.{Placing, placing-start, placing-more, Copying, copying-start, copying-more}
+use Rattle.table.proofs.Placing.{Placing, placing-start, placing-more, copying-start, copying-more}
 -- END FILL
 use Rattle.table.proofs.production.copy_row.Statement.{statement}
 use Rattle.table.proofs.production.copy_row.Tie as tie
@@ -19,7 +19,7 @@ use Rattle.table.proofs.production.copy_row.Reads as reads
 use Rattle.table.proofs.production.copy_row.Lts as lts
 
 abbrev Inv-loop : tie.InvT-loop
-Inv-loop rows₀ p body k₀ rows k = (k ≤ length body) × Copying rows₀ p body rows k
+Inv-loop rows₀ p body k₀ rows k = (k ≤ length body) × Copied rows₀ p body rows k
 
 abbrev μ-loop : tie.MeasureT-loop
 μ-loop rows₀ p body k₀ rows k = length body - k
@@ -58,7 +58,7 @@ loop-again c = (omega arith, copying-more _ _ _ _ _ (c .before .before .loop .in
 
 -- src/production.rt:38:1
 returns : tie.Need-returns Inv-loop μ-loop
-returns c = (c .before .loop .inv .1 .before, ((λ k h. c .before .loop .inv .1 .row k (omega arith)), c .before .loop .inv .1 .kept))
+returns c = record { before = c .before .loop .inv .1 .before; row = λ k h. c .before .loop .inv .1 .row k (omega arith); kept = c .before .loop .inv .1 .kept }
 
 pub copy-row-spec : {M : Type 1} → statement M
 copy-row-spec =

@@ -9,7 +9,7 @@ use Prim.Native.Nat.{ℕ, zero, suc, _+_, _-_, _*_, _≤_, _<_, _^_, _/_, _%_}
 use mathlib.Core.Bool.{Bool, true, false, _&&_, not}
 use mathlib.Core.List.{List, [], _∷_}
 use lib.ListN.{length, getD, take, drop, set}
-use Rattle.table.specs.Outline.{countOf, symbolByte}
+use Rattle.table.specs.Outline.{countOf, symbolByte, Copied}
 use Rattle.meaning.specs.Table.{byte}
 use lib.ListN.{List·getD-eq-default}
 -- END FILL

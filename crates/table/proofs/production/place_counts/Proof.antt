@@ -9,9 +9,9 @@ use Prim.Native.Nat.{ℕ, zero, suc, _+_, _-_, _*_, _≤_, _<_, _^_, _/_, _%_}
 use mathlib.Core.Bool.{Bool, true, false, _&&_, not}
 use mathlib.Core.List.{List, [], _∷_}
 use lib.ListN.{length, getD, take, drop, set}
-use Rattle.table.specs.Outline.{countOf, symbolByte}
+use Rattle.table.specs.Outline.{countOf, symbolByte, Copied}
 use Rattle.meaning.specs.Table.{byte}
-use Rattle.table.proofs.Placing.{Placing, placing-start, placing-more, Copying, copying-start, copying-more}
+use Rattle.table.proofs.Placing.{Placing, placing-start, placing-more, copying-start, copying-more}
 -- END FILL
 use Rattle.table.proofs.production.place_counts.Statement.{statement}
 use Rattle.table.proofs.production.place_counts.Tie as tie
