@@ -4,3 +4,4 @@ pub mod Placing
 pub mod Walking
 pub mod Producing
 pub mod Rows
+pub mod Tables
