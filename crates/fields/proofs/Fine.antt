@@ -1,15 +1,15 @@
 -- What holds of a field without a fault.
 use Prim.Native.Nat.{ℕ, _+_, _≤_, _<_}
-use mathlib.Core.Path.{_≡_, refl, sym, _∙_, ap}
+use mathlib.Core.Path.{_≡_, refl}
 use mathlib.Core.Bool.{Bool, true, false, cond}
 use mathlib.Core.List.{List}
 use native.Mathlib.Omega.{arith}
 use lib.Dec.{eqb, leb, ltb}
-use lib.ListN.{length, getD, drop}
+use lib.ListN.{length}
 use borrow.Author.Tests.{eqb-true, leb-true, ltb-true}
 use Rattle.meaning.specs.Table.{byte}
 use Rattle.fields.specs.Demand.{holds, equal, atMost, below}
-use Rattle.fields.specs.Judge.{headerFault, countsFault, productionFault, symbolKnown, symbolsKnown, allFrom}
+use Rattle.fields.specs.Judge.{headerFault, countsFault, productionFault, symbolsKnown}
 
 -- a demand with number n that is met, and the demands after it
 by-test : (b : Bool) (n r : ℕ) → cond b r n ≡ 0 → (n ≡ 0 → ⊥) → (b ≡ true) × (r ≡ 0)

@@ -1,16 +1,16 @@
 -- The faults of tags 1 to 3 are those that 01's table gives.
-use Prim.Native.Nat.{ℕ, zero, suc, _+_, _-_, _≤_, _<_}
-use mathlib.Core.Path.{_≡_, refl, sym, _∙_, ap, ap₂}
+use Prim.Native.Nat.{ℕ, _+_, _-_, _≤_, _<_}
+use mathlib.Core.Path.{_≡_, refl, _∙_, ap, ap₂}
 use mathlib.Core.Bool.{Bool, true, false, _&&_, _||_, not, cond}
 use mathlib.Core.List.{List, [], _∷_}
 use lib.Dec.{eqb, leb, ltb}
 use lib.ListN.{length, drop}
 use borrow.Author.Tests.{lt-ltb, le-ltb, ne-eqb}
 use Rattle.meaning.specs.Base.{all}
-use Rattle.meaning.specs.Grammar.{Counts, Symbol, terminal, nonterminal}
+use Rattle.meaning.specs.Grammar.{Counts, terminal, nonterminal}
 use Rattle.meaning.specs.Table as Table
-use Rattle.meaning.specs.Table.{byte, State, Entry, Header, Field, Kind, header, counts, production, rule, condition, Stage, atHeader, atCounts, atFirst, atAny, stage, tagStands, kindOf, lowestOf, judgeField, nothingRead, limitsHold, known, startRight, directionsRight, setOnce, leftToRight, boundsRight, symbolOf}
-use Rattle.fields.specs.Demand.{holds, lacks, equal, differs, atMost, below, ifEqual, ifBelow}
+use Rattle.meaning.specs.Table.{byte, State, Entry, Header, Kind, header, counts, production, Stage, atCounts, atFirst, atAny, stage, tagStands, kindOf, lowestOf, judgeField, nothingRead, limitsHold, known, startRight, directionsRight, setOnce, leftToRight, boundsRight, symbolOf}
+use Rattle.fields.specs.Demand.{holds, equal, atMost, below, ifEqual, ifBelow}
 use Rattle.fields.specs.Judge.{headerFault, countsFault, productionFault, symbolKnown, symbolsKnown, allFrom}
 use Rattle.fields.specs.Reads.{stateOf}
 use Rattle.fields.proofs.Rest.{fieldOf}
@@ -140,8 +140,8 @@ module _ (h : Header) (cs : List Counts) (os : List ℕ) (es : List Entry) (r c 
   production-judged l =
       judge-stands before at 3 b (ap (λ x. tagStands x 3) (stage-later h cs os es r c l) ∙ any-three (ltb 0 (length es)))
       ∙ ap
-          (λ y. lowestOf ((limitsHold before production b, 4) ∷ (ltb (byte b 0) (h .nonterminals) && y, 5) ∷ (true, 6) ∷ (true, 7) ∷ (true, 8) ∷ (true, 9) ∷ (true, 10) ∷ []))
-          symbols-same
+      (λ y. lowestOf ((limitsHold before production b, 4) ∷ (ltb (byte b 0) (h .nonterminals) && y, 5) ∷ (true, 6) ∷ (true, 7) ∷ (true, 8) ∷ (true, 9) ∷ (true, 10) ∷ []))
+      symbols-same
       ∙ production-by (leb 2 (length b)) (leb (byte b 1) 12) (eqb (length b) (2 + byte b 1)) (ltb (length es) 128) (ltb (byte b 0) (h .nonterminals)) (symbolsKnown (h .terminals) (h .nonterminals) b 2)
 
   pub first-not :
@@ -149,4 +149,4 @@ module _ (h : Header) (cs : List Counts) (os : List ℕ) (es : List Entry) (r c 
       → judgeField before (fieldOf at tag b) ≡ 3
   first-not tag l e n =
       judge-not before at tag b
-        (ap (λ x. tagStands x tag) (stage-later h cs os es r c l ∙ ap (λ (l : List Entry). byStage h cs os es r c false (ltb 0 (length l))) e) ∙ ne-eqb tag 3 n)
+      (ap (λ x. tagStands x tag) (stage-later h cs os es r c l ∙ ap (λ (l : List Entry). byStage h cs os es r c false (ltb 0 (length l))) e) ∙ ne-eqb tag 3 n)

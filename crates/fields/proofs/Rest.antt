@@ -5,7 +5,6 @@ use mathlib.Core.Bool.{Bool, true, false, _&&_, not, true≢false}
 use mathlib.Core.List.{List, [], _∷_}
 use native.Mathlib.Omega.{arith}
 use native.Mathlib.Nat.{not-suc-le-zero}
-use native.Mathlib.Numerals.{add-one}
 use lib.Dec.{eqb, leb}
 use lib.ListN.{length, getD, take, drop, length-drop, drop-of-length-le}
 use lib.Seq.{drop-cons, getD-drop, getD-take, drop-drop, length-take-le}
@@ -41,8 +40,8 @@ enough (suc n) zero s o bs h k = absurd (not-suc-le-zero k)
 enough (suc n) (suc m) s o [] h k = refl
 enough (suc n) (suc m) s o (x ∷ bs) h k =
     ap
-      (λ r. stepped (eqb x 3 && not (lastComplete s)) (wholeIn bs) (current s .offset) (judgeField s (fieldOf o x (take (sizeIn bs) (drop 2 bs)))) o r)
-      (enough n m (nextState s o x bs) (o + 3 + sizeIn bs) (drop (2 + sizeIn bs) bs) (omega (arith, length-drop (2 + sizeIn bs) bs)) (omega (arith, length-drop (2 + sizeIn bs) bs)))
+    (λ r. stepped (eqb x 3 && not (lastComplete s)) (wholeIn bs) (current s .offset) (judgeField s (fieldOf o x (take (sizeIn bs) (drop 2 bs)))) o r)
+    (enough n m (nextState s o x bs) (o + 3 + sizeIn bs) (drop (2 + sizeIn bs) bs) (omega (arith, length-drop (2 + sizeIn bs) bs)) (omega (arith, length-drop (2 + sizeIn bs) bs)))
 
 pub rest-table : (t : List ℕ) → length t ≤ 32768 → readTable t ≡ rest t nothingRead 0
 unfolding rest
@@ -81,9 +80,9 @@ module _ (t : List ℕ) (s : State) (at : ℕ) (inside : at < length t) where
   unfolding lengthAt
   size-in =
       ap₂
-        (λ (x y : ℕ). x * 256 + y)
-        (getD-drop (suc at) t 0 0 ∙ ap (λ (i : ℕ). getD t i 0) (omega arith))
-        (getD-drop (suc at) t 1 0 ∙ ap (λ (i : ℕ). getD t i 0) (omega arith))
+      (λ (x y : ℕ). x * 256 + y)
+      (getD-drop (suc at) t 0 0 ∙ ap (λ (i : ℕ). getD t i 0) (omega arith))
+      (getD-drop (suc at) t 1 0 ∙ ap (λ (i : ℕ). getD t i 0) (omega arith))
 
   body-in : drop 2 tail ≡ drop (at + 3) t
   body-in = drop-drop 2 (suc at) t ∙ ap (λ (i : ℕ). drop i t) {x = suc at + 2} {y = at + 3} (omega arith)
@@ -123,9 +122,9 @@ module _ (t : List ℕ) (s : State) (at : ℕ) (inside : at < length t) where
     is-whole : wholeIn tail ≡ true
     is-whole =
         ap₂
-          (λ (a b : Bool). a && b)
-          (le-leb 2 (length tail) (omega (arith, w .inside, length-tail)))
-          (le-leb (sizeIn tail) (length tail - 2) (omega (arith, w .inside, w .told, size-in, length-tail)))
+        (λ (a b : Bool). a && b)
+        (le-leb 2 (length tail) (omega (arith, w .inside, length-tail)))
+        (le-leb (sizeIn tail) (length tail - 2) (omega (arith, w .inside, w .told, size-in, length-tail)))
 
     same-body : take (sizeIn tail) (drop 2 tail) ≡ bodyAt t at size
     same-body = ap₂ take (size-in ∙ sym (w .told)) body-in

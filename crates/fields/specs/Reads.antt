@@ -1,8 +1,7 @@
 -- States with a header read, by their parts.
-use Prim.Native.Nat.{ℕ, zero, suc, _+_, _*_}
+use Prim.Native.Nat.{ℕ}
 use mathlib.Core.Option.{some}
-use mathlib.Core.List.{List, [], _∷_}
-use lib.ListN.{getD}
+use mathlib.Core.List.{List}
 use Rattle.meaning.specs.Grammar.{Counts, Symbol, Rule, Condition, Occurrence}
 use Rattle.meaning.specs.Table.{Header, State, Entry}
 

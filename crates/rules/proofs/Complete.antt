@@ -1,18 +1,18 @@
 -- The note against 01: a rule more, and every output noted.
-use Prim.Native.Nat.{ℕ, zero, suc, _+_, _-_, _*_, _/_, _%_, _^_, _≤_, _<_}
+use Prim.Native.Nat.{ℕ, zero, suc, _+_, _-_, _/_, _^_, _≤_, _<_}
 use mathlib.Core.Path.{_≡_, refl, sym, _∙_, ap, ap₂}
 use mathlib.Core.Bool.{Bool, true, false, _&&_, _||_, not, cond}
 use mathlib.Core.List.{List, [], _∷_, map}
 use native.Mathlib.Omega.{arith}
 use native.Mathlib.Decide.{ℕ-discrete}
 use lib.Bits.{bitOr}
-use lib.Dec.{eqb, leb, ltb}
+use lib.Dec.{eqb, leb}
 use lib.ListN.{getD, length, set}
 use lib.Seq.{getD-set-same, getD-set-other}
-use borrow.Author.Tests.{leb-true, leb-false, le-leb, lt-leb, eqb-true, eqb-false, eq-eqb, ne-eqb}
+use borrow.Author.Tests.{le-leb, lt-leb, eq-eqb, ne-eqb}
 use Rattle.meaning.specs.Base.{all, countFrom}
 use Rattle.meaning.specs.Grammar.{Symbol, Occurrence, Rule, Condition, Counts}
-use Rattle.meaning.specs.Table.{State, Entry, Header, isInput, hasRule, complete, entrySymbol, countsAt, occurrencesAt, sameAs, sameOccurrence}
+use Rattle.meaning.specs.Table.{State, Entry, Header, isInput, hasRule, complete, entrySymbol, countsAt, occurrencesAt, sameAs}
 use Rattle.fields.specs.Demand.{ifEqual}
 use Rattle.rules.specs.Rule.{Small, bit, ones, filledAt, settled, allCount, completeNote}
 use Rattle.rules.specs.Note.{Placed, Noted, occurrence, isSet}
@@ -94,9 +94,9 @@ unfolding ones
 ones-bits zero n = refl
 ones-bits (suc d) n =
     ap₂ _&&_ (bit-first n)
-      (count-shift (λ i. bit n i) 1 0 d
-      ∙ count-same (λ i. bit n (1 + i)) (λ i. bit (n / 2) i) 0 d (λ i p q. ap (λ (x : ℕ). bit n x) {x = 1 + i} {y = suc i} (omega arith) ∙ bit-suc n i)
-      ∙ ones-bits d (n / 2))
+    (count-shift (λ i. bit n i) 1 0 d
+    ∙ count-same (λ i. bit n (1 + i)) (λ i. bit (n / 2) i) 0 d (λ i p q. ap (λ (x : ℕ). bit n x) {x = 1 + i} {y = suc i} (omega arith) ∙ bit-suc n i)
+    ∙ ones-bits d (n / 2))
 
 all-mapped : {A B : Type 0} (f : B → Bool) (g : A → B) (l : List A) → all f (map g l) ≡ all (λ x. f (g x)) l
 all-mapped f g [] = refl
@@ -136,23 +136,23 @@ module _ (h : Header) (cs : List Counts) (os : List ℕ) (es : List Entry) (r c 
         ap (λ (x : ℕ). all (test true i) (countFrom x y)) e0
         ∙ count-shift (test true i) (1 + i) 0 y
         ∙ count-same (λ a. test true i (1 + i + a)) (λ a. bit (n / 2 ^ i) a) 0 y
-            (λ a p q.
-              let w : 1 + i + a ≡ suc (i + a) = omega arith in
-              ap (λ x. x || isSet rs (occurrence k (1 + i + a))) (lt-leb (1 + i + a) i (omega arith))
-              ∙ ap (λ (x : ℕ). isSet rs (occurrence k x)) w
-              ∙ bit-is (i + a) (omega (arith, small .1 k inside))
-              ∙ sym (bit-shifted n i a))
+        (λ a p q.
+        let w : 1 + i + a ≡ suc (i + a) = omega arith in
+        ap (λ x. x || isSet rs (occurrence k (1 + i + a))) (lt-leb (1 + i + a) i (omega arith))
+        ∙ ap (λ (x : ℕ). isSet rs (occurrence k x)) w
+        ∙ bit-is (i + a) (omega (arith, small .1 k inside))
+        ∙ sym (bit-shifted n i a))
         ∙ ones-bits y (n / 2 ^ i)
 
     right-outputs : all (test false i) (countFrom 1 i) ≡ ones n i
     right-outputs =
         count-shift (test false i) 1 0 i
         ∙ count-same (λ a. test false i (1 + a)) (λ a. bit n a) 0 i
-            (λ a p q.
-              let w : 1 + a ≡ suc a = omega arith in
-              ap (λ x. not x || isSet rs (occurrence k (1 + a))) (le-leb (1 + a) i (omega arith))
-              ∙ ap (λ (x : ℕ). isSet rs (occurrence k x)) w
-              ∙ bit-is a (omega (arith, small .1 k inside)))
+        (λ a p q.
+        let w : 1 + a ≡ suc a = omega arith in
+        ap (λ x. not x || isSet rs (occurrence k (1 + a))) (le-leb (1 + a) i (omega arith))
+        ∙ ap (λ (x : ℕ). isSet rs (occurrence k x)) w
+        ∙ bit-is a (omega (arith, small .1 k inside)))
         ∙ ones-bits i n
 
     right-inputs : all (test false i) (countFrom (1 + i) y) ≡ true
@@ -171,9 +171,9 @@ module _ (h : Header) (cs : List Counts) (os : List ℕ) (es : List Entry) (r c 
     position-settled =
         all-mapped (λ x. isInput s e x || hasRule e x) (λ a. occurrence k a) (countFrom 1 (countsAt s (entrySymbol e k) .inherited + countsAt s (entrySymbol e k) .synthesized))
         ∙ ap₂
-            (λ u v. all (test (eqb k 0) u) (countFrom 1 (u + v)))
-            (inherited-in h cs os es r c o l xs rs cds width inh syn pl k inside)
-            (synthesized-in h cs os es r c o l xs rs cds width inh syn pl k inside)
+        (λ u v. all (test (eqb k 0) u) (countFrom 1 (u + v)))
+        (inherited-in h cs os es r c o l xs rs cds width inh syn pl k inside)
+        (synthesized-in h cs os es r c o l xs rs cds width inh syn pl k inside)
         ∙ by-side (eqb k 0)
 
   pub complete-judged : complete s e ≡ completeNote width inh syn note

@@ -1,17 +1,17 @@
 -- The fault of a condition is the one that 01's table gives.
-use Prim.Native.Nat.{ℕ, zero, suc, _+_, _-_, _*_, _≤_, _<_}
+use Prim.Native.Nat.{ℕ, _+_}
 use mathlib.Core.Path.{_≡_, refl, sym, _∙_, ap, ap₂}
-use mathlib.Core.Bool.{Bool, true, false, _&&_, _||_, not, cond, true≢false}
+use mathlib.Core.Bool.{Bool, true, false, _&&_, _||_, not, cond}
 use mathlib.Core.List.{List, [], _∷_}
 use native.Mathlib.Omega.{arith}
 use lib.Dec.{eqb, leb, ltb}
 use lib.Signed.{leZ}
-use lib.ListN.{getD, length}
+use lib.ListN.{length}
 use borrow.Author.Tests.{leb-true, leb-false, le-ltb, lt-ltb, eqb-true, eqb-false}
 use Rattle.meaning.specs.Base.{all}
 use Rattle.meaning.specs.Grammar.{Symbol, Occurrence, Rule, Condition, range, atmost, Counts}
-use Rattle.meaning.specs.Table.{byte, constantAt, State, Entry, Header, condition, occurrenceAt, occurrenceKnown, isInput, conditionOf, conditionLength, reads, lowestOf, judgeField, tagStands, stage, atAny}
-use Rattle.fields.specs.Demand.{ifEqual, ifBelow, differs, below, holds, equal, atMost}
+use Rattle.meaning.specs.Table.{byte, constantAt, State, Entry, Header, condition, occurrenceAt, occurrenceKnown, isInput, conditionLength, reads, lowestOf, judgeField, tagStands, stage, atAny}
+use Rattle.fields.specs.Demand.{ifEqual, differs, below, holds, equal, atMost}
 use Rattle.fields.proofs.Rest.{fieldOf}
 use Rattle.fields.proofs.Judged.{judge-stands}
 use Rattle.rules.specs.Rule.{classIn, fourAt, inOrder, rangeFault, atMostFault, conditionFault}
@@ -80,9 +80,9 @@ module _ (h : Header) (cs : List Counts) (os : List ℕ) (es : List Entry) (r c 
 
   abbrev conditionBy : Bool → Condition Occurrence
   conditionBy x = elim x [
-      true ↦ range (occurrenceAt b 1) (constantAt b 3) (constantAt b 7)
+    | true ↦ range (occurrenceAt b 1) (constantAt b 3) (constantAt b 7)
     | false ↦ atmost (occurrenceAt b 1) (occurrenceAt b 3)
-    ]
+  ]
 
   abbrev boundsBy : Condition Occurrence → Bool
   boundsBy x = elim x [ range p m n ↦ leZ m n | atmost p q ↦ not (eqb (p .position) 0 && eqb (q .position) 0) ]

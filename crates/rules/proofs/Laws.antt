@@ -1,5 +1,5 @@
 -- What the numbers of rules and conditions say of each other.
-use Prim.Native.Nat.{ℕ, zero, suc, _+_, _-_, _*_, _≤_, _<_}
+use Prim.Native.Nat.{ℕ, suc, _+_, _-_, _*_, _≤_, _<_}
 use mathlib.Core.Path.{_≡_, refl, sym, _∙_, ap}
 use mathlib.Core.Bool.{Bool, true, false, _&&_, cond}
 use mathlib.Core.Logic.{⊎-elim}
@@ -10,7 +10,7 @@ use lib.ListN.{getD, length}
 use borrow.Author.Tests.{eqb-true}
 use Rattle.meaning.specs.Base.{all, countFrom}
 use Rattle.meaning.specs.Table.{byte}
-use Rattle.fields.specs.Demand.{ifEqual, ifBelow}
+use Rattle.fields.specs.Demand.{ifEqual}
 use Rattle.fields.proofs.Fine.{equal-fine, atMost-fine, below-fine, holds-fine}
 use Rattle.fields.proofs.Demands.{differs-not, equal-yes, equal-no, below-yes, below-no}
 use Rattle.rules.specs.Rule.{Small, classAt, classIn, classFault, orElse, lengthOf, operandCount, operandClass, divisorFits, ruleOrder, ruleUses, ruleFault, allCount}
@@ -69,9 +69,9 @@ module _ (width : ℕ) (inh syn : List ℕ) (p a : ℕ) (known : classAt width i
   unfolding classAt
   class-last =
       ⊎-elim
-        (λ l. absurd (known (sym (below-no _ _ _ _ class-inside (below-no _ _ _ _ class-first (below-yes _ _ _ _ l refl))))))
-        (λ l. l)
-        (lt-or-le (getD inh p 0 + getD syn p 0) a)
+      (λ l. absurd (known (sym (below-no _ _ _ _ class-inside (below-no _ _ _ _ class-first (below-yes _ _ _ _ l refl))))))
+      (λ l. l)
+      (lt-or-le (getD inh p 0 + getD syn p 0) a)
 
 -- what the order of a rule is judged by, once its target is known
 pub uses-ready :
@@ -81,9 +81,11 @@ pub uses-ready :
 unfolding classIn
 uses-ready width inh syn b n t x y {number} small long is e z =
     let known : classAt width inh syn (byte b 0) (byte b 1) ≡ 0 → ⊥ = λ q. target-known t x y number e z (is ∙ q) in
-    let inside : byte b 0 ≤ width = class-inside width inh syn (byte b 0) (byte b 1) known in
-    ( long, omega (arith, small .0), class-first width inh syn (byte b 0) (byte b 1) known
-    , omega (arith, class-last width inh syn (byte b 0) (byte b 1) known, small .1 (byte b 0) inside)
+    let inside : byte b 0 ≤ width = class-inside width inh syn (byte b 0) (byte b 1) known in (
+      long,
+      omega (arith, small .0),
+      class-first width inh syn (byte b 0) (byte b 1) known,
+      omega (arith, class-last width inh syn (byte b 0) (byte b 1) known, small .1 (byte b 0) inside),
     )
 
 else-fine : (x y : ℕ) → orElse x y ≡ 0 → x ≡ 0

@@ -1,5 +1,5 @@
 -- The fault of a rule is the one that 01's table gives.
-use Prim.Native.Nat.{ℕ, zero, suc, _+_, _-_, _*_, _≤_, _<_}
+use Prim.Native.Nat.{ℕ, zero, suc, _+_, _-_, _≤_, _<_}
 use mathlib.Core.Path.{_≡_, refl, sym, _∙_, ap, ap₂}
 use mathlib.Core.Bool.{Bool, true, false, _&&_, _||_, not, cond, true≢false}
 use mathlib.Core.List.{List, [], _∷_}
@@ -8,19 +8,18 @@ use lib.Dec.{eqb, leb, ltb}
 use lib.IntN.{pos}
 use lib.Signed.{leZ}
 use lib.ListN.{getD, length, take}
-use borrow.Author.Tests.{leb-true, leb-false, le-leb, lt-leb, le-ltb, lt-ltb, ltb-true, ltb-false, eqb-true, eqb-false, ne-eqb}
+use borrow.Author.Tests.{leb-true, leb-false, le-ltb, lt-ltb, eqb-false, ne-eqb}
 use Rattle.meaning.specs.Base.{all}
 use Rattle.meaning.specs.Grammar.{Symbol, Occurrence, Function, const, copy, sum, diff, prod, maxi, mini, addc, quot, Rule, Condition, Counts}
-use Rattle.meaning.specs.Table.{byte, constantAt, State, Entry, Header, Kind, rule, occurrenceAt, occurrenceKnown, isInput, hasRule, functionOf, ruleOf, operands, ruleLength, lowestOf, limitsHold, judgeField, tagStands, stage, atAny}
-use Rattle.fields.specs.Demand.{ifEqual, ifBelow, differs, below, lacks, holds, equal, atMost}
-use Rattle.fields.specs.Reads.{stateOf, entryOf}
+use Rattle.meaning.specs.Table.{byte, constantAt, State, Entry, Header, rule, occurrenceAt, occurrenceKnown, isInput, hasRule, functionOf, operands, ruleLength, lowestOf, judgeField, tagStands, stage, atAny}
+use Rattle.fields.specs.Demand.{ifEqual, ifBelow, below, lacks, holds, equal, atMost}
 use Rattle.fields.proofs.Rest.{fieldOf}
-use Rattle.fields.proofs.Judged.{lowest, judge-stands, judge-not, stage-later}
-use Rattle.rules.specs.Rule.{Small, bit, classAt, classIn, classFault, orElse, fourAt, lengthOf, operandCount, operandClass, operandPlace, divisorFits, ruleOrder, ruleUses, ruleFault}
+use Rattle.fields.proofs.Judged.{judge-stands}
+use Rattle.rules.specs.Rule.{Small, bit, classIn, fourAt, lengthOf, operandCount, operandClass, operandPlace, divisorFits, ruleOrder, ruleUses, ruleFault}
 use Rattle.rules.specs.Note.{Placed, Noted, occurrence, isSet}
 use Rattle.rules.proofs.Laws.{ap3, class-inside, class-first, class-last}
 use Rattle.rules.proofs.Order.{divisor-same}
-use Rattle.rules.proofs.Uses.{Classed, unknown, input, output, classed, uses-by, entry, state}
+use Rattle.rules.proofs.Uses.{Classed, input, classed, uses-by, entry, state}
 
 -- ---- the operands by the function
 
@@ -177,19 +176,19 @@ module _ (h : Header) (cs : List Counts) (os : List ℕ) (es : List Entry) (r c 
   unfolding ruleUses ruleOrder operandPlace lacks below ifEqual ifBelow
   uses-judged u =
       ap3
-        (λ x y z. lowestOf ((K (occurrenceAt b 0) && x, 5) ∷ (true, 6) ∷ (not (I (occurrenceAt b 0)) && y, 7) ∷ (not (hasRule e (occurrenceAt b 0)), 8) ∷ (eqb (byte b 0) 0 || z, 9) ∷ (true, 10) ∷ []))
-        (all-operands K u) (all-operands I u) (all-operands (λ x. ltb (x .position) (byte b 0)) u)
+      (λ x y z. lowestOf ((K (occurrenceAt b 0) && x, 5) ∷ (true, 6) ∷ (not (I (occurrenceAt b 0)) && y, 7) ∷ (not (hasRule e (occurrenceAt b 0)), 8) ∷ (eqb (byte b 0) 0 || z, 9) ∷ (true, 10) ∷ []))
+      (all-operands K u) (all-operands I u) (all-operands (λ x. ltb (x .position) (byte b 0)) u)
       ∙ uses-by
-          (hasRule e (occurrenceAt b 0))
-          (bit (getD note (byte b 0) 0) (byte b 1 - 1))
-          (eqb (byte b 0) 0)
-          (given 0 (operandCount f) (ltb (byte b 3) (byte b 0)))
-          (ltb (cond (ltb 0 (operandCount f)) (byte b 3) 0) (byte b 0))
-          (given 1 (operandCount f) (ltb (byte b 5) (byte b 0)))
-          (ltb (cond (ltb 1 (operandCount f)) (byte b 5) 0) (byte b 0))
-          (λ z. place-same (ltb 0 (operandCount f)) (byte b 3) (byte b 0) z)
-          (λ z. place-same (ltb 1 (operandCount f)) (byte b 5) (byte b 0) z)
-          (class-of 0) first-class second-class noted-same
+      (hasRule e (occurrenceAt b 0))
+      (bit (getD note (byte b 0) 0) (byte b 1 - 1))
+      (eqb (byte b 0) 0)
+      (given 0 (operandCount f) (ltb (byte b 3) (byte b 0)))
+      (ltb (cond (ltb 0 (operandCount f)) (byte b 3) 0) (byte b 0))
+      (given 1 (operandCount f) (ltb (byte b 5) (byte b 0)))
+      (ltb (cond (ltb 1 (operandCount f)) (byte b 5) 0) (byte b 0))
+      (λ z. place-same (ltb 0 (operandCount f)) (byte b 3) (byte b 0) z)
+      (λ z. place-same (ltb 1 (operandCount f)) (byte b 5) (byte b 0) z)
+      (class-of 0) first-class second-class noted-same
 
   -- x is "the function is above 8", y "the function is 8", u "the function is at most 8"
   abbrev rest : List (Bool × ℕ)
@@ -205,7 +204,7 @@ module _ (h : Header) (cs : List Counts) (os : List ℕ) (es : List Entry) (r c 
   abbrev whole : Bool → Bool → Bool → ℕ
   whole x y u =
       lowestOf
-      ( (leb 3 (length b) && ltb r 1024 && (x || eqb (length b) (ruleLength f)) && (not y || divisor), 4)
+      ((leb 3 (length b) && ltb r 1024 && (x || eqb (length b) (ruleLength f)) && (not y || divisor), 4)
       ∷ (u && K (occurrenceAt b 0) && all K (operands (functionOf b)), 5)
       ∷ rest
       )
@@ -220,9 +219,9 @@ module _ (h : Header) (cs : List Counts) (os : List ℕ) (es : List Entry) (r c 
       let k : f ≤ 8 = leb-true f 8 w in
       ap₂ (λ x u. whole x (eqb f 8) u) (le-ltb 8 f k) w
       ∙ rule-by (leb 3 (length b)) (ltb r 1024) (eqb (length b) (ruleLength f)) (eqb (length b) (lengthOf f)) (not (eqb f 8) || divisor) (divisorFits f b) ((K (occurrenceAt b 0) && all K (operands (functionOf b)), 5) ∷ rest) (ruleUses width inh syn note b (operandCount f))
-          (ap (λ (x : ℕ). eqb (length b) x) (length-by f k))
-          (divisor-in b (eqb f 8))
-          (uses-judged k)
+      (ap (λ (x : ℕ). eqb (length b) x) (length-by f k))
+      (divisor-in b (eqb f 8))
+      (uses-judged k)
       ∙ sym (ap fault w)
   by-function false w =
       let k : 8 < f = leb-false f 8 w in

@@ -1,15 +1,15 @@
 -- The classes of occurrences, and the demands on a rule and a condition by them.
-use Prim.Native.Nat.{ℕ, zero, suc, _+_, _-_, _*_, _≤_, _<_}
+use Prim.Native.Nat.{ℕ, zero, suc, _+_, _≤_, _<_}
 use mathlib.Core.Path.{_≡_, refl, sym, _∙_, ap, ap₂}
-use mathlib.Core.Bool.{Bool, true, false, _&&_, _||_, not, cond, true≢false}
+use mathlib.Core.Bool.{Bool, true, false, _&&_, _||_, not, cond}
 use mathlib.Core.List.{List, [], _∷_, reverse}
 use native.Mathlib.Omega.{arith}
 use lib.Dec.{eqb, leb, ltb}
-use lib.ListN.{getD, length, take}
-use borrow.Author.Tests.{leb-true, leb-false, le-leb, lt-leb, le-ltb, lt-ltb, ltb-true, ltb-false}
+use lib.ListN.{getD, length}
+use borrow.Author.Tests.{leb-true, leb-false, le-leb, lt-leb, le-ltb, lt-ltb}
 use Rattle.meaning.specs.Grammar.{Symbol, Occurrence, Rule, Condition, Counts, countsIn}
-use Rattle.meaning.specs.Table.{State, Entry, Header, entrySymbol, countsAt, occurrenceKnown, isInput, sameAs, lowestOf, within}
-use Rattle.fields.specs.Demand.{ifEqual, ifBelow, differs, below, lacks}
+use Rattle.meaning.specs.Table.{State, Entry, Header, entrySymbol, countsAt, occurrenceKnown, isInput, sameAs, lowestOf}
+use Rattle.fields.specs.Demand.{ifEqual, ifBelow, differs, below}
 use Rattle.fields.specs.Reads.{stateOf, entryOf}
 use Rattle.rules.specs.Rule.{classAt, classFault, orElse}
 use Rattle.rules.specs.Note.{symbolIn, Placed, occurrence}

@@ -4,12 +4,18 @@ ghost use Prim.Native.Nat.{_+_, _≤_};
 ghost use lib.ListN.{length};
 ghost use Rattle.rules.specs.Rule.{classAt, classIn};
 
+pub mod condition;
 pub mod note;
 pub mod rule;
-pub mod condition;
 
 // What an occurrence is in its production. 0: unknown; 1: an input; 2: an output.
-pub fn class_of(width: usize, inh: &[u8; 13], syn: &[u8; 13], position: usize, attribute: usize) -> usize
+pub fn class_of(
+    width: usize,
+    inh: &[u8; 13],
+    syn: &[u8; 13],
+    position: usize,
+    attribute: usize,
+) -> usize
     requires { ⌜ width ≤ 12 ⌝ }
     ensures { λ r. ⌜ r ≡ classAt width (now (inh .entry)) (now (syn .entry)) position attribute ⌝ }
 {

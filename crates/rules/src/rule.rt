@@ -48,7 +48,14 @@ pub fn operand_count(f: usize) -> usize
 }
 
 // The class of the k-th of n operands; one past them counts as an input.
-pub fn operand_class(width: usize, inh: &[u8; 13], syn: &[u8; 13], body: &[u8], n: usize, k: usize) -> usize
+pub fn operand_class(
+    width: usize,
+    inh: &[u8; 13],
+    syn: &[u8; 13],
+    body: &[u8],
+    n: usize,
+    k: usize,
+) -> usize
     requires { ⌜ (width ≤ 12) × (k < 2) × (3 + 2 * n ≤ length (now body)) ⌝ }
     ensures { λ r. ⌜ r ≡ operandClass width (now (inh .entry)) (now (syn .entry)) (now (body .entry)) n k ⌝ }
 {
@@ -130,7 +137,14 @@ pub fn rule_order(note: &[u8; 13], n: usize, body: &[u8]) -> u8
     0
 }
 
-pub fn rule_uses(width: usize, inh: &[u8; 13], syn: &[u8; 13], note: &[u8; 13], body: &[u8], n: usize) -> u8
+pub fn rule_uses(
+    width: usize,
+    inh: &[u8; 13],
+    syn: &[u8; 13],
+    note: &[u8; 13],
+    body: &[u8],
+    n: usize,
+) -> u8
     requires { ⌜ Small width (now inh) (now syn) × (3 + 2 * n ≤ length (now body)) ⌝ }
     ensures { λ r. ⌜ r ≡ ruleUses width (now (inh .entry)) (now (syn .entry)) (now (note .entry)) (now (body .entry)) n ⌝ }
 {
@@ -145,7 +159,14 @@ pub fn rule_uses(width: usize, inh: &[u8; 13], syn: &[u8; 13], note: &[u8; 13], 
 }
 
 // The lowest number that applies to the body of a tag 4 field after r others, or 0.
-pub fn rule_fault(r: usize, width: usize, inh: &[u8; 13], syn: &[u8; 13], note: &[u8; 13], body: &[u8]) -> u8
+pub fn rule_fault(
+    r: usize,
+    width: usize,
+    inh: &[u8; 13],
+    syn: &[u8; 13],
+    note: &[u8; 13],
+    body: &[u8],
+) -> u8
     requires { ⌜ Small width (now inh) (now syn) ⌝ }
     ensures { λ q. ⌜ q ≡ ruleFault r width (now (inh .entry)) (now (syn .entry)) (now (note .entry)) (now (body .entry)) ⌝ }
 {

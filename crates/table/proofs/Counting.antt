@@ -1,19 +1,18 @@
 -- The tag 2 fields, one after the other.
-use Prim.Native.Nat.{ℕ, zero, suc, _+_, _-_, _*_, _≤_, _<_}
+use Prim.Native.Nat.{ℕ, zero, suc, _+_, _*_, _≤_, _<_}
 use mathlib.Core.Path.{_≡_, refl, sym, _∙_, ap, ap₂}
-use mathlib.Core.List.{List, [], _∷_, reverse, reverseAux}
+use mathlib.Core.List.{List, [], _∷_}
 use mathlib.Core.Logic.{⊎-elim}
 use native.Mathlib.Omega.{arith}
 use native.Mathlib.Nat.{not-suc-le-zero}
 use lib.ListN.{length, getD, set, length-set}
 use lib.Seq.{getD-set-same, getD-set-other}
-use Rattle.meaning.specs.Grammar.{Counts, noCounts}
+use Rattle.meaning.specs.Grammar.{Counts}
 use Rattle.meaning.specs.Table.{byte, Read}
 use Rattle.fields.specs.Field.{rest, judged}
 use Rattle.fields.specs.Reads.{stateOf}
 use Rattle.fields.proofs.Rest.{judged-fine, judged-refused}
 use Rattle.rules.proofs.Bits.{lt-or-le}
-use Rattle.table.specs.declared.Refusal.{Refusal}
 use Rattle.table.specs.Outline.{headerIn, headed, countsUpTo, offsetsUpTo, counted, SmallCounts}
 use Rattle.table.specs.Progress.{CountsJudged, CountsRead}
 
@@ -104,8 +103,8 @@ module _ (t : List ℕ) (n : ℕ) (inh syn : List ℕ) (c : Counting t n inh syn
           let e : at + 5 ≡ 7 + 5 * (n + 1) = omega arith in
           record {
             read = step ∙ judged-fine number at after fine
-              ∙ ap₂ (λ cs os. rest t (stateOf (headerIn t) cs os [] 0 0) (at + 5)) counts-more offsets-more
-              ∙ ap (λ i. rest t (counted t inh′ syn′ (n + 1)) i) e;
+                ∙ ap₂ (λ cs os. rest t (stateOf (headerIn t) cs os [] 0 0) (at + 5)) counts-more offsets-more
+                ∙ ap (λ i. rest t (counted t inh′ syn′ (n + 1)) i) e;
             long = omega (arith, j .long fine);
             small = small-more;
             first = length-set inh n (byte t (at + 3)) ∙ c .first;

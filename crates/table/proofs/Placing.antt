@@ -1,5 +1,5 @@
 -- Loops that write counts and rows.
-use Prim.Native.Nat.{ℕ, zero, suc, _+_, _-_, _*_, _≤_, _<_}
+use Prim.Native.Nat.{ℕ, zero, suc, _+_, _*_, _≤_, _<_}
 use mathlib.Core.Path.{_≡_, refl, sym, _∙_, ap}
 use mathlib.Core.List.{List}
 use mathlib.Core.Logic.{⊎-elim}
@@ -35,12 +35,12 @@ placing-more b counts places k x p one room e = record { each = each; kept = len
     each : (j : ℕ) → j < k + 1 → getD (set places k x) j 0 ≡ countOf counts (symbolByte b j)
     each j h =
         ⊎-elim
-          (λ l. getD-set-other places k j x 0 (λ q. omega arith) ∙ p .each j l)
-          (λ l.
-            let q : j ≡ k = omega arith in
-            ap (λ (i : ℕ). getD (set places k x) i 0) q ∙ getD-set-same places k x 0 (omega (arith, p .kept)) ∙ e
-            ∙ ap (countOf counts) (symbol-byte b k one ∙ ap (symbolByte b) (sym q)))
-          (lt-or-le j k)
+        (λ l. getD-set-other places k j x 0 (λ q. omega arith) ∙ p .each j l)
+        (λ l.
+        let q : j ≡ k = omega arith in
+        ap (λ (i : ℕ). getD (set places k x) i 0) q ∙ getD-set-same places k x 0 (omega (arith, p .kept)) ∙ e
+        ∙ ap (countOf counts) (symbol-byte b k one ∙ ap (symbolByte b) (sym q)))
+        (lt-or-le j k)
 
 pub copying-start : (rows : List ℕ) (p : ℕ) (b : List ℕ) → length rows ≡ 2048 → Copied rows p b rows 0
 copying-start rows p b l = record { before = λ i h. refl; row = λ j h. absurd (not-suc-le-zero h); kept = l }
@@ -58,9 +58,9 @@ copying-more rows₀ p b rows k c room =
     row : (j : ℕ) → j < k + 1 → getD (set rows (16 * p + k) (byte b k)) (16 * p + j) 0 ≡ byte b j
     row j h =
         ⊎-elim
-          (λ l. getD-set-other rows (16 * p + k) (16 * p + j) (byte b k) 0 (λ q. omega arith) ∙ c .row j l)
-          (λ l.
-            let q : j ≡ k = omega arith in
-            ap (λ (i : ℕ). getD (set rows (16 * p + k) (byte b k)) (16 * p + i) 0) q
-            ∙ getD-set-same rows (16 * p + k) (byte b k) 0 (omega (arith, c .kept)) ∙ ap (byte b) (sym q))
-          (lt-or-le j k)
+        (λ l. getD-set-other rows (16 * p + k) (16 * p + j) (byte b k) 0 (λ q. omega arith) ∙ c .row j l)
+        (λ l.
+        let q : j ≡ k = omega arith in
+        ap (λ (i : ℕ). getD (set rows (16 * p + k) (byte b k)) (16 * p + i) 0) q
+        ∙ getD-set-same rows (16 * p + k) (byte b k) 0 (omega (arith, c .kept)) ∙ ap (byte b) (sym q))
+        (lt-or-le j k)

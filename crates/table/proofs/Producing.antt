@@ -1,7 +1,7 @@
 -- The field of a production in each way it can go, and the counts at its positions.
-use Prim.Native.Nat.{ℕ, zero, suc, _+_, _-_, _*_, _≤_, _<_}
+use Prim.Native.Nat.{ℕ, zero, suc, _+_, _-_, _≤_, _<_}
 use mathlib.Core.Path.{_≡_, refl, sym, _∙_, ap, ap₂, subst, subst₂}
-use mathlib.Core.Bool.{Bool, true, false, true≢false, cond}
+use mathlib.Core.Bool.{Bool, true, false, cond}
 use mathlib.Core.List.{List, [], _∷_, map, reverse, reverseAux}
 use mathlib.Core.Logic.{⊎-elim}
 use native.Mathlib.Omega.{arith}
@@ -9,11 +9,11 @@ use native.Mathlib.Nat.{not-suc-le-zero}
 use lib.Dec.{ltb}
 use lib.ListN.{length, getD, take, drop, length-drop, length-take, length-map, List·getD-map}
 use lib.Seq.{getD-drop}
-use borrow.Author.Tests.{ltb-true, ltb-false, lt-ltb, le-ltb}
+use borrow.Author.Tests.{ltb-true, ltb-false, le-ltb}
 use Rattle.meaning.specs.Grammar.{Counts, noCounts, Symbol, terminal, nonterminal, countsIn}
-use Rattle.meaning.specs.Table.{byte, Header, State, Entry, production, readField, kindOf, judgeField, lastComplete, symbolOf}
+use Rattle.meaning.specs.Table.{byte, Header, Entry, production, readField, kindOf, judgeField, symbolOf}
 use Rattle.fields.specs.Demand.{ifBelow}
-use Rattle.fields.specs.Field.{Whole, Short, rest, judged, bodyAt}
+use Rattle.fields.specs.Field.{Whole, Short, rest, bodyAt}
 use Rattle.fields.specs.Judge.{productionFault, symbolKnown}
 use Rattle.fields.specs.Reads.{stateOf, entryOf}
 use Rattle.fields.proofs.Demands.{below-yes, below-no}
@@ -22,7 +22,7 @@ use Rattle.fields.proofs.Judged.{production-judged, first-not}
 use Rattle.fields.proofs.Fine.{ProductionFine, production-fine}
 use Rattle.fields.proofs.Walks.{all-each}
 use Rattle.rules.specs.Rule.{Small}
-use Rattle.rules.specs.Note.{symbolIn, Placed}
+use Rattle.rules.specs.Note.{symbolIn}
 use Rattle.rules.proofs.Bits.{lt-or-le}
 use Rattle.table.specs.declared.Uses.{Uses}
 use Rattle.table.specs.Outline.{SmallCounts, Numbered, countOf, symbolByte, countsUpTo, Written}
@@ -54,7 +54,7 @@ module _ (t : List ℕ) (at p terminals nonterminals : ℕ) (inside : at < lengt
     production-other n f =
         record {
           read = λ h cs os es r c tm nt all len done.
-            step-field t (stateOf h cs os es r c) at inside (calm-complete (stateOf h cs os es r c) (byte t at) done) _ size w 3
+              step-field t (stateOf h cs os es r c) at inside (calm-complete (stateOf h cs os es r c) (byte t at) done) _ size w 3
               (first-not h cs os es r c at b (byte t at) (omega (arith, all, nt)) (none-of es (⊎-elim (λ l. absurd (n (f l))) (λ l. omega arith) (lt-or-le 0 p))) n)
               (λ e. absurd (three e));
           known = λ z. absurd (three z);
@@ -84,8 +84,8 @@ module _ (t : List ℕ) (at p terminals nonterminals : ℕ) (inside : at < lengt
             few = fine .few;
             left = omega (arith, fine .left, first);
             symbols = λ k l.
-              ap (λ x. symbolKnown terminals nonterminals (byte x (k + 2))) (sym body-is)
-              ∙ all-each (symbolKnown terminals nonterminals) b 2 (k + 2) (fine .symbols) (omega arith) (omega (arith, long-body, size-is));
+                ap (λ x. symbolKnown terminals nonterminals (byte x (k + 2))) (sym body-is)
+                ∙ all-each (symbolKnown terminals nonterminals) b 2 (k + 2) (fine .symbols) (omega arith) (omega (arith, long-body, size-is));
           }
 
       after-same :
@@ -107,7 +107,7 @@ module _ (t : List ℕ) (at p terminals nonterminals : ℕ) (inside : at < lengt
         let q : number ≡ productionFault terminals nonterminals p b = e ∙ ap (productionFault terminals nonterminals p) is in
         record {
           read = λ h cs os es r c tm nt all len done.
-            step-field t (stateOf h cs os es r c) at inside (calm-complete (stateOf h cs os es r c) (byte t at) done) _ size w number
+              step-field t (stateOf h cs os es r c) at inside (calm-complete (stateOf h cs os es r c) (byte t at) done) _ size w number
               (ap (λ (x : ℕ). judgeField (stateOf h cs os es r c) (fieldOf at x b)) tag
               ∙ production-judged h cs os es r c at b (omega (arith, all, nt)) ∙ fault-same (h .terminals) (h .nonterminals) (length es) tm nt len ∙ sym q)
               (λ z. after-same (production-fine b terminals nonterminals p (sym q ∙ z)) h cs os es r c tag);
@@ -136,8 +136,8 @@ module _ {A : Type 0} (d : A) where
       last q =
           let here : length xs ≡ m = omega arith in
           subst₂ P here
-            (sym (ap (λ (i : ℕ). getD (reverseAux xs (x ∷ ys)) i d) q ∙ reverse-past xs (x ∷ ys) 0))
-            (e .0)
+          (sym (ap (λ (i : ℕ). getD (reverseAux xs (x ∷ ys)) i d) q ∙ reverse-past xs (x ∷ ys) 0))
+          (e .0)
 
   -- what holds of each element and its number holds of the list in order
   pub numbered : (P : ℕ → A → Type 0) (xs : List A) → Numbered P xs → (m : ℕ) → m < length xs → P m (getD (reverse xs) m d)
@@ -183,7 +183,7 @@ module _ (inh syn : List ℕ) where
         go true q = of-terminal k k (ltb-true k 128 q)
         go false q =
             of-nonterminal k (ltb-false k 128 q)
-              (ltb-true (k - 128) n (sym (ap (λ (b : Bool). cond b (ltb k terminals) (ltb (k - 128) n)) q) ∙ e))
+            (ltb-true (k - 128) n (sym (ap (λ (b : Bool). cond b (ltb k terminals) (ltb (k - 128) n)) q) ∙ e))
 
     small-count : SmallCounts inh syn n → (k : ℕ) → (128 ≤ k → k - 128 < n) → countOf inh k + countOf syn k ≤ 8
     unfolding countOf
@@ -216,12 +216,12 @@ module _ (t : List ℕ) (at p terminals nonterminals : ℕ) (inh syn : List ℕ)
   each-position : (k : ℕ) → k ≤ widthIn t at → SymbolCounts inh syn nonterminals (symbolIn (leftIn t at) (rightIn t at) k) (symbolByte (bodyIn t at) k)
   each-position zero l =
       subst₂ (SymbolCounts inh syn nonterminals)
-        (ap nonterminal {x = 128 + leftIn t at - 128} {y = leftIn t at} (omega arith))
-        (ap (λ (x : ℕ). 128 + x) (sym left-byte))
-        (of-nonterminal inh syn nonterminals (128 + leftIn t at) (omega arith) (omega (arith, known .left)))
+      (ap nonterminal {x = 128 + leftIn t at - 128} {y = leftIn t at} (omega arith))
+      (ap (λ (x : ℕ). 128 + x) (sym left-byte))
+      (of-nonterminal inh syn nonterminals (128 + leftIn t at) (omega arith) (omega (arith, known .left)))
   each-position (suc k) l =
       subst (λ x. SymbolCounts inh syn nonterminals x (byte (bodyIn t at) (k + 2))) (sym (right-symbol k))
-        (of-symbol inh syn nonterminals terminals (byte (bodyIn t at) (k + 2)) (known .symbols k (omega arith)))
+      (of-symbol inh syn nonterminals terminals (byte (bodyIn t at) (k + 2)) (known .symbols k (omega arith)))
 
   pub counts-agree : CountsAgree t at inh syn (countsUpTo inh syn nonterminals)
   counts-agree = record { inherits = λ k l. each-position k l .first; synthesizes = λ k l. each-position k l .second }
@@ -253,20 +253,20 @@ module _ (t : List ℕ) (at w : ℕ) (inherited synthesized inh syn part : List 
   pub body-read : (r₀ c₀ : ℕ) (u : Uses) → UsesRead (settingOf t at w inh syn) (at + 5 + w) r₀ c₀ u → BodyRead t at inherited synthesized r₀ c₀ u
   body-read r₀ c₀ u f h cs os es all agree =
       let a : Around (settingOf t at w inh syn) =
-        record {
-          header = h;
-          counts = cs;
-          offsets = os;
-          left = leftIn t at;
-          right = rightIn t at;
-          others = es;
-          all = all;
-          placed = record {
-            wide = sym right-long;
-            inherits = λ k l. at-place inherited inh p k l ∙ agree .inherits k (omega arith);
-            synthesizes = λ k l. at-place synthesized syn q k l ∙ agree .synthesizes k (omega arith);
-          };
-        }
+      record {
+        header = h;
+        counts = cs;
+        offsets = os;
+        left = leftIn t at;
+        right = rightIn t at;
+        others = es;
+        all = all;
+        placed = record {
+          wide = sym right-long;
+          inherits = λ k l. at-place inherited inh p k l ∙ agree .inherits k (omega arith);
+          synthesizes = λ k l. at-place synthesized syn q k l ∙ agree .synthesizes k (omega arith);
+        };
+      }
       in
       let m = f a in
       (m .0, m .1, ap (λ (i : ℕ). rest t (stateOf h cs os (entryOf at (leftIn t at) (rightIn t at) [] [] ∷ es) r₀ c₀) (at + 5 + i)) (sym is-width) ∙ m .2, m .3)

@@ -1,26 +1,26 @@
 -- Productions, one after the other: their rows, and the answer at the end.
-use Prim.Native.Nat.{ℕ, zero, suc, _+_, _-_, _*_, _≤_, _<_}
-use mathlib.Core.Path.{_≡_, refl, sym, _∙_, ap, ap₂, subst}
-use mathlib.Core.Bool.{Bool, true, false}
-use mathlib.Core.List.{List, [], _∷_, map}
+use Prim.Native.Nat.{ℕ, _+_, _*_, _≤_, _<_}
+use mathlib.Core.Path.{_≡_, refl, sym, _∙_, ap, subst}
+use mathlib.Core.Bool.{true, false}
+use mathlib.Core.List.{List, [], _∷_}
 use native.Mathlib.Omega.{arith}
-use lib.ListN.{length, getD, drop, set, length-set, length-map, length-drop, List·getD-map}
-use lib.Seq.{getD-drop, getD-set-same, getD-set-other}
+use lib.ListN.{length, getD, drop, set, length-set, length-map, length-drop}
+use lib.Seq.{getD-set-same, getD-set-other}
 use Rattle.meaning.specs.Grammar.{Counts, Symbol, terminal}
-use Rattle.meaning.specs.Table.{byte, Header, State, Entry, noEntry, Read, wellFormed, malformed, stage, atAny, atFirst, lastComplete, symbolOf, current}
-use Rattle.fields.specs.Field.{rest, judged}
+use Rattle.meaning.specs.Table.{byte, State, Entry, noEntry, Read, wellFormed, malformed, stage, atAny, atFirst, lastComplete, symbolOf, current}
+use Rattle.fields.specs.Field.{rest}
 use Rattle.fields.specs.Reads.{stateOf, entryOf}
-use Rattle.fields.proofs.Rest.{rest-end, judged-fine, judged-refused, body-length, body-byte}
+use Rattle.fields.proofs.Rest.{rest-end, judged-fine, judged-refused, body-byte}
 use Rattle.fields.proofs.Judged.{stage-later}
 use Rattle.table.specs.declared.Sizes.{Sizes}
 use Rattle.table.specs.declared.Uses.{Uses}
 use Rattle.table.specs.declared.Reading.{Reading}
 use Rattle.table.specs.declared.Reading.the-variants.{WellFormed, Malformed}
-use Rattle.table.specs.Outline.{headerIn, countsUpTo, offsetsUpTo, counted, SmallCounts, Copied, RowOf, Laid, Outline}
+use Rattle.table.specs.Outline.{headerIn, countsUpTo, offsetsUpTo, counted, Copied, RowOf, Laid}
 use Rattle.table.specs.Progress.{Next, Over}
 use Rattle.table.specs.Productions.{widthIn, bodyIn, leftIn, rightIn, ProductionKnown, ProductionJudged, BodyRead, ProductionRead, Ready}
 use Rattle.table.specs.Answer.{Answers, numberOf, offsetOf}
-use Rattle.table.proofs.Steps.{three, endBy}
+use Rattle.table.proofs.Steps.{endBy}
 use Rattle.table.proofs.Counting.{length-counts}
 use Rattle.table.proofs.Walking.{stage-any}
 use Rattle.table.proofs.Producing.{counts-agree, right-symbol, left-byte, long-in, numbered}
@@ -53,12 +53,12 @@ module _ (t : List ℕ) (at p terminals nonterminals : ℕ) (inherited synthesiz
       → ProductionRead t at p terminals nonterminals inherited synthesized rows₀ offsets₀ r₀ c₀ rows₀ offsets₀ (record { number = number; at = at; rules = r₀; conditions = c₀ })
   production-refused n inside long =
       record {
-        read = λ h os es tm nt len done laid.
-          ( noEntry
-          , j .read h cs os es r₀ c₀ tm nt (omega (arith, length-counts inherited synthesized nonterminals)) len done ∙ judged-refused number at _ n ∙ sym (judged-refused number at _ n)
-          , (λ z. absurd (n z))
-          , λ z. absurd (n z)
-          );
+        read = λ h os es tm nt len done laid. (
+          noEntry,
+          j .read h cs os es r₀ c₀ tm nt (omega (arith, length-counts inherited synthesized nonterminals)) len done ∙ judged-refused number at _ n ∙ sym (judged-refused number at _ n),
+          (λ z. absurd (n z)),
+          λ z. absurd (n z),
+        );
         next = λ z. absurd (n z);
         few = λ z. absurd (n z);
         inside = inside;
@@ -87,8 +87,8 @@ module _ (t : List ℕ) (at p terminals nonterminals : ℕ) (inherited synthesiz
           left = ap (λ (i : ℕ). getD rows i 0) {x = 16 * p} {y = 16 * p + 0} (omega arith) ∙ row-byte 0 (omega arith) ∙ left-byte t at p terminals nonterminals inherited synthesized known ∙ sym l;
           size = row-byte 1 (omega arith) ∙ width-byte ∙ sym (ap length x ∙ right-long);
           symbols = λ k h.
-            ap symbolOf (row-byte (k + 2) (omega (arith, ap length x, right-long)))
-            ∙ sym (right-symbol t at p terminals nonterminals inherited synthesized known k) ∙ sym (ap (λ (xs : List Symbol). getD xs k (terminal 0)) x);
+              ap symbolOf (row-byte (k + 2) (omega (arith, ap length x, right-long)))
+              ∙ sym (right-symbol t at p terminals nonterminals inherited synthesized known k) ∙ sym (ap (λ (xs : List Symbol). getD xs k (terminal 0)) x);
           short = omega (arith, ap length x, right-long, known .short);
           offset = getD-set-same offsets₀ p at 0 (omega (arith, known .few)) ∙ sym o;
         }
@@ -99,15 +99,15 @@ module _ (t : List ℕ) (at p terminals nonterminals : ℕ) (inherited synthesiz
     production-read u body next inside =
         record {
           read = λ h os es tm nt len done laid.
-            let m = body h cs os es (omega (arith, nt, length-counts inherited synthesized nonterminals)) (counts-agree t at p terminals nonterminals inherited synthesized known) in
-            ( entryOf at (leftIn t at) (rightIn t at) (m .0) (m .1)
-            , j .read h cs os es r₀ c₀ tm nt (omega (arith, length-counts inherited synthesized nonterminals)) len done ∙ judged-fine number at _ fine ∙ m .2
-            , m .3
-            , λ z.
-              ( subst (λ (n : ℕ). RowOf rows (set offsets₀ p at) n (entryOf at (leftIn t at) (rightIn t at) (m .0) (m .1))) (sym len) (row-is (entryOf at (leftIn t at) (rightIn t at) (m .0) (m .1)) refl refl refl)
-              , laid-kept rows₀ rows offsets₀ p at (copied .before) es (omega (arith, len)) laid
-              )
-            );
+              let m = body h cs os es (omega (arith, nt, length-counts inherited synthesized nonterminals)) (counts-agree t at p terminals nonterminals inherited synthesized known) in (
+                entryOf at (leftIn t at) (rightIn t at) (m .0) (m .1),
+                j .read h cs os es r₀ c₀ tm nt (omega (arith, length-counts inherited synthesized nonterminals)) len done ∙ judged-fine number at _ fine ∙ m .2,
+                m .3,
+                λ z. (
+                  subst (λ (n : ℕ). RowOf rows (set offsets₀ p at) n (entryOf at (leftIn t at) (rightIn t at) (m .0) (m .1))) (sym len) (row-is (entryOf at (leftIn t at) (rightIn t at) (m .0) (m .1)) refl refl refl),
+                  laid-kept rows₀ rows offsets₀ p at (copied .before) es (omega (arith, len)) laid,
+                ),
+              );
           next = next;
           few = λ z. known .few;
           inside = inside;
@@ -210,19 +210,20 @@ pub answer-whole :
     (t : List ℕ) (sizes : Sizes) (inherited synthesized rows offsets : List ℕ) (p at r c : ℕ) → Ready t sizes inherited synthesized
     → Reached t (sizes .nonterminals) inherited synthesized rows offsets p at r c → length t ≤ at → (p ≡ 0 → ⊥)
     → Answers
-        (WellFormed (record { terminals = sizes .terminals; nonterminals = sizes .nonterminals; start = sizes .start; result = sizes .result; productions = p }))
-        inherited synthesized rows offsets
-        (rest t (counted t inherited synthesized (sizes .nonterminals)) (7 + 5 * sizes .nonterminals))
+    (WellFormed (record { terminals = sizes .terminals; nonterminals = sizes .nonterminals; start = sizes .start; result = sizes .result; productions = p }))
+    inherited synthesized rows offsets
+    (rest t (counted t inherited synthesized (sizes .nonterminals)) (7 + 5 * sizes .nonterminals))
 answer-whole t sizes inherited synthesized rows offsets p at r c ready w ended some =
-    subst (Answers _ inherited synthesized rows offsets) (sym (reached-end t (sizes .nonterminals) inherited synthesized rows offsets p at r c w (ready .nonterminals) ended some))
-      ( _, refl
-      , record {
-          terminals = ready .terminals;
-          nonterminals = ready .nonterminals;
-          start = ready .start;
-          result = ready .result;
-          productions = sym (w .count);
-          counts = refl;
-          each = λ i l. numbered noEntry (RowOf rows offsets) (w .entries) (w .laid) i (omega (arith, w .count));
-        }
-      )
+    subst (Answers _ inherited synthesized rows offsets) (sym (reached-end t (sizes .nonterminals) inherited synthesized rows offsets p at r c w (ready .nonterminals) ended some)) (
+      _,
+      refl,
+      record {
+        terminals = ready .terminals;
+        nonterminals = ready .nonterminals;
+        start = ready .start;
+        result = ready .result;
+        productions = sym (w .count);
+        counts = refl;
+        each = λ i l. numbered noEntry (RowOf rows offsets) (w .entries) (w .laid) i (omega (arith, w .count));
+      },
+    )

@@ -1,20 +1,20 @@
 -- One field of tag 1 or 2, in each way it can go.
-use Prim.Native.Nat.{ℕ, zero, suc, _+_, _-_, _*_, _≤_, _<_}
+use Prim.Native.Nat.{ℕ, _+_, _-_, _≤_, _<_}
 use mathlib.Core.Path.{_≡_, refl, sym, _∙_, ap, ap₂}
-use mathlib.Core.Bool.{Bool, true, false, _&&_, not}
+use mathlib.Core.Bool.{true, false, _&&_, not}
 use mathlib.Core.List.{List, [], _∷_}
 use native.Mathlib.Omega.{arith}
 use lib.Dec.{eqb}
-use lib.ListN.{length, getD, take, drop}
+use lib.ListN.{length, take, drop}
 use Rattle.meaning.specs.Grammar.{Counts}
-use Rattle.meaning.specs.Table.{byte, Header, State, Entry, Stage, atHeader, atCounts, atFirst, atAny, stage, Read, wellFormed, malformed, atEnd, nothingRead, judgeField, readField, kindOf, Kind, header, counts, lastComplete, current}
+use Rattle.meaning.specs.Table.{byte, Header, State, Stage, atHeader, atCounts, atFirst, atAny, stage, Read, wellFormed, malformed, nothingRead, judgeField, readField, kindOf, header, counts, lastComplete, current}
 use Rattle.fields.specs.Field.{Whole, Short, rest, judged, bodyAt}
 use Rattle.fields.specs.Judge.{headerFault, countsFault}
 use Rattle.fields.specs.Reads.{stateOf}
-use Rattle.fields.proofs.Rest.{rest-end, judged-refused, judged-same, step-short, step-field, calm-complete, body-length, body-byte, fieldOf}
-use Rattle.fields.proofs.Judged.{header-judged, header-not, counts-judged, counts-not, stage-counts, stage-later}
+use Rattle.fields.proofs.Rest.{rest-end, judged-refused, step-short, step-field, calm-complete, body-length, body-byte, fieldOf}
+use Rattle.fields.proofs.Judged.{header-judged, header-not, counts-judged, counts-not, stage-counts}
 use Rattle.fields.proofs.Fine.{header-fine, counts-fine}
-use Rattle.table.specs.Outline.{headerIn, headed}
+use Rattle.table.specs.Outline.{headed}
 use Rattle.table.specs.Progress.{HeaderJudged, CountsJudged}
 
 two : _≡_ {A = ℕ} 2 0 → ⊥
@@ -30,11 +30,11 @@ part-body t at size = ap (λ (n : ℕ). take n (drop (at + 3) t)) {x = at + 3 + 
 -- what the end of the table says, by the stage
 abbrev pub endBy : State → ℕ → Stage → Read
 endBy s o x = elim x [
-    atHeader ↦ malformed 3 o
+  | atHeader ↦ malformed 3 o
   | atCounts ↦ malformed 3 o
   | atFirst ↦ malformed 3 o
   | atAny ↦ elim (lastComplete s) [ true ↦ wellFormed s | false ↦ malformed 8 (current s .offset) ]
-  ]
+]
 
 abbrev headerOf4 : ℕ → ℕ → ℕ → ℕ → State
 headerOf4 x y z w = stateOf (record { terminals = x; nonterminals = y; start = z; result = w }) [] [] [] 0 0
@@ -73,8 +73,8 @@ module _ (t : List ℕ) where
       pub header-whole : byte t 0 ≡ 1 → (number : ℕ) → number ≡ headerFault b → rest t nothingRead 0 ≡ judged number 0 (rest t (headed t) 7)
       header-whole tag number e =
           step-field t nothingRead 0 inside (calm-complete nothingRead (byte t 0) refl) _ size w number
-            (ap (λ (x : ℕ). judgeField nothingRead (fieldOf 0 x b)) tag ∙ header-judged 0 b ∙ sym e)
-            (λ z. header-after (header-size (sym e ∙ z)) tag)
+          (ap (λ (x : ℕ). judgeField nothingRead (fieldOf 0 x b)) tag ∙ header-judged 0 b ∙ sym e)
+          (λ z. header-after (header-size (sym e ∙ z)) tag)
 
       pub header-known : headerFault b ≡ 0 → (7 ≤ length t) × (byte t 4 ≤ 48)
       header-known e =
@@ -116,9 +116,9 @@ module _ (t : List ℕ) (h : Header) (cs : List Counts) (os : List ℕ) (at : �
           let j : at + 3 + 1 ≡ at + 4 = omega arith in
           ap₂ (λ (x k : ℕ). rest t (readField s at (kindOf x) b′) k) tag n
           ∙ ap₂
-              (λ (x y : ℕ). rest t (stateOf h (record { inherited = x; synthesized = y } ∷ cs) (at ∷ os) [] 0 0) (at + 5))
-              (body-byte t at size 0 (omega arith) ∙ ap (byte t) i)
-              (body-byte t at size 1 (omega arith) ∙ ap (byte t) j)
+          (λ (x y : ℕ). rest t (stateOf h (record { inherited = x; synthesized = y } ∷ cs) (at ∷ os) [] 0 0) (at + 5))
+          (body-byte t at size 0 (omega arith) ∙ ap (byte t) i)
+          (body-byte t at size 1 (omega arith) ∙ ap (byte t) j)
 
       pub counts-size : countsFault (length cs) (h .start) (h .result) b′ ≡ 0 → size ≡ 2
       counts-size e = sym (body-length t at size (w .inside)) ∙ counts-fine b′ (length cs) (h .start) (h .result) e .0
@@ -128,8 +128,8 @@ module _ (t : List ℕ) (h : Header) (cs : List Counts) (os : List ℕ) (at : �
           → rest t s at ≡ judged number at (rest t next (at + 5))
       counts-whole tag number e =
           step-field t s at inside calm _ size w number
-            (ap (λ (x : ℕ). judgeField s (fieldOf at x b′)) tag ∙ counts-judged h cs os at b′ few ∙ sym e)
-            (λ z. counts-after (counts-size (sym e ∙ z)) tag)
+          (ap (λ (x : ℕ). judgeField s (fieldOf at x b′)) tag ∙ counts-judged h cs os at b′ few ∙ sym e)
+          (λ z. counts-after (counts-size (sym e ∙ z)) tag)
 
 -- ---- the same for the code's numbers; `part` is the body as the code cuts it out
 

@@ -26,6 +26,6 @@ module _ (t : List ℕ) (short : length t ≤ 32768) (number : ℕ) (h : HeaderJ
         → Answers q inherited synthesized rows offsets (readTable t)
     productions-answer q rows offsets m a =
         subst
-          (Answers q inherited synthesized rows offsets)
-          (sym (rest-table t short ∙ h .read ∙ judged-fine number 0 _ fine ∙ c .read ∙ judged-fine (r .number) (r .offset) _ m))
-          a
+        (Answers q inherited synthesized rows offsets)
+        (sym (rest-table t short ∙ h .read ∙ judged-fine number 0 _ fine ∙ c .read ∙ judged-fine (r .number) (r .offset) _ m))
+        a

@@ -1,22 +1,22 @@
 -- The rules and conditions of a production, one after the other.
-use Prim.Native.Nat.{ℕ, zero, suc, _+_, _-_, _*_, _^_, _≤_, _<_}
+use Prim.Native.Nat.{ℕ, zero, suc, _+_, _-_, _^_, _≤_, _<_}
 use mathlib.Core.Path.{_≡_, refl, sym, _∙_, ap, ap₂, subst, subst₂}
 use mathlib.Core.Bool.{Bool, true, false, _&&_, _||_, not, true≢false}
 use mathlib.Core.List.{List, [], _∷_}
 use mathlib.Core.Logic.{⊎-elim}
 use native.Mathlib.Omega.{arith}
 use lib.Bits.{bitOr}
-use lib.Dec.{eqb, ltb}
+use lib.Dec.{eqb}
 use lib.ListN.{length, getD, set, replicate, length-set}
 use borrow.Author.Tests.{ne-eqb, eq-eqb, lt-ltb}
-use Rattle.meaning.specs.Grammar.{Counts, Symbol, Rule, Condition, Occurrence}
-use Rattle.meaning.specs.Table.{byte, Header, State, Entry, Stage, atFirst, atAny, stage, tagStands, Read, wellFormed, malformed, judgeField, readField, kindOf, rule, condition, ruleOf, conditionOf, lastComplete, current}
+use Rattle.meaning.specs.Grammar.{Counts, Rule, Condition, Occurrence}
+use Rattle.meaning.specs.Table.{byte, Header, Entry, atFirst, atAny, stage, tagStands, wellFormed, malformed, judgeField, readField, kindOf, ruleOf, conditionOf, lastComplete}
 use Rattle.fields.specs.Field.{Whole, Short, rest, judged, bodyAt}
 use Rattle.fields.specs.Reads.{stateOf, entryOf}
 use Rattle.fields.proofs.Rest.{rest-end, rest-missing, judged-fine, judged-refused, step-short, step-field, calm-other, body-length, body-byte, fieldOf}
 use Rattle.fields.proofs.Judged.{judge-not, stage-later}
 use Rattle.rules.specs.Rule.{Small, ruleFault, conditionFault, completeNote}
-use Rattle.rules.specs.Note.{Placed, Noted}
+use Rattle.rules.specs.Note.{Noted}
 use Rattle.rules.proofs.Bits.{lt-or-le}
 use Rattle.rules.proofs.Laws.{rule-fine}
 use Rattle.rules.proofs.RuleJudged.{rule-judged}
@@ -73,10 +73,10 @@ module _ (t : List ℕ) (at size r c width : ℕ) (inh syn note : List ℕ) (ins
     use-other n m =
         record {
           read = λ o a rs cds nt.
-            by-judgement 3 o a rs cds
+              by-judgement 3 o a rs cds
               (judge-not (stateIn (g o) a rs cds r c) at (byte t at) b
-                (ap (λ x. tagStands x (byte t at)) (any-stage o a rs cds)
-                ∙ or-none (eqb (byte t at) 3) (eqb (byte t at) 4) (eqb (byte t at) 5) (ne-eqb (byte t at) 3 other) (ne-eqb (byte t at) 4 n) (ne-eqb (byte t at) 5 m)));
+              (ap (λ x. tagStands x (byte t at)) (any-stage o a rs cds)
+              ∙ or-none (eqb (byte t at) 3) (eqb (byte t at) 4) (eqb (byte t at) 5) (ne-eqb (byte t at) 3 other) (ne-eqb (byte t at) 4 n) (ne-eqb (byte t at) 5 m)));
           whole = λ z. absurd (three z);
           kinds = λ z. absurd (three z);
           target = λ z. absurd (three z);
@@ -97,7 +97,7 @@ module _ (t : List ℕ) (at size r c width : ℕ) (inh syn note : List ℕ) (ins
           let q : number ≡ ruleFault r width inh syn note b = e ∙ ap (ruleFault r width inh syn note) is-part in
           record {
             read = λ o a rs cds nt.
-              by-judgement number o a rs cds
+                by-judgement number o a rs cds
                 (ap (λ (x : ℕ). judgeField (stateIn (g o) a rs cds r c) (fieldOf at x b)) tag
                 ∙ rule-judged (a .header) (a .counts) (a .offsets) (a .others) r c o (a .left) (a .right) rs cds width inh syn note (a .placed) small nt b at (any-stage o a rs cds)
                 ∙ sym q);
@@ -111,7 +111,7 @@ module _ (t : List ℕ) (at size r c width : ℕ) (inh syn note : List ℕ) (ins
           let q : number ≡ conditionFault c width inh syn b = e ∙ ap (conditionFault c width inh syn) is-part in
           record {
             read = λ o a rs cds nt.
-              by-judgement number o a rs cds
+                by-judgement number o a rs cds
                 (ap (λ (x : ℕ). judgeField (stateIn (g o) a rs cds r c) (fieldOf at x b)) tag
                 ∙ condition-judged (a .header) (a .counts) (a .offsets) (a .others) r c o (a .left) (a .right) rs cds width inh syn (a .placed) b at (any-stage o a rs cds)
                 ∙ sym q);
@@ -154,10 +154,11 @@ module _ (t : List ℕ) (from offset width : ℕ) (inh syn : List ℕ) (r₀ c�
     module _ (size number : ℕ) (j : UseJudged t at size r c width inh syn note number) where
       pub walk-refused : (number ≡ 0 → ⊥) → UsesRead s from r₀ c₀ (record { number = number; at = at; rules = r; conditions = c })
       walk-refused n a =
-          let q = w .walked a in
-          ( q .0, q .1
-          , q .3 ∙ j .read offset a (q .0) (q .1) (q .2) ∙ judged-refused number at _ n ∙ sym (judged-refused number at _ n)
-          , λ z. absurd (n z)
+          let q = w .walked a in (
+            q .0,
+            q .1,
+            q .3 ∙ j .read offset a (q .0) (q .1) (q .2) ∙ judged-refused number at _ n ∙ sym (judged-refused number at _ n),
+            λ z. absurd (n z),
           )
 
       module _ (fine : number ≡ 0) where
@@ -194,11 +195,12 @@ module _ (t : List ℕ) (from offset width : ℕ) (inh syn : List ℕ) (r₀ c�
               conditions = omega (arith, w .conditions);
               kept = length-set note p (bitOr (getD note p 0) (2 ^ (q - 1))) ∙ w .kept;
               walked = λ a.
-                let m = w .walked a in
-                ( ruleOf b′ ∷ m .0, m .1
-                , subst₂ (λ (u v : ℕ). Noted (set note u (bitOr (getD note u 0) (2 ^ (v - 1)))) (ruleOf b′ ∷ m .0)) x y (noted-more note (m .0) (ruleOf b′) (m .2) (w .kept) (omega (arith, k .1)) (omega (arith, k .2)))
-                , m .3 ∙ onward a (m .0) (m .1) (m .2) 4 tag ∙ ap (λ (n : ℕ). rest t (stateIn s a (ruleOf b′ ∷ m .0) (m .1) n c) next) one
-                );
+                  let m = w .walked a in (
+                    ruleOf b′ ∷ m .0,
+                    m .1,
+                    subst₂ (λ (u v : ℕ). Noted (set note u (bitOr (getD note u 0) (2 ^ (v - 1)))) (ruleOf b′ ∷ m .0)) x y (noted-more note (m .0) (ruleOf b′) (m .2) (w .kept) (omega (arith, k .1)) (omega (arith, k .2))),
+                    m .3 ∙ onward a (m .0) (m .1) (m .2) 4 tag ∙ ap (λ (n : ℕ). rest t (stateIn s a (ruleOf b′ ∷ m .0) (m .1) n c) next) one,
+                  );
             }
 
         -- the same for the numbers and the note that the code has
@@ -207,9 +209,9 @@ module _ (t : List ℕ) (from offset width : ℕ) (inh syn : List ℕ) (r₀ c�
             → Walking t from offset width inh syn r₀ c₀ note′ next (r + 1) c
         walk-noted m n note′ tag x y e =
             subst
-              (λ (l : List ℕ). Walking t from offset width inh syn r₀ c₀ l next (r + 1) c)
-              (sym (e ∙ ap₂ (λ (u v : ℕ). set note u (bitOr (getD note u 0) (2 ^ (v - 1)))) x y))
-              (walk-rule tag)
+            (λ (l : List ℕ). Walking t from offset width inh syn r₀ c₀ l next (r + 1) c)
+            (sym (e ∙ ap₂ (λ (u v : ℕ). set note u (bitOr (getD note u 0) (2 ^ (v - 1)))) x y))
+            (walk-rule tag)
 
         pub walk-condition : (byte t at ≡ 4 → ⊥) → Walking t from offset width inh syn r₀ c₀ note next r (c + 1)
         walk-condition n =
@@ -221,10 +223,12 @@ module _ (t : List ℕ) (from offset width : ℕ) (inh syn : List ℕ) (r₀ c�
               conditions = omega (arith, w .conditions);
               kept = w .kept;
               walked = λ a.
-                let m = w .walked a in
-                ( m .0, conditionOf b′ ∷ m .1, m .2
-                , m .3 ∙ onward a (m .0) (m .1) (m .2) 5 (j .kinds fine n) ∙ ap (λ (k : ℕ). rest t (stateIn s a (m .0) (conditionOf b′ ∷ m .1) r k) next) one
-                );
+                  let m = w .walked a in (
+                    m .0,
+                    conditionOf b′ ∷ m .1,
+                    m .2,
+                    m .3 ∙ onward a (m .0) (m .1) (m .2) 5 (j .kinds fine n) ∙ ap (λ (k : ℕ). rest t (stateIn s a (m .0) (conditionOf b′ ∷ m .1) r k) next) one,
+                  );
             }
 
     -- ---- the production is over
@@ -240,7 +244,7 @@ module _ (t : List ℕ) (from offset width : ℕ) (inh syn : List ℕ) (r₀ c�
           tagged : at < length t → rest t (stateIn s a rs cds r c) at ≡ malformed 8 offset
           tagged l =
               rest-missing t (stateIn s a rs cds r c) at l
-                (ap₂ (λ x y. x && not y) (eq-eqb (byte t at) 3 (over l)) e)
+              (ap₂ (λ x y. x && not y) (eq-eqb (byte t at) 3 (over l)) e)
 
           ended : length t ≤ at → rest t (stateIn s a rs cds r c) at ≡ malformed 8 offset
           ended l =
@@ -257,19 +261,20 @@ module _ (t : List ℕ) (from offset width : ℕ) (inh syn : List ℕ) (r₀ c�
       walk-end true e l =
           record {
             read = λ a.
-              let q = w .walked a in
-              (q .0, q .1, q .3 ∙ sym (judged-fine 0 at _ refl), λ z. complete-in a (q .0) (q .1) (q .2) ∙ e);
+                let q = w .walked a in
+                (q .0, q .1, q .3 ∙ sym (judged-fine 0 at _ refl), λ z. complete-in a (q .0) (q .1) (q .2) ∙ e);
             next = λ z. record { after = w .after; inside = w .inside; over = over; rules = w .rules; conditions = w .conditions };
             inside = w .inside;
           }
       walk-end false e l =
           record {
             read = λ a.
-              let q = w .walked a in
-              ( q .0, q .1
-              , q .3 ∙ missing a (q .0) (q .1) (complete-in a (q .0) (q .1) (q .2) ∙ e) ∙ sym (judged-refused 8 offset _ eight)
-              , λ z. absurd (eight z)
-              );
+                let q = w .walked a in (
+                  q .0,
+                  q .1,
+                  q .3 ∙ missing a (q .0) (q .1) (complete-in a (q .0) (q .1) (q .2) ∙ e) ∙ sym (judged-refused 8 offset _ eight),
+                  λ z. absurd (eight z),
+                );
             next = λ z. absurd (eight z);
             inside = l;
           }

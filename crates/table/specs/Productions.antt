@@ -1,7 +1,7 @@
 -- Where the reader stands between two productions.
-use Prim.Native.Nat.{ℕ, zero, suc, _+_, _*_, _≤_, _<_}
+use Prim.Native.Nat.{ℕ, _+_, _*_, _≤_, _<_}
 use mathlib.Core.Path.{_≡_}
-use mathlib.Core.Bool.{Bool, true, false}
+use mathlib.Core.Bool.{true}
 use mathlib.Core.List.{List, [], _∷_, map, reverse}
 use lib.ListN.{length, drop}
 use Rattle.meaning.specs.Grammar.{Counts, Symbol, Rule, Condition, Occurrence, countsIn}
@@ -62,7 +62,7 @@ BodyRead t at inherited synthesized r₀ c₀ u =
     (h : Header) (cs : List Counts) (os : List ℕ) (es : List Entry) → h .nonterminals ≤ length cs → CountsAgree t at inherited synthesized cs
     → (rs : List (Rule Occurrence)) × (cds : List (Condition Occurrence))
     × (rest t (stateOf h cs os (entryOf at (leftIn t at) (rightIn t at) [] [] ∷ es) r₀ c₀) (at + 5 + widthIn t at)
-      ≡ judged (u .number) (u .at) (rest t (stateOf h cs os (entryOf at (leftIn t at) (rightIn t at) rs cds ∷ es) (u .rules) (u .conditions)) (u .at)))
+    ≡ judged (u .number) (u .at) (rest t (stateOf h cs os (entryOf at (leftIn t at) (rightIn t at) rs cds ∷ es) (u .rules) (u .conditions)) (u .at)))
     × (u .number ≡ 0 → lastComplete (stateOf h cs os (entryOf at (leftIn t at) (rightIn t at) rs cds ∷ es) (u .rules) (u .conditions)) ≡ true)
 
 -- production p with all its fields read, or a refusal; rows and offsets before and after
@@ -72,7 +72,7 @@ pub record ProductionRead (t : List ℕ) (at p terminals nonterminals : ℕ) (in
       → h .terminals ≡ terminals → h .nonterminals ≡ nonterminals → length es ≡ p → lastComplete (stateOf h (countsUpTo inherited synthesized nonterminals) os es r₀ c₀) ≡ true → Laid rows₀ offsets₀ es
       → (e : Entry)
       × (rest t (stateOf h (countsUpTo inherited synthesized nonterminals) os es r₀ c₀) at
-        ≡ judged (u .number) (u .at) (rest t (stateOf h (countsUpTo inherited synthesized nonterminals) os (e ∷ es) (u .rules) (u .conditions)) (u .at)))
+      ≡ judged (u .number) (u .at) (rest t (stateOf h (countsUpTo inherited synthesized nonterminals) os (e ∷ es) (u .rules) (u .conditions)) (u .at)))
       × (u .number ≡ 0 → lastComplete (stateOf h (countsUpTo inherited synthesized nonterminals) os (e ∷ es) (u .rules) (u .conditions)) ≡ true)
       × (u .number ≡ 0 → Laid rows offsets (e ∷ es))
   pub next : u .number ≡ 0 → Next t (at + 5) u

@@ -1,11 +1,11 @@
 -- Where the reader stands between two fields of a production.
-use Prim.Native.Nat.{ℕ, zero, suc, _+_, _*_, _≤_, _<_}
+use Prim.Native.Nat.{ℕ, _+_, _*_, _≤_, _<_}
 use mathlib.Core.Path.{_≡_}
 use mathlib.Core.Bool.{Bool, true, false}
 use mathlib.Core.List.{List, [], _∷_}
 use lib.ListN.{length}
 use Rattle.meaning.specs.Grammar.{Counts, Symbol, Rule, Condition, Occurrence}
-use Rattle.meaning.specs.Table.{byte, Header, Entry, State, Read, nothingRead, lastComplete, readField, kindOf}
+use Rattle.meaning.specs.Table.{byte, Header, Entry, State, nothingRead, lastComplete, readField, kindOf}
 use Rattle.fields.specs.Field.{Whole, Short, rest, judged, bodyAt}
 use Rattle.fields.specs.Reads.{stateOf, entryOf}
 use Rattle.rules.specs.Note.{Placed, Noted}

@@ -4,7 +4,6 @@ ghost use Prim.Native.Nat.{_≤_};
 ghost use lib.ListN.{length};
 ghost use Rattle.meaning.specs.Table.{byte};
 ghost use Rattle.table.specs.Progress.{CountsJudged, CountsRead};
-
 use crate::Refusal;
 
 // The number of the refusal of nonterminal n's counts, or 0.
@@ -27,7 +26,14 @@ pub fn counts_number(table: &[u8], at: usize, n: usize, start: usize, result: us
     fields::counts_fault(n, start, result, &table[from..end])
 }
 
-pub fn read_counts(table: &[u8], nonterminals: usize, start: usize, result: usize, inherited: &mut [u8; 48], synthesized: &mut [u8; 48]) -> Refusal
+pub fn read_counts(
+    table: &[u8],
+    nonterminals: usize,
+    start: usize,
+    result: usize,
+    inherited: &mut [u8; 48],
+    synthesized: &mut [u8; 48],
+) -> Refusal
     requires { ⌜ (nonterminals ≡ byte (now table) 4) × (start ≡ byte (now table) 5) × (result ≡ byte (now table) 6) × (nonterminals ≤ 48) × (7 ≤ length (now table)) × (length (now inherited) ≡ 48) × (length (now synthesized) ≡ 48) ⌝ }
     ensures read { λ r. ⌜ CountsRead (now (table .entry)) nonterminals (now (inherited .exit)) (now (synthesized .exit)) r ⌝ }
     ensures kept { λ r. ⌜ (length (now (inherited .exit)) ≡ 48) × (length (now (synthesized .exit)) ≡ 48) ⌝ }
@@ -43,5 +49,8 @@ pub fn read_counts(table: &[u8], nonterminals: usize, start: usize, result: usiz
         synthesized[n] = table[at + 4];
         n += 1;
     }
-    Refusal { number: 0, offset: 0 }
+    Refusal {
+        number: 0,
+        offset: 0,
+    }
 }

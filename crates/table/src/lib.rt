@@ -4,8 +4,8 @@ ghost use lib.ListN.{length};
 ghost use Rattle.meaning.specs.Table.{readTable};
 ghost use Rattle.table.specs.Answer.{Answers};
 
-pub mod header;
 pub mod counts;
+pub mod header;
 pub mod production;
 pub mod walk;
 
@@ -40,12 +40,21 @@ pub struct Refusal {
 // Reads a table. The lent arrays hold the outline of a table that is well formed: the counts of each nonterminal, a row of
 // 16 bytes for each production (left side, length of the right side, symbols) and the offset of its field.
 // After a refusal they are scratch.
-pub fn read_table(table: &[u8], inherited: &mut [u8; 48], synthesized: &mut [u8; 48], rows: &mut [u8; 2048], offsets: &mut [u32; 128]) -> Reading
+pub fn read_table(
+    table: &[u8],
+    inherited: &mut [u8; 48],
+    synthesized: &mut [u8; 48],
+    rows: &mut [u8; 2048],
+    offsets: &mut [u32; 128],
+) -> Reading
     requires { ⌜ (length (now inherited) ≡ 48) × (length (now synthesized) ≡ 48) × (length (now rows) ≡ 2048) × (length (now offsets) ≡ 128) ⌝ }
     ensures { λ r. ⌜ Answers r (now (inherited .exit)) (now (synthesized .exit)) (now (rows .exit)) (now (offsets .exit)) (readTable (now (table .entry))) ⌝ }
 {
     if 32768 < table.len() {
-        return Reading::Malformed { number: 1, offset: 0 };
+        return Reading::Malformed {
+            number: 1,
+            offset: 0,
+        };
     }
     let number = header::header_number(table);
     if number != 0 {
@@ -58,8 +67,17 @@ pub fn read_table(table: &[u8], inherited: &mut [u8; 48], synthesized: &mut [u8;
     let counted = counts::read_counts(table, nonterminals, start, result, inherited, synthesized);
     if counted.number != 0 {
         let offset = counted.offset as u32;
-        return Reading::Malformed { number: counted.number, offset };
+        return Reading::Malformed {
+            number: counted.number,
+            offset,
+        };
     }
-    let sizes = Sizes { terminals, nonterminals, start, result, productions: 0 };
+    let sizes = Sizes {
+        terminals,
+        nonterminals,
+        start,
+        result,
+        productions: 0,
+    };
     production::read_productions(table, sizes, inherited, synthesized, rows, offsets)
 }

@@ -8,7 +8,6 @@ ghost use Rattle.table.specs.Progress.{Next, Over};
 ghost use Rattle.table.specs.Productions.{widthIn, ProductionJudged, SmallBody, BodyRead, ProductionRead, Ready};
 ghost use Rattle.table.specs.Answer.{Answers};
 ghost use Rattle.fields.specs.Field.{rest};
-
 use crate::Reading;
 use crate::Sizes;
 use crate::Uses;
@@ -55,7 +54,13 @@ pub fn copy_row(rows: &mut [u8; 2048], p: usize, body: &[u8])
 }
 
 // The number of the refusal of the field of production p, or 0.
-pub fn production_number(table: &[u8], at: usize, p: usize, terminals: usize, nonterminals: usize) -> u8
+pub fn production_number(
+    table: &[u8],
+    at: usize,
+    p: usize,
+    terminals: usize,
+    nonterminals: usize,
+) -> u8
     requires { ⌜ (at < length (now table)) × (0 < p → byte (now table) at ≡ 3) ⌝ }
     ensures { λ r. ⌜ ProductionJudged (now (table .entry)) at p terminals nonterminals r ⌝ }
 {
@@ -72,7 +77,14 @@ pub fn production_number(table: &[u8], at: usize, p: usize, terminals: usize, no
 }
 
 // The rules and conditions of the production at an offset.
-pub fn read_body(table: &[u8], at: usize, inherited: &[u8; 48], synthesized: &[u8; 48], rules: usize, conditions: usize) -> Uses
+pub fn read_body(
+    table: &[u8],
+    at: usize,
+    inherited: &[u8; 48],
+    synthesized: &[u8; 48],
+    rules: usize,
+    conditions: usize,
+) -> Uses
     requires { ⌜ (at + 5 + widthIn (now table) at ≤ length (now table)) × SmallBody (now table) at (now inherited) (now synthesized) × (length (now inherited) ≡ 48) × (length (now synthesized) ≡ 48) × (rules ≤ at) × (conditions ≤ at) ⌝ }
     ensures read { λ u. ⌜ BodyRead (now (table .entry)) at (now (inherited .entry)) (now (synthesized .entry)) rules conditions u ⌝ }
     ensures next { λ u. ⌜ (u .number ≡ 0 → Next (now (table .entry)) (at + 5) u) ⌝ }
@@ -89,13 +101,30 @@ pub fn read_body(table: &[u8], at: usize, inherited: &[u8; 48], synthesized: &[u
 }
 
 // Production p, with its row, its offset, its rules and conditions.
-pub fn read_production(table: &[u8], at: usize, p: usize, terminals: usize, nonterminals: usize, inherited: &[u8; 48], synthesized: &[u8; 48], rows: &mut [u8; 2048], offsets: &mut [u32; 128], rules: usize, conditions: usize) -> Uses
+pub fn read_production(
+    table: &[u8],
+    at: usize,
+    p: usize,
+    terminals: usize,
+    nonterminals: usize,
+    inherited: &[u8; 48],
+    synthesized: &[u8; 48],
+    rows: &mut [u8; 2048],
+    offsets: &mut [u32; 128],
+    rules: usize,
+    conditions: usize,
+) -> Uses
     requires { ⌜ (at < length (now table)) × (length (now table) ≤ 32768) × (0 < p → byte (now table) at ≡ 3) × SmallCounts (now inherited) (now synthesized) nonterminals × (length (now inherited) ≡ 48) × (length (now synthesized) ≡ 48) × (length (now rows) ≡ 2048) × (length (now offsets) ≡ 128) × (rules ≤ at) × (conditions ≤ at) ⌝ }
     ensures { λ u. ⌜ ProductionRead (now (table .entry)) at p terminals nonterminals (now (inherited .entry)) (now (synthesized .entry)) (now (rows .entry)) (now (offsets .entry)) rules conditions (now (rows .exit)) (now (offsets .exit)) u ⌝ }
 {
     let number = production_number(table, at, p, terminals, nonterminals);
     if number != 0 {
-        return Uses { number, at, rules, conditions };
+        return Uses {
+            number,
+            at,
+            rules,
+            conditions,
+        };
     }
     let from = at + 3;
     let end = at + 5 + fields::wide(table[at + 4]);
@@ -105,7 +134,14 @@ pub fn read_production(table: &[u8], at: usize, p: usize, terminals: usize, nont
 }
 
 // All productions, from the last tag 2 field on.
-pub fn read_productions(table: &[u8], sizes: Sizes, inherited: &[u8; 48], synthesized: &[u8; 48], rows: &mut [u8; 2048], offsets: &mut [u32; 128]) -> Reading
+pub fn read_productions(
+    table: &[u8],
+    sizes: Sizes,
+    inherited: &[u8; 48],
+    synthesized: &[u8; 48],
+    rows: &mut [u8; 2048],
+    offsets: &mut [u32; 128],
+) -> Reading
     requires { ⌜ Ready (now table) sizes (now inherited) (now synthesized) × (length (now rows) ≡ 2048) × (length (now offsets) ≡ 128) ⌝ }
     ensures { λ r. ⌜ Answers r (now (inherited .entry)) (now (synthesized .entry)) (now (rows .exit)) (now (offsets .exit)) (rest (now (table .entry)) (counted (now (table .entry)) (now (inherited .entry)) (now (synthesized .entry)) (sizes .nonterminals)) (7 + 5 * sizes .nonterminals)) ⌝ }
 {
@@ -114,10 +150,25 @@ pub fn read_productions(table: &[u8], sizes: Sizes, inherited: &[u8; 48], synthe
     let mut rules: usize = 0;
     let mut conditions: usize = 0;
     while at < table.len() {
-        let u = read_production(table, at, p, sizes.terminals, sizes.nonterminals, inherited, synthesized, rows, offsets, rules, conditions);
+        let u = read_production(
+            table,
+            at,
+            p,
+            sizes.terminals,
+            sizes.nonterminals,
+            inherited,
+            synthesized,
+            rows,
+            offsets,
+            rules,
+            conditions,
+        );
         if u.number != 0 {
             let offset = u.at as u32;
-            return Reading::Malformed { number: u.number, offset };
+            return Reading::Malformed {
+                number: u.number,
+                offset,
+            };
         }
         p += 1;
         at = u.at;
@@ -128,5 +179,11 @@ pub fn read_productions(table: &[u8], sizes: Sizes, inherited: &[u8; 48], synthe
         let offset = at as u32;
         return Reading::Malformed { number: 3, offset };
     }
-    Reading::WellFormed(Sizes { terminals: sizes.terminals, nonterminals: sizes.nonterminals, start: sizes.start, result: sizes.result, productions: p })
+    Reading::WellFormed(Sizes {
+        terminals: sizes.terminals,
+        nonterminals: sizes.nonterminals,
+        start: sizes.start,
+        result: sizes.result,
+        productions: p,
+    })
 }

@@ -1,39 +1,22 @@
--- BEGIN FILL
-use Rattle.fields.proofs.Demands.{holds-met, holds-not, lacks-met, lacks-not, equal-met, equal-not, differs-met, differs-not, atMost-met, atMost-not, below-met, below-not, equal-yes, equal-no, below-yes, below-no, said-met, said-not, said-lacks, said-has}
-use mathlib.Core.Path.{_≡_, refl, sym, _∙_, ap, ap₂, subst}
+use mathlib.Core.Path.{sym, _∙_, ap, subst}
 use native.Mathlib.Omega.{arith}
 use borrow.Author.Needs.{needs}
-use borrow.Author.Tests.{not-true, not-false, ltb-true, ltb-false, leb-true, leb-false, eqb-true, eqb-false, lt-ltb, le-ltb, le-leb, lt-leb, eq-eqb, ne-eqb}
-use mathlib.Core.Logic.{⊎-elim}
-use Prim.Native.Nat.{ℕ, zero, suc, _+_, _-_, _*_, _≤_, _<_, _^_, _/_, _%_}
-use mathlib.Core.Bool.{Bool, true, false, _&&_, not}
-use mathlib.Core.List.{List, [], _∷_}
-use lib.ListN.{length, getD, take, drop, set}
-use Rattle.rules.specs.Rule.{classAt, classIn, fourAt, inOrder, bit, ones, filledAt, settled, allCount, completeNote, lengthOf, operandCount, operandClass, operandPlace, divisorFits, classFault, ruleOrder, orElse, ruleUses, ruleFault, rangeFault, atMostFault, conditionFault}
-use Rattle.rules.proofs.Laws.{else-first, else-second, target-known, length-eight, class-inside, class-first, class-last, count-pass, count-fail, count-none}
+use Prim.Native.Nat.{ℕ, _+_, _<_, _%_}
 use Rattle.rules.proofs.Bits.{ones-tested, one-bit}
-use lib.Pow.{pow-pos, pow-lt, shr-le}
-use lib.Bits.{bitOr, bitAnd}
-use lib.Dec.{eqb, leb}
--- END FILL
+use lib.Pow.{pow-pos}
+use lib.Dec.{eqb}
 use Rattle.rules.proofs.note.all_ones.Statement.{statement}
 use Rattle.rules.proofs.note.all_ones.Tie as tie
-use Rattle.rules.proofs.note.all_ones.Reads as reads
-use Rattle.rules.proofs.note.all_ones.Lts as lts
 
--- src/note.rt:28:6
 add-result : tie.Need-add-result
 add-result c = search needs
 
--- src/note.rt:28:16
 shl-result : tie.Need-shl-result
 shl-result c = search needs
 
--- src/note.rt:28:5
 rem-result : tie.Need-rem-result
 rem-result c = subst (λ (x : ℕ). 0 < x) (sym (one-bit 64 (c .args .d) (omega arith))) (pow-pos (c .args .d))
 
--- src/note.rt:24:1
 returns : tie.Need-returns
 returns c = ap (λ (x : ℕ). eqb ((c .args .n + 1) % x) 0) (one-bit 64 (c .args .d) (omega arith)) ∙ ones-tested _ _
 

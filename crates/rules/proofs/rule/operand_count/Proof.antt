@@ -1,42 +1,22 @@
--- BEGIN FILL
-use Rattle.fields.proofs.Demands.{holds-met, holds-not, lacks-met, lacks-not, equal-met, equal-not, differs-met, differs-not, atMost-met, atMost-not, below-met, below-not, equal-yes, equal-no, below-yes, below-no, said-met, said-not, said-lacks, said-has}
-use mathlib.Core.Path.{_≡_, refl, sym, _∙_, ap, ap₂, subst}
+use Rattle.fields.proofs.Demands.{equal-yes, equal-no, below-yes, below-no}
+use mathlib.Core.Path.{refl}
 use native.Mathlib.Omega.{arith}
-use borrow.Author.Needs.{needs}
-use borrow.Author.Tests.{not-true, not-false, ltb-true, ltb-false, leb-true, leb-false, eqb-true, eqb-false, lt-ltb, le-ltb, le-leb, lt-leb, eq-eqb, ne-eqb}
-use mathlib.Core.Logic.{⊎-elim}
-use Prim.Native.Nat.{ℕ, zero, suc, _+_, _-_, _*_, _≤_, _<_, _^_, _/_, _%_}
-use mathlib.Core.Bool.{Bool, true, false, _&&_, not}
-use mathlib.Core.List.{List, [], _∷_}
-use lib.ListN.{length, getD, take, drop, set}
-use Rattle.rules.specs.Rule.{classAt, classIn, fourAt, inOrder, bit, ones, filledAt, settled, allCount, completeNote, lengthOf, operandCount, operandClass, operandPlace, divisorFits, classFault, ruleOrder, orElse, ruleUses, ruleFault, rangeFault, atMostFault, conditionFault}
-use Rattle.rules.proofs.Laws.{else-first, else-second, target-known, length-eight, class-inside, class-first, class-last, count-pass, count-fail, count-none}
-use Rattle.rules.proofs.Bits.{ones-tested, one-bit}
-use lib.Pow.{pow-pos, pow-lt, shr-le}
-use lib.Bits.{bitOr, bitAnd}
-use lib.Dec.{eqb, leb}
--- END FILL
+use Rattle.rules.specs.Rule.{operandCount}
 use Rattle.rules.proofs.rule.operand_count.Statement.{statement}
 use Rattle.rules.proofs.rule.operand_count.Tie as tie
-use Rattle.rules.proofs.rule.operand_count.Reads as reads
-use Rattle.rules.proofs.rule.operand_count.Lts as lts
 
--- src/rule.rt:39:9
 returns : tie.Need-returns
 unfolding operandCount
 returns c = equal-yes _ _ _ _ (omega arith) (refl)
 
--- src/rule.rt:42:9
 returns-2 : tie.Need-returns-2
 unfolding operandCount
 returns-2 c = equal-no _ _ _ _ (omega arith) (equal-yes _ _ _ _ (omega arith) (refl))
 
--- src/rule.rt:45:9
 returns-3 : tie.Need-returns-3
 unfolding operandCount
 returns-3 c = equal-no _ _ _ _ (omega arith) (equal-no _ _ _ _ (omega arith) (below-yes _ _ _ _ (omega arith) (refl)))
 
--- src/rule.rt:35:1
 returns-4 : tie.Need-returns-4
 unfolding operandCount
 returns-4 c = equal-no _ _ _ _ (omega arith) (equal-no _ _ _ _ (omega arith) (below-no _ _ _ _ (omega arith) (refl)))
