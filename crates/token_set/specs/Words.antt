@@ -8,7 +8,7 @@ use mathlib.Core.Path.{_≡_, refl, sym, ap, ap₂, _∙_, subst}
 use mathlib.Core.Bool.{Bool, true, false, _||_, not}
 use mathlib.Core.List.{List, [], _∷_, map}
 use lib.Arith.{bin-ind, lt-one}
-use lib.Bits.{bitAnd, bitOr, and-shr, or-shr, or-step, and-step, and-mask, and-le-l}
+use lib.Bits.{bitAnd, bitOr, and-shr, or-shr, or-step, and-step, and-mask, and-le-l, and-le-r, or-add-and}
 use lib.Dec.{T, eqb, eqb→eq, not-T, T-not}
 use lib.ListN.{length, set, length-map, length-replicate, length-set, List·getD-eq-default}
 use lib.Pow.{pow-mono, pow-pos, pow-add, pow-lt, shl-shr, shr-shr}
@@ -188,7 +188,10 @@ meet-test a b l = both-true (not (eqb (bitAnd a b) 0)) (meet (setOf a) (setOf b)
         let u = meet-cases (setOf a) (setOf b) h in
         not-T (eqb (bitAnd a b) 0) (λ e. let z : bit (bitAnd a b) (u .0) ≡ 0 = rw (eqb→eq (bitAnd a b) 0 e) (bit-zero (u .0)) in omega (arith, bit-and a b (u .0), in-bit a (u .0) (u .1), in-bit b (u .0) (u .2)))
 
--- ---- for loops that add to a set until nothing changes: a subset is no larger a number
+-- ---- for loops that add to a set until nothing changes: a union is no smaller a number, a subset no larger
+pub or-grows : (a b : ℕ) → a ≤ bitOr a b
+or-grows a b = omega (arith, or-add-and a b, and-le-r a b)
+
 sub-bits : (a b : ℕ) → ((t : ℕ) → bit a t ≡ 1 → bit b t ≡ 1) → a ≤ b
 sub-bits = bin-ind (λ (n : ℕ). (b : ℕ) → ((t : ℕ) → bit n t ≡ 1 → bit b t ≡ 1) → n ≤ b) (λ b h. zero-le) step
   where

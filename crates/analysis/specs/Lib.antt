@@ -1,0 +1,4 @@
+pub mod Rows
+pub mod Views
+pub mod Growth
+pub mod Closing

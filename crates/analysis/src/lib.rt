@@ -1,0 +1,2 @@
+// Refusals 11 to 13, judged on the image of a table's productions (specs/Rows).
+pub mod closing;
