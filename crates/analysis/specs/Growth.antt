@@ -1,15 +1,16 @@
 -- A word that grows, production by production, until nothing changes. C is what makes a view closed; P is what a step that changes nothing shows.
-use Prim.Native.Nat.{ℕ, _≤_}
+use Prim.Native.Nat.{ℕ, _≤_, _<_}
 use native.Mathlib.Nat.{le-refl}
 use native.Mathlib.Omega.{arith}
 use mathlib.Core.Path.{_≡_, refl, sym, _∙_, subst}
 use mathlib.Core.Logic.{_⊎_, ⊎-elim, inl, inr}
-use mathlib.Core.Bool.{Bool}
+use mathlib.Core.Bool.{Bool, false, _||_}
 use lib.Bits.{bitOr}
-use lib.Dec.{T}
-use Rattle.meaning.specs.Sets.{has}
-use Rattle.theory_sets.specs.TokenSets.{union-left, union-right, union-cases}
-use Rattle.token_set.specs.Words.{setOf, set-or, or-grows}
+use lib.Dec.{T, eqb, eqb→eq, eqb-refl}
+use Rattle.meaning.specs.Sets.{has, singleton}
+use Rattle.theory_sets.specs.TokenSets.{has-union, has-empty, union-left, union-right, union-cases, single-has, single-only}
+use Rattle.theory_sets.specs.Widths.{both-true}
+use Rattle.token_set.specs.Words.{setOf, set-empty, set-or, or-grows}
 use Rattle.analysis.specs.Views.{members, Inside}
 
 pub or-left : (a b n : ℕ) → T (members a n) → T (members (bitOr a b) n)
@@ -20,6 +21,16 @@ or-right a b n t = rw (set-or a b) (union-right (setOf a) (setOf b) n t)
 
 pub or-members : (a b n : ℕ) → T (members (bitOr a b) n) → T (members a n) ⊎ T (members b n)
 or-members a b n t = union-cases (setOf a) (setOf b) n (rw (set-or a b) at t)
+
+pub or-is : (a b n : ℕ) → members (bitOr a b) n ≡ (members a n || members b n)
+or-is a b n = rw (set-or a b) (has-union (setOf a) (setOf b) n)
+
+pub none-in : (n : ℕ) → members 0 n ≡ false
+none-in n = rw set-empty (has-empty n)
+
+-- the word of one nonterminal or token
+pub single-is : (m n : ℕ) → m < 64 → has (singleton m) n ≡ eqb m n
+single-is m n l = both-true (has (singleton m) n) (eqb m n) (λ t. rw (single-only m n t) (eqb-refl m)) (λ t. rw (sym (eqb→eq m n t)) (single-has m l))
 
 pub record Grown (C P : (ℕ → Bool) → Type 0) (s r : ℕ) : Type 0 where
   pub grows : s ≤ r
