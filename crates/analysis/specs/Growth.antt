@@ -4,7 +4,7 @@ use native.Mathlib.Nat.{le-refl}
 use native.Mathlib.Omega.{arith}
 use mathlib.Core.Path.{_≡_, refl, sym, _∙_, subst}
 use mathlib.Core.Logic.{_⊎_, ⊎-elim, inl, inr}
-use mathlib.Core.Bool.{Bool, false, _||_}
+use mathlib.Core.Bool.{Bool, true, false, _||_}
 use lib.Bits.{bitOr}
 use lib.Dec.{T, eqb, eqb→eq, eqb-refl}
 use Rattle.meaning.specs.Sets.{has, singleton}
@@ -24,6 +24,14 @@ or-members a b n t = union-cases (setOf a) (setOf b) n (rw (set-or a b) at t)
 
 pub or-is : (a b n : ℕ) → members (bitOr a b) n ≡ (members a n || members b n)
 or-is a b n = rw (set-or a b) (has-union (setOf a) (setOf b) n)
+
+pub or-assoc : (a b c : Bool) → ((a || b) || c) ≡ (a || (b || c))
+or-assoc true b c = refl
+or-assoc false b c = refl
+
+pub or-false : (a : Bool) → (a || false) ≡ a
+or-false true = refl
+or-false false = refl
 
 pub none-in : (n : ℕ) → members 0 n ≡ false
 none-in n = rw set-empty (has-empty n)

@@ -15,7 +15,7 @@ use Rattle.theory_sets.specs.Tests.{true→T}
 use Rattle.token_set.specs.Words.{setOf}
 use Rattle.analysis.specs.Rows.{Image, leftAt, sizeAt, byteAt, rightAt, right-cons, right-end, symbol-terminal, symbol-nonterminal}
 use Rattle.analysis.specs.Views.{members, Inside, Within, ReachAt}
-use Rattle.analysis.specs.Growth.{Grown, grown-none, grown-or, or-is, none-in, single-is}
+use Rattle.analysis.specs.Growth.{Grown, grown-none, grown-or, or-is, or-assoc, or-false, none-in, single-is}
 
 pub token-set : (s n : ℕ) → s < 128 → members 0 n ≡ isNonterminal n (symbolOf s)
 token-set s n h = none-in n ∙ sym (ap (isNonterminal n) (symbol-terminal s h))
@@ -24,14 +24,6 @@ pub nonterminal-set : (s x n : ℕ) → 128 ≤ s → s < 176 → setOf x ≡ si
 nonterminal-set s x n h l e = rw e (single-is (s - 128) n (omega arith)) ∙ sym (ap (isNonterminal n) (symbol-nonterminal s h))
 
 -- ---- a right side, symbol by symbol: what is gathered, or still to come
-or-assoc : (a b c : Bool) → ((a || b) || c) ≡ (a || (b || c))
-or-assoc true b c = refl
-or-assoc false b c = refl
-
-pub or-false : (a : Bool) → (a || false) ≡ a
-or-false true = refl
-or-false false = refl
-
 pub record Gathered (f : ℕ → Symbol → Bool) (xs : List Symbol) (out : ℕ) (rest : List Symbol) : Type 0 where
   pub is : (n : ℕ) → any (f n) xs ≡ (members out n || any (f n) rest)
 

@@ -1,3 +1,4 @@
 // Refusals 11 to 13, judged on the image of a table's productions (specs/Rows).
 pub mod closing;
+pub mod fronts;
 pub mod reaching;
