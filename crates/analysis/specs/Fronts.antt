@@ -57,15 +57,15 @@ module _ (b : Bool) (gone : ℕ → Bool) (t : List ℕ) (after : ℕ) where
         scan-stop n e c u = or-is out (getD t n 0) u ∙ sym (come u (nonterminal n ∷ rest) e ∙ ap (λ (y : Bool). members out u || (sees t u n || (y && opensBy u rest))) c ∙ ap (λ (y : Bool). members out u || y) (or-false (sees t u n)))
 
 -- one production's step
-pub front-step : (b : Bool) (gone : ℕ → Bool) (rows : List ℕ) (count k : ℕ) → k < count → (s r : List ℕ) (add : ℕ) (c : Bool) → Joined s (leftAt rows k) add c r → ((u : ℕ) → members add u ≡ opens b gone (sees s u) u (members 0 u) (rightAt rows k))
+pub front-step : (b : Bool) (gone : ℕ → Bool) (rows : List ℕ) (count k : ℕ) → k < count → (s r : List ℕ) (add : ℕ) (c : Bool) → Joined s (nonterminal (leftAt rows k)) add c r → ((u : ℕ) → members add u ≡ opens b gone (sees s u) u (members 0 u) (rightAt rows k))
     → Passed (WithinAll (FrontAt b gone rows) 0 count) (λ u. FrontAt b gone rows u k) s r c
-front-step b gone rows count k lt s r add c j is = passed-join s r (leftAt rows k) add c j fine closes
+front-step b gone rows count k lt s r add c j is = passed-join s r (nonterminal (leftAt rows k)) add c j fine closes
   where
     empty : (u : ℕ) → T (members 0 u) → T false
     empty u t = rw (none-in u) at t
 
-    fine : (u : ℕ) (see : ℕ → Bool) → WithinAll (FrontAt b gone rows) 0 count u see → Inside (sees s u) see → T (members add u) → T (see (leftAt rows k))
-    fine u see w i t = w .at k zero-le lt (opens-more b gone (sees s u) see u i (members 0 u) false (empty u) (rightAt rows k) (rw (is u) at t))
+    fine : (u : ℕ) (see : ℕ → Bool) → WithinAll (FrontAt b gone rows) 0 count u see → Inside (sees s u) see → T (members add u) → (n : ℕ) → nonterminal (leftAt rows k) ≡ nonterminal n → T (see n)
+    fine u see w i t n e = let f : leftAt rows k ≡ n = cc in rw (sym f) (w .at k zero-le lt (opens-more b gone (sees s u) see u i (members 0 u) false (empty u) (rightAt rows k) (rw (is u) at t)))
 
-    closes : ((u : ℕ) → T (members add u) → T (sees s u (leftAt rows k))) → (u : ℕ) → FrontAt b gone rows u k (sees s u)
-    closes adds u t = adds u (rw (is u, none-in u) t)
+    closes : ((n : ℕ) → nonterminal (leftAt rows k) ≡ nonterminal n → (u : ℕ) → T (members add u) → T (sees s u n)) → (u : ℕ) → FrontAt b gone rows u k (sees s u)
+    closes adds u t = adds (leftAt rows k) refl u (rw (is u, none-in u) t)

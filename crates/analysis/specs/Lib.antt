@@ -6,3 +6,4 @@ pub mod Reaching
 pub mod Tables
 pub mod Passes
 pub mod Fronts
+pub mod Follows

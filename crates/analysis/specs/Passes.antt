@@ -8,6 +8,7 @@ use mathlib.Core.Bool.{Bool, true, false, true≢false, false≢true}
 use mathlib.Core.List.{List}
 use lib.Dec.{T}
 use lib.ListN.{length}
+use Rattle.meaning.specs.Grammar.{Symbol, nonterminal}
 use Rattle.analysis.specs.Views.{members, sees, Inside, Within, within-none, within-after, within-before}
 use Rattle.analysis.specs.Tables.{total, Words, Joined}
 
@@ -27,18 +28,18 @@ module _ {C P : ℕ → (ℕ → Bool) → Type 0} (s : List ℕ) where
   passed-none p = record { size = refl; words = λ w. w; keeps = λ u n t. t; rises = λ q. absurd (false≢true q); sound = λ u see c k. k; stuck = λ q. (refl, p) }
 
   -- one join
-  pub passed-join : (r : List ℕ) (a add : ℕ) (c : Bool) → Joined s a add c r
-      → ((u : ℕ) (see : ℕ → Bool) → C u see → Inside (sees s u) see → T (members add u) → T (see a))
-      → (((u : ℕ) → T (members add u) → T (sees s u a)) → (u : ℕ) → P u (sees s u))
+  pub passed-join : (r : List ℕ) (x : Symbol) (add : ℕ) (c : Bool) → Joined s x add c r
+      → ((u : ℕ) (see : ℕ → Bool) → C u see → Inside (sees s u) see → T (members add u) → (n : ℕ) → x ≡ nonterminal n → T (see n))
+      → (((n : ℕ) → x ≡ nonterminal n → (u : ℕ) → T (members add u) → T (sees s u n)) → (u : ℕ) → P u (sees s u))
       → Passed C P s r c
-  passed-join r a add c j fine closes =
+  passed-join r x add c j fine closes =
       record {
         size = j .size;
         words = j .words;
         keeps = j .keeps;
         rises = j .rises;
-        sound = λ u see k i n t. ⊎-elim (i n) (λ w. subst (λ (m : ℕ). T (see m)) (sym (w .0)) (fine u see k i (w .1))) (j .only u n t);
-        stuck = λ q. (j .same q, closes (λ u t. subst (λ (y : List ℕ). T (sees y u a)) (j .same q) (j .adds u t)));
+        sound = λ u see k i n t. ⊎-elim (i n) (λ w. fine u see k i (w .1) n (w .0)) (j .only u n t);
+        stuck = λ q. (j .same q, closes (λ n e u t. subst (λ (y : List ℕ). T (sees y u n)) (j .same q) (j .adds n e u t)));
       }
 
   pub passed-map : {Q : ℕ → (ℕ → Bool) → Type 0} (r : List ℕ) (c : Bool) → Passed C P s r c → (((u : ℕ) → P u (sees s u)) → (u : ℕ) → Q u (sees s u)) → Passed C Q s r c

@@ -77,6 +77,12 @@ module _ {rows : List ℕ} {count : ℕ} (image : Image rows count) (p : ℕ) (l
       drop-cons (rightAt rows p) i (symbolOf 0) le
       ∙ ap₂ (λ (x : Symbol) (y : ℕ). x ∷ drop y (rightAt rows p)) (right-at rows count (image .room) p lt (image .sizes p lt) i h) (sym (add-one i))
 
+  -- the symbol before place i
+  pub right-back : (i : ℕ) → 0 < i → i ≤ sizeAt rows p → drop (i - 1) (rightAt rows p) ≡ symbolOf (byteAt rows p (i - 1)) ∷ drop i (rightAt rows p)
+  right-back i more upto =
+      let e : i - 1 + 1 ≡ i = omega arith in
+      right-cons (i - 1) (omega arith) ∙ ap (λ (m : ℕ). symbolOf (byteAt rows p (i - 1)) ∷ drop m (rightAt rows p)) e
+
   pub right-token : (i : ℕ) → i < sizeAt rows p → byteAt rows p i < 128 → drop i (rightAt rows p) ≡ terminal (byteAt rows p i) ∷ drop (i + 1) (rightAt rows p)
   right-token i h s = right-cons i h ∙ ap (λ (x : Symbol). x ∷ drop (i + 1) (rightAt rows p)) (symbol-terminal (byteAt rows p i) s)
 

@@ -10,7 +10,7 @@ ghost use Rattle.analysis.specs.Views.{members, fit, ClosedAt, Within};
 ghost use Rattle.analysis.specs.Growth.{Grown, Settled};
 
 // Whether a symbol is in the set, or a token where `tokens` lets tokens stand.
-fn symbol_in(s: u8, set: u64, tokens: bool) -> bool
+pub fn symbol_in(s: u8, set: u64, tokens: bool) -> bool
     ensures { λ r. ⌜ r ≡ fit tokens (members set) (symbolOf s) ⌝ }
 {
     if s < 128 {

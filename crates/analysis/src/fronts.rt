@@ -5,6 +5,7 @@ ghost use mathlib.Core.Bool.{true, false};
 ghost use mathlib.Core.List.{List};
 ghost use Prim.Native.Nat.{ℕ, _+_, _*_, _<_, _≤_};
 ghost use lib.ListN.{length};
+ghost use Rattle.meaning.specs.Grammar.{nonterminal};
 ghost use Rattle.analysis.specs.Rows.{Image, leftAt, rightAt};
 ghost use Rattle.analysis.specs.Views.{members, sees, opens, FrontAt};
 ghost use Rattle.analysis.specs.Tables.{Joined, Words};
@@ -13,7 +14,7 @@ ghost use Rattle.analysis.specs.Passes.{Passed, WithinAll, SettledTable}
 // Adds a set to entry a of a table; whether the entry has changed.
 pub fn join(table: &mut [u64; 48], a: usize, add: u64) -> bool
     requires { ⌜ (a < 48) × (length (now table) ≡ 48) ⌝ }
-    ensures { λ r. ⌜ Joined (now (table .entry)) a add r (now (table .exit)) ⌝ }
+    ensures { λ r. ⌜ Joined (now (table .entry)) (nonterminal a) add r (now (table .exit)) ⌝ }
 {
     let old = table[a];
     let new = old | add;

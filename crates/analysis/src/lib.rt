@@ -2,3 +2,4 @@
 pub mod closing;
 pub mod fronts;
 pub mod reaching;
+pub mod follow;
