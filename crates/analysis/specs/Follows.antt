@@ -1,5 +1,5 @@
 -- FOLLOW over the rows: from the rest of a right side, and from what comes after the left side where the rest derives nothing.
-use Prim.Native.Nat.{ℕ, zero, suc, _+_, _-_, _*_, _≤_, _<_, zero-le}
+use Prim.Native.Nat.{ℕ, zero, suc, _+_, _-_, _*_, _^_, _≤_, _<_, zero-le}
 use native.Mathlib.Decide.{decLt}
 use native.Mathlib.Numerals.{add-one}
 use native.Mathlib.Omega.{arith}
@@ -8,19 +8,20 @@ use mathlib.Core.Logic.{_⊎_, inl, inr, ⊎-elim}
 use mathlib.Core.Bool.{Bool, true, false, _&&_, _||_}
 use mathlib.Core.List.{List, [], _∷_}
 use lib.Bits.{bitOr}
-use lib.Dec.{T}
-use lib.ListN.{getD, length, drop}
+use lib.Dec.{T, lit<}
+use lib.ListN.{getD, length, drop, replicate}
 use lib.Seq.{drop-drop}
 use Rattle.meaning.specs.Base.{all}
 use Rattle.meaning.specs.Grammar.{Symbol, terminal, nonterminal}
 use Rattle.meaning.specs.Sets.{has, singleton, endNumber}
 use Rattle.meaning.specs.Table.{symbolOf}
 use Rattle.theory_sets.specs.Tests.{and-intro, and-left, and-right, or-left, or-right, or-cases, true→T}
-use Rattle.token_set.specs.Words.{setOf}
+use Rattle.token_set.specs.Words.{setOf, set-end}
+use Rattle.theory_sets.specs.TokenSets.{single-has, single-only}
 use Rattle.analysis.specs.Rows.{Image, leftAt, sizeAt, byteAt, rightAt, right-cons, right-back, right-end, symbol-terminal, symbol-nonterminal}
 use Rattle.analysis.specs.Views.{members, sees, Inside, fit, turn, opens}
 use Rattle.analysis.specs.Growth.{or-is, or-false, none-in}
-use Rattle.analysis.specs.Tables.{Words, Joined}
+use Rattle.analysis.specs.Tables.{Words, Joined, zeros-none, zeros-words}
 use Rattle.analysis.specs.Passes.{Passed, passed-join, passed-map, RisingTable}
 
 -- from place i of production p on
@@ -184,10 +185,16 @@ pub record TailTo (rows : List ℕ) (k r i : ℕ) (see : ℕ → Bool) : Type 0 
   pub at : (j n : ℕ) (rest : List Symbol) → r ≤ j → j < i → drop j (rightAt rows k) ≡ nonterminal n ∷ rest → T (see (leftAt rows k)) → T (see n)
 
 module _ (gone : ℕ → Bool) {rows : List ℕ} {count : ℕ} (image : Image rows count) (k : ℕ) (lt : k < count) (r : ℕ) (tail : Tail gone rows k r) where
-  pub tail-fine : (first s : List ℕ) (add i : ℕ) → r ≤ i → i < sizeAt rows k → ((u : ℕ) → T (members add u) → T (sees s u (leftAt rows k)))
+  tail-fine : (first s : List ℕ) (add i : ℕ) → r ≤ i → i < sizeAt rows k → ((u : ℕ) → T (members add u) → T (sees s u (leftAt rows k)))
       → (u : ℕ) (see : ℕ → Bool) → FollowClosed gone first rows count u see → Inside (sees s u) see → T (members add u) → (n : ℕ) → symbolOf (byteAt rows k i) ≡ nonterminal n → T (see n)
   tail-fine first s add i l m from u see c sub t n e =
       c .tails .tail k lt .at i n (drop (i + 1) (rightAt rows k)) zero-le (right-cons image k lt i m ∙ ap (λ (x : Symbol). x ∷ drop (i + 1) (rightAt rows k)) e) (tail .inner i l) (sub (leftAt rows k) (from u t))
+
+  pub tail-step : (first t s q : List ℕ) (i : ℕ) (c : Bool) → r ≤ i → i < sizeAt rows k → ((u : ℕ) → Inside (sees t u) (sees s u)) → Joined s (symbolOf (byteAt rows k i)) (getD t (leftAt rows k) 0) c q
+      → Passed (FollowClosed gone first rows count) (Gets (symbolOf (byteAt rows k i)) (getD t (leftAt rows k) 0)) s q c
+  tail-step first t s q i c l m keeps j =
+      passed-join s q (symbolOf (byteAt rows k i)) (getD t (leftAt rows k) 0) c j (tail-fine first s (getD t (leftAt rows k) 0) i l m (λ u. keeps u (leftAt rows k)))
+      (λ adds u. record { got = λ n e. adds n e u })
 
   pub tail-more : (add i : ℕ) (u : ℕ) (see : ℕ → Bool) → i < sizeAt rows k → (T (see (leftAt rows k)) → T (members add u)) → TailTo rows k r i see → Gets (symbolOf (byteAt rows k i)) add u see → TailTo rows k r (i + 1) see
   tail-more add i u see m from b g = record { at = λ j n xs l h e t. go j n xs l h e t (decLt j i) }
@@ -223,3 +230,42 @@ pub record Followed (gone : ℕ → Bool) (first rows : List ℕ) (count start :
   pub begun : T (sees r endNumber start)
   pub closed : (u : ℕ) → FollowClosed gone first rows count u (sees r u)
   pub least : (u : ℕ) (see : ℕ → Bool) → FollowClosed gone first rows count u see → (u ≡ endNumber → T (see start)) → Inside (sees r u) see
+
+-- on the way there
+pub record Following (gone : ℕ → Bool) (first rows : List ℕ) (count start : ℕ) (t : List ℕ) : Type 0 where
+  pub size : length t ≡ 48
+  pub words : Words t
+  pub begun : T (sees t endNumber start)
+  pub bases : (u : ℕ) → BasesTo gone first rows count u (sees t u)
+  pub least : (u : ℕ) (see : ℕ → Bool) → FollowClosed gone first rows count u see → (u ≡ endNumber → T (see start)) → Inside (sees t u) see
+
+module _ (gone : ℕ → Bool) (first rows : List ℕ) (count start : ℕ) where
+  pub following-start : (s t : List ℕ) (c : Bool) → Joined (replicate 48 0) (nonterminal start) (2 ^ 63) c s → Filled (FollowClosed gone first rows count) (BasesTo gone first rows count) s t → Following gone first rows count start t
+  following-start s t c j f =
+      record {
+        size = f .size ∙ j .size;
+        words = f .words (j .words (zeros-words 48));
+        begun = f .keeps endNumber start (j .adds start refl endNumber (rw set-end (single-has endNumber (lit< tt))));
+        bases = f .holds;
+        least = λ u see k b. f .sound u see k (λ n h. ⊎-elim (λ z. absurd (zeros-none 48 u n z)) (there u see b n) (j .only u n h));
+      }
+    where
+      there : (u : ℕ) (see : ℕ → Bool) → (u ≡ endNumber → T (see start)) → (n : ℕ) → (nonterminal start ≡ nonterminal n) × T (members (2 ^ 63) u) → T (see n)
+      there u see b n w =
+          let q = w .0 in
+          let e : start ≡ n = cc in
+          rw (sym e) (b (single-only endNumber u (rw set-end at (w .1))))
+
+  module _ (s t : List ℕ) (f : Following gone first rows count start s) where
+    pub following-on : (c : Bool) → Passed (FollowClosed gone first rows count) (λ u. TailsTo gone rows count) s t c → Following gone first rows count start t
+    following-on c p =
+        record {
+          size = p .size ∙ f .size;
+          words = p .words (f .words);
+          begun = p .keeps endNumber start (f .begun);
+          bases = λ u. record { base = λ q l. base-lift (sees s u) (sees t u) (p .keeps u) (f .bases u .base q l) };
+          least = λ u see k b. p .sound u see k (f .least u see k b);
+        }
+
+    pub followed : Passed (FollowClosed gone first rows count) (λ u. TailsTo gone rows count) s t false → Followed gone first rows count start t
+    followed p = rw (p .stuck refl .0) (record { begun = f .begun; closed = λ u. record { bases = f .bases u; tails = p .stuck refl .1 u }; least = f .least })
