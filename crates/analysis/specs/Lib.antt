@@ -7,3 +7,5 @@ pub mod Tables
 pub mod Passes
 pub mod Fronts
 pub mod Follows
+pub mod Agreeing
+pub mod TokenAgreeing
