@@ -9,3 +9,4 @@ pub mod Fronts
 pub mod Follows
 pub mod Agreeing
 pub mod TokenAgreeing
+pub mod Recursion

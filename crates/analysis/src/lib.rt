@@ -3,3 +3,4 @@ pub mod closing;
 pub mod fronts;
 pub mod reaching;
 pub mod follow;
+pub mod recursion;
