@@ -10,3 +10,6 @@ pub mod Follows
 pub mod Agreeing
 pub mod TokenAgreeing
 pub mod Recursion
+pub mod RecursionAgreeing
+pub mod Numbers
+pub mod Entries
