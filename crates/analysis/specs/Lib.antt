@@ -13,3 +13,4 @@ pub mod Recursion
 pub mod RecursionAgreeing
 pub mod Numbers
 pub mod Entries
+pub mod Clashing

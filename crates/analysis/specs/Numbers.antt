@@ -4,7 +4,7 @@ use native.Mathlib.Decide.{decLt, ℕ-discrete}
 use native.Mathlib.Omega.{arith}
 use mathlib.Core.Path.{_≡_, refl, sym, ap, _∙_, subst}
 use mathlib.Core.Logic.{_⊎_, inl, inr}
-use mathlib.Core.Bool.{Bool, true, false, _&&_, _||_}
+use mathlib.Core.Bool.{Bool, true, false, _&&_, _||_, not}
 use mathlib.Core.Option.{Option, none, some}
 use mathlib.Core.List.{List, [], _∷_}
 use lib.Dec.{T}
@@ -40,3 +40,87 @@ module _ (f : ℕ → Bool) where
       go : T (f k) ⊎ T (any f (countFrom (suc k) n)) → (T (any f (countFrom (suc k) n)) → (a : ℕ) × (suc k ≤ a) × (a < suc k + n) × T (f a)) → (a : ℕ) × (k ≤ a) × (a < k + suc n) × T (f a)
       go (inl h) j = (k, omega arith, omega arith, h)
       go (inr h) j = let w = j h in (w .0, omega (arith, w .1), omega (arith, w .2), w .3)
+
+-- r is the lowest number below n that passes, or n
+pub record Found (f : ℕ → Bool) (n r : ℕ) : Type 0 where
+  pub upto : r ≤ n
+  pub passes : r < n → T (f r)
+  pub before : (j : ℕ) → j < r → T (f j) → ⊥
+
+-- none of the numbers below k passes
+pub record Clear (f : ℕ → Bool) (k : ℕ) : Type 0 where
+  pub clear : (j : ℕ) → j < k → T (f j) → ⊥
+
+module _ (f : ℕ → Bool) where
+  pub clear-none : Clear f 0
+  clear-none = record { clear = λ j l. absurd (omega arith) }
+
+  pub clear-more : (k : ℕ) → Clear f k → (T (f k) → ⊥) → Clear f (k + 1)
+  clear-more k c n = record { clear = λ j l t. go j l t (decLt j k) }
+    where
+      here : (j : ℕ) → j ≡ k → T (f j) → ⊥
+      here j e t = n (rw e at t)
+
+      go : (j : ℕ) → j < k + 1 → T (f j) → Dec (j < k) → ⊥
+      go j l t (yes m) = c .clear j m t
+      go j l t (no m) = here j (omega arith) t
+
+  pub found-here : (n k : ℕ) → k < n → Clear f k → T (f k) → Found f n k
+  found-here n k l c t = record { upto = omega arith; passes = λ _. t; before = c .clear }
+
+  pub found-none : (n k : ℕ) → k ≡ n → Clear f k → Found f n k
+  found-none n k e c = record { upto = omega arith; passes = λ l. absurd (omega arith); before = c .clear }
+
+  pub clear-any : (n : ℕ) → Clear f n → T (any f (countFrom 0 n)) → ⊥
+  clear-any n c t = let w = count-any f 0 n t in c .clear (w .0) (omega (arith, w .2)) (w .3)
+
+-- the same by another test
+pub found-same : (f h : ℕ → Bool) (n r : ℕ) → ((j : ℕ) → j < n → f j ≡ h j) → Found f n r → Found h n r
+found-same f h n r k d = record { upto = d .upto; passes = λ l. rw (← k r l) (d .passes l); before = λ j l t. d .before j l (rw (k j (omega (arith, d .upto))) t) }
+
+-- what firstWhere answers
+module _ (f : ℕ → Bool) where
+  first-none : (k n : ℕ) → ((j : ℕ) → k ≤ j → j < k + n → T (f j) → ⊥) → firstWhere f (countFrom k n) ≡ none
+  first-none k zero h = refl
+  first-none k (suc n) h = go (f k) (λ t. h k (omega arith) (omega arith) t) (first-none (suc k) n (λ j l m. h j (omega arith) (omega arith)))
+    where
+      go : (b : Bool) → (T b → ⊥) → firstWhere f (countFrom (suc k) n) ≡ none → _≡_ {A = Option ℕ} (elim b [ true ↦ some k | false ↦ firstWhere f (countFrom (suc k) n) ]) none
+      go true z e = absurd (z tt)
+      go false z e = e
+
+  first-some : (k n r : ℕ) → k ≤ r → r < k + n → T (f r) → ((j : ℕ) → k ≤ j → j < r → T (f j) → ⊥) → firstWhere f (countFrom k n) ≡ some r
+  first-some k zero r l m t h = absurd (omega arith)
+  first-some k (suc n) r l m t h = go (ℕ-discrete k r) (λ q. first-some (suc k) n r q (omega arith) t (λ j a b. h j (omega arith) b))
+    where
+      at : (b : Bool) → T b → _≡_ {A = Option ℕ} (elim b [ true ↦ some k | false ↦ firstWhere f (countFrom (suc k) n) ]) (some k)
+      at true u = refl
+      at false u = absurd u
+
+      past : (b : Bool) → (T b → ⊥) → firstWhere f (countFrom (suc k) n) ≡ some r → _≡_ {A = Option ℕ} (elim b [ true ↦ some k | false ↦ firstWhere f (countFrom (suc k) n) ]) (some r)
+      past true z e = absurd (z tt)
+      past false z e = e
+
+      go : Dec (k ≡ r) → (suc k ≤ r → firstWhere f (countFrom (suc k) n) ≡ some r) → firstWhere f (countFrom k (suc n)) ≡ some r
+      go (yes e) j = at (f k) (rw e t) ∙ ap some e
+      go (no e) j = past (f k) (h k (omega arith) (omega arith)) (j (omega arith))
+
+  pub found-some : (n r : ℕ) → Found f n r → r < n → firstWhere f (countFrom 0 n) ≡ some r
+  found-some n r d l = first-some 0 n r (omega arith) (omega arith) (d .passes l) (λ j _. d .before j)
+
+  pub found-not : (n r : ℕ) → Found f n r → n ≤ r → firstWhere f (countFrom 0 n) ≡ none
+  found-not n r d l = first-none 0 n (λ j _ m. d .before j (omega arith))
+
+-- not both
+module _ (a b : Bool) where
+  pub without-first : a ≡ false → T (not (a && b))
+  without-first e = rw e tt
+
+  pub without-second : b ≡ false → T (not (a && b))
+  without-second e = rw e (go a)
+    where
+      go : (x : Bool) → T (not (x && false))
+      go true = tt
+      go false = tt
+
+  pub with-both : a ≡ true → b ≡ true → T (not (a && b)) → ⊥
+  with-both e f t = rw (e, f) at t

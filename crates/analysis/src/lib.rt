@@ -4,3 +4,5 @@ pub mod fronts;
 pub mod reaching;
 pub mod follow;
 pub mod recursion;
+pub mod judging;
+pub mod clash;

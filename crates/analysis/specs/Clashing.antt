@@ -1,0 +1,132 @@
+-- Clashes over the tables that the code keeps.
+use Prim.Native.Nat.{ℕ, zero, suc, _+_, _-_, _*_, _≤_, _<_, min, max}
+use native.Mathlib.Decide.{decLt, ℕ-discrete}
+use native.Mathlib.Omega.{arith}
+use mathlib.Core.Path.{_≡_, refl, sym, ap, ap₂, _∙_, subst}
+use mathlib.Core.Bool.{Bool, true, false, _&&_, _||_}
+use mathlib.Core.List.{List}
+use lib.Dec.{T, eqb, leb, eqb→eq, eqb-refl, leb→le, le→leb}
+use lib.ListN.{getD, length, replicate, set, length-set}
+use lib.Seq.{getD-set-same, getD-set-other}
+use Rattle.meaning.specs.Base.{all, any, countFrom}
+use Rattle.meaning.specs.Decide.{meet}
+use Rattle.theory_sets.specs.Tests.{T→true, true→T}
+use Rattle.theory_sets.specs.Widths.{both-true}
+use Rattle.token_set.specs.Words.{setOf}
+use Rattle.analysis.specs.Rows.{leftAt, rightAt}
+use Rattle.analysis.specs.Views.{members, sees, opens}
+use Rattle.analysis.specs.Numbers.{Clear, clear-any, all-count, count-all, any-count}
+
+-- the first k productions have their FIRST-then-FOLLOW sets
+pub record StartsTo (gone : ℕ → Bool) (first follow rows : List ℕ) (k : ℕ) (sets : List ℕ) : Type 0 where
+  pub size : length sets ≡ 128
+  pub is : (p : ℕ) → p < k → (u : ℕ) → members (getD sets p 0) u ≡ opens true gone (sees first u) u (sees follow u (leftAt rows p)) (rightAt rows p)
+
+module _ (gone : ℕ → Bool) (first follow rows : List ℕ) where
+  pub starts-none : StartsTo gone first follow rows 0 (replicate 128 0)
+  starts-none = record { size = refl; is = λ p l. absurd (omega arith) }
+
+  pub starts-next : (k x : ℕ) (sets : List ℕ) → k < 128 → StartsTo gone first follow rows k sets → ((u : ℕ) → members x u ≡ opens true gone (sees first u) u (sees follow u (leftAt rows k)) (rightAt rows k)) → StartsTo gone first follow rows (k + 1) (set sets k x)
+  starts-next k x sets l s e = record { size = length-set sets k x ∙ s .size; is = λ p m u. go p m u (ℕ-discrete p k) }
+    where
+      go : (p : ℕ) → p < k + 1 → (u : ℕ) → Dec (p ≡ k) → members (getD (set sets k x) p 0) u ≡ opens true gone (sees first u) u (sees follow u (leftAt rows p)) (rightAt rows p)
+      go p m u (yes q) = rw (q, getD-set-same sets k x 0 (rw (s .size) l)) (e u)
+      go p m u (no q) = rw (getD-set-other sets k p x 0 q) (s .is p (omega arith) u)
+
+module _ (lows highs : List ℕ) (p q : ℕ) where
+  -- attribute a + 1 leaves a value to both
+  abbrev pub overlapBy : ℕ → Bool
+  overlapBy a = leb (max (getD lows (p * 8 + a) 0) (getD lows (q * 8 + a) 0)) (min (getD highs (p * 8 + a) 0) (getD highs (q * 8 + a) 0))
+
+  unfoldable pub agreeBy : Bool
+  agreeBy = all overlapBy (countFrom 0 8)
+
+module _ (rows sets lows highs flags : List ℕ) where
+  unfoldable pub clashBy : ℕ → ℕ → Bool
+  clashBy p q =
+      eqb (leftAt rows p) (leftAt rows q) && meet (setOf (getD sets p 0)) (setOf (getD sets q 0))
+      && (eqb (getD flags p 0) 0 || eqb (getD flags q 0) 0 || agreeBy lows highs p q)
+
+  -- production p clashes with an earlier one
+  unfoldable pub clashesBy : ℕ → Bool
+  clashesBy p = any (clashBy p) (countFrom 0 p)
+
+-- ---- two intervals
+not-below : (x y : ℕ) → y < x → false ≡ leb x y
+not-below x y l = both-true false (leb x y) (λ t. absurd t) (λ t. absurd (let h = leb→le x y t in omega arith))
+
+module _ (l h m i : ℕ) where
+  pub apart-own : h < l → false ≡ leb (max l m) (min h i)
+  apart-own q = not-below (max l m) (min h i) (omega arith)
+
+  pub apart-above : i < l → false ≡ leb (max l m) (min h i)
+  apart-above q = not-below (max l m) (min h i) (omega arith)
+
+  pub apart-below : h < m → false ≡ leb (max l m) (min h i)
+  apart-below q = not-below (max l m) (min h i) (omega arith)
+
+  pub last-test : l ≤ h → l ≤ i → m ≤ h → leb m i ≡ leb (max l m) (min h i)
+  last-test a b c = both-true (leb m i) (leb (max l m) (min h i)) (λ t. le→leb (max l m) (min h i) (let k = leb→le m i t in omega arith)) (λ t. le→leb m i (let k = leb→le (max l m) (min h i) t in omega arith))
+
+-- ---- all attributes
+module _ (lows highs : List ℕ) (p q : ℕ) where
+  pub agree-all : ((a : ℕ) → a < 8 → T (overlapBy lows highs p q a)) → true ≡ agreeBy lows highs p q
+  unfolding agreeBy
+  agree-all k = sym (T→true (all (overlapBy lows highs p q) (countFrom 0 8)) (all-count (overlapBy lows highs p q) 0 8 (λ a l m. k a m)))
+
+  pub agree-not : (a : ℕ) → a < 8 → overlapBy lows highs p q a ≡ false → false ≡ agreeBy lows highs p q
+  unfolding agreeBy
+  agree-not a l e = both-true false (all (overlapBy lows highs p q) (countFrom 0 8)) (λ t. absurd t) (λ t. rw e at (count-all (overlapBy lows highs p q) 0 8 t a (omega arith) l))
+
+-- ---- two productions
+module _ (rows sets lows highs flags : List ℕ) (p q : ℕ) where
+  abbrev same : Bool
+  same = eqb (leftAt rows p) (leftAt rows q)
+
+  abbrev met : Bool
+  met = meet (setOf (getD sets p 0)) (setOf (getD sets q 0))
+
+  pub clash-other : (leftAt rows p ≡ leftAt rows q → ⊥) → false ≡ clashBy rows sets lows highs flags p q
+  unfolding clashBy
+  clash-other n = sym (rw (eqb-no (leftAt rows p) (leftAt rows q) n) refl)
+    where
+      eqb-no : (x y : ℕ) → (x ≡ y → ⊥) → eqb x y ≡ false
+      eqb-no x y k = both-true (eqb x y) false (λ t. k (eqb→eq x y t)) (λ t. absurd t)
+
+  module _ (e : leftAt rows p ≡ leftAt rows q) where
+    left-same : eqb (leftAt rows p) (leftAt rows q) ≡ true
+    left-same = rw e (T→true (eqb (leftAt rows q) (leftAt rows q)) (eqb-refl (leftAt rows q)))
+
+    pub clash-apart : met ≡ false → false ≡ clashBy rows sets lows highs flags p q
+    unfolding clashBy
+    clash-apart m = sym (rw (left-same, m) refl)
+
+    module _ (m : met ≡ true) where
+      pub clash-free : getD flags p 0 ≡ 0 → true ≡ clashBy rows sets lows highs flags p q
+      unfolding clashBy
+      clash-free f = sym (rw (left-same, m, f) refl)
+
+      pub clash-other-free : getD flags q 0 ≡ 0 → true ≡ clashBy rows sets lows highs flags p q
+      unfolding clashBy
+      clash-other-free f = sym (rw (left-same, m, f) (go (eqb (getD flags p 0) 0)))
+        where
+          go : (b : Bool) → ((b || true) || agreeBy lows highs p q) ≡ true
+          go true = refl
+          go false = refl
+
+      pub clash-agree : (getD flags p 0 ≡ 0 → ⊥) → (getD flags q 0 ≡ 0 → ⊥) → agreeBy lows highs p q ≡ clashBy rows sets lows highs flags p q
+      unfolding clashBy
+      clash-agree a b = sym (rw (left-same, m, eqb-not (getD flags p 0) a, eqb-not (getD flags q 0) b) refl)
+        where
+          eqb-not : (x : ℕ) → (x ≡ 0 → ⊥) → eqb x 0 ≡ false
+          eqb-not x k = both-true (eqb x 0) false (λ t. k (eqb→eq x 0 t)) (λ t. absurd t)
+
+-- ---- a production and those before it
+module _ (rows sets lows highs flags : List ℕ) where
+  pub clashes-one : (p q : ℕ) → q < p → clashBy rows sets lows highs flags p q ≡ true → T (clashesBy rows sets lows highs flags p)
+  unfolding clashesBy
+  clashes-one p q l e = any-count (clashBy rows sets lows highs flags p) 0 p q (omega arith) (omega arith) (true→T e)
+
+  pub clashes-none : (p : ℕ) → Clear (clashBy rows sets lows highs flags p) p → T (clashesBy rows sets lows highs flags p) → ⊥
+  unfolding clashesBy
+  clashes-none p c = clear-any (clashBy rows sets lows highs flags p) p c
