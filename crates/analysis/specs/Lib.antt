@@ -14,3 +14,5 @@ pub mod RecursionAgreeing
 pub mod Numbers
 pub mod Entries
 pub mod Clashing
+pub mod Finding
+pub mod Judged

@@ -11,6 +11,7 @@ use lib.Dec.{T}
 use Rattle.meaning.specs.Base.{all, any, countFrom}
 use Rattle.meaning.specs.Decide.{firstWhere}
 use Rattle.theory_sets.specs.Tests.{and-intro, and-left, and-right, or-left, or-right, or-cases}
+use Rattle.theory_sets.specs.Widths.{both-true}
 
 module _ (f : ℕ → Bool) where
   pub all-count : (k n : ℕ) → ((a : ℕ) → k ≤ a → a < k + n → T (f a)) → T (all f (countFrom k n))
@@ -40,6 +41,13 @@ module _ (f : ℕ → Bool) where
       go : T (f k) ⊎ T (any f (countFrom (suc k) n)) → (T (any f (countFrom (suc k) n)) → (a : ℕ) × (suc k ≤ a) × (a < suc k + n) × T (f a)) → (a : ℕ) × (k ≤ a) × (a < k + suc n) × T (f a)
       go (inl h) j = (k, omega arith, omega arith, h)
       go (inr h) j = let w = j h in (w .0, omega (arith, w .1), omega (arith, w .2), w .3)
+
+-- tests that agree on the numbers below n
+pub all-count-same : (f h : ℕ → Bool) (n : ℕ) → ((a : ℕ) → a < n → f a ≡ h a) → all f (countFrom 0 n) ≡ all h (countFrom 0 n)
+all-count-same f h n k = both-true (all f (countFrom 0 n)) (all h (countFrom 0 n)) (λ t. all-count h 0 n (λ a l m. rw (← k a (omega arith)) (count-all f 0 n t a l m))) (λ t. all-count f 0 n (λ a l m. rw (k a (omega arith)) (count-all h 0 n t a l m)))
+
+pub any-count-same : (f h : ℕ → Bool) (n : ℕ) → ((a : ℕ) → a < n → f a ≡ h a) → any f (countFrom 0 n) ≡ any h (countFrom 0 n)
+any-count-same f h n k = both-true (any f (countFrom 0 n)) (any h (countFrom 0 n)) (λ t. let w = count-any f 0 n t in any-count h 0 n (w .0) (w .1) (w .2) (rw (← k (w .0) (omega (arith, w .2))) (w .3))) (λ t. let w = count-any h 0 n t in any-count f 0 n (w .0) (w .1) (w .2) (rw (k (w .0) (omega (arith, w .2))) (w .3)))
 
 -- r is the lowest number below n that passes, or n
 pub record Found (f : ℕ → Bool) (n r : ℕ) : Type 0 where
