@@ -10,11 +10,14 @@ use lib.ListN.{getD, length, replicate, set, length-set}
 use lib.Seq.{getD-set-same, getD-set-other}
 use Rattle.meaning.specs.Base.{all, any, countFrom}
 use Rattle.meaning.specs.Decide.{meet}
-use Rattle.theory_sets.specs.Tests.{T→true, true→T}
+use lib.Bits.{bitOr}
+use Rattle.theory_sets.specs.Tests.{and-left, and-right, T→true, true→T}
+use Rattle.theory_sets.specs.Clashes.{meet-cases, meet-at}
 use Rattle.theory_sets.specs.Widths.{both-true}
 use Rattle.token_set.specs.Words.{setOf}
 use Rattle.analysis.specs.Rows.{leftAt, rightAt}
 use Rattle.analysis.specs.Views.{members, sees, opens}
+use Rattle.analysis.specs.Growth.{or-left, or-right}
 use Rattle.analysis.specs.Numbers.{Clear, clear-any, all-count, count-all, any-count}
 
 -- the first k productions have their FIRST-then-FOLLOW sets
@@ -130,3 +133,39 @@ module _ (rows sets lows highs flags : List ℕ) where
   pub clashes-none : (p : ℕ) → Clear (clashBy rows sets lows highs flags p) p → T (clashesBy rows sets lows highs flags p) → ⊥
   unfolding clashesBy
   clashes-none p c = clear-any (clashBy rows sets lows highs flags p) p c
+
+-- ---- what the productions of each left side have had so far
+pub record Rivals (seen s later r : ℕ) : Type 0 where
+  pub upto : r ≤ later
+  pub apart : 0 < r → meet (setOf seen) (setOf s) ≡ false
+
+pub record Seen (rows sets : List ℕ) (k : ℕ) (seen : List ℕ) : Type 0 where
+  pub size : length seen ≡ 48
+  pub has : (p : ℕ) → p < k → (u : ℕ) → T (members (getD sets p 0) u) → T (sees seen u (leftAt rows p))
+
+module _ (rows sets : List ℕ) where
+  pub seen-none : Seen rows sets 0 (replicate 48 0)
+  seen-none = record { size = refl; has = λ p l. absurd (omega arith) }
+
+  pub seen-next : (k : ℕ) (seen : List ℕ) → leftAt rows k < 48 → Seen rows sets k seen → Seen rows sets (k + 1) (set seen (leftAt rows k) (bitOr (getD seen (leftAt rows k) 0) (getD sets k 0)))
+  seen-next k seen l s = record { size = length-set seen (leftAt rows k) (bitOr (getD seen (leftAt rows k) 0) (getD sets k 0)) ∙ s .size; has = λ p m u t. go p m u t (ℕ-discrete p k) (ℕ-discrete (leftAt rows p) (leftAt rows k)) }
+    where
+      lt : leftAt rows k < length seen
+      lt = rw (s .size) l
+
+      go : (p : ℕ) → p < k + 1 → (u : ℕ) → T (members (getD sets p 0) u) → Dec (p ≡ k) → Dec (leftAt rows p ≡ leftAt rows k) → T (sees (set seen (leftAt rows k) (bitOr (getD seen (leftAt rows k) 0) (getD sets k 0))) u (leftAt rows p))
+      go p m u t (yes e) d = rw (e, getD-set-same seen (leftAt rows k) (bitOr (getD seen (leftAt rows k) 0) (getD sets k 0)) 0 lt) (or-right (getD seen (leftAt rows k) 0) (getD sets k 0) u (rw e at t))
+      go p m u t (no e) (yes d) = rw (d, getD-set-same seen (leftAt rows k) (bitOr (getD seen (leftAt rows k) 0) (getD sets k 0)) 0 lt) (or-left (getD seen (leftAt rows k) 0) (getD sets k 0) u (rw d at (s .has p (omega arith) u t)))
+      go p m u t (no e) (no d) = rw (getD-set-other seen (leftAt rows k) (leftAt rows p) (bitOr (getD seen (leftAt rows k) 0) (getD sets k 0)) 0 d) (s .has p (omega arith) u t)
+
+  -- before the place to begin there is no clash
+  pub rivals-clear : (lows highs flags : List ℕ) (k r : ℕ) (seen : List ℕ) → Seen rows sets k seen → Rivals (getD seen (leftAt rows k) 0) (getD sets k 0) k r → Clear (clashBy rows sets lows highs flags k) r
+  unfolding clashBy
+  rivals-clear lows highs flags k r seen s v = record { clear = λ j l t. away j l (and-left (eqb (leftAt rows k) (leftAt rows j) && meet (setOf (getD sets k 0)) (setOf (getD sets j 0))) (eqb (getD flags k 0) 0 || eqb (getD flags j 0) 0 || agreeBy lows highs k j) t) }
+    where
+      away : (j : ℕ) → j < r → T (eqb (leftAt rows k) (leftAt rows j) && meet (setOf (getD sets k 0)) (setOf (getD sets j 0))) → ⊥
+      away j l t =
+          let e = eqb→eq (leftAt rows k) (leftAt rows j) (and-left (eqb (leftAt rows k) (leftAt rows j)) (meet (setOf (getD sets k 0)) (setOf (getD sets j 0))) t) in
+          let w = meet-cases (setOf (getD sets k 0)) (setOf (getD sets j 0)) (and-right (eqb (leftAt rows k) (leftAt rows j)) (meet (setOf (getD sets k 0)) (setOf (getD sets j 0))) t) in
+          let h : T (sees seen (w .0) (leftAt rows k)) = subst (λ (n : ℕ). T (sees seen (w .0) n)) (sym e) (s .has j (omega (arith, v .upto)) (w .0) (w .2)) in
+          rw (v .apart (omega arith)) at (meet-at (setOf (getD seen (leftAt rows k) 0)) (setOf (getD sets k 0)) (w .0) h (w .1))

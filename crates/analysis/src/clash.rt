@@ -10,7 +10,7 @@ ghost use lib.ListN.{length, getD};
 ghost use Rattle.analysis.specs.Rows.{Image};
 ghost use Rattle.analysis.specs.Views.{members};
 ghost use Rattle.analysis.specs.Numbers.{Found};
-ghost use Rattle.analysis.specs.Clashing.{StartsTo, agreeBy, clashBy, clashesBy};
+ghost use Rattle.analysis.specs.Clashing.{StartsTo, Rivals, agreeBy, clashBy, clashesBy};
 
 // FIRST-then-FOLLOW of each production.
 pub fn all_starts(rows: &[u8; 2048], count: usize, null: u64, first: &[u64; 48], follow: &[u64; 48]) -> [u64; 128]
@@ -86,6 +86,16 @@ fn clash(
     agree(lows, highs, p, q)
 }
 
+// Where to begin among the productions before `later`: behind them all where its set meets nothing that they have.
+fn rivals(seen: u64, set: u64, later: usize) -> usize
+    ensures { λ r. ⌜ Rivals seen set later r ⌝ }
+{
+    if TokenSet(seen).meets(TokenSet(set)) {
+        return 0;
+    }
+    later
+}
+
 // The lowest production that clashes with an earlier one; `count` where there is none.
 pub fn lowest_clash(
     rows: &[u8; 2048],
@@ -95,18 +105,21 @@ pub fn lowest_clash(
     highs: &[u32; 1024],
     flags: &[u8; 128],
 ) -> usize
-    requires { ⌜ count ≤ 128 ⌝ }
+    requires { ⌜ Image (now rows) count ⌝ }
     ensures { λ r. ⌜ Found (clashesBy (now (rows .entry)) (now (sets .entry)) (now (lows .entry)) (now (highs .entry)) (now (flags .entry))) count r ⌝ }
 {
+    let mut seen = [0u64; 48];
     let mut later: usize = 0;
     'pairs: while later < count {
-        let mut earlier: usize = 0;
+        let left = rows[later * 16] as usize;
+        let mut earlier = rivals(seen[left], sets[later], later);
         while earlier < later {
             if clash(rows, sets, lows, highs, flags, later, earlier) {
                 break 'pairs;
             }
             earlier += 1;
         }
+        seen[left] = seen[left] | sets[later];
         later += 1;
     }
     later
