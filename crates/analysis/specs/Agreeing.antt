@@ -1,19 +1,19 @@
 -- What closing and reaching over the rows end at is what 01's definitions compute: nullable, productive, reachable.
-use Prim.Native.Nat.{ℕ, zero, suc, _+_, _≤_, _<_, zero-le}
+use Prim.Native.Nat.{ℕ, _<_, zero-le}
 use native.Mathlib.Omega.{arith}
-use mathlib.Core.Path.{_≡_, refl, sym, ap, _∙_, subst}
+use mathlib.Core.Path.{_≡_, refl, sym}
 use mathlib.Core.Logic.{_⊎_, inl, inr}
-use mathlib.Core.Bool.{Bool, true, false, _&&_, _||_}
+use mathlib.Core.Bool.{Bool, true, false}
 use mathlib.Core.List.{List, [], _∷_}
-use lib.Dec.{T, eqb, eqb→eq, ltb→lt}
+use lib.Dec.{T, eqb→eq, ltb→lt}
 use lib.ListN.{getD}
 use Rattle.meaning.specs.Base.{all, any}
 use Rattle.meaning.specs.Grammar.{Symbol, terminal, nonterminal, Grammar, productionAt, nonterminalCount, isNonterminal}
 use Rattle.meaning.specs.Derivation.{Listed}
-use Rattle.meaning.specs.Sets.{has, singleton, nullable, emptySymbol, emptyString}
+use Rattle.meaning.specs.Sets.{singleton, nullable, emptySymbol}
 use Rattle.meaning.specs.Decide.{productiveSymbol, productive, reachable}
-use Rattle.theory_sets.specs.Tests.{and-left, and-right, or-cases, all-map}
-use Rattle.theory_sets.specs.Productions.{Sound, known}
+use Rattle.theory_sets.specs.Tests.{and-left, and-right, or-cases}
+use Rattle.theory_sets.specs.Productions.{known}
 use Rattle.theory_sets.specs.Nullable.{nullable-closed}
 use Rattle.theory_sets.specs.Productive.{productive-closed}
 use Rattle.theory_sets.specs.Reached.{reachable-start, reachable-closed}
@@ -21,8 +21,8 @@ use Rattle.theory_sets.specs.LeastSets.{nullable-least, productive-least, reach
 use Rattle.theory_sets.specs.TokenSets.{single-has, single-only}
 use Rattle.theory_sets.specs.Widths.{both-true}
 use Rattle.token_set.specs.Words.{setOf}
-use Rattle.analysis.specs.Rows.{Rows, leftAt, rightAt}
-use Rattle.analysis.specs.Views.{members, Inside, Within, fit, ClosedAt, ReachAt}
+use Rattle.analysis.specs.Rows.{Rows}
+use Rattle.analysis.specs.Views.{members, Within, fit, ClosedAt, ReachAt}
 use Rattle.analysis.specs.Growth.{Settled, none-in}
 
 -- the word marks the nonterminals of a list of truth values

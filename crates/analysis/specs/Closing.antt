@@ -5,7 +5,6 @@ use mathlib.Core.Path.{_≡_}
 use mathlib.Core.Bool.{Bool, true, false}
 use mathlib.Core.List.{List}
 use lib.Bits.{bitOr}
-use lib.Dec.{T}
 use Rattle.meaning.specs.Base.{all}
 use Rattle.meaning.specs.Sets.{singleton}
 use Rattle.theory_sets.specs.Tests.{true→T, all-map}

@@ -2,13 +2,13 @@
 -- Bounds are kept as words that order as the values do: the value plus 2,147,483,648.
 use Prim.Native.Nat.{ℕ, zero, suc, _+_, _-_, _*_, _≤_, _<_, min, max}
 use native.Mathlib.Omega.{arith}
-use mathlib.Core.Path.{_≡_, refl, sym, ap, ap₂, _∙_, subst}
+use mathlib.Core.Path.{_≡_, sym, _∙_}
 use mathlib.Core.Logic.{_⊎_, inl, inr}
 use mathlib.Core.Bool.{Bool, true, false, _&&_, _||_, not}
 use mathlib.Core.List.{List, [], _∷_, _++_}
-use lib.Dec.{T, eqb, ltb, leb, eqb→eq, eqb-refl, leb→le, le→leb, T-not, not-T}
+use lib.Dec.{T, eqb, leb, eqb→eq, eqb-refl, leb→le, le→leb, T-not, not-T}
 use lib.IntN.{ℤ, pos, negsuc}
-use lib.ListN.{getD, length}
+use lib.ListN.{getD}
 use lib.Signed.{leZ}
 use Rattle.meaning.specs.Base.{all, countFrom, isEmpty}
 use Rattle.meaning.specs.Grammar.{Condition, range, atmost, Grammar, productionAt, nonterminal, inh}
@@ -16,7 +16,7 @@ use Rattle.meaning.specs.Value.{inRange, lowest, highest}
 use Rattle.meaning.specs.Scheme.{entryTests}
 use Rattle.meaning.specs.Derivation.{Listed}
 use Rattle.meaning.specs.Decide.{compatible, satisfiable}
-use Rattle.theory_sets.specs.Tests.{and-intro, and-left, and-right, or-left, or-right, or-cases, decide, all-append, all-at, all-intro, all-map, all-map₂, T→true}
+use Rattle.theory_sets.specs.Tests.{and-intro, and-left, and-right, or-left, or-right, or-cases, decide, all-at, all-intro, all-map, all-map₂}
 use Rattle.theory_sets.specs.Intervals.{onRange, entry, entered}
 use Rattle.theory_sets.specs.Clashes.{Ranged}
 use Rattle.theory_sets.specs.Widths.{both-true}

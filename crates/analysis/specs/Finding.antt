@@ -1,18 +1,16 @@
 -- Refusals 11 to 13 of a grammar as one finding, and the verdict that a table gets from it.
-use Prim.Native.Nat.{ℕ, zero, suc, _≤_, _<_}
+use Prim.Native.Nat.{ℕ, _≤_, _<_}
 use native.Mathlib.Omega.{arith}
-use mathlib.Core.Path.{_≡_, refl, sym, ap, ap₂, _∙_}
-use mathlib.Core.Bool.{Bool, true, false, _&&_, _||_, not}
+use mathlib.Core.Path.{_≡_, refl, sym, ap, ap₂}
+use mathlib.Core.Bool.{Bool, false, _&&_, not}
 use mathlib.Core.Option.{Option, none, some}
-use mathlib.Core.List.{List, _++_, map}
-use lib.Dec.{T, eqb, leb}
+use mathlib.Core.List.{List}
 use lib.ListN.{getD, length}
-use Rattle.meaning.specs.Base.{all, any, countFrom, isEmpty}
-use Rattle.meaning.specs.Grammar.{Grammar, productionAt, nonterminal, inh, nonterminalCount}
+use Rattle.meaning.specs.Base.{countFrom}
+use Rattle.meaning.specs.Grammar.{Grammar, productionAt, nonterminal, nonterminalCount}
 use Rattle.meaning.specs.Derivation.{Listed}
-use Rattle.meaning.specs.Scheme.{entryTests}
 use Rattle.meaning.specs.Sets.{starts}
-use Rattle.meaning.specs.Decide.{productive, reachable, isLeftRecursive, meet, satisfiable, clash, clashes, firstWhere, judge}
+use Rattle.meaning.specs.Decide.{productive, reachable, isLeftRecursive, clashes, firstWhere, judge}
 use Rattle.meaning.specs.Judgement.{Verdict, accepted, rejected, countsOffset, entryOffset}
 use Rattle.meaning.specs.Table.{State, grammarOf}
 use Rattle.token_set.specs.Words.{setOf}

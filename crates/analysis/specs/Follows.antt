@@ -1,10 +1,9 @@
 -- FOLLOW over the rows: from the rest of a right side, and from what comes after the left side where the rest derives nothing.
-use Prim.Native.Nat.{ℕ, zero, suc, _+_, _-_, _*_, _^_, _≤_, _<_, zero-le}
+use Prim.Native.Nat.{ℕ, zero, suc, _+_, _-_, _^_, _≤_, _<_, zero-le}
 use native.Mathlib.Decide.{decLt}
-use native.Mathlib.Numerals.{add-one}
 use native.Mathlib.Omega.{arith}
 use mathlib.Core.Path.{_≡_, refl, sym, ap, _∙_, subst}
-use mathlib.Core.Logic.{_⊎_, inl, inr, ⊎-elim}
+use mathlib.Core.Logic.{⊎-elim}
 use mathlib.Core.Bool.{Bool, true, false, _&&_, _||_}
 use mathlib.Core.List.{List, [], _∷_}
 use lib.Bits.{bitOr}
@@ -15,14 +14,14 @@ use Rattle.meaning.specs.Base.{all}
 use Rattle.meaning.specs.Grammar.{Symbol, terminal, nonterminal}
 use Rattle.meaning.specs.Sets.{has, singleton, endNumber}
 use Rattle.meaning.specs.Table.{symbolOf}
-use Rattle.theory_sets.specs.Tests.{and-intro, and-left, and-right, or-left, or-right, or-cases, true→T}
+use Rattle.theory_sets.specs.Tests.{and-right}
 use Rattle.token_set.specs.Words.{setOf, set-end}
 use Rattle.theory_sets.specs.TokenSets.{single-has, single-only}
 use Rattle.analysis.specs.Rows.{Image, leftAt, sizeAt, byteAt, rightAt, right-cons, right-back, right-end, symbol-terminal, symbol-nonterminal}
 use Rattle.analysis.specs.Views.{members, sees, Inside, fit, turn, opens}
 use Rattle.analysis.specs.Growth.{or-is, or-false, none-in}
 use Rattle.analysis.specs.Tables.{Words, Joined, zeros-none, zeros-words}
-use Rattle.analysis.specs.Passes.{Passed, passed-join, passed-map, RisingTable}
+use Rattle.analysis.specs.Passes.{Passed, passed-join}
 
 -- from place i of production p on
 pub record BaseFrom (gone : ℕ → Bool) (first rows : List ℕ) (u p i : ℕ) (see : ℕ → Bool) : Type 0 where

@@ -1,16 +1,16 @@
 -- The steps along a right side that gather what it begins with.
-use Prim.Native.Nat.{ℕ, _+_, _-_, _*_, _^_, _≤_, _<_, zero-le}
-use mathlib.Core.Path.{_≡_, refl, sym, ap, ap₂, _∙_, subst}
+use Prim.Native.Nat.{ℕ, _<_, zero-le}
+use mathlib.Core.Path.{_≡_, refl, sym, ap, _∙_}
 use mathlib.Core.Bool.{Bool, true, false, _&&_, _||_}
 use mathlib.Core.List.{List, [], _∷_}
 use lib.Bits.{bitOr}
 use lib.Dec.{T}
-use lib.ListN.{getD, length}
+use lib.ListN.{getD}
 use Rattle.meaning.specs.Grammar.{Symbol, terminal, nonterminal}
 use Rattle.meaning.specs.Sets.{has, singleton}
 use Rattle.token_set.specs.Words.{setOf}
-use Rattle.analysis.specs.Rows.{Image, leftAt, rightAt}
-use Rattle.analysis.specs.Views.{members, sees, Inside, Within, opens, opens-more, FrontAt}
+use Rattle.analysis.specs.Rows.{leftAt, rightAt}
+use Rattle.analysis.specs.Views.{members, sees, Inside, opens, opens-more, FrontAt}
 use Rattle.analysis.specs.Growth.{or-is, or-assoc, or-false, none-in}
 use Rattle.analysis.specs.Tables.{Joined}
 use Rattle.analysis.specs.Passes.{WithinAll, Passed, passed-join}

@@ -1,23 +1,22 @@
 -- What the code finds is what 01's definitions compute: the lowest useless and left recursive nonterminal, and the lowest clash.
-use Prim.Native.Nat.{ℕ, zero, suc, _+_, _*_, _≤_, _<_, min, max}
+use Prim.Native.Nat.{ℕ, suc, _<_}
 use native.Mathlib.Omega.{arith}
-use mathlib.Core.Path.{_≡_, refl, sym, ap, ap₂, _∙_, subst}
+use mathlib.Core.Path.{_≡_, refl, sym, ap, ap₂, _∙_}
 use mathlib.Core.Bool.{Bool, true, false, _&&_, _||_, not}
 use mathlib.Core.List.{List, _++_}
 use lib.Dec.{T, eqb, leb, eqb→eq}
 use lib.ListN.{getD, length, replicate}
-use Rattle.meaning.specs.Base.{all, any, countFrom, isEmpty}
-use Rattle.meaning.specs.Grammar.{Condition, Grammar, productionAt, nonterminal, inh, nonterminalCount}
+use Rattle.meaning.specs.Base.{all, countFrom, isEmpty}
+use Rattle.meaning.specs.Grammar.{Grammar, productionAt, nonterminal, inh, nonterminalCount}
 use Rattle.meaning.specs.Derivation.{Listed}
 use Rattle.meaning.specs.Scheme.{entryTests}
-use Rattle.meaning.specs.Sets.{emptySet, has, singleton, nullable, emptyString, first, follow, starts}
-use Rattle.meaning.specs.Decide.{productive, reachable, isLeftRecursive, meet, satisfiable, clash, clashes}
-use Rattle.theory_sets.specs.Tests.{all-append, T→true}
+use Rattle.meaning.specs.Sets.{emptySet, has, singleton, nullable, emptyString, follow, starts}
+use Rattle.meaning.specs.Decide.{isLeftRecursive, meet, satisfiable, clash, clashes}
+use Rattle.theory_sets.specs.Tests.{all-append}
 use Rattle.theory_sets.specs.Nullable.{nullable-closed}
 use Rattle.theory_sets.specs.Intervals.{entry}
-use Rattle.theory_sets.specs.Widths.{both-true}
 use Rattle.token_set.specs.Words.{setOf}
-use Rattle.analysis.specs.Rows.{Rows, leftAt, rightAt}
+use Rattle.analysis.specs.Rows.{Rows, leftAt}
 use Rattle.analysis.specs.Views.{members, sees, Within, ClosedAt, ReachAt, FrontAt}
 use Rattle.analysis.specs.Growth.{Settled, none-in}
 use Rattle.analysis.specs.Passes.{WithinAll, SettledTable}
@@ -26,8 +25,8 @@ use Rattle.analysis.specs.Recursion.{Recursive}
 use Rattle.analysis.specs.Numbers.{Found, found-same, all-count-same, any-count-same}
 use Rattle.analysis.specs.Entries.{Entries, lowEnd, highEnd, low-append, high-append, satisfiable-is}
 use Rattle.analysis.specs.Clashing.{StartsTo, overlapBy, agreeBy, clashBy, clashesBy}
-use Rattle.analysis.specs.Agreeing.{Marks, listed, counted, nullable-marks, productive-marks, reachable-marks}
-use Rattle.analysis.specs.TokenAgreeing.{Holds, first-holds, follow-holds, starts-is}
+use Rattle.analysis.specs.Agreeing.{Marks, listed, counted, productive-marks, reachable-marks}
+use Rattle.analysis.specs.TokenAgreeing.{first-holds, follow-holds, starts-is}
 use Rattle.analysis.specs.RecursionAgreeing.{recursive-is}
 use Rattle.analysis.specs.Finding.{isUseless}
 

@@ -1,15 +1,15 @@
 -- A pass over a table of sets, join by join, until nothing changes. For each token u a view of the table: C u is what makes it closed,
 -- P u what a step that changes nothing shows.
-use Prim.Native.Nat.{ℕ, _+_, _-_, _≤_, _<_}
+use Prim.Native.Nat.{ℕ, _≤_, _<_}
 use native.Mathlib.Omega.{arith}
 use mathlib.Core.Path.{_≡_, refl, sym, ap, _∙_, subst}
-use mathlib.Core.Logic.{_⊎_, ⊎-elim}
+use mathlib.Core.Logic.{⊎-elim}
 use mathlib.Core.Bool.{Bool, true, false, true≢false, false≢true}
 use mathlib.Core.List.{List}
 use lib.Dec.{T}
 use lib.ListN.{length}
 use Rattle.meaning.specs.Grammar.{Symbol, nonterminal}
-use Rattle.analysis.specs.Views.{members, sees, Inside, Within, within-none, within-after, within-before}
+use Rattle.analysis.specs.Views.{members, sees, Inside, Within}
 use Rattle.analysis.specs.Tables.{total, Words, Joined}
 
 abbrev pub WithinAll : (ℕ → ℕ → (ℕ → Bool) → Type 0) → ℕ → ℕ → ℕ → (ℕ → Bool) → Type 0

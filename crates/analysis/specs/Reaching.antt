@@ -1,20 +1,18 @@
 -- The steps of reaching.
-use Prim.Native.Nat.{ℕ, _+_, _-_, _≤_, _<_, zero-le}
-use mathlib.Core.Path.{_≡_, refl, sym, ap, ap₂, _∙_}
+use Prim.Native.Nat.{ℕ, _-_, _≤_, _<_, zero-le}
+use mathlib.Core.Path.{_≡_, sym, ap, _∙_}
 use mathlib.Core.Bool.{Bool, true, false, _||_}
 use mathlib.Core.List.{List, [], _∷_}
 use native.Mathlib.Omega.{arith}
 use lib.Bits.{bitOr}
-use lib.Dec.{T}
-use lib.ListN.{drop}
 use Rattle.meaning.specs.Base.{any}
-use Rattle.meaning.specs.Grammar.{Symbol, nonterminal, isNonterminal}
+use Rattle.meaning.specs.Grammar.{Symbol, isNonterminal}
 use Rattle.meaning.specs.Sets.{singleton}
 use Rattle.meaning.specs.Table.{symbolOf}
 use Rattle.theory_sets.specs.Tests.{true→T}
 use Rattle.token_set.specs.Words.{setOf}
-use Rattle.analysis.specs.Rows.{Image, leftAt, sizeAt, byteAt, rightAt, right-cons, right-end, symbol-terminal, symbol-nonterminal}
-use Rattle.analysis.specs.Views.{members, Inside, Within, ReachAt}
+use Rattle.analysis.specs.Rows.{leftAt, rightAt, symbol-terminal, symbol-nonterminal}
+use Rattle.analysis.specs.Views.{members, Within, ReachAt}
 use Rattle.analysis.specs.Growth.{Grown, grown-none, grown-or, or-is, or-assoc, or-false, none-in, single-is}
 
 pub token-set : (s n : ℕ) → s < 128 → members 0 n ≡ isNonterminal n (symbolOf s)

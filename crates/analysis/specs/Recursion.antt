@@ -1,21 +1,21 @@
 -- Left recursion over the rows.
-use Prim.Native.Nat.{ℕ, _+_, _*_, _^_, _≤_, _<_, zero-le}
+use Prim.Native.Nat.{ℕ, _+_, _^_, _<_}
 use native.Mathlib.Decide.{decLt, ℕ-discrete}
 use native.Mathlib.Omega.{arith}
 use mathlib.Core.Path.{_≡_, refl, sym, ap, _∙_, subst}
-use mathlib.Core.Logic.{_⊎_, inl, inr, ⊎-elim}
+use mathlib.Core.Logic.{⊎-elim}
 use mathlib.Core.Bool.{Bool, true, false}
 use mathlib.Core.List.{List}
 use lib.Bits.{bitOr}
 use lib.Dec.{T}
 use lib.ListN.{getD, length, replicate, set, length-set}
 use lib.Seq.{getD-set-same, getD-set-other}
-use Rattle.meaning.specs.Sets.{has, singleton}
+use Rattle.meaning.specs.Sets.{singleton}
 use Rattle.theory_sets.specs.Tests.{true→T}
 use Rattle.theory_sets.specs.TokenSets.{single-has, single-only}
 use Rattle.token_set.specs.Words.{setOf}
-use Rattle.analysis.specs.Rows.{Image, leftAt, rightAt}
-use Rattle.analysis.specs.Views.{members, sees, Inside, Within, opens, FrontAt}
+use Rattle.analysis.specs.Rows.{leftAt, rightAt}
+use Rattle.analysis.specs.Views.{members, sees, opens, FrontAt}
 use Rattle.analysis.specs.Growth.{or-left, or-right, or-members, none-in}
 use Rattle.analysis.specs.Tables.{Words, zeros-none, zeros-words}
 use Rattle.analysis.specs.Passes.{WithinAll, SettledTable}

@@ -1,28 +1,28 @@
 -- The left recursive nonterminals over the rows are those that 01's definition computes.
-use Prim.Native.Nat.{ℕ, _≤_, _<_, zero-le}
+use Prim.Native.Nat.{ℕ, _<_, zero-le}
 use native.Mathlib.Omega.{arith}
-use mathlib.Core.Path.{_≡_, refl, sym, ap, _∙_, subst}
+use mathlib.Core.Path.{_≡_, refl, sym, _∙_, subst}
 use mathlib.Core.Logic.{_⊎_, inl, inr}
-use mathlib.Core.Bool.{Bool, true, false, _&&_, _||_}
+use mathlib.Core.Bool.{Bool, false, _&&_, _||_}
 use mathlib.Core.List.{List, [], _∷_, _++_, nil≢cons, head-eq-of-cons-eq}
 use lib.Dec.{T, eqb, eqb→eq, eqb-refl, ltb→lt}
 use lib.ListN.{getD}
 use Rattle.meaning.specs.Base.{all, any}
 use Rattle.meaning.specs.Grammar.{Symbol, terminal, nonterminal, Grammar, productionAt, nonterminalCount, isNonterminal}
-use Rattle.meaning.specs.Derivation.{Derives, Listed, LeftRecursive}
+use Rattle.meaning.specs.Derivation.{Listed, LeftRecursive}
 use Rattle.meaning.specs.Sets.{rounds, nullable, emptySymbol, productionsOf}
 use Rattle.meaning.specs.Decide.{leads, leadsTo, leadsOn, isLeftRecursive}
 use Rattle.theory_sets.specs.Derivations.{Yields, nothing, same, expand, derives→yields}
 use Rattle.theory_sets.specs.Tests.{and-intro, and-left, and-right, or-left, or-right, or-cases, tabled-cases, tabled-at}
-use Rattle.theory_sets.specs.Productions.{Sound, known, Chosen, of-cases, of-at}
+use Rattle.theory_sets.specs.Productions.{known, Chosen, of-cases, of-at}
 use Rattle.theory_sets.specs.Nullable.{nullable-closed, yields→emptyString}
 use Rattle.theory_sets.specs.Spread.{spread-grows, spread-closed}
 use Rattle.theory_sets.specs.LeftRecursion.{recursive→LeftRecursive}
 use Rattle.theory_sets.specs.LeastSets.{led-least}
 use Rattle.theory_sets.specs.Widths.{both-true}
 use Rattle.analysis.specs.Rows.{Rows, leftAt, rightAt}
-use Rattle.analysis.specs.Views.{members, sees, Inside, Within, opens, opens-more, FrontAt}
-use Rattle.analysis.specs.Recursion.{OwnTo, Begins, RecursiveTo, Recursive}
+use Rattle.analysis.specs.Views.{members, sees, Inside, opens, opens-more}
+use Rattle.analysis.specs.Recursion.{Recursive}
 use Rattle.analysis.specs.Agreeing.{Marks, listed, counted}
 
 -- a front that is seen stands behind symbols that derive nothing

@@ -1,7 +1,6 @@
 -- What the passes over the rows end at is what 01's definitions compute: first, follow, and FIRST-then-FOLLOW.
-use Prim.Native.Nat.{ℕ, zero, suc, _+_, _≤_, _<_, zero-le}
-use native.Mathlib.Omega.{arith}
-use mathlib.Core.Path.{_≡_, refl, sym, ap, ap₂, _∙_, subst}
+use Prim.Native.Nat.{ℕ, _<_, zero-le}
+use mathlib.Core.Path.{_≡_, refl, sym, ap, ap₂, _∙_}
 use mathlib.Core.Logic.{_⊎_, inl, inr}
 use mathlib.Core.Bool.{Bool, true, false, _&&_, _||_}
 use mathlib.Core.List.{List, [], _∷_, _++_, map}
@@ -11,21 +10,21 @@ use lib.Seq.{drop-append-seam}
 use Rattle.meaning.specs.Base.{all}
 use Rattle.meaning.specs.Grammar.{Symbol, terminal, nonterminal, Grammar, productionAt, nonterminalCount}
 use Rattle.meaning.specs.Derivation.{Listed}
-use Rattle.meaning.specs.Sets.{TokenSet, endNumber, emptySet, has, singleton, _∪_, onlyIf, nullable, emptySymbol, emptyString, firstSymbol, firstString, first, follow, starts}
-use Rattle.theory_sets.specs.Tests.{and-intro, and-left, and-right, all-right, or-cases, true→T, T→true}
-use Rattle.theory_sets.specs.Productions.{Sound, known}
+use Rattle.meaning.specs.Sets.{TokenSet, endNumber, emptySet, has, singleton, onlyIf, nullable, emptySymbol, emptyString, firstString, first, follow, starts}
+use Rattle.theory_sets.specs.Tests.{and-left, all-right}
+use Rattle.theory_sets.specs.Productions.{known}
 use Rattle.theory_sets.specs.FirstSets.{first-closed}
-use Rattle.theory_sets.specs.AfterSets.{Behind, Source, byStart, byProduction, follow-closed}
+use Rattle.theory_sets.specs.AfterSets.{Source, byStart, byProduction, follow-closed}
 use Rattle.theory_sets.specs.LeastSets.{first-least, follow-least}
 use Rattle.theory_sets.specs.TokenSets.{has-union, has-empty}
 use Rattle.theory_sets.specs.Widths.{both-true, same-set, starts-wide}
 use Rattle.token_set.specs.Words.{setOf, set-empty, setOf-wide}
-use Rattle.analysis.specs.Rows.{Rows, leftAt, rightAt}
-use Rattle.analysis.specs.Views.{members, sees, Inside, Within, fit, turn, opens, FrontAt}
+use Rattle.analysis.specs.Rows.{Rows, rightAt}
+use Rattle.analysis.specs.Views.{members, sees, fit, opens, FrontAt}
 use Rattle.analysis.specs.Growth.{or-false}
 use Rattle.analysis.specs.Tables.{zeros-none}
 use Rattle.analysis.specs.Passes.{WithinAll, SettledTable}
-use Rattle.analysis.specs.Follows.{BasesTo, TailsTo, FollowClosed, Followed}
+use Rattle.analysis.specs.Follows.{FollowClosed, Followed}
 use Rattle.analysis.specs.Agreeing.{Marks, fits-empty, all-same, listed, counted}
 
 -- the token sets of a table

@@ -13,7 +13,13 @@ ghost use Rattle.analysis.specs.Numbers.{Found};
 ghost use Rattle.analysis.specs.Clashing.{StartsTo, Rivals, agreeBy, clashBy, clashesBy};
 
 // FIRST-then-FOLLOW of each production.
-pub fn all_starts(rows: &[u8; 2048], count: usize, null: u64, first: &[u64; 48], follow: &[u64; 48]) -> [u64; 128]
+pub fn all_starts(
+    rows: &[u8; 2048],
+    count: usize,
+    null: u64,
+    first: &[u64; 48],
+    follow: &[u64; 48],
+) -> [u64; 128]
     requires { ⌜ Image (now rows) count ⌝ }
     ensures { λ r. ⌜ StartsTo (members null) (now (first .entry)) (now (follow .entry)) (now (rows .entry)) count r ⌝ }
 {
@@ -50,7 +56,12 @@ fn agree(lows: &[u32; 1024], highs: &[u32; 1024], p: usize, q: usize) -> bool
 {
     let mut a: usize = 0;
     while a < 8 {
-        if !overlap(lows[p * 8 + a], highs[p * 8 + a], lows[q * 8 + a], highs[q * 8 + a]) {
+        if !overlap(
+            lows[p * 8 + a],
+            highs[p * 8 + a],
+            lows[q * 8 + a],
+            highs[q * 8 + a],
+        ) {
             return false;
         }
         a += 1;

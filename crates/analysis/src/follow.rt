@@ -41,7 +41,14 @@ fn begin_with(s: u8, null: u64, first: &[u64; 48], rest: u64) -> u64
 }
 
 // Adds what comes after each nonterminal on the right of production k from the symbols behind it.
-fn base_by(rows: &[u8; 2048], count: usize, k: usize, null: u64, first: &[u64; 48], table: &mut [u64; 48])
+fn base_by(
+    rows: &[u8; 2048],
+    count: usize,
+    k: usize,
+    null: u64,
+    first: &[u64; 48],
+    table: &mut [u64; 48],
+)
     requires { ⌜ Image (now rows) count × (k < count) × (length (now table) ≡ 48) ⌝ }
     ensures { λ r. ⌜ Filled (FollowClosed (members null) (now (first .entry)) (now (rows .entry)) count) (λ u. BaseFrom (members null) (now (first .entry)) (now (rows .entry)) u k 0) (now (table .entry)) (now (table .exit)) ⌝ }
 {
@@ -123,7 +130,13 @@ fn tail_pass(rows: &[u8; 2048], count: usize, null: u64, table: &mut [u64; 48]) 
 }
 
 // FOLLOW of each nonterminal.
-pub fn follow(rows: &[u8; 2048], count: usize, start: usize, null: u64, first: &[u64; 48]) -> [u64; 48]
+pub fn follow(
+    rows: &[u8; 2048],
+    count: usize,
+    start: usize,
+    null: u64,
+    first: &[u64; 48],
+) -> [u64; 48]
     requires { ⌜ Image (now rows) count × (start < 48) ⌝ }
     ensures { λ r. ⌜ Followed (members null) (now (first .entry)) (now (rows .entry)) count start r ⌝ }
 {

@@ -27,7 +27,15 @@ pub fn join(table: &mut [u64; 48], a: usize, add: u64) -> bool
 
 // What the right side of production k begins with by the table, and where it derives nothing also what comes after.
 // Tokens count where `tokens` says so.
-pub fn begins(rows: &[u8; 2048], count: usize, k: usize, null: u64, table: &[u64; 48], after: u64, tokens: bool) -> u64
+pub fn begins(
+    rows: &[u8; 2048],
+    count: usize,
+    k: usize,
+    null: u64,
+    table: &[u64; 48],
+    after: u64,
+    tokens: bool,
+) -> u64
     requires { ⌜ Image (now rows) count × (k < count) ⌝ }
     ensures { λ r. ⌜ ((u : ℕ) → members r u ≡ opens tokens (members null) (sees (now (table .entry)) u) u (members after u) (rightAt (now (rows .entry)) k)) ⌝ }
 {
@@ -54,7 +62,14 @@ pub fn begins(rows: &[u8; 2048], count: usize, k: usize, null: u64, table: &[u64
 }
 
 // Adds to the table what production k shows; whether anything is new.
-fn front_by(rows: &[u8; 2048], count: usize, k: usize, null: u64, tokens: bool, table: &mut [u64; 48]) -> bool
+fn front_by(
+    rows: &[u8; 2048],
+    count: usize,
+    k: usize,
+    null: u64,
+    tokens: bool,
+    table: &mut [u64; 48],
+) -> bool
     requires { ⌜ Image (now rows) count × (k < count) × (length (now table) ≡ 48) ⌝ }
     ensures { λ r. ⌜ Passed (WithinAll (FrontAt tokens (members null) (now (rows .entry))) 0 count) (λ u. FrontAt tokens (members null) (now (rows .entry)) u k) (now (table .entry)) (now (table .exit)) r ⌝ }
 {
@@ -64,7 +79,13 @@ fn front_by(rows: &[u8; 2048], count: usize, k: usize, null: u64, tokens: bool, 
 }
 
 // One pass over the productions, the last first; whether anything is new.
-fn front_pass(rows: &[u8; 2048], count: usize, null: u64, tokens: bool, table: &mut [u64; 48]) -> bool
+fn front_pass(
+    rows: &[u8; 2048],
+    count: usize,
+    null: u64,
+    tokens: bool,
+    table: &mut [u64; 48],
+) -> bool
     requires { ⌜ Image (now rows) count × (length (now table) ≡ 48) ⌝ }
     ensures { λ r. ⌜ Passed (WithinAll (FrontAt tokens (members null) (now (rows .entry))) 0 count) (WithinAll (FrontAt tokens (members null) (now (rows .entry))) 0 count) (now (table .entry)) (now (table .exit)) r ⌝ }
 {
@@ -80,7 +101,13 @@ fn front_pass(rows: &[u8; 2048], count: usize, null: u64, tokens: bool, table: &
 }
 
 // Passes until nothing is new.
-pub fn fronts(rows: &[u8; 2048], count: usize, null: u64, tokens: bool, table: [u64; 48]) -> [u64; 48]
+pub fn fronts(
+    rows: &[u8; 2048],
+    count: usize,
+    null: u64,
+    tokens: bool,
+    table: [u64; 48],
+) -> [u64; 48]
     requires { ⌜ Image (now rows) count × Words table ⌝ }
     ensures { λ r. ⌜ SettledTable (WithinAll (FrontAt tokens (members null) (now (rows .entry))) 0 count) table r ⌝ }
 {

@@ -57,7 +57,13 @@ pub fn left_recursive(rows: &[u8; 2048], count: usize, nonterminals: usize, null
 }
 
 // FOLLOW, where some nonterminal derives nothing. Nothing else needs it.
-fn follow_where(rows: &[u8; 2048], count: usize, start: u8, null: u64, first: &[u64; 48]) -> [u64; 48]
+fn follow_where(
+    rows: &[u8; 2048],
+    count: usize,
+    start: u8,
+    null: u64,
+    first: &[u64; 48],
+) -> [u64; 48]
     requires { ⌜ Image (now rows) count × (start < 48) ⌝ }
     ensures { λ r. ⌜ ((null ≡ 0 → ⊥) → Followed (members null) (now (first .entry)) (now (rows .entry)) count start r) ⌝ }
 {
@@ -100,17 +106,33 @@ pub fn analyse(
 {
     let useless = useless(rows, count, nonterminals, start);
     if useless < nonterminals {
-        return Analysis { number: 11, index: useless, sets: [0u64; 128] };
+        return Analysis {
+            number: 11,
+            index: useless,
+            sets: [0u64; 128],
+        };
     }
     let null = closure(rows, count, false);
     let recursive = left_recursive(rows, count, nonterminals, null);
     if recursive < nonterminals {
-        return Analysis { number: 12, index: recursive, sets: [0u64; 128] };
+        return Analysis {
+            number: 12,
+            index: recursive,
+            sets: [0u64; 128],
+        };
     }
     let sets = starting(rows, count, start, null);
     let clash = lowest_clash(rows, count, &sets, lows, highs, flags);
     if clash < count {
-        return Analysis { number: 13, index: clash, sets };
+        return Analysis {
+            number: 13,
+            index: clash,
+            sets,
+        };
     }
-    Analysis { number: 0, index: 0, sets }
+    Analysis {
+        number: 0,
+        index: 0,
+        sets,
+    }
 }

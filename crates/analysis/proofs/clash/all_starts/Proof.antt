@@ -1,21 +1,11 @@
-use Prim.Native.Nat.{ℕ, zero, suc, _≤_, _<_, _+_, _-_, _*_, _^_, max, min}
-use native.Mathlib.Nat.{not-suc-le-zero}
+use Prim.Native.Nat.{_≤_, _-_}
 use native.Mathlib.Omega.{arith}
 use borrow.Author.Needs.{needs}
-use borrow.Author.Tests.{not-true, not-false}
-use lib.ListN.{length, drop, getD}
-use mathlib.Core.Logic.{⊎-elim}
-use mathlib.Core.List.{List, []}
-use mathlib.Core.Bool.{Bool, true, false}
-use mathlib.Core.Path.{_≡_, refl, sym, ap, _∙_, subst}
-use lib.Dec.{T}
+use mathlib.Core.Path.{_≡_}
 use Rattle.analysis.specs.Views.{members}
 use Rattle.analysis.specs.Clashing.{StartsTo, starts-none, starts-next}
 use Rattle.analysis.proofs.clash.all_starts.Statement.{statement}
 use Rattle.analysis.proofs.clash.all_starts.Tie as tie
-use Rattle.analysis.proofs.clash.all_starts.Reads as reads
-use Rattle.analysis.proofs.clash.all_starts.Lts as lts
-use Rattle.analysis.proofs.fronts.begins.Reads as begins-reads
 
 abbrev Inv-loop : tie.InvT-loop
 Inv-loop rows count null first follow sets₀ k₀ sets k = (k ≤ count) × StartsTo (members null) first follow rows k sets
@@ -23,58 +13,45 @@ Inv-loop rows count null first follow sets₀ k₀ sets k = (k ≤ count) × Sta
 abbrev μ-loop : tie.MeasureT-loop
 μ-loop rows count null first follow sets₀ k₀ sets k = count - k
 
--- src/clash.rt:22:5
 loop-holds : tie.Need-loop-holds Inv-loop μ-loop
 loop-holds c = (omega arith, starts-none _ _ _ _)
 
--- src/clash.rt:23:25
 mul-left : tie.Need-mul-left Inv-loop μ-loop
 mul-left c = omega arith
 
--- src/clash.rt:23:20
 element-copy-out-left : tie.Need-element-copy-out-left Inv-loop μ-loop
 element-copy-out-left c = omega arith
 
--- src/clash.rt:23:20
 cast-left : tie.Need-cast-left Inv-loop μ-loop
 cast-left c = let lp = c .before in omega (arith, lp .before .before .pre .lefts _ (lp .loop-test .taken))
 
--- src/clash.rt:24:55
 mul-begins : tie.Need-mul-begins Inv-loop μ-loop
 mul-begins c = let lp = c .before in omega (arith, lp .before .before .pre .lefts _ (lp .loop-test .taken))
 
--- src/clash.rt:24:55
 element-copy-out-begins : tie.Need-element-copy-out-begins Inv-loop μ-loop
 element-copy-out-begins c = let lp = c .before in omega (arith, lp .before .before .pre .lefts _ (lp .loop-test .taken))
 
--- src/clash.rt:24:19
 begins-requires : tie.Need-begins-requires Inv-loop μ-loop
 begins-requires c κs = let lp = c .before .before in (lp .before .before .pre, lp .loop-test .taken)
 
--- src/clash.rt:24:9
 mul-sets : tie.Need-mul-sets Inv-loop μ-loop
 mul-sets c = omega arith
 
--- src/clash.rt:24:9
 array-write-sets : tie.Need-array-write-sets Inv-loop μ-loop
 array-write-sets c = search needs
 
--- src/clash.rt:25:9
 add-k : tie.Need-add-k Inv-loop μ-loop
 add-k c = omega arith
 
--- src/clash.rt:22:5
 loop-less : tie.Need-loop-less Inv-loop μ-loop
 loop-less c = omega arith
 
--- src/clash.rt:22:5
 loop-again : tie.Need-loop-again Inv-loop μ-loop
 loop-again c =
     let lp = c .before .before .before in
     let st = lp .before .before in
     (omega arith, starts-next _ _ _ _ _ _ _ (omega (arith, st .pre .few)) (lp .before .loop .inv .1) (c .begins .ensures))
 
--- src/clash.rt:16:1
 returns : tie.Need-returns Inv-loop μ-loop
 returns c = let e : c .before .loop .k ≡ c .before .before .args .count = omega arith in rw e at (c .before .loop .inv .1)
 

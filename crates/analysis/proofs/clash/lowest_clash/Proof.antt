@@ -1,23 +1,12 @@
-use Prim.Native.Nat.{ℕ, zero, suc, _≤_, _<_, _+_, _-_, _*_, _^_, max, min}
-use native.Mathlib.Nat.{not-suc-le-zero}
+use Prim.Native.Nat.{_≤_, _<_, _-_}
 use native.Mathlib.Omega.{arith}
 use borrow.Author.Needs.{needs}
-use borrow.Author.Tests.{not-true, not-false}
-use lib.ListN.{length, drop, getD}
-use mathlib.Core.Logic.{⊎-elim}
-use mathlib.Core.List.{List, []}
-use mathlib.Core.Bool.{Bool, true, false}
-use mathlib.Core.Path.{_≡_, refl, sym, ap, _∙_, subst}
-use lib.Dec.{T}
+use mathlib.Core.Path.{_≡_, sym, _∙_}
 use Rattle.analysis.specs.Rows.{leftAt}
 use Rattle.analysis.specs.Numbers.{Clear, clear-none, clear-more, found-here, found-none}
 use Rattle.analysis.specs.Clashing.{clashBy, clashesBy, clashes-one, clashes-none, Seen, seen-none, seen-next, rivals-clear}
 use Rattle.analysis.proofs.clash.lowest_clash.Statement.{statement}
 use Rattle.analysis.proofs.clash.lowest_clash.Tie as tie
-use Rattle.analysis.proofs.clash.lowest_clash.Reads as reads
-use Rattle.analysis.proofs.clash.lowest_clash.Lts as lts
-use Rattle.analysis.proofs.clash.clash.Reads as clash-reads
-use Rattle.analysis.proofs.clash.rivals.Reads as rivals-reads
 
 abbrev Inv-loop : tie.InvT-loop
 Inv-loop rows count sets lows highs flags seen later left earlier₀ earlier = (earlier ≤ later) × Clear (clashBy rows sets lows highs flags later) earlier
@@ -39,113 +28,88 @@ full c = omega arith
 below : (c : tie.In-pairs Inv-loop μ-loop Inv-pairs μ-pairs) → leftAt (c .before .before .args .rows .now) (c .before .pairs .later) < 48
 below c = c .before .before .pre .lefts _ (c .pairs-test .taken)
 
--- src/clash.rt:113:5
 pairs-holds : tie.Need-pairs-holds Inv-loop μ-loop Inv-pairs μ-pairs
 pairs-holds c = (omega arith, seen-none _ _, clear-none _)
 
--- src/clash.rt:114:25
 mul-left : tie.Need-mul-left Inv-loop μ-loop Inv-pairs μ-pairs
 mul-left c = omega (arith, c .before .before .pre .few)
 
--- src/clash.rt:114:20
 element-copy-out-left : tie.Need-element-copy-out-left Inv-loop μ-loop Inv-pairs μ-pairs
 element-copy-out-left c = omega (arith, c .before .before .pre .few)
 
--- src/clash.rt:114:20
 cast-left : tie.Need-cast-left Inv-loop μ-loop Inv-pairs μ-pairs
 cast-left c = omega (arith, below (c .before))
 
--- src/clash.rt:115:34
 mul-rivals : tie.Need-mul-rivals Inv-loop μ-loop Inv-pairs μ-pairs
 mul-rivals c = omega (arith, below (c .before))
 
--- src/clash.rt:115:34
 array-read-rivals : tie.Need-array-read-rivals Inv-loop μ-loop Inv-pairs μ-pairs
 array-read-rivals c = omega (arith, below (c .before))
 
--- src/clash.rt:115:46
 mul-rivals-2 : tie.Need-mul-rivals-2 Inv-loop μ-loop Inv-pairs μ-pairs
 mul-rivals-2 c = omega (arith, c .before .before .before .pre .few)
 
--- src/clash.rt:115:46
 element-copy-out-rivals : tie.Need-element-copy-out-rivals Inv-loop μ-loop Inv-pairs μ-pairs
 element-copy-out-rivals c = omega (arith, c .before .before .before .pre .few)
 
--- src/clash.rt:115:13
 rivals-requires : tie.Need-rivals-requires Inv-loop μ-loop Inv-pairs μ-pairs
 rivals-requires c κs = search needs
 
--- src/clash.rt:116:9
 loop-holds : tie.Need-loop-holds Inv-loop μ-loop Inv-pairs μ-pairs
 loop-holds c =
     let pr = c .before .before .before in
     (c .rivals .ensures .upto, rivals-clear _ _ _ _ _ _ _ _ (pr .before .pairs .inv .1) (c .rivals .ensures))
 
--- src/clash.rt:117:16
 clash-requires : tie.Need-clash-requires Inv-loop μ-loop Inv-pairs μ-pairs
 clash-requires c κs =
     let pr = c .before .before .before .before .before in
     let few = pr .before .before .pre .few in
     (omega arith, omega arith)
 
--- src/clash.rt:120:13
 add-earlier : tie.Need-add-earlier Inv-loop μ-loop Inv-pairs μ-pairs
 add-earlier c = omega arith
 
--- src/clash.rt:116:9
 loop-less : tie.Need-loop-less Inv-loop μ-loop Inv-pairs μ-pairs
 loop-less c = omega arith
 
--- src/clash.rt:116:9
 loop-again : tie.Need-loop-again Inv-loop μ-loop Inv-pairs μ-pairs
 loop-again c =
     let lp = c .before .before in
     (omega arith, clear-more _ _ (lp .before .loop .inv .1) (λ t. rw (← c .before .clash .ensures, c .if1 .left) at t))
 
--- src/clash.rt:122:22
 mul-seen : tie.Need-mul-seen Inv-loop μ-loop Inv-pairs μ-pairs
 mul-seen c = omega (arith, below (c .before .before .before .before .before))
 
--- src/clash.rt:122:22
 array-read-seen : tie.Need-array-read-seen Inv-loop μ-loop Inv-pairs μ-pairs
 array-read-seen c = omega (arith, below (c .before .before .before .before .before))
 
--- src/clash.rt:122:35
 mul-seen-2 : tie.Need-mul-seen-2 Inv-loop μ-loop Inv-pairs μ-pairs
 mul-seen-2 c = omega (arith, c .before .before .before .before .before .before .before .pre .few)
 
--- src/clash.rt:122:35
 element-copy-out-seen : tie.Need-element-copy-out-seen Inv-loop μ-loop Inv-pairs μ-pairs
 element-copy-out-seen c = omega (arith, c .before .before .before .before .before .before .before .pre .few)
 
--- src/clash.rt:122:9
 mul-seen-3 : tie.Need-mul-seen-3 Inv-loop μ-loop Inv-pairs μ-pairs
 mul-seen-3 c = omega (arith, below (c .before .before .before .before .before .before))
 
--- src/clash.rt:122:9
 array-write-seen : tie.Need-array-write-seen Inv-loop μ-loop Inv-pairs μ-pairs
 array-write-seen c = omega (arith, below (c .before .before .before .before .before .before))
 
--- src/clash.rt:123:9
 add-later : tie.Need-add-later Inv-loop μ-loop Inv-pairs μ-pairs
 add-later c = omega (arith, c .before .before .before .before .before .before .before .before .pre .few)
 
--- src/clash.rt:113:5
 pairs-less : tie.Need-pairs-less Inv-loop μ-loop Inv-pairs μ-pairs
 pairs-less c = omega arith
 
--- src/clash.rt:113:5
 pairs-again : tie.Need-pairs-again Inv-loop μ-loop Inv-pairs μ-pairs
 pairs-again c =
     let en = c .before in
     let pr = en .before .before .before .before .before in
     (omega arith, seen-next _ _ _ _ (below pr) (pr .before .pairs .inv .1), clear-more _ _ (pr .before .pairs .inv .2) (clashes-none _ _ _ _ _ _ (rw (full en) at (en .before .loop .inv .1))))
 
--- src/clash.rt:100:1
 returns : tie.Need-returns Inv-loop μ-loop Inv-pairs μ-pairs
 returns c = found-none _ _ _ (omega arith) (c .before .pairs .inv .2)
 
--- src/clash.rt:100:1
 returns-2 : tie.Need-returns-2 Inv-loop μ-loop Inv-pairs μ-pairs
 returns-2 c =
     let lp = c .before .before in

@@ -1,22 +1,14 @@
-use Prim.Native.Nat.{ℕ, zero, suc, _≤_, _<_, _+_, _-_, _*_, _^_, max, min}
-use native.Mathlib.Nat.{not-suc-le-zero}
+use Prim.Native.Nat.{_-_}
 use native.Mathlib.Omega.{arith}
 use borrow.Author.Needs.{needs}
 use borrow.Author.Tests.{not-true, not-false}
-use lib.ListN.{length, drop, getD}
-use mathlib.Core.Logic.{⊎-elim}
-use mathlib.Core.List.{List}
-use mathlib.Core.Bool.{Bool, true, false}
-use mathlib.Core.Path.{_≡_, refl, sym, ap, _∙_, subst}
-use lib.Dec.{T}
+use lib.ListN.{drop}
+use mathlib.Core.Path.{_≡_, refl, sym, ap, _∙_}
 use Rattle.meaning.specs.Base.{all}
 use Rattle.analysis.specs.Rows.{rightAt, right-cons, right-end}
 use Rattle.analysis.specs.Views.{members, fit, all-next, all-stop}
 use Rattle.analysis.proofs.closing.all_in.Statement.{statement}
 use Rattle.analysis.proofs.closing.all_in.Tie as tie
-use Rattle.analysis.proofs.closing.all_in.Reads as reads
-use Rattle.analysis.proofs.closing.all_in.Lts as lts
-use Rattle.analysis.proofs.closing.symbol_in.Reads as symbol-in-reads
 
 abbrev Inv-loop : tie.InvT-loop
 Inv-loop rows count k set tokens at n i₀ i = all (fit tokens (members set)) (rightAt rows k) ≡ all (fit tokens (members set)) (drop i (rightAt rows k))
@@ -24,65 +16,51 @@ Inv-loop rows count k set tokens at n i₀ i = all (fit tokens (members set)) (r
 abbrev μ-loop : tie.MeasureT-loop
 μ-loop rows count k set tokens at n i₀ i = n - i
 
--- src/closing.rt:27:14
 mul-at : tie.Need-mul-at Inv-loop μ-loop
 mul-at c = omega arith
 
--- src/closing.rt:28:18
 add-n : tie.Need-add-n Inv-loop μ-loop
 add-n c = omega arith
 
--- src/closing.rt:28:13
 element-copy-out-n : tie.Need-element-copy-out-n Inv-loop μ-loop
 element-copy-out-n c = omega arith
 
--- src/closing.rt:28:13
 cast-n : tie.Need-cast-n Inv-loop μ-loop
 cast-n c = let st = c .before in omega (arith, st .pre .0 .sizes _ (st .pre .1))
 
--- src/closing.rt:30:5
 loop-holds : tie.Need-loop-holds Inv-loop μ-loop
 loop-holds c = refl
 
--- src/closing.rt:31:28
 add-symbol-in : tie.Need-add-symbol-in Inv-loop μ-loop
 add-symbol-in c = omega arith
 
--- src/closing.rt:31:28
 add-symbol-in-2 : tie.Need-add-symbol-in-2 Inv-loop μ-loop
 add-symbol-in-2 c = let st = c .before .before .before in omega (arith, st .pre .0 .sizes _ (st .pre .1))
 
--- src/closing.rt:31:23
 element-copy-out-symbol-in : tie.Need-element-copy-out-symbol-in Inv-loop μ-loop
 element-copy-out-symbol-in c = let st = c .before .before .before in omega (arith, st .pre .0 .few, st .pre .0 .sizes _ (st .pre .1))
 
--- src/closing.rt:31:13
 symbol-in-requires : tie.Need-symbol-in-requires Inv-loop μ-loop
 symbol-in-requires c κs = search needs
 
--- src/closing.rt:32:13
 returns : tie.Need-returns Inv-loop μ-loop
 returns c =
     let lp = c .before .before .before in
     let st = lp .before .before .before in
     sym (lp .before .loop .inv ∙ all-stop _ _ _ _ (right-cons (st .pre .0) _ (st .pre .1) _ (lp .loop-test .taken)) (sym (c .before .symbol-in .ensures) ∙ not-true _ (c .if1 .taken)))
 
--- src/closing.rt:34:9
 add-i : tie.Need-add-i Inv-loop μ-loop
 add-i c = let st = c .before .before .before .before .before .before in omega (arith, st .pre .0 .sizes _ (st .pre .1))
 
--- src/closing.rt:30:5
 loop-less : tie.Need-loop-less Inv-loop μ-loop
 loop-less c = omega arith
 
--- src/closing.rt:30:5
 loop-again : tie.Need-loop-again Inv-loop μ-loop
 loop-again c =
     let lp = c .before .before .before in
     let st = lp .before .before .before in
     lp .before .loop .inv ∙ all-next _ _ _ _ (right-cons (st .pre .0) _ (st .pre .1) _ (lp .loop-test .taken)) (sym (c .before .symbol-in .ensures) ∙ not-false _ (c .if1 .left))
 
--- src/closing.rt:23:1
 returns-2 : tie.Need-returns-2 Inv-loop μ-loop
 returns-2 c =
     let st = c .before .before .before in

@@ -1,23 +1,11 @@
-use Prim.Native.Nat.{ℕ, zero, suc, _≤_, _<_, _+_, _-_, _*_, _^_, max, min}
-use native.Mathlib.Nat.{not-suc-le-zero}
+use Prim.Native.Nat.{_≤_, _<_, _-_}
 use native.Mathlib.Omega.{arith}
-use borrow.Author.Needs.{needs}
-use borrow.Author.Tests.{not-true, not-false}
-use lib.ListN.{length, drop, getD}
-use mathlib.Core.Logic.{⊎-elim}
-use mathlib.Core.List.{List}
-use mathlib.Core.Bool.{Bool, true, false}
-use mathlib.Core.Path.{_≡_, refl, sym, ap, _∙_, subst}
-use lib.Dec.{T}
+use mathlib.Core.Path.{_≡_, _∙_}
 use Rattle.analysis.specs.Rows.{sizeAt, byteAt}
 use Rattle.analysis.specs.Views.{members}
 use Rattle.analysis.specs.Follows.{FollowClosed, BaseFrom, Filled, filled-none, filled-then, filled-join, Rest, rest-start, rest-step, base-fine, base-more, base-end}
 use Rattle.analysis.proofs.follow.base_by.Statement.{statement}
 use Rattle.analysis.proofs.follow.base_by.Tie as tie
-use Rattle.analysis.proofs.follow.base_by.Reads as reads
-use Rattle.analysis.proofs.follow.base_by.Lts as lts
-use Rattle.analysis.proofs.follow.begin_with.Reads as begin-with-reads
-use Rattle.analysis.proofs.follow.mark.Reads as mark-reads
 
 abbrev Inv-loop : tie.InvT-loop
 Inv-loop rows count k null first table₀ at rest₀ i₀ table rest i = (i ≤ sizeAt rows k) × Filled (FollowClosed (members null) first rows count) (λ u. BaseFrom (members null) first rows u k i) table₀ table × Rest (members null) first rows k i rest
@@ -29,73 +17,58 @@ abbrev μ-loop : tie.MeasureT-loop
 symbol : (c : tie.In-loop Inv-loop μ-loop) → byteAt (c .before .before .before .args .rows .now) (c .before .before .before .args .k) (c .before .loop .i - 1) < 176
 symbol c = let st = c .before .before .before in st .pre .0 .symbols _ _ (st .pre .1) (omega (arith, c .before .loop .inv .0))
 
--- src/follow.rt:48:14
 mul-at : tie.Need-mul-at Inv-loop μ-loop
 mul-at c = omega arith
 
--- src/follow.rt:50:22
 add-i : tie.Need-add-i Inv-loop μ-loop
 add-i c = omega arith
 
--- src/follow.rt:50:17
 element-copy-out-i : tie.Need-element-copy-out-i Inv-loop μ-loop
 element-copy-out-i c = omega arith
 
--- src/follow.rt:50:17
 cast-i : tie.Need-cast-i Inv-loop μ-loop
 cast-i c = let st = c .before in omega (arith, st .pre .0 .sizes _ (st .pre .1))
 
--- src/follow.rt:51:5
 loop-holds : tie.Need-loop-holds Inv-loop μ-loop
 loop-holds c =
     let st = c .before in
     (omega arith, filled-none _ (λ u. base-end _ _ (st .pre .0) _ (st .pre .1) u _), rest-start _ _ (st .pre .0) _ (st .pre .1))
 
--- src/follow.rt:52:9
 sub-i : tie.Need-sub-i Inv-loop μ-loop
 sub-i c = omega arith
 
--- src/follow.rt:53:22
 add-s : tie.Need-add-s Inv-loop μ-loop
 add-s c = omega arith
 
--- src/follow.rt:53:22
 add-s-2 : tie.Need-add-s-2 Inv-loop μ-loop
 add-s-2 c = let st = c .before .before .before in omega (arith, st .pre .0 .sizes _ (st .pre .1))
 
--- src/follow.rt:53:17
 element-copy-out-s : tie.Need-element-copy-out-s Inv-loop μ-loop
 element-copy-out-s c = let st = c .before .before .before in omega (arith, st .pre .0 .few, st .pre .0 .sizes _ (st .pre .1))
 
--- src/follow.rt:54:9
 mark-requires : tie.Need-mark-requires Inv-loop μ-loop
 mark-requires c κs =
     let lp = c .before .before in
     let st = lp .before .before .before in
     (symbol lp, lp .before .loop .inv .1 .size ∙ st .pre .2)
 
--- src/follow.rt:55:9
 begin-with-requires : tie.Need-begin-with-requires Inv-loop μ-loop
 begin-with-requires c κs = symbol (c .before .before .before)
 
--- src/follow.rt:51:5
 loop-less : tie.Need-loop-less Inv-loop μ-loop
 loop-less c = omega arith
 
--- src/follow.rt:51:5
 loop-again : tie.Need-loop-again Inv-loop μ-loop
 loop-again c =
     let lp = c .before .before .before .before in
     let st = lp .before .before .before in
     let iv = lp .before .loop .inv in
-    let more : 0 < lp .before .loop .i = omega arith in
-    (
+    let more : 0 < lp .before .loop .i = omega arith in (
       omega arith,
       filled-then _ _ _ (iv .1) (filled-join _ _ _ _ _ (c .before .mark .ensures) (base-fine _ _ (st .pre .0) _ (st .pre .1) _ more (iv .0) _ (iv .2))) (λ u sub b g. base-more _ _ (st .pre .0) _ (st .pre .1) _ more (iv .0) _ (iv .2) u _ _ sub b g),
       rest-step _ _ (st .pre .0) _ (st .pre .1) _ more (iv .0) _ _ (iv .2) (c .begin-with .ensures),
     )
 
--- src/follow.rt:44:1
 returns : tie.Need-returns Inv-loop μ-loop
 returns c = let e : c .before .loop .i ≡ 0 = omega arith in rw e at (c .before .loop .inv .1)
 

@@ -1,24 +1,12 @@
-use Prim.Native.Nat.{ℕ, zero, suc, _≤_, _<_, _+_, _-_, _*_, _^_, max, min}
-use native.Mathlib.Nat.{not-suc-le-zero}
-use native.Mathlib.Omega.{arith}
+use Prim.Native.Nat.{_-_, _*_, _^_}
 use borrow.Author.Needs.{needs}
 use borrow.Author.Tests.{not-true, not-false}
-use lib.ListN.{length, drop, getD}
-use mathlib.Core.Logic.{⊎-elim}
-use mathlib.Core.List.{List, []}
-use mathlib.Core.Bool.{Bool, true, false}
-use mathlib.Core.Path.{_≡_, refl, sym, ap, _∙_, subst}
-use lib.Dec.{T}
+use mathlib.Core.Path.{_∙_}
 use Rattle.analysis.specs.Views.{members}
 use Rattle.analysis.specs.Tables.{total, room-falls}
 use Rattle.analysis.specs.Follows.{Following, following-start, following-on, followed}
 use Rattle.analysis.proofs.follow.follow.Statement.{statement}
 use Rattle.analysis.proofs.follow.follow.Tie as tie
-use Rattle.analysis.proofs.follow.follow.Reads as reads
-use Rattle.analysis.proofs.follow.follow.Lts as lts
-use Rattle.analysis.proofs.follow.bases.Reads as bases-reads
-use Rattle.analysis.proofs.follow.tail_pass.Reads as tail-pass-reads
-use Rattle.analysis.proofs.fronts.join.Reads as join-reads
 
 abbrev Inv-loop : tie.InvT-loop
 Inv-loop rows count start null first table₀ table = Following (members null) first rows count start table
@@ -26,37 +14,30 @@ Inv-loop rows count start null first table₀ table = Following (members null) f
 abbrev μ-loop : tie.MeasureT-loop
 μ-loop rows count start null first table₀ table = 48 * 2 ^ 64 - total table
 
--- src/follow.rt:131:5
 join-requires : tie.Need-join-requires Inv-loop μ-loop
 join-requires c κs = search needs
 
--- src/follow.rt:132:5
 bases-requires : tie.Need-bases-requires Inv-loop μ-loop
 bases-requires c κs = search needs
 
--- src/follow.rt:133:5
 loop-holds : tie.Need-loop-holds Inv-loop μ-loop
 loop-holds c = following-start _ _ _ _ _ _ _ _ (c .before .before .join .ensures) (c .bases .ensures)
 
--- src/follow.rt:134:13
 tail-pass-requires : tie.Need-tail-pass-requires Inv-loop μ-loop
 tail-pass-requires c κs = search needs
 
--- src/follow.rt:135:13
 returns : tie.Need-returns Inv-loop μ-loop
 returns c =
     let at = c .before .before .before in
     let q = c .before .tail-pass .ensures (at .before .before .before .before .before .args .first .now) in
     followed _ _ _ _ _ _ _ (at .loop .inv) (rw (not-true (c .before .tail-pass .result) (c .if1 .taken)) at q)
 
--- src/follow.rt:133:5
 loop-less : tie.Need-loop-less Inv-loop μ-loop
 loop-less c =
     let at = c .before .before .before in
     let q = c .before .tail-pass .ensures (at .before .before .before .before .before .args .first .now) in
     room-falls (at .loop .table) _ (q .size ∙ at .loop .inv .size) (q .words (at .loop .inv .words)) (q .rises (not-false _ (c .if1 .left)))
 
--- src/follow.rt:133:5
 loop-again : tie.Need-loop-again Inv-loop μ-loop
 loop-again c =
     let at = c .before .before .before in

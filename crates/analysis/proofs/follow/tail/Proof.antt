@@ -1,23 +1,17 @@
-use Prim.Native.Nat.{ℕ, zero, suc, _≤_, _<_, _+_, _-_, _*_, _^_, max, min}
-use native.Mathlib.Nat.{not-suc-le-zero}
+use Prim.Native.Nat.{_≤_}
 use native.Mathlib.Omega.{arith}
 use borrow.Author.Needs.{needs}
 use borrow.Author.Tests.{not-true, not-false}
-use lib.ListN.{length, drop, getD}
-use mathlib.Core.Logic.{⊎-elim}
-use mathlib.Core.List.{List}
-use mathlib.Core.Bool.{Bool, true, false}
-use mathlib.Core.Path.{_≡_, refl, sym, ap, _∙_, subst}
+use lib.ListN.{drop}
+use mathlib.Core.Bool.{false}
+use mathlib.Core.Path.{sym, _∙_}
 use lib.Dec.{T}
 use Rattle.meaning.specs.Base.{all}
 use Rattle.analysis.specs.Rows.{sizeAt, rightAt}
 use Rattle.analysis.specs.Views.{members, fit}
-use Rattle.analysis.specs.Follows.{Tail, tail-start, tail-next, tail-here, tail-all}
+use Rattle.analysis.specs.Follows.{tail-start, tail-next, tail-here, tail-all}
 use Rattle.analysis.proofs.follow.tail.Statement.{statement}
 use Rattle.analysis.proofs.follow.tail.Tie as tie
-use Rattle.analysis.proofs.follow.tail.Reads as reads
-use Rattle.analysis.proofs.follow.tail.Lts as lts
-use Rattle.analysis.proofs.closing.symbol_in.Reads as symbol-in-reads
 
 abbrev Inv-loop : tie.InvT-loop
 Inv-loop rows count k null at i₀ i = (i ≤ sizeAt rows k) × T (all (fit false (members null)) (drop i (rightAt rows k)))
@@ -25,65 +19,51 @@ Inv-loop rows count k null at i₀ i = (i ≤ sizeAt rows k) × T (all (fit fals
 abbrev μ-loop : tie.MeasureT-loop
 μ-loop rows count k null at i₀ i = i
 
--- src/follow.rt:76:14
 mul-at : tie.Need-mul-at Inv-loop μ-loop
 mul-at c = omega arith
 
--- src/follow.rt:77:22
 add-i : tie.Need-add-i Inv-loop μ-loop
 add-i c = omega arith
 
--- src/follow.rt:77:17
 element-copy-out-i : tie.Need-element-copy-out-i Inv-loop μ-loop
 element-copy-out-i c = omega arith
 
--- src/follow.rt:77:17
 cast-i : tie.Need-cast-i Inv-loop μ-loop
 cast-i c = let st = c .before in omega (arith, st .pre .0 .sizes _ (st .pre .1))
 
--- src/follow.rt:78:5
 loop-holds : tie.Need-loop-holds Inv-loop μ-loop
 loop-holds c = let st = c .before in (omega arith, tail-start _ (st .pre .0) _ (st .pre .1))
 
--- src/follow.rt:79:9
 sub-i : tie.Need-sub-i Inv-loop μ-loop
 sub-i c = omega arith
 
--- src/follow.rt:80:28
 add-symbol-in : tie.Need-add-symbol-in Inv-loop μ-loop
 add-symbol-in c = omega arith
 
--- src/follow.rt:80:28
 add-symbol-in-2 : tie.Need-add-symbol-in-2 Inv-loop μ-loop
 add-symbol-in-2 c = let st = c .before .before .before in omega (arith, st .pre .0 .sizes _ (st .pre .1))
 
--- src/follow.rt:80:23
 element-copy-out-symbol-in : tie.Need-element-copy-out-symbol-in Inv-loop μ-loop
 element-copy-out-symbol-in c = let st = c .before .before .before in omega (arith, st .pre .0 .few, st .pre .0 .sizes _ (st .pre .1))
 
--- src/follow.rt:80:13
 symbol-in-requires : tie.Need-symbol-in-requires Inv-loop μ-loop
 symbol-in-requires c κs = search needs
 
--- src/follow.rt:81:13
 returns : tie.Need-returns Inv-loop μ-loop
 returns c =
     let lp = c .before .before .before in
     let st = lp .before .before .before in
     tail-here _ (st .pre .0) _ (st .pre .1) _ (omega arith) (lp .before .loop .inv .0) (lp .before .loop .inv .1) (sym (c .before .symbol-in .ensures) ∙ not-true _ (c .if1 .taken))
 
--- src/follow.rt:78:5
 loop-less : tie.Need-loop-less Inv-loop μ-loop
 loop-less c = omega arith
 
--- src/follow.rt:78:5
 loop-again : tie.Need-loop-again Inv-loop μ-loop
 loop-again c =
     let lp = c .before .before .before in
     let st = lp .before .before .before in
     (omega arith, tail-next _ (st .pre .0) _ (st .pre .1) _ (omega arith) (lp .before .loop .inv .0) (lp .before .loop .inv .1) (sym (c .before .symbol-in .ensures) ∙ not-false _ (c .if1 .left)))
 
--- src/follow.rt:72:1
 returns-2 : tie.Need-returns-2 Inv-loop μ-loop
 returns-2 c =
     let st = c .before .before .before in

@@ -1,24 +1,12 @@
-use Prim.Native.Nat.{ℕ, zero, suc, _≤_, _<_, _+_, _-_, _*_, _^_, max, min}
-use native.Mathlib.Nat.{not-suc-le-zero}
+use Prim.Native.Nat.{ℕ, _≤_, _-_}
 use native.Mathlib.Omega.{arith}
-use borrow.Author.Needs.{needs}
-use borrow.Author.Tests.{not-true, not-false}
-use lib.ListN.{length, drop, getD}
-use mathlib.Core.Logic.{⊎-elim}
 use mathlib.Core.List.{List, []}
-use mathlib.Core.Bool.{Bool, true, false}
-use mathlib.Core.Path.{_≡_, refl, sym, ap, _∙_, subst}
-use lib.Dec.{T}
-use Rattle.analysis.specs.Rows.{sizeAt, byteAt}
+use mathlib.Core.Path.{_∙_}
 use Rattle.analysis.specs.Views.{members}
 use Rattle.analysis.specs.Passes.{Passed, passed-none, passed-map, passed-new, passed-same}
 use Rattle.analysis.specs.Follows.{FollowClosed, TailTo, tail-step, tail-more, tail-done}
 use Rattle.analysis.proofs.follow.tail_by.Statement.{statement}
 use Rattle.analysis.proofs.follow.tail_by.Tie as tie
-use Rattle.analysis.proofs.follow.tail_by.Reads as reads
-use Rattle.analysis.proofs.follow.tail_by.Lts as lts
-use Rattle.analysis.proofs.follow.mark.Reads as mark-reads
-use Rattle.analysis.proofs.follow.tail.Reads as tail-reads
 
 abbrev Inv-loop : tie.InvT-loop
 Inv-loop rows count k null table₀ at left add n changed₀ i₀ table changed i = (i₀ ≤ i) × ((first : List ℕ) → Passed (FollowClosed (members null) first rows count) (λ u. TailTo rows k i₀ i) table₀ table changed)
@@ -29,94 +17,73 @@ abbrev μ-loop : tie.MeasureT-loop
 abbrev start : (c : tie.In-loop Inv-loop μ-loop) → tie.Start Inv-loop μ-loop
 start c = c .before .before .before .before .before .before
 
--- src/follow.rt:92:14
 mul-at : tie.Need-mul-at Inv-loop μ-loop
 mul-at c = omega arith
 
--- src/follow.rt:93:16
 element-copy-out-left : tie.Need-element-copy-out-left Inv-loop μ-loop
 element-copy-out-left c = omega arith
 
--- src/follow.rt:93:16
 cast-left : tie.Need-cast-left Inv-loop μ-loop
 cast-left c = let st = c .before in omega (arith, st .pre .0 .lefts _ (st .pre .1))
 
--- src/follow.rt:94:15
 mul-add : tie.Need-mul-add Inv-loop μ-loop
 mul-add c = let st = c .before in omega (arith, st .pre .0 .lefts _ (st .pre .1))
 
--- src/follow.rt:94:15
 element-copy-out-add : tie.Need-element-copy-out-add Inv-loop μ-loop
 element-copy-out-add c = let st = c .before in omega (arith, st .pre .0 .lefts _ (st .pre .1))
 
--- src/follow.rt:95:18
 add-n : tie.Need-add-n Inv-loop μ-loop
 add-n c = omega arith
 
--- src/follow.rt:95:13
 element-copy-out-n : tie.Need-element-copy-out-n Inv-loop μ-loop
 element-copy-out-n c = omega arith
 
--- src/follow.rt:95:13
 cast-n : tie.Need-cast-n Inv-loop μ-loop
 cast-n c = let st = c .before .before .before in omega (arith, st .pre .0 .sizes _ (st .pre .1))
 
--- src/follow.rt:97:9
 tail-requires : tie.Need-tail-requires Inv-loop μ-loop
 tail-requires c κs = let st = c .before .before .before in (st .pre .0, st .pre .1)
 
--- src/follow.rt:98:5
 loop-holds : tie.Need-loop-holds Inv-loop μ-loop
 loop-holds c = (omega arith, λ first. passed-none _ (λ u. record { at = λ j n xs l h. absurd (omega arith) }))
 
--- src/follow.rt:99:22
 add-s : tie.Need-add-s Inv-loop μ-loop
 add-s c = omega arith
 
--- src/follow.rt:99:22
 add-s-2 : tie.Need-add-s-2 Inv-loop μ-loop
 add-s-2 c = let st = start c in omega (arith, st .pre .0 .sizes _ (st .pre .1))
 
--- src/follow.rt:99:17
 element-copy-out-s : tie.Need-element-copy-out-s Inv-loop μ-loop
 element-copy-out-s c = let st = start c in omega (arith, st .pre .0 .few, st .pre .0 .sizes _ (st .pre .1))
 
--- src/follow.rt:100:9
 add-i : tie.Need-add-i Inv-loop μ-loop
 add-i c = let st = start (c .before) in omega (arith, st .pre .0 .sizes _ (st .pre .1))
 
--- src/follow.rt:101:12
 mark-requires : tie.Need-mark-requires Inv-loop μ-loop
 mark-requires c κs =
     let lp = c .before .before in
     let st = start lp in
     (st .pre .0 .symbols _ _ (st .pre .1) (lp .loop-test .taken), lp .before .loop .inv .1 [] .size ∙ st .pre .2)
 
--- src/follow.rt:98:5
 loop-less : tie.Need-loop-less Inv-loop μ-loop
 loop-less c = omega arith
 
--- src/follow.rt:98:5
 loop-again : tie.Need-loop-again Inv-loop μ-loop
 loop-again c = let lp = c .before .before .before .before in
     let st = start lp in
     (omega arith, λ first. passed-new _ _ _ _ (lp .before .loop .inv .1 first) (tail-step _ (st .pre .0) _ (st .pre .1) _ (lp .before .before .tail .ensures) first (st .args .table .now) _ _ _ _ (lp .before .loop .inv .0) (lp .loop-test .taken) (lp .before .loop .inv .1 first .keeps) (rw (c .if1 .taken) at (c .before .mark .ensures))))
 
--- src/follow.rt:98:5
 loop-less-2 : tie.Need-loop-less-2 Inv-loop μ-loop
 loop-less-2 c = omega arith
 
--- src/follow.rt:98:5
 loop-again-2 : tie.Need-loop-again-2 Inv-loop μ-loop
 loop-again-2 c =
     let lp = c .before .before .before .before in
-    let st = start lp in
-    (
+    let st = start lp in (
       omega arith,
       λ first. passed-same _ _ _ _ (lp .before .loop .inv .1 first) (tail-step _ (st .pre .0) _ (st .pre .1) _ (lp .before .before .tail .ensures) first (st .args .table .now) _ _ _ _ (lp .before .loop .inv .0) (lp .loop-test .taken) (lp .before .loop .inv .1 first .keeps) (rw (c .if1 .left) at (c .before .mark .ensures))) (λ u b g. tail-more _ (st .pre .0) _ (st .pre .1) _ (lp .before .before .tail .ensures) _ _ u _ (lp .loop-test .taken) (λ t. t) b g),
     )
 
--- src/follow.rt:88:1
 returns : tie.Need-returns Inv-loop μ-loop
 returns c =
     let at = c .before in

@@ -1,22 +1,13 @@
-use Prim.Native.Nat.{ℕ, zero, suc, _≤_, _<_, _+_, _-_, _*_, _^_, max, min}
+use Prim.Native.Nat.{ℕ, _≤_, _-_}
 use native.Mathlib.Nat.{not-suc-le-zero}
 use native.Mathlib.Omega.{arith}
-use borrow.Author.Needs.{needs}
-use borrow.Author.Tests.{not-true, not-false}
-use lib.ListN.{length, drop, getD}
-use mathlib.Core.Logic.{⊎-elim}
 use mathlib.Core.List.{List, []}
-use mathlib.Core.Bool.{Bool, true, false}
-use mathlib.Core.Path.{_≡_, refl, sym, ap, _∙_, subst}
-use lib.Dec.{T}
+use mathlib.Core.Path.{_≡_, _∙_}
 use Rattle.analysis.specs.Views.{members}
 use Rattle.analysis.specs.Passes.{Passed, passed-none, passed-new, passed-same}
 use Rattle.analysis.specs.Follows.{FollowClosed, TailsTo, tails-more}
 use Rattle.analysis.proofs.follow.tail_pass.Statement.{statement}
 use Rattle.analysis.proofs.follow.tail_pass.Tie as tie
-use Rattle.analysis.proofs.follow.tail_pass.Reads as reads
-use Rattle.analysis.proofs.follow.tail_pass.Lts as lts
-use Rattle.analysis.proofs.follow.tail_by.Reads as tail-by-reads
 
 abbrev Inv-loop : tie.InvT-loop
 Inv-loop rows count null table₀ changed₀ k₀ table changed k = (k ≤ count) × ((first : List ℕ) → Passed (FollowClosed (members null) first rows count) (λ u. TailsTo (members null) rows k) table₀ table changed)
@@ -24,42 +15,34 @@ Inv-loop rows count null table₀ changed₀ k₀ table changed k = (k ≤ count
 abbrev μ-loop : tie.MeasureT-loop
 μ-loop rows count null table₀ changed₀ k₀ table changed k = count - k
 
--- src/follow.rt:115:5
 loop-holds : tie.Need-loop-holds Inv-loop μ-loop
 loop-holds c = (omega arith, λ first. passed-none _ (λ u. record { tail = λ p l. absurd (not-suc-le-zero l) }))
 
--- src/follow.rt:116:13
 tail-by-requires : tie.Need-tail-by-requires Inv-loop μ-loop
 tail-by-requires c κs =
     let at = c .before .before in
     let st = at .before in
     (st .pre .0, omega arith, at .loop .inv .1 [] .size ∙ st .pre .1)
 
--- src/follow.rt:117:9
 add-k : tie.Need-add-k Inv-loop μ-loop
 add-k c = omega arith
 
--- src/follow.rt:115:5
 loop-less : tie.Need-loop-less Inv-loop μ-loop
 loop-less c = omega arith
 
--- src/follow.rt:115:5
 loop-again : tie.Need-loop-again Inv-loop μ-loop
 loop-again c =
     let at = c .before .before .before .before in
     (omega arith, λ first. passed-new _ _ _ _ (at .loop .inv .1 first) (rw (c .if1 .taken) at (c .before .tail-by .ensures first)))
 
--- src/follow.rt:115:5
 loop-less-2 : tie.Need-loop-less-2 Inv-loop μ-loop
 loop-less-2 c = omega arith
 
--- src/follow.rt:115:5
 loop-again-2 : tie.Need-loop-again-2 Inv-loop μ-loop
 loop-again-2 c =
     let at = c .before .before .before .before in
     (omega arith, λ first. passed-same _ _ _ _ (at .loop .inv .1 first) (rw (c .if1 .left) at (c .before .tail-by .ensures first)) (λ u. tails-more _ _ _ _))
 
--- src/follow.rt:109:1
 returns : tie.Need-returns Inv-loop μ-loop
 returns c = let e : c .before .loop .k ≡ c .before .before .args .count = omega arith in rw e at (c .before .loop .inv .1)
 

@@ -1,23 +1,14 @@
-use Prim.Native.Nat.{ℕ, zero, suc, _≤_, _<_, _+_, _-_, _*_, _^_, max, min}
-use native.Mathlib.Nat.{not-suc-le-zero}
+use Prim.Native.Nat.{_<_, _-_}
 use native.Mathlib.Omega.{arith}
 use borrow.Author.Needs.{needs}
 use borrow.Author.Tests.{not-true, not-false}
-use lib.ListN.{length, drop, getD}
-use mathlib.Core.Logic.{⊎-elim}
-use mathlib.Core.List.{List}
-use mathlib.Core.Bool.{Bool, true, false}
-use mathlib.Core.Path.{_≡_, refl, sym, ap, _∙_, subst}
-use lib.Dec.{T}
-use Rattle.analysis.specs.Rows.{rightAt, sizeAt, byteAt, right-token, right-nonterminal, right-end}
+use lib.ListN.{drop}
+use mathlib.Core.Path.{sym, _∙_}
+use Rattle.analysis.specs.Rows.{rightAt, byteAt, right-token, right-nonterminal, right-end}
 use Rattle.analysis.specs.Views.{members}
 use Rattle.analysis.specs.Fronts.{Scanned, scan-start, scan-token, scan-silent, scan-next, scan-stop, scan-end}
 use Rattle.analysis.proofs.fronts.begins.Statement.{statement}
 use Rattle.analysis.proofs.fronts.begins.Tie as tie
-use Rattle.analysis.proofs.fronts.begins.Reads as reads
-use Rattle.analysis.proofs.fronts.begins.Lts as lts
-use Rattle.token_set.proofs.TokenSet.has.Reads as has-reads
-use Rattle.token_set.proofs.TokenSet.of_token.Reads as of-token-reads
 
 abbrev Inv-loop : tie.InvT-loop
 Inv-loop rows count k null table after tokens at n out₀ i₀ out i = Scanned tokens (members null) table after (rightAt rows k) out (drop i (rightAt rows k))
@@ -29,43 +20,33 @@ abbrev μ-loop : tie.MeasureT-loop
 symbol : (c : tie.In-loop Inv-loop μ-loop) → byteAt (c .before .before .before .args .rows .now) (c .before .before .before .args .k) (c .before .loop .i) < 176
 symbol c = let st = c .before .before .before in st .pre .0 .symbols _ _ (st .pre .1) (c .loop-test .taken)
 
--- src/fronts.rt:33:14
 mul-at : tie.Need-mul-at Inv-loop μ-loop
 mul-at c = omega arith
 
--- src/fronts.rt:34:18
 add-n : tie.Need-add-n Inv-loop μ-loop
 add-n c = omega arith
 
--- src/fronts.rt:34:13
 element-copy-out-n : tie.Need-element-copy-out-n Inv-loop μ-loop
 element-copy-out-n c = omega arith
 
--- src/fronts.rt:34:13
 cast-n : tie.Need-cast-n Inv-loop μ-loop
 cast-n c = let st = c .before in omega (arith, st .pre .0 .sizes _ (st .pre .1))
 
--- src/fronts.rt:37:5
 loop-holds : tie.Need-loop-holds Inv-loop μ-loop
 loop-holds c = scan-start _ _ _ _ _
 
--- src/fronts.rt:38:22
 add-s : tie.Need-add-s Inv-loop μ-loop
 add-s c = omega arith
 
--- src/fronts.rt:38:22
 add-s-2 : tie.Need-add-s-2 Inv-loop μ-loop
 add-s-2 c = let st = c .before .before .before in omega (arith, st .pre .0 .sizes _ (st .pre .1))
 
--- src/fronts.rt:38:17
 element-copy-out-s : tie.Need-element-copy-out-s Inv-loop μ-loop
 element-copy-out-s c = let st = c .before .before .before in omega (arith, st .pre .0 .few, st .pre .0 .sizes _ (st .pre .1))
 
--- src/fronts.rt:41:30
 of-token-requires : tie.Need-of-token-requires Inv-loop μ-loop
 of-token-requires c κs = search needs
 
--- src/fronts.rt:41:17
 returns : tie.Need-returns Inv-loop μ-loop
 returns c =
     let th = c .before .before .before in
@@ -73,7 +54,6 @@ returns c =
     let st = lp .before .before .before in
     scan-token _ _ _ _ _ _ _ (lp .before .loop .inv) _ _ _ (right-token (st .pre .0) _ (st .pre .1) _ (lp .loop-test .taken) (th .if1 .taken)) (c .before .before .if2 .taken) (c .before .of-token .ensures)
 
--- src/fronts.rt:43:13
 returns-2 : tie.Need-returns-2 Inv-loop μ-loop
 returns-2 c =
     let th = c .before in
@@ -81,23 +61,18 @@ returns-2 c =
     let st = lp .before .before .before in
     scan-silent _ _ _ _ _ _ _ (lp .before .loop .inv) _ _ (right-token (st .pre .0) _ (st .pre .1) _ (lp .loop-test .taken) (th .if1 .taken)) (c .if2 .left)
 
--- src/fronts.rt:45:17
 cast-a : tie.Need-cast-a Inv-loop μ-loop
 cast-a c = omega (arith, symbol (c .before .before))
 
--- src/fronts.rt:46:16
 mul-out : tie.Need-mul-out Inv-loop μ-loop
 mul-out c = omega (arith, symbol (c .before .before))
 
--- src/fronts.rt:46:16
 element-copy-out-out : tie.Need-element-copy-out-out Inv-loop μ-loop
 element-copy-out-out c = omega (arith, symbol (c .before .before))
 
--- src/fronts.rt:47:13
 has-requires : tie.Need-has-requires Inv-loop μ-loop
 has-requires c κs = search needs
 
--- src/fronts.rt:48:13
 returns-3 : tie.Need-returns-3 Inv-loop μ-loop
 returns-3 c =
     let el = c .before .before .before in
@@ -105,15 +80,12 @@ returns-3 c =
     let st = lp .before .before .before in
     scan-stop _ _ _ _ _ _ _ (lp .before .loop .inv) _ _ (right-nonterminal (st .pre .0) _ (st .pre .1) _ (lp .loop-test .taken) (el .if1 .left)) (sym (c .before .has .ensures) ∙ not-true _ (c .if3 .taken))
 
--- src/fronts.rt:50:9
 add-i : tie.Need-add-i Inv-loop μ-loop
 add-i c = let st = c .before .before .before .before .before .before .before .before in omega (arith, st .pre .0 .sizes _ (st .pre .1))
 
--- src/fronts.rt:37:5
 loop-less : tie.Need-loop-less Inv-loop μ-loop
 loop-less c = omega arith
 
--- src/fronts.rt:37:5
 loop-again : tie.Need-loop-again Inv-loop μ-loop
 loop-again c =
     let el = c .before .before .before in
@@ -121,7 +93,6 @@ loop-again c =
     let st = lp .before .before .before in
     scan-next _ _ _ _ _ _ _ (lp .before .loop .inv) _ _ (right-nonterminal (st .pre .0) _ (st .pre .1) _ (lp .loop-test .taken) (el .if1 .left)) (sym (c .before .has .ensures) ∙ not-false _ (c .if3 .left))
 
--- src/fronts.rt:29:1
 returns-4 : tie.Need-returns-4 Inv-loop μ-loop
 returns-4 c =
     let st = c .before .before .before in

@@ -1,23 +1,10 @@
-use Prim.Native.Nat.{ℕ, zero, suc, _≤_, _<_, _+_, _-_, _*_, _^_, max, min}
-use native.Mathlib.Nat.{not-suc-le-zero}
+use Prim.Native.Nat.{_≤_}
 use native.Mathlib.Omega.{arith}
-use borrow.Author.Needs.{needs}
-use borrow.Author.Tests.{not-true, not-false}
-use lib.ListN.{length, drop, getD}
-use mathlib.Core.Logic.{⊎-elim}
-use mathlib.Core.List.{List}
-use mathlib.Core.Bool.{Bool, true, false}
-use mathlib.Core.Path.{_≡_, refl, sym, ap, _∙_, subst}
-use lib.Dec.{T}
-use Rattle.analysis.specs.Views.{members, Within, within-none, within-before, FrontAt}
-use Rattle.analysis.specs.Tables.{total, Words, room-falls}
-use Rattle.analysis.specs.Passes.{WithinAll, Passed, passed-none, passed-new, passed-same, RisingTable, table-start, table-on, table-settled}
-use Rattle.analysis.specs.Fronts.{front-step}
+use mathlib.Core.Path.{_≡_, _∙_}
+use Rattle.analysis.specs.Views.{members, within-none, within-before, FrontAt}
+use Rattle.analysis.specs.Passes.{WithinAll, Passed, passed-none, passed-new, passed-same}
 use Rattle.analysis.proofs.fronts.front_pass.Statement.{statement}
 use Rattle.analysis.proofs.fronts.front_pass.Tie as tie
-use Rattle.analysis.proofs.fronts.front_pass.Reads as reads
-use Rattle.analysis.proofs.fronts.front_pass.Lts as lts
-use Rattle.analysis.proofs.fronts.front_by.Reads as front-by-reads
 
 abbrev Inv-loop : tie.InvT-loop
 Inv-loop rows count null tokens table₀ changed₀ k₀ table changed k = (k ≤ count) × Passed (WithinAll (FrontAt tokens (members null) rows) 0 count) (WithinAll (FrontAt tokens (members null) rows) k count) table₀ table changed
@@ -25,42 +12,34 @@ Inv-loop rows count null tokens table₀ changed₀ k₀ table changed k = (k �
 abbrev μ-loop : tie.MeasureT-loop
 μ-loop rows count null tokens table₀ changed₀ k₀ table changed k = k
 
--- src/fronts.rt:72:5
 loop-holds : tie.Need-loop-holds Inv-loop μ-loop
 loop-holds c = (omega arith, passed-none _ (λ u. within-none _ _ (omega arith)))
 
--- src/fronts.rt:73:9
 sub-k : tie.Need-sub-k Inv-loop μ-loop
 sub-k c = omega arith
 
--- src/fronts.rt:74:12
 front-by-requires : tie.Need-front-by-requires Inv-loop μ-loop
 front-by-requires c κs =
     let at = c .before .before in
     let st = at .before in
     (st .pre .0, omega arith, at .loop .inv .1 .size ∙ st .pre .1)
 
--- src/fronts.rt:72:5
 loop-less : tie.Need-loop-less Inv-loop μ-loop
 loop-less c = omega arith
 
--- src/fronts.rt:72:5
 loop-again : tie.Need-loop-again Inv-loop μ-loop
 loop-again c =
     let at = c .before .before .before .before in
     (omega arith, passed-new _ _ _ _ (at .loop .inv .1) (rw (c .if1 .taken) at (c .before .front-by .ensures)))
 
--- src/fronts.rt:72:5
 loop-less-2 : tie.Need-loop-less-2 Inv-loop μ-loop
 loop-less-2 c = omega arith
 
--- src/fronts.rt:72:5
 loop-again-2 : tie.Need-loop-again-2 Inv-loop μ-loop
 loop-again-2 c =
     let at = c .before .before .before .before in
     (omega arith, passed-same _ _ _ _ (at .loop .inv .1) (rw (c .if1 .left) at (c .before .front-by .ensures)) (λ u. within-before _ _))
 
--- src/fronts.rt:66:1
 returns : tie.Need-returns Inv-loop μ-loop
 returns c = let e : c .before .loop .k ≡ 0 = omega arith in rw e at (c .before .loop .inv .1)
 

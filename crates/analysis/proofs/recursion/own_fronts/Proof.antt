@@ -1,20 +1,10 @@
-use Prim.Native.Nat.{ℕ, zero, suc, _≤_, _<_, _+_, _-_, _*_, _^_, max, min}
-use native.Mathlib.Nat.{not-suc-le-zero}
+use Prim.Native.Nat.{_≤_, _-_}
 use native.Mathlib.Omega.{arith}
 use borrow.Author.Needs.{needs}
-use borrow.Author.Tests.{not-true, not-false}
-use lib.ListN.{length, drop, getD}
-use mathlib.Core.Logic.{⊎-elim}
-use mathlib.Core.List.{List, []}
-use mathlib.Core.Bool.{Bool, true, false}
-use mathlib.Core.Path.{_≡_, refl, sym, ap, _∙_, subst}
-use lib.Dec.{T}
+use mathlib.Core.Path.{_≡_}
 use Rattle.analysis.specs.Recursion.{OwnTo, own-start, own-next}
 use Rattle.analysis.proofs.recursion.own_fronts.Statement.{statement}
 use Rattle.analysis.proofs.recursion.own_fronts.Tie as tie
-use Rattle.analysis.proofs.recursion.own_fronts.Reads as reads
-use Rattle.analysis.proofs.recursion.own_fronts.Lts as lts
-use Rattle.token_set.proofs.TokenSet.of_token.Reads as of-token-reads
 
 abbrev Inv-loop : tie.InvT-loop
 Inv-loop table₀ n₀ table n = (n ≤ 48) × OwnTo table n
@@ -22,41 +12,32 @@ Inv-loop table₀ n₀ table n = (n ≤ 48) × OwnTo table n
 abbrev μ-loop : tie.MeasureT-loop
 μ-loop table₀ n₀ table n = 48 - n
 
--- src/recursion.rt:20:5
 loop-holds : tie.Need-loop-holds Inv-loop μ-loop
 loop-holds c = (omega arith, own-start)
 
--- src/recursion.rt:21:39
 cast-of-token : tie.Need-cast-of-token Inv-loop μ-loop
 cast-of-token c = omega arith
 
--- src/recursion.rt:21:20
 of-token-requires : tie.Need-of-token-requires Inv-loop μ-loop
 of-token-requires c κs = search needs
 
--- src/recursion.rt:21:9
 mul-table : tie.Need-mul-table Inv-loop μ-loop
 mul-table c = omega arith
 
--- src/recursion.rt:21:9
 array-write-table : tie.Need-array-write-table Inv-loop μ-loop
 array-write-table c = search needs
 
--- src/recursion.rt:22:9
 add-n : tie.Need-add-n Inv-loop μ-loop
 add-n c = omega arith
 
--- src/recursion.rt:20:5
 loop-less : tie.Need-loop-less Inv-loop μ-loop
 loop-less c = omega arith
 
--- src/recursion.rt:20:5
 loop-again : tie.Need-loop-again Inv-loop μ-loop
 loop-again c =
     let at = c .before .before in
     (omega arith, own-next _ _ _ (c .before .loop-test .taken) (search needs) (c .of-token .ensures) (at .loop .inv .1))
 
--- src/recursion.rt:15:1
 returns : tie.Need-returns Inv-loop μ-loop
 returns c = let e : c .before .loop .n ≡ 48 = omega arith in rw e at (c .before .loop .inv .1)
 
