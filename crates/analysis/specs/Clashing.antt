@@ -10,6 +10,7 @@ use lib.ListN.{getD, length, replicate, set, length-set}
 use lib.Seq.{getD-set-same, getD-set-other}
 use Rattle.meaning.specs.Base.{all, any, countFrom}
 use Rattle.meaning.specs.Decide.{meet}
+use borrow.Author.Tests.{lt-leb, eq-eqb, ne-eqb}
 use lib.Bits.{bitOr}
 use Rattle.theory_sets.specs.Tests.{and-left, and-right, T→true, true→T}
 use Rattle.theory_sets.specs.Clashes.{meet-cases, meet-at}
@@ -55,18 +56,15 @@ module _ (rows sets lows highs flags : List ℕ) where
   clashesBy p = any (clashBy p) (countFrom 0 p)
 
 -- ---- two intervals
-not-below : (x y : ℕ) → y < x → false ≡ leb x y
-not-below x y l = both-true false (leb x y) (λ t. absurd t) (λ t. absurd (let h = leb→le x y t in omega arith))
-
 module _ (l h m i : ℕ) where
   pub apart-own : h < l → false ≡ leb (max l m) (min h i)
-  apart-own q = not-below (max l m) (min h i) (omega arith)
+  apart-own q = sym (lt-leb (max l m) (min h i) (omega arith))
 
   pub apart-above : i < l → false ≡ leb (max l m) (min h i)
-  apart-above q = not-below (max l m) (min h i) (omega arith)
+  apart-above q = sym (lt-leb (max l m) (min h i) (omega arith))
 
   pub apart-below : h < m → false ≡ leb (max l m) (min h i)
-  apart-below q = not-below (max l m) (min h i) (omega arith)
+  apart-below q = sym (lt-leb (max l m) (min h i) (omega arith))
 
   pub last-test : l ≤ h → l ≤ i → m ≤ h → leb m i ≡ leb (max l m) (min h i)
   last-test a b c = both-true (leb m i) (leb (max l m) (min h i)) (λ t. le→leb (max l m) (min h i) (let k = leb→le m i t in omega arith)) (λ t. le→leb m i (let k = leb→le (max l m) (min h i) t in omega arith))
@@ -91,14 +89,11 @@ module _ (rows sets lows highs flags : List ℕ) (p q : ℕ) where
 
   pub clash-other : (leftAt rows p ≡ leftAt rows q → ⊥) → false ≡ clashBy rows sets lows highs flags p q
   unfolding clashBy
-  clash-other n = sym (rw (eqb-no (leftAt rows p) (leftAt rows q) n) refl)
-    where
-      eqb-no : (x y : ℕ) → (x ≡ y → ⊥) → eqb x y ≡ false
-      eqb-no x y k = both-true (eqb x y) false (λ t. k (eqb→eq x y t)) (λ t. absurd t)
+  clash-other n = sym (rw (ne-eqb (leftAt rows p) (leftAt rows q) n) refl)
 
   module _ (e : leftAt rows p ≡ leftAt rows q) where
     left-same : eqb (leftAt rows p) (leftAt rows q) ≡ true
-    left-same = rw e (T→true (eqb (leftAt rows q) (leftAt rows q)) (eqb-refl (leftAt rows q)))
+    left-same = eq-eqb (leftAt rows p) (leftAt rows q) e
 
     pub clash-apart : met ≡ false → false ≡ clashBy rows sets lows highs flags p q
     unfolding clashBy
@@ -119,10 +114,7 @@ module _ (rows sets lows highs flags : List ℕ) (p q : ℕ) where
 
       pub clash-agree : (getD flags p 0 ≡ 0 → ⊥) → (getD flags q 0 ≡ 0 → ⊥) → agreeBy lows highs p q ≡ clashBy rows sets lows highs flags p q
       unfolding clashBy
-      clash-agree a b = sym (rw (left-same, m, eqb-not (getD flags p 0) a, eqb-not (getD flags q 0) b) refl)
-        where
-          eqb-not : (x : ℕ) → (x ≡ 0 → ⊥) → eqb x 0 ≡ false
-          eqb-not x k = both-true (eqb x 0) false (λ t. k (eqb→eq x 0 t)) (λ t. absurd t)
+      clash-agree a b = sym (rw (left-same, m, ne-eqb (getD flags p 0) 0 a, ne-eqb (getD flags q 0) 0 b) refl)
 
 -- ---- a production and those before it
 module _ (rows sets lows highs flags : List ℕ) where

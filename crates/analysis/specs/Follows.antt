@@ -16,10 +16,10 @@ use Rattle.meaning.specs.Sets.{has, singleton, endNumber}
 use Rattle.meaning.specs.Table.{symbolOf}
 use Rattle.theory_sets.specs.Tests.{and-right}
 use Rattle.token_set.specs.Words.{setOf, set-end}
-use Rattle.theory_sets.specs.TokenSets.{single-has, single-only}
+use Rattle.theory_sets.specs.TokenSets.{or-false, single-has, single-only}
 use Rattle.analysis.specs.Rows.{Image, leftAt, sizeAt, byteAt, rightAt, right-cons, right-back, right-end, symbol-terminal, symbol-nonterminal}
 use Rattle.analysis.specs.Views.{members, sees, Inside, fit, turn, opens}
-use Rattle.analysis.specs.Growth.{or-is, or-false, none-in}
+use Rattle.analysis.specs.Growth.{or-is, none-in}
 use Rattle.analysis.specs.Tables.{Words, Joined, zeros-none, zeros-words}
 use Rattle.analysis.specs.Passes.{Passed, passed-join}
 

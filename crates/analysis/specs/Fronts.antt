@@ -8,10 +8,11 @@ use lib.Dec.{T}
 use lib.ListN.{getD}
 use Rattle.meaning.specs.Grammar.{Symbol, terminal, nonterminal}
 use Rattle.meaning.specs.Sets.{has, singleton}
+use Rattle.theory_sets.specs.TokenSets.{or-false}
 use Rattle.token_set.specs.Words.{setOf}
 use Rattle.analysis.specs.Rows.{leftAt, rightAt}
 use Rattle.analysis.specs.Views.{members, sees, Inside, opens, opens-more, FrontAt}
-use Rattle.analysis.specs.Growth.{or-is, or-assoc, or-false, none-in}
+use Rattle.analysis.specs.Growth.{or-is, or-assoc, none-in}
 use Rattle.analysis.specs.Tables.{Joined}
 use Rattle.analysis.specs.Passes.{WithinAll, Passed, passed-join}
 

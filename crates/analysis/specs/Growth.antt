@@ -29,10 +29,6 @@ pub or-assoc : (a b c : Bool) → ((a || b) || c) ≡ (a || (b || c))
 or-assoc true b c = refl
 or-assoc false b c = refl
 
-pub or-false : (a : Bool) → (a || false) ≡ a
-or-false true = refl
-or-false false = refl
-
 pub none-in : (n : ℕ) → members 0 n ≡ false
 none-in n = rw set-empty (has-empty n)
 

@@ -16,3 +16,4 @@ pub mod Entries
 pub mod Clashing
 pub mod Finding
 pub mod Judged
+pub mod EntryImage

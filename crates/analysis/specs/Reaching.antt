@@ -9,11 +9,12 @@ use Rattle.meaning.specs.Base.{any}
 use Rattle.meaning.specs.Grammar.{Symbol, isNonterminal}
 use Rattle.meaning.specs.Sets.{singleton}
 use Rattle.meaning.specs.Table.{symbolOf}
+use Rattle.theory_sets.specs.TokenSets.{or-false}
 use Rattle.theory_sets.specs.Tests.{true→T}
 use Rattle.token_set.specs.Words.{setOf}
 use Rattle.analysis.specs.Rows.{leftAt, rightAt, symbol-terminal, symbol-nonterminal}
 use Rattle.analysis.specs.Views.{members, Within, ReachAt}
-use Rattle.analysis.specs.Growth.{Grown, grown-none, grown-or, or-is, or-assoc, or-false, none-in, single-is}
+use Rattle.analysis.specs.Growth.{Grown, grown-none, grown-or, or-is, or-assoc, none-in, single-is}
 
 pub token-set : (s n : ℕ) → s < 128 → members 0 n ≡ isNonterminal n (symbolOf s)
 token-set s n h = none-in n ∙ sym (ap (isNonterminal n) (symbol-terminal s h))

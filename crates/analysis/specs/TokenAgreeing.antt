@@ -16,12 +16,12 @@ use Rattle.theory_sets.specs.Productions.{known}
 use Rattle.theory_sets.specs.FirstSets.{first-closed}
 use Rattle.theory_sets.specs.AfterSets.{Source, byStart, byProduction, follow-closed}
 use Rattle.theory_sets.specs.LeastSets.{first-least, follow-least}
-use Rattle.theory_sets.specs.TokenSets.{has-union, has-empty}
+use Rattle.theory_sets.specs.TokenSets.{or-false, has-union, has-empty}
 use Rattle.theory_sets.specs.Widths.{both-true, same-set, starts-wide}
 use Rattle.token_set.specs.Words.{setOf, set-empty, setOf-wide}
 use Rattle.analysis.specs.Rows.{Rows, rightAt}
 use Rattle.analysis.specs.Views.{members, sees, fit, opens, FrontAt}
-use Rattle.analysis.specs.Growth.{or-false}
+
 use Rattle.analysis.specs.Tables.{zeros-none}
 use Rattle.analysis.specs.Passes.{WithinAll, SettledTable}
 use Rattle.analysis.specs.Follows.{FollowClosed, Followed}
