@@ -1,10 +1,11 @@
 -- Refusals 11 to 13 of a grammar as one finding, and the verdict that a table gets from it.
-use Prim.Native.Nat.{ℕ, _≤_, _<_}
+use Prim.Native.Nat.{ℕ, zero, suc, _≤_, _<_}
 use native.Mathlib.Omega.{arith}
-use mathlib.Core.Path.{_≡_, refl, sym, ap, ap₂}
-use mathlib.Core.Bool.{Bool, false, _&&_, not}
+use mathlib.Core.Path.{_≡_, refl, sym, ap, ap₂, _∙_}
+use mathlib.Core.Bool.{Bool, false, _&&_, not, true}
 use mathlib.Core.Option.{Option, none, some}
 use mathlib.Core.List.{List}
+use lib.Dec.{eqb}
 use lib.ListN.{getD, length}
 use Rattle.meaning.specs.Base.{countFrom}
 use Rattle.meaning.specs.Grammar.{Grammar, productionAt, nonterminal, nonterminalCount}
@@ -105,3 +106,17 @@ module _ (g : Grammar) (sets : List ℕ) where
 
       pub found-nothing : (p : ℕ) → Found (clashes g) (length (g .productions)) p → length (g .productions) ≤ p → ((q : ℕ) → Listed g q → setOf (getD sets q 0) ≡ starts g (productionAt g q)) → Analysed g 0 0 sets
       found-nothing p d l k = answer fine (rest none (found-not (clashes g) (length (g .productions)) p d l)) (λ _. k)
+
+-- the table's verdict by number and index
+abbrev pub verdictBy : State → ℕ → ℕ → Verdict
+verdictBy s zero i = accepted
+verdictBy s (suc n) i = rejected (suc n) (elim (eqb (suc n) 13) [ true ↦ entryOffset s i | false ↦ countsOffset s i ])
+
+pub judge-by : (s : State) (n i : ℕ) (sets : List ℕ) → Analysed (grammarOf s) n i sets → judge s ≡ verdictBy s n i
+judge-by s n i sets a = judge-is s ∙ go (finding (grammarOf s)) ∙ sym (ap₂ (verdictBy s) (a .number) (a .index))
+  where
+    go : (f : Finding) → verdictFrom s f ≡ verdictBy s (numberOf f) (indexOf f)
+    go fine = refl
+    go (useless m) = refl
+    go (recursive m) = refl
+    go (clashing p) = refl

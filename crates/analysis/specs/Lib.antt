@@ -17,3 +17,4 @@ pub mod Clashing
 pub mod Finding
 pub mod Judged
 pub mod EntryImage
+pub mod Cases

@@ -11,6 +11,7 @@ use Rattle.meaning.specs.Base.{all, any, countFrom}
 use Rattle.meaning.specs.Decide.{firstWhere}
 use Rattle.theory_sets.specs.Tests.{and-intro, and-left, and-right, or-left, or-right, or-cases}
 use Rattle.theory_sets.specs.Widths.{both-true}
+use Rattle.theory_sets.specs.Verdicts.{Result, searched}
 
 module _ (f : ℕ → Bool) where
   pub all-count : (k n : ℕ) → ((a : ℕ) → k ≤ a → a < k + n → T (f a)) → T (all f (countFrom k n))
@@ -87,35 +88,24 @@ found-same f h n r k d = record { upto = d .upto; passes = λ l. rw (← k r l) 
 
 -- what firstWhere answers
 module _ (f : ℕ → Bool) where
-  first-none : (k n : ℕ) → ((j : ℕ) → k ≤ j → j < k + n → T (f j) → ⊥) → firstWhere f (countFrom k n) ≡ none
-  first-none k zero h = refl
-  first-none k (suc n) h = go (f k) (λ t. h k (omega arith) (omega arith) t) (first-none (suc k) n (λ j l m. h j (omega arith) (omega arith)))
-    where
-      go : (b : Bool) → (T b → ⊥) → firstWhere f (countFrom (suc k) n) ≡ none → _≡_ {A = Option ℕ} (elim b [ true ↦ some k | false ↦ firstWhere f (countFrom (suc k) n) ]) none
-      go true z e = absurd (z tt)
-      go false z e = e
-
-  first-some : (k n r : ℕ) → k ≤ r → r < k + n → T (f r) → ((j : ℕ) → k ≤ j → j < r → T (f j) → ⊥) → firstWhere f (countFrom k n) ≡ some r
-  first-some k zero r l m t h = absurd (omega arith)
-  first-some k (suc n) r l m t h = go (ℕ-discrete k r) (λ q. first-some (suc k) n r q (omega arith) t (λ j a b. h j (omega arith) b))
-    where
-      at : (b : Bool) → T b → _≡_ {A = Option ℕ} (elim b [ true ↦ some k | false ↦ firstWhere f (countFrom (suc k) n) ]) (some k)
-      at true u = refl
-      at false u = absurd u
-
-      past : (b : Bool) → (T b → ⊥) → firstWhere f (countFrom (suc k) n) ≡ some r → _≡_ {A = Option ℕ} (elim b [ true ↦ some k | false ↦ firstWhere f (countFrom (suc k) n) ]) (some r)
-      past true z e = absurd (z tt)
-      past false z e = e
-
-      go : Dec (k ≡ r) → (suc k ≤ r → firstWhere f (countFrom (suc k) n) ≡ some r) → firstWhere f (countFrom k (suc n)) ≡ some r
-      go (yes e) j = at (f k) (rw e t) ∙ ap some e
-      go (no e) j = past (f k) (h k (omega arith) (omega arith)) (j (omega arith))
-
   pub found-some : (n r : ℕ) → Found f n r → r < n → firstWhere f (countFrom 0 n) ≡ some r
-  found-some n r d l = first-some 0 n r (omega arith) (omega arith) (d .passes l) (λ j _. d .before j)
+  found-some n r d l = go (firstWhere f (countFrom 0 n)) (searched f 0 n)
+    where
+      equal : (i : ℕ) → Result f 0 n (some i) → Dec (i < r) → Dec (r < i) → i ≡ r
+      equal i w (yes h) q = absurd (d .before i h (w .2))
+      equal i w (no h) (yes q) = absurd (w .3 r (omega arith) q (d .passes l))
+      equal i w (no h) (no q) = omega arith
+
+      go : (o : Option ℕ) → Result f 0 n o → o ≡ some r
+      go (some i) w = ap some (equal i w (decLt i r) (decLt r i))
+      go none w = absurd (w r (omega arith) (omega arith) (d .passes l))
 
   pub found-not : (n r : ℕ) → Found f n r → n ≤ r → firstWhere f (countFrom 0 n) ≡ none
-  found-not n r d l = first-none 0 n (λ j _ m. d .before j (omega arith))
+  found-not n r d l = go (firstWhere f (countFrom 0 n)) (searched f 0 n)
+    where
+      go : (o : Option ℕ) → Result f 0 n o → o ≡ none
+      go (some i) w = absurd (d .before i (omega (arith, w .1)) (w .2))
+      go none w = refl
 
 -- not both
 module _ (a b : Bool) where

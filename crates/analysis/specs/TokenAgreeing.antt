@@ -21,7 +21,6 @@ use Rattle.theory_sets.specs.Widths.{both-true, same-set, starts-wide}
 use Rattle.token_set.specs.Words.{setOf, set-empty, setOf-wide}
 use Rattle.analysis.specs.Rows.{Rows, rightAt}
 use Rattle.analysis.specs.Views.{members, sees, fit, opens, FrontAt}
-
 use Rattle.analysis.specs.Tables.{zeros-none}
 use Rattle.analysis.specs.Passes.{WithinAll, SettledTable}
 use Rattle.analysis.specs.Follows.{FollowClosed, Followed}

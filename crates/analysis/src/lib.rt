@@ -104,29 +104,29 @@ pub fn analyse(
     ensures { λ r. ⌜ ((g : Grammar) → Rows (now (rows .entry)) count g → Entries (now (lows .entry)) (now (highs .entry)) (now (flags .entry)) g
         → nonterminals ≡ nonterminalCount g → start ≡ g .start → Analysed g (r .number) (r .index) (r .sets)) ⌝ }
 {
-    let useless = useless(rows, count, nonterminals, start);
-    if useless < nonterminals {
+    let useless_at = useless(rows, count, nonterminals, start);
+    if useless_at < nonterminals {
         return Analysis {
             number: 11,
-            index: useless,
+            index: useless_at,
             sets: [0u64; 128],
         };
     }
     let null = closure(rows, count, false);
-    let recursive = left_recursive(rows, count, nonterminals, null);
-    if recursive < nonterminals {
+    let recursive_at = left_recursive(rows, count, nonterminals, null);
+    if recursive_at < nonterminals {
         return Analysis {
             number: 12,
-            index: recursive,
+            index: recursive_at,
             sets: [0u64; 128],
         };
     }
     let sets = starting(rows, count, start, null);
-    let clash = lowest_clash(rows, count, &sets, lows, highs, flags);
-    if clash < count {
+    let clash_at = lowest_clash(rows, count, &sets, lows, highs, flags);
+    if clash_at < count {
         return Analysis {
             number: 13,
-            index: clash,
+            index: clash_at,
             sets,
         };
     }
