@@ -13,7 +13,7 @@ use Rattle.meaning.specs.Derivation.{Listed}
 use Rattle.meaning.specs.Sets.{singleton, nullable, emptySymbol}
 use Rattle.meaning.specs.Decide.{productiveSymbol, productive, reachable}
 use Rattle.theory_base.specs.Members.{both, or-cases}
-use Rattle.theory_sets.specs.Productions.{known}
+use Rattle.theory_sets.specs.Productions.{known, symbols}
 use Rattle.theory_sets.specs.Nullable.{nullable-closed}
 use Rattle.theory_sets.specs.Productive.{productive-closed}
 use Rattle.theory_sets.specs.Reached.{reachable-start, reachable-closed}
@@ -92,7 +92,7 @@ module _ {rows : List ℕ} {count : ℕ} {g : Grammar} (r : Rows rows count g) w
       closed p l t n a =
           let q = listed p l in
           let b = rw (r .right p l) at a in
-          reachable-closed (r .sound) n p (known-in g n (productionAt g p .right) (r .sound .symbols p q) b) q (rw (r .left p l) at t) b
+          reachable-closed (r .sound) n p (known-in g n (productionAt g p .right) (symbols (r .sound) p q) b) q (rw (r .left p l) at t) b
 
       to : (n : ℕ) → T (members w n) → T (getD (reachable g) n false)
       to = st .least (λ n. getD (reachable g) n false) (record { at = λ p _. closed p }) (λ n t. rw (single-only (g .start) n (rw one at t)) (reachable-start (r .sound)))

@@ -120,7 +120,7 @@ module _ (rows sets lows highs flags : List ℕ) (p q : ℕ) where
 module _ (rows sets lows highs flags : List ℕ) where
   pub clashes-one : (p q : ℕ) → q < p → clashBy rows sets lows highs flags p q ≡ true → T (clashesBy rows sets lows highs flags p)
   unfolding clashesBy
-  clashes-one p q l e = any-count (clashBy rows sets lows highs flags p) 0 p q (omega arith) (omega arith) (true→T e)
+  clashes-one p q l e = any-count (clashBy rows sets lows highs flags p) 0 p q (omega arith) (omega arith) (true→T _ e)
 
   pub clashes-none : (p : ℕ) → Clear (clashBy rows sets lows highs flags p) p → T (clashesBy rows sets lows highs flags p) → ⊥
   unfolding clashesBy

@@ -8,7 +8,7 @@ use mathlib.Core.Bool.{Bool, true, false, _&&_, _||_, not}
 use mathlib.Core.List.{List, [], _∷_, _++_}
 use lib.Dec.{T, eqb, leb, eqb→eq, eqb-refl, leb→le, le→leb, T-not, not-T}
 use lib.IntN.{ℤ, pos, negsuc}
-use lib.ListN.{getD}
+use lib.ListN.{getD, length}
 use lib.Signed.{leZ}
 use Rattle.meaning.specs.Base.{all, countFrom, isEmpty}
 use Rattle.meaning.specs.Grammar.{Condition, range, atmost, Grammar, productionAt, nonterminal, inh}
@@ -16,12 +16,17 @@ use Rattle.meaning.specs.Value.{inRange, lowest, highest}
 use Rattle.meaning.specs.Scheme.{entryTests}
 use Rattle.meaning.specs.Derivation.{Listed}
 use Rattle.meaning.specs.Decide.{compatible, satisfiable}
-use Rattle.theory_base.specs.Members.{all-intro, and, both, or-cases, or-left, or-right}
+use Rattle.theory_base.specs.Members.{and, both, or-cases, or-left, or-right}
 use Rattle.theory_sets.specs.Tests.{decide, all-at, all-map, all-map₂}
 use Rattle.theory_sets.specs.Intervals.{onRange, entry, entered}
-use Rattle.theory_sets.specs.Clashes.{Ranged}
+use Rattle.meaning.specs.Rules.{WellFormed}
 use Rattle.theory_sets.specs.Widths.{both-true}
 use Rattle.analysis.specs.Numbers.{all-count, count-all}
+
+-- a test that passes at each place passes of all
+all-intro : {A : Type 0} (f : A → Bool) (xs : List A) (d : A) → ((i : ℕ) → i < length xs → T (f (getD xs i d))) → T (all f xs)
+all-intro f [] d k = tt
+all-intro f (x ∷ xs) d k = and (f x) (all f xs) (k 0 (omega arith)) (all-intro f xs d (λ i l. k (suc i) (omega arith)))
 
 -- a value of 32 bits as a word
 unfoldable pub biased : ℤ → ℕ
@@ -41,7 +46,7 @@ highEnd a (atmost b c ∷ cs) = highEnd a cs
 
 -- what the code finds in its tables: attribute a at 8 p + a - 1, and 0 for a production without entry conditions
 pub record Entries (lows highs flags : List ℕ) (g : Grammar) : Type 0 where
-  pub ranged : Ranged g
+  pub ranged : WellFormed g
   pub narrow : (p : ℕ) → Listed g p → inh g (nonterminal (productionAt g p .left)) ≤ 8
   pub low : (p a : ℕ) → Listed g p → a < 8 → getD lows (p * 8 + a) 0 ≡ lowEnd (suc a) (entryTests g (productionAt g p))
   pub high : (p a : ℕ) → Listed g p → a < 8 → getD highs (p * 8 + a) 0 ≡ highEnd (suc a) (entryTests g (productionAt g p))
@@ -164,8 +169,8 @@ module _ (k : ℕ) (cs : List (Condition ℕ)) (fits : T (all (entry k) cs)) whe
       at q =
           let same : b ≡ d = sym (eqb→eq a b e) ∙ eqb→eq a d q in
           let w : T (eqb b d) = rw same (eqb-refl d) in
-          let both = on-same b d (leZ m h && leZ l i) w t in
-          le→leb (biased l) (biased i) (biased-le l i (entered k d l h f .low) v (both (leZ m h) (leZ l i) both .1))
+          let meets = on-same b d (leZ m h && leZ l i) w t in
+          le→leb (biased l) (biased i) (biased-le l i (entered k d l h f .low) v (both (leZ m h) (leZ l i) meets .1))
   bounds a b m i e v (atmost d c) f t = tt
 
   met : (a : ℕ) → T (satisfiable cs) → lowEnd a cs ≤ highEnd a cs

@@ -78,7 +78,7 @@ module _ (gone : ℕ → Bool) (t rows : List ℕ) where
     recursive-here x l one e =
         record {
           into = λ b. rw one (single-has (leftAt rows k) (omega arith));
-          outof = λ n h. let q = single-only (leftAt rows k) n (rw one at h) in (sym q, rw (q, ← front-is (leftAt rows k)) (true→T e));
+          outof = λ n h. let q = single-only (leftAt rows k) n (rw one at h) in (sym q, rw (q, ← front-is (leftAt rows k)) (true→T _ e));
         }
 
   pub recursive-start : RecursiveTo gone t rows 0 0

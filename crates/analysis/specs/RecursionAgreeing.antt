@@ -15,7 +15,7 @@ use Rattle.meaning.specs.Decide.{leads, leadsTo, leadsOn, isLeftRecursive}
 use Rattle.theory_base.specs.Members.{and, both, or-cases, or-left, or-right}
 use Rattle.theory_sets.specs.Derivations.{Yields, nothing, same, expand, derives→yields}
 use Rattle.theory_sets.specs.Tests.{tabled-cases, tabled-at}
-use Rattle.theory_sets.specs.Productions.{known, Chosen, of-cases, of-at}
+use Rattle.theory_sets.specs.Productions.{known, Chosen, of-cases, of-at, symbols}
 use Rattle.theory_sets.specs.Nullable.{nullable-closed, yields→emptyString}
 use Rattle.theory_sets.specs.Spread.{spread-grows, spread-closed}
 use Rattle.theory_sets.specs.LeftRecursion.{recursive→LeftRecursive}
@@ -55,12 +55,12 @@ module _ {rows : List ℕ} {count : ℕ} {g : Grammar} (r : Rows rows count g) (
   -- where a production of n leads, and on from there
   led-start : (p m : ℕ) → Listed g p → T (leads (nullable g) m (productionAt g p .right)) → T (getD (led (productionAt g p .left)) m false)
   led-start p m l t =
-      let k = known-lead g (nullable g) m (productionAt g p .right) (r .sound .symbols p l) t in
+      let k = known-lead g (nullable g) m (productionAt g p .right) (symbols (r .sound) p l) t in
       spread-grows (r .sound) (leads (nullable g)) (nonterminalCount g) (leadsTo g (productionAt g p .left)) m k
       (tabled-at (λ q. any (λ x. leads (nullable g) q (x .right)) (productionsOf g (productionAt g p .left))) (nonterminalCount g) m k (of-at (r .sound) (λ x. leads (nullable g) m (x .right)) p l t))
 
   led-next : (n m p : ℕ) → Listed g p → T (getD (led n) (productionAt g p .left) false) → T (leads (nullable g) m (productionAt g p .right)) → T (getD (led n) m false)
-  led-next n m p l h t = spread-closed (r .sound) (leads (nullable g)) (leadsTo g n) m p (known-lead g (nullable g) m (productionAt g p .right) (r .sound .symbols p l) t) l h t
+  led-next n m p l h t = spread-closed (r .sound) (leads (nullable g)) (leadsTo g n) m p (known-lead g (nullable g) m (productionAt g p .right) (symbols (r .sound) p l) t) l h t
 
   led-trans : (a m n : ℕ) → T (getD (led a) m false) → T (getD (led m) n false) → T (getD (led a) n false)
   led-trans a m n h = led-least (r .sound) m (led a) start (λ k p l. led-next a k p l) n
@@ -123,7 +123,7 @@ module _ {rows : List ℕ} {count : ℕ} {g : Grammar} (r : Rows rows count g) (
             (j a e (both (known g (nonterminal (productionAt g p .left))) (all (known g) xs) k .1)))
         go (z ∷ zs) e d i j =
             let c = counted r p l in
-            let b = i zs (cc (head-eq-of-cons-eq e)) (r .sound .symbols p l) in
+            let b = i zs (cc (head-eq-of-cons-eq e)) (symbols (r .sound) p l) in
             or-left (sees (st .fronts) m (productionAt g p .left)) (members null (productionAt g p .left) && opens false (members null) (sees (st .fronts) m) m false xs)
             (rw (r .left p c) at (st .settled .closed m .at p zero-le c (rw (r .right p c) b)))
 
@@ -134,7 +134,7 @@ module _ {rows : List ℕ} {count : ℕ} {g : Grammar} (r : Rows rows count g) (
         go q =
             let c = counted r (q .0) (q .2) in
             let e : leftAt rows (q .0) ≡ n = r .left (q .0) c ∙ q .3 in
-            let b = yields-front n (derives→yields (q .4)) (q .1) refl (r .sound .symbols (q .0) (q .2)) in
+            let b = yields-front n (derives→yields (q .4)) (q .1) refl (symbols (r .sound) (q .0) (q .2)) in
             rw e at (st .found .into (q .0) c (rw (e, r .right (q .0) c) b))
 
     pub recursive-is : (n : ℕ) → members w n ≡ isLeftRecursive g n

@@ -13,7 +13,7 @@ use Rattle.meaning.specs.Derivation.{Listed}
 use Rattle.meaning.specs.Sets.{TokenSet, endNumber, emptySet, has, singleton, onlyIf, nullable, emptySymbol, emptyString, firstString, first, follow, starts}
 use Rattle.theory_base.specs.Members.{both}
 use Rattle.theory_sets.specs.Tests.{all-right}
-use Rattle.theory_sets.specs.Productions.{known}
+use Rattle.theory_sets.specs.Productions.{known, symbols}
 use Rattle.theory_sets.specs.FirstSets.{first-closed}
 use Rattle.theory_sets.specs.AfterSets.{Source, byStart, byProduction, follow-closed}
 use Rattle.theory_sets.specs.LeastSets.{first-least, follow-least}
@@ -105,7 +105,7 @@ module _ {rows : List ℕ} {count : ℕ} {g : Grammar} (r : Rows rows count g) (
         add : (u p j n : ℕ) (rest : List Symbol) → p < count → drop j (rightAt rows p) ≡ nonterminal n ∷ rest → T (has (firstString (nullable g) (first g) rest) u) ⊎ (T (emptyString (nullable g) rest) × T (has (getD (follow g) (productionAt g p .left) emptySet) u)) → T (has (getD (follow g) n emptySet) u)
         add u p j n rest l e k =
             let d : drop j (productionAt g p .right) ≡ nonterminal n ∷ rest = rw (r .right p l) at e in
-            follow-closed (r .sound) u n (known-head g n j (productionAt g p .right) rest (r .sound .symbols p (listed r p l)) d)
+            follow-closed (r .sound) u n (known-head g n j (productionAt g p .right) rest (symbols (r .sound) p (listed r p l)) d)
             (byProduction p (listed r p l) (record { before = take j (productionAt g p .right); rest = rest; whole = sym (take-append-drop j (productionAt g p .right)) ∙ ap (λ (xs : List Symbol). take j (productionAt g p .right) ++ xs) d; token = k }))
 
         closed : (u : ℕ) → FollowClosed (members null) f rows count u (λ n. has (getD (follow g) n emptySet) u)

@@ -86,7 +86,7 @@ loop-less c = omega arith
 loop-again : tie.Need-loop-again Inv-loop μ-loop
 loop-again c =
     let lp = c .before .before .before .before .before .before in
-    (omega arith, below-more _ _ (lp .before .loop .inv .1) (true→T (sym (c .before .overlap .ensures) ∙ not-false _ (c .if1 .left))))
+    (omega arith, below-more _ _ (lp .before .loop .inv .1) (true→T _ (sym (c .before .overlap .ensures) ∙ not-false _ (c .if1 .left))))
 
 returns-2 : tie.Need-returns-2 Inv-loop μ-loop
 returns-2 c =

@@ -26,7 +26,7 @@ has-requires c κs = search needs
 returns : tie.Need-returns Inv-loop μ-loop
 returns c =
     let lp = c .before .before in
-    found-here _ _ _ (lp .loop-test .taken) (lp .before .loop .inv .1) (true→T (sym (c .before .has .ensures) ∙ c .if1 .taken))
+    found-here _ _ _ (lp .loop-test .taken) (lp .before .loop .inv .1) (true→T _ (sym (c .before .has .ensures) ∙ c .if1 .taken))
 
 add-i : tie.Need-add-i Inv-loop μ-loop
 add-i c = omega arith
