@@ -12,8 +12,8 @@ use Rattle.meaning.specs.Grammar.{Symbol, terminal, nonterminal, Grammar, produ
 use Rattle.meaning.specs.Derivation.{Listed}
 use Rattle.meaning.specs.Sets.{singleton, nullable, emptySymbol}
 use Rattle.meaning.specs.Decide.{productiveSymbol, productive, reachable}
-use Rattle.theory_sets.specs.Tests.{and-left, and-right, or-cases}
-use Rattle.theory_sets.specs.Productions.{known}
+use Rattle.theory_base.specs.Members.{both, or-cases}
+use Rattle.theory_sets.specs.Productions.{known, symbols}
 use Rattle.theory_sets.specs.Nullable.{nullable-closed}
 use Rattle.theory_sets.specs.Productive.{productive-closed}
 use Rattle.theory_sets.specs.Reached.{reachable-start, reachable-closed}
@@ -44,7 +44,7 @@ all-same f h k (x ∷ xs) = rw (k x, all-same f h k xs)
 -- a nonterminal that stands in a string of known symbols is known
 pub known-in : (g : Grammar) (n : ℕ) (xs : List Symbol) → T (all (known g) xs) → T (any (isNonterminal n) xs) → n < nonterminalCount g
 known-in g n [] k t = absurd t
-known-in g n (x ∷ xs) k t = go x (and-left (known g x) (all (known g) xs) k) (or-cases (isNonterminal n x) (any (isNonterminal n) xs) t) (known-in g n xs (and-right (known g x) (all (known g) xs) k))
+known-in g n (x ∷ xs) k t = go x (both (known g x) (all (known g) xs) k .0) (or-cases (isNonterminal n x) (any (isNonterminal n) xs) t) (known-in g n xs (both (known g x) (all (known g) xs) k .1))
   where
     go : (y : Symbol) → T (known g y) → T (isNonterminal n y) ⊎ T (any (isNonterminal n) xs) → (T (any (isNonterminal n) xs) → n < nonterminalCount g) → n < nonterminalCount g
     go (terminal s) q (inl h) j = absurd h
@@ -92,7 +92,7 @@ module _ {rows : List ℕ} {count : ℕ} {g : Grammar} (r : Rows rows count g) w
       closed p l t n a =
           let q = listed p l in
           let b = rw (r .right p l) at a in
-          reachable-closed (r .sound) n p (known-in g n (productionAt g p .right) (r .sound .symbols p q) b) q (rw (r .left p l) at t) b
+          reachable-closed (r .sound) n p (known-in g n (productionAt g p .right) (symbols (r .sound) p q) b) q (rw (r .left p l) at t) b
 
       to : (n : ℕ) → T (members w n) → T (getD (reachable g) n false)
       to = st .least (λ n. getD (reachable g) n false) (record { at = λ p _. closed p }) (λ n t. rw (single-only (g .start) n (rw one at t)) (reachable-start (r .sound)))

@@ -12,7 +12,7 @@ use Rattle.meaning.specs.Base.{all, any, countFrom}
 use Rattle.meaning.specs.Decide.{meet}
 use borrow.Author.Tests.{lt-leb, eq-eqb, ne-eqb}
 use lib.Bits.{bitOr}
-use Rattle.theory_sets.specs.Tests.{and-left, and-right, T→true, true→T}
+use Rattle.theory_base.specs.Members.{T→true, both, true→T}
 use Rattle.theory_sets.specs.Clashes.{meet-cases, meet-at}
 use Rattle.theory_sets.specs.Widths.{both-true}
 use Rattle.token_set.specs.Words.{setOf}
@@ -108,7 +108,7 @@ module _ (rows sets lows highs flags : List ℕ) (p q : ℕ) where
 module _ (rows sets lows highs flags : List ℕ) where
   pub clashes-one : (p q : ℕ) → q < p → clashBy rows sets lows highs flags p q ≡ true → T (clashesBy rows sets lows highs flags p)
   unfolding clashesBy
-  clashes-one p q l e = any-count (clashBy rows sets lows highs flags p) 0 p q (omega arith) (omega arith) (true→T e)
+  clashes-one p q l e = any-count (clashBy rows sets lows highs flags p) 0 p q (omega arith) (omega arith) (true→T _ e)
 
   pub clashes-none : (p : ℕ) → Clear (clashBy rows sets lows highs flags p) p → T (clashesBy rows sets lows highs flags p) → ⊥
   unfolding clashesBy
@@ -141,11 +141,11 @@ module _ (rows sets : List ℕ) where
   -- before the place to begin there is no clash
   pub rivals-clear : (lows highs flags : List ℕ) (k r : ℕ) (seen : List ℕ) → Seen rows sets k seen → Rivals (getD seen (leftAt rows k) 0) (getD sets k 0) k r → Clear (clashBy rows sets lows highs flags k) r
   unfolding clashBy
-  rivals-clear lows highs flags k r seen s v = record { clear = λ j l t. away j l (and-left (eqb (leftAt rows k) (leftAt rows j) && meet (setOf (getD sets k 0)) (setOf (getD sets j 0))) (eqb (getD flags k 0) 0 || eqb (getD flags j 0) 0 || agreeBy lows highs k j) t) }
+  rivals-clear lows highs flags k r seen s v = record { clear = λ j l t. away j l (both (eqb (leftAt rows k) (leftAt rows j) && meet (setOf (getD sets k 0)) (setOf (getD sets j 0))) (eqb (getD flags k 0) 0 || eqb (getD flags j 0) 0 || agreeBy lows highs k j) t .0) }
     where
       away : (j : ℕ) → j < r → T (eqb (leftAt rows k) (leftAt rows j) && meet (setOf (getD sets k 0)) (setOf (getD sets j 0))) → ⊥
       away j l t =
-          let e = eqb→eq (leftAt rows k) (leftAt rows j) (and-left (eqb (leftAt rows k) (leftAt rows j)) (meet (setOf (getD sets k 0)) (setOf (getD sets j 0))) t) in
-          let w = meet-cases (setOf (getD sets k 0)) (setOf (getD sets j 0)) (and-right (eqb (leftAt rows k) (leftAt rows j)) (meet (setOf (getD sets k 0)) (setOf (getD sets j 0))) t) in
+          let e = eqb→eq (leftAt rows k) (leftAt rows j) (both (eqb (leftAt rows k) (leftAt rows j)) (meet (setOf (getD sets k 0)) (setOf (getD sets j 0))) t .0) in
+          let w = meet-cases (setOf (getD sets k 0)) (setOf (getD sets j 0)) (both (eqb (leftAt rows k) (leftAt rows j)) (meet (setOf (getD sets k 0)) (setOf (getD sets j 0))) t .1) in
           let h : T (sees seen (w .0) (leftAt rows k)) = subst (λ (n : ℕ). T (sees seen (w .0) n)) (sym e) (s .has j (omega (arith, v .upto)) (w .0) (w .2)) in
           rw (v .apart (omega arith)) at (meet-at (setOf (getD seen (leftAt rows k) 0)) (setOf (getD sets k 0)) (w .0) h (w .1))

@@ -7,7 +7,8 @@ use mathlib.Core.List.{List}
 use lib.Bits.{bitOr}
 use Rattle.meaning.specs.Base.{all}
 use Rattle.meaning.specs.Sets.{singleton}
-use Rattle.theory_sets.specs.Tests.{true→T, all-map}
+use Rattle.theory_base.specs.Members.{true→T}
+use Rattle.theory_sets.specs.Tests.{all-map}
 use Rattle.theory_sets.specs.TokenSets.{single-has, single-only}
 use Rattle.token_set.specs.Words.{setOf}
 use Rattle.analysis.specs.Rows.{Image, leftAt, rightAt}
@@ -19,7 +20,7 @@ module _ (b : Bool) {rows : List ℕ} {count : ℕ} (image : Image rows count) (
   Closes r = Grown (Within (ClosedAt b rows) 0 count) (ClosedAt b rows k) s r
 
   pub closes-in : members s (leftAt rows k) ≡ true → Closes s
-  closes-in e = grown-none s (λ _. true→T e)
+  closes-in e = grown-none s (λ _. true→T _ e)
 
   pub closes-not : all (fit b (members s)) (rightAt rows k) ≡ false → Closes s
   closes-not e = grown-none s (λ t. absurd (rw e at t))
@@ -28,4 +29,4 @@ module _ (b : Bool) {rows : List ℕ} {count : ℕ} (image : Image rows count) (
   closes-new x e one = grown-or s x fine (λ sub t. sub (leftAt rows k) (rw one (single-has (leftAt rows k) (omega (arith, image .lefts k lt)))))
     where
       fine : (see : ℕ → Bool) → Within (ClosedAt b rows) 0 count see → Inside (members s) see → Inside (members x) see
-      fine see c i n t = rw (single-only (leftAt rows k) n (rw one at t)) (c .at k zero-le lt (all-map (fit b (members s)) (fit b see) (fit-more b (members s) see i) (rightAt rows k) (true→T e)))
+      fine see c i n t = rw (single-only (leftAt rows k) n (rw one at t)) (c .at k zero-le lt (all-map (fit b (members s)) (fit b see) (fit-more b (members s) see i) (rightAt rows k) (true→T _ e)))

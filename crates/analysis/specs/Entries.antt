@@ -8,7 +8,7 @@ use mathlib.Core.Bool.{Bool, true, false, _&&_, _||_, not}
 use mathlib.Core.List.{List, [], _∷_, _++_}
 use lib.Dec.{T, eqb, leb, eqb→eq, eqb-refl, leb→le, le→leb, T-not, not-T}
 use lib.IntN.{ℤ, pos, negsuc}
-use lib.ListN.{getD}
+use lib.ListN.{getD, length}
 use lib.Signed.{leZ}
 use Rattle.meaning.specs.Base.{all, countFrom, isEmpty}
 use Rattle.meaning.specs.Grammar.{Condition, range, atmost, Grammar, productionAt, nonterminal, inh}
@@ -16,11 +16,17 @@ use Rattle.meaning.specs.Value.{inRange, lowest, highest}
 use Rattle.meaning.specs.Scheme.{entryTests}
 use Rattle.meaning.specs.Derivation.{Listed}
 use Rattle.meaning.specs.Decide.{compatible, satisfiable}
-use Rattle.theory_sets.specs.Tests.{and-intro, and-left, and-right, or-left, or-right, or-cases, decide, all-at, all-intro, all-map, all-map₂}
+use Rattle.theory_base.specs.Members.{and, both, or-cases, or-left, or-right}
+use Rattle.theory_sets.specs.Tests.{decide, all-at, all-map, all-map₂}
 use Rattle.theory_sets.specs.Intervals.{onRange, entry, entered}
-use Rattle.theory_sets.specs.Clashes.{Ranged}
+use Rattle.meaning.specs.Rules.{WellFormed}
 use Rattle.theory_sets.specs.Widths.{both-true}
 use Rattle.analysis.specs.Numbers.{all-count, count-all}
+
+-- a test that passes at each place passes of all
+all-intro : {A : Type 0} (f : A → Bool) (xs : List A) (d : A) → ((i : ℕ) → i < length xs → T (f (getD xs i d))) → T (all f xs)
+all-intro f [] d k = tt
+all-intro f (x ∷ xs) d k = and (f x) (all f xs) (k 0 (omega arith)) (all-intro f xs d (λ i l. k (suc i) (omega arith)))
 
 -- a value of 32 bits as a word
 unfoldable pub biased : ℤ → ℕ
@@ -40,7 +46,7 @@ highEnd a (atmost b c ∷ cs) = highEnd a cs
 
 -- what the code finds in its tables: attribute a at 8 p + a - 1, and 0 for a production without entry conditions
 pub record Entries (lows highs flags : List ℕ) (g : Grammar) : Type 0 where
-  pub ranged : Ranged g
+  pub ranged : WellFormed g
   pub narrow : (p : ℕ) → Listed g p → inh g (nonterminal (productionAt g p .left)) ≤ 8
   pub low : (p a : ℕ) → Listed g p → a < 8 → getD lows (p * 8 + a) 0 ≡ lowEnd (suc a) (entryTests g (productionAt g p))
   pub high : (p a : ℕ) → Listed g p → a < 8 → getD highs (p * 8 + a) 0 ≡ highEnd (suc a) (entryTests g (productionAt g p))
@@ -59,11 +65,11 @@ unfolding biased
 le-biased (pos a) (pos b) i j h = le→leb a b (omega arith)
 le-biased (pos a) (negsuc b) i j h = absurd (omega arith)
 le-biased (negsuc a) (pos b) i j h = tt
-le-biased (negsuc a) (negsuc b) i j h = le→leb b a (let m = leb→le a 2147483647 (and-left (leZ lowest (negsuc a)) (leZ (negsuc a) highest) i) in let n = leb→le b 2147483647 (and-left (leZ lowest (negsuc b)) (leZ (negsuc b) highest) j) in omega arith)
+le-biased (negsuc a) (negsuc b) i j h = le→leb b a (let m = leb→le a 2147483647 (both (leZ lowest (negsuc a)) (leZ (negsuc a) highest) i .0) in let n = leb→le b 2147483647 (both (leZ lowest (negsuc b)) (leZ (negsuc b) highest) j .0) in omega arith)
 
 pub biased-word : (a : ℤ) → T (inRange a) → biased a ≤ 4294967295
 unfolding biased
-biased-word (pos a) i = let m = leb→le a 2147483647 (and-right (leZ lowest (pos a)) (leZ (pos a) highest) i) in omega arith
+biased-word (pos a) i = let m = leb→le a 2147483647 (both (leZ lowest (pos a)) (leZ (pos a) highest) i .1) in omega arith
 biased-word (negsuc a) i = omega arith
 
 -- ---- conditions one after another
@@ -102,7 +108,7 @@ module _ (a : ℕ) where
   low-most : (m : ℕ) (cs : List (Condition ℕ)) → T (all (onRange a (λ l h. leb (biased l) m)) cs) → lowEnd a cs ≤ m
   unfolding lowEnd
   low-most m [] t = omega arith
-  low-most m (range b l h ∷ cs) t = go (eqb a b) (and-left (not (eqb a b) || leb (biased l) m) (all (onRange a (λ x y. leb (biased x) m)) cs) t) (low-most m cs (and-right (not (eqb a b) || leb (biased l) m) (all (onRange a (λ x y. leb (biased x) m)) cs) t))
+  low-most m (range b l h ∷ cs) t = go (eqb a b) (both (not (eqb a b) || leb (biased l) m) (all (onRange a (λ x y. leb (biased x) m)) cs) t .0) (low-most m cs (both (not (eqb a b) || leb (biased l) m) (all (onRange a (λ x y. leb (biased x) m)) cs) t .1))
     where
       go : (e : Bool) → T (not e || leb (biased l) m) → lowEnd a cs ≤ m → (elim e [ true ↦ max (biased l) (lowEnd a cs) | false ↦ lowEnd a cs ]) ≤ m
       go true u q = let v = leb→le (biased l) m u in omega arith
@@ -115,14 +121,14 @@ module _ (a : ℕ) where
   low-each m (range b l h ∷ cs) q = go (eqb a b) q (low-each m cs)
     where
       go : (e : Bool) → (elim e [ true ↦ max (biased l) (lowEnd a cs) | false ↦ lowEnd a cs ]) ≤ m → (lowEnd a cs ≤ m → T (all (onRange a (λ x y. leb (biased x) m)) cs)) → T ((not e || leb (biased l) m) && all (onRange a (λ x y. leb (biased x) m)) cs)
-      go true q k = and-intro (leb (biased l) m) (all (onRange a (λ x y. leb (biased x) m)) cs) (le→leb (biased l) m (omega arith)) (k (omega arith))
+      go true q k = and (leb (biased l) m) (all (onRange a (λ x y. leb (biased x) m)) cs) (le→leb (biased l) m (omega arith)) (k (omega arith))
       go false q k = k q
   low-each m (atmost b c ∷ cs) q = low-each m cs q
 
   high-least : (m : ℕ) → m ≤ 4294967295 → (cs : List (Condition ℕ)) → T (all (onRange a (λ l h. leb m (biased h))) cs) → m ≤ highEnd a cs
   unfolding highEnd
   high-least m w [] t = w
-  high-least m w (range b l h ∷ cs) t = go (eqb a b) (and-left (not (eqb a b) || leb m (biased h)) (all (onRange a (λ x y. leb m (biased y))) cs) t) (high-least m w cs (and-right (not (eqb a b) || leb m (biased h)) (all (onRange a (λ x y. leb m (biased y))) cs) t))
+  high-least m w (range b l h ∷ cs) t = go (eqb a b) (both (not (eqb a b) || leb m (biased h)) (all (onRange a (λ x y. leb m (biased y))) cs) t .0) (high-least m w cs (both (not (eqb a b) || leb m (biased h)) (all (onRange a (λ x y. leb m (biased y))) cs) t .1))
     where
       go : (e : Bool) → T (not e || leb m (biased h)) → m ≤ highEnd a cs → m ≤ (elim e [ true ↦ min (biased h) (highEnd a cs) | false ↦ highEnd a cs ])
       go true u q = let v = leb→le m (biased h) u in omega arith
@@ -135,7 +141,7 @@ module _ (a : ℕ) where
   high-each m (range b l h ∷ cs) q = go (eqb a b) q (high-each m cs)
     where
       go : (e : Bool) → m ≤ (elim e [ true ↦ min (biased h) (highEnd a cs) | false ↦ highEnd a cs ]) → (m ≤ highEnd a cs → T (all (onRange a (λ x y. leb m (biased y))) cs)) → T ((not e || leb m (biased h)) && all (onRange a (λ x y. leb m (biased y))) cs)
-      go true q k = and-intro (leb m (biased h)) (all (onRange a (λ x y. leb m (biased y))) cs) (le→leb m (biased h) (omega arith)) (k (omega arith))
+      go true q k = and (leb m (biased h)) (all (onRange a (λ x y. leb m (biased y))) cs) (le→leb m (biased h) (omega arith)) (k (omega arith))
       go false q k = k q
   high-each m (atmost b c ∷ cs) q = high-each m cs q
 
@@ -163,8 +169,8 @@ module _ (k : ℕ) (cs : List (Condition ℕ)) (fits : T (all (entry k) cs)) whe
       at q =
           let same : b ≡ d = sym (eqb→eq a b e) ∙ eqb→eq a d q in
           let w : T (eqb b d) = rw same (eqb-refl d) in
-          let both = on-same b d (leZ m h && leZ l i) w t in
-          le→leb (biased l) (biased i) (biased-le l i (entered k d l h f .low) v (and-right (leZ m h) (leZ l i) both))
+          let meets = on-same b d (leZ m h && leZ l i) w t in
+          le→leb (biased l) (biased i) (biased-le l i (entered k d l h f .low) v (both (leZ m h) (leZ l i) meets .1))
   bounds a b m i e v (atmost d c) f t = tt
 
   met : (a : ℕ) → T (satisfiable cs) → lowEnd a cs ≤ highEnd a cs
@@ -203,7 +209,7 @@ module _ (k : ℕ) (cs : List (Condition ℕ)) (fits : T (all (entry k) cs)) whe
             let v = entered k b m i f in
             let dl′ : T (onRange a (λ x y. leb (biased x) (lowEnd a cs)) (range a m m)) = rw same (dl b) in
             let dh′ : T (onRange a (λ x y. leb (highEnd a cs) (biased y)) (range a i i)) = rw same (dh b) in
-            and-intro (leZ l i) (leZ m h) (below a l i (u .from) (u .upto) (u .low) (v .high) (cl a) dh′) (below a m h (u .from) (u .upto) (v .low) (u .high) dl′ (ch a))
+            and (leZ l i) (leZ m h) (below a l i (u .from) (u .upto) (u .low) (v .high) (cl a) dh′) (below a m h (u .from) (u .upto) (v .low) (u .high) dl′ (ch a))
     pair (range a l h) (atmost b c) e f cl ch dl dh = tt
     pair (atmost a b) d e f cl ch dl dh = tt
 

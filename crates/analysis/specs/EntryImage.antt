@@ -12,7 +12,7 @@ use Rattle.meaning.specs.Base.{any, keep, consIf, isEmpty}
 use Rattle.meaning.specs.Grammar.{Occurrence, Condition, range, atmost, Production, Grammar, conditionPosition}
 use Rattle.meaning.specs.Scheme.{mapCondition, selectAfter, entryTests}
 use Rattle.meaning.specs.Table.{signed}
-use Rattle.theory_sets.specs.ReadFits.{select-0}
+use Rattle.theory_sets.specs.EntryRanges.{select-0}
 use Rattle.analysis.specs.Entries.{biased, lowEnd, highEnd, high-word}
 
 -- a four-byte constant, with its highest bit turned over

@@ -14,8 +14,8 @@ use Rattle.meaning.specs.Base.{all}
 use Rattle.meaning.specs.Grammar.{Symbol, terminal, nonterminal}
 use Rattle.meaning.specs.Sets.{has, singleton, endNumber}
 use Rattle.meaning.specs.Table.{symbolOf}
-use Rattle.theory_sets.specs.Tests.{and-right}
 use Rattle.token_set.specs.Words.{setOf, set-end}
+use Rattle.theory_base.specs.Members.{both}
 use Rattle.theory_sets.specs.TokenSets.{or-false, single-has, single-only}
 use Rattle.analysis.specs.Rows.{Image, leftAt, sizeAt, byteAt, rightAt, right-cons, right-back, right-end, symbol-terminal, symbol-nonterminal}
 use Rattle.analysis.specs.Views.{members, sees, Inside, fit, turn, opens}
@@ -151,7 +151,7 @@ pub record Tail (gone : ℕ → Bool) (rows : List ℕ) (k r : ℕ) : Type 0 whe
 all-drop : (f : Symbol → Bool) (m : ℕ) (xs : List Symbol) → T (all f xs) → T (all f (drop m xs))
 all-drop f zero xs t = t
 all-drop f (suc m) [] t = tt
-all-drop f (suc m) (x ∷ xs) t = all-drop f m xs (and-right (f x) (all f xs) t)
+all-drop f (suc m) (x ∷ xs) t = all-drop f m xs (both (f x) (all f xs) t .1)
 
 module _ (gone : ℕ → Bool) {rows : List ℕ} {count : ℕ} (image : Image rows count) (k : ℕ) (lt : k < count) where
   -- what derives nothing from a place on derives nothing from a later one on

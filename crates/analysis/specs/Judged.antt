@@ -12,7 +12,8 @@ use Rattle.meaning.specs.Derivation.{Listed}
 use Rattle.meaning.specs.Scheme.{entryTests}
 use Rattle.meaning.specs.Sets.{emptySet, has, singleton, nullable, emptyString, follow, starts}
 use Rattle.meaning.specs.Decide.{isLeftRecursive, meet, satisfiable, clash, clashes}
-use Rattle.theory_sets.specs.Tests.{all-append}
+use Rattle.theory_base.specs.Members.{all-append}
+use Rattle.theory_sets.specs.EntryRanges.{entries-fit}
 use Rattle.theory_sets.specs.Nullable.{nullable-closed}
 use Rattle.theory_sets.specs.Intervals.{entry}
 use Rattle.token_set.specs.Words.{setOf}
@@ -63,7 +64,7 @@ module _ {rows : List ℕ} {count : ℕ} {g : Grammar} (r : Rows rows count g) w
     agree-is p q l m same = all-equal ∙ sym (satisfiable-is (inh g (nonterminal (productionAt g p .left))) (entryTests g (productionAt g p) ++ entryTests g (productionAt g q)) fits (e .narrow p l))
       where
         fits : T (all (entry (inh g (nonterminal (productionAt g p .left)))) (entryTests g (productionAt g p) ++ entryTests g (productionAt g q)))
-        fits = all-append (entry (inh g (nonterminal (productionAt g p .left)))) (entryTests g (productionAt g p)) (entryTests g (productionAt g q)) (e .ranged .entries p l) (rw same (e .ranged .entries q m))
+        fits = all-append (entry (inh g (nonterminal (productionAt g p .left)))) (entryTests g (productionAt g p)) (entryTests g (productionAt g q)) (entries-fit g (e .ranged) p l) (rw same (entries-fit g (e .ranged) q m))
 
         each : (a : ℕ) → a < 8 → overlapBy lows highs p q a ≡ leb (lowEnd (suc a) (entryTests g (productionAt g p) ++ entryTests g (productionAt g q))) (highEnd (suc a) (entryTests g (productionAt g p) ++ entryTests g (productionAt g q)))
         each a h = rw (e .low p a l h, e .low q a m h, e .high p a l h, e .high q a m h, low-append (suc a) (entryTests g (productionAt g p)) (entryTests g (productionAt g q)), high-append (suc a) (entryTests g (productionAt g p)) (entryTests g (productionAt g q))) refl

@@ -9,21 +9,21 @@ use mathlib.Core.Option.{Option, none, some}
 use lib.Dec.{T}
 use Rattle.meaning.specs.Base.{all, any, countFrom}
 use Rattle.meaning.specs.Decide.{firstWhere}
-use Rattle.theory_sets.specs.Tests.{and-intro, and-left, and-right, or-left, or-right, or-cases}
+use Rattle.theory_base.specs.Members.{and, both, or-cases, or-left, or-right}
 use Rattle.theory_sets.specs.Widths.{both-true}
 use Rattle.theory_sets.specs.Verdicts.{Result, searched}
 
 module _ (f : ℕ → Bool) where
   pub all-count : (k n : ℕ) → ((a : ℕ) → k ≤ a → a < k + n → T (f a)) → T (all f (countFrom k n))
   all-count k zero h = tt
-  all-count k (suc n) h = and-intro (f k) (all f (countFrom (suc k) n)) (h k (omega arith) (omega arith)) (all-count (suc k) n (λ a l m. h a (omega arith) (omega arith)))
+  all-count k (suc n) h = and (f k) (all f (countFrom (suc k) n)) (h k (omega arith) (omega arith)) (all-count (suc k) n (λ a l m. h a (omega arith) (omega arith)))
 
   pub count-all : (k n : ℕ) → T (all f (countFrom k n)) → (a : ℕ) → k ≤ a → a < k + n → T (f a)
   count-all k zero t a l m = absurd (omega arith)
-  count-all k (suc n) t a l m = go (ℕ-discrete a k) (count-all (suc k) n (and-right (f k) (all f (countFrom (suc k) n)) t) a)
+  count-all k (suc n) t a l m = go (ℕ-discrete a k) (count-all (suc k) n (both (f k) (all f (countFrom (suc k) n)) t .1) a)
     where
       go : Dec (a ≡ k) → (suc k ≤ a → a < suc k + n → T (f a)) → T (f a)
-      go (yes e) j = rw e (and-left (f k) (all f (countFrom (suc k) n)) t)
+      go (yes e) j = rw e (both (f k) (all f (countFrom (suc k) n)) t .0)
       go (no e) j = j (omega arith) (omega arith)
 
   pub any-count : (k n a : ℕ) → k ≤ a → a < k + n → T (f a) → T (any f (countFrom k n))

@@ -9,8 +9,8 @@ use Rattle.meaning.specs.Base.{any}
 use Rattle.meaning.specs.Grammar.{Symbol, isNonterminal}
 use Rattle.meaning.specs.Sets.{singleton}
 use Rattle.meaning.specs.Table.{symbolOf}
+use Rattle.theory_base.specs.Members.{true→T}
 use Rattle.theory_sets.specs.TokenSets.{or-false}
-use Rattle.theory_sets.specs.Tests.{true→T}
 use Rattle.token_set.specs.Words.{setOf}
 use Rattle.analysis.specs.Rows.{leftAt, rightAt, symbol-terminal, symbol-nonterminal}
 use Rattle.analysis.specs.Views.{members, Within, ReachAt}
@@ -46,5 +46,5 @@ module _ (rows : List ℕ) {count : ℕ} (k : ℕ) (lt : k < count) (s : ℕ) wh
 
   pub reaches-new : (x : ℕ) → members s (leftAt rows k) ≡ true → ((n : ℕ) → members x n ≡ any (isNonterminal n) (rightAt rows k)) → Reaches (bitOr s x)
   reaches-new x e is =
-      grown-or s x (λ see c i n t. c .at k zero-le lt (i (leftAt rows k) (true→T e)) n (rw (is n) at t))
+      grown-or s x (λ see c i n t. c .at k zero-le lt (i (leftAt rows k) (true→T _ e)) n (rw (is n) at t))
       (λ sub t n a. sub n (rw (is n) a))

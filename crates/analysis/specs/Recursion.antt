@@ -11,7 +11,7 @@ use lib.Dec.{T}
 use lib.ListN.{getD, length, replicate, set, length-set}
 use lib.Seq.{getD-set-same, getD-set-other}
 use Rattle.meaning.specs.Sets.{singleton}
-use Rattle.theory_sets.specs.Tests.{true→T}
+use Rattle.theory_base.specs.Members.{true→T}
 use Rattle.theory_sets.specs.TokenSets.{single-has, single-only}
 use Rattle.token_set.specs.Words.{setOf}
 use Rattle.analysis.specs.Rows.{leftAt, rightAt}
@@ -78,7 +78,7 @@ module _ (gone : ℕ → Bool) (t rows : List ℕ) where
     recursive-here x l one e =
         record {
           into = λ b. rw one (single-has (leftAt rows k) (omega arith));
-          outof = λ n h. let q = single-only (leftAt rows k) n (rw one at h) in (sym q, rw (q, ← front-is (leftAt rows k)) (true→T e));
+          outof = λ n h. let q = single-only (leftAt rows k) n (rw one at h) in (sym q, rw (q, ← front-is (leftAt rows k)) (true→T _ e));
         }
 
   pub recursive-start : RecursiveTo gone t rows 0 0

@@ -12,9 +12,10 @@ use Rattle.meaning.specs.Grammar.{Symbol, terminal, nonterminal, Grammar, produ
 use Rattle.meaning.specs.Derivation.{Listed, LeftRecursive}
 use Rattle.meaning.specs.Sets.{rounds, nullable, emptySymbol, productionsOf}
 use Rattle.meaning.specs.Decide.{leads, leadsTo, leadsOn, isLeftRecursive}
+use Rattle.theory_base.specs.Members.{and, both, or-cases, or-left, or-right}
 use Rattle.theory_sets.specs.Derivations.{Yields, nothing, same, expand, derives→yields}
-use Rattle.theory_sets.specs.Tests.{and-intro, and-left, and-right, or-left, or-right, or-cases, tabled-cases, tabled-at}
-use Rattle.theory_sets.specs.Productions.{known, Chosen, of-cases, of-at}
+use Rattle.theory_sets.specs.Tests.{tabled-cases, tabled-at}
+use Rattle.theory_sets.specs.Productions.{known, Chosen, of-cases, of-at, symbols}
 use Rattle.theory_sets.specs.Nullable.{nullable-closed, yields→emptyString}
 use Rattle.theory_sets.specs.Spread.{spread-grows, spread-closed}
 use Rattle.theory_sets.specs.LeftRecursion.{recursive→LeftRecursive}
@@ -34,18 +35,18 @@ opens-leads gone see e marks u (nonterminal n ∷ xs) t = go (or-cases (see n) (
     go : T (see n) ⊎ T (gone n && opens false gone see u false xs) → (T (opens false gone see u false xs) → (m : ℕ) × T (leads e m xs) × T (see m)) → (m : ℕ) × T (leads e m (nonterminal n ∷ xs)) × T (see m)
     go (inl h) k = (n, or-left (eqb n n) (getD e n false && leads e n xs) (eqb-refl n), h)
     go (inr h) k =
-        let w = k (and-right (gone n) (opens false gone see u false xs) h) in
-        (w .0, or-right (eqb n (w .0)) (getD e n false && leads e (w .0) xs) (and-intro (getD e n false) (leads e (w .0) xs) (rw (marks n) at (and-left (gone n) (opens false gone see u false xs) h)) (w .1)), w .2)
+        let w = k (both (gone n) (opens false gone see u false xs) h .1) in
+        (w .0, or-right (eqb n (w .0)) (getD e n false && leads e (w .0) xs) (and (getD e n false) (leads e (w .0) xs) (rw (marks n) at (both (gone n) (opens false gone see u false xs) h .0)) (w .1)), w .2)
 
 -- what leads is a known nonterminal
 known-lead : (g : Grammar) (e : List Bool) (m : ℕ) (xs : List Symbol) → T (all (known g) xs) → T (leads e m xs) → m < nonterminalCount g
 known-lead g e m [] k t = absurd t
-known-lead g e m (x ∷ xs) k t = go x (and-left (known g x) (all (known g) xs) k) (or-cases (isNonterminal m x) (emptySymbol e x && leads e m xs) t) (known-lead g e m xs (and-right (known g x) (all (known g) xs) k))
+known-lead g e m (x ∷ xs) k t = go x (both (known g x) (all (known g) xs) k .0) (or-cases (isNonterminal m x) (emptySymbol e x && leads e m xs) t) (known-lead g e m xs (both (known g x) (all (known g) xs) k .1))
   where
     go : (y : Symbol) → T (known g y) → T (isNonterminal m y) ⊎ T (emptySymbol e y && leads e m xs) → (T (leads e m xs) → m < nonterminalCount g) → m < nonterminalCount g
     go (terminal s) q (inl h) j = absurd h
     go (nonterminal n) q (inl h) j = rw (sym (eqb→eq n m h)) (ltb→lt n (nonterminalCount g) q)
-    go y q (inr h) j = j (and-right (emptySymbol e y) (leads e m xs) h)
+    go y q (inr h) j = j (both (emptySymbol e y) (leads e m xs) h .1)
 
 module _ {rows : List ℕ} {count : ℕ} {g : Grammar} (r : Rows rows count g) (null : ℕ) (gone : Marks null (nullable g)) where
   abbrev led : ℕ → List Bool
@@ -54,12 +55,12 @@ module _ {rows : List ℕ} {count : ℕ} {g : Grammar} (r : Rows rows count g) (
   -- where a production of n leads, and on from there
   led-start : (p m : ℕ) → Listed g p → T (leads (nullable g) m (productionAt g p .right)) → T (getD (led (productionAt g p .left)) m false)
   led-start p m l t =
-      let k = known-lead g (nullable g) m (productionAt g p .right) (r .sound .symbols p l) t in
+      let k = known-lead g (nullable g) m (productionAt g p .right) (symbols (r .sound) p l) t in
       spread-grows (r .sound) (leads (nullable g)) (nonterminalCount g) (leadsTo g (productionAt g p .left)) m k
       (tabled-at (λ q. any (λ x. leads (nullable g) q (x .right)) (productionsOf g (productionAt g p .left))) (nonterminalCount g) m k (of-at (r .sound) (λ x. leads (nullable g) m (x .right)) p l t))
 
   led-next : (n m p : ℕ) → Listed g p → T (getD (led n) (productionAt g p .left) false) → T (leads (nullable g) m (productionAt g p .right)) → T (getD (led n) m false)
-  led-next n m p l h t = spread-closed (r .sound) (leads (nullable g)) (leadsTo g n) m p (known-lead g (nullable g) m (productionAt g p .right) (r .sound .symbols p l) t) l h t
+  led-next n m p l h t = spread-closed (r .sound) (leads (nullable g)) (leadsTo g n) m p (known-lead g (nullable g) m (productionAt g p .right) (symbols (r .sound) p l) t) l h t
 
   led-trans : (a m n : ℕ) → T (getD (led a) m false) → T (getD (led m) n false) → T (getD (led a) n false)
   led-trans a m n h = led-least (r .sound) m (led a) start (λ k p l. led-next a k p l) n
@@ -70,8 +71,8 @@ module _ {rows : List ℕ} {count : ℕ} {g : Grammar} (r : Rows rows count g) (
           go : Chosen g (λ p. eqb (p .left) m && leads (nullable g) k (p .right)) → T (getD (led a) k false)
           go c =
               let q = productionAt g (c .number) in
-              let e = eqb→eq (q .left) m (and-left (eqb (q .left) m) (leads (nullable g) k (q .right)) (c .passes)) in
-              led-next a k (c .number) (c .listed) (rw e h) (and-right (eqb (q .left) m) (leads (nullable g) k (q .right)) (c .passes))
+              let e = eqb→eq (q .left) m (both (eqb (q .left) m) (leads (nullable g) k (q .right)) (c .passes) .0) in
+              led-next a k (c .number) (c .listed) (rw e h) (both (eqb (q .left) m) (leads (nullable g) k (q .right)) (c .passes) .1)
 
   -- m is n or leads to n
   abbrev reaches : ℕ → ℕ → Bool
@@ -107,7 +108,7 @@ module _ {rows : List ℕ} {count : ℕ} {g : Grammar} (r : Rows rows count g) (
     yields-front m nothing a e k = absurd (nil≢cons e)
     yields-front m (same x {xs} d) a e k =
         let h = head-eq-of-cons-eq e in
-        let l = ltb→lt m (nonterminalCount g) (rw h at (and-left (known g x) (all (known g) xs) k)) in
+        let l = ltb→lt m (nonterminalCount g) (rw h at (both (known g x) (all (known g) xs) k .0)) in
         rw h (or-left (sees (st .fronts) m m) (members null m && opens false (members null) (sees (st .fronts) m) m false xs) (st .settled .keeps m m (st .each .own m (let z = r .narrow in omega arith))))
     yields-front m (expand p {xs} {zs} {ys} l d d′) a e k = go zs e d (λ b h i. yields-front m d b h i) (λ b h i. yields-front m d′ b h i)
       where
@@ -117,12 +118,12 @@ module _ {rows : List ℕ} {count : ℕ} {g : Grammar} (r : Rows rows count g) (
             → T (opens false (members null) (sees (st .fronts) m) m false (nonterminal (productionAt g p .left) ∷ xs))
         go [] e d i j =
             or-right (sees (st .fronts) m (productionAt g p .left)) (members null (productionAt g p .left) && opens false (members null) (sees (st .fronts) m) m false xs)
-            (and-intro (members null (productionAt g p .left)) (opens false (members null) (sees (st .fronts) m) m false xs)
+            (and (members null (productionAt g p .left)) (opens false (members null) (sees (st .fronts) m) m false xs)
             (rw (gone .is (productionAt g p .left)) (nullable-closed (r .sound) p l (yields→emptyString (r .sound) d refl)))
-            (j a e (and-right (known g (nonterminal (productionAt g p .left))) (all (known g) xs) k)))
+            (j a e (both (known g (nonterminal (productionAt g p .left))) (all (known g) xs) k .1)))
         go (z ∷ zs) e d i j =
             let c = counted r p l in
-            let b = i zs (cc (head-eq-of-cons-eq e)) (r .sound .symbols p l) in
+            let b = i zs (cc (head-eq-of-cons-eq e)) (symbols (r .sound) p l) in
             or-left (sees (st .fronts) m (productionAt g p .left)) (members null (productionAt g p .left) && opens false (members null) (sees (st .fronts) m) m false xs)
             (rw (r .left p c) at (st .settled .closed m .at p zero-le c (rw (r .right p c) b)))
 
@@ -133,7 +134,7 @@ module _ {rows : List ℕ} {count : ℕ} {g : Grammar} (r : Rows rows count g) (
         go q =
             let c = counted r (q .0) (q .2) in
             let e : leftAt rows (q .0) ≡ n = r .left (q .0) c ∙ q .3 in
-            let b = yields-front n (derives→yields (q .4)) (q .1) refl (r .sound .symbols (q .0) (q .2)) in
+            let b = yields-front n (derives→yields (q .4)) (q .1) refl (symbols (r .sound) (q .0) (q .2)) in
             rw e at (st .found .into (q .0) c (rw (e, r .right (q .0) c) b))
 
     pub recursive-is : (n : ℕ) → members w n ≡ isLeftRecursive g n

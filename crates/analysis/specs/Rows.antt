@@ -13,8 +13,9 @@ use lib.ListN.{length, take, drop, getD, length-take, length-drop, length-map, L
 use lib.Seq.{drop-cons, getD-take, getD-drop}
 use Rattle.meaning.specs.Grammar.{Symbol, terminal, nonterminal, Grammar, productionAt, nonterminalCount}
 use Rattle.meaning.specs.Table.{symbolOf}
+use Rattle.meaning.specs.Rules.{WellFormed}
 use Rattle.theory_sets.specs.Tests.{all-at}
-use Rattle.theory_sets.specs.Productions.{Sound, known}
+use Rattle.theory_sets.specs.Productions.{known, symbols, lefts}
 
 abbrev pub leftAt : List ℕ → ℕ → ℕ
 leftAt rows p = getD rows (p * 16) 0
@@ -38,7 +39,7 @@ pub record Image (rows : List ℕ) (count : ℕ) : Type 0 where
 
 -- the rows are those of the productions of g
 pub record Rows (rows : List ℕ) (count : ℕ) (g : Grammar) : Type 0 where
-  pub sound : Sound g
+  pub sound : WellFormed g
   pub narrow : nonterminalCount g ≤ 48
   pub counted : length (g .productions) ≡ count
   pub room : count * 16 ≤ length rows
@@ -94,9 +95,9 @@ module _ {rows : List ℕ} {count : ℕ} (image : Image rows count) (p : ℕ) (l
 pub image-of : {rows : List ℕ} {count : ℕ} {g : Grammar} → Rows rows count g → Image rows count
 image-of {rows} {count} {g} r =
     record {
-      few = let a = r .sound .few in let e = r .counted in omega arith;
+      few = let a = r .sound .productions .1 in let e = r .counted in omega arith;
       room = r .room;
-      lefts = λ p lt. let a = r .sound .lefts p (rw (r .counted) lt) in let e = r .left p lt in let n = r .narrow in omega arith;
+      lefts = λ p lt. let a = lefts (r .sound) p (rw (r .counted) lt) in let e = r .left p lt in let n = r .narrow in omega arith;
       sizes = r .sizes;
       symbols = λ p i lt h. small (byteAt rows p i) (seen p i lt h);
     }
@@ -104,7 +105,7 @@ image-of {rows} {count} {g} r =
     seen : (p i : ℕ) → p < count → i < sizeAt rows p → T (known g (symbolOf (byteAt rows p i)))
     seen p i lt h =
         rw (right-at rows count (r .room) p lt (r .sizes p lt) i h) at
-        (all-at (known g) (rightAt rows p) i (symbolOf 0) (rw (right-length rows count (r .room) p lt (r .sizes p lt)) h) (rw (r .right p lt) (r .sound .symbols p (rw (r .counted) lt))))
+        (all-at (known g) (rightAt rows p) i (symbolOf 0) (rw (right-length rows count (r .room) p lt (r .sizes p lt)) h) (rw (r .right p lt) (symbols (r .sound) p (rw (r .counted) lt))))
 
     small : (n : ℕ) → T (known g (symbolOf n)) → n < 176
     small n t = go (decLt n 128)

@@ -11,8 +11,9 @@ use Rattle.meaning.specs.Base.{all}
 use Rattle.meaning.specs.Grammar.{Symbol, terminal, nonterminal, Grammar, productionAt, nonterminalCount}
 use Rattle.meaning.specs.Derivation.{Listed}
 use Rattle.meaning.specs.Sets.{TokenSet, endNumber, emptySet, has, singleton, onlyIf, nullable, emptySymbol, emptyString, firstString, first, follow, starts}
-use Rattle.theory_sets.specs.Tests.{and-left, all-right}
-use Rattle.theory_sets.specs.Productions.{known}
+use Rattle.theory_base.specs.Members.{both}
+use Rattle.theory_sets.specs.Tests.{all-right}
+use Rattle.theory_sets.specs.Productions.{known, symbols}
 use Rattle.theory_sets.specs.FirstSets.{first-closed}
 use Rattle.theory_sets.specs.AfterSets.{Source, byStart, byProduction, follow-closed}
 use Rattle.theory_sets.specs.LeastSets.{first-least, follow-least}
@@ -69,7 +70,7 @@ opens-split b gone see u w (nonterminal n ∷ xs) = ap (λ (c : Bool). see n || 
 known-head : (g : Grammar) (n j : ℕ) (xs rest : List Symbol) → T (all (known g) xs) → drop j xs ≡ nonterminal n ∷ rest → n < nonterminalCount g
 known-head g n j xs rest k e =
     let d : T (all (known g) (drop j xs)) = all-right (known g) (take j xs) (drop j xs) (rw (take-append-drop j xs) k) in
-    ltb→lt n (nonterminalCount g) (and-left (known g (nonterminal n)) (all (known g) rest) (rw e at d))
+    ltb→lt n (nonterminalCount g) (both (known g (nonterminal n)) (all (known g) rest) (rw e at d) .0)
 
 module _ {rows : List ℕ} {count : ℕ} {g : Grammar} (r : Rows rows count g) (null : ℕ) (gone : Marks null (nullable g)) where
   pub first-holds : (t : List ℕ) → SettledTable (WithinAll (FrontAt true (members null) rows) 0 count) (replicate 48 0) t → Holds t (first g)
@@ -104,7 +105,7 @@ module _ {rows : List ℕ} {count : ℕ} {g : Grammar} (r : Rows rows count g) (
         add : (u p j n : ℕ) (rest : List Symbol) → p < count → drop j (rightAt rows p) ≡ nonterminal n ∷ rest → T (has (firstString (nullable g) (first g) rest) u) ⊎ (T (emptyString (nullable g) rest) × T (has (getD (follow g) (productionAt g p .left) emptySet) u)) → T (has (getD (follow g) n emptySet) u)
         add u p j n rest l e k =
             let d : drop j (productionAt g p .right) ≡ nonterminal n ∷ rest = rw (r .right p l) at e in
-            follow-closed (r .sound) u n (known-head g n j (productionAt g p .right) rest (r .sound .symbols p (listed r p l)) d)
+            follow-closed (r .sound) u n (known-head g n j (productionAt g p .right) rest (symbols (r .sound) p (listed r p l)) d)
             (byProduction p (listed r p l) (record { before = take j (productionAt g p .right); rest = rest; whole = sym (take-append-drop j (productionAt g p .right)) ∙ ap (λ (xs : List Symbol). take j (productionAt g p .right) ++ xs) d; token = k }))
 
         closed : (u : ℕ) → FollowClosed (members null) f rows count u (λ n. has (getD (follow g) n emptySet) u)

@@ -11,9 +11,9 @@ use lib.ListN.{getD}
 use Rattle.meaning.specs.Base.{all, any}
 use Rattle.meaning.specs.Grammar.{Symbol, terminal, nonterminal, isNonterminal}
 use Rattle.meaning.specs.Sets.{has, singleton}
-use Rattle.theory_sets.specs.Tests.{and-intro, and-left, and-right, or-left, or-right, or-cases}
 use Rattle.token_set.specs.Words.{setOf}
 use Rattle.analysis.specs.Rows.{leftAt, rightAt}
+use Rattle.theory_base.specs.Members.{and, both, or-cases, or-left, or-right}
 
 -- the view of a word
 abbrev pub members : ℕ → ℕ → Bool
@@ -85,7 +85,7 @@ turn-more b gone f h u k (nonterminal n) v w j s = go (or-cases (f n) (gone n &&
   where
     go : T (f n) ⊎ T (gone n && v) → T (h n || (gone n && w))
     go (inl q) = or-left (h n) (gone n && w) (k n q)
-    go (inr q) = or-right (h n) (gone n && w) (and-intro (gone n) w (and-left (gone n) v q) (j (and-right (gone n) v q)))
+    go (inr q) = or-right (h n) (gone n && w) (and (gone n) w (both (gone n) v q .0) (j (both (gone n) v q .1)))
 
 pub opens-more : (b : Bool) (gone f h : ℕ → Bool) (u : ℕ) → Inside f h → (v w : Bool) → (T v → T w) → (xs : List Symbol) → T (opens b gone f u v xs) → T (opens b gone h u w xs)
 opens-more b gone f h u k v w j [] s = j s

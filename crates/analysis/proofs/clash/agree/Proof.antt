@@ -6,10 +6,10 @@ use borrow.Author.Tests.{not-true, not-false}
 use mathlib.Core.Path.{_≡_, sym, _∙_}
 use lib.Dec.{T}
 use borrow.Author.Count.{below-more}
-use Rattle.theory_sets.specs.Tests.{true→T}
 use Rattle.analysis.specs.Clashing.{overlapBy, agree-all, agree-not}
 use Rattle.analysis.proofs.clash.agree.Statement.{statement}
 use Rattle.analysis.proofs.clash.agree.Tie as tie
+use Rattle.theory_base.specs.Members.{true→T}
 
 abbrev Inv-loop : tie.InvT-loop
 Inv-loop lows highs p q a₀ a = (a ≤ 8) × ((j : ℕ) → j < a → T (overlapBy lows highs p q j))
@@ -86,7 +86,7 @@ loop-less c = omega arith
 loop-again : tie.Need-loop-again Inv-loop μ-loop
 loop-again c =
     let lp = c .before .before .before .before .before .before in
-    (omega arith, below-more _ _ (lp .before .loop .inv .1) (true→T (sym (c .before .overlap .ensures) ∙ not-false _ (c .if1 .left))))
+    (omega arith, below-more _ _ (lp .before .loop .inv .1) (true→T _ (sym (c .before .overlap .ensures) ∙ not-false _ (c .if1 .left))))
 
 returns-2 : tie.Need-returns-2 Inv-loop μ-loop
 returns-2 c =

@@ -2,11 +2,11 @@ use Prim.Native.Nat.{_≤_, _-_}
 use native.Mathlib.Omega.{arith}
 use borrow.Author.Needs.{needs}
 use mathlib.Core.Path.{sym, _∙_}
-use Rattle.theory_sets.specs.Tests.{true→T}
 use Rattle.analysis.specs.Views.{members}
 use Rattle.analysis.specs.Numbers.{Clear, clear-none, clear-more, found-here, found-none}
 use Rattle.analysis.proofs.judging.lowest_in.Statement.{statement}
 use Rattle.analysis.proofs.judging.lowest_in.Tie as tie
+use Rattle.theory_base.specs.Members.{true→T}
 
 abbrev Inv-loop : tie.InvT-loop
 Inv-loop set n i₀ i = (i ≤ n) × Clear (members set) i
@@ -26,7 +26,7 @@ has-requires c κs = search needs
 returns : tie.Need-returns Inv-loop μ-loop
 returns c =
     let lp = c .before .before in
-    found-here _ _ _ (lp .loop-test .taken) (lp .before .loop .inv .1) (true→T (sym (c .before .has .ensures) ∙ c .if1 .taken))
+    found-here _ _ _ (lp .loop-test .taken) (lp .before .loop .inv .1) (true→T _ (sym (c .before .has .ensures) ∙ c .if1 .taken))
 
 add-i : tie.Need-add-i Inv-loop μ-loop
 add-i c = omega arith
