@@ -79,9 +79,6 @@ module _ {C P Q R : (ℕ → Bool) → Type 0} (s r q : ℕ) where
       same : q ≡ s → r ≡ s
       same e = omega (arith, a .grows, b .grows)
 
-pub grown-map : {C P Q : (ℕ → Bool) → Type 0} (s r : ℕ) → Grown C P s r → (P (members s) → Q (members s)) → Grown C Q s r
-grown-map s r a f = record { grows = a .grows; keeps = a .keeps; sound = a .sound; stuck = λ e. f (a .stuck e) }
-
 -- on the way there
 pub record Rising (C : (ℕ → Bool) → Type 0) (s r : ℕ) : Type 0 where
   pub keeps : Inside (members s) (members r)
