@@ -2,7 +2,7 @@
 use Prim.Native.Nat.{ℕ, zero, suc, _+_, _-_, _*_, _/_, _%_, _≤_, _<_}
 use native.Mathlib.Omega.{arith}
 use mathlib.Core.Path.{_≡_, refl, sym, ap, ap₂, _∙_, subst}
-use mathlib.Core.Bool.{Bool, true, false, _&&_}
+use mathlib.Core.Bool.{Bool, true, false, _&&_, cond}
 use mathlib.Core.List.{List, [], _∷_, _++_, map}
 use borrow.Author.Tests.{lt-ltb, le-ltb, ltb-true, ltb-false, eq-eqb, ne-eqb, eqb-true, eqb-false}
 use lib.ListN.{getD, length, take, drop, replicate}
@@ -44,7 +44,7 @@ pub record Readable (rows : List ℕ) (productions start : ℕ) : Type 0 where
 
 -- a symbol's count by its byte: a terminal has none
 unfoldable pub countOf : List ℕ → ℕ → ℕ
-countOf counts n = elim (ltb n 128) [ true ↦ 0 | false ↦ getD counts (n - 128) 0 ]
+countOf counts n = cond (ltb n 128) 0 (getD counts (n - 128) 0)
 
 -- the counts of n symbols from `at` on
 unfoldable pub countsFrom : List ℕ → List ℕ → ℕ → ℕ → ℕ
@@ -69,6 +69,16 @@ symbol-by b n e = rw (sym e)
 
 pub symbol-high : (n : ℕ) → symbolOf (128 + n) ≡ nonterminal n
 symbol-high n = symbol-by false (128 + n) (le-ltb (128 + n) 128 (omega arith)) ∙ ap nonterminal (omega arith)
+
+-- a terminal has none of any count, a nonterminal the one of its number
+module _ (counts : List ℕ) (x : ℕ) where
+  pub count-low : x < 128 → countOf counts x ≡ 0
+  unfolding countOf
+  count-low l = rw (lt-ltb x 128 l) refl
+
+  pub count-high : 128 ≤ x → countOf counts x ≡ getD counts (x - 128) 0
+  unfolding countOf
+  count-high l = rw (le-ltb x 128 l) refl
 
 -- the left side of a production is the symbol with byte x
 named : (n x : ℕ) → isNonterminal n (symbolOf x) ≡ eqb (128 + n) x
@@ -122,7 +132,7 @@ module _ {g : Grammar} {rows inherited synthesized : List ℕ} {productions star
     unfolding countOf
     count-of x k = by (ltb x 128) refl
       where
-        by : (b : Bool) → ltb x 128 ≡ b → elim b [ true ↦ 0 | false ↦ getD counts (x - 128) 0 ] ≡ f (symbolOf x)
+        by : (b : Bool) → ltb x 128 ≡ b → cond b 0 (getD counts (x - 128) 0) ≡ f (symbolOf x)
         by true e = sym (ap f (symbol-by true x e) ∙ none x)
         by false e = each (x - 128) (subst (Known g) (symbol-by false x e) k) ∙ sym (ap f (symbol-by false x e))
 

@@ -56,3 +56,143 @@ fn all_zero(cells: &[u32]) -> bool
     }
     true
 }
+
+// ---- registers of a kind, from a position up
+
+// Where `count` values from `at` on end; past the end of the registers if they do not stand there.
+fn past_valued(registers: &[i64], at: usize, count: usize) -> usize
+    requires { ⌜ (at ≤ length (now registers) + 1) × (count ≤ 4096) ⌝ }
+    ensures { λ r. ⌜ Passes (now (registers .entry)) (replicate count valued) at r ⌝ }
+{
+    let end = at + count;
+    if registers.len() < end {
+        return registers.len() + 1;
+    }
+    if all_valued(&registers[at..end]) {
+        return end;
+    }
+    registers.len() + 1
+}
+
+fn past_marked(registers: &[i64], at: usize, count: usize) -> usize
+    requires { ⌜ (at ≤ length (now registers) + 1) × (count ≤ 4096) ⌝ }
+    ensures { λ r. ⌜ Passes (now (registers .entry)) (replicate count marked) at r ⌝ }
+{
+    let end = at + count;
+    if registers.len() < end {
+        return registers.len() + 1;
+    }
+    if all_marked(&registers[at..end]) {
+        return end;
+    }
+    registers.len() + 1
+}
+
+// ---- what the rows say
+
+fn wide(x: u8) -> usize
+    ensures { λ r. ⌜ (r ≡ x) × (r < 256) ⌝ }
+{
+    x as usize
+}
+
+// A symbol's count by its byte; a terminal has none.
+fn count_of(counts: &[u8; 48], symbol: usize) -> usize
+    requires { ⌜ symbol < 176 ⌝ }
+    ensures { λ r. ⌜ (r ≡ countOf (now (counts .entry)) symbol) × (r < 256) ⌝ }
+{
+    if symbol < 128 {
+        return 0;
+    }
+    wide(counts[symbol - 128])
+}
+
+// The counts of the first `passed` symbols of a production.
+fn counts_passed(
+    rows: &[u8; 2048],
+    counts: &[u8; 48],
+    production: usize,
+    passed: usize,
+) -> usize
+    requires { ⌜ RowTo (now rows) production passed ⌝ }
+    ensures { λ r. ⌜ (r ≡ countsFrom (now (rows .entry)) (now (counts .entry)) (16 * production + 2) passed) × (r ≤ 4096) ⌝ }
+{
+    let from = 16 * production + 2;
+    let mut sum = 0;
+    let mut i = 0;
+    while i < passed {
+        let symbol = wide(rows[from + i]);
+        sum += count_of(counts, symbol);
+        i += 1;
+    }
+    sum
+}
+
+// Whether a place stands on one that waits at the symbol with this byte, and waits itself.
+fn stands_on(rows: &[u8; 2048], productions: usize, awaited: usize, place: u32) -> bool
+    requires { ⌜ productions ≤ 128 ⌝ }
+    ensures { λ r. ⌜ r ≡ rowOn (now (rows .entry)) productions awaited place ⌝ }
+{
+    let production = (place / 256) as usize;
+    if productions <= production {
+        return false;
+    }
+    let passed = (place % 256) as usize;
+    if wide(rows[16 * production + 1]) <= passed {
+        return false;
+    }
+    128 + wide(rows[16 * production]) == awaited
+}
+
+// ---- places
+
+// Past the registers of a place: those of the symbols passed, then those of the symbol waited at, its synthesized ones marked and, above them, its inherited ones valued.
+fn past_place(
+    registers: &[i64],
+    at: usize,
+    rows: &[u8; 2048],
+    inherited: &[u8; 48],
+    synthesized: &[u8; 48],
+    production: usize,
+    passed: usize,
+) -> usize
+    requires { ⌜ (at ≤ length (now registers) + 1) × RowTo (now rows) production passed ⌝ }
+    ensures { λ r. ⌜ Passes (now (registers .entry)) (cellsAt (now (rows .entry)) (now (inherited .entry)) (now (synthesized .entry)) production passed) at r ⌝ }
+{
+    let symbol = wide(rows[16 * production + (passed + 2)]);
+    let below = past_valued(registers, at, counts_passed(rows, synthesized, production, passed));
+    let middle = past_marked(registers, below, count_of(synthesized, symbol));
+    past_valued(registers, middle, count_of(inherited, symbol))
+}
+
+// Whether the places above the bottom one stand on each other, and the registers from `at` up are theirs.
+fn stand_above(
+    registers: &[i64],
+    at: usize,
+    places: &[u32],
+    rows: &[u8; 2048],
+    inherited: &[u8; 48],
+    synthesized: &[u8; 48],
+    productions: usize,
+    start: usize,
+) -> bool
+    requires { ⌜ (at ≤ length (now registers) + 1) × Readable (now rows) productions start ⌝ }
+    ensures { λ r. ⌜ ((g : Grammar) → Shown g (now (rows .entry)) (now (inherited .entry)) (now (synthesized .entry)) productions start → r ≡ placesAbove g (nonterminal (g .start)) (drop 1 (now (places .entry))) && fitsFrom (now (registers .entry)) at (cellsAbove g (drop 1 (now (places .entry))))) ⌝ }
+{
+    let mut reached = at;
+    let mut awaited = 128 + start;
+    let mut i = 1;
+    while i < places.len() {
+        let place = places[i];
+        if stands_on(rows, productions, awaited, place) {
+            let production = (place / 256) as usize;
+            let passed = (place % 256) as usize;
+            reached = past_place(registers, reached, rows, inherited, synthesized, production, passed);
+            awaited = wide(rows[16 * production + (passed + 2)]);
+            i += 1;
+        } else {
+            return false;
+        }
+    }
+    reached == registers.len()
+}
