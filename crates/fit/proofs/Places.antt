@@ -3,18 +3,19 @@ use Prim.Native.Nat.{ℕ, _+_, _*_, _/_, _%_, _<_, _≤_}
 use native.Mathlib.Numerals.{add-one}
 use native.Mathlib.Omega.{arith}
 use mathlib.Core.Path.{_≡_, refl, sym, ap, ap₂, _∙_}
-use mathlib.Core.Bool.{Bool, true, false, _&&_}
-use mathlib.Core.List.{List, [], _∷_, _++_}
+use mathlib.Core.Bool.{Bool, true, false, _&&_, or-false}
+use mathlib.Core.List.{List, [], _∷_, _++_, append-nil}
+use borrow.Author.Tests.{ne-eqb}
 use lib.IntN.{ℤ}
 use lib.Dec.{T, eqb, ltb, ltb→lt}
 use lib.ListN.{length, getD, drop, replicate, drop-of-length-le}
 use lib.Seq.{drop-cons}
-use Rattle.meaning.specs.Grammar.{Symbol, Grammar, productionAt}
+use Rattle.meaning.specs.Grammar.{Symbol, nonterminal, Grammar, productionAt, syn}
 use Rattle.meaning.specs.Table.{symbolOf}
-use Rattle.meaning.specs.Calls.{valued, marked, awaited}
+use Rattle.meaning.specs.Calls.{valued, marked, cellsFit, awaited}
 use Rattle.theory_base.specs.Members.{true→T, T→true, both}
-use Rattle.fit.specs.Upward.{Passes, passes-then, fitsFrom, from-end, placeOn, placesAbove, cellsOf, cellsAbove}
-use Rattle.fit.specs.Shown.{Shown, Readable, RowTo, countOf, countsFrom, rowOn, cellsAt, row-on, symbol-awaited, cells-of}
+use Rattle.fit.specs.Upward.{Passes, passes-then, fitsFrom, from-start, from-end, standsFit, placeOn, placesAbove, cellsOf, cellsAbove}
+use Rattle.fit.specs.Shown.{Shown, Readable, RowTo, countOf, countsFrom, rowOn, cellsAt, row-on, start-count, symbol-awaited, cells-of}
 
 -- the registers of a place, stretch by stretch
 pub place-passes : (vs : List ℤ) (rows inherited synthesized : List ℕ) (p k at : ℕ) {x a b c u v r : ℕ} → x ≡ getD rows (16 * p + (k + 2)) 0 → a ≡ countsFrom rows synthesized (16 * p + 2) k → b ≡ countOf synthesized x → c ≡ countOf inherited x
@@ -60,3 +61,44 @@ module _ {g : Grammar} {rows inherited synthesized : List ℕ} {productions star
 pub stands-end : (g : Grammar) (x : Symbol) (places : List ℕ) (vs : List ℤ) (i at : ℕ) → length places ≤ i → stands g x (drop i places) vs at ≡ eqb at (length vs)
 unfolding placesAbove cellsAbove
 stands-end g x places vs i at l = rw (drop-of-length-le places {i = i} l) (from-end vs at)
+
+-- ---- from the bottom place on
+
+module _ {g : Grammar} {rows inherited synthesized : List ℕ} {productions start : ℕ} (s : Shown g rows inherited synthesized productions start) (vs : List ℤ) (places : List ℕ) where
+  pub bottom-none : length places ≡ 0 → standsFit g places vs ≡ false
+  unfolding standsFit
+  bottom-none e = by places e
+    where
+      by : (ps : List ℕ) → length ps ≡ 0 → standsFit g ps vs ≡ false
+      by [] d = refl
+      by (p ∷ ps) d = absurd (omega arith)
+
+  module _ (some : 0 < length places) where
+    above : List ℕ
+    above = drop 1 places
+
+    split : places ≡ getD places 0 0 ∷ above
+    unfolding above
+    split = drop-cons places 0 0 some
+
+    pub bottom-other : (getD places 0 0 ≡ 32769 → ⊥) → (getD places 0 0 ≡ 32768 → ⊥) → standsFit g places vs ≡ false
+    unfolding standsFit
+    bottom-other m n = ap (λ ps. standsFit g ps vs) split ∙ rw (ne-eqb (getD places 0 0) 32768 n, ne-eqb (getD places 0 0) 32769 m) refl
+
+    pub bottom-waits : {n r : ℕ} {b : Bool} → getD places 0 0 ≡ 32768 → n ≡ getD synthesized start 0 → Passes vs (replicate n marked) 0 r → b ≡ stands g (nonterminal (g .start)) (drop 1 places) vs r → b ≡ standsFit g places vs
+    unfolding standsFit above
+    bottom-waits {n} {r} {b} e d p q =
+        let k : n ≡ syn g (nonterminal (g .start)) = d ∙ start-count s in
+        let t : fitsFrom vs r (cellsAbove g (drop 1 places)) ≡ cellsFit (replicate n marked ++ cellsAbove g (drop 1 places)) vs = sym (p .same (cellsAbove g (drop 1 places))) ∙ sym (from-start vs (replicate n marked ++ cellsAbove g (drop 1 places))) in
+        q ∙ (ap (λ t. placesAbove g (nonterminal (g .start)) (drop 1 places) && t) (rw k at t) ∙ sym (ap (λ ps. standsFit g ps vs) split ∙ rw e (or-false _)))
+
+    pub bottom-left : {n r : ℕ} → getD places 0 0 ≡ 32769 → length places ≡ 1 → n ≡ getD synthesized start 0 → Passes vs (replicate n valued) 0 r → eqb r (length vs) ≡ standsFit g places vs
+    unfolding standsFit above
+    bottom-left {n} {r} e l d p =
+        let k : n ≡ syn g (nonterminal (g .start)) = d ∙ start-count s in
+        let t : eqb r (length vs) ≡ cellsFit (replicate n valued) vs = sym (from-end vs r) ∙ (sym (p .same []) ∙ (sym (from-start vs (replicate n valued ++ [])) ∙ ap (λ cs. cellsFit cs vs) (append-nil (replicate n valued)))) in
+        rw k at t ∙ sym (ap (λ ps. standsFit g ps vs) split ∙ rw (e, drop-of-length-le places {i = 1} (omega arith)) refl)
+
+    pub bottom-many : getD places 0 0 ≡ 32769 → (length places ≡ 1 → ⊥) → standsFit g places vs ≡ false
+    unfolding standsFit above
+    bottom-many e l = ap (λ ps. standsFit g ps vs) split ∙ rw (e, drop-cons places 1 0 (omega arith)) refl

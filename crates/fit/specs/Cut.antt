@@ -5,13 +5,16 @@ use mathlib.Core.Path.{_≡_, refl, sym, ap, ap₂, _∙_}
 use mathlib.Core.Bool.{Bool, true, false, _&&_}
 use mathlib.Core.List.{List, [], _∷_, reverse}
 use borrow.Author.Tests.{leb-true}
-use lib.ListN.{length, take, drop, length-take}
-use lib.Seq.{take-take}
+use lib.ListN.{length, take, drop, length-take, length-drop}
+use lib.IntN.{ℤ}
+use lib.Seq.{take-take, take-all}
 use lib.Dec.{eqb, leb}
 use Rattle.meaning.specs.Base.{all}
 use Rattle.meaning.specs.Grammar.{Grammar}
+use Rattle.meaning.specs.Rules.{WellFormed}
 use Rattle.meaning.specs.Machine.{tokensLimit, movesLimit}
 use Rattle.meaning.specs.Calls.{Record, Stacks, lentOf, isMark, stackFits, stacksFit}
+use Rattle.fit.specs.Upward.{standsFit, stack-fits-up}
 
 abbrev pub cut : Stacks → Stacks
 cut m = record { registers = take (lentOf m .maxRegisters) (m .registers); places = take (lentOf m .maxPlaces) (m .places) }
@@ -57,3 +60,20 @@ fits-cut g r m =
     (λ a b. ap₂ (λ y z. stackFits g (reverse y) (reverse z)) (sym (take-take j k (m .places) (leb-true j k b))) (sym (take-take h n (m .registers) (leb-true h n a))))
     (λ a. ap (all isMark) (sym (above-cut n h (m .registers))))
     (λ b. ap (all (λ p. eqb p 0)) (sym (above-cut k j (m .places)))))
+
+-- a record's numbers; 34 does not ask whether it is open
+abbrev pub numbers : (tokens moves registerHeight placeHeight : ℕ) → Record
+numbers tokens moves registerHeight placeHeight = record { isOpen = true; tokens = tokens; moves = moves; registerHeight = registerHeight; placeHeight = placeHeight }
+
+-- where all cells are lent: the tests in order
+module _ (g : Grammar) (w : WellFormed g) (r : Record) (vs : List ℤ) (ps : List ℕ) (few : length vs ≤ 4096) (low : length ps ≤ 1024) where
+  pub fits-lent : stacksFit g r (record { registers = vs; places = ps })
+      ≡ leb (r .tokens) tokensLimit && leb (r .moves) movesLimit
+        && leb (r .registerHeight) (length vs) && leb (r .placeHeight) (length ps)
+        && standsFit g (take (r .placeHeight) ps) (take (r .registerHeight) vs)
+        && all isMark (drop (r .registerHeight) vs)
+        && all (λ p. eqb p 0) (drop (r .placeHeight) ps)
+  fits-lent =
+      let n : min (length vs) 4096 ≡ length vs = omega arith in
+      let k : min (length ps) 1024 ≡ length ps = omega arith in
+      rw (n, k, stack-fits-up g w (take (r .placeHeight) ps) (take (r .registerHeight) vs), take-all (length vs - r .registerHeight) (drop (r .registerHeight) vs) (omega (arith, length-drop (r .registerHeight) vs)), take-all (length ps - r .placeHeight) (drop (r .placeHeight) ps) (omega (arith, length-drop (r .placeHeight) ps))) refl
