@@ -5,9 +5,9 @@ use mathlib.Core.Path.{_≡_, refl, sym, ap, ap₂, _∙_}
 use mathlib.Core.Bool.{Bool, true, false, _&&_}
 use mathlib.Core.List.{List, [], _∷_, reverse}
 use borrow.Author.Tests.{leb-true}
-use lib.ListN.{length, take, drop, length-take, length-drop}
+use lib.ListN.{length, take, drop, length-take}
 use lib.IntN.{ℤ}
-use lib.Seq.{take-take, take-all}
+use lib.Seq.{take-take}
 use lib.Dec.{eqb, leb}
 use Rattle.meaning.specs.Base.{all}
 use Rattle.meaning.specs.Grammar.{Grammar}
@@ -16,8 +16,12 @@ use Rattle.meaning.specs.Machine.{tokensLimit, movesLimit}
 use Rattle.meaning.specs.Calls.{Record, Stacks, lentOf, isMark, stackFits, stacksFit}
 use Rattle.fit.specs.Upward.{standsFit, stack-fits-up}
 
+abbrev pub stacksOf : List ℤ → List ℕ → Stacks
+stacksOf vs ps = record { registers = vs; places = ps }
+
+-- the lent cells
 abbrev pub cut : Stacks → Stacks
-cut m = record { registers = take (lentOf m .maxRegisters) (m .registers); places = take (lentOf m .maxPlaces) (m .places) }
+cut m = stacksOf (take (lentOf m .maxRegisters) (m .registers)) (take (lentOf m .maxPlaces) (m .places))
 
 same-tests : (t m a b s s′ x x′ y y′ : Bool) → (a ≡ true → b ≡ true → s ≡ s′) → (a ≡ true → x ≡ x′) → (b ≡ true → y ≡ y′) → t && m && a && b && s && x && y ≡ t && m && a && b && s′ && x′ && y′
 same-tests true true true true s s′ x x′ y y′ f g h = rw (f refl refl, g refl, h refl) refl
@@ -67,13 +71,18 @@ numbers tokens moves registerHeight placeHeight = record { isOpen = true; tokens
 
 -- where all cells are lent: the tests in order
 module _ (g : Grammar) (w : WellFormed g) (r : Record) (vs : List ℤ) (ps : List ℕ) (few : length vs ≤ 4096) (low : length ps ≤ 1024) where
-  pub fits-lent : stacksFit g r (record { registers = vs; places = ps })
+  pub fits-lent : stacksFit g r (stacksOf vs ps)
       ≡ leb (r .tokens) tokensLimit && leb (r .moves) movesLimit
         && leb (r .registerHeight) (length vs) && leb (r .placeHeight) (length ps)
         && standsFit g (take (r .placeHeight) ps) (take (r .registerHeight) vs)
-        && all isMark (drop (r .registerHeight) vs)
-        && all (λ p. eqb p 0) (drop (r .placeHeight) ps)
+        && all isMark (take (length vs - r .registerHeight) (drop (r .registerHeight) vs))
+        && all (λ p. eqb p 0) (take (length ps - r .placeHeight) (drop (r .placeHeight) ps))
   fits-lent =
       let n : min (length vs) 4096 ≡ length vs = omega arith in
       let k : min (length ps) 1024 ≡ length ps = omega arith in
-      rw (n, k, stack-fits-up g w (take (r .placeHeight) ps) (take (r .registerHeight) vs), take-all (length vs - r .registerHeight) (drop (r .registerHeight) vs) (omega (arith, length-drop (r .registerHeight) vs)), take-all (length ps - r .placeHeight) (drop (r .placeHeight) ps) (omega (arith, length-drop (r .placeHeight) ps))) refl
+      rw (n, k, stack-fits-up g w (take (r .placeHeight) ps) (take (r .registerHeight) vs)) refl
+
+  -- each test by its outcome
+  pub fits-by : {t m a b s x y : Bool} → leb (r .tokens) tokensLimit ≡ t → leb (r .moves) movesLimit ≡ m → leb (r .registerHeight) (length vs) ≡ a → leb (r .placeHeight) (length ps) ≡ b
+      → standsFit g (take (r .placeHeight) ps) (take (r .registerHeight) vs) ≡ s → all isMark (take (length vs - r .registerHeight) (drop (r .registerHeight) vs)) ≡ x → all (λ p. eqb p 0) (take (length ps - r .placeHeight) (drop (r .placeHeight) ps)) ≡ y → stacksFit g r (stacksOf vs ps) ≡ t && m && a && b && s && x && y
+  fits-by et em ea eb es ex ey = fits-lent ∙ rw (et, em, ea, eb, es, ex, ey) refl

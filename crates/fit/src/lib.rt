@@ -9,8 +9,18 @@ ghost use Rattle.meaning.specs.Base.{all};
 ghost use Rattle.meaning.specs.Grammar.{Grammar, nonterminal};
 ghost use Rattle.meaning.specs.Value.{inRange};
 ghost use Rattle.meaning.specs.Calls.{isMark, valued, marked, stackFits, stacksFit};
-ghost use Rattle.fit.specs.Upward.{Passes, fitsFrom, placesAbove, cellsAbove};
+ghost use Rattle.fit.specs.Upward.{Passes, fitsFrom, placesAbove, cellsAbove, standsFit};
 ghost use Rattle.fit.specs.Shown.{Shown, Readable, RowTo, countOf, countsFrom, rowOn, cellsAt};
+ghost use Rattle.fit.specs.Cut.{numbers, stacksOf};
+
+// 01: the whole segment's place, while the start symbol is waited at and once it is left.
+const SEGMENT: u32 = 32768;
+
+const LEFT: u32 = 32769;
+
+const TOKENS_LIMIT: u64 = 65535;
+
+const MOVES_LIMIT: u64 = 4294967295;
 
 // ---- stretches of cells
 
@@ -195,4 +205,77 @@ fn stand_above(
         }
     }
     reached == registers.len()
+}
+
+// ---- the whole test
+
+// Whether the registers are those that the places tell, both without the cells above the heights.
+fn stand(
+    registers: &[i64],
+    places: &[u32],
+    rows: &[u8; 2048],
+    inherited: &[u8; 48],
+    synthesized: &[u8; 48],
+    productions: usize,
+    start: usize,
+) -> bool
+    requires { ⌜ Readable (now rows) productions start ⌝ }
+    ensures { λ r. ⌜ ((g : Grammar) → Shown g (now (rows .entry)) (now (inherited .entry)) (now (synthesized .entry)) productions start → r ≡ standsFit g (now (places .entry)) (now (registers .entry))) ⌝ }
+{
+    if places.len() == 0 {
+        return false;
+    }
+    let bottom = places[0];
+    let count = wide(synthesized[start]);
+    if bottom == LEFT {
+        if places.len() != 1 {
+            return false;
+        }
+        return past_valued(registers, 0, count) == registers.len();
+    }
+    if bottom != SEGMENT {
+        return false;
+    }
+    let at = past_marked(registers, 0, count);
+    stand_above(registers, at, places, rows, inherited, synthesized, productions, start)
+}
+
+// 34: whether the lent cells that count fit a record's numbers.
+pub fn fits(
+    registers: &[i64],
+    places: &[u32],
+    tokens: u64,
+    moves: u64,
+    register_height: u64,
+    place_height: u64,
+    rows: &[u8; 2048],
+    inherited: &[u8; 48],
+    synthesized: &[u8; 48],
+    productions: usize,
+    start: usize,
+) -> bool
+    requires { ⌜ (length (now registers) ≤ 4096) × (length (now places) ≤ 1024) × Readable (now rows) productions start ⌝ }
+    ensures { λ r. ⌜ ((g : Grammar) → Shown g (now (rows .entry)) (now (inherited .entry)) (now (synthesized .entry)) productions start → r ≡ stacksFit g (numbers tokens moves «register_height» «place_height») (stacksOf (now (registers .entry)) (now (places .entry)))) ⌝ }
+{
+    if TOKENS_LIMIT < tokens {
+        return false;
+    }
+    if MOVES_LIMIT < moves {
+        return false;
+    }
+    let height = register_height as usize;
+    if registers.len() < height {
+        return false;
+    }
+    let top = place_height as usize;
+    if places.len() < top {
+        return false;
+    }
+    if !stand(&registers[..height], &places[..top], rows, inherited, synthesized, productions, start) {
+        return false;
+    }
+    if !all_marked(&registers[height..]) {
+        return false;
+    }
+    all_zero(&places[top..])
 }
