@@ -7,11 +7,11 @@ use mathlib.Core.Bool.{Bool, true, false, _&&_}
 use mathlib.Core.List.{List, [], _∷_, _++_, append-nil}
 use lib.ListN.{drop}
 use lib.Dec.{T, ltb, leb, ltb→lt, lt→ltb, leb→le, nleb→lt}
-use Rattle.meaning.specs.Grammar.{Grammar}
-use Rattle.meaning.specs.Machine.{Config, Lent, Look, token, over, Outcome, moved, blocked, Settled, stopped, failed, waits, next, lookAt, unread, isDone, isFinished, advance, advanceFrom, feedToken, feedAll, finishAll, tokensLimit, movesLimit}
+use Rattle.meaning.specs.Grammar.{Grammar, Look, token, over}
+use Rattle.meaning.specs.Machine.{Config, Lent, Outcome, moved, blocked, Settled, stopped, failed, waits, next, lookAt, unread, isDone, isFinished, advance, advanceFrom, feedToken, feedAll, finishAll, tokensLimit, movesLimit}
 use Rattle.meaning.specs.Walk.{Act, actBy, Makes, nothing, andThen}
 use Rattle.theory_base.specs.Members.{T→true, both}
-use Rattle.theory_answers.specs.Steps.{at-hand}
+use Rattle.theory_base.specs.Steps.{at-hand}
 use Rattle.theory_answers.specs.Bounds.{counts, look-free, no-read, Blocks, atLimit, blocks}
 
 -- what every move keeps, moves keep
@@ -34,6 +34,10 @@ unread-one : (c d : Config) (t : ℕ) (us ts : List ℕ) → us ≡ t ∷ ts →
 unread-one c d t us ts e h =
     let z : d .tokens - c .tokens ≡ 1 = omega (arith, h) in
     ap (λ n. drop n us) z ∙ ap (λ l. drop 1 l) e
+
+pub look-is : (vs : List ℕ) (c : ℕ) → lookAt vs ≡ token c → vs ≡ c ∷ drop 1 vs
+look-is [] c e = let z : _≡_ {A = ℕ} 0 1 = cc in absurd (omega arith)
+look-is (u ∷ vs) c e = let z : u ≡ c = cc in ap (λ n. n ∷ vs) z
 
 over-token : {A : Type 0} (t : ℕ) → over ≡ token t → A
 over-token t e = absurd (let z : _≡_ {A = ℕ} 0 1 = cc in omega arith)
