@@ -53,6 +53,11 @@ fit-short c n ds vs l = unfit (replicate n c ++ ds) vs (λ e. omega (arith, leng
 unfoldable pub fitsFrom : List ℤ → ℕ → List Cell → Bool
 fitsFrom vs at cs = leb at (length vs) && cellsFit cs (drop at vs)
 
+-- the kind of a cell by whether it is marked
+abbrev pub kind : Bool → Cell
+kind true = marked
+kind false = valued
+
 -- cells cs, from `at` on, are passed at r; past the end where they do not fit
 pub record Passes (vs : List ℤ) (cs : List Cell) (at r : ℕ) : Type 0 where
   pub inside : r ≤ length vs + 1
