@@ -1,9 +1,8 @@
 // 34: whether the stacks fit, in any record and any lent cells. Registers are taken from the bottom up, as the places tell them.
 ghost use Prim.Native.Nat.{_+_, _*_, _<_, _≤_};
 ghost use mathlib.Core.Path.{_≡_};
-ghost use mathlib.Core.Bool.{_&&_, true};
-ghost use mathlib.Core.List.{reverse};
-ghost use lib.ListN.{length, getD, drop, replicate};
+ghost use mathlib.Core.Bool.{_&&_};
+ghost use lib.ListN.{length, drop, replicate};
 ghost use lib.Dec.{eqb};
 ghost use Rattle.meaning.specs.Base.{all};
 ghost use Rattle.meaning.specs.Grammar.{Grammar, nonterminal};
@@ -109,12 +108,7 @@ fn count_of(counts: &[u8; 48], symbol: usize) -> usize
 }
 
 // The counts of the first `passed` symbols of a production.
-fn counts_passed(
-    rows: &[u8; 2048],
-    counts: &[u8; 48],
-    production: usize,
-    passed: usize,
-) -> usize
+fn counts_passed(rows: &[u8; 2048], counts: &[u8; 48], production: usize, passed: usize) -> usize
     requires { ⌜ RowTo (now rows) production passed ⌝ }
     ensures { λ r. ⌜ (r ≡ countsFrom (now (rows .entry)) (now (counts .entry)) (16 * production + 2) passed) × (r ≤ 4096) ⌝ }
 {
@@ -161,7 +155,12 @@ fn past_place(
     ensures { λ r. ⌜ Passes (now (registers .entry)) (cellsAt (now (rows .entry)) (now (inherited .entry)) (now (synthesized .entry)) production passed) at r ⌝ }
 {
     let symbol = wide(rows[16 * production + (passed + 2)]);
-    let below = past(registers, at, counts_passed(rows, synthesized, production, passed), false);
+    let below = past(
+        registers,
+        at,
+        counts_passed(rows, synthesized, production, passed),
+        false,
+    );
     let middle = past(registers, below, count_of(synthesized, symbol), true);
     past(registers, middle, count_of(inherited, symbol), false)
 }
@@ -188,7 +187,15 @@ fn stand_above(
         if stands_on(rows, productions, awaited, place) {
             let production = (place / 256) as usize;
             let passed = (place % 256) as usize;
-            reached = past_place(registers, reached, rows, inherited, synthesized, production, passed);
+            reached = past_place(
+                registers,
+                reached,
+                rows,
+                inherited,
+                synthesized,
+                production,
+                passed,
+            );
             awaited = wide(rows[16 * production + (passed + 2)]);
             i += 1;
         } else {
@@ -228,7 +235,16 @@ fn stand(
         return false;
     }
     let at = past(registers, 0, count, true);
-    stand_above(registers, at, places, rows, inherited, synthesized, productions, start)
+    stand_above(
+        registers,
+        at,
+        places,
+        rows,
+        inherited,
+        synthesized,
+        productions,
+        start,
+    )
 }
 
 // 34: whether the lent cells that count fit a record's numbers.
@@ -262,7 +278,15 @@ pub fn fits(
     if places.len() < top {
         return false;
     }
-    if !stand(&registers[..height], &places[..top], rows, inherited, synthesized, productions, start) {
+    if !stand(
+        &registers[..height],
+        &places[..top],
+        rows,
+        inherited,
+        synthesized,
+        productions,
+        start,
+    ) {
         return false;
     }
     if !all_marked(&registers[height..]) {

@@ -5,55 +5,41 @@ use Rattle.fit.proofs.Laws.{stretch-met, stretch-not}
 use borrow.Author.Needs.{needs}
 use Rattle.fit.proofs.past.Statement.{statement}
 use Rattle.fit.proofs.past.Tie as tie
-use Rattle.fit.proofs.past.Reads as reads
-use Rattle.fit.proofs.past.Lts as lts
-use Rattle.fit.proofs.all_fit.Reads as all-fit-reads
 
--- src/lib.rt:82:15
 add-end : tie.Need-add-end
 add-end c = search needs
 
--- src/lib.rt:84:16
 add-result : tie.Need-add-result
 add-result c = search needs
 
--- src/lib.rt:84:9
 returns : tie.Need-returns
 returns c =
     let s = c .before in
     passes-short (now (s .args .registers)) (kind (s .args .marked)) (s .args .at) (s .args .count) (omega arith)
 
--- src/lib.rt:86:16
 mul-all-fit : tie.Need-mul-all-fit
 mul-all-fit c = search needs
 
--- src/lib.rt:86:16
 sub-all-fit : tie.Need-sub-all-fit
 sub-all-fit c = search needs
 
--- src/lib.rt:86:16
 part-all-fit-start : tie.Need-part-all-fit-start
 part-all-fit-start c = search needs
 
--- src/lib.rt:86:16
 part-all-fit-end : tie.Need-part-all-fit-end
 part-all-fit-end c = search needs
 
--- src/lib.rt:86:8
 all-fit-requires : tie.Need-all-fit-requires
 all-fit-requires c κs = search needs
 
--- src/lib.rt:87:9
 returns-2 : tie.Need-returns-2
 returns-2 c =
     let s = c .before .before .before .before in
     stretch-met (now (s .args .registers)) (kind (s .args .marked)) (s .args .at) (s .args .count) (omega arith) (c .before .all-fit .result) (c .before .all-fit .ensures) (c .if2 .taken)
 
--- src/lib.rt:89:5
 add-result-2 : tie.Need-add-result-2
 add-result-2 c = search needs
 
--- src/lib.rt:78:1
 returns-3 : tie.Need-returns-3
 returns-3 c =
     let s = c .before .before .before .before in

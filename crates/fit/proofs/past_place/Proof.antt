@@ -4,62 +4,44 @@ use Rattle.fit.proofs.Places.{place-passes}
 use borrow.Author.Needs.{needs}
 use Rattle.fit.proofs.past_place.Statement.{statement}
 use Rattle.fit.proofs.past_place.Tie as tie
-use Rattle.fit.proofs.past_place.Reads as reads
-use Rattle.fit.proofs.past_place.Lts as lts
-use Rattle.fit.proofs.count_of.Reads as count-of-reads
-use Rattle.fit.proofs.counts_passed.Reads as counts-passed-reads
-use Rattle.fit.proofs.past.Reads as past-reads
-use Rattle.fit.proofs.wide.Reads as wide-reads
 
--- src/lib.rt:163:28
 mul-wide : tie.Need-mul-wide
 mul-wide c = search needs
 
--- src/lib.rt:163:47
 add-wide : tie.Need-add-wide
 add-wide c = search needs
 
--- src/lib.rt:163:28
 add-wide-2 : tie.Need-add-wide-2
 add-wide-2 c = search needs
 
--- src/lib.rt:163:23
 element-copy-out-wide : tie.Need-element-copy-out-wide
 element-copy-out-wide c = search needs
 
--- src/lib.rt:163:9
 wide-requires : tie.Need-wide-requires
 wide-requires c κs = search needs
 
--- src/lib.rt:164:37
 counts-passed-requires : tie.Need-counts-passed-requires
 counts-passed-requires c κs = search needs
 
--- src/lib.rt:164:9
 past-requires : tie.Need-past-requires
 past-requires c κs = search needs
 
--- src/lib.rt:165:41
 count-of-requires : tie.Need-count-of-requires
 count-of-requires c κs =
     let s = c .before .before .before .before in
     omega (arith, c .before .before .wide .ensures .0, s .pre .1 .symbols (s .args .passed) (omega arith))
 
--- src/lib.rt:165:9
 past-requires-2 : tie.Need-past-requires-2
 past-requires-2 c κs = search needs
 
--- src/lib.rt:166:29
 count-of-requires-2 : tie.Need-count-of-requires-2
 count-of-requires-2 c κs =
     let s = c .before .before .before .before .before .before in
     omega (arith, c .before .before .before .before .wide .ensures .0, s .pre .1 .symbols (s .args .passed) (omega arith))
 
--- src/lib.rt:166:5
 past-requires-3 : tie.Need-past-requires-3
 past-requires-3 c κs = search needs
 
--- src/lib.rt:151:1
 returns : tie.Need-returns
 returns c =
     let s = c .before .before .before .before .before .before .before .before in

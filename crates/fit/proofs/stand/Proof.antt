@@ -5,61 +5,45 @@ use Rattle.fit.proofs.Places.{bottom-none, bottom-other, bottom-waits, 
 use borrow.Author.Needs.{needs}
 use Rattle.fit.proofs.stand.Statement.{statement}
 use Rattle.fit.proofs.stand.Tie as tie
-use Rattle.fit.proofs.stand.Reads as reads
-use Rattle.fit.proofs.stand.Lts as lts
-use Rattle.fit.proofs.past.Reads as past-reads
-use Rattle.fit.proofs.stand_above.Reads as stand-above-reads
-use Rattle.fit.proofs.wide.Reads as wide-reads
 
--- src/lib.rt:217:9
 returns : tie.Need-returns
 returns c =
     let a = c .before .before .args in
     λ g h. sym (bottom-none h (now (a .registers)) (now (a .places)) (omega arith))
 
--- src/lib.rt:219:18
 shared-slice-read-bottom : tie.Need-shared-slice-read-bottom
 shared-slice-read-bottom c = search needs
 
--- src/lib.rt:220:22
 element-copy-out-wide : tie.Need-element-copy-out-wide
 element-copy-out-wide c = search needs
 
--- src/lib.rt:220:9
 wide-requires : tie.Need-wide-requires
 wide-requires c κs = search needs
 
--- src/lib.rt:223:13
 returns-2 : tie.Need-returns-2
 returns-2 c =
     let a = c .before .before .before .before .before .before .before .args in
     λ g h. sym (bottom-many h (now (a .registers)) (now (a .places)) (omega arith) (c .before .if2 .taken) (c .if3 .taken))
 
--- src/lib.rt:225:16
 past-requires : tie.Need-past-requires
 past-requires c κs = search needs
 
--- src/lib.rt:225:9
 returns-3 : tie.Need-returns-3
 returns-3 c =
     let a = c .before .before .before .before .before .before .before .before .args in
     λ g h. bottom-left h (now (a .registers)) (now (a .places)) (omega arith) (c .before .before .if2 .taken) (c .before .if3 .left) (c .before .before .before .wide .ensures .0) (c .past .ensures)
 
--- src/lib.rt:228:9
 returns-4 : tie.Need-returns-4
 returns-4 c =
     let a = c .before .before .before .before .before .before .before .args in
     λ g h. sym (bottom-other h (now (a .registers)) (now (a .places)) (omega arith) (c .before .if2 .left) (c .if4 .taken))
 
--- src/lib.rt:230:9
 past-requires-2 : tie.Need-past-requires-2
 past-requires-2 c κs = search needs
 
--- src/lib.rt:231:5
 stand-above-requires : tie.Need-stand-above-requires
 stand-above-requires c κs = search needs
 
--- src/lib.rt:204:1
 returns-5 : tie.Need-returns-5
 returns-5 c =
     let a = c .before .before .before .before .before .before .before .before .before .args in
