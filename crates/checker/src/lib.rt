@@ -1,0 +1,2 @@
+// The public calls that take only a table: its verdict, and the stretch of a production.
+pub mod intervals;
