@@ -37,10 +37,10 @@ pub record ConditionBody (b : List ℕ) : Type 0 where
   pub attribute : byte b 0 ≡ 0 → byte b 1 ≡ 0 → (1 ≤ byte b 2) × (byte b 2 ≤ 8)
   pub comparison : (byte b 0 ≡ 0 → ⊥) → isEntry (conditionOf b) ≡ false
 
--- one more condition of production p
-pub record Narrowed (p : ℕ) (c : Condition Occurrence) (lows highs flags lows′ highs′ flags′ : List ℕ) : Type 0 where
+-- one more condition of production p, by its body
+pub record Narrowed (p : ℕ) (b lows highs flags lows′ highs′ flags′ : List ℕ) : Type 0 where
   pub apart : Apart p lows highs flags lows′ highs′ flags′
-  pub own : (cs : List (Condition Occurrence)) → Interval lows highs flags p cs → Interval lows′ highs′ flags′ p (c ∷ cs)
+  pub own : (cs : List (Condition Occurrence)) → Interval lows highs flags p cs → Interval lows′ highs′ flags′ p (conditionOf b ∷ cs)
 
 -- ---- the fields of a production
 
@@ -88,6 +88,10 @@ pub record Gathered (p : ℕ) (conditions : List (Condition Occurrence)) (lows h
 -- where the stretch of production p of n ends
 unfoldable pub endIn : ℕ → ℕ → List ℕ → ℕ → ℕ
 endIn long n offsets p = elim (ltb (p + 1) n) [ true ↦ getD offsets (p + 1) 0 | false ↦ long ]
+
+-- the offsets of n productions are below an end
+abbrev pub Below : ℕ → ℕ → List ℕ → Type 0
+Below long n offsets = (q : ℕ) → q < n → getD offsets q 0 < long
 
 -- the table is read whole, with these offsets of its productions
 pub record Offsets (t : List ℕ) (n : ℕ) (offsets : List ℕ) : Type 0 where

@@ -2,9 +2,8 @@
 ghost use mathlib.Core.Path.{_≡_};
 ghost use Prim.Native.Nat.{ℕ, _+_, _*_, _%_, _<_, _≤_, min, max};
 ghost use lib.ListN.{length};
-ghost use Rattle.meaning.specs.Table.{conditionOf};
 ghost use Rattle.rules.specs.Rule.{fourAt};
-ghost use Rattle.checker.specs.Intervals.{Room, Apart, ConditionBody, Narrowed, Uses, FieldAt, Stepped, Gathered, endIn, Offsets, Fresh, GatheredTo};
+ghost use Rattle.checker.specs.Intervals.{Room, Apart, ConditionBody, Narrowed, Uses, FieldAt, Stepped, Gathered, Below, endIn, Offsets, Fresh, GatheredTo};
 
 fn larger(x: u32, y: u32) -> u32
     ensures { λ r. ⌜ r ≡ max x y ⌝ }
@@ -42,7 +41,7 @@ fn narrow(
     flags: &mut [u8; 128],
 )
     requires { ⌜ ConditionBody (now body) × (p < 128) × Room (now lows) (now highs) (now flags) ⌝ }
-    ensures { λ r. ⌜ Narrowed p (conditionOf (now (body .entry))) (now (lows .entry)) (now (highs .entry)) (now (flags .entry)) (now (lows .exit)) (now (highs .exit)) (now (flags .exit)) ⌝ }
+    ensures { λ r. ⌜ Narrowed p (now (body .entry)) (now (lows .entry)) (now (highs .entry)) (now (flags .entry)) (now (lows .exit)) (now (highs .exit)) (now (flags .exit)) ⌝ }
 {
     if fields::wide(body[0]) != 0 {
         return;
@@ -100,7 +99,7 @@ fn gather(
 
 // Where the stretch of production p ends: at the next production, or at the table's end.
 pub fn end_of(long: usize, productions: usize, offsets: &[u32; 128], p: usize) -> usize
-    requires { ⌜ (p < productions) × (productions ≤ 128) × (length (now offsets) ≡ 128) ⌝ }
+    requires { ⌜ (p < productions) × (productions ≤ 128) × (length (now offsets) ≡ 128) × Below long productions (now offsets) ⌝ }
     ensures { λ r. ⌜ r ≡ endIn long productions (now (offsets .entry)) p ⌝ }
 {
     if p + 1 < productions {

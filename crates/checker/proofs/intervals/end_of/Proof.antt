@@ -1,3 +1,5 @@
+use native.Mathlib.Omega.{arith}
+use Rattle.checker.proofs.Offsets.{end-next, end-last}
 use borrow.Author.Needs.{needs}
 use Rattle.checker.proofs.intervals.end_of.Statement.{statement}
 use Rattle.checker.proofs.intervals.end_of.Tie as tie
@@ -22,15 +24,15 @@ element-copy-out-result c = search needs
 
 -- src/intervals.rt:107:16
 cast-result : tie.Need-cast-result
-cast-result c = ?
+cast-result c = omega (arith, c .before .before .pre .3 _ (c .before .if1 .taken))
 
 -- src/intervals.rt:107:9
 returns : tie.Need-returns
-returns c = ?
+returns c = end-next _ _ _ _ (c .before .if1 .taken)
 
 -- src/intervals.rt:102:1
 returns-2 : tie.Need-returns-2
-returns-2 c = ?
+returns-2 c = end-last _ _ _ _ (c .if1 .left)
 
 pub end-of-spec : {M : Type 1} → statement M
 end-of-spec =

@@ -1,4 +1,7 @@
+use native.Mathlib.Omega.{arith}
+use mathlib.Core.Path.{_≡_, sym, _∙_}
 use borrow.Author.Needs.{needs}
+use Rattle.checker.proofs.Narrowing.{narrowed-comparison, narrowed-later, narrowed-entry}
 use Rattle.checker.proofs.intervals.narrow.Statement.{statement}
 use Rattle.checker.proofs.intervals.narrow.Tie as tie
 use Rattle.checker.proofs.intervals.narrow.Reads as reads
@@ -10,7 +13,7 @@ use Rattle.fields.proofs.wide.Reads as wide-reads
 
 -- src/intervals.rt:47:21
 shared-slice-read-wide : tie.Need-shared-slice-read-wide
-shared-slice-read-wide c = search needs
+shared-slice-read-wide c = omega (arith, c .before .before .pre .0 .long)
 
 -- src/intervals.rt:47:8
 wide-requires : tie.Need-wide-requires
@@ -18,11 +21,11 @@ wide-requires c κs = search needs
 
 -- src/intervals.rt:48:9
 returns : tie.Need-returns
-returns c = ?
+returns c = let s = c .before .before .before .before in narrowed-comparison _ _ _ _ _ (s .pre .0) (s .pre .1) (s .pre .2) (λ e. omega arith)
 
 -- src/intervals.rt:50:21
 shared-slice-read-wide-2 : tie.Need-shared-slice-read-wide-2
-shared-slice-read-wide-2 c = search needs
+shared-slice-read-wide-2 c = omega (arith, c .before .before .before .before .before .pre .0 .long)
 
 -- src/intervals.rt:50:8
 wide-requires-2 : tie.Need-wide-requires-2
@@ -30,7 +33,7 @@ wide-requires-2 c κs = search needs
 
 -- src/intervals.rt:51:9
 returns-2 : tie.Need-returns-2
-returns-2 c = ?
+returns-2 c = let s = c .before .before .before .before .before .before .before in narrowed-later _ _ _ _ _ (s .pre .0) (s .pre .1) (s .pre .2) (omega arith) (λ e. omega arith)
 
 -- src/intervals.rt:53:13
 mul-i : tie.Need-mul-i
@@ -38,7 +41,7 @@ mul-i c = search needs
 
 -- src/intervals.rt:53:34
 shared-slice-read-wide-3 : tie.Need-shared-slice-read-wide-3
-shared-slice-read-wide-3 c = search needs
+shared-slice-read-wide-3 c = omega (arith, c .before .before .before .before .before .before .before .before .pre .0 .long)
 
 -- src/intervals.rt:53:21
 wide-requires-3 : tie.Need-wide-requires-3
@@ -50,15 +53,15 @@ add-i c = search needs
 
 -- src/intervals.rt:53:13
 sub-i : tie.Need-sub-i
-sub-i c = ?
+sub-i c = let s = c .before .before .before .before .before .before .before .before .before in omega (arith, s .pre .0 .attribute (omega arith) (omega arith))
 
 -- src/intervals.rt:54:9
 bound-at-requires : tie.Need-bound-at-requires
-bound-at-requires c κs = ?
+bound-at-requires c κs = let s = c .before .before .before .before .before .before .before .before .before in omega (arith, s .pre .0 .bounds (omega arith))
 
 -- src/intervals.rt:55:9
 bound-at-requires-2 : tie.Need-bound-at-requires-2
-bound-at-requires-2 c κs = ?
+bound-at-requires-2 c κs = let s = c .before .before .before .before .before .before .before .before .before .before in omega (arith, s .pre .0 .bounds (omega arith))
 
 -- src/intervals.rt:56:22
 mul-larger : tie.Need-mul-larger
@@ -66,7 +69,7 @@ mul-larger c = search needs
 
 -- src/intervals.rt:56:22
 element-copy-out-larger : tie.Need-element-copy-out-larger
-element-copy-out-larger c = ?
+element-copy-out-larger c = let s = c .before .before .before .before .before .before .before .before .before .before .before in omega (arith, s .pre .0 .attribute (omega arith) (omega arith))
 
 -- src/intervals.rt:56:15
 larger-requires : tie.Need-larger-requires
@@ -78,7 +81,7 @@ mul-lows c = search needs
 
 -- src/intervals.rt:56:5
 element-write-lows : tie.Need-element-write-lows
-element-write-lows c = ?
+element-write-lows c = let s = c .before .before .before .before .before .before .before .before .before .before .before .before .before in omega (arith, s .pre .0 .attribute (omega arith) (omega arith))
 
 -- src/intervals.rt:57:24
 mul-smaller : tie.Need-mul-smaller
@@ -86,7 +89,7 @@ mul-smaller c = search needs
 
 -- src/intervals.rt:57:24
 element-copy-out-smaller : tie.Need-element-copy-out-smaller
-element-copy-out-smaller c = ?
+element-copy-out-smaller c = let s = c .before .before .before .before .before .before .before .before .before .before .before .before .before in omega (arith, s .pre .0 .attribute (omega arith) (omega arith))
 
 -- src/intervals.rt:57:16
 smaller-requires : tie.Need-smaller-requires
@@ -98,7 +101,7 @@ mul-highs c = search needs
 
 -- src/intervals.rt:57:5
 element-write-highs : tie.Need-element-write-highs
-element-write-highs c = ?
+element-write-highs c = let s = c .before .before .before .before .before .before .before .before .before .before .before .before .before .before .before in omega (arith, s .pre .0 .attribute (omega arith) (omega arith))
 
 -- src/intervals.rt:58:5
 element-write-flags : tie.Need-element-write-flags
@@ -106,7 +109,7 @@ element-write-flags c = search needs
 
 -- src/intervals.rt:37:1
 returns-3 : tie.Need-returns-3
-returns-3 c = ?
+returns-3 c = let s = c .before .before .before .before .before .before .before .before .before .before .before .before .before .before .before in narrowed-entry _ _ _ _ _ (s .pre .0) (s .pre .1) (s .pre .2) (omega arith) (omega arith) _ _ _ (omega arith) (c .before .before .before .before .before .bound-at .ensures) (c .before .before .before .before .bound-at2 .ensures) _ _ (c .before .before .larger .ensures) (c .smaller .ensures)
 
 pub narrow-spec : {M : Type 1} → statement M
 narrow-spec =

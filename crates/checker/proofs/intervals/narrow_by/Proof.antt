@@ -1,3 +1,5 @@
+use native.Mathlib.Omega.{arith}
+use Rattle.checker.proofs.Gathering.{stepped-other, stepped-condition}
 use borrow.Author.Needs.{needs}
 use Rattle.checker.proofs.intervals.narrow_by.Statement.{statement}
 use Rattle.checker.proofs.intervals.narrow_by.Tie as tie
@@ -16,7 +18,7 @@ wide-requires c κs = search needs
 
 -- src/intervals.rt:75:9
 returns : tie.Need-returns
-returns c = ?
+returns c = let s = c .before .before .before .before in stepped-other _ _ _ _ _ _ _ (λ e. omega arith) (s .pre .2)
 
 -- src/intervals.rt:77:16
 add-from : tie.Need-add-from
@@ -36,11 +38,11 @@ part-narrow-end c = search needs
 
 -- src/intervals.rt:78:5
 narrow-requires : tie.Need-narrow-requires
-narrow-requires c κs = ?
+narrow-requires c κs = let s = c .before .before .before .before .before .before .before .before in (s .pre .0 .body (omega arith), s .pre .1, s .pre .2)
 
 -- src/intervals.rt:62:1
 returns-2 : tie.Need-returns-2
-returns-2 c = ?
+returns-2 c = let s = c .before .before .before .before .before .before .before .before .before in stepped-condition _ _ _ _ _ _ _ _ _ _ (omega arith) (c .narrow .ensures)
 
 pub narrow-by-spec : {M : Type 1} → statement M
 narrow-by-spec =

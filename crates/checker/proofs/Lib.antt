@@ -1,0 +1,3 @@
+pub mod Narrowing
+pub mod Gathering
+pub mod Offsets
