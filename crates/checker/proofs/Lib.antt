@@ -1,3 +1,4 @@
 pub mod Narrowing
 pub mod Gathering
 pub mod Offsets
+pub mod Filling

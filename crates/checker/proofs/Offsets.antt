@@ -21,7 +21,7 @@ use Rattle.theory_table.specs.ReadWellFormed.{read-well-formed}
 use Rattle.theory_table.specs.Places.{Places, read-places}
 use Rattle.theory_table.specs.Stretches.{StretchAt}
 use Rattle.theory_table.specs.ReadLaidOut.{read-stretch}
-use Rattle.checker.specs.Intervals.{Fine, Uses, endIn, Below, Offsets}
+use Rattle.checker.specs.Intervals.{Fine, Uses, Gathered, endIn, Below, Offsets}
 
 module _ (long n : ℕ) (offsets : List ℕ) (p : ℕ) where
   pub end-next : p + 1 < n → getD offsets (p + 1) 0 ≡ endIn long n offsets p
@@ -68,6 +68,9 @@ module _ (t : List ℕ) (n : ℕ) (offsets : List ℕ) (x : Offsets t n offsets)
     abbrev own : Production
     own = productionOf entry
 
+    pub entry-long : getD offsets p 0 + 5 ≤ length t
+    entry-long = omega (arith, x .each p l, places .entriesAt p (omega (arith, x .counted)) .inside)
+
     is-own : productionAt g p ≡ own
     is-own = places .isProduction p (omega (arith, x .counted))
 
@@ -81,7 +84,11 @@ module _ (t : List ℕ) (n : ℕ) (offsets : List ℕ) (x : Offsets t n offsets)
         go (range o l h) p r = (p, λ e. let k = input-few g own (o .position) (o .attribute) e r in (k .0, omega (arith, k .1, inherited-few own (own-formed .left))))
         go (atmost o u) p r = p
 
-    module _ (bytes : Bytes t) (from to : ℕ) (is-from : from ≡ getD offsets p 0 + 5 + byte t (getD offsets p 0 + 4)) (is-to : to ≡ endIn (length t) n offsets p) where
+    -- the fields behind its own
+    module _ (bytes : Bytes t) (w to : ℕ) (is-w : w ≡ byte t (getD offsets p 0 + 4)) (is-to : to ≡ endIn (length t) n offsets p) where
+      abbrev from : ℕ
+      from = getD offsets p 0 + 5 + w
+
       stretch : StretchAt t entry (getD (map (λ d. d .offset) (reverse (x .state .entries))) (suc p) (length t))
       stretch = read-stretch t (x .state) bytes (x .isRead) p (omega (arith, x .counted))
 
@@ -104,7 +111,7 @@ module _ (t : List ℕ) (n : ℕ) (offsets : List ℕ) (x : Offsets t n offsets)
       from-is =
           let s = places .entriesAt p (omega (arith, x .counted)) .size in
           let e : byte t (getD offsets p 0 + 4) ≡ length (entry .right) = ap (λ z. byte t (z + 4)) offset-is ∙ s in
-          omega (arith, is-from, offset-is, e, length-map (entry .right) symbolByte)
+          omega (arith, is-w, offset-is, e, length-map (entry .right) symbolByte)
 
       to-is : to ≡ from + length (stretch .body)
       to-is = omega (arith, is-to, end-same, stretch .isEnd, from-is, length-append (field 3 (productionBytes own)) (stretch .body))
@@ -122,3 +129,7 @@ module _ (t : List ℕ) (n : ℕ) (offsets : List ℕ) (x : Offsets t n offsets)
 
       pub part-uses : Uses (take (to - from) (drop from t))
       part-uses = record { rules = own .rules; conditions = productionAt g p .conditions; own = rw body-is (rw is-own (stretch .own)); fine = rw is-own fine }
+
+      pub part-gathered : {l h f l′ h′ f′ : List ℕ} → ((u : Uses (take (to - from) (drop from t))) → Gathered p (u .conditions) l h f l′ h′ f′) → Gathered p (productionAt g p .conditions) l h f l′ h′ f′
+      unfolding part-uses
+      part-gathered k = k part-uses
