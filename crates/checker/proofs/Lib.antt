@@ -2,3 +2,4 @@ pub mod Narrowing
 pub mod Gathering
 pub mod Offsets
 pub mod Filling
+pub mod Judging
