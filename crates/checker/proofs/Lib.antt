@@ -3,3 +3,4 @@ pub mod Gathering
 pub mod Offsets
 pub mod Filling
 pub mod Judging
+pub mod Answers

@@ -11,7 +11,7 @@ use Rattle.meaning.specs.Sets.{starts}
 use Rattle.meaning.specs.Judgement as Judgement
 use Rattle.meaning.specs.Judgement.{accepted, rejected}
 use Rattle.meaning.specs.Decide.{judge}
-use Rattle.meaning.specs.PublicCalls.{Checked, usable, unusable}
+use Rattle.meaning.specs.PublicCalls.{Checked, usable, unusable, check}
 use Rattle.token_set.specs.Words.{setOf}
 use Rattle.table.specs.declared.Sizes.{Sizes}
 use Rattle.table.specs.Outline.{Outline}
@@ -43,9 +43,12 @@ pub record Brought (t : List ℕ) (s : State) (sizes : Sizes) (inherited synthes
   pub starting : Starting s (sizes .productions) sets
 
 -- the answer, with the lent lists, for what the table is
-abbrev pub Judges : List ℕ → List ℕ → List ℕ → List ℕ → List ℕ → List ℕ → Judged → Checked → Type 0
-Judges t inherited synthesized rows offsets sets r (usable s) = (sizes : Sizes) × (r ≡ Usable sizes) × Brought t s sizes inherited synthesized rows offsets sets
-Judges t inherited synthesized rows offsets sets r (unusable n o) = r ≡ Unusable n o
+abbrev pub Answered : List ℕ → List ℕ → List ℕ → List ℕ → List ℕ → List ℕ → Judged → Checked → Type 0
+Answered t inherited synthesized rows offsets sets r (usable s) = (sizes : Sizes) × (r ≡ Usable sizes) × Brought t s sizes inherited synthesized rows offsets sets
+Answered t inherited synthesized rows offsets sets r (unusable n o) = r ≡ Unusable n o
+
+unfoldable pub Judges : List ℕ → List ℕ → List ℕ → List ℕ → List ℕ → List ℕ → Judged → Type 0
+Judges t inherited synthesized rows offsets sets r = Answered t inherited synthesized rows offsets sets r (check t)
 
 -- the answer by the number and the index that the analysis gives
 unfoldable pub concluded : Sizes → List ℕ → ℕ → ℕ → Judged

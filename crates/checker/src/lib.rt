@@ -3,7 +3,6 @@ ghost use mathlib.Core.Path.{_≡_};
 ghost use Prim.Native.Nat.{ℕ, _+_, _*_, _<_, _≤_};
 ghost use lib.ListN.{length};
 ghost use Rattle.meaning.specs.Decide.{judge};
-ghost use Rattle.meaning.specs.PublicCalls.{check};
 ghost use Rattle.checker.specs.Judging.{Outlined, Concludes, Judges, concluded};
 use table::Reading;
 use table::Sizes;
@@ -67,7 +66,7 @@ pub fn judge_table(
     sets: &mut [u64; 128],
 ) -> Judged
     requires { ⌜ (length (now inherited) ≡ 48) × (length (now synthesized) ≡ 48) × (length (now rows) ≡ 2048) × (length (now offsets) ≡ 128) ⌝ }
-    ensures { λ r. ⌜ Judges (now (table .entry)) (now (inherited .exit)) (now (synthesized .exit)) (now (rows .exit)) (now (offsets .exit)) (now (sets .exit)) r (check (now (table .entry))) ⌝ }
+    ensures { λ r. ⌜ Judges (now (table .entry)) (now (inherited .exit)) (now (synthesized .exit)) (now (rows .exit)) (now (offsets .exit)) (now (sets .exit)) r ⌝ }
 {
     match table::read_table(table, inherited, synthesized, rows, offsets) {
         Reading::Malformed { number, offset } => Judged::Unusable {

@@ -1,3 +1,4 @@
+use Rattle.checker.proofs.Answers.{read-refused, read-outlined, read-judged}
 use borrow.Author.Needs.{needs}
 use Rattle.checker.proofs.judge_table.Statement.{statement}
 use Rattle.checker.proofs.judge_table.Tie as tie
@@ -24,15 +25,15 @@ enum-known-sizes c = search needs
 
 -- src/lib.rt:77:39
 judge-grammar-requires : tie.Need-judge-grammar-requires
-judge-grammar-requires c κs = ?
+judge-grammar-requires c κs = read-outlined _ (c .before .before .before .before .before .before .read-table .last .1 .0) (c .before .before .before .before .before .before .read-table .last .1 .1 .0) _ _ _ (c .before .before .before .before .before .before .read-table .ensures) _ (c .before .before .before .before .sizes .given .1)
 
 -- src/lib.rt:61:1
 returns : tie.Need-returns
-returns c = ?
+returns c = read-refused _ _ _ _ _ _ (c .before .before .before .read-table .ensures) _ _ _ (c .before .number .given .1)
 
 -- src/lib.rt:61:1
 returns-2 : tie.Need-returns-2
-returns-2 c = ?
+returns-2 c = read-judged _ _ _ _ _ _ (c .before .before .before .before .before .before .before .read-table .ensures) _ (c .before .before .before .before .before .sizes .given .1) _ _ (c .judge-grammar .ensures)
 
 pub judge-table-spec : {M : Type 1} → statement M
 judge-table-spec =
