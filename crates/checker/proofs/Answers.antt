@@ -14,8 +14,8 @@ use Rattle.table.specs.declared.Reading.the-variants.{WellFormed, Malformed}
 use Rattle.table.specs.Outline.{Outline}
 use Rattle.table.specs.Answer.{Answers, numberOf, offsetOf}
 use Rattle.checker.specs.Judging.{Outlined, Starting, Concludes, Brought, Answered, Judges}
-use Rattle.checker.specs.declared.Judged.{Judged}
-use Rattle.checker.specs.declared.Judged.the-variants.{Usable, Unusable}
+use Rattle.checker.specs.declared.judging.Judged.{Judged}
+use Rattle.checker.specs.declared.judging.Judged.the-variants.{Usable, Unusable}
 
 abbrev sizesIn : Reading → Sizes → Sizes
 sizesIn (WellFormed sizes) d = sizes

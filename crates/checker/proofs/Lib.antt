@@ -2,5 +2,6 @@ pub mod Narrowing
 pub mod Gathering
 pub mod Offsets
 pub mod Filling
-pub mod Judging
+pub mod Concluding
 pub mod Answers
+pub mod Cases

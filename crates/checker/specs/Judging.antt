@@ -15,8 +15,8 @@ use Rattle.meaning.specs.PublicCalls.{Checked, usable, unusable, check}
 use Rattle.token_set.specs.Words.{setOf}
 use Rattle.table.specs.declared.Sizes.{Sizes}
 use Rattle.table.specs.Outline.{Outline}
-use Rattle.checker.specs.declared.Judged.{Judged}
-use Rattle.checker.specs.declared.Judged.the-variants.{Usable, Unusable}
+use Rattle.checker.specs.declared.judging.Judged.{Judged}
+use Rattle.checker.specs.declared.judging.Judged.the-variants.{Usable, Unusable}
 
 -- the table is read whole, with this outline
 pub record Outlined (t : List ℕ) (sizes : Sizes) (rows offsets : List ℕ) : Type 0 where

@@ -1,78 +1,63 @@
 // The public calls that take only a table: its verdict, and the stretch of a production.
 ghost use mathlib.Core.Path.{_≡_};
-ghost use Prim.Native.Nat.{ℕ, _+_, _*_, _<_, _≤_};
-ghost use lib.ListN.{length};
-ghost use Rattle.meaning.specs.Decide.{judge};
-ghost use Rattle.checker.specs.Judging.{Outlined, Concludes, Judges, concluded};
-use table::Reading;
-use table::Sizes;
+ghost use Rattle.meaning.specs.Decide.{verdictOf};
+ghost use Rattle.meaning.specs.PublicCalls.{stretchOf};
+ghost use Rattle.checker.specs.Verdicts.{verdictIs, stretchIs};
+use crate::judging::judge_table;
+use crate::judging::Judged;
+use crate::spans::span_of;
+use crate::spans::Span;
 
 pub mod intervals;
+pub mod judging;
+pub mod spans;
 
-// A table judged: accepted, with its numbers, or refused.
-pub enum Judged {
-    Usable(Sizes),
-    Unusable { number: u32, offset: u32 },
+pub enum Verdict {
+    Accepted,
+    Refused { number: u32, offset: u32 },
 }
 
-// The answer by the number and the index that the analysis gives.
-fn conclude(sizes: Sizes, number: u32, index: usize, offsets: &[u32; 128]) -> Judged
-    requires { ⌜ (index < 128) × (length (now offsets) ≡ 128) ⌝ }
-    ensures { λ r. ⌜ r ≡ concluded sizes (now (offsets .entry)) number index ⌝ }
+// The verdict on any bytes as a table.
+pub fn check(table: &[u8]) -> Verdict
+    ensures { λ r. ⌜ verdictIs r ≡ verdictOf (now (table .entry)) ⌝ }
 {
-    if number == 0 {
-        return Judged::Usable(sizes);
+    let mut inherited = [0u8; 48];
+    let mut synthesized = [0u8; 48];
+    let mut rows = [0u8; 2048];
+    let mut offsets = [0u32; 128];
+    let mut sets = [0u64; 128];
+    match judge_table(
+        table,
+        &mut inherited,
+        &mut synthesized,
+        &mut rows,
+        &mut offsets,
+        &mut sets,
+    ) {
+        Judged::Usable(_) => Verdict::Accepted,
+        Judged::Unusable { number, offset } => Verdict::Refused { number, offset },
     }
-    if number == 13 {
-        let offset = offsets[index];
-        return Judged::Unusable { number, offset };
-    }
-    let offset = (7 + 5 * index) as u32;
-    Judged::Unusable { number, offset }
 }
 
-// Refusals 11 to 13 of a table that is well formed, by its outline.
-fn judge_grammar(
-    table: &[u8],
-    sizes: Sizes,
-    rows: &[u8; 2048],
-    offsets: &[u32; 128],
-    sets: &mut [u64; 128],
-) -> Judged
-    requires { ⌜ Outlined (now table) sizes (now rows) (now offsets) ⌝ }
-    ensures { λ r. ⌜ ((x : Outlined (now (table .entry)) sizes (now (rows .entry)) (now (offsets .entry))) → Concludes (x .state) sizes (now (sets .exit)) r (judge (x .state))) ⌝ }
+// A production's stretch of the table, from its tag 3 to the next or the end. On a refusal an empty part, with number and offset
+// in the two lent numbers; otherwise these stay as they were.
+pub fn stretch<'a>(
+    table: &'a [u8],
+    production: usize,
+    number: &mut u32,
+    offset: &mut u32,
+) -> &'a [u8]
+    ensures { λ r. ⌜ stretchIs (now r) (now (number .exit)) (now (offset .exit)) ≡ stretchOf (now (table .entry)) production (now (number .entry)) (now (offset .entry)) ⌝ }
 {
-    let mut lows = [0u32; 1024];
-    let mut highs = [4294967295u32; 1024];
-    let mut flags = [0u8; 128];
-    let productions = sizes.productions;
-    let nonterminals = sizes.nonterminals;
-    let start = sizes.start as u8;
-    intervals::gather_all(table, productions, offsets, &mut lows, &mut highs, &mut flags);
-    let a = analysis::analyse(rows, productions, nonterminals, start, &lows, &highs, &flags);
-    let found = a.sets;
-    *sets = found;
-    conclude(sizes, a.number, a.index, offsets)
-}
-
-// Judges a table. The lent arrays then hold, of an accepted one, its outline and FIRST-then-FOLLOW of each production;
-// after a refusal they are scratch.
-pub fn judge_table(
-    table: &[u8],
-    inherited: &mut [u8; 48],
-    synthesized: &mut [u8; 48],
-    rows: &mut [u8; 2048],
-    offsets: &mut [u32; 128],
-    sets: &mut [u64; 128],
-) -> Judged
-    requires { ⌜ (length (now inherited) ≡ 48) × (length (now synthesized) ≡ 48) × (length (now rows) ≡ 2048) × (length (now offsets) ≡ 128) ⌝ }
-    ensures { λ r. ⌜ Judges (now (table .entry)) (now (inherited .exit)) (now (synthesized .exit)) (now (rows .exit)) (now (offsets .exit)) (now (sets .exit)) r ⌝ }
-{
-    match table::read_table(table, inherited, synthesized, rows, offsets) {
-        Reading::Malformed { number, offset } => Judged::Unusable {
-            number: number as u32,
-            offset,
-        },
-        Reading::WellFormed(sizes) => judge_grammar(table, sizes, rows, offsets, sets),
+    match span_of(table, production) {
+        Span::Nowhere {
+            number: n,
+            offset: o,
+        } => {
+            *number = n;
+            *offset = o;
+            &table[..0]
+        }
+        Span::Within { from, to } => &table[from..to],
     }
 }

@@ -1,10 +1,10 @@
 use Rattle.checker.proofs.Answers.{read-refused, read-outlined, read-judged}
 use borrow.Author.Needs.{needs}
-use Rattle.checker.proofs.judge_table.Statement.{statement}
-use Rattle.checker.proofs.judge_table.Tie as tie
-use Rattle.checker.proofs.judge_table.Reads as reads
-use Rattle.checker.proofs.judge_table.Lts as lts
-use Rattle.checker.proofs.judge_grammar.Reads as judge-grammar-reads
+use Rattle.checker.proofs.judging.judge_table.Statement.{statement}
+use Rattle.checker.proofs.judging.judge_table.Tie as tie
+use Rattle.checker.proofs.judging.judge_table.Reads as reads
+use Rattle.checker.proofs.judging.judge_table.Lts as lts
+use Rattle.checker.proofs.judging.judge_grammar.Reads as judge-grammar-reads
 use Rattle.table.proofs.read_table.Reads as read-table-reads
 
 -- src/lib.rt:72:11

@@ -1,12 +1,12 @@
 use native.Mathlib.Omega.{arith}
 use Rattle.analysis.specs.Rows.{image-of}
-use Rattle.checker.proofs.Judging.{room-start, fresh-start, counted, narrow, start-small, offsets-of, rows-of, entries-of, index-small, concludes}
-use Rattle.checker.proofs.judge_grammar.Statement.{statement}
-use Rattle.checker.proofs.judge_grammar.Tie as tie
-use Rattle.checker.proofs.judge_grammar.Reads as reads
-use Rattle.checker.proofs.judge_grammar.Lts as lts
+use Rattle.checker.proofs.Concluding.{room-start, fresh-start, counted, narrow, start-small, offsets-of, rows-of, entries-of, index-small, concludes}
+use Rattle.checker.proofs.judging.judge_grammar.Statement.{statement}
+use Rattle.checker.proofs.judging.judge_grammar.Tie as tie
+use Rattle.checker.proofs.judging.judge_grammar.Reads as reads
+use Rattle.checker.proofs.judging.judge_grammar.Lts as lts
 use Rattle.analysis.proofs.analyse.Reads as analyse-reads
-use Rattle.checker.proofs.conclude.Reads as conclude-reads
+use Rattle.checker.proofs.judging.conclude.Reads as conclude-reads
 use Rattle.checker.proofs.intervals.gather_all.Reads as gather-all-reads
 
 -- src/lib.rt:51:17

@@ -31,8 +31,8 @@ use Rattle.analysis.specs.EntryImage.{low-is, high-is, none-is, ownLow, ownHigh
 use Rattle.analysis.specs.Finding.{Finding, fine, useless, recursive, clashing, orElse, isUseless, finding, numberOf, indexOf, verdictFrom, judge-is, Analysed}
 use Rattle.checker.specs.Intervals.{Interval, Room, Offsets, Fresh, GatheredTo}
 use Rattle.checker.specs.Judging.{Outlined, Starting, Concludes, concluded}
-use Rattle.checker.specs.declared.Judged.{Judged}
-use Rattle.checker.specs.declared.Judged.the-variants.{Usable, Unusable}
+use Rattle.checker.specs.declared.judging.Judged.{Judged}
+use Rattle.checker.specs.declared.judging.Judged.the-variants.{Usable, Unusable}
 use Rattle.checker.proofs.Offsets.{few, inherited-few}
 
 -- ---- the answer's cases

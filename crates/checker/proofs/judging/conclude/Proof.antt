@@ -1,9 +1,9 @@
-use Rattle.checker.proofs.Judging.{conclude-usable, conclude-production, conclude-nonterminal}
+use Rattle.checker.proofs.Concluding.{conclude-usable, conclude-production, conclude-nonterminal}
 use borrow.Author.Needs.{needs}
-use Rattle.checker.proofs.conclude.Statement.{statement}
-use Rattle.checker.proofs.conclude.Tie as tie
-use Rattle.checker.proofs.conclude.Reads as reads
-use Rattle.checker.proofs.conclude.Lts as lts
+use Rattle.checker.proofs.judging.conclude.Statement.{statement}
+use Rattle.checker.proofs.judging.conclude.Tie as tie
+use Rattle.checker.proofs.judging.conclude.Reads as reads
+use Rattle.checker.proofs.judging.conclude.Lts as lts
 
 -- src/lib.rt:25:9
 returns : tie.Need-returns
