@@ -65,7 +65,7 @@ no-read g lent l c d w h = go (counts g lent over c d (look-free g lent over l c
 
 -- ---- what it keeps within
 
-length-writeAll : (rs : List (Rule ℕ)) (old xs : List ℤ) → length (writeAll rs old xs) ≡ length xs
+pub length-writeAll : (rs : List (Rule ℕ)) (old xs : List ℤ) → length (writeAll rs old xs) ≡ length xs
 length-writeAll [] old xs = refl
 length-writeAll (r ∷ rs) old xs = length-writeAll rs old (writeRegister xs (r .target) (apply (readRegister old) (r .function))) ∙ length-set xs (r .target - 1) (apply (readRegister old) (r .function))
 
