@@ -108,6 +108,51 @@ module _ {g : Grammar} {ws : List ℕ} {lent : Lent} {m : List ℤ} {ps : List �
       go x true = refl
       go x false = ap (λ b. chooseOutcome b (moved (after h x (c .registers) (suc (c .tokens)))) (blocked 21)) (ne-eqb tokenHere u n)
 
+-- ---- where a place goes on
+
+pub record Resumes (ws : List ℕ) (place : ℕ) : Type 0 where
+  pub grammar : Grammar
+  pub begins : Begins grammar ws
+  pub wellFormed : WellFormed grammar
+  pub waiting : T (placeWaits grammar place)
+
+module _ {g : Grammar} {ws : List ℕ} (b : Begins g ws) (w : WellFormed g) (q : ℕ) (t : T (placeWaits g q)) where
+  abbrev production : ℕ
+  production = q / 256
+
+  abbrev bodyWord : ℕ
+  bodyWord = getD ws 2 0 + 8 * production + 4
+
+  waits-split : T (isListed g production) × T (ltb (q % 256) (length (productionAt g production .right)))
+  waits-split = both (isListed g production) (ltb (q % 256) (length (productionAt g production .right))) t
+
+  -- the words that are read, in the program, and the address they give
+  pub record Resumed : Type 0 where
+    pub bodyInside : bodyWord < length ws
+    pub expectInside : getD ws bodyWord 0 + q % 256 < length ws
+    pub address : getD ws (getD ws bodyWord 0 + q % 256) 0 ≡ placeAddress g q
+
+  pub resumed : (production ≡ whole → ⊥) → Resumed
+  resumed n = go (or-cases (ltb production (length (g .productions))) (eqb production whole) (waits-split .0))
+    where
+      listed-at : production < length (g .productions) → Resumed
+      listed-at l =
+          let k = ltb→lt (q % 256) (length (productionAt g production .right)) (waits-split .1) in
+          let records = segment-words b .records in
+          let isBody : getD ws bodyWord 0 ≡ bodyAddress g production = ap (λ a. getD ws a 0) (omega arith) ∙ record-words b w production l .body in
+          record {
+            bodyInside = omega (arith, records, stands-within (record-at b w production l));
+            expectInside = omega (arith, isBody, stands-within (body-at b w production l), body-length g (bodyAddress g production) (productionAt g production));
+            address = ap (λ a. getD ws (a + q % 256) 0) isBody ∙ (expect-word b w production l (q % 256) k ∙ sym (ap (λ z. choose z (q % 256) (expectAddress g production (q % 256))) (ne-eqb production whole n)));
+          }
+
+      go : T (ltb production (length (g .productions))) ⊎ T (eqb production whole) → Resumed
+      go (inl s) = listed-at (ltb→lt production (length (g .productions)) s)
+      go (inr s) = absurd (n (eqb→eq production whole s))
+
+  pub resumed-whole : production ≡ whole → q % 256 ≡ placeAddress g q
+  resumed-whole e = sym (ap (λ z. choose z (q % 256) (expectAddress g production (q % 256))) (eq-eqb production whole e))
+
 -- ---- remove
 
 abbrev firstOperation : List Instruction → ℕ
@@ -172,7 +217,7 @@ module _ {g : Grammar} {ws : List ℕ} {lent : Lent} {m : List ℤ} {ps : List �
     pub hand : Hand g ws (run .at) c (remove removedHere)
     pub fits : removedHere ≤ run .registers
     pub parent : Parent g (hand .below)
-    pub isPlace : getD ps (run .places - 2) 0 ≡ placeOf g (frame (parent .production) (expect (parent .symbol) ∷ parent .rest))
+    pub isPlace : getD ps (run .places - 1 - 1) 0 ≡ placeOf g (frame (parent .production) (expect (parent .symbol) ∷ parent .rest))
     pub somePlaces : 2 ≤ run .places
 
   pub removal : getD ws (run .at) 0 % 8 ≡ 5 → Removal
@@ -188,7 +233,7 @@ module _ {g : Grammar} {ws : List ℕ} {lent : Lent} {m : List ℤ} {ps : List �
         hand = x;
         fits = omega (arith, x .handled, h .registers .height);
         parent = y;
-        isPlace = laid-read l 2 0 (omega arith) (omega arith);
+        isPlace = ap (λ j. getD ps j 0) (omega arith) ∙ laid-read l 2 0 (omega arith) (omega arith);
         somePlaces = omega arith;
       }
 
@@ -198,6 +243,24 @@ module _ {g : Grammar} {ws : List ℕ} {lent : Lent} {m : List ℤ} {ps : List �
 
     abbrev left : Config
     left = config (frame (r .parent .production) (r .parent .rest) ∷ r .parent .below) (drop removedHere (c .registers)) (c .tokens) (suc (c .moves))
+
+    -- the places without the top one
+    popped : Laid 0 (lent .maxPlaces) (set ps (run .places - 1) 0) (run .places - 1) (place ∷ map (placeOf g) (r .parent .below))
+    popped =
+        let top : ℕ = placeOf g (frame (r .hand .production) (remove removedHere ∷ r .hand .rest)) in
+        laid-pop top (place ∷ map (placeOf g) (r .parent .below)) (subst (λ fs. Laid 0 (lent .maxPlaces) ps (run .places) (top ∷ map (placeOf g) fs)) (r .parent .frames) (top-laid h (r .hand)))
+
+    pub popped-small : getD (set ps (run .places - 1) 0) (run .places - 1 - 1) 0 < 65536
+    popped-small = let k = r .somePlaces in omega (arith, laid-read popped 1 0 (omega arith) (omega arith), r .parent .small)
+
+    pub resumes : Resumes ws place
+    resumes = record { grammar = g; begins = h .begins; wellFormed = h .wellFormed; waiting = r .parent .waiting }
+
+    -- where the place below goes on, by what was read of it
+    pub resumed-at : (q a : ℕ) → q ≡ getD ps (run .places - 1 - 1) 0 → ((g : Grammar) → Begins g ws → WellFormed g → T (placeWaits g q) → a ≡ placeAddress g q) → a ≡ placeAddress g place
+    resumed-at q a e f =
+        let is : q ≡ place = e ∙ r .isPlace in
+        f g (h .begins) (h .wellFormed) (subst (λ j. T (placeWaits g j)) (sym is) (r .parent .waiting)) ∙ ap (placeAddress g) is
 
     leaves : (look : Look) → run .moves < movesLimit → next g lent look c ≡ moved left
     leaves look limit = next-is h look (r .hand) limit ∙ ap (λ fs. step c (parentOnward fs) (drop removedHere (c .registers))) (r .parent .frames)
@@ -225,8 +288,6 @@ module _ {g : Grammar} {ws : List ℕ} {lent : Lent} {m : List ℤ} {ps : List �
         let rs : List ℤ = drop removedHere (c .registers) in
         let size : length rs ≡ run .registers - removedHere = length-drop removedHere (c .registers) ∙ omega arith in
         let few : 1 + expects (y .rest) ≤ length (productionAt g (y .production) .right) = omega (arith, parent-ahead .few) in
-        let all : Laid 0 (lent .maxPlaces) ps (run .places) (placeOf g (frame (r .hand .production) (remove removedHere ∷ r .hand .rest)) ∷ place ∷ map (placeOf g) (y .below)) = subst (λ fs. Laid 0 (lent .maxPlaces) ps (run .places) (placeOf g (frame (r .hand .production) (remove removedHere ∷ r .hand .rest)) ∷ map (placeOf g) fs)) (y .frames) (top-laid h (r .hand)) in
-        let popped = laid-pop (placeOf g (frame (r .hand .production) (remove removedHere ∷ r .hand .rest))) (place ∷ map (placeOf g) (y .below)) all in
         let next-ahead : Ahead g ws (a + 1) (frame (y .production) (y .rest)) = subst (λ j. Ahead g ws (j + 1) (frame (y .production) (y .rest))) (sym isAt) parent-next in
         let e = leaves look limit in
         (left, e, record {
@@ -241,48 +302,3 @@ module _ {g : Grammar} {ws : List ℕ} {lent : Lent} {m : List ℤ} {ps : List �
           fewMoves = omega arith;
           fewTokens = omega arith;
         })
-
--- ---- where a place goes on
-
-pub record Resumes (ws : List ℕ) (place : ℕ) : Type 0 where
-  pub grammar : Grammar
-  pub begins : Begins grammar ws
-  pub wellFormed : WellFormed grammar
-  pub waiting : T (placeWaits grammar place)
-
-module _ {g : Grammar} {ws : List ℕ} (b : Begins g ws) (w : WellFormed g) (q : ℕ) (t : T (placeWaits g q)) where
-  abbrev production : ℕ
-  production = q / 256
-
-  abbrev bodyWord : ℕ
-  bodyWord = getD ws 2 0 + 8 * production + 4
-
-  waits-split : T (isListed g production) × T (ltb (q % 256) (length (productionAt g production .right)))
-  waits-split = both (isListed g production) (ltb (q % 256) (length (productionAt g production .right))) t
-
-  -- the words that are read, in the program, and the address they give
-  pub record Resumed : Type 0 where
-    pub bodyInside : bodyWord < length ws
-    pub expectInside : getD ws bodyWord 0 + q % 256 < length ws
-    pub address : getD ws (getD ws bodyWord 0 + q % 256) 0 ≡ placeAddress g q
-
-  pub resumed : (production ≡ whole → ⊥) → Resumed
-  resumed n = go (or-cases (ltb production (length (g .productions))) (eqb production whole) (waits-split .0))
-    where
-      listed-at : production < length (g .productions) → Resumed
-      listed-at l =
-          let k = ltb→lt (q % 256) (length (productionAt g production .right)) (waits-split .1) in
-          let records = segment-words b .records in
-          let isBody : getD ws bodyWord 0 ≡ bodyAddress g production = ap (λ a. getD ws a 0) (omega arith) ∙ record-words b w production l .body in
-          record {
-            bodyInside = omega (arith, records, stands-within (record-at b w production l));
-            expectInside = omega (arith, isBody, stands-within (body-at b w production l), body-length g (bodyAddress g production) (productionAt g production));
-            address = ap (λ a. getD ws (a + q % 256) 0) isBody ∙ (expect-word b w production l (q % 256) k ∙ sym (ap (λ z. choose z (q % 256) (expectAddress g production (q % 256))) (ne-eqb production whole n)));
-          }
-
-      go : T (ltb production (length (g .productions))) ⊎ T (eqb production whole) → Resumed
-      go (inl s) = listed-at (ltb→lt production (length (g .productions)) s)
-      go (inr s) = absurd (n (eqb→eq production whole s))
-
-  pub resumed-whole : production ≡ whole → q % 256 ≡ placeAddress g q
-  resumed-whole e = sym (ap (λ z. choose z (q % 256) (expectAddress g production (q % 256))) (eq-eqb production whole e))

@@ -1,10 +1,20 @@
 // The moves of 01 on lent stacks, by the program's words, and the loop that makes them.
 ghost use Prim.Native.Nat.{ℕ, _+_, _-_, _/_, _%_, _≤_, _<_};
 ghost use mathlib.Core.Path.{_≡_};
+ghost use mathlib.Core.Bool.{true};
 ghost use mathlib.Core.List.{List};
+ghost use lib.Dec.{T};
+ghost use lib.IntN.{ℤ};
 ghost use lib.ListN.{length, getD};
-ghost use Rattle.meaning.specs.Machine.{Look};
+ghost use Rattle.meaning.specs.Calls.{placeWaits};
+ghost use Rattle.meaning.specs.Grammar.{Grammar, Look};
+ghost use Rattle.meaning.specs.Machine as Machine;
+ghost use Rattle.meaning.specs.Rules.{WellFormed};
+ghost use Rattle.theory_program.specs.Addresses.{Begins};
+ghost use Rattle.theory_program.specs.Resuming.{placeAddress};
 ghost use Rattle.machine.specs.Held.{Ready, Answers};
+ghost use Rattle.machine.specs.Moves.{countIf, passed};
+ghost use Rattle.machine.specs.Passing.{lookOf, Resumes};
 
 // A run: what was counted, the heights of both stacks, and the address of the next instruction of the top place's production.
 pub struct Run {
@@ -21,6 +31,59 @@ pub enum Step {
     Blocked(u32),
 }
 
+// ---- words and places
+
+// A word of the program, or a place.
+fn word_at(words: &[u32], at: usize) -> usize
+    requires { ⌜ at < length (now words) ⌝ }
+    ensures { λ r. ⌜ (r ≡ getD (now (words .entry)) at 0) × (r < 4294967296) ⌝ }
+{
+    words[at] as usize
+}
+
+// The number that refuses what comes next; 63 is the end.
+fn unexpected(look: usize) -> u32
+    ensures { λ r. ⌜ r ≡ Machine.unexpected (lookOf look) ⌝ }
+{
+    if look == 63 {
+        return 24;
+    }
+    21
+}
+
+// The top place has passed one symbol more.
+fn count(places: &mut [u32], height: usize)
+    requires { ⌜ (1 ≤ height) × (height ≤ length (now places)) × (getD (now places) (height - 1) 0 < 65536) ⌝ }
+    ensures { λ r. ⌜ now (places .exit) ≡ countIf true height (now (places .entry)) ⌝ }
+{
+    let top = height - 1;
+    places[top] = places[top] + 1;
+}
+
+// After a read or a remove: the symbol is passed now, unless a test follows.
+fn pass(places: &mut [u32], height: usize, program: &[u32], at: usize)
+    requires { ⌜ ((1 ≤ height) × (height ≤ length (now places)) × (getD (now places) (height - 1) 0 < 65536)) × (at < length (now program)) ⌝ }
+    ensures { λ r. ⌜ now (places .exit) ≡ passed (now (program .entry)) at height (now (places .entry)) ⌝ }
+{
+    if word_at(program, at) % 8 == 4 {
+        return;
+    }
+    count(places, height);
+}
+
+// The address of the expect at which a place waits. 01: "the whole segment is production 128".
+fn resume(program: &[u32], place: usize) -> usize
+    requires { ⌜ Resumes (now program) place ⌝ }
+    ensures { λ r. ⌜ ((g : Grammar) → Begins g (now (program .entry)) → WellFormed g → T (placeWaits g place) → r ≡ placeAddress g place) ⌝ }
+{
+    let production = place / 256;
+    if production == 128 {
+        return place % 256;
+    }
+    let body = word_at(program, word_at(program, 2) + 8 * production + 4);
+    word_at(program, body + place % 256)
+}
+
 // ---- add
 
 // The registers of the next symbol. They are clear already.
@@ -28,17 +91,78 @@ fn add(registers: &[i64], program: &[u32], run: Run) -> Step
     requires { ⌜ ((ps : List ℕ) × Ready (now program) (now registers) ps run 0) ⌝ }
     ensures { λ r. ⌜ ((ps : List ℕ) (look : Look) → Answers (now (program .entry)) (now (registers .entry)) ps run look (now (registers .entry)) ps r) ⌝ }
 {
-    let at = run.at;
-    let word = program[at];
-    let count = (word / 8) as usize;
-    if registers.len() - run.registers < count {
+    let n = word_at(program, run.at) / 8;
+    if registers.len() - run.registers < n {
         return Step::Blocked(31);
     }
     Step::Moved(Run {
         tokens: run.tokens,
         moves: run.moves + 1,
-        registers: run.registers + count,
+        registers: run.registers + n,
         places: run.places,
-        at: at + 1,
+        at: run.at + 1,
+    })
+}
+
+// ---- read
+
+fn read(places: &mut [u32], program: &[u32], run: Run, look: usize) -> Step
+    requires { ⌜ ((m : List ℤ) × Ready (now program) m (now places) run 2) ⌝ }
+    ensures { λ r. ⌜ ((m : List ℤ) → Answers (now (program .entry)) m (now (places .entry)) run (lookOf look) m (now (places .exit)) r) ⌝ }
+{
+    if word_at(program, run.at) / 8 != look {
+        return Step::Blocked(unexpected(look));
+    }
+    pass(places, run.places, program, run.at + 1);
+    Step::Moved(Run {
+        tokens: run.tokens + 1,
+        moves: run.moves + 1,
+        registers: run.registers,
+        places: run.places,
+        at: run.at + 1,
+    })
+}
+
+// ---- test
+
+// The conditions of a symbol that was left; after it the place counts the symbol.
+fn test(registers: &[i64], places: &mut [u32], program: &[u32], run: Run) -> Step
+    requires { ⌜ Ready (now program) (now registers) (now places) run 4 ⌝ }
+    ensures { λ r. ⌜ ((look : Look) → Answers (now (program .entry)) (now (registers .entry)) (now (places .entry)) run look (now (registers .entry)) (now (places .exit)) r) ⌝ }
+{
+    let n = word_at(program, run.at) / 8;
+    if registers::test(registers, run.registers, program, run.at + 1, n) {
+        count(places, run.places);
+        return Step::Moved(Run {
+            tokens: run.tokens,
+            moves: run.moves + 1,
+            registers: run.registers,
+            places: run.places,
+            at: run.at + 1 + 3 * n,
+        });
+    }
+    Step::Blocked(22)
+}
+
+// ---- remove
+
+// The registers of the symbols and of the left side's inherited attributes, and the place; the one below goes on.
+fn remove(registers: &mut [i64], places: &mut [u32], program: &[u32], run: Run) -> Step
+    requires { ⌜ Ready (now program) (now registers) (now places) run 5 ⌝ }
+    ensures { λ r. ⌜ ((look : Look) → Answers (now (program .entry)) (now (registers .entry)) (now (places .entry)) run look (now (registers .exit)) (now (places .exit)) r) ⌝ }
+{
+    let n = word_at(program, run.at) / 8;
+    registers::remove(registers, run.registers, n);
+    let height = run.places - 1;
+    let waiting = word_at(places, height - 1);
+    let at = resume(program, waiting) + 1;
+    places[height] = 0;
+    pass(places, height, program, at);
+    Step::Moved(Run {
+        tokens: run.tokens,
+        moves: run.moves + 1,
+        registers: run.registers - n,
+        places: height,
+        at,
     })
 }

@@ -1,63 +1,40 @@
-use borrow.Author.Needs.{needs}
-use Prim.Native.Nat.{_<_}
-use native.Mathlib.Omega.{arith}
-use denote.Ref.{now}
-use Rattle.machine.specs.Held.{Bounds, bounds}
 use Rattle.machine.specs.Moves.{made-add, blocked-add}
+use Rattle.machine.specs.Held.{bounds}
+use native.Mathlib.Omega.{arith}
+use borrow.Author.Needs.{needs}
 use Rattle.machine.proofs.add.Statement.{statement}
 use Rattle.machine.proofs.add.Tie as tie
 use Rattle.machine.proofs.add.Reads as reads
 use Rattle.machine.proofs.add.Lts as lts
+use Rattle.machine.proofs.word_at.Reads as word-at-reads
 
-numbers : (c : lts.Start reads.Pre reads.Post) → Bounds (now (c .args .program)) (now (c .args .registers)) (c .pre .0) (c .args .run)
-numbers c = bounds (c .pre .1 .held)
+-- src/lib.rt:94:13
+word-at-requires : tie.Need-word-at-requires
+word-at-requires c κs = bounds (c .before .pre .1 .held) .inside
 
--- src/lib.rt:32:16
-mul-word : tie.Need-mul-word
-mul-word c = omega (arith, numbers c .inside)
-
--- src/lib.rt:32:16
-shared-slice-read-word : tie.Need-shared-slice-read-word
-shared-slice-read-word c = numbers (c .before) .inside
-
--- src/lib.rt:33:17
-cast-count : tie.Need-cast-count
-cast-count c = omega (arith, c .shared-slice-known .given (c .before .args .run .at) .fits)
-
--- src/lib.rt:34:8
+-- src/lib.rt:95:8
 sub-if1 : tie.Need-sub-if1
-sub-if1 c = numbers (c .before .before) .registers
+sub-if1 c = bounds (c .before .before .before .pre .1 .held) .registers
 
--- src/lib.rt:35:9
+-- src/lib.rt:96:9
 returns : tie.Need-returns
-returns c = let b = c .before .before .before in λ ps look g lent d h. blocked-add h look (b .pre .1 .limit) (b .pre .1 .operation) (omega (arith, c .if1 .taken, numbers b .registers))
+returns c = λ ps look g lent d h. let b = c .before .before .before .before .pre .1 in blocked-add h look (b .limit) (b .operation) (omega (arith, c .if1 .taken, bounds h .registers, c .before .before .word-at .ensures .0))
 
--- src/lib.rt:39:16
-add-t12 : tie.Need-add-t12
-add-t12 c = search needs
+-- src/lib.rt:100:16
+add-t8 : tie.Need-add-t8
+add-t8 c = search needs
 
--- src/lib.rt:40:20
-add-t7 : tie.Need-add-t7
-add-t7 c = search needs
+-- src/lib.rt:101:20
+add-t5 : tie.Need-add-t5
+add-t5 c = search needs
 
--- src/lib.rt:42:13
-add-t10 : tie.Need-add-t10
-add-t10 c = let b = c .before .before .before .before .before in omega (arith, numbers b .inside)
+-- src/lib.rt:103:13
+add-t6 : tie.Need-add-t6
+add-t6 c = omega (arith, bounds (c .before .before .before .before .before .before .before .pre .1 .held) .inside)
 
--- src/lib.rt:27:1
+-- src/lib.rt:90:1
 returns-2 : tie.Need-returns-2
-returns-2 c = let b = c .before .before .before .before .before in λ ps look g lent d h. made-add h look (b .pre .1 .limit) (b .pre .1 .operation) (omega (arith, c .before .before .if1 .left, numbers b .registers))
+returns-2 c = λ ps look g lent d h. let b = c .before .before .before .before .before .before .before .pre .1 in rw (c .before .before .before .before .before .word-at .ensures .0) (made-add h look (b .limit) (b .operation) (omega (arith, c .before .before .before .if1 .left, bounds h .registers, c .before .before .before .before .before .word-at .ensures .0)))
 
 pub add-spec : {M : Type 1} → statement M
-add-spec =
-    tie.close
-    (tie.spec
-    mul-word
-    shared-slice-read-word
-    cast-count
-    sub-if1
-    returns
-    add-t12
-    add-t7
-    add-t10
-    returns-2)
+add-spec = tie.close (tie.spec word-at-requires sub-if1 returns add-t8 add-t5 add-t6 returns-2)
