@@ -17,6 +17,7 @@ abbrev mutual
   pub registersFor : Grammar → ℕ → Tree → ℕ
   registersFor g base (leaf t) = base
   registersFor g base (node p vs f) = registersIn g p 1 base f
+
   pub registersIn : Grammar → ℕ → ℕ → ℕ → Forest → ℕ
   registersIn g p k base noTrees = base
   registersIn g p k base (treeAnd t f) = max (registersFor g (base + att g (symbolAt (productionAt g p) k)) t) (registersIn g p (suc k) (base + syn g (symbolAt (productionAt g p) k)) f)
@@ -26,6 +27,7 @@ abbrev mutual
   pub depth : Tree → ℕ
   depth (leaf t) = 0
   depth (node p vs f) = suc (depths f)
+
   pub depths : Forest → ℕ
   depths noTrees = 0
   depths (treeAnd t f) = max (depth t) (depths f)
@@ -56,5 +58,5 @@ drawnRecord g t j isOver = record { isOpen = not isOver; tokens = j; moves = len
 abbrev pub drawnStacks : Grammar → Tree → ℕ → Bool → Stacks → Stacks
 drawnStacks g t j isOver m = record {
   registers = lay (lentOf m .maxRegisters) mark (drawnPicture g t j isOver .registers) (m .registers);
-  places = lay (lentOf m .maxPlaces) 0 (drawnPicture g t j isOver .places) (m .places)
+  places = lay (lentOf m .maxPlaces) 0 (drawnPicture g t j isOver .places) (m .places);
 }

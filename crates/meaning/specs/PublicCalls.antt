@@ -57,12 +57,12 @@ effect k area = record { answer = k .answer; state = k .state; stacks = k .stack
 -- `brought` is the record that a refusal by 30 or by the table hands back, `made` what the call does under the table's grammar
 abbrev pub called : (Grammar → List ℕ) → List ℕ → List ℕ → Record → Stacks → (Grammar → Called) → Effect
 called program bs area brought m made = elim (ltb (length area) areaLength) [
-    true ↦ effect (asBrought (refused 30 0) brought m) area
+  | true ↦ effect (asBrought (refused 30 0) brought m) area
   | false ↦ elim (check bs) [
-      unusable n o ↦ effect (asBrought (tableRefused n o) brought m) area
+    | unusable n o ↦ effect (asBrought (tableRefused n o) brought m) area
     | usable s ↦ effect (made (grammarOf s)) (written (program (grammarOf s)) area)
-    ]
   ]
+]
 
 -- 01: "the record comes back as brought, or closed and all zero from an opening"
 abbrev pub opens : (Grammar → List ℕ) → List ℕ → List ℕ → Stacks → Effect
@@ -88,12 +88,12 @@ stretchEnd bs s p = elim (ltb (suc p) (length (s .entries))) [ true ↦ entryOff
 -- n and o are what the two lent numbers held: on success they stay. 01: "14 no such production (offset 0)", "14 after them"
 abbrev pub stretchOf : List ℕ → ℕ → ℕ → ℕ → Stretch
 stretchOf bs p n o = elim (check bs) [
-    unusable k f ↦ record { part = []; number = k; offset = f }
+  | unusable k f ↦ record { part = []; number = k; offset = f }
   | usable s ↦ elim (ltb p (length (s .entries))) [
-      true ↦ record { part = cut bs (entryOffset s p) (stretchEnd bs s p); number = n; offset = o }
+    | true ↦ record { part = cut bs (entryOffset s p) (stretchEnd bs s p); number = n; offset = o }
     | false ↦ record { part = []; number = 14; offset = 0 }
-    ]
   ]
+]
 
 -- ---- the listing
 

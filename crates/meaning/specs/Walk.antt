@@ -39,6 +39,7 @@ abbrev mutual
   pub walk : Grammar → Tree → List Act
   walk g (leaf t) = reads t ∷ []
   walk g (node p vs f) = predicts p ∷ walkOn g p (scheme g (productionAt g p)) f
+
   pub walkOn : Grammar → ℕ → List Instruction → Forest → List Act
   walkOn g p is noTrees = beforeExpect p is []
   walkOn g p is (treeAnd t f) = beforeExpect p is (walk g t ++ walkOn g p (afterExpect is) f)

@@ -10,7 +10,7 @@ use lib.Dec.{T, ltb}
 use Rattle.meaning.specs.Grammar.{Grammar, Look, token, over}
 use Rattle.meaning.specs.Rules.{WellFormed}
 use Rattle.meaning.specs.Table.{State, Read, wellFormed, malformed, readTable, grammarOf}
-use Rattle.meaning.specs.Judgement.{Verdict, accepted, rejected, Accepted}
+use Rattle.meaning.specs.Judgement.{Verdict, accepted, rejected}
 use Rattle.meaning.specs.Decide.{judge}
 use Rattle.meaning.specs.Machine.{Config, Settled, stopped, failed, waits, opening, feedAll, finishAll, tokensLimit, movesLimit}
 use Rattle.meaning.specs.Walk.{nothing}
@@ -223,7 +223,7 @@ limits-only program bs area r m c n = by-cases (λ a u v. AtLimit n a u) program
 
 -- ---- calls that are not turned back before their moves
 
-when-met : (g : Grammar) (r : Record) (m : Stacks) (k : Called) → r .isOpen ≡ true → Fit g r m → whenFit g r m k ≡ k
+pub when-met : (g : Grammar) (r : Record) (m : Stacks) (k : Called) → r .isOpen ≡ true → Fit g r m → whenFit g r m k ≡ k
 when-met g r m k o f = go (r .isOpen) (stacksFit g r m) o (T→true (stacksFit g r m) (fit-exactly g r m .1 f))
   where
     go : (a b : Bool) → a ≡ true → b ≡ true → (elim a as (λ z. Called) [ false ↦ asBrought (refused 33 0) r m | true ↦ elim b as (λ z. Called) [ false ↦ asBrought (refused 34 0) r m | true ↦ k ] ]) ≡ k

@@ -9,12 +9,12 @@ use lib.ListN.{length, drop, length-append, length-replicate, length-drop, lengt
 use lib.Dec.{T, ltb, leb, eqb, leb→le}
 use lib.IntN.{ℤ}
 use Rattle.meaning.specs.Base.{all, isEmpty, keep}
-use Rattle.meaning.specs.Grammar.{Grammar, Rule, terminal, nonterminal}
+use Rattle.meaning.specs.Grammar.{Grammar, Rule, terminal, nonterminal, Look, token, over}
 use Rattle.meaning.specs.Value.{apply, holds, inRange, mark}
 use Rattle.meaning.specs.Scheme.{Instruction, add, evaluate, expect, test, remove}
-use Rattle.meaning.specs.Machine.{Frame, Config, Lent, Look, token, over, Outcome, moved, blocked, chooseOutcome, counted, step, next, nextOf, move, readRegister, writeRegister, writeAll, movesLimit, onward, parentOnward, accept, push, waits, alternatives, entered, unexpected, schemeAt}
+use Rattle.meaning.specs.Machine.{Frame, Config, Lent, Outcome, moved, blocked, chooseOutcome, counted, step, next, nextOf, move, readRegister, writeRegister, writeAll, movesLimit, onward, parentOnward, accept, push, waits, alternatives, entered, unexpected, schemeAt}
 use Rattle.meaning.specs.Part.{marks, frame, config}
-use Rattle.theory_answers.specs.Steps.{at-hand, Result, result}
+use Rattle.theory_base.specs.Steps.{at-hand, Result, result}
 use Rattle.theory_answers.specs.Memory.{Within}
 
 -- ---- what it counts
@@ -30,7 +30,7 @@ same-tokens l c d fs rs e = record { tokens = inl (ap (λ z. z .tokens) (sym e))
 counts-by : (g : Grammar) (lent : Lent) (l : Look) (c d : Config) (f : Frame) (fs : List Frame) (i : Instruction) → Result g lent l c f fs i d → Counts l c d
 counts-by g lent l c d f fs (add n) r = same-tokens l c d (onward f ∷ fs) (marks n ++ c .registers) (r .1)
 counts-by g lent l c d f fs (evaluate rules) r = same-tokens l c d (onward f ∷ fs) (writeAll rules (c .registers) (c .registers)) (r .1)
-counts-by g lent l c d f fs (test cs) r = same-tokens l c d (onward f ∷ fs) (c .registers) r
+counts-by g lent l c d f fs (test cs) r = same-tokens l c d (onward f ∷ fs) (c .registers) (r .1)
 counts-by g lent l c d f fs (remove n) r = same-tokens l c d (parentOnward fs) (drop n (c .registers)) r
 counts-by g lent l c d f fs (expect (terminal t)) r = record { tokens = inr (t, r .0, ap (λ z. z .tokens) (sym (r .1))); moves = ap (λ z. z .moves) (sym (r .1)) }
 counts-by g lent l c d f fs (expect (nonterminal n)) r = same-tokens l c d (frame (r .production) (schemeAt g (r .production)) ∷ c .frames) (c .registers) (r .result)
@@ -69,7 +69,7 @@ pub length-writeAll : (rs : List (Rule ℕ)) (old xs : List ℤ) → length (wri
 length-writeAll [] old xs = refl
 length-writeAll (r ∷ rs) old xs = length-writeAll rs old (writeRegister xs (r .target) (apply (readRegister old) (r .function))) ∙ length-set xs (r .target - 1) (apply (readRegister old) (r .function))
 
-length-parent : (fs : List Frame) → length (parentOnward fs) ≡ length fs
+pub length-parent : (fs : List Frame) → length (parentOnward fs) ≡ length fs
 length-parent [] = refl
 length-parent (f ∷ fs) = refl
 
@@ -80,7 +80,7 @@ one-more lent fs rs tokens moves d e p r m = subst (Within lent) e (record { reg
 within-by : (g : Grammar) (lent : Lent) (l : Look) (c : Config) (f : Frame) (fs : List Frame) (i : Instruction) (d : Config) → Within lent c → length (f ∷ fs) ≤ lent .maxPlaces → c .moves < movesLimit → Result g lent l c f fs i d → Within lent d
 within-by g lent l c f fs (add n) d w p m r = one-more lent (onward f ∷ fs) (marks n ++ c .registers) (c .tokens) (c .moves) d (r .1) p (omega (arith, length-append (marks n) (c .registers), length-replicate n mark, r .0)) m
 within-by g lent l c f fs (evaluate rules) d w p m r = one-more lent (onward f ∷ fs) (writeAll rules (c .registers) (c .registers)) (c .tokens) (c .moves) d (r .1) p (omega (arith, length-writeAll rules (c .registers) (c .registers), w .registers)) m
-within-by g lent l c f fs (test cs) d w p m r = one-more lent (onward f ∷ fs) (c .registers) (c .tokens) (c .moves) d r p (w .registers) m
+within-by g lent l c f fs (test cs) d w p m r = one-more lent (onward f ∷ fs) (c .registers) (c .tokens) (c .moves) d (r .1) p (w .registers) m
 within-by g lent l c f fs (remove n) d w p m r = one-more lent (parentOnward fs) (drop n (c .registers)) (c .tokens) (c .moves) d r (omega (arith, length-parent fs)) (omega (arith, length-drop n (c .registers), w .registers)) m
 within-by g lent l c f fs (expect (terminal t)) d w p m r = one-more lent (onward f ∷ fs) (c .registers) (suc (c .tokens)) (c .moves) d (r .1) p (w .registers) m
 within-by g lent l c f fs (expect (nonterminal n)) d w p m r = one-more lent (frame (r .production) (schemeAt g (r .production)) ∷ c .frames) (c .registers) (c .tokens) (c .moves) d (r .result) (r .fits) (w .registers) m

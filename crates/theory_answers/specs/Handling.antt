@@ -19,9 +19,9 @@ use Rattle.theory_base.specs.Members.{all-append, in-keep, map-in}
 use Rattle.theory_base.specs.Values.{operands-available, drop-head, drop-over}
 use Rattle.theory_base.specs.WellFormed.{Available, Evaluable, evaluable-at}
 use Rattle.theory_base.specs.Agree.{reads-available}
-use Rattle.theory_base.specs.Selectors.{syn-none, inherited-at}
+use Rattle.theory_base.specs.Selectors.{syn-none, inherited-at, target-of-inherited, target-of-synthesized}
 use Rattle.theory_base.specs.Present.{in-for}
-use Rattle.theory_answers.specs.Selecting.{operands-through, reads-through, after-within, target-of-inherited, target-of-synthesized, reads-value}
+use Rattle.theory_answers.specs.Selecting.{operands-through, reads-through, after-within, reads-value}
 use Rattle.theory_answers.specs.Shape.{inhLeft, synLeft, Node, nodeRegisters, Stands, evaluable, Due, adds, hands, waits, tests, closes, removes, ends, Shaped}
 
 -- a register among those that hold values

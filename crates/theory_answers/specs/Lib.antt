@@ -1,6 +1,5 @@
 pub mod FitTest
 pub mod Selecting
-pub mod Steps
 pub mod Shape
 pub mod ShapeMoves
 pub mod ShapeMemory

@@ -27,10 +27,10 @@ pub record Within (lent : Lent) (c : Config) : Type 0 where
 -- ---- one stack laid
 
 module _ {A : Type 0} (n : ℕ) (clear : A) (xs mem : List A) where
-  lay-front : take (length xs) (lay n clear xs mem) ≡ reverse xs
+  pub lay-front : take (length xs) (lay n clear xs mem) ≡ reverse xs
   lay-front = ap (λ z. take (length xs) z) (append-assoc (reverse xs) (replicate (n - length xs) clear) (drop n mem)) ∙ take-at (reverse xs) (replicate (n - length xs) clear ++ drop n mem) (length xs) (length-reverse xs)
 
-  lay-above : drop (length xs) (lay n clear xs mem) ≡ replicate (n - length xs) clear ++ drop n mem
+  pub lay-above : drop (length xs) (lay n clear xs mem) ≡ replicate (n - length xs) clear ++ drop n mem
   lay-above = ap (λ z. drop (length xs) z) (append-assoc (reverse xs) (replicate (n - length xs) clear) (drop n mem)) ∙ drop-at (reverse xs) (replicate (n - length xs) clear ++ drop n mem) (length xs) (length-reverse xs)
 
   lay-cleared : (i : ℕ) → length xs ≤ i → i < n → getD (lay n clear xs mem) i clear ≡ clear
@@ -42,15 +42,18 @@ module _ {A : Type 0} (n : ℕ) (clear : A) (xs mem : List A) where
       ∙ (ap (λ z. getD z j clear) lay-above
       ∙ (List·getD-append (replicate (n - length xs) clear) (drop n mem) clear j s ∙ getD-replicate (n - length xs) j clear clear (omega arith)))
 
-  lay-length : length xs ≤ n → n ≤ length mem → length (lay n clear xs mem) ≡ length mem
+  pub lay-length : length xs ≤ n → n ≤ length mem → length (lay n clear xs mem) ≡ length mem
   lay-length h l = length-append (reverse xs ++ replicate (n - length xs) clear) (drop n mem) ∙ omega (arith, length-append (reverse xs) (replicate (n - length xs) clear), length-reverse xs, length-replicate (n - length xs) clear, length-drop n mem)
+
+  lay-rest : length xs ≤ n → drop n (lay n clear xs mem) ≡ drop n mem
+  lay-rest h = drop-at (reverse xs ++ replicate (n - length xs) clear) (drop n mem) n (length-append (reverse xs) (replicate (n - length xs) clear) ∙ omega (arith, length-reverse xs, length-replicate (n - length xs) clear))
 
 all-clear : {A : Type 0} (clear : A) (xs : List A) → ((i : ℕ) → i < length xs → getD xs i clear ≡ clear) → xs ≡ replicate (length xs) clear
 all-clear clear [] h = refl
 all-clear clear (x ∷ xs) h = ap₂ (λ y ys. y ∷ ys) (h 0 (omega arith)) (all-clear clear xs (λ i l. h (suc i) (omega arith)))
 
 -- what stands, with all above it cleared, is laid as it was
-lay-same : {A : Type 0} (n h : ℕ) (clear : A) (mem : List A) → h ≤ n → n ≤ length mem → ((i : ℕ) → h ≤ i → i < n → getD mem i clear ≡ clear) → lay n clear (reverse (take h mem)) mem ≡ mem
+pub lay-same : {A : Type 0} (n h : ℕ) (clear : A) (mem : List A) → h ≤ n → n ≤ length mem → ((i : ℕ) → h ≤ i → i < n → getD mem i clear ≡ clear) → lay n clear (reverse (take h mem)) mem ≡ mem
 lay-same {A = A} n h clear mem a b is =
     let size : length (reverse (take h mem)) ≡ h = length-reverse (take h mem) ∙ (length-take h mem ∙ omega arith) in
     let middle : List A = take (n - h) (drop h mem) in
@@ -101,6 +104,20 @@ module _ (g : Grammar) (o : Bool) (c : Config) (m : Stacks) (s : AtStop g (c .fr
         registersCleared = λ i a b. lay-cleared (lentOf m .maxRegisters) mark (c .registers) (m .registers) i a (subst (λ l. i < l .maxRegisters) e b);
         placesCleared = λ i a b. lay-cleared (lentOf m .maxPlaces) 0 placed (m .places) i (omega (arith, placed-size)) (subst (λ l. i < l .maxPlaces) e b);
       }
+
+-- laying once more forgets what was laid before
+pub lay-over : (g : Grammar) (c e : Config) (m : Stacks) → Within (lentOf m) c → layAll g e (layAll g c m) ≡ layAll g e m
+lay-over g c e m w =
+    let ps : List ℕ = map (placeOf g) (c .frames) in
+    let l : lentOf (layAll g c m) ≡ lentOf m = lent-kept g c m w in
+    let a : drop (lentOf m .maxRegisters) (layAll g c m .registers) ≡ drop (lentOf m .maxRegisters) (m .registers) = lay-rest (lentOf m .maxRegisters) mark (c .registers) (m .registers) (w .registers) in
+    let b : drop (lentOf m .maxPlaces) (layAll g c m .places) ≡ drop (lentOf m .maxPlaces) (m .places) = lay-rest (lentOf m .maxPlaces) 0 ps (m .places) (omega (arith, length-map (c .frames) (placeOf g), w .places)) in
+    ap (λ k. record { registers = lay (k .maxRegisters) mark (e .registers) (layAll g c m .registers); places = lay (k .maxPlaces) 0 (map (placeOf g) (e .frames)) (layAll g c m .places) }) l
+    ∙ ap₂ (λ x y. record { registers = reverse (e .registers) ++ replicate (lentOf m .maxRegisters - length (e .registers)) mark ++ x; places = reverse (map (placeOf g) (e .frames)) ++ replicate (lentOf m .maxPlaces - length (map (placeOf g) (e .frames))) 0 ++ y }) a b
+
+-- a list laid on what was laid before
+pub lay-again : {A : Type 0} (clear : A) (n : ℕ) (xs ys mem : List A) → length xs ≤ n → lay n clear ys (lay n clear xs mem) ≡ lay n clear ys mem
+lay-again clear n xs ys mem h = ap (λ z. reverse ys ++ replicate (n - length ys) clear ++ z) (lay-rest n clear xs mem h)
 
 -- ---- what fits, read and laid again
 

@@ -4,14 +4,14 @@ use native.Mathlib.Omega.{arith}
 use mathlib.Core.Path.{_≡_, refl, sym, ap, _∙_, subst}
 use mathlib.Core.Logic.{_⊎_, inl, inr}
 use mathlib.Core.Bool.{Bool, true, false, _&&_}
-use mathlib.Core.List.{List, [], _∷_, _++_}
+use mathlib.Core.List.{List, [], _∷_, _++_, append-nil}
 use lib.ListN.{drop}
 use lib.Dec.{T, ltb, leb, ltb→lt, lt→ltb, leb→le, nleb→lt}
-use Rattle.meaning.specs.Grammar.{Grammar}
-use Rattle.meaning.specs.Machine.{Config, Lent, Look, token, over, Outcome, moved, blocked, Settled, stopped, failed, waits, next, lookAt, unread, isDone, isFinished, advance, advanceFrom, feedToken, feedAll, finishAll, tokensLimit, movesLimit}
+use Rattle.meaning.specs.Grammar.{Grammar, Look, token, over}
+use Rattle.meaning.specs.Machine.{Config, Lent, Outcome, moved, blocked, Settled, stopped, failed, waits, next, lookAt, unread, isDone, isFinished, advance, advanceFrom, feedToken, feedAll, finishAll, tokensLimit, movesLimit}
 use Rattle.meaning.specs.Walk.{Act, actBy, Makes, nothing, andThen}
 use Rattle.theory_base.specs.Members.{T→true, both}
-use Rattle.theory_answers.specs.Steps.{at-hand}
+use Rattle.theory_base.specs.Steps.{at-hand}
 use Rattle.theory_answers.specs.Bounds.{counts, look-free, no-read, Blocks, atLimit, blocks}
 
 -- what every move keeps, moves keep
@@ -34,6 +34,10 @@ unread-one : (c d : Config) (t : ℕ) (us ts : List ℕ) → us ≡ t ∷ ts →
 unread-one c d t us ts e h =
     let z : d .tokens - c .tokens ≡ 1 = omega (arith, h) in
     ap (λ n. drop n us) z ∙ ap (λ l. drop 1 l) e
+
+pub look-is : (vs : List ℕ) (c : ℕ) → lookAt vs ≡ token c → vs ≡ c ∷ drop 1 vs
+look-is [] c e = let z : _≡_ {A = ℕ} 0 1 = cc in absurd (omega arith)
+look-is (u ∷ vs) c e = let z : u ≡ c = cc in ap (λ n. n ∷ vs) z
 
 over-token : {A : Type 0} (t : ℕ) → over ≡ token t → A
 over-token t e = absurd (let z : _≡_ {A = ℕ} 0 1 = cc in omega arith)
@@ -122,16 +126,15 @@ module _ (g : Grammar) (lent : Lent) (us₀ : List ℕ) (c₀ : Config) where
 
   -- ---- a feed
 
+  -- with us still to come behind the tokens fed
+  abbrev pub FedBefore : List ℕ → Settled → Type 0
+  FedBefore us (stopped e) = Led us e × T (waits (e .frames)) × (e .tokens ≤ tokensLimit)
+  FedBefore us (failed e k) = (vs : List ℕ) × Led vs e × (e .tokens ≤ tokensLimit) × FeedBlocks e k
+
   abbrev pub Fed : Settled → Type 0
-  Fed (stopped e) = Led [] e × T (waits (e .frames)) × (e .tokens ≤ tokensLimit)
-  Fed (failed e k) = (us : List ℕ) × Led us e × (e .tokens ≤ tokensLimit) × FeedBlocks e k
+  Fed o = FedBefore [] o
 
-  -- one token
-  abbrev FedOne : List ℕ → Settled → Type 0
-  FedOne ts (stopped e) = Led ts e × T (waits (e .frames)) × (e .tokens ≤ tokensLimit)
-  FedOne ts (failed e k) = Fed (failed e k)
-
-  fed-token : (t : ℕ) (ts : List ℕ) (c : Config) → Led (t ∷ ts) c → c .tokens ≤ tokensLimit → FedOne ts (feedToken g lent t c)
+  fed-token : (t : ℕ) (ts : List ℕ) (c : Config) → Led (t ∷ ts) c → c .tokens ≤ tokensLimit → FedBefore ts (feedToken g lent t c)
   fed-token t ts c s m = limited (leb tokensLimit (c .tokens)) refl (ltb t (g .terminals))
     where
       count : (us : List ℕ) (k : ℕ) → c .tokens < tokensLimit → Coming (token t) ts (c .tokens) us k → k ≤ tokensLimit
@@ -142,22 +145,25 @@ module _ (g : Grammar) (lent : Lent) (us₀ : List ℕ) (c₀ : Config) where
       behind us e r (inl v) d = absurd (omega (arith, v .1))
       behind us e r (inr v) d = subst (λ z. Led z e) (v .0) r
 
-      read : c .tokens < tokensLimit → (o : Settled) → Advanced (token t) ts (c .tokens) o → FedOne ts o
+      read : c .tokens < tokensLimit → (o : Settled) → Advanced (token t) ts (c .tokens) o → FedBefore ts o
       read b (stopped e) v = (behind (v .0 .left) e (v .0 .led) (v .0 .coming) (ltb→lt (c .tokens) (e .tokens) (v .2)), v .1, count (v .0 .left) (e .tokens) b (v .0 .coming))
       read b (failed e k) v = (v .0 .left, v .0 .led, count (v .0 .left) (e .tokens) b (v .0 .coming), atMove t (v .1))
 
-      limited : (b : Bool) → leb tokensLimit (c .tokens) ≡ b → (k : Bool) → FedOne ts (elim b [ true ↦ failed c 35 | false ↦ elim k [ true ↦ advanceFrom g lent (token t) c | false ↦ failed c 20 ] ])
+      limited : (b : Bool) → leb tokensLimit (c .tokens) ≡ b → (k : Bool) → FedBefore ts (elim b [ true ↦ failed c 35 | false ↦ elim k [ true ↦ advanceFrom g lent (token t) c | false ↦ failed c 20 ] ])
       limited true q k = (t ∷ ts, s, m, manyTokens (omega (arith, leb→le tokensLimit (c .tokens) (rw q tt))))
       limited false q true = read (nleb→lt tokensLimit (c .tokens) (rw q tt)) (advanceFrom g lent (token t) c) (advanced-from (token t) ts c (record { left = t ∷ ts; led = s; coming = inl (refl, refl) }))
       limited false q false = (t ∷ ts, s, m, notToken)
 
-  fed-cons : (ts : List ℕ) → ((d : Config) → Led ts d → T (waits (d .frames)) → d .tokens ≤ tokensLimit → Fed (feedAll g lent ts d)) → (o : Settled) → FedOne ts o → Fed (elim o [ failed d k ↦ failed d k | stopped d ↦ feedAll g lent ts d ])
-  fed-cons ts ih (failed d k) v = v
-  fed-cons ts ih (stopped d) v = ih d (v .0) (v .1) (v .2)
+  fed-cons : (ts us : List ℕ) → ((d : Config) → Led (ts ++ us) d → T (waits (d .frames)) → d .tokens ≤ tokensLimit → FedBefore us (feedAll g lent ts d)) → (o : Settled) → FedBefore (ts ++ us) o → FedBefore us (elim o [ failed d k ↦ failed d k | stopped d ↦ feedAll g lent ts d ])
+  fed-cons ts us ih (failed d k) v = v
+  fed-cons ts us ih (stopped d) v = ih d (v .0) (v .1) (v .2)
+
+  pub fed-before : (ts us : List ℕ) (c : Config) → Led (ts ++ us) c → T (waits (c .frames)) → c .tokens ≤ tokensLimit → FedBefore us (feedAll g lent ts c)
+  fed-before [] us c s w m = (s, w, m)
+  fed-before (t ∷ ts) us c s w m = fed-cons ts us (λ d r v k. fed-before ts us d r v k) (feedToken g lent t c) (fed-token t (ts ++ us) c s m)
 
   pub fed : (ts : List ℕ) (c : Config) → Led ts c → T (waits (c .frames)) → c .tokens ≤ tokensLimit → Fed (feedAll g lent ts c)
-  fed [] c s w m = (s, w, m)
-  fed (t ∷ ts) c s w m = fed-cons ts (λ d r v k. fed ts d r v k) (feedToken g lent t c) (fed-token t ts c s m)
+  fed ts c s w m = fed-before ts [] c (subst (λ z. Led z c) (sym (append-nil ts)) s) w m
 
   -- ---- a finish
 

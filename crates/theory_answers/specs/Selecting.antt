@@ -1,7 +1,7 @@
 -- 001's selectors lie among the registers that hold values, and where the targets lie.
 use Prim.Native.Nat.{ℕ, zero, suc, _+_, _-_, _≤_, _<_}
 use native.Mathlib.Omega.{arith}
-use mathlib.Core.Path.{_≡_, refl, sym, ap, _∙_, subst}
+use mathlib.Core.Path.{_≡_, sym, ap, _∙_, subst}
 use mathlib.Core.List.{List, _++_}
 use lib.ListN.{getD, length, List·getD-append}
 use lib.Seq.{getD-append-add}
@@ -11,12 +11,12 @@ use Rattle.meaning.specs.Base.{all}
 use Rattle.meaning.specs.Grammar.{nonterminal, Occurrence, Function, const, copy, sum, diff, prod, maxi, mini, addc, quot, Condition, range, atmost, Production, Grammar, inh, syn, symbolAt}
 use Rattle.meaning.specs.Value.{inRange, mark}
 use Rattle.meaning.specs.Rules.{Operands, Reads, InputAt}
-use Rattle.meaning.specs.Scheme.{mapFunction, mapCondition, synBetween, selectInherited, selectAfter}
+use Rattle.meaning.specs.Scheme.{mapFunction, mapCondition, synBetween, selectAfter}
 use Rattle.meaning.specs.Selectors.{occurrence}
 use Rattle.meaning.specs.Machine.{readRegister}
-use Rattle.theory_sets.specs.Tests.{all-at}
-use Rattle.theory_base.specs.Selectors.{syn-none, syn-more, target-inherited}
+use Rattle.theory_base.specs.Selectors.{syn-none, syn-more}
 use Rattle.theory_base.specs.WellFormed.{Available}
+use Rattle.theory_sets.specs.Tests.{all-at}
 
 -- ---- operands through a selector
 
@@ -60,14 +60,6 @@ after-bounds g p n (suc k) a s h l =
 -- with no registers added: every input up to the last symbol left lies in the registers of these and of the left side
 pub after-within : (g : Grammar) (p : Production) (n : ℕ) (o : Occurrence) → n ≤ length (p .right) → Available g p n o → (1 ≤ selectAfter g p n o) × (selectAfter g p n o ≤ synBetween g p 0 n + inh g (nonterminal (p .left)))
 after-within g p n o s h = after-bounds g p n (o .position) (o .attribute) s (h .0) (h .1)
-
--- the target of a rule for an inherited attribute of the symbol at hand
-pub target-of-inherited : (g : Grammar) (p : Production) (k : ℕ) (o : Occurrence) → o .position ≡ k → selectInherited g p k o ≡ o .attribute
-target-of-inherited g p k o e = subst (λ m. selectInherited g p k (occurrence m (o .attribute)) ≡ o .attribute) (sym e) (target-inherited g p k (o .attribute))
-
--- the target of a rule for a synthesized attribute of the left side
-pub target-of-synthesized : (g : Grammar) (p : Production) (n : ℕ) (o : Occurrence) → o .position ≡ 0 → selectAfter g p n o ≡ synBetween g p 0 n + o .attribute
-target-of-synthesized g p n o e = subst (λ m. selectAfter g p n (occurrence m (o .attribute)) ≡ synBetween g p 0 n + o .attribute) (sym e) refl
 
 -- ---- registers
 

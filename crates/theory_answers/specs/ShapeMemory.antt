@@ -15,17 +15,17 @@ use Rattle.meaning.specs.Value.{inRange, mark}
 use Rattle.meaning.specs.Scheme.{Instruction, synBetween}
 use Rattle.meaning.specs.Rules.{WellFormed}
 use Rattle.meaning.specs.Machine.{Frame, Config, placeOf, isFinished}
-use Rattle.meaning.specs.Machine as Machine
 use Rattle.meaning.specs.Calls.{frameOf, result}
 use Rattle.meaning.specs.Part.{marks, waitRest, frame}
 use Rattle.meaning.specs.Fit.{Values, WaitsAt, Left}
-use Rattle.meaning.specs.Fit as Fit
 use Rattle.theory_base.specs.Members.{both}
-use Rattle.theory_sets.specs.Tests.{all-at}
 use Rattle.theory_base.specs.Values.{drop-head, drop-over}
 use Rattle.theory_base.specs.WellFormed.{whole-counts, well-formed-at}
 use Rattle.theory_base.specs.Frames.{place-waits, frame-back}
+use Rattle.theory_sets.specs.Tests.{all-at}
 use Rattle.theory_answers.specs.Shape.{inhLeft, synLeft, Node, nodeRegisters, Stands, segment, inside, Due, adds, hands, waits, tests, closes, removes, ends, Shaped, no-values}
+use Rattle.meaning.specs.Machine as Machine
+use Rattle.meaning.specs.Fit as Fit
 
 -- ---- a place and its frame
 

@@ -1,131 +1,28 @@
 -- Every move keeps the shape.
-use Prim.Native.Nat.{ℕ, suc, _+_, _-_, _≤_, _<_}
+use Prim.Native.Nat.{ℕ, suc, _+_}
 use native.Mathlib.Omega.{arith}
 use mathlib.Core.Path.{_≡_, refl, sym, ap, ap₂, _∙_, subst, subst₂}
 use mathlib.Core.Bool.{false}
 use mathlib.Core.List.{List, [], _∷_, _++_, append-assoc}
-use lib.ListN.{getD, length, drop, length-append, replicate-append-replicate}
+use lib.ListN.{length, drop, length-append}
 use lib.Seq.{drop-at}
 use lib.Dec.{T, eqb}
 use lib.IntN.{ℤ}
-use Rattle.meaning.specs.Base.{In, all}
-use Rattle.meaning.specs.Grammar.{Symbol, terminal, nonterminal, Occurrence, Rule, Production, Grammar, inh, syn, att, productionAt, whole}
-use Rattle.meaning.specs.Value.{apply, inRange, mark}
-use Rattle.meaning.specs.Scheme.{Instruction, add, evaluate, expect, test, remove, inheritedRules, synthesizedRules, testsAfter, rulesFor, removed, synBetween, selectInherited, selectAfter}
-use Rattle.meaning.specs.Rules.{OutputAt, WellFormed}
-use Rattle.meaning.specs.Machine.{Frame, Config, Lent, Look, moved, next, nextOf, readRegister, writeAll, schemeAt, parentOnward}
-use Rattle.meaning.specs.Selectors.{occurrence}
+use Rattle.meaning.specs.Base.{all}
+use Rattle.meaning.specs.Grammar.{Symbol, terminal, nonterminal, Rule, Grammar, inh, syn, att, productionAt, whole, Look}
+use Rattle.meaning.specs.Value.{apply, inRange}
+use Rattle.meaning.specs.Scheme.{Instruction, add, evaluate, expect, test, remove, inheritedRules, synthesizedRules, testsAfter, removed, synBetween}
+use Rattle.meaning.specs.Rules.{WellFormed}
+use Rattle.meaning.specs.Machine.{Frame, Config, Lent, moved, next, nextOf, readRegister, writeAll, schemeAt, parentOnward}
 use Rattle.meaning.specs.Part.{marks, freshRest, leftRest, waitRest, frame}
 use Rattle.meaning.specs.Fit.{Values}
 use Rattle.theory_base.specs.Members.{all-append}
 use Rattle.theory_base.specs.Values.{drop-head, drop-over}
-use Rattle.theory_base.specs.WellFormed.{Evaluable}
-use Rattle.theory_base.specs.Evaluate.{Written, written, distinct-keep}
 use Rattle.theory_base.specs.Frames.{scheme-is}
 use Rattle.theory_base.specs.Selectors.{syn-none, syn-more}
-use Rattle.theory_base.specs.Present.{for-in, in-for}
-use Rattle.theory_answers.specs.Selecting.{target-of-inherited, target-of-synthesized}
-use Rattle.theory_answers.specs.Steps.{not-moved, move-of, Result, result, Predicted}
+use Rattle.theory_base.specs.Steps.{not-moved, move-of, Result, result, Predicted}
 use Rattle.theory_answers.specs.Shape.{synLeft, Node, nodeRegisters, Stands, segment, inside, evaluable, addedRest, Due, adds, hands, waits, tests, closes, removes, ends, Shaped, no-values, shaped, at-added, at-fresh, at-left}
-
-occ-eq : (o u : Occurrence) → o .position ≡ u .position → o .attribute ≡ u .attribute → o ≡ u
-occ-eq o u e f = λ i. record { position = e i; attribute = f i }
-
--- ---- evaluate the inherited attributes of the symbol at hand
-
-pub record Handed (g : Grammar) (p : Production) (k : ℕ) (x : Symbol) (rest : List ℤ) : Type 0 where
-  pub made : List ℤ
-  pub values : Values (inh g x) made
-  pub registers : writeAll (inheritedRules g p (suc k)) (marks (att g x) ++ rest) (marks (att g x) ++ rest) ≡ (made ++ marks (syn g x)) ++ rest
-
-handed : (g : Grammar) (p : Production) → Evaluable g p → (k : ℕ) (x : Symbol) (xs : List Symbol) (rest : List ℤ) → drop k (p .right) ≡ x ∷ xs
-    → T (all (λ r. inRange (apply (readRegister (marks (att g x) ++ rest)) (r .function))) (inheritedRules g p (suc k)))
-    → Handed g p k x rest
-handed g p fp k x xs rest d t = record {
-  made = w .made;
-  values = record { size = w .sized; ranged = w .ranged };
-  registers = ap (λ z. writeAll (inheritedRules g p n) old z) split ∙ (w .registers ∙ sym (append-assoc (w .made) (marks (syn g x)) rest));
-}
-  where
-    n : ℕ
-    n = suc k
-
-    old : List ℤ
-    old = marks (att g x) ++ rest
-
-    slot : Occurrence → ℕ
-    slot o = o .attribute - 1
-
-    head : (k < length (p .right)) × (getD (p .right) k (terminal 0) ≡ x) × (drop (suc k) (p .right) ≡ xs)
-    head = drop-head k (p .right) x (terminal 0) xs d
-
-    split : old ≡ marks (inh g x) ++ (marks (syn g x) ++ rest)
-    split = rw (← (replicate-append-replicate (inh g x) (syn g x) mark)) (append-assoc (marks (inh g x)) (marks (syn g x)) rest)
-
-    out : (r : Rule Occurrence) → In r (rulesFor p n) → (r .target .position ≡ n) × (1 ≤ r .target .attribute) × (r .target .attribute ≤ inh g x)
-    out r i =
-        let h = in-for p n r i in
-        let o : OutputAt g p n (r .target .attribute) = rw (h .0) at (fp .targets r (h .1)) in
-        (h .0, o .1, rw (head .1) at (o .2))
-
-    w : Written slot (selectInherited g p n) old (rulesFor p n) (inh g x) [] (marks (syn g x) ++ rest)
-    w = written slot (selectInherited g p n) old (rulesFor p n) (inh g x) [] (marks (syn g x) ++ rest)
-        (distinct-keep (λ q. eqb (q .target .position) n) (p .rules) (fp .distinct))
-        (λ q r i j e. let a = out q i in let b = out r j in occ-eq (q .target) (r .target) (a .0 ∙ sym (b .0)) (omega arith))
-        (λ r i. let a = out r i in (omega (arith, target-of-inherited g p n (r .target) (a .0), a .1), omega arith))
-        (λ j l. let e = fp .every (occurrence n (suc j)) (head .0, omega arith, rw (head .1) l) in (e .0, for-in p n (e .0) (e .1) (ap (λ o. o .position) (e .2)), ap (λ o. o .attribute - 1) (e .2) ∙ omega arith))
-        t
-
--- ---- evaluate the left side's synthesized attributes
-
-pub record Closed (g : Grammar) (p : Production) (ss vs base : List ℤ) : Type 0 where
-  pub made : List ℤ
-  pub values : Values (syn g (nonterminal (p .left))) made
-  pub registers : writeAll (synthesizedRules g p) (nodeRegisters ss vs (marks (syn g (nonterminal (p .left)))) base) (nodeRegisters ss vs (marks (syn g (nonterminal (p .left)))) base) ≡ nodeRegisters ss vs made base
-
-closed : (g : Grammar) (p : Production) → Evaluable g p → (vs ss base : List ℤ) → length vs ≡ inh g (nonterminal (p .left)) → length ss ≡ synBetween g p 0 (length (p .right))
-    → T (all (λ r. inRange (apply (readRegister (nodeRegisters ss vs (marks (syn g (nonterminal (p .left)))) base)) (r .function))) (synthesizedRules g p))
-    → Closed g p ss vs base
-closed g p fp vs ss base sv se t = record {
-  made = w .made;
-  values = record { size = w .sized; ranged = w .ranged };
-  registers = ap (λ z. writeAll (synthesizedRules g p) old z) (sym (append-assoc ss vs (marks s ++ base))) ∙ (w .registers ∙ append-assoc ss vs (w .made ++ base));
-}
-  where
-    s : ℕ
-    s = syn g (nonterminal (p .left))
-
-    h : ℕ
-    h = inh g (nonterminal (p .left))
-
-    n : ℕ
-    n = length (p .right)
-
-    sel : Occurrence → ℕ
-    sel = selectAfter g p n
-
-    old : List ℤ
-    old = nodeRegisters ss vs (marks s) base
-
-    slot : Occurrence → ℕ
-    slot o = o .attribute - 1 - h
-
-    size : length (ss ++ vs) ≡ synBetween g p 0 n + h
-    size = length-append ss vs ∙ omega (arith, se, sv)
-
-    out : (r : Rule Occurrence) → In r (rulesFor p 0) → (r .target .position ≡ 0) × (h < r .target .attribute) × (r .target .attribute ≤ h + s)
-    out r i =
-        let q = in-for p 0 r i in
-        let o : OutputAt g p 0 (r .target .attribute) = rw (q .0) at (fp .targets r (q .1)) in
-        (q .0, o .0, o .1)
-
-    w : Written slot sel old (rulesFor p 0) s (ss ++ vs) base
-    w = written slot sel old (rulesFor p 0) s (ss ++ vs) base
-        (distinct-keep (λ q. eqb (q .target .position) 0) (p .rules) (fp .distinct))
-        (λ q r i j e. let a = out q i in let b = out r j in occ-eq (q .target) (r .target) (a .0 ∙ sym (b .0)) (omega arith))
-        (λ r i. let a = out r i in (omega (arith, target-of-synthesized g p n (r .target) (a .0), a .1, size), omega arith))
-        (λ j l. let e = fp .every (occurrence 0 (h + suc j)) (omega arith, omega arith) in (e .0, for-in p 0 (e .0) (e .1) (ap (λ o. o .position) (e .2)), ap (λ o. o .attribute - 1 - h) (e .2) ∙ omega arith))
-        t
+use Rattle.theory_base.specs.Evaluations.{inherited-made, synthesized-made}
 
 -- ---- the moves
 
@@ -170,7 +67,7 @@ module _ (g : Grammar) (wf : WellFormed g) (lent : Lent) (l : Look) (c d : Confi
       subst (ShapedAt g) (u .1) (subst (λ z. Shaped g (frame p (leftRest g p (suc k) xs) ∷ fs) z) (sym r′) (at-left g wf p (suc k) vs ss fs base st n xs (h .2)))
 
   by-predict : (n : ℕ) (xs : List Symbol) (is : List ℤ) → drop k (productionAt g p .right) ≡ nonterminal n ∷ xs → Values (inh g (nonterminal n)) is → c .frames ≡ frame p (waitRest g p k (nonterminal n) xs) ∷ fs → c .registers ≡ (is ++ marks (syn g (nonterminal n))) ++ ours
-      → Predicted g lent n c d → ShapedAt g d
+      → Predicted g lent n l (c .frames) (c .registers) (c .tokens) (c .moves) d → ShapedAt g d
   by-predict n xs is e v f r u =
       let q : ℕ = u .production in
       let named : nonterminal (productionAt g q .left) ≡ nonterminal n = ap nonterminal (u .left) in
@@ -195,9 +92,9 @@ module _ (g : Grammar) (wf : WellFormed g) (lent : Lent) (l : Look) (c d : Confi
   by-evaluate x xs e r u =
       let rules : List (Rule ℕ) = inheritedRules g (productionAt g p) (suc k) in
       let t : T (all (λ q. inRange (apply (readRegister (marks (att g x) ++ ours)) (q .function))) rules) = subst (λ z. T (all (λ q. inRange (apply (readRegister z) (q .function))) rules)) r (u .0) in
-      let a = handed g (productionAt g p) (evaluable g wf st) k x xs ours e t in
+      let a = inherited-made g (productionAt g p) (evaluable g wf st) k x xs ours e t in
       let same : writeAll rules (c .registers) (c .registers) ≡ (a .made ++ marks (syn g x)) ++ ours = ap (λ z. writeAll rules z z) r ∙ a .registers in
-      subst (ShapedAt g) (u .1) (subst (λ z. Shaped g (frame p (waitRest g p k x xs) ∷ fs) z) (sym same) (shaped g wf p k vs ss fs base st nd (waitRest g p k x xs) (a .made ++ marks (syn g x)) (marks (synLeft g p)) (waits x xs (a .made) e (a .values))))
+      subst (ShapedAt g) (u .1) (subst (λ z. Shaped g (frame p (waitRest g p k x xs) ∷ fs) z) (sym same) (shaped g wf p k vs ss fs base st nd (waitRest g p k x xs) (a .made ++ marks (syn g x)) (marks (synLeft g p)) (waits x xs (a .made) e (record { size = a .sized; ranged = a .ranged }))))
 
   by-close : drop k (productionAt g p .right) ≡ [] → eqb p whole ≡ false → c .registers ≡ ours
       → Result g lent l c (frame p (evaluate (synthesizedRules g (productionAt g p)) ∷ remove (removed g (productionAt g p)) ∷ [])) fs (evaluate (synthesizedRules g (productionAt g p))) d → ShapedAt g d
@@ -205,9 +102,9 @@ module _ (g : Grammar) (wf : WellFormed g) (lent : Lent) (l : Look) (c d : Confi
       let rules : List (Rule ℕ) = synthesizedRules g (productionAt g p) in
       let z : k ≡ length (productionAt g p .right) = omega (arith, drop-over k (productionAt g p .right) e, nd .within) in
       let t : T (all (λ q. inRange (apply (readRegister ours) (q .function))) rules) = subst (λ z. T (all (λ q. inRange (apply (readRegister z) (q .function))) rules)) r (u .0) in
-      let a = closed g (productionAt g p) (evaluable g wf st) vs ss base (nd .inherited .size) (nd .passed .size ∙ ap (synBetween g (productionAt g p) 0) z) t in
+      let a = synthesized-made g (productionAt g p) (evaluable g wf st) vs ss base (nd .inherited .size) (nd .passed .size ∙ ap (synBetween g (productionAt g p) 0) z) t in
       let same : writeAll rules (c .registers) (c .registers) ≡ nodeRegisters ss vs (a .made) base = ap (λ z. writeAll rules z z) r ∙ a .registers in
-      subst (ShapedAt g) (u .1) (subst (λ z. Shaped g (frame p (remove (removed g (productionAt g p)) ∷ []) ∷ fs) z) (sym same) (shaped g wf p k vs ss fs base st nd (remove (removed g (productionAt g p)) ∷ []) [] (a .made) (removes (a .made) e w (a .values))))
+      subst (ShapedAt g) (u .1) (subst (λ z. Shaped g (frame p (remove (removed g (productionAt g p)) ∷ []) ∷ fs) z) (sym same) (shaped g wf p k vs ss fs base st nd (remove (removed g (productionAt g p)) ∷ []) [] (a .made) (removes (a .made) e w (record { size = a .sized; ranged = a .ranged }))))
 
   -- what the instruction at hand leads to
   leads : (i : Instruction) (is : List Instruction) → c .frames ≡ frame p (i ∷ is) ∷ fs → next g lent l c ≡ moved d → Result g lent l c (frame p (i ∷ is)) fs i d
@@ -222,7 +119,7 @@ module _ (g : Grammar) (wf : WellFormed g) (lent : Lent) (l : Look) (c d : Confi
   by-due (waits (nonterminal n) xs is e v) f r h = by-predict n xs is e v f r (leads (expect (nonterminal n)) (leftRest g p (suc k) xs) f h)
   by-due (tests xs e) f r h =
       let u = leads (test (testsAfter g (productionAt g p) k)) (freshRest g p k xs) f h in
-      subst (ShapedAt g) u (subst (λ z. Shaped g (frame p (freshRest g p k xs) ∷ fs) z) (sym r) (at-fresh g wf p k vs ss fs base st nd xs e))
+      subst (ShapedAt g) (u .1) (subst (λ z. Shaped g (frame p (freshRest g p k xs) ∷ fs) z) (sym r) (at-fresh g wf p k vs ss fs base st nd xs e))
   by-due (closes e w) f r h = by-close e w r (leads (evaluate (synthesizedRules g (productionAt g p))) (remove (removed g (productionAt g p)) ∷ []) f h)
   by-due (removes rs e w v) f r h = by-remove rs e w v r (leads (remove (removed g (productionAt g p))) [] f h)
   by-due (ends e w) f r h = not-moved (subst (λ z. nextOf g lent l c z ≡ moved d) f h)

@@ -1,17 +1,17 @@
 -- What a move adds to a good node: the child's inherited values, the left side's synthesized values, the conditions tested.
-use Prim.Native.Nat.{ℕ, suc, _+_, _-_, _≤_, _<_}
+use Prim.Native.Nat.{ℕ, suc, _+_, _-_, _≤_}
 use native.Mathlib.Omega.{arith}
 use mathlib.Core.Path.{_≡_, refl, sym, ap, _∙_, subst}
 use mathlib.Core.Bool.{Bool, true, false}
-use mathlib.Core.List.{List, [], _∷_, _++_, append-assoc}
-use lib.ListN.{getD, length, drop, length-append, length-replicate, replicate-append-replicate}
+use mathlib.Core.List.{List, [], _∷_, _++_}
+use lib.ListN.{getD, length, drop, length-replicate}
 use lib.Seq.{ext-getD}
 use lib.Dec.{T, eqb, eqb-refl, eqb→eq}
 use lib.IntN.{ℤ, pos}
 use Rattle.meaning.specs.Base.{all, In}
 use Rattle.meaning.specs.Grammar.{Symbol, terminal, nonterminal, Occurrence, Rule, Production, Grammar, inh, syn, att, symbolAt, conditionPosition, Condition}
 use Rattle.meaning.specs.Value.{apply, holds, inRange, mark}
-use Rattle.meaning.specs.Scheme.{mapFunction, mapCondition, rulesFor, conditionsAt, inheritedRules, synthesizedRules, testsAfter, selectInherited, selectAfter, synBetween}
+use Rattle.meaning.specs.Scheme.{mapFunction, mapCondition, conditionsAt, inheritedRules, synthesizedRules, testsAfter, selectInherited, selectAfter, synBetween}
 use Rattle.meaning.specs.Machine.{readRegister, writeAll}
 use Rattle.meaning.specs.Tree.{Tree}
 use Rattle.meaning.specs.Rules.{OutputAt}
@@ -20,13 +20,9 @@ use Rattle.meaning.specs.Selectors.{occurrence}
 use Rattle.theory_base.specs.Members.{keep-in, all-in, in-map}
 use Rattle.theory_base.specs.WellFormed.{Evaluable}
 use Rattle.theory_base.specs.Agree.{operands-map, apply-agree, apply-map, reads-map, holds-agree, holds-map, reads-available}
-use Rattle.theory_base.specs.Selectors.{past, length-syns, found-after, found-inherited, target-inherited}
-use Rattle.theory_base.specs.Present.{for-in, in-for}
-use Rattle.theory_base.specs.Evaluate.{Written, written, distinct-keep}
+use Rattle.theory_base.specs.Selectors.{past, length-syns, found-after, found-inherited}
+use Rattle.theory_base.specs.Evaluations.{inherited-made, SynthesizedMade, synthesized-made}
 use Rattle.theory_base.specs.Values.{drop-head, drop-over, lefts-length, operands-available}
-
-occ-eq : (o u : Occurrence) → o .position ≡ u .position → o .attribute ≡ u .attribute → o ≡ u
-occ-eq o u e f = λ i. record { position = e i; attribute = f i }
 
 -- ---- evaluate the inherited attributes of the child at hand
 
@@ -47,45 +43,13 @@ value-inherited g p fp vs ts x xs base f d r i e =
 pub hand : (g : Grammar) (p : Production) → Evaluable g p → (vs : List ℤ) (ts : List Tree) (x : Symbol) (xs : List Symbol) (base : List ℤ) → Front g p vs ts → drop (length ts) (p .right) ≡ x ∷ xs
     → T (all (λ r. inRange (apply (readRegister (marks (att g x) ++ (synsOf g ts ++ (vs ++ base)))) (r .function))) (inheritedRules g p (suc (length ts))))
     → Hand g p vs ts x (synsOf g ts ++ (vs ++ base))
-hand g p fp vs ts x xs base f d t = record {
-  made = w .made;
-  handed = record { sized = w .sized; ranged = w .ranged; rules = λ r i e. w .rules r (for-in p n r i e) ∙ value-inherited g p fp vs ts x xs base f d r i e };
-  registers = ap (λ z. writeAll (inheritedRules g p n) old z) split ∙ (w .registers ∙ sym (append-assoc (w .made) (marks (syn g x)) rest));
-}
-  where
-    n : ℕ
-    n = suc (length ts)
-
-    rest : List ℤ
-    rest = synsOf g ts ++ (vs ++ base)
-
-    old : List ℤ
-    old = marks (att g x) ++ rest
-
-    slot : Occurrence → ℕ
-    slot o = o .attribute - 1
-
-    k : (length ts < length (p .right)) × (getD (p .right) (length ts) (terminal 0) ≡ x) × (drop (suc (length ts)) (p .right) ≡ xs)
-    k = drop-head (length ts) (p .right) x (terminal 0) xs d
-
-    split : old ≡ marks (inh g x) ++ (marks (syn g x) ++ rest)
-    split = rw (← (replicate-append-replicate (inh g x) (syn g x) mark)) (append-assoc (marks (inh g x)) (marks (syn g x)) rest)
-
-    out : (r : Rule Occurrence) → In r (rulesFor p n) → (r .target .position ≡ n) × (1 ≤ r .target .attribute) × (r .target .attribute ≤ inh g x)
-    out r i =
-        let h = in-for p n r i in
-        let o : OutputAt g p n (r .target .attribute) = rw (h .0) at (fp .targets r (h .1)) in
-        (h .0, o .1, rw (k .1) at (o .2))
-
-    w : Written slot (selectInherited g p n) old (rulesFor p n) (inh g x) [] (marks (syn g x) ++ rest)
-    w = written slot (selectInherited g p n) old (rulesFor p n) (inh g x) [] (marks (syn g x) ++ rest)
-        (distinct-keep (λ q. eqb (q .target .position) n) (p .rules) (fp .distinct))
-        (λ q r i j e. let a = out q i in let b = out r j in occ-eq (q .target) (r .target) (a .0 ∙ sym (b .0)) (omega arith))
-        (λ r i. let a = out r i in
-        let s : selectInherited g p n (r .target) ≡ r .target .attribute = subst (λ m. selectInherited g p n (occurrence m (r .target .attribute)) ≡ r .target .attribute) (sym (a .0)) (target-inherited g p n (r .target .attribute)) in
-        (omega (arith, s, a .1), omega arith))
-        (λ j l. let e = fp .every (occurrence n (suc j)) (k .0, omega arith, rw (k .1) l) in (e .0, for-in p n (e .0) (e .1) (ap (λ o. o .position) (e .2)), ap (λ o. o .attribute - 1) (e .2) ∙ omega arith))
-        t
+hand g p fp vs ts x xs base f d t =
+    let w = inherited-made g p fp (length ts) x xs (synsOf g ts ++ (vs ++ base)) d t in
+    record {
+      made = w .made;
+      handed = record { sized = w .sized; ranged = w .ranged; rules = λ r i e. w .rules r i e ∙ value-inherited g p fp vs ts x xs base f d r i e };
+      registers = w .registers;
+    }
 
 -- ---- evaluate the left side's synthesized attributes
 
@@ -110,51 +74,21 @@ pub close : (g : Grammar) (p : Production) → Evaluable g p → (vs : List ℤ)
     → Close g p vs ts base
 close g p fp vs ts base f d t = record {
   made = w .made;
-  results = record { sized = w .sized; ranged = w .ranged; rules = λ r i e. let a = out r (for-in p 0 r i e) in found r (a .1) ∙ (w .rules r (for-in p 0 r i e) ∙ value-synthesized g p fp vs ts (marks s ++ base) f d r i e) };
-  registers = ap (λ z. writeAll (synthesizedRules g p) old z) (sym (append-assoc (synsOf g ts) vs (marks s ++ base))) ∙ (w .registers ∙ append-assoc (synsOf g ts) vs (w .made ++ base));
+  results = record { sized = w .sized; ranged = w .ranged; rules = λ r i e. found r i e ∙ (w .rules r i e ∙ value-synthesized g p fp vs ts (marks (syn g (nonterminal (p .left))) ++ base) f d r i e) };
+  registers = w .registers;
 }
   where
-    s : ℕ
-    s = syn g (nonterminal (p .left))
-
     h : ℕ
     h = inh g (nonterminal (p .left))
 
-    sel : Occurrence → ℕ
-    sel = selectAfter g p (length (p .right))
+    w : SynthesizedMade g p (synsOf g ts) vs base
+    w = synthesized-made g p fp vs (synsOf g ts) base (f .sized) (length-syns g p ts (f .lefts) ∙ ap (synBetween g p 0) (sym (all-left g p ts (f .lefts) d))) t
 
-    old : List ℤ
-    old = synsOf g ts ++ (vs ++ (marks s ++ base))
-
-    slot : Occurrence → ℕ
-    slot o = o .attribute - 1 - h
-
-    gone : length (p .right) ≡ length ts
-    gone = all-left g p ts (f .lefts) d
-
-    size : length (synsOf g ts ++ vs) ≡ synBetween g p 0 (length ts) + h
-    size = length-append (synsOf g ts) vs ∙ omega (arith, length-syns g p ts (f .lefts), f .sized)
-
-    out : (r : Rule Occurrence) → In r (rulesFor p 0) → (r .target .position ≡ 0) × (h < r .target .attribute) × (r .target .attribute ≤ h + s)
-    out r i =
-        let q = in-for p 0 r i in
-        let o : OutputAt g p 0 (r .target .attribute) = rw (q .0) at (fp .targets r (q .1)) in
-        (q .0, o .0, o .1)
-
-    w : Written slot sel old (rulesFor p 0) s (synsOf g ts ++ vs) base
-    w = written slot sel old (rulesFor p 0) s (synsOf g ts ++ vs) base
-        (distinct-keep (λ q. eqb (q .target .position) 0) (p .rules) (fp .distinct))
-        (λ q r i j e. let a = out q i in let b = out r j in occ-eq (q .target) (r .target) (a .0 ∙ sym (b .0)) (omega arith))
-        (λ r i. let a = out r i in
-        let z : sel (r .target) ≡ synBetween g p 0 (length ts) + r .target .attribute = subst (λ m. selectAfter g p (length (p .right)) (occurrence m (r .target .attribute)) ≡ synBetween g p 0 (length ts) + r .target .attribute) (sym (a .0)) (rw gone refl) in
-        (omega (arith, z, a .1, size), omega arith))
-        (λ j l. let e = fp .every (occurrence 0 (h + suc j)) (omega arith, omega arith) in (e .0, for-in p 0 (e .0) (e .1) (ap (λ o. o .position) (e .2)), ap (λ o. o .attribute - 1 - h) (e .2) ∙ omega arith))
-        t
-
-    found : (r : Rule Occurrence) → h < r .target .attribute → getD (vs ++ w .made) (r .target .attribute - 1) (pos 0) ≡ getD (w .made) (slot (r .target)) (pos 0)
-    found r l =
-        let e : r .target .attribute - 1 ≡ h + slot (r .target) = omega arith in
-        ap (λ m. getD (vs ++ w .made) m (pos 0)) e ∙ past vs (w .made) h (slot (r .target)) (pos 0) (f .sized)
+    found : (r : Rule Occurrence) → In r (p .rules) → r .target .position ≡ 0 → getD (vs ++ w .made) (r .target .attribute - 1) (pos 0) ≡ getD (w .made) (r .target .attribute - 1 - h) (pos 0)
+    found r i e =
+        let o : OutputAt g p 0 (r .target .attribute) = rw e at (fp .targets r i) in
+        let z : r .target .attribute - 1 ≡ h + (r .target .attribute - 1 - h) = omega (arith, o .0) in
+        ap (λ m. getD (vs ++ w .made) m (pos 0)) z ∙ past vs (w .made) h (r .target .attribute - 1 - h) (pos 0) (f .sized)
 
 -- ---- test the conditions of the latest child, or at entry those of the left side
 

@@ -1,5 +1,5 @@
 -- A well evaluated node whose first k children are left is a good node in progress: the machine's evaluations and tests on its registers give the tree's values.
-use Prim.Native.Nat.{ℕ, zero, suc, _+_, _-_, _≤_, _<_}
+use Prim.Native.Nat.{ℕ, zero, suc, _-_, _≤_, _<_}
 use native.Mathlib.Omega.{arith}
 use mathlib.Core.Path.{_≡_, refl, sym, ap, _∙_, subst}
 use mathlib.Core.Logic.{inl, inr}
@@ -14,12 +14,12 @@ use Rattle.meaning.specs.Grammar.{Symbol, terminal, nonterminal, Occurrence, Ru
 use Rattle.meaning.specs.Value.{apply, holds, inRange}
 use Rattle.meaning.specs.Scheme.{mapRule, mapCondition, rulesFor, conditionsAt, inheritedRules, synthesizedRules, testsAfter, selectInherited, selectAfter, synBetween, removed}
 use Rattle.meaning.specs.Machine.{readRegister, writeAll}
-use Rattle.meaning.specs.Rules.{OutputAt, WellFormedProduction}
+use Rattle.meaning.specs.Rules.{OutputAt}
 use Rattle.meaning.specs.Tree.{Tree, Forest, leaf, node, noTrees, treeAnd, values, child, valueAt, RulesHold, WellEvaluated, WellEvaluateds, inheritedOf, synthesizedOf, waiting}
 use Rattle.meaning.specs.Part.{childOf, chosen, valueRow, valueIn, synsOf, marks, Lefts, Front, Handed, Results}
 use Rattle.meaning.specs.Selectors.{occurrence}
 use Rattle.theory_base.specs.Members.{T→true, all-take, all-drop, all-in, in-all, in-keep, map-in, getD-in}
-use Rattle.theory_base.specs.WellFormed.{Available, Evaluable, evaluable}
+use Rattle.theory_base.specs.WellFormed.{Available, Evaluable}
 use Rattle.theory_base.specs.Agree.{operands-map, apply-agree, reads-map, holds-agree, reads-available}
 use Rattle.theory_base.specs.Selectors.{syn-size, length-syns}
 use Rattle.theory_base.specs.Values.{stay-own, operands-available}
@@ -88,7 +88,7 @@ inherited-range g (node p vs f) x w = all-take inRange (inh g (nonterminal (prod
 -- ---- a node whose left side has the values vs and whose children are f
 
 pub record Evaluated (g : Grammar) (p : Production) (vs : List ℤ) (f : Forest) : Type 0 where
-  pub formed : WellFormedProduction g p
+  pub formed : Evaluable g p
   pub children : WellEvaluateds g f (p .right)
   pub size : length vs ≡ att g (symbolAt p 0)
   pub ranges : T (all inRange vs)
@@ -103,9 +103,6 @@ abbrev pub synthesizedIn : Grammar → Production → List ℤ → List ℤ
 synthesizedIn g p vs = drop (inh g (symbolAt p 0)) vs
 
 module _ (g : Grammar) (p : Production) (vs : List ℤ) (f : Forest) (e : Evaluated g p vs f) where
-  can : Evaluable g p
-  can = evaluable (e .formed)
-
   own-size : length (inheritedIn g p vs) ≡ inh g (symbolAt p 0)
   own-size = length-take (inh g (symbolAt p 0)) vs ∙ omega (arith, e .size)
 
@@ -118,7 +115,7 @@ module _ (g : Grammar) (p : Production) (vs : List ℤ) (f : Forest) (e : Evalua
   -- what a rule computes, k children being left and all that it reads among them
   computes : (k : ℕ) (r : Rule Occurrence) → In r (p .rules) → r .target .position ≤ suc k → (r .target .position ≡ 0 → length (p .right) ≤ k) → apply (valueIn (inheritedIn g p vs) (firsts k f)) (r .function) ≡ valueAt vs f (r .target)
   computes k r i h m =
-      apply-agree (valueIn (inheritedIn g p vs) (firsts k f)) (valueAt vs f) (r .function) (operands-map (λ o u. agrees k o u) (r .function) (operands-available g p can k r i h m))
+      apply-agree (valueIn (inheritedIn g p vs) (firsts k f)) (valueAt vs f) (r .function) (operands-map (λ o u. agrees k o u) (r .function) (operands-available g p (e .formed) k r i h m))
       ∙ sym (rules-in vs f (p .rules) (e .rules) r i)
 
   pub front : (k : ℕ) → k ≤ length (p .right) → Front g p (inheritedIn g p vs) (firsts k f)
@@ -133,7 +130,7 @@ module _ (g : Grammar) (p : Production) (vs : List ℤ) (f : Forest) (e : Evalua
 
   pub tested : (k : ℕ) (c : Condition Occurrence) → In c (p .conditions) → conditionPosition c ≤ k → T (holds (valueIn (inheritedIn g p vs) (firsts k f)) c)
   tested k c i l =
-      rw (holds-agree (valueIn (inheritedIn g p vs) (firsts k f)) (valueAt vs f) c (reads-map (λ o u. agrees k o u) c (reads-available g p k c l (can .reads c i))))
+      rw (holds-agree (valueIn (inheritedIn g p vs) (firsts k f)) (valueAt vs f) c (reads-map (λ o u. agrees k o u) c (reads-available g p k c l (e .formed .reads c i))))
       (all-in (holds (valueAt vs f)) (p .conditions) (e .conditions) c i)
 
   pub handed : (k : ℕ) → k < length (p .right) → Handed g p (inheritedIn g p vs) (firsts k f) (symbolAt p (suc k)) (inheritedOf g (child f k))
@@ -151,7 +148,7 @@ module _ (g : Grammar) (p : Production) (vs : List ℤ) (f : Forest) (e : Evalua
 
       value : (r : Rule Occurrence) → In r (p .rules) → r .target .position ≡ suc k → getD (inheritedOf g (child f k)) (r .target .attribute - 1) (pos 0) ≡ apply (valueIn (inheritedIn g p vs) (firsts k f)) (r .function)
       value r i at =
-          let o : OutputAt g p (suc k) (r .target .attribute) = subst (λ j. OutputAt g p j (r .target .attribute)) at (can .targets r i) in
+          let o : OutputAt g p (suc k) (r .target .attribute) = subst (λ j. OutputAt g p j (r .target .attribute)) at (e .formed .targets r i) in
           inherited-at g (child f k) x (r .target .attribute) w (o .1) (o .2)
           ∙ (ap (λ j. valueAt vs f (occurrence j (r .target .attribute))) (sym at) ∙ sym (computes k r i (omega arith) (λ z. absurd (omega arith))))
 
@@ -197,8 +194,8 @@ module _ (g : Grammar) (p : Production) (vs : List ℤ) (f : Forest) (e : Evalua
           let r : Rule Occurrence = m .0 in
           let is : List ℤ = inheritedOf g (child f k) in
           let hd = handed g p vs f e k h in
-          let o : OutputAt g p (suc k) (r .target .attribute) = subst (λ j. OutputAt g p j (r .target .attribute)) (m .2 ∙ ap suc (length-firsts k f)) (can g p vs f e .targets r (m .1)) in
-          let v = value-inherited g p (can g p vs f e) (inheritedIn g p vs) (firsts k f) (symbolAt p (suc k)) (drop (suc k) (p .right)) tail (front g p vs f e k (omega arith)) next-symbol r (m .1) (m .2) ∙ sym (hd .rules r (m .1) (m .2)) in
+          let o : OutputAt g p (suc k) (r .target .attribute) = subst (λ j. OutputAt g p j (r .target .attribute)) (m .2 ∙ ap suc (length-firsts k f)) (e .formed .targets r (m .1)) in
+          let v = value-inherited g p (e .formed) (inheritedIn g p vs) (firsts k f) (symbolAt p (suc k)) (drop (suc k) (p .right)) tail (front g p vs f e k (omega arith)) next-symbol r (m .1) (m .2) ∙ sym (hd .rules r (m .1) (m .2)) in
           rw (m .3, v) (all-in inRange is (hd .ranged) (getD is (r .target .attribute - 1) (pos 0)) (getD-in is (r .target .attribute - 1) (pos 0) (omega (arith, hd .sized, o .1, o .2))))
 
   pub inherited-in-range : all (λ r. inRange (apply (readRegister (added g p vs f tail k)) (r .function))) (inheritedRules g p (suc k)) ≡ true
@@ -209,8 +206,8 @@ module _ (g : Grammar) (p : Production) (vs : List ℤ) (f : Forest) (e : Evalua
   evaluates-inherited =
       let x : Symbol = symbolAt p (suc k) in
       let u : List ℤ = under g p vs f tail k in
-      let a : Hand g p (inheritedIn g p vs) (firsts k f) x u = hand g p (can g p vs f e) (inheritedIn g p vs) (firsts k f) x (drop (suc k) (p .right)) tail (front g p vs f e k (omega arith)) next-symbol in-range-at in
-      let same : a .made ≡ inheritedOf g (child f k) = handed-one g p (can g p vs f e) (inheritedIn g p vs) (firsts k f) x (drop (suc k) (p .right)) (a .made) (inheritedOf g (child f k)) next-symbol (a .handed) (handed g p vs f e k h) in
+      let a : Hand g p (inheritedIn g p vs) (firsts k f) x u = hand g p (e .formed) (inheritedIn g p vs) (firsts k f) x (drop (suc k) (p .right)) tail (front g p vs f e k (omega arith)) next-symbol in-range-at in
+      let same : a .made ≡ inheritedOf g (child f k) = handed-one g p (e .formed) (inheritedIn g p vs) (firsts k f) x (drop (suc k) (p .right)) (a .made) (inheritedOf g (child f k)) next-symbol (a .handed) (handed g p vs f e k h) in
       ap (λ j. writeAll (inheritedRules g p (suc j)) (added g p vs f tail k) (added g p vs f tail k)) (sym (length-firsts k f))
       ∙ (a .registers
       ∙ (λ i. (same i ++ marks (sym (syn-size g (child f k) x child-fits) i)) ++ u))
@@ -226,7 +223,7 @@ module _ (g : Grammar) (p : Production) (vs : List ℤ) (f : Forest) (e : Evalua
           let q = in-keep (λ c. eqb (conditionPosition c) (length (firsts k f))) (p .conditions) (m .0) (m .1) in
           let at : conditionPosition (m .0) ≡ length (firsts k f) = eqb→eq _ _ (q .0) in
           let fr = front g p vs f e k h in
-          rw (m .2, test-value g p (can g p vs f e) (inheritedIn g p vs) (firsts k f) tail (fr .sized) (fr .lefts) (m .0) (q .1) at) (tested g p vs f e k (m .0) (q .1) (omega (arith, at, length-firsts k f)))
+          rw (m .2, test-value g p (e .formed) (inheritedIn g p vs) (firsts k f) tail (fr .sized) (fr .lefts) (m .0) (q .1) at) (tested g p vs f e k (m .0) (q .1) (omega (arith, at, length-firsts k f)))
 
 -- ---- the left side's synthesized attributes
 
@@ -247,8 +244,8 @@ module _ (g : Grammar) (p : Production) (vs : List ℤ) (f : Forest) (e : Evalua
       one : (d : Rule ℕ) → (r : Rule Occurrence) × In r (p .rules) × (r .target .position ≡ 0) × (d ≡ mapRule (selectAfter g p n) r) → T (inRange (apply (readRegister full) (d .function)))
       one d m =
           let r : Rule Occurrence = m .0 in
-          let o : OutputAt g p 0 (r .target .attribute) = subst (λ j. OutputAt g p j (r .target .attribute)) (m .2) (can g p vs f e .targets r (m .1)) in
-          let v = value-synthesized g p (can g p vs f e) (inheritedIn g p vs) (firsts n f) (marks (syn g (symbolAt p 0)) ++ rs) (front g p vs f e n (omega arith)) none-left r (m .1) (m .2) ∙ sym (results g p vs f e .rules r (m .1) (m .2)) in
+          let o : OutputAt g p 0 (r .target .attribute) = subst (λ j. OutputAt g p j (r .target .attribute)) (m .2) (e .formed .targets r (m .1)) in
+          let v = value-synthesized g p (e .formed) (inheritedIn g p vs) (firsts n f) (marks (syn g (symbolAt p 0)) ++ rs) (front g p vs f e n (omega arith)) none-left r (m .1) (m .2) ∙ sym (results g p vs f e .rules r (m .1) (m .2)) in
           let all-values : T (all inRange (inheritedIn g p vs ++ synthesizedIn g p vs)) = rw (take-append-drop (inh g (symbolAt p 0)) vs) (e .ranges) in
           let size = ap length (take-append-drop (inh g (symbolAt p 0)) vs) in
           rw (m .3, v) (all-in inRange (inheritedIn g p vs ++ synthesizedIn g p vs) all-values (getD (inheritedIn g p vs ++ synthesizedIn g p vs) (r .target .attribute - 1) (pos 0)) (getD-in (inheritedIn g p vs ++ synthesizedIn g p vs) (r .target .attribute - 1) (pos 0) (omega (arith, size, e .size, o .0, o .1))))
@@ -259,8 +256,8 @@ module _ (g : Grammar) (p : Production) (vs : List ℤ) (f : Forest) (e : Evalua
   -- the synthesized values in
   pub evaluates-synthesized : writeAll (synthesizedRules g p) full full ≡ under g p vs f (synthesizedIn g p vs ++ rs) n
   evaluates-synthesized =
-      let a : Close g p (inheritedIn g p vs) (firsts n f) rs = close g p (can g p vs f e) (inheritedIn g p vs) (firsts n f) rs (front g p vs f e n (omega arith)) none-left results-range in
-      let same : a .made ≡ synthesizedIn g p vs = results-one g p (can g p vs f e) (inheritedIn g p vs) (firsts n f) (a .made) (synthesizedIn g p vs) (own-size g p vs f e) (a .results) (results g p vs f e) in
+      let a : Close g p (inheritedIn g p vs) (firsts n f) rs = close g p (e .formed) (inheritedIn g p vs) (firsts n f) rs (front g p vs f e n (omega arith)) none-left results-range in
+      let same : a .made ≡ synthesizedIn g p vs = results-one g p (e .formed) (inheritedIn g p vs) (firsts n f) (a .made) (synthesizedIn g p vs) (own-size g p vs f e) (a .results) (results g p vs f e) in
       a .registers ∙ ap (λ z. under g p vs f (z ++ rs) n) same
 
   -- what remove leaves

@@ -1,11 +1,6 @@
 -- Demand 2 for tables: accepted exactly where 01's rules are met, and one verdict for every list of bytes.
-use Prim.Native.Nat.{ℕ, _≤_}
-use mathlib.Core.Path.{_≡_, refl, sym, subst}
-use mathlib.Core.Logic.{_↔_}
-use mathlib.Core.List.{List}
-use lib.ListN.{length}
+use mathlib.Core.Path.{refl, sym, subst}
 use Rattle.meaning.specs.Grammar.{Grammar}
-use Rattle.meaning.specs.Layout.{Bytes}
 use Rattle.meaning.specs.Table.{State, grammarOf}
 use Rattle.meaning.specs.Judgement.{Accepted, accepted, JudgedGrammar, meets, AllUseful, NoneRecursive, NoneClash}
 use Rattle.meaning.specs.Decide.{verdictOf}

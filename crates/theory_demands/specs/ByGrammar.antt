@@ -26,6 +26,6 @@ module _ (program : Grammar → List ℕ) (bs : List ℕ) (g : Grammar) (a : Acc
       subst (λ z. ByGrammar.History g m₀ [] false (z .state) (z .stacks)) e (ByGrammar.opened (ap (λ z. z .answer) e ∙ h))
   by-grammar (countsForNothing other area c h x y) = by-grammar h
   by-grammar {m₀} (fed {ts = ts} {r = r} {m = m} area us h l o) =
-      subst (λ z. ByGrammar.History g m₀ (ts ++ us) false (z .state) (z .stacks)) (sym (performs-is area r m (feed us) l)) (ByGrammar.fed us (by-grammar h))
+      subst (λ z. ByGrammar.History g m₀ (ts ++ us) false (z .state) (z .stacks)) (sym (performs-is area r m (feed us) l)) (ByGrammar.fed us (by-grammar h) o)
   by-grammar {m₀} (finished {ts = ts} {r = r} {m = m} area h l o) =
-      subst (λ z. ByGrammar.History g m₀ ts true (z .state) (z .stacks)) (sym (performs-is area r m finish l)) (ByGrammar.finished (by-grammar h))
+      subst (λ z. ByGrammar.History g m₀ ts true (z .state) (z .stacks)) (sym (performs-is area r m finish l)) (ByGrammar.finished (by-grammar h) o)

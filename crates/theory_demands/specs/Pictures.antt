@@ -19,13 +19,13 @@ use Rattle.meaning.specs.Drawn.{WalkFits, drawnMoves, drawnRecord, drawnStacks}
 use Rattle.meaning.specs.Statements.{History, OnlyTree, PictureAlways, ValueAlways}
 use Rattle.theory_table.specs.AcceptedTable.{accepted-well-formed}
 use Rattle.theory_walk.specs.Moves.{moves-to, moves-all}
-use Rattle.theory_sound.specs.Histories.{Run, runs}
+use Rattle.theory_sound.specs.Histories.{Run, runs, open-run}
 use Rattle.theory_sound.specs.Answers.{finish-sound, not-value}
 use Rattle.theory_sound.specs.ValueSound.{moves-only}
 use Rattle.theory_demands.specs.ByGrammar.{performs-is, by-grammar}
 use Rattle.meaning.specs.Calls as Calls
 use Rattle.theory_base.specs.Counted as Counted
-use Rattle.theory_demands.specs.Proved as Proved
+use Rattle.theory_demands.specs.ByCounts as ByCounts
 
 -- ---- the walk counted and the walk as a sequence
 
@@ -54,12 +54,12 @@ drawn-stacks g t j false m = refl
 -- ---- the picture
 
 pub only-tree : OnlyTree
-only-tree = Proved.only-tree
+only-tree = ByCounts.only-tree
 
 pub picture-always : PictureAlways
 picture-always program bs g m₀ ts us isOver r m t a h k f over =
     let w = accepted-well-formed bs g a in
-    let d = Proved.picture-always bs g m₀ ts us isOver r m t a (by-grammar program bs g a h) k (fits-counted g w (ts ++ us) t k m₀ f) over in
+    let d = ByCounts.picture-always bs g m₀ ts us isOver r m t a (by-grammar program bs g a h) k (fits-counted g w (ts ++ us) t k m₀ f) over in
     (d .0 ∙ drawn-record g w (ts ++ us) t k (length ts) isOver, d .1 ∙ drawn-stacks g t (length ts) isOver m₀)
 
 -- ---- the value
@@ -73,8 +73,8 @@ closed-no g r m called v n e h = go (r .isOpen) e h
 
 was-opened : {g : Grammar} {m₀ : Stacks} {ts : List ℕ} {b : Bool} {r : Record} {m : Stacks} → Counted.History g m₀ ts b r m → openOf g m₀ .answer ≡ Calls.more 0
 was-opened (Counted.opened e) = e
-was-opened (Counted.fed us h) = was-opened h
-was-opened (Counted.finished h) = was-opened h
+was-opened (Counted.fed us h o) = was-opened h
+was-opened (Counted.finished h o) = was-opened h
 
 module _ (bs : List ℕ) (g : Grammar) (a : Accepted bs g) (m₀ : Stacks) (ts : List ℕ) (r : Record) (m : Stacks) (v : ℤ) (n : ℕ) where
   forth : Run g m₀ ts r m → finishOf g r m .answer ≡ value v n → (t : Tree) × TreeOf g ts t × WalkFits g (lentOf m₀) t × (valueOf g t ≡ v) × (length (walk g t) ≡ n)
@@ -91,12 +91,12 @@ module _ (bs : List ℕ) (g : Grammar) (a : Accepted bs g) (m₀ : Stacks) (ts :
       let w = accepted-well-formed bs g a in
       let f : Counted.WalkFits g (lentOf m₀) t = fits-counted g w ts t (x .1) m₀ (x .2) in
       let k : TreeOf g (ts ++ []) t = subst (λ z. TreeOf g z t) (sym (append-nil ts)) (x .1) in
-      let d = Proved.picture-always bs g m₀ ts [] false r m t a h k f (λ e. refl) in
+      let d = ByCounts.picture-always bs g m₀ ts [] false r m t a h k f (λ e. refl) in
       let o : Called = openOf g m₀ in
-      let h2 : Counted.History g m₀ ts false (feedOf g (o .state) (o .stacks) ts .state) (feedOf g (o .state) (o .stacks) ts .stacks) = Counted.fed ts (Counted.opened (was-opened h)) in
-      let d2 = Proved.picture-always bs g m₀ ts [] false (feedOf g (o .state) (o .stacks) ts .state) (feedOf g (o .state) (o .stacks) ts .stacks) t a h2 k f (λ e. refl) in
+      let h2 : Counted.History g m₀ ts false (feedOf g (o .state) (o .stacks) ts .state) (feedOf g (o .state) (o .stacks) ts .stacks) = Counted.fed ts (Counted.opened (was-opened h)) (ap (λ z. z .isOpen) (open-run g w m₀ (was-opened h) .isRecord)) in
+      let d2 = ByCounts.picture-always bs g m₀ ts [] false (feedOf g (o .state) (o .stacks) ts .state) (feedOf g (o .state) (o .stacks) ts .stacks) t a h2 k f (λ e. refl) in
       let same : finishOf g r m .answer ≡ Counted.evaluated g m₀ ts .answer = ap₂ (λ y z. finishOf g y z .answer) (d .0 ∙ sym (d2 .0)) (d .1 ∙ sym (d2 .1)) in
-      let y = Proved.value-exactly bs g a m₀ ts v .1 (t, x .1, f, x .3) in
+      let y = ByCounts.value-exactly bs g a m₀ ts v .1 (t, x .1, f, x .3) in
       let q = moves-only bs g a m₀ ts v (y .0) (y .1) in
       let u : q .0 ≡ t = only-tree bs g a ts (q .0) t (q .1) (x .1) in
       let c : y .0 ≡ n = sym (q .2) ∙ (ap (λ z. movesOf g (Counted.pastEnd z) 0 z) u ∙ (all-moves g w ts t (x .1) ∙ x .4)) in

@@ -14,9 +14,9 @@ use Rattle.meaning.specs.Machine.{expects, schemeAt}
 use Rattle.meaning.specs.Calls.{fromExpect}
 use Rattle.meaning.specs.PublicCalls.{written}
 use Rattle.meaning.specs.Program.{concat, schemeWords, expectsAt, entryWords, schemeOffset, bodyWords, bodySize, bodiesFrom, recordWords, recordsFrom, directoryWord, directory, recordsAddress, bodiesAddress, segmentWords, programOf, symbolHead}
-use Rattle.theory_sets.specs.Tests.{tabled, length-countFrom}
 use Rattle.theory_base.specs.WellFormed.{listed-at}
 use Rattle.theory_base.specs.Frames.{expects-skip, expects-symbols}
+use Rattle.theory_sets.specs.Tests.{tabled, length-countFrom}
 use Rattle.theory_program.specs.Stands.{Stands, stands-at, stands-in, stands-first, stands-behind, stands-left, stands-right, stands-word}
 use Rattle.theory_program.specs.Code.{CodeAt, ConditionsAt, conditions-length, expects-length, code-from}
 

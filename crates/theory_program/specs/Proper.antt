@@ -15,10 +15,10 @@ use Rattle.meaning.specs.Selectors.{occurrence}
 use Rattle.meaning.specs.Scheme.{Instruction, add, evaluate, expect, test, remove, mapFunction, mapCondition, mapRule, synBetween, selectInherited, selectAfter, rulesFor, conditionsAt, entryTests, testsAfter, inheritedRules, synthesizedRules, removed, symbolScheme, symbolsScheme, scheme}
 use Rattle.theory_base.specs.Members.{in-keep, getD-in, map-in}
 use Rattle.theory_base.specs.WellFormed.{listed-at}
-use Rattle.theory_base.specs.Selectors.{inherited-at}
+use Rattle.theory_base.specs.Selectors.{inherited-at, target-of-inherited, target-of-synthesized}
 use Rattle.theory_base.specs.Present.{in-for}
 use Rattle.theory_base.specs.Evaluate.{distinct-keep}
-use Rattle.theory_answers.specs.Selecting.{operands-through, reads-through, target-of-inherited, target-of-synthesized}
+use Rattle.theory_answers.specs.Selecting.{operands-through, reads-through}
 use Rattle.theory_program.specs.RuleCounts.{rules-few}
 
 -- ---- what is said

@@ -8,17 +8,15 @@ use lib.ListN.{length}
 use lib.Dec.{T, eqb, ltb, ltb→lt, eqb→eq}
 use Rattle.meaning.specs.Grammar.{Grammar, productionAt, whole}
 use Rattle.meaning.specs.Rules.{WellFormed}
-use Rattle.meaning.specs.Scheme.{Instruction, add, evaluate, expect, test, remove, scheme, choose}
-use Rattle.meaning.specs.Machine.{schemeIf, schemeAt}
+use Rattle.meaning.specs.Scheme.{Instruction, add, evaluate, expect, test, remove, choose}
+use Rattle.meaning.specs.Machine.{schemeAt}
 use Rattle.meaning.specs.Calls.{fromExpect, frameOf, isListed, placeWaits}
 use Rattle.theory_base.specs.Members.{both, or-cases}
 use Rattle.theory_base.specs.WellFormed.{not-whole}
 use Rattle.theory_program.specs.Code.{CodeAt}
 use Rattle.theory_program.specs.Addresses.{Begins, expectAddress, whole-at, expect-at}
 use Rattle.theory_program.specs.Proper.{ProperInstruction, AllProper, production-in, scheme-proper}
-
-pub scheme-listed : (g : Grammar) → WellFormed g → (p : ℕ) → p < length (g .productions) → schemeAt g p ≡ scheme g (productionAt g p)
-scheme-listed g w p l = ap (λ b. schemeIf b g (productionAt g p)) (not-whole g w p l)
+use Rattle.theory_base.specs.Frames.{scheme-listed}
 
 -- where the code of a place begins: the whole segment's stands in words 0 and 1
 abbrev pub placeAddress : Grammar → ℕ → ℕ

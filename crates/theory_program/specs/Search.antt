@@ -10,11 +10,11 @@ use lib.Seq.{getD-drop}
 use lib.Dec.{T, eqb, eqb→eq, eqb-refl}
 use lib.IntN.{ℤ}
 use Rattle.meaning.specs.Base.{keep, consIf, countFrom, isEmpty}
-use Rattle.meaning.specs.Grammar.{Production, Grammar, productionAt, wholeProduction}
+use Rattle.meaning.specs.Grammar.{Production, Grammar, productionAt, wholeProduction, Look}
 use Rattle.meaning.specs.Rules.{WellFormed}
 use Rattle.meaning.specs.Scheme.{choose}
-use Rattle.meaning.specs.Sets.{has, starts}
-use Rattle.meaning.specs.Machine.{Look, lookNumber, isOf, alternatives, entered}
+use Rattle.meaning.specs.Sets.{has, starts, lookNumber}
+use Rattle.meaning.specs.Machine.{isOf, alternatives, entered}
 use Rattle.meaning.specs.Program.{firstOf, directoryWord}
 use Rattle.theory_base.specs.Members.{T→true, both}
 use Rattle.theory_base.specs.WellFormed.{listed-at}

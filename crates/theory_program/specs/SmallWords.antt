@@ -13,8 +13,8 @@ use Rattle.meaning.specs.Rules.{Known, WellFormed}
 use Rattle.meaning.specs.Scheme.{Instruction, add, evaluate, expect, test, remove, scheme, entryTests}
 use Rattle.meaning.specs.Sets.{has, starts}
 use Rattle.meaning.specs.Program.{concat, packed, functionWords, ruleWords, conditionWords, symbolHead, instructionWords, schemeWords, expectsAt, entryWords, schemeOffset, bodyWords, bodySize, bodiesFrom, firstOf, recordWords, recordsFrom, directoryWord, directory, bodiesAddress, segmentWords, programOf}
-use Rattle.theory_table.specs.Numbers.{unsigned-small, divisor-in}
 use Rattle.theory_base.specs.Members.{map-in, in-append}
+use Rattle.theory_table.specs.Numbers.{unsigned-small, divisor-in}
 use Rattle.theory_program.specs.Code.{expects-below}
 use Rattle.theory_program.specs.Proper.{ProperRule, ProperCondition, ProperInstruction, att-most, scheme-proper, entry-proper, entry-most}
 use Rattle.theory_program.specs.SetWords.{bits-small}

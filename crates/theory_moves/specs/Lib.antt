@@ -1,0 +1,6 @@
+pub mod Ahead
+pub mod Along
+pub mod Determined
+pub mod Begun
+pub mod Made
+pub mod Always
