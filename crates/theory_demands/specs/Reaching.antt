@@ -21,7 +21,7 @@ use Rattle.theory_demands.specs.ByGrammar.{by-grammar}
 -- ---- the counter counts the moves
 
 module _ (g : Grammar) (lent : Lent) where
-  counted : {us vs : List ℕ} {c d : Config} {ws : List Act} → Makes g lent us c ws vs d → d .moves ≡ length ws + c .moves
+  pub counted : {us vs : List ℕ} {c d : Config} {ws : List Act} → Makes g lent us c ws vs d → d .moves ≡ length ws + c .moves
   counted {c = c} nothing = omega arith
   counted (andThen {ws = ws} {vs = vs} {d = d} p i is fs e m f h) =
       let n = counts g lent (lookAt vs) d e h .moves in

@@ -17,19 +17,21 @@ use Rattle.theory_sound.specs.Ready.{selectors-find}
 use Rattle.theory_sound.specs.Nested.{part-returns}
 use Rattle.theory_complete.specs.Halves.{foreseen}
 use Rattle.theory_moves.specs.Begun.{Begun, part-of}
-use Rattle.theory_moves.specs.Made.{made}
+use Rattle.theory_moves.specs.Made.{Made, made}
 
 first-part : (xs ys zs : List ℕ) → xs ++ zs ≡ ys ++ zs → xs ≡ ys
 first-part xs ys zs e =
     let n : length xs ≡ length ys = omega (arith, ap length e, length-append xs zs, length-append ys zs) in
     sym (take-at xs zs (length xs) refl) ∙ (ap (take (length xs)) e ∙ take-at ys zs (length xs) (sym n))
 
+pub accepted-made : (bs : List ℕ) (g : Grammar) → Accepted bs g → (lent : Lent) (stream : List ℕ) {ws : List Act} {us : List ℕ} {c : Config} → Makes g lent stream (opening g) ws us c → Made g stream ws us c
+accepted-made bs g a lent stream {ws} {us} {c} m = let s = accepted-sane bs g a in made g (s .formed) lent stream (foreseen g s stream) ws us c m
+
 -- what the opening leads to, with the tokens read named
 module _ (bs : List ℕ) (g : Grammar) (a : Accepted bs g) (lent : Lent) (ws : List Act) (ts us : List ℕ) (c : Config) (m : Makes g lent (ts ++ us) (opening g) ws us c) where
   reached : (s : Shows g ts c) × ((t : Tree) → TreeOf g (ts ++ us) t → Begun g t (s .part .node) (s .part .below))
   reached =
-      let s = accepted-sane bs g a in
-      let k = made g (s .formed) lent (ts ++ us) (foreseen g s (ts ++ us)) ws us c m in
+      let k = accepted-made bs g a lent (ts ++ us) m in
       subst (λ z. (s : Shows g z c) × ((t : Tree) → TreeOf g (ts ++ us) t → Begun g t (s .part .node) (s .part .below))) (sym (first-part ts (k .read) us (k .split))) (k .shows, k .ofTree)
 
 -- 01: "A selector finds its attribute if its register is the named occurrence's and, when read, holds the tree's value"
