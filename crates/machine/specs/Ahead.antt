@@ -17,11 +17,12 @@ use Rattle.meaning.specs.Calls.{fromExpect, frameOf, isListed, placeWaits}
 use Rattle.meaning.specs.Program.{instructionWords, schemeWords, segmentWords, symbolHead}
 use Rattle.theory_base.specs.Members.{both}
 use Rattle.theory_base.specs.WellFormed.{not-whole}
+use Rattle.theory_base.specs.Frames.{scheme-listed}
 use Rattle.theory_program.specs.Stands.{Stands, stands-at, stands-left, stands-right, stands-word, stands-within}
 use Rattle.theory_program.specs.Code.{CodeAt, operation, code-head}
 use Rattle.theory_program.specs.Addresses.{Begins, schemeAddress, expectAddress, scheme-at, segment-at, expects-scheme}
 use Rattle.theory_program.specs.Proper.{AllProper, production-in, scheme-proper}
-use Rattle.theory_program.specs.Resuming.{scheme-listed, placeAddress, place-code, place-proper}
+use Rattle.theory_program.specs.Resuming.{placeAddress, place-code, place-proper}
 
 -- the whole segment's scheme is followed by a word that says that nothing is left
 abbrev pub endIf : Bool → List ℕ

@@ -27,7 +27,7 @@ use Rattle.theory_program.specs.Proper.{ProperInstruction}
 use Rattle.machine.specs.declared.Run.{Run}
 use Rattle.machine.specs.declared.Step.{Step}
 use Rattle.machine.specs.declared.Step.the-variants.{Moved, Blocked}
-use Rattle.machine.specs.Laid.{Laid, laid-size}
+use Rattle.machine.specs.Laid.{LaidIn, laid-size}
 use Rattle.machine.specs.Ahead.{Ahead, ahead-code, ahead-over}
 
 abbrev pub topFrame : List Frame → Frame
@@ -39,8 +39,8 @@ pub record Held (g : Grammar) (ws : List ℕ) (lent : Lent) (m : List ℤ) (ps :
   pub wellFormed : WellFormed g
   pub begins : Begins g ws
   pub shaped : ShapedAt g c
-  pub registers : Laid mark (lent .maxRegisters) m (run .registers) (c .registers)
-  pub places : Laid 0 (lent .maxPlaces) ps (run .places) (map (placeOf g) (c .frames))
+  pub registers : LaidIn mark (lent .maxRegisters) m (run .registers) (c .registers)
+  pub places : LaidIn 0 (lent .maxPlaces) ps (run .places) (map (placeOf g) (c .frames))
   pub ahead : Ahead g ws (run .at) (topFrame (c .frames))
   pub tokens : run .tokens ≡ c .tokens
   pub moves : run .moves ≡ c .moves
@@ -146,8 +146,8 @@ module _ {g : Grammar} {ws : List ℕ} {lent : Lent} {m : List ℤ} {ps : List �
       let b = h .fewTokens in
       record {
         inside = inside-of at-hand;
-        registers = omega (arith, laid-size (h .registers), h .registers .fits);
-        places = omega (arith, laid-size (h .places), h .places .fits);
+        registers = omega (arith, laid-size (h .registers), h .registers .room);
+        places = omega (arith, laid-size (h .places), h .places .room);
         somePlace = omega (arith, h .places .height, length-map (c .frames) (placeOf g), ap length (sym (h .shaped .isFrames)));
         moves = omega arith;
         tokens = omega arith;

@@ -19,15 +19,16 @@ use Rattle.meaning.specs.Part.{frame, config}
 use Rattle.meaning.specs.Calls.{frameOf, placeWaits, lay}
 use Rattle.meaning.specs.Program.{instructionWords, schemeWords}
 use Rattle.theory_answers.specs.ShapeMoves.{ShapedAt, shape-move}
-use Rattle.theory_answers.specs.Bounds.{length-writeAll}
 use Rattle.theory_program.specs.Code.{operation, code-head, code-evaluate, code-test, rules-length, conditions-length}
 use Rattle.theory_program.specs.Stands.{stands-within}
 use Rattle.registers.specs.Stack.{stack, stack-laid}
-use Rattle.registers.specs.Read.{rulesFrom, conditionsFrom, rules-read, conditions-read, Tests, tests, Evaluates, evaluates, valuesFit, Evaluated}
+use Rattle.registers.specs.Laid.{laid-write, laid-add}
+use Rattle.registers.specs.Moves.{test-ready, test-done, evaluate-ready, evaluate-done}
+use Rattle.registers.specs.Read.{rulesFrom, conditionsFrom, Tests, Evaluates, valuesFit, afterRules, Evaluated}
 use Rattle.machine.specs.declared.Run.{Run}
 use Rattle.machine.specs.declared.Step.{Step}
 use Rattle.machine.specs.declared.Step.the-variants.{Moved, Blocked}
-use Rattle.machine.specs.Laid.{Laid, laid-stack, laid-size, laid-read, laid-write, laid-over, laid-add, laid-push, laid-pop}
+use Rattle.machine.specs.Laid.{LaidIn, laid-size, laid-read}
 use Rattle.machine.specs.Ahead.{Ahead, Ordered, ahead-code, ahead-next, ahead-over, place-same, place-tested, place-passed, place-pending, pending-word, no-pending-word}
 use Rattle.machine.specs.Held.{Held, Made, Hand, topFrame, shaped-over, hand-add, hand-terminal, hand-test, hand-evaluate, hand-remove, hand-proper, bounds, next-is}
 
@@ -43,11 +44,11 @@ abbrev pub passed : List ℕ → ℕ → ℕ → List ℕ → List ℕ
 passed ws a h ps = countIf (not (eqb (getD ws a 0 % 8) 4)) h ps
 
 module _ {n : ℕ} {ps : List ℕ} {h : ℕ} where
-  counted : {x : ℕ} {xs : List ℕ} (y : ℕ) → y ≡ x + 1 → Laid 0 n ps h (x ∷ xs) → Laid 0 n (countIf true h ps) h (y ∷ xs)
+  counted : {x : ℕ} {xs : List ℕ} (y : ℕ) → y ≡ x + 1 → LaidIn 0 n ps h (x ∷ xs) → LaidIn 0 n (countIf true h ps) h (y ∷ xs)
   counted {x} {xs} y e l =
       let k = l .height in
-      let r : getD ps (h - 1) 0 + 1 ≡ y = ap (λ v. v + 1) (laid-read l 1 0 (omega arith) (omega arith)) ∙ sym e in
-      subst (λ v. Laid 0 n (set ps (h - 1) v) h (y ∷ xs)) (sym r) (laid-write l 1 y (omega arith) (omega arith))
+      let r : getD ps (h - 1) 0 + 1 ≡ y = ap (λ v. v + 1) (laid-read l 1 (omega arith) (omega arith)) ∙ sym e in
+      subst (λ v. LaidIn 0 n (set ps (h - 1) v) h (y ∷ xs)) (sym r) (laid-write l 1 y (omega arith) (omega arith))
 
 -- whether a test follows
 module _ {g : Grammar} {ws : List ℕ} {a : ℕ} (p : ℕ) where
@@ -66,18 +67,18 @@ module _ {g : Grammar} {ws : List ℕ} {a : ℕ} (p : ℕ) where
 
   -- the symbol expected is passed
   pub passed-laid : {n : ℕ} {ps : List ℕ} {h : ℕ} {qs : List ℕ} (x : Symbol) (is : List Instruction) → (is ≡ [] → p ≡ whole) → Ahead g ws a (frame p is) → 1 + expects is ≤ length (productionAt g p .right)
-      → Laid 0 n ps h (placeOf g (frame p (expect x ∷ is)) ∷ qs) → Laid 0 n (passed ws a h ps) h (placeOf g (frame p is) ∷ qs)
+      → LaidIn 0 n ps h (placeOf g (frame p (expect x ∷ is)) ∷ qs) → LaidIn 0 n (passed ws a h ps) h (placeOf g (frame p is) ∷ qs)
   passed-laid {n} {ps} {h} {qs} x is w u few l = go (eqb (getD ws a 0 % 8) 4) refl
     where
-      go : (b : Bool) → eqb (getD ws a 0 % 8) 4 ≡ b → Laid 0 n (countIf (not b) h ps) h (placeOf g (frame p is) ∷ qs)
+      go : (b : Bool) → eqb (getD ws a 0 % 8) 4 ≡ b → LaidIn 0 n (countIf (not b) h ps) h (placeOf g (frame p is) ∷ qs)
       go true e = rw (place-pending g p x is (follows is w u .0 (eqb→eq (getD ws a 0 % 8) 4 (rw e tt)))) l
       go false e = counted (placeOf g (frame p is)) (place-passed g p x is few (follows is w u .1 (λ z. apart (sym (eq-eqb (getD ws a 0 % 8) 4 z) ∙ e)))) l
 
 -- ---- a move that leaves the top frame one instruction further
 
 module _ {g : Grammar} {ws : List ℕ} {lent : Lent} {m : List ℤ} {ps : List ℕ} {run : Run} {c : Config} (h : Held g ws lent m ps run c) where
-  pub top-laid : {i : Instruction} (x : Hand g ws (run .at) c i) → Laid 0 (lent .maxPlaces) ps (run .places) (placeOf g (frame (x .production) (i ∷ x .rest)) ∷ map (placeOf g) (x .below))
-  top-laid x = subst (λ fs. Laid 0 (lent .maxPlaces) ps (run .places) (map (placeOf g) fs)) (x .frames) (h .places)
+  pub top-laid : {i : Instruction} (x : Hand g ws (run .at) c i) → LaidIn 0 (lent .maxPlaces) ps (run .places) (placeOf g (frame (x .production) (i ∷ x .rest)) ∷ map (placeOf g) (x .below))
+  top-laid x = subst (λ fs. LaidIn 0 (lent .maxPlaces) ps (run .places) (map (placeOf g) fs)) (x .frames) (h .places)
 
   -- the configuration after it
   abbrev pub after : {i : Instruction} → Hand g ws (run .at) c i → List ℤ → ℕ → Config
@@ -85,8 +86,8 @@ module _ {g : Grammar} {ws : List ℕ} {lent : Lent} {m : List ℤ} {ps : List �
 
   pub onward-held : {i : Instruction} (look : Look) (x : Hand g ws (run .at) c i) (m′ : List ℤ) (ps′ : List ℕ) (a r k t : ℕ) (rs : List ℤ) → run .moves < movesLimit
       → next g lent look c ≡ moved (after x rs t) → a ≡ run .at + length (instructionWords i) → k ≡ t → t ≤ suc (c .tokens)
-      → Laid mark (lent .maxRegisters) m′ r rs
-      → Laid 0 (lent .maxPlaces) ps′ (run .places) (placeOf g (frame (x .production) (x .rest)) ∷ map (placeOf g) (x .below))
+      → LaidIn mark (lent .maxRegisters) m′ r rs
+      → LaidIn 0 (lent .maxPlaces) ps′ (run .places) (placeOf g (frame (x .production) (x .rest)) ∷ map (placeOf g) (x .below))
       → Held g ws lent m′ ps′ (record { tokens = k; moves = run .moves + 1; registers = r; places = run .places; at = a }) (after x rs t)
   onward-held {i} look x m′ ps′ a r k t rs limit e isAt isTokens few lr lp =
       let mv = h .moves in
@@ -133,34 +134,28 @@ module _ {g : Grammar} {ws : List ℕ} {lent : Lent} {m : List ℤ} {ps : List �
   abbrev pub rulesHere : List (Rule ℕ)
   rulesHere = rulesFrom ws (run .at + 1) operandHere
 
-  -- the rules at hand, read from their words, can be evaluated
+  -- the rules at hand can be evaluated, and what that says
   pub record Rules : Type 0 where
     pub rules : List (Rule ℕ)
     pub hand : Hand g ws (run .at) c (evaluate rules)
     pub count : operandHere ≡ length rules
     pub few : operandHere ≤ 8
-    pub read : rulesHere ≡ rules
-    pub evaluated : Evaluates ws (run .at + 1) operandHere (stack (run .registers) m)
+    pub ready : Evaluates ws (run .at + 1) operandHere (stack (run .registers) m)
+    pub done : {b : Bool} {m′ : List ℤ} → Evaluated rulesHere (run .registers) m b m′ → (b ≡ valuesFit rules (c .registers)) × LaidIn mark (lent .maxRegisters) m′ (run .registers) (afterRules b rules (c .registers))
 
   pub rules-here : getD ws (run .at) 0 % 8 ≡ 1 → Rules
   rules-here o =
       let r = hand-evaluate h o in
-      let x = r .1 in
-      let p = hand-proper h x in
-      let k = code-evaluate (ahead-code (x .ahead)) in
-      let e : Evaluates ws (run .at + 1) (length (r .0)) (c .registers) = evaluates (r .0) (c .registers) (k .1) (p .2) (x .handled) in
+      let p = hand-proper h (r .1) in
+      let k = code-evaluate (ahead-code (r .1 .ahead)) .1 in
       record {
         rules = r .0;
-        hand = x;
+        hand = r .1;
         count = r .2;
         few = omega (arith, r .2, p .1);
-        read = ap (rulesFrom ws (run .at + 1)) (r .2) ∙ rules-read (r .0) (k .1) (p .2);
-        evaluated = subst₂ (λ n rs. Evaluates ws (run .at + 1) n rs) (sym (r .2)) (sym (laid-stack (h .registers))) e;
+        ready = rw (r .2) (evaluate-ready (h .registers) (r .0) k (p .2) (r .1 .handled));
+        done = λ {b} {m′} v. evaluate-done (h .registers) (r .0) k (p .2) (subst (λ n. Evaluated (rulesFrom ws (run .at + 1) n) (run .registers) m b m′) (r .2) v);
       }
-
-  -- the answer speaks of the rules and of the registers of the configuration
-  same-answer : (x : Rules) → valuesFit rulesHere (stack (run .registers) m) ≡ valuesFit (x .rules) (c .registers)
-  same-answer x = ap₂ valuesFit (x .read) (laid-stack (h .registers))
 
   pub made-evaluate : (look : Look) → run .moves < movesLimit → getD ws (run .at) 0 % 8 ≡ 1 → (m′ : List ℤ) → Evaluated rulesHere (run .registers) m true m′
       → Made g ws lent (next g lent look c) m ps m′ ps (Moved (record { tokens = run .tokens; moves = run .moves + 1; registers = run .registers; places = run .places; at = run .at + 1 + 2 * operandHere }))
@@ -168,17 +163,16 @@ module _ {g : Grammar} {ws : List ℕ} {lent : Lent} {m : List ℤ} {ps : List �
       let r = rules-here o in
       let x = r .hand in
       let rs : List ℤ = writeAll (r .rules) (c .registers) (c .registers) in
-      let e : next g lent look c ≡ moved (after x rs (c .tokens)) = next-is h look x limit ∙ ap (λ b. chooseOutcome b (step c (frame (x .production) (x .rest) ∷ x .below) rs) (blocked 23)) (sym (v .answer ∙ same-answer r)) in
-      let size : length rs ≡ run .registers = length-writeAll (r .rules) (c .registers) (c .registers) ∙ sym (h .registers .height) in
-      let l = laid-over (h .registers) rs m′ (omega arith) (v .memory ∙ ap₂ (λ qs ys. lay (run .registers) mark (writeAll qs ys ys) m) (r .read) (laid-stack (h .registers))) in
-      (after x rs (c .tokens), e, onward-held look x m′ ps (run .at + 1 + 2 * operandHere) (run .registers) (run .tokens) (c .tokens) rs limit e (omega (arith, r .count, rules-length (r .rules))) (h .tokens) (omega arith) (subst (λ j. Laid mark (lent .maxRegisters) m′ j rs) size l) (rw (← (place-same g (x .production) (evaluate (r .rules)) (x .rest) refl refl (x .ahead .ordered))) (top-laid x)))
+      let d = r .done v in
+      let e : next g lent look c ≡ moved (after x rs (c .tokens)) = next-is h look x limit ∙ ap (λ b. chooseOutcome b (step c (frame (x .production) (x .rest) ∷ x .below) rs) (blocked 23)) (sym (d .0)) in
+      (after x rs (c .tokens), e, onward-held look x m′ ps (run .at + 1 + 2 * operandHere) (run .registers) (run .tokens) (c .tokens) rs limit e (omega (arith, r .count, rules-length (r .rules))) (h .tokens) (omega arith) (d .1) (rw (← (place-same g (x .production) (evaluate (r .rules)) (x .rest) refl refl (x .ahead .ordered))) (top-laid x)))
 
   pub blocked-evaluate : (look : Look) → run .moves < movesLimit → getD ws (run .at) 0 % 8 ≡ 1 → (m′ : List ℤ) → Evaluated rulesHere (run .registers) m false m′ → Made g ws lent (next g lent look c) m ps m′ ps (Blocked 23)
   blocked-evaluate look limit o m′ v =
       let r = rules-here o in
       let x = r .hand in
       let rs : List ℤ = writeAll (r .rules) (c .registers) (c .registers) in
-      (next-is h look x limit ∙ ap (λ b. chooseOutcome b (step c (frame (x .production) (x .rest) ∷ x .below) rs) (blocked 23)) (sym (v .answer ∙ same-answer r)), v .memory ∙ stack-laid mark (run .registers) m (bounds h .registers), refl)
+      (next-is h look x limit ∙ ap (λ b. chooseOutcome b (step c (frame (x .production) (x .rest) ∷ x .below) rs) (blocked 23)) (sym (r .done v .0)), v .memory ∙ stack-laid mark (run .registers) m (bounds h .registers), refl)
 
   -- ---- test
 
@@ -189,37 +183,32 @@ module _ {g : Grammar} {ws : List ℕ} {lent : Lent} {m : List ℤ} {ps : List �
     pub conditions : List (Condition ℕ)
     pub hand : Hand g ws (run .at) c (test conditions)
     pub count : operandHere ≡ length conditions
-    pub read : conditionsHere ≡ conditions
-    pub tested : Tests ws (run .at + 1) operandHere (stack (run .registers) m)
+    pub ready : Tests ws (run .at + 1) operandHere (stack (run .registers) m)
+    pub done : all (holds (readRegister (stack (run .registers) m))) conditionsHere ≡ all (holds (readRegister (c .registers))) conditions
 
   pub conditions-here : getD ws (run .at) 0 % 8 ≡ 4 → Conditions
   conditions-here o =
       let r = hand-test h o in
-      let x = r .1 in
-      let p = hand-proper h x in
-      let k = code-test (ahead-code (x .ahead)) in
-      let e : Tests ws (run .at + 1) (length (r .0)) (c .registers) = tests (r .0) (c .registers) (k .1) (p .2) (x .handled) in
+      let p = hand-proper h (r .1) in
+      let k = code-test (ahead-code (r .1 .ahead)) .1 in
       record {
         conditions = r .0;
-        hand = x;
+        hand = r .1;
         count = r .2;
-        read = ap (conditionsFrom ws (run .at + 1)) (r .2) ∙ conditions-read (r .0) (k .1) (p .2);
-        tested = subst₂ (λ n rs. Tests ws (run .at + 1) n rs) (sym (r .2)) (sym (laid-stack (h .registers))) e;
+        ready = rw (r .2) (test-ready (h .registers) (r .0) k (p .2) (r .1 .handled));
+        done = rw (r .2) (test-done (h .registers) (r .0) k (p .2));
       }
-
-  same-test : (x : Conditions) → all (holds (readRegister (stack (run .registers) m))) conditionsHere ≡ all (holds (readRegister (c .registers))) (x .conditions)
-  same-test x = ap₂ (λ rs cs. all (holds (readRegister rs)) cs) (laid-stack (h .registers)) (x .read)
 
   pub made-test : (look : Look) → run .moves < movesLimit → getD ws (run .at) 0 % 8 ≡ 4 → true ≡ all (holds (readRegister (stack (run .registers) m))) conditionsHere
       → Made g ws lent (next g lent look c) m ps m (countIf true (run .places) ps) (Moved (record { tokens = run .tokens; moves = run .moves + 1; registers = run .registers; places = run .places; at = run .at + 1 + 3 * operandHere }))
   made-test look limit o v =
       let r = conditions-here o in
       let x = r .hand in
-      let e : next g lent look c ≡ moved (after x (c .registers) (c .tokens)) = next-is h look x limit ∙ ap (λ b. chooseOutcome b (step c (frame (x .production) (x .rest) ∷ x .below) (c .registers)) (blocked 22)) (sym (v ∙ same-test r)) in
+      let e : next g lent look c ≡ moved (after x (c .registers) (c .tokens)) = next-is h look x limit ∙ ap (λ b. chooseOutcome b (step c (frame (x .production) (x .rest) ∷ x .below) (c .registers)) (blocked 22)) (sym (v ∙ r .done)) in
       (after x (c .registers) (c .tokens), e, onward-held look x m (countIf true (run .places) ps) (run .at + 1 + 3 * operandHere) (run .registers) (run .tokens) (c .tokens) (c .registers) limit e (omega (arith, r .count, conditions-length (r .conditions))) (h .tokens) (omega arith) (h .registers) (counted (placeOf g (frame (x .production) (x .rest))) (place-tested g (x .production) (r .conditions) (x .rest) (x .ahead .ordered) (omega (arith, x .ahead .few))) (top-laid x)))
 
   pub blocked-test : (look : Look) → run .moves < movesLimit → getD ws (run .at) 0 % 8 ≡ 4 → false ≡ all (holds (readRegister (stack (run .registers) m))) conditionsHere → Made g ws lent (next g lent look c) m ps m ps (Blocked 22)
   blocked-test look limit o v =
       let r = conditions-here o in
       let x = r .hand in
-      (next-is h look x limit ∙ ap (λ b. chooseOutcome b (step c (frame (x .production) (x .rest) ∷ x .below) (c .registers)) (blocked 22)) (sym (v ∙ same-test r)), refl, refl)
+      (next-is h look x limit ∙ ap (λ b. chooseOutcome b (step c (frame (x .production) (x .rest) ∷ x .below) (c .registers)) (blocked 22)) (sym (v ∙ r .done)), refl, refl)

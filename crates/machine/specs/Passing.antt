@@ -29,9 +29,10 @@ use Rattle.theory_program.specs.Addresses.{Begins, recordAddress, bodyAddress, 
 use Rattle.theory_program.specs.Records.{segment-words, record-words}
 use Rattle.theory_program.specs.Resuming.{placeAddress}
 use Rattle.registers.specs.Stack.{stack}
+use Rattle.registers.specs.Laid.{laid-remove}
 use Rattle.machine.specs.declared.Run.{Run}
 use Rattle.machine.specs.declared.Step.the-variants.{Moved, Blocked}
-use Rattle.machine.specs.Laid.{Laid, laid-stack, laid-size, laid-read, laid-over, laid-pop}
+use Rattle.machine.specs.Laid.{LaidIn, laid-read, laid-pop}
 use Rattle.machine.specs.Ahead.{Ahead, ahead-next, ahead-place}
 use Rattle.machine.specs.Held.{Held, Made, Hand, topFrame, shaped-over, hand-terminal, hand-remove, hand-proper, bounds, next-is}
 use Rattle.machine.specs.Moves.{countIf, passed, follows, passed-laid, top-laid, after, onward-held}
@@ -65,8 +66,8 @@ module _ {g : Grammar} {ws : List ℕ} {lent : Lent} {m : List ℤ} {ps : List �
   pub top-small : getD ps (run .places - 1) 0 < 65536
   top-small =
       let s = h .shaped in
-      let l : Laid 0 (lent .maxPlaces) ps (run .places) (map (placeOf g) (frame (s .production) (s .rest) ∷ s .below)) = subst (λ fs. Laid 0 (lent .maxPlaces) ps (run .places) (map (placeOf g) fs)) (sym (s .isFrames)) (h .places) in
-      omega (arith, laid-read l 1 0 (omega arith) (bounds h .somePlace), place-small g (h .wellFormed) (s .stands) (s .rest))
+      let l : LaidIn 0 (lent .maxPlaces) ps (run .places) (map (placeOf g) (frame (s .production) (s .rest) ∷ s .below)) = subst (λ fs. LaidIn 0 (lent .maxPlaces) ps (run .places) (map (placeOf g) fs)) (sym (s .isFrames)) (h .places) in
+      omega (arith, laid-read l 1 (omega arith) (bounds h .somePlace), place-small g (h .wellFormed) (s .stands) (s .rest))
 
   -- ---- read
 
@@ -227,13 +228,13 @@ module _ {g : Grammar} {ws : List ℕ} {lent : Lent} {m : List ℤ} {ps : List �
       let f : frame (s .production) (s .rest) ∷ s .below ≡ frame (x .production) (remove removedHere ∷ x .rest) ∷ x .below = s .isFrames ∙ x .frames in
       let listed : eqb (s .production) whole ≡ false = removes-listed (s .due) (ap (λ fs. firstOperation (topFrame fs .rest)) f) in
       let y : Parent g (x .below) = subst (Parent g) (ap (drop 1) f) (parent g (h .wellFormed) (s .stands) listed) in
-      let l : Laid 0 (lent .maxPlaces) ps (run .places) (placeOf g (frame (x .production) (remove removedHere ∷ x .rest)) ∷ map (placeOf g) (frame (y .production) (expect (y .symbol) ∷ y .rest) ∷ y .below)) = subst (λ fs. Laid 0 (lent .maxPlaces) ps (run .places) (placeOf g (frame (x .production) (remove removedHere ∷ x .rest)) ∷ map (placeOf g) fs)) (y .frames) (top-laid h x) in
+      let l : LaidIn 0 (lent .maxPlaces) ps (run .places) (placeOf g (frame (x .production) (remove removedHere ∷ x .rest)) ∷ map (placeOf g) (frame (y .production) (expect (y .symbol) ∷ y .rest) ∷ y .below)) = subst (λ fs. LaidIn 0 (lent .maxPlaces) ps (run .places) (placeOf g (frame (x .production) (remove removedHere ∷ x .rest)) ∷ map (placeOf g) fs)) (y .frames) (top-laid h x) in
       let k = l .height in
       record {
         hand = x;
         fits = omega (arith, x .handled, h .registers .height);
         parent = y;
-        isPlace = ap (λ j. getD ps j 0) (omega arith) ∙ laid-read l 2 0 (omega arith) (omega arith);
+        isPlace = ap (λ j. getD ps j 0) (omega arith) ∙ laid-read l 2 (omega arith) (omega arith);
         somePlaces = omega arith;
       }
 
@@ -245,13 +246,13 @@ module _ {g : Grammar} {ws : List ℕ} {lent : Lent} {m : List ℤ} {ps : List �
     left = config (frame (r .parent .production) (r .parent .rest) ∷ r .parent .below) (drop removedHere (c .registers)) (c .tokens) (suc (c .moves))
 
     -- the places without the top one
-    popped : Laid 0 (lent .maxPlaces) (set ps (run .places - 1) 0) (run .places - 1) (place ∷ map (placeOf g) (r .parent .below))
+    popped : LaidIn 0 (lent .maxPlaces) (set ps (run .places - 1) 0) (run .places - 1) (place ∷ map (placeOf g) (r .parent .below))
     popped =
         let top : ℕ = placeOf g (frame (r .hand .production) (remove removedHere ∷ r .hand .rest)) in
-        laid-pop top (place ∷ map (placeOf g) (r .parent .below)) (subst (λ fs. Laid 0 (lent .maxPlaces) ps (run .places) (top ∷ map (placeOf g) fs)) (r .parent .frames) (top-laid h (r .hand)))
+        laid-pop top (place ∷ map (placeOf g) (r .parent .below)) (subst (λ fs. LaidIn 0 (lent .maxPlaces) ps (run .places) (top ∷ map (placeOf g) fs)) (r .parent .frames) (top-laid h (r .hand)))
 
     pub popped-small : getD (set ps (run .places - 1) 0) (run .places - 1 - 1) 0 < 65536
-    popped-small = let k = r .somePlaces in omega (arith, laid-read popped 1 0 (omega arith) (omega arith), r .parent .small)
+    popped-small = let k = r .somePlaces in omega (arith, laid-read popped 1 (omega arith) (omega arith), r .parent .small)
 
     pub resumes : Resumes ws place
     resumes = record { grammar = g; begins = h .begins; wellFormed = h .wellFormed; waiting = r .parent .waiting }
@@ -284,9 +285,7 @@ module _ {g : Grammar} {ws : List ℕ} {lent : Lent} {m : List ℤ} {ps : List �
         let y = r .parent in
         let mv = h .moves in
         let ft = h .fewTokens in
-        let hr = h .registers .height in
         let rs : List ℤ = drop removedHere (c .registers) in
-        let size : length rs ≡ run .registers - removedHere = length-drop removedHere (c .registers) ∙ omega arith in
         let few : 1 + expects (y .rest) ≤ length (productionAt g (y .production) .right) = omega (arith, parent-ahead .few) in
         let next-ahead : Ahead g ws (a + 1) (frame (y .production) (y .rest)) = subst (λ j. Ahead g ws (j + 1) (frame (y .production) (y .rest))) (sym isAt) parent-next in
         let e = leaves look limit in
@@ -294,8 +293,8 @@ module _ {g : Grammar} {ws : List ℕ} {lent : Lent} {m : List ℤ} {ps : List �
           wellFormed = h .wellFormed;
           begins = h .begins;
           shaped = shape-move g (h .wellFormed) lent look c left (h .shaped) e;
-          registers = subst (λ j. Laid mark (lent .maxRegisters) m′ j rs) size (laid-over (h .registers) rs m′ (omega (arith, size)) (isRegisters ∙ ap (λ ys. lay (run .registers) mark (drop removedHere ys) m) (laid-stack (h .registers))));
-          places = subst (λ qs. Laid 0 (lent .maxPlaces) qs (run .places - 1) (placeOf g (frame (y .production) (y .rest)) ∷ map (placeOf g) (y .below))) (sym isPlaces) (passed-laid (y .production) (y .symbol) (y .rest) (left-over limit) next-ahead few popped);
+          registers = subst (λ cells. LaidIn mark (lent .maxRegisters) cells (run .registers - removedHere) rs) (sym isRegisters) (laid-remove (h .registers) removedHere (r .fits));
+          places = subst (λ qs. LaidIn 0 (lent .maxPlaces) qs (run .places - 1) (placeOf g (frame (y .production) (y .rest)) ∷ map (placeOf g) (y .below))) (sym isPlaces) (passed-laid (y .production) (y .symbol) (y .rest) (left-over limit) next-ahead few popped);
           ahead = next-ahead;
           tokens = h .tokens;
           moves = omega arith;

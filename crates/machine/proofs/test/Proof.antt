@@ -22,7 +22,7 @@ add-test c = omega (arith, bounds (c .before .before .before .before .pre .held)
 
 -- src/lib.rt:134:8
 test-requires : tie.Need-test-requires
-test-requires c κs = let b = c .before .before .before .before .pre in (bounds (b .held) .registers, rw (c .before .word-at .ensures .0) (conditions-here (b .held) (b .operation) .tested))
+test-requires c κs = let b = c .before .before .before .before .pre in (bounds (b .held) .registers, rw (c .before .word-at .ensures .0) (conditions-here (b .held) (b .operation) .ready))
 
 -- src/lib.rt:135:9
 count-requires : tie.Need-count-requires
@@ -42,7 +42,7 @@ mul-t13 c = search needs
 
 -- src/lib.rt:141:17
 add-t14 : tie.Need-add-t14
-add-t14 c = let b = c .before .before .before .before .before .before .before .before .before .before .before .before .pre in omega (arith, conditions-here (b .held) (b .operation) .tested .inside, c .before .before .before .before .before .before .before .before .before .word-at .ensures .0)
+add-t14 c = let b = c .before .before .before .before .before .before .before .before .before .before .before .before .pre in omega (arith, conditions-here (b .held) (b .operation) .ready .inside, c .before .before .before .before .before .before .before .before .before .word-at .ensures .0)
 
 -- src/lib.rt:136:9
 same-length : tie.Need-same-length
