@@ -211,6 +211,10 @@ module _ (g : Grammar) (p : ℕ) where
   pub place-pending : (x : Symbol) (is : List Instruction) → pendingTest is ≡ 1 → placeOf g (frame p is) ≡ placeOf g (frame p (expect x ∷ is))
   place-pending x is e = ap (λ k. p * 256 + (right - k)) (omega arith)
 
+-- a production that begins has passed nothing
+pub place-begins : (g : Grammar) → WellFormed g → (p : ℕ) → p < length (g .productions) → placeOf g (frame p (schemeAt g p)) ≡ 256 * p
+place-begins g w p l = rw (scheme-listed g w p l) (omega (arith, ordered-scheme g (productionAt g p) .1, expects-scheme g (productionAt g p)))
+
 -- whether a test follows is said by the operation of the next word
 pub pending-word : (i : Instruction) (is : List Instruction) → operation i ≡ 4 → pendingTest (i ∷ is) ≡ 1
 pending-word (add n) is e = absurd (omega arith)

@@ -3,3 +3,5 @@ pub mod Ahead
 pub mod Held
 pub mod Moves
 pub mod Passing
+pub mod Predicting
+pub mod Entering
