@@ -78,6 +78,10 @@ module _ {g : Grammar} {ws : List ℕ} {lent : Lent} {m : List ℤ} {ps : List �
           let k = directory-listed g (h .wellFormed) wanted (lookOf u) q (sym first-is ∙ e) in
           holds-here (h .begins) (h .wellFormed) (c .registers) q (k .0) u small ∙ T→true (has (starts g (productionAt g q)) u) (subst (λ j. T (has (starts g (productionAt g q)) j)) (look-number u) (k .2))
 
+  -- what a search from there finds
+  pub found-first : (p f : ℕ) → f ≡ first → ((g : Grammar) (n : ℕ) → Leads g ws (stack (run .registers) m) n f → p ≡ found g (stack (run .registers) m) n (lookOf u) f) → p ≡ found g (stack (run .registers) m) wanted (lookOf u) first
+  found-first p f e k = k g wanted (subst (Leads g ws (stack (run .registers) m) wanted) (sym e) first-leads) ∙ ap (found g (stack (run .registers) m) wanted (lookOf u)) e
+
   -- ---- the outcome
 
   abbrev choice : List ℕ

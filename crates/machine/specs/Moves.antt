@@ -140,6 +140,7 @@ module _ {g : Grammar} {ws : List ℕ} {lent : Lent} {m : List ℤ} {ps : List �
     pub hand : Hand g ws (run .at) c (evaluate rules)
     pub count : operandHere ≡ length rules
     pub few : operandHere ≤ 8
+    pub inside : run .at + 1 + 2 * operandHere ≤ length ws
     pub ready : Evaluates ws (run .at + 1) operandHere (stack (run .registers) m)
     pub done : {b : Bool} {m′ : List ℤ} → Evaluated rulesHere (run .registers) m b m′ → (b ≡ valuesFit rules (c .registers)) × LaidIn mark (lent .maxRegisters) m′ (run .registers) (afterRules b rules (c .registers))
 
@@ -153,6 +154,7 @@ module _ {g : Grammar} {ws : List ℕ} {lent : Lent} {m : List ℤ} {ps : List �
         hand = r .1;
         count = r .2;
         few = omega (arith, r .2, p .1);
+        inside = omega (arith, stands-within (k .words), rules-length (r .0), r .2);
         ready = rw (r .2) (evaluate-ready (h .registers) (r .0) k (p .2) (r .1 .handled));
         done = λ {b} {m′} v. evaluate-done (h .registers) (r .0) k (p .2) (subst (λ n. Evaluated (rulesFrom ws (run .at + 1) n) (run .registers) m b m′) (r .2) v);
       }

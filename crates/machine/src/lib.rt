@@ -1,7 +1,7 @@
 // The moves of 01 on lent stacks, by the program's words, and the loop that makes them.
 ghost use Prim.Native.Nat.{ℕ, _+_, _-_, _/_, _%_, _≤_, _<_};
 ghost use mathlib.Core.Path.{_≡_};
-ghost use mathlib.Core.Bool.{true};
+ghost use mathlib.Core.Bool.{true, _&&_};
 ghost use mathlib.Core.List.{List};
 ghost use lib.Dec.{T};
 ghost use lib.IntN.{ℤ};
@@ -12,9 +12,12 @@ ghost use Rattle.meaning.specs.Machine as Machine;
 ghost use Rattle.meaning.specs.Rules.{WellFormed};
 ghost use Rattle.theory_program.specs.Addresses.{Begins};
 ghost use Rattle.theory_program.specs.Resuming.{placeAddress};
+ghost use Rattle.theory_program.specs.Search.{found};
+ghost use Rattle.registers.specs.Stack.{stack};
 ghost use Rattle.machine.specs.Held.{Ready, Answers};
 ghost use Rattle.machine.specs.Moves.{countIf, passed};
 ghost use Rattle.machine.specs.Passing.{lookOf, Resumes};
+ghost use Rattle.machine.specs.Predicting.{recordOf, holdsAt, entersAt, Entry, Leads, Led};
 
 // A run: what was counted, the heights of both stacks, and the address of the next instruction of the top place's production.
 pub struct Run {
@@ -104,6 +107,26 @@ fn add(registers: &[i64], program: &[u32], run: Run) -> Step
     })
 }
 
+// ---- evaluate
+
+// 01: "all or none".
+fn evaluate(registers: &mut [i64], program: &[u32], run: Run) -> Step
+    requires { ⌜ ((ps : List ℕ) × Ready (now program) (now registers) ps run 1) ⌝ }
+    ensures { λ r. ⌜ ((ps : List ℕ) (look : Look) → Answers (now (program .entry)) (now (registers .entry)) ps run look (now (registers .exit)) ps r) ⌝ }
+{
+    let n = word_at(program, run.at) / 8;
+    if registers::evaluate(registers, run.registers, program, run.at + 1, n) {
+        return Step::Moved(Run {
+            tokens: run.tokens,
+            moves: run.moves + 1,
+            registers: run.registers,
+            places: run.places,
+            at: run.at + 1 + 2 * n,
+        });
+    }
+    Step::Blocked(23)
+}
+
 // ---- read
 
 fn read(places: &mut [u32], program: &[u32], run: Run, look: usize) -> Step
@@ -164,5 +187,98 @@ fn remove(registers: &mut [i64], places: &mut [u32], program: &[u32], run: Run) 
         registers: run.registers - n,
         places: height,
         at,
+    })
+}
+
+// ---- predict
+
+// The address of a production's record, by its number plus 1.
+fn record_of(program: &[u32], p: usize) -> usize
+    requires { ⌜ (2 < length (now program)) × (1 ≤ p) × (p ≤ 128) ⌝ }
+    ensures { λ r. ⌜ r ≡ recordOf (now (program .entry)) p ⌝ }
+{
+    word_at(program, 2) + 8 * (p - 1)
+}
+
+// Whether the set of a production holds what comes next.
+fn holds(program: &[u32], row: usize, look: usize) -> bool
+    requires { ⌜ (row + 8 ≤ length (now program)) × (look < 64) ⌝ }
+    ensures { λ r. ⌜ r ≡ holdsAt (now (program .entry)) row look ⌝ }
+{
+    (word_at(program, row + 2 + look / 32) >> (look % 32)) % 2 == 1
+}
+
+// Whether the entry conditions of a production hold.
+fn enters(registers: &[i64], height: usize, program: &[u32], row: usize) -> bool
+    requires { ⌜ (height ≤ length (now registers)) × Entry (now program) (stack height (now registers)) row ⌝ }
+    ensures { λ r. ⌜ r ≡ entersAt (now (program .entry)) (stack height (now (registers .entry))) row ⌝ }
+{
+    let count = word_at(program, row + 5);
+    let scheme = word_at(program, row + 6);
+    registers::test(registers, height, program, scheme - 3 * count, count)
+}
+
+fn passes(registers: &[i64], height: usize, program: &[u32], row: usize, look: usize) -> bool
+    requires { ⌜ (height ≤ length (now registers)) × Entry (now program) (stack height (now registers)) row × (look < 64) ⌝ }
+    ensures { λ r. ⌜ r ≡ holdsAt (now (program .entry)) row look && entersAt (now (program .entry)) (stack height (now (registers .entry))) row ⌝ }
+{
+    if holds(program, row, look) {
+        return enters(registers, height, program, row);
+    }
+    false
+}
+
+// The first production that passes, by its number plus 1, from the one that a next-word says on; 0 where none does.
+fn later(registers: &[i64], height: usize, program: &[u32], look: usize, from: usize) -> usize
+    requires { ⌜ (height ≤ length (now registers)) × (look < 64) × Led (now program) (stack height (now registers)) from ⌝ }
+    ensures { λ r. ⌜ ((g : Grammar) (n : ℕ) → Leads g (now (program .entry)) (stack height (now (registers .entry))) n from → r ≡ found g (stack height (now (registers .entry))) n (lookOf look) from) ⌝ }
+{
+    let mut p = from;
+    while p != 0 {
+        let row = record_of(program, p);
+        if passes(registers, height, program, row, look) {
+            return p;
+        }
+        p = word_at(program, row + 1);
+    }
+    0
+}
+
+// The same from the one that the directory says, whose set holds what comes next.
+fn find(registers: &[i64], height: usize, program: &[u32], look: usize, first: usize) -> usize
+    requires { ⌜ ((height ≤ length (now registers)) × (look < 64) × Led (now program) (stack height (now registers)) first) × ((first ≡ 0 → ⊥) × (holdsAt (now program) (recordOf (now program) first) look ≡ true)) ⌝ }
+    ensures { λ r. ⌜ ((g : Grammar) (n : ℕ) → Leads g (now (program .entry)) (stack height (now (registers .entry))) n first → r ≡ found g (stack height (now (registers .entry))) n (lookOf look) first) ⌝ }
+{
+    let row = record_of(program, first);
+    if enters(registers, height, program, row) {
+        return first;
+    }
+    later(registers, height, program, look, word_at(program, row + 1))
+}
+
+fn predict(registers: &[i64], places: &mut [u32], program: &[u32], run: Run, look: usize) -> Step
+    requires { ⌜ Ready (now program) (now registers) (now places) run 3 × (look < 64) ⌝ }
+    ensures { λ r. ⌜ Answers (now (program .entry)) (now (registers .entry)) (now (places .entry)) run (lookOf look) (now (registers .entry)) (now (places .exit)) r ⌝ }
+{
+    let n = word_at(program, run.at) / 8;
+    let first = word_at(program, 8 + 64 * n + look);
+    if first == 0 {
+        return Step::Blocked(unexpected(look));
+    }
+    let p = find(registers, run.registers, program, look, first);
+    if p == 0 {
+        return Step::Blocked(22);
+    }
+    let height = run.places;
+    if height == places.len() {
+        return Step::Blocked(32);
+    }
+    places[height] = (256 * (p - 1)) as u32;
+    Step::Moved(Run {
+        tokens: run.tokens,
+        moves: run.moves + 1,
+        registers: run.registers,
+        places: height + 1,
+        at: word_at(program, record_of(program, p) + 6),
     })
 }
