@@ -5,3 +5,4 @@ pub mod Moves
 pub mod Passing
 pub mod Predicting
 pub mod Entering
+pub mod Advancing

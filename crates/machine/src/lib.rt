@@ -34,6 +34,12 @@ pub enum Step {
     Blocked(u32),
 }
 
+// What moves lead to until one needs what comes next: a stop, or the number that refuses the move at hand.
+pub enum Ended {
+    Stopped(Run),
+    Failed(Run, u32),
+}
+
 // ---- words and places
 
 // A word of the program, or a place.
