@@ -1,7 +1,7 @@
 -- Moves until the token at hand is read, or the start symbol is left, and then until one needs what comes next.
 use Prim.Native.Nat.{ℕ, zero, suc, _+_, _-_, _%_, _≤_, _<_}
 use native.Mathlib.Omega.{arith}
-use mathlib.Core.Path.{_≡_, refl, sym, ap, ap₂, _∙_, subst}
+use mathlib.Core.Path.{_≡_, refl, sym, ap, ap₂, _∙_, subst, subst₂}
 use mathlib.Core.Bool.{Bool, true, false, _&&_, _||_}
 use mathlib.Core.List.{List, [], _∷_}
 use lib.ListN.{length, getD}
@@ -155,6 +155,12 @@ module _ {ws : List ℕ} {u : ℕ} {m₀ : List ℤ} {ps₀ : List ℕ} {run₀ 
         let q = k .from g lent c h in
         (q .0, q .2 ∙ advance-failed g lent (lookOf u) (c .tokens) (movesLimit - q .0 .moves) (q .0) j (goes-on g lent c h) (f g lent (q .0) (q .1)), q .1)
 
+    pub going-blocked : (m′ : List ℤ) (ps′ : List ℕ) (j : ℕ) → Answers ws m ps run (lookOf u) m′ ps′ (Blocked j) → Advances ws u m₀ ps₀ run₀ m′ ps′ (Failed run j)
+    going-blocked m′ ps′ j a g lent c h =
+        let q = k .from g lent c h in
+        let s = a g lent (q .0) (q .1) in
+        (q .0, q .2 ∙ advance-failed g lent (lookOf u) (c .tokens) (movesLimit - q .0 .moves) (q .0) j (goes-on g lent c h) (s .0), subst₂ (λ x y. Held g ws lent x y run (q .0)) (sym (s .1)) (sym (s .2)) (q .1))
+
     pub going-on : (m′ : List ℤ) (ps′ : List ℕ) (run′ : Run) → run .moves < movesLimit → Answers ws m ps run (lookOf u) m′ ps′ (Moved run′) → Going ws u m₀ ps₀ run₀ m′ ps′ run′
     going-on m′ ps′ run′ limit a = record { from = λ g lent c h. more g lent c h (k .from g lent c h .0) (k .from g lent c h .1) (k .from g lent c h .2) (goes-on g lent c h) }
       where
@@ -164,3 +170,9 @@ module _ {ws : List ℕ} {u : ℕ} {m₀ : List ℤ} {ps₀ : List ℕ} {run₀ 
             let s = a g lent d q in
             let left : movesLimit - d .moves ≡ suc (movesLimit - s .0 .moves) = omega (arith, counts g lent (lookOf u) d (s .0) (s .1) .moves, q .moves) in
             (s .0, s .2, z ∙ (ap (λ j. advance j g lent (lookOf u) (c .tokens) d) left ∙ advance-moved g lent (lookOf u) (c .tokens) (movesLimit - s .0 .moves) d (s .0) n (s .1)))
+
+-- each move counts
+pub counts-one : {ws : List ℕ} {m : List ℤ} {ps : List ℕ} {run : Run} (look : Look) (m′ : List ℤ) (ps′ : List ℕ) (run′ : Run) → Answers ws m ps run look m′ ps′ (Moved run′) → Running ws m ps run → run′ .moves ≡ suc (run .moves)
+counts-one look m′ ps′ run′ a r =
+    let s = a (r .grammar) (r .lent) (r .config) (r .held) in
+    s .2 .moves ∙ (counts (r .grammar) (r .lent) look (r .config) (s .0) (s .1) .moves ∙ ap suc (sym (r .held .moves)))

@@ -77,6 +77,9 @@ pub record Ready (ws : List ℕ) (m : List ℤ) (ps : List ℕ) (run : Run) (k :
   pub limit : run .moves < movesLimit
   pub operation : getD ws (run .at) 0 % 8 ≡ k
 
+pub ready-as : {ws : List ℕ} {m : List ℤ} {ps : List ℕ} {run : Run} {k : ℕ} (j : ℕ) → getD ws (run .at) 0 % 8 ≡ j → Ready ws m ps run k → Ready ws m ps run j
+ready-as j e r = record { grammar = r .grammar; lent = r .lent; config = r .config; held = r .held; limit = r .limit; operation = e }
+
 -- ---- the instruction at hand
 
 pub record Hand (g : Grammar) (ws : List ℕ) (a : ℕ) (c : Config) (i : Instruction) : Type 0 where

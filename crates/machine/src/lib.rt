@@ -17,6 +17,8 @@ ghost use Rattle.registers.specs.Stack.{stack};
 ghost use Rattle.machine.specs.Held.{Ready, Answers};
 ghost use Rattle.machine.specs.Moves.{countIf, passed};
 ghost use Rattle.machine.specs.Passing.{lookOf, Resumes};
+ghost use Rattle.machine.specs.Advancing as Advancing;
+ghost use Rattle.machine.specs.Advancing.{Running, Advances, stopsAt};
 ghost use Rattle.machine.specs.Predicting.{recordOf, holdsAt, entersAt, Entry, Leads, Led};
 
 // A run: what was counted, the heights of both stacks, and the address of the next instruction of the top place's production.
@@ -287,4 +289,77 @@ fn predict(registers: &[i64], places: &mut [u32], program: &[u32], run: Run, loo
         places: height + 1,
         at: word_at(program, record_of(program, p) + 6),
     })
+}
+
+// ---- one move
+
+// What the instruction at hand does.
+fn one(registers: &mut [i64], places: &mut [u32], program: &[u32], run: Run, look: usize) -> Step
+    requires { ⌜ Ready (now program) (now registers) (now places) run (getD (now program) (run .at) 0 % 8) × (getD (now program) (run .at) 0 % 8 ≤ 5) × (look < 64) ⌝ }
+    ensures { λ r. ⌜ Answers (now (program .entry)) (now (registers .entry)) (now (places .entry)) run (lookOf look) (now (registers .exit)) (now (places .exit)) r ⌝ }
+{
+    match word_at(program, run.at) % 8 {
+        0 => add(registers, program, run),
+        1 => evaluate(registers, program, run),
+        2 => read(places, program, run, look),
+        3 => predict(registers, places, program, run, look),
+        4 => test(registers, places, program, run),
+        _ => remove(registers, places, program, run),
+    }
+}
+
+// ---- until a move needs what comes next
+
+// Whether an operation needs it; 6 says that nothing is left.
+fn looks(operation: usize) -> bool
+    ensures { λ r. ⌜ r ≡ Advancing.looks operation ⌝ }
+{
+    if operation == 2 {
+        return true;
+    }
+    if operation == 3 {
+        return true;
+    }
+    operation == 6
+}
+
+fn stops(operation: usize, look: usize, before: u64, tokens: u64) -> bool
+    ensures { λ r. ⌜ r ≡ stopsAt operation look before tokens ⌝ }
+{
+    if look == 63 {
+        return operation == 6;
+    }
+    if before < tokens {
+        return looks(operation);
+    }
+    false
+}
+
+// Moves until the token is read, or at the end (63) the start symbol is left, and all that needs no next token is done.
+pub fn advance(registers: &mut [i64], places: &mut [u32], program: &[u32], run: Run, look: u8) -> Ended
+    requires { ⌜ Running (now program) (now registers) (now places) run × (look < 64) ⌝ }
+    ensures { λ r. ⌜ Advances (now (program .entry)) look (now (registers .entry)) (now (places .entry)) run (now (registers .exit)) (now (places .exit)) r ⌝ }
+{
+    let u = look as usize;
+    let mut state = run;
+    loop {
+        let operation = word_at(program, state.at) % 8;
+        if stops(operation, u, run.tokens, state.tokens) {
+            return Ended::Stopped(state);
+        }
+        if operation == 6 {
+            return Ended::Failed(state, unexpected(u));
+        }
+        if state.moves == 4294967295 {
+            return Ended::Failed(state, 35);
+        }
+        match one(registers, places, program, state, u) {
+            Step::Moved(next) => {
+                state = next;
+            }
+            Step::Blocked(k) => {
+                return Ended::Failed(state, k);
+            }
+        }
+    }
 }
