@@ -1,0 +1,5 @@
+pub mod Demands
+pub mod Walks
+pub mod Fine
+pub mod Rest
+pub mod Judged

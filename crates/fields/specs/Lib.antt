@@ -1,0 +1,4 @@
+pub mod Demand
+pub mod Field
+pub mod Judge
+pub mod Reads

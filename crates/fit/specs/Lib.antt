@@ -1,0 +1,3 @@
+pub mod Upward
+pub mod Shown
+pub mod Cut

@@ -1,0 +1,281 @@
+// 34: whether the stacks fit, in any record and any lent cells. Registers are taken from the bottom up, as the places tell them.
+ghost use Prim.Native.Nat.{_+_, _*_, _<_, _≤_};
+ghost use mathlib.Core.Path.{_≡_};
+ghost use mathlib.Core.Bool.{_&&_, true};
+ghost use mathlib.Core.List.{reverse};
+ghost use lib.ListN.{length, getD, drop, replicate};
+ghost use lib.Dec.{eqb};
+ghost use Rattle.meaning.specs.Base.{all};
+ghost use Rattle.meaning.specs.Grammar.{Grammar, nonterminal};
+ghost use Rattle.meaning.specs.Value.{inRange};
+ghost use Rattle.meaning.specs.Calls.{isMark, valued, marked, stackFits, stacksFit};
+ghost use Rattle.fit.specs.Upward.{Passes, fitsFrom, placesAbove, cellsAbove, standsFit};
+ghost use Rattle.fit.specs.Shown.{Shown, Readable, RowTo, countOf, countsFrom, rowOn, cellsAt};
+ghost use Rattle.fit.specs.Cut.{numbers, stacksOf};
+
+// 01: the whole segment's place, while the start symbol is waited at and once it is left.
+const SEGMENT: u32 = 32768;
+
+const LEFT: u32 = 32769;
+
+const TOKENS_LIMIT: u64 = 65535;
+
+const MOVES_LIMIT: u64 = 4294967295;
+
+// ---- stretches of cells
+
+fn all_marked(cells: &[i64]) -> bool
+    ensures { λ r. ⌜ r ≡ all isMark (now (cells .entry)) ⌝ }
+{
+    let mut i = 0;
+    while i < cells.len() {
+        let v = cells[i];
+        if value::is_mark(v) {
+            i += 1;
+        } else {
+            return false;
+        }
+    }
+    true
+}
+
+fn all_valued(cells: &[i64]) -> bool
+    ensures { λ r. ⌜ r ≡ all inRange (now (cells .entry)) ⌝ }
+{
+    let mut i = 0;
+    while i < cells.len() {
+        let v = cells[i];
+        if value::in_range(v) {
+            i += 1;
+        } else {
+            return false;
+        }
+    }
+    true
+}
+
+fn all_zero(cells: &[u32]) -> bool
+    ensures { λ r. ⌜ r ≡ all (λ p. eqb p 0) (now (cells .entry)) ⌝ }
+{
+    let mut i = 0;
+    while i < cells.len() {
+        if cells[i] != 0 {
+            return false;
+        }
+        i += 1;
+    }
+    true
+}
+
+// ---- registers of a kind, from a position up
+
+// Where `count` values from `at` on end; past the end of the registers if they do not stand there.
+fn past_valued(registers: &[i64], at: usize, count: usize) -> usize
+    requires { ⌜ (at ≤ length (now registers) + 1) × (count ≤ 4096) ⌝ }
+    ensures { λ r. ⌜ Passes (now (registers .entry)) (replicate count valued) at r ⌝ }
+{
+    let end = at + count;
+    if registers.len() < end {
+        return registers.len() + 1;
+    }
+    if all_valued(&registers[at..end]) {
+        return end;
+    }
+    registers.len() + 1
+}
+
+fn past_marked(registers: &[i64], at: usize, count: usize) -> usize
+    requires { ⌜ (at ≤ length (now registers) + 1) × (count ≤ 4096) ⌝ }
+    ensures { λ r. ⌜ Passes (now (registers .entry)) (replicate count marked) at r ⌝ }
+{
+    let end = at + count;
+    if registers.len() < end {
+        return registers.len() + 1;
+    }
+    if all_marked(&registers[at..end]) {
+        return end;
+    }
+    registers.len() + 1
+}
+
+// ---- what the rows say
+
+fn wide(x: u8) -> usize
+    ensures { λ r. ⌜ (r ≡ x) × (r < 256) ⌝ }
+{
+    x as usize
+}
+
+// A symbol's count by its byte; a terminal has none.
+fn count_of(counts: &[u8; 48], symbol: usize) -> usize
+    requires { ⌜ symbol < 176 ⌝ }
+    ensures { λ r. ⌜ (r ≡ countOf (now (counts .entry)) symbol) × (r < 256) ⌝ }
+{
+    if symbol < 128 {
+        return 0;
+    }
+    wide(counts[symbol - 128])
+}
+
+// The counts of the first `passed` symbols of a production.
+fn counts_passed(
+    rows: &[u8; 2048],
+    counts: &[u8; 48],
+    production: usize,
+    passed: usize,
+) -> usize
+    requires { ⌜ RowTo (now rows) production passed ⌝ }
+    ensures { λ r. ⌜ (r ≡ countsFrom (now (rows .entry)) (now (counts .entry)) (16 * production + 2) passed) × (r ≤ 4096) ⌝ }
+{
+    let from = 16 * production + 2;
+    let mut sum = 0;
+    let mut i = 0;
+    while i < passed {
+        let symbol = wide(rows[from + i]);
+        sum += count_of(counts, symbol);
+        i += 1;
+    }
+    sum
+}
+
+// Whether a place stands on one that waits at the symbol with this byte, and waits itself.
+fn stands_on(rows: &[u8; 2048], productions: usize, awaited: usize, place: u32) -> bool
+    requires { ⌜ productions ≤ 128 ⌝ }
+    ensures { λ r. ⌜ r ≡ rowOn (now (rows .entry)) productions awaited place ⌝ }
+{
+    let production = (place / 256) as usize;
+    if productions <= production {
+        return false;
+    }
+    let passed = (place % 256) as usize;
+    if wide(rows[16 * production + 1]) <= passed {
+        return false;
+    }
+    128 + wide(rows[16 * production]) == awaited
+}
+
+// ---- places
+
+// Past the registers of a place: those of the symbols passed, then those of the symbol waited at, its synthesized ones marked and, above them, its inherited ones valued.
+fn past_place(
+    registers: &[i64],
+    at: usize,
+    rows: &[u8; 2048],
+    inherited: &[u8; 48],
+    synthesized: &[u8; 48],
+    production: usize,
+    passed: usize,
+) -> usize
+    requires { ⌜ (at ≤ length (now registers) + 1) × RowTo (now rows) production passed ⌝ }
+    ensures { λ r. ⌜ Passes (now (registers .entry)) (cellsAt (now (rows .entry)) (now (inherited .entry)) (now (synthesized .entry)) production passed) at r ⌝ }
+{
+    let symbol = wide(rows[16 * production + (passed + 2)]);
+    let below = past_valued(registers, at, counts_passed(rows, synthesized, production, passed));
+    let middle = past_marked(registers, below, count_of(synthesized, symbol));
+    past_valued(registers, middle, count_of(inherited, symbol))
+}
+
+// Whether the places above the bottom one stand on each other, and the registers from `at` up are theirs.
+fn stand_above(
+    registers: &[i64],
+    at: usize,
+    places: &[u32],
+    rows: &[u8; 2048],
+    inherited: &[u8; 48],
+    synthesized: &[u8; 48],
+    productions: usize,
+    start: usize,
+) -> bool
+    requires { ⌜ (at ≤ length (now registers) + 1) × Readable (now rows) productions start ⌝ }
+    ensures { λ r. ⌜ ((g : Grammar) → Shown g (now (rows .entry)) (now (inherited .entry)) (now (synthesized .entry)) productions start → r ≡ placesAbove g (nonterminal (g .start)) (drop 1 (now (places .entry))) && fitsFrom (now (registers .entry)) at (cellsAbove g (drop 1 (now (places .entry))))) ⌝ }
+{
+    let mut reached = at;
+    let mut awaited = 128 + start;
+    let mut i = 1;
+    while i < places.len() {
+        let place = places[i];
+        if stands_on(rows, productions, awaited, place) {
+            let production = (place / 256) as usize;
+            let passed = (place % 256) as usize;
+            reached = past_place(registers, reached, rows, inherited, synthesized, production, passed);
+            awaited = wide(rows[16 * production + (passed + 2)]);
+            i += 1;
+        } else {
+            return false;
+        }
+    }
+    reached == registers.len()
+}
+
+// ---- the whole test
+
+// Whether the registers are those that the places tell, both without the cells above the heights.
+fn stand(
+    registers: &[i64],
+    places: &[u32],
+    rows: &[u8; 2048],
+    inherited: &[u8; 48],
+    synthesized: &[u8; 48],
+    productions: usize,
+    start: usize,
+) -> bool
+    requires { ⌜ Readable (now rows) productions start ⌝ }
+    ensures { λ r. ⌜ ((g : Grammar) → Shown g (now (rows .entry)) (now (inherited .entry)) (now (synthesized .entry)) productions start → r ≡ standsFit g (now (places .entry)) (now (registers .entry))) ⌝ }
+{
+    if places.len() == 0 {
+        return false;
+    }
+    let bottom = places[0];
+    let count = wide(synthesized[start]);
+    if bottom == LEFT {
+        if places.len() != 1 {
+            return false;
+        }
+        return past_valued(registers, 0, count) == registers.len();
+    }
+    if bottom != SEGMENT {
+        return false;
+    }
+    let at = past_marked(registers, 0, count);
+    stand_above(registers, at, places, rows, inherited, synthesized, productions, start)
+}
+
+// 34: whether the lent cells that count fit a record's numbers.
+pub fn fits(
+    registers: &[i64],
+    places: &[u32],
+    tokens: u64,
+    moves: u64,
+    register_height: u64,
+    place_height: u64,
+    rows: &[u8; 2048],
+    inherited: &[u8; 48],
+    synthesized: &[u8; 48],
+    productions: usize,
+    start: usize,
+) -> bool
+    requires { ⌜ (length (now registers) ≤ 4096) × (length (now places) ≤ 1024) × Readable (now rows) productions start ⌝ }
+    ensures { λ r. ⌜ ((g : Grammar) → Shown g (now (rows .entry)) (now (inherited .entry)) (now (synthesized .entry)) productions start → r ≡ stacksFit g (numbers tokens moves «register_height» «place_height») (stacksOf (now (registers .entry)) (now (places .entry)))) ⌝ }
+{
+    if TOKENS_LIMIT < tokens {
+        return false;
+    }
+    if MOVES_LIMIT < moves {
+        return false;
+    }
+    let height = register_height as usize;
+    if registers.len() < height {
+        return false;
+    }
+    let top = place_height as usize;
+    if places.len() < top {
+        return false;
+    }
+    if !stand(&registers[..height], &places[..top], rows, inherited, synthesized, productions, start) {
+        return false;
+    }
+    if !all_marked(&registers[height..]) {
+        return false;
+    }
+    all_zero(&places[top..])
+}

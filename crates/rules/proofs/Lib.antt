@@ -1,0 +1,7 @@
+pub mod Bits
+pub mod Laws
+pub mod Order
+pub mod Uses
+pub mod RuleJudged
+pub mod ConditionJudged
+pub mod Complete

@@ -1,0 +1,28 @@
+use Rattle.fields.proofs.Demands.{equal-yes, equal-no}
+use native.Mathlib.Omega.{arith}
+use borrow.Author.Needs.{needs}
+use Rattle.rules.specs.Rule.{filledAt}
+use lib.Pow.{shr-le}
+use Rattle.rules.proofs.note.is_filled.Statement.{statement}
+use Rattle.rules.proofs.note.is_filled.Tie as tie
+
+shr-all-ones : tie.Need-shr-all-ones
+shr-all-ones c = search needs
+
+all-ones-requires : tie.Need-all-ones-requires
+all-ones-requires c κs = (omega (arith, shr-le (c .before .args .byte) (c .before .args .inherited)), omega arith)
+
+returns : tie.Need-returns
+unfolding filledAt
+returns c = equal-yes _ _ _ _ (omega arith) (c .all-ones .ensures)
+
+all-ones-requires-2 : tie.Need-all-ones-requires-2
+all-ones-requires-2 c κs = search needs
+
+returns-2 : tie.Need-returns-2
+unfolding filledAt
+returns-2 c = equal-no _ _ _ _ (omega arith) (c .all-ones2 .ensures)
+
+pub is-filled-spec : {M : Type 1} → statement M
+is-filled-spec =
+    tie.close (tie.spec shr-all-ones all-ones-requires returns all-ones-requires-2 returns-2)

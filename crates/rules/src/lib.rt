@@ -1,0 +1,53 @@
+// Occurrences, rules and conditions of a production, judged by the counts at its positions.
+ghost use mathlib.Core.Path.{_≡_};
+ghost use Prim.Native.Nat.{_+_, _≤_};
+ghost use lib.ListN.{length};
+ghost use Rattle.rules.specs.Rule.{classAt, classIn};
+
+pub mod condition;
+pub mod note;
+pub mod rule;
+
+// What an occurrence is in its production. 0: unknown; 1: an input; 2: an output.
+pub fn class_of(
+    width: usize,
+    inh: &[u8; 13],
+    syn: &[u8; 13],
+    position: usize,
+    attribute: usize,
+) -> usize
+    requires { ⌜ width ≤ 12 ⌝ }
+    ensures { λ r. ⌜ r ≡ classAt width (now (inh .entry)) (now (syn .entry)) position attribute ⌝ }
+{
+    if width < position {
+        return 0;
+    }
+    if attribute < 1 {
+        return 0;
+    }
+    let inherited = fields::wide(inh[position]);
+    let synthesized = fields::wide(syn[position]);
+    if inherited + synthesized < attribute {
+        return 0;
+    }
+    if position == 0 {
+        if inherited < attribute {
+            return 2;
+        }
+        return 1;
+    }
+    if inherited < attribute {
+        return 1;
+    }
+    2
+}
+
+// The class of the occurrence in two bytes of a body.
+pub fn class_in(width: usize, inh: &[u8; 13], syn: &[u8; 13], body: &[u8], at: usize) -> usize
+    requires { ⌜ (width ≤ 12) × (at + 2 ≤ length (now body)) ⌝ }
+    ensures { λ r. ⌜ r ≡ classIn width (now (inh .entry)) (now (syn .entry)) (now (body .entry)) at ⌝ }
+{
+    let position = fields::wide(body[at]);
+    let attribute = fields::wide(body[at + 1]);
+    class_of(width, inh, syn, position, attribute)
+}

@@ -1,0 +1,7 @@
+pub mod Steps
+pub mod Counting
+pub mod Placing
+pub mod Walking
+pub mod Producing
+pub mod Rows
+pub mod Tables

@@ -1,0 +1,66 @@
+-- Loops that write counts and rows.
+use Prim.Native.Nat.{ℕ, zero, suc, _+_, _*_, _≤_, _<_}
+use mathlib.Core.Path.{_≡_, refl, sym, _∙_, ap}
+use mathlib.Core.List.{List}
+use mathlib.Core.Logic.{⊎-elim}
+use native.Mathlib.Omega.{arith}
+use native.Mathlib.Nat.{not-suc-le-zero}
+use lib.ListN.{length, getD, set, length-set}
+use lib.Seq.{getD-set-same, getD-set-other}
+use Rattle.meaning.specs.Table.{byte}
+use Rattle.rules.proofs.Bits.{lt-or-le}
+use Rattle.table.specs.Outline.{countOf, symbolByte, Copied}
+
+-- the counts of positions below k are written
+pub record Placing (b counts places : List ℕ) (k : ℕ) : Type 0 where
+  pub each : (j : ℕ) → j < k → getD places j 0 ≡ countOf counts (symbolByte b j)
+  pub kept : length places ≡ 13
+
+pub placing-start : (b counts places : List ℕ) (x : ℕ) → length places ≡ 13 → x ≡ countOf counts (128 + byte b 0) → Placing b counts (set places 0 x) 1
+placing-start b counts places x l e = record { each = first; kept = length-set places 0 x ∙ l }
+  where
+    first : (j : ℕ) → j < 1 → getD (set places 0 x) j 0 ≡ countOf counts (symbolByte b j)
+    first zero h = getD-set-same places 0 x 0 (omega arith) ∙ e
+    first (suc j) h = absurd (omega arith)
+
+symbol-byte : (b : List ℕ) (k : ℕ) → 1 ≤ k → byte b (k + 1) ≡ symbolByte b k
+symbol-byte b zero h = absurd (not-suc-le-zero h)
+symbol-byte b (suc k) h = ap (byte b) {x = suc k + 1} {y = k + 2} (omega arith)
+
+pub placing-more :
+    (b counts places : List ℕ) (k x : ℕ) → Placing b counts places k → 1 ≤ k → k < 13 → x ≡ countOf counts (byte b (k + 1))
+    → Placing b counts (set places k x) (k + 1)
+placing-more b counts places k x p one room e = record { each = each; kept = length-set places k x ∙ p .kept }
+  where
+    each : (j : ℕ) → j < k + 1 → getD (set places k x) j 0 ≡ countOf counts (symbolByte b j)
+    each j h =
+        ⊎-elim
+        (λ l. getD-set-other places k j x 0 (λ q. omega arith) ∙ p .each j l)
+        (λ l.
+        let q : j ≡ k = omega arith in
+        ap (λ (i : ℕ). getD (set places k x) i 0) q ∙ getD-set-same places k x 0 (omega (arith, p .kept)) ∙ e
+        ∙ ap (countOf counts) (symbol-byte b k one ∙ ap (symbolByte b) (sym q)))
+        (lt-or-le j k)
+
+pub copying-start : (rows : List ℕ) (p : ℕ) (b : List ℕ) → length rows ≡ 2048 → Copied rows p b rows 0
+copying-start rows p b l = record { before = λ i h. refl; row = λ j h. absurd (not-suc-le-zero h); kept = l }
+
+pub copying-more :
+    (rows₀ : List ℕ) (p : ℕ) (b rows : List ℕ) (k : ℕ) → Copied rows₀ p b rows k → 16 * p + k < 2048
+    → Copied rows₀ p b (set rows (16 * p + k) (byte b k)) (k + 1)
+copying-more rows₀ p b rows k c room =
+    record {
+      before = λ i h. getD-set-other rows (16 * p + k) i (byte b k) 0 (λ q. omega arith) ∙ c .before i h;
+      row = row;
+      kept = length-set rows (16 * p + k) (byte b k) ∙ c .kept;
+    }
+  where
+    row : (j : ℕ) → j < k + 1 → getD (set rows (16 * p + k) (byte b k)) (16 * p + j) 0 ≡ byte b j
+    row j h =
+        ⊎-elim
+        (λ l. getD-set-other rows (16 * p + k) (16 * p + j) (byte b k) 0 (λ q. omega arith) ∙ c .row j l)
+        (λ l.
+        let q : j ≡ k = omega arith in
+        ap (λ (i : ℕ). getD (set rows (16 * p + k) (byte b k)) (16 * p + i) 0) q
+        ∙ getD-set-same rows (16 * p + k) (byte b k) 0 (omega (arith, c .kept)) ∙ ap (byte b) (sym q))
+        (lt-or-le j k)

@@ -1,0 +1,275 @@
+-- The field of a production in each way it can go, and the counts at its positions.
+use Prim.Native.Nat.{ℕ, zero, suc, _+_, _-_, _≤_, _<_}
+use mathlib.Core.Path.{_≡_, refl, sym, _∙_, ap, ap₂, subst, subst₂}
+use mathlib.Core.Bool.{Bool, true, false, cond}
+use mathlib.Core.List.{List, [], _∷_, map, reverse, reverseAux}
+use mathlib.Core.Logic.{⊎-elim}
+use native.Mathlib.Omega.{arith}
+use native.Mathlib.Nat.{not-suc-le-zero}
+use lib.Dec.{ltb}
+use lib.ListN.{length, getD, take, drop, length-drop, length-take, length-map, List·getD-map}
+use lib.Seq.{getD-drop}
+use borrow.Author.Tests.{ltb-true, ltb-false, le-ltb}
+use Rattle.meaning.specs.Grammar.{Counts, noCounts, Symbol, terminal, nonterminal, countsIn}
+use Rattle.meaning.specs.Table.{byte, Header, Entry, production, readField, kindOf, judgeField, symbolOf}
+use Rattle.fields.specs.Demand.{ifBelow}
+use Rattle.fields.specs.Field.{Whole, Short, rest, bodyAt}
+use Rattle.fields.specs.Judge.{productionFault, symbolKnown}
+use Rattle.fields.specs.Reads.{stateOf, entryOf}
+use Rattle.fields.proofs.Demands.{below-yes, below-no}
+use Rattle.fields.proofs.Rest.{step-short, step-field, calm-complete, body-length, body-byte, fieldOf}
+use Rattle.fields.proofs.Judged.{production-judged, first-not}
+use Rattle.fields.proofs.Fine.{ProductionFine, production-fine}
+use Rattle.fields.proofs.Walks.{all-each}
+use Rattle.rules.specs.Rule.{Small}
+use Rattle.rules.specs.Note.{symbolIn}
+use Rattle.rules.proofs.Bits.{lt-or-le}
+use Rattle.table.specs.declared.Uses.{Uses}
+use Rattle.table.specs.Outline.{SmallCounts, Numbered, countOf, symbolByte, countsUpTo, Written}
+use Rattle.table.specs.Progress.{settingOf, Around, UsesRead, Next}
+use Rattle.table.specs.Productions.{widthIn, bodyIn, leftIn, rightIn, ProductionKnown, ProductionJudged, SmallBody, CountsAgree, BodyRead}
+use Rattle.table.proofs.Steps.{three}
+use Rattle.table.proofs.Counting.{length-counts}
+
+two : _≡_ {A = ℕ} 2 0 → ⊥
+two e = omega arith
+
+none-of : (es : List Entry) → length es ≡ 0 → es ≡ []
+none-of [] e = refl
+none-of (e ∷ es) q = absurd (omega arith)
+
+module _ (t : List ℕ) (at p terminals nonterminals : ℕ) (inside : at < length t) where
+  pub production-cut : Short t at → ProductionJudged t at p terminals nonterminals 2
+  production-cut s =
+      record {
+        read = λ h cs os es r c tm nt all len done. step-short t (stateOf h cs os es r c) at inside (calm-complete (stateOf h cs os es r c) (byte t at) done) _ s;
+        known = λ z. absurd (two z);
+      }
+
+  module _ (size : ℕ) (w : Whole t at size) where
+    abbrev b : List ℕ
+    b = bodyAt t at size
+
+    pub production-other : (byte t at ≡ 3 → ⊥) → (0 < p → byte t at ≡ 3) → ProductionJudged t at p terminals nonterminals 3
+    production-other n f =
+        record {
+          read = λ h cs os es r c tm nt all len done.
+              step-field t (stateOf h cs os es r c) at inside (calm-complete (stateOf h cs os es r c) (byte t at) done) _ size w 3
+              (first-not h cs os es r c at b (byte t at) (omega (arith, all, nt)) (none-of es (⊎-elim (λ l. absurd (n (f l))) (λ l. omega arith) (lt-or-le 0 p))) n)
+              (λ e. absurd (three e));
+          known = λ z. absurd (three z);
+        }
+
+    module _ (fine : ProductionFine b terminals nonterminals p) where
+      long-body : length b ≡ size
+      long-body = body-length t at size (w .inside)
+
+      second : byte b 1 ≡ widthIn t at
+      second = body-byte t at size 1 (omega (arith, long-body, fine .long)) ∙ ap (byte t) {x = at + 3 + 1} {y = at + 4} (omega arith)
+
+      first : byte b 0 ≡ leftIn t at
+      first = body-byte t at size 0 (omega (arith, long-body, fine .long)) ∙ ap (byte t) {x = at + 3 + 0} {y = at + 3} (omega arith)
+
+      size-is : size ≡ 2 + widthIn t at
+      size-is = omega (arith, long-body, fine .long, second)
+
+      body-is : b ≡ bodyIn t at
+      body-is = ap (bodyAt t at) size-is
+
+      is-known : ProductionKnown t at p terminals nonterminals
+      is-known =
+          record {
+            long = omega (arith, w .inside, size-is);
+            short = omega (arith, fine .short, second);
+            few = fine .few;
+            left = omega (arith, fine .left, first);
+            symbols = λ k l.
+                ap (λ x. symbolKnown terminals nonterminals (byte x (k + 2))) (sym body-is)
+                ∙ all-each (symbolKnown terminals nonterminals) b 2 (k + 2) (fine .symbols) (omega arith) (omega (arith, long-body, size-is));
+          }
+
+      after-same :
+          (h : Header) (cs : List Counts) (os : List ℕ) (es : List Entry) (r c : ℕ) → byte t at ≡ 3
+          → rest t (readField (stateOf h cs os es r c) at (kindOf (byte t at)) b) (at + 3 + size)
+          ≡ rest t (stateOf h cs os (entryOf at (leftIn t at) (rightIn t at) [] [] ∷ es) r c) (at + 5 + widthIn t at)
+      after-same h cs os es r c tag =
+          let n : at + 3 + size ≡ at + 5 + widthIn t at = omega (arith, size-is) in
+          ap₂ (λ (x i : ℕ). rest t (readField (stateOf h cs os es r c) at (kindOf x) b) i) tag n
+          ∙ ap₂ (λ x y. rest t (stateOf h cs os (entryOf at x (map symbolOf (drop 2 y)) [] [] ∷ es) r c) (at + 5 + widthIn t at)) first body-is
+
+    fault-same : (x y z : ℕ) → x ≡ terminals → y ≡ nonterminals → z ≡ p → productionFault x y z b ≡ productionFault terminals nonterminals p b
+    fault-same x y z q r s = cc
+
+    pub production-right :
+        (part : List ℕ) (number : ℕ) → byte t at ≡ 3 → part ≡ b → number ≡ productionFault terminals nonterminals p part
+        → ProductionJudged t at p terminals nonterminals number
+    production-right part number tag is e =
+        let q : number ≡ productionFault terminals nonterminals p b = e ∙ ap (productionFault terminals nonterminals p) is in
+        record {
+          read = λ h cs os es r c tm nt all len done.
+              step-field t (stateOf h cs os es r c) at inside (calm-complete (stateOf h cs os es r c) (byte t at) done) _ size w number
+              (ap (λ (x : ℕ). judgeField (stateOf h cs os es r c) (fieldOf at x b)) tag
+              ∙ production-judged h cs os es r c at b (omega (arith, all, nt)) ∙ fault-same (h .terminals) (h .nonterminals) (length es) tm nt len ∙ sym q)
+              (λ z. after-same (production-fine b terminals nonterminals p (sym q ∙ z)) h cs os es r c tag);
+          known = λ z. is-known (production-fine b terminals nonterminals p (sym q ∙ z));
+        }
+
+-- ---- the counts at the positions
+
+-- the body as the code cuts it out once its width is known
+pub part-in : (t : List ℕ) (at w : ℕ) → w ≡ widthIn t at → take (at + 5 + w - (at + 3)) (drop (at + 3) t) ≡ bodyIn t at
+part-in t at w e = ap (λ (n : ℕ). take n (drop (at + 3) t)) {x = at + 5 + w - (at + 3)} {y = 2 + widthIn t at} (omega arith)
+
+pub part-short : (t : List ℕ) (at w : ℕ) → w ≤ 12 → length (take (at + 5 + w - (at + 3)) (drop (at + 3) t)) ≤ 14
+part-short t at w l = omega (arith, length-take (at + 5 + w - (at + 3)) (drop (at + 3) t))
+
+module _ {A : Type 0} (d : A) where
+  reverse-past : (xs ys : List A) (m : ℕ) → getD (reverseAux xs ys) (length xs + m) d ≡ getD ys m d
+  reverse-past [] ys m = ap (λ (i : ℕ). getD ys i d) {x = 0 + m} {y = m} (omega arith)
+  reverse-past (x ∷ xs) ys m = ap (λ (i : ℕ). getD (reverseAux xs (x ∷ ys)) i d) {x = suc (length xs) + m} {y = length xs + suc m} (omega arith) ∙ reverse-past xs (x ∷ ys) (suc m)
+
+  reverse-onto : (P : ℕ → A → Type 0) (xs ys : List A) → Numbered P xs → (m : ℕ) → m < length xs → P m (getD (reverseAux xs ys) m d)
+  reverse-onto P [] ys e m h = absurd (not-suc-le-zero h)
+  reverse-onto P (x ∷ xs) ys e m h = ⊎-elim (λ l. reverse-onto P xs (x ∷ ys) (e .1) m l) (λ l. last (omega arith)) (lt-or-le m (length xs))
+    where
+      last : m ≡ length xs + 0 → P m (getD (reverseAux xs (x ∷ ys)) m d)
+      last q =
+          let here : length xs ≡ m = omega arith in
+          subst₂ P here
+          (sym (ap (λ (i : ℕ). getD (reverseAux xs (x ∷ ys)) i d) q ∙ reverse-past xs (x ∷ ys) 0))
+          (e .0)
+
+  -- what holds of each element and its number holds of the list in order
+  pub numbered : (P : ℕ → A → Type 0) (xs : List A) → Numbered P xs → (m : ℕ) → m < length xs → P m (getD (reverse xs) m d)
+  numbered P xs e m h = reverse-onto P xs [] e m h
+
+module _ (inh syn : List ℕ) where
+  abbrev Right : ℕ → Counts → Type 0
+  Right m x = x ≡ record { inherited = getD inh m 0; synthesized = getD syn m 0 }
+
+  each-right : (n : ℕ) → Numbered Right (countsUpTo inh syn n)
+  each-right zero = tt
+  each-right (suc n) = (ap (λ (m : ℕ). record { inherited = getD inh m 0; synthesized = getD syn m 0 }) (sym (length-counts inh syn n)), each-right n)
+
+  counts-at : (n m : ℕ) → m < n → getD (reverse (countsUpTo inh syn n)) m noCounts ≡ record { inherited = getD inh m 0; synthesized = getD syn m 0 }
+  counts-at n m h = numbered noCounts Right (countsUpTo inh syn n) (each-right n) m (omega (arith, length-counts inh syn n))
+
+  -- a symbol's counts, by its byte
+  module _ (n : ℕ) where
+    abbrev cs : List Counts
+    cs = countsUpTo inh syn n
+
+    pub record SymbolCounts (x : Symbol) (k : ℕ) : Type 0 where
+      pub first : countOf inh k ≡ countsIn (reverse cs) x .inherited
+      pub second : countOf syn k ≡ countsIn (reverse cs) x .synthesized
+
+    of-terminal : (m k : ℕ) → k < 128 → SymbolCounts (terminal m) k
+    unfolding countOf
+    of-terminal m k l = record { first = sym (below-yes k 128 _ _ l refl); second = sym (below-yes k 128 _ _ l refl) }
+
+    of-nonterminal : (k : ℕ) → 128 ≤ k → k - 128 < n → SymbolCounts (nonterminal (k - 128)) k
+    unfolding countOf
+    of-nonterminal k l h =
+        record {
+          first = sym (below-no k 128 _ _ l (ap (λ x. x .inherited) (counts-at n (k - 128) h)));
+          second = sym (below-no k 128 _ _ l (ap (λ x. x .synthesized) (counts-at n (k - 128) h)));
+        }
+
+    of-symbol : (terminals k : ℕ) → symbolKnown terminals n k ≡ true → SymbolCounts (symbolOf k) k
+    unfolding symbolKnown ifBelow
+    of-symbol terminals k e = go (ltb k 128) refl
+      where
+        go : (b : Bool) → ltb k 128 ≡ b → SymbolCounts (elim b [ true ↦ terminal k | false ↦ nonterminal (k - 128) ]) k
+        go true q = of-terminal k k (ltb-true k 128 q)
+        go false q =
+            of-nonterminal k (ltb-false k 128 q)
+            (ltb-true (k - 128) n (sym (ap (λ (b : Bool). cond b (ltb k terminals) (ltb (k - 128) n)) q) ∙ e))
+
+    small-count : SmallCounts inh syn n → (k : ℕ) → (128 ≤ k → k - 128 < n) → countOf inh k + countOf syn k ≤ 8
+    unfolding countOf
+    small-count small k h = ⊎-elim low high (lt-or-le k 128)
+      where
+        low : k < 128 → countOf inh k + countOf syn k ≤ 8
+        low l = omega (arith, below-yes {A = ℕ} k 128 0 (getD inh (k - 128) 0) l refl, below-yes {A = ℕ} k 128 0 (getD syn (k - 128) 0) l refl)
+
+        high : 128 ≤ k → countOf inh k + countOf syn k ≤ 8
+        high l =
+            omega (arith, below-no {A = ℕ} k 128 0 (getD inh (k - 128) 0) l refl, below-no {A = ℕ} k 128 0 (getD syn (k - 128) 0) l refl, small (k - 128) (h l))
+
+-- the nonterminals among known symbols
+known-below : (terminals n k : ℕ) → symbolKnown terminals n k ≡ true → 128 ≤ k → k - 128 < n
+unfolding symbolKnown ifBelow
+known-below terminals n k e l = ltb-true (k - 128) n (sym (ap (λ (b : Bool). cond b (ltb k terminals) (ltb (k - 128) n)) (le-ltb k 128 l)) ∙ e)
+
+module _ (t : List ℕ) (at p terminals nonterminals : ℕ) (inh syn : List ℕ) (known : ProductionKnown t at p terminals nonterminals) where
+  pub long-in : length (bodyIn t at) ≡ 2 + widthIn t at
+  long-in = body-length t at (2 + widthIn t at) (omega (arith, known .long))
+
+  pub left-byte : byte (bodyIn t at) 0 ≡ leftIn t at
+  left-byte = body-byte t at (2 + widthIn t at) 0 (omega arith) ∙ ap (byte t) {x = at + 3 + 0} {y = at + 3} (omega arith)
+
+  pub right-symbol : (k : ℕ) → symbolIn (leftIn t at) (rightIn t at) (suc k) ≡ symbolOf (byte (bodyIn t at) (k + 2))
+  right-symbol k =
+      List·getD-map symbolOf (drop 2 (bodyIn t at)) k 0
+      ∙ ap symbolOf (getD-drop 2 (bodyIn t at) k 0 ∙ ap (byte (bodyIn t at)) {x = 2 + k} {y = k + 2} (omega arith))
+
+  each-position : (k : ℕ) → k ≤ widthIn t at → SymbolCounts inh syn nonterminals (symbolIn (leftIn t at) (rightIn t at) k) (symbolByte (bodyIn t at) k)
+  each-position zero l =
+      subst₂ (SymbolCounts inh syn nonterminals)
+      (ap nonterminal {x = 128 + leftIn t at - 128} {y = leftIn t at} (omega arith))
+      (ap (λ (x : ℕ). 128 + x) (sym left-byte))
+      (of-nonterminal inh syn nonterminals (128 + leftIn t at) (omega arith) (omega (arith, known .left)))
+  each-position (suc k) l =
+      subst (λ x. SymbolCounts inh syn nonterminals x (byte (bodyIn t at) (k + 2))) (sym (right-symbol k))
+      (of-symbol inh syn nonterminals terminals (byte (bodyIn t at) (k + 2)) (known .symbols k (omega arith)))
+
+  pub counts-agree : CountsAgree t at inh syn (countsUpTo inh syn nonterminals)
+  counts-agree = record { inherits = λ k l. each-position k l .first; synthesizes = λ k l. each-position k l .second }
+
+  small-position : SmallCounts inh syn nonterminals → (k : ℕ) → k ≤ widthIn t at → countOf inh (symbolByte (bodyIn t at) k) + countOf syn (symbolByte (bodyIn t at) k) ≤ 8
+  small-position small zero l = small-count inh syn nonterminals small (128 + byte (bodyIn t at) 0) (λ h. omega (arith, left-byte, known .left))
+  small-position small (suc k) l =
+      small-count inh syn nonterminals small (byte (bodyIn t at) (k + 2)) (known-below terminals nonterminals (byte (bodyIn t at) (k + 2)) (known .symbols k (omega arith)))
+
+  pub small-body : SmallCounts inh syn nonterminals → SmallBody t at inh syn
+  small-body small = (known .short, small-position small)
+
+-- ---- the lists of counts that the code makes of the body
+
+module _ (t : List ℕ) (at w : ℕ) (inherited synthesized inh syn part : List ℕ) (is-width : w ≡ widthIn t at) (is-body : part ≡ bodyIn t at) (long : at + 5 + widthIn t at ≤ length t) (p : Written part inherited inh) (q : Written part synthesized syn) where
+  body-long : length (bodyIn t at) ≡ 2 + widthIn t at
+  body-long = body-length t at (2 + widthIn t at) (omega arith)
+
+  at-place : (counts places : List ℕ) → Written part counts places → (k : ℕ) → k ≤ w → getD places k 0 ≡ countOf counts (symbolByte (bodyIn t at) k)
+  at-place counts places f k l = subst (λ x. Written x counts places) is-body f .each k (omega (arith, body-long))
+
+  pub body-small : SmallBody t at inherited synthesized → Small w inh syn
+  body-small small =
+      (omega (arith, small .0), λ k l. omega (arith, small .1 k (omega arith), at-place inherited inh p k l, at-place synthesized syn q k l))
+
+  right-long : length (rightIn t at) ≡ w
+  right-long = length-map (drop 2 (bodyIn t at)) symbolOf ∙ length-drop 2 (bodyIn t at) ∙ omega (arith, body-long)
+
+  pub body-read : (r₀ c₀ : ℕ) (u : Uses) → UsesRead (settingOf t at w inh syn) (at + 5 + w) r₀ c₀ u → BodyRead t at inherited synthesized r₀ c₀ u
+  body-read r₀ c₀ u f h cs os es all agree =
+      let a : Around (settingOf t at w inh syn) =
+      record {
+        header = h;
+        counts = cs;
+        offsets = os;
+        left = leftIn t at;
+        right = rightIn t at;
+        others = es;
+        all = all;
+        placed = record {
+          wide = sym right-long;
+          inherits = λ k l. at-place inherited inh p k l ∙ agree .inherits k (omega arith);
+          synthesizes = λ k l. at-place synthesized syn q k l ∙ agree .synthesizes k (omega arith);
+        };
+      }
+      in
+      let m = f a in
+      (m .0, m .1, ap (λ (i : ℕ). rest t (stateOf h cs os (entryOf at (leftIn t at) (rightIn t at) [] [] ∷ es) r₀ c₀) (at + 5 + i)) (sym is-width) ∙ m .2, m .3)
+
+pub next-sooner : (t : List ℕ) (a b : ℕ) (u : Uses) → a ≤ b → Next t b u → Next t a u
+next-sooner t a b u l n = record { after = omega (arith, n .after); inside = n .inside; over = n .over; rules = n .rules; conditions = n .conditions }

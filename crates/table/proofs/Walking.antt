@@ -1,0 +1,283 @@
+-- The rules and conditions of a production, one after the other.
+use Prim.Native.Nat.{ℕ, zero, suc, _+_, _-_, _^_, _≤_, _<_}
+use mathlib.Core.Path.{_≡_, refl, sym, _∙_, ap, ap₂, subst, subst₂}
+use mathlib.Core.Bool.{Bool, true, false, _&&_, _||_, not, true≢false}
+use mathlib.Core.List.{List, [], _∷_}
+use mathlib.Core.Logic.{⊎-elim}
+use native.Mathlib.Omega.{arith}
+use lib.Bits.{bitOr}
+use lib.Dec.{eqb}
+use lib.ListN.{length, getD, set, replicate, length-set}
+use borrow.Author.Tests.{ne-eqb, eq-eqb, lt-ltb}
+use Rattle.meaning.specs.Grammar.{Counts, Rule, Condition, Occurrence}
+use Rattle.meaning.specs.Table.{byte, Header, Entry, atFirst, atAny, stage, tagStands, wellFormed, malformed, judgeField, readField, kindOf, ruleOf, conditionOf, lastComplete}
+use Rattle.fields.specs.Field.{Whole, Short, rest, judged, bodyAt}
+use Rattle.fields.specs.Reads.{stateOf, entryOf}
+use Rattle.fields.proofs.Rest.{rest-end, rest-missing, judged-fine, judged-refused, step-short, step-field, calm-other, body-length, body-byte, fieldOf}
+use Rattle.fields.proofs.Judged.{judge-not, stage-later}
+use Rattle.rules.specs.Rule.{Small, ruleFault, conditionFault, completeNote}
+use Rattle.rules.specs.Note.{Noted}
+use Rattle.rules.proofs.Bits.{lt-or-le}
+use Rattle.rules.proofs.Laws.{rule-fine}
+use Rattle.rules.proofs.RuleJudged.{rule-judged}
+use Rattle.rules.proofs.ConditionJudged.{condition-judged}
+use Rattle.rules.proofs.Complete.{noted-none, noted-more, complete-judged}
+use Rattle.table.specs.declared.Uses.{Uses}
+use Rattle.table.specs.Progress.{Over, Setting, settingOf, Around, stateIn, UseJudged, Walked, UsesRead, Next, endOf}
+use Rattle.table.proofs.Steps.{three, endBy}
+
+two : _≡_ {A = ℕ} 2 0 → ⊥
+two e = omega arith
+
+eight : _≡_ {A = ℕ} 8 0 → ⊥
+eight e = omega arith
+
+pub stage-any : (h : Header) (cs : List Counts) (os : List ℕ) (e : Entry) (es : List Entry) (r c : ℕ) → h .nonterminals ≤ length cs → stage (stateOf h cs os (e ∷ es) r c) ≡ atAny
+stage-any h cs os e es r c l =
+    stage-later h cs os (e ∷ es) r c l ∙ ap (λ x. elim x [ true ↦ atAny | false ↦ atFirst ]) (lt-ltb 0 (suc (length es)) (omega arith))
+
+or-none : (x y z : Bool) → x ≡ false → y ≡ false → z ≡ false → x || y || z ≡ false
+or-none false false false p q r = refl
+or-none true y z p q r = absurd (true≢false p)
+or-none false true z p q r = absurd (true≢false q)
+or-none false false true p q r = absurd (true≢false r)
+
+module _ (t : List ℕ) (at size r c width : ℕ) (inh syn note : List ℕ) (inside : at < length t) (other : byte t at ≡ 3 → ⊥) where
+  abbrev g : ℕ → Setting
+  g o = settingOf t o width inh syn
+
+  pub use-cut : Short t at → UseJudged t at size r c width inh syn note 2
+  use-cut h =
+      record {
+        read = λ o a rs cds nt. step-short t (stateIn (g o) a rs cds r c) at inside (calm-other (stateIn (g o) a rs cds r c) (byte t at) other) _ h;
+        whole = λ z. absurd (two z);
+        kinds = λ z. absurd (two z);
+        target = λ z. absurd (two z);
+      }
+
+  module _ (w : Whole t at size) where
+    abbrev b : List ℕ
+    b = bodyAt t at size
+
+    -- a judgement of the field gives the number of the whole
+    by-judgement :
+        (number o : ℕ) (a : Around (g o)) (rs : List (Rule Occurrence)) (cds : List (Condition Occurrence)) → judgeField (stateIn (g o) a rs cds r c) (fieldOf at (byte t at) b) ≡ number
+        → rest t (stateIn (g o) a rs cds r c) at ≡ judged number at (rest t (readField (stateIn (g o) a rs cds r c) at (kindOf (byte t at)) b) (at + 3 + size))
+    by-judgement number o a rs cds e =
+        step-field t (stateIn (g o) a rs cds r c) at inside (calm-other (stateIn (g o) a rs cds r c) (byte t at) other) _ size w number e (λ z. refl)
+
+    any-stage : (o : ℕ) (a : Around (g o)) (rs : List (Rule Occurrence)) (cds : List (Condition Occurrence)) → stage (stateIn (g o) a rs cds r c) ≡ atAny
+    any-stage o a rs cds = stage-any (a .header) (a .counts) (a .offsets) (entryOf o (a .left) (a .right) rs cds) (a .others) r c (a .all)
+
+    pub use-other : (byte t at ≡ 4 → ⊥) → (byte t at ≡ 5 → ⊥) → UseJudged t at size r c width inh syn note 3
+    use-other n m =
+        record {
+          read = λ o a rs cds nt.
+              by-judgement 3 o a rs cds
+              (judge-not (stateIn (g o) a rs cds r c) at (byte t at) b
+              (ap (λ x. tagStands x (byte t at)) (any-stage o a rs cds)
+              ∙ or-none (eqb (byte t at) 3) (eqb (byte t at) 4) (eqb (byte t at) 5) (ne-eqb (byte t at) 3 other) (ne-eqb (byte t at) 4 n) (ne-eqb (byte t at) 5 m)));
+          whole = λ z. absurd (three z);
+          kinds = λ z. absurd (three z);
+          target = λ z. absurd (three z);
+        }
+
+    module _ (small : Small width inh syn) (part : List ℕ) (is-part : part ≡ b) (number : ℕ) where
+      target-in : ruleFault r width inh syn note b ≡ 0 → (2 ≤ size) × (byte t (at + 3) < 13) × (1 ≤ byte t (at + 4)) × (byte t (at + 4) ≤ 8)
+      target-in e =
+          let q = rule-fine r width inh syn note b small e in
+          let l = body-length t at size (w .inside) in
+          let k : 2 ≤ size = omega (arith, q .0) in
+          let x : byte b 0 ≡ byte t (at + 3) = body-byte t at size 0 (omega arith) ∙ ap (byte t) {x = at + 3 + 0} {y = at + 3} (omega arith) in
+          let y : byte b 1 ≡ byte t (at + 4) = body-byte t at size 1 (omega arith) ∙ ap (byte t) {x = at + 3 + 1} {y = at + 4} (omega arith) in
+          (k, omega (arith, q .1), omega (arith, q .2), omega (arith, q .3))
+
+      pub use-rule : byte t at ≡ 4 → number ≡ ruleFault r width inh syn note part → UseJudged t at size r c width inh syn note number
+      use-rule tag e =
+          let q : number ≡ ruleFault r width inh syn note b = e ∙ ap (ruleFault r width inh syn note) is-part in
+          record {
+            read = λ o a rs cds nt.
+                by-judgement number o a rs cds
+                (ap (λ (x : ℕ). judgeField (stateIn (g o) a rs cds r c) (fieldOf at x b)) tag
+                ∙ rule-judged (a .header) (a .counts) (a .offsets) (a .others) r c o (a .left) (a .right) rs cds width inh syn note (a .placed) small nt b at (any-stage o a rs cds)
+                ∙ sym q);
+            whole = λ z. w;
+            kinds = λ z n. absurd (n tag);
+            target = λ z f. target-in (sym q ∙ z);
+          }
+
+      pub use-condition : byte t at ≡ 5 → number ≡ conditionFault c width inh syn part → UseJudged t at size r c width inh syn note number
+      use-condition tag e =
+          let q : number ≡ conditionFault c width inh syn b = e ∙ ap (conditionFault c width inh syn) is-part in
+          record {
+            read = λ o a rs cds nt.
+                by-judgement number o a rs cds
+                (ap (λ (x : ℕ). judgeField (stateIn (g o) a rs cds r c) (fieldOf at x b)) tag
+                ∙ condition-judged (a .header) (a .counts) (a .offsets) (a .others) r c o (a .left) (a .right) rs cds width inh syn (a .placed) b at (any-stage o a rs cds)
+                ∙ sym q);
+            whole = λ z. w;
+            kinds = λ z n. tag;
+            target = λ z f. absurd (omega (arith, tag, f));
+          }
+
+-- ---- the loop over the fields
+
+pub record Walking (t : List ℕ) (from offset width : ℕ) (inh syn : List ℕ) (r₀ c₀ : ℕ) (note : List ℕ) (at r c : ℕ) : Type 0 where
+  pub after : from ≤ at
+  pub inside : at ≤ length t
+  pub rules : r ≤ at
+  pub conditions : c ≤ at
+  pub kept : length note ≡ 13
+  pub walked : Walked (settingOf t offset width inh syn) from r₀ c₀ note at r c
+
+zeros : (n k : ℕ) → _≡_ {A = ℕ} (getD (replicate n 0) k 0) 0
+zeros zero k = refl
+zeros (suc n) zero = refl
+zeros (suc n) (suc k) = zeros n k
+
+module _ (t : List ℕ) (from offset width : ℕ) (inh syn : List ℕ) (r₀ c₀ : ℕ) where
+  abbrev s : Setting
+  s = settingOf t offset width inh syn
+
+  pub walk-start : from ≤ length t → r₀ ≤ from → c₀ ≤ from → Walking t from offset width inh syn r₀ c₀ (replicate 13 0) from r₀ c₀
+  walk-start l p q =
+      record {
+        after = omega arith;
+        inside = l;
+        rules = p;
+        conditions = q;
+        kept = refl;
+        walked = λ a. ([], [], noted-none (replicate 13 0) (zeros 13), refl);
+      }
+
+  module _ (note : List ℕ) (at r c : ℕ) (w : Walking t from offset width inh syn r₀ c₀ note at r c) where
+    module _ (size number : ℕ) (j : UseJudged t at size r c width inh syn note number) where
+      pub walk-refused : (number ≡ 0 → ⊥) → UsesRead s from r₀ c₀ (record { number = number; at = at; rules = r; conditions = c })
+      walk-refused n a =
+          let q = w .walked a in (
+            q .0,
+            q .1,
+            q .3 ∙ j .read offset a (q .0) (q .1) (q .2) ∙ judged-refused number at _ n ∙ sym (judged-refused number at _ n),
+            λ z. absurd (n z),
+          )
+
+      module _ (fine : number ≡ 0) where
+        abbrev b′ : List ℕ
+        b′ = bodyAt t at size
+
+        abbrev next : ℕ
+        next = at + 3 + size
+
+        -- the state after the field, by its tag
+        onward :
+            (a : Around s) (rs : List (Rule Occurrence)) (cds : List (Condition Occurrence)) → Noted note rs → (tag : ℕ) → byte t at ≡ tag
+            → rest t (stateIn s a rs cds r c) at ≡ rest t (readField (stateIn s a rs cds r c) at (kindOf tag) b′) next
+        onward a rs cds nt tag e =
+            j .read offset a rs cds nt ∙ judged-fine number at _ fine
+            ∙ ap (λ (x : ℕ). rest t (readField (stateIn s a rs cds r c) at (kindOf x) b′) next) e
+
+        abbrev p : ℕ
+        p = byte t (at + 3)
+
+        abbrev q : ℕ
+        q = byte t (at + 4)
+
+        walk-rule : byte t at ≡ 4 → Walking t from offset width inh syn r₀ c₀ (set note p (bitOr (getD note p 0) (2 ^ (q - 1)))) next (r + 1) c
+        walk-rule tag =
+            let k = j .target fine tag in
+            let x : byte b′ 0 ≡ p = body-byte t at size 0 (omega (arith, k .0)) ∙ ap (byte t) {x = at + 3 + 0} {y = at + 3} (omega arith) in
+            let y : byte b′ 1 ≡ q = body-byte t at size 1 (omega (arith, k .0)) ∙ ap (byte t) {x = at + 3 + 1} {y = at + 4} (omega arith) in
+            let one : suc r ≡ r + 1 = omega arith in
+            record {
+              after = omega (arith, w .after);
+              inside = j .whole fine .inside;
+              rules = omega (arith, w .rules);
+              conditions = omega (arith, w .conditions);
+              kept = length-set note p (bitOr (getD note p 0) (2 ^ (q - 1))) ∙ w .kept;
+              walked = λ a.
+                  let m = w .walked a in (
+                    ruleOf b′ ∷ m .0,
+                    m .1,
+                    subst₂ (λ (u v : ℕ). Noted (set note u (bitOr (getD note u 0) (2 ^ (v - 1)))) (ruleOf b′ ∷ m .0)) x y (noted-more note (m .0) (ruleOf b′) (m .2) (w .kept) (omega (arith, k .1)) (omega (arith, k .2))),
+                    m .3 ∙ onward a (m .0) (m .1) (m .2) 4 tag ∙ ap (λ (n : ℕ). rest t (stateIn s a (ruleOf b′ ∷ m .0) (m .1) n c) next) one,
+                  );
+            }
+
+        -- the same for the numbers and the note that the code has
+        pub walk-noted :
+            (m n : ℕ) (note′ : List ℕ) → byte t at ≡ 4 → m ≡ p → n ≡ q → note′ ≡ set note m (bitOr (getD note m 0) (2 ^ (n - 1)))
+            → Walking t from offset width inh syn r₀ c₀ note′ next (r + 1) c
+        walk-noted m n note′ tag x y e =
+            subst
+            (λ (l : List ℕ). Walking t from offset width inh syn r₀ c₀ l next (r + 1) c)
+            (sym (e ∙ ap₂ (λ (u v : ℕ). set note u (bitOr (getD note u 0) (2 ^ (v - 1)))) x y))
+            (walk-rule tag)
+
+        pub walk-condition : (byte t at ≡ 4 → ⊥) → Walking t from offset width inh syn r₀ c₀ note next r (c + 1)
+        walk-condition n =
+            let one : suc c ≡ c + 1 = omega arith in
+            record {
+              after = omega (arith, w .after);
+              inside = j .whole fine .inside;
+              rules = omega (arith, w .rules);
+              conditions = omega (arith, w .conditions);
+              kept = w .kept;
+              walked = λ a.
+                  let m = w .walked a in (
+                    m .0,
+                    conditionOf b′ ∷ m .1,
+                    m .2,
+                    m .3 ∙ onward a (m .0) (m .1) (m .2) 5 (j .kinds fine n) ∙ ap (λ (k : ℕ). rest t (stateIn s a (m .0) (conditionOf b′ ∷ m .1) r k) next) one,
+                  );
+            }
+
+    -- ---- the production is over
+
+    module _ (small : Small width inh syn) (over : Over t at) where
+      complete-in : (a : Around s) (rs : List (Rule Occurrence)) (cds : List (Condition Occurrence)) → Noted note rs → lastComplete (stateIn s a rs cds r c) ≡ completeNote width inh syn note
+      complete-in a rs cds nt =
+          complete-judged (a .header) (a .counts) (a .offsets) (a .others) r c offset (a .left) (a .right) rs cds width inh syn note (a .placed) small nt
+
+      missing : (a : Around s) (rs : List (Rule Occurrence)) (cds : List (Condition Occurrence)) → lastComplete (stateIn s a rs cds r c) ≡ false → rest t (stateIn s a rs cds r c) at ≡ malformed 8 offset
+      missing a rs cds e = ⊎-elim tagged ended (lt-or-le at (length t))
+        where
+          tagged : at < length t → rest t (stateIn s a rs cds r c) at ≡ malformed 8 offset
+          tagged l =
+              rest-missing t (stateIn s a rs cds r c) at l
+              (ap₂ (λ x y. x && not y) (eq-eqb (byte t at) 3 (over l)) e)
+
+          ended : length t ≤ at → rest t (stateIn s a rs cds r c) at ≡ malformed 8 offset
+          ended l =
+              rest-end t (stateIn s a rs cds r c) at l
+              ∙ ap (endBy (stateIn s a rs cds r c) at) (stage-any (a .header) (a .counts) (a .offsets) (entryOf offset (a .left) (a .right) rs cds) (a .others) r c (a .all))
+              ∙ ap (λ x. elim x [ true ↦ wellFormed (stateIn s a rs cds r c) | false ↦ malformed 8 offset ]) e
+
+      pub record Ended (u : Uses) : Type 0 where
+        pub read : UsesRead s from r₀ c₀ u
+        pub next : u .number ≡ 0 → Next t from u
+        pub inside : u .at ≤ length t
+
+      walk-end : (x : Bool) → completeNote width inh syn note ≡ x → offset ≤ length t → Ended (endOf x offset at r c)
+      walk-end true e l =
+          record {
+            read = λ a.
+                let q = w .walked a in
+                (q .0, q .1, q .3 ∙ sym (judged-fine 0 at _ refl), λ z. complete-in a (q .0) (q .1) (q .2) ∙ e);
+            next = λ z. record { after = w .after; inside = w .inside; over = over; rules = w .rules; conditions = w .conditions };
+            inside = w .inside;
+          }
+      walk-end false e l =
+          record {
+            read = λ a.
+                let q = w .walked a in (
+                  q .0,
+                  q .1,
+                  q .3 ∙ missing a (q .0) (q .1) (complete-in a (q .0) (q .1) (q .2) ∙ e) ∙ sym (judged-refused 8 offset _ eight),
+                  λ z. absurd (eight z),
+                );
+            next = λ z. absurd (eight z);
+            inside = l;
+          }
+
+      pub walk-over : (x : Bool) (u : Uses) → x ≡ completeNote width inh syn note → u ≡ endOf x offset at r c → offset ≤ length t → Ended u
+      walk-over x u e q l = subst Ended (sym q) (walk-end x (sym e) l)

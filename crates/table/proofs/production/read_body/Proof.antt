@@ -1,0 +1,74 @@
+use native.Mathlib.Omega.{arith}
+use borrow.Author.Needs.{needs}
+use Rattle.table.proofs.Producing.{part-in, body-small, body-read, next-sooner}
+use Rattle.table.proofs.production.read_body.Statement.{statement}
+use Rattle.table.proofs.production.read_body.Tie as tie
+
+add-wide : tie.Need-add-wide
+add-wide c = search needs
+
+shared-slice-read-wide : tie.Need-shared-slice-read-wide
+shared-slice-read-wide c = search needs
+
+wide-requires : tie.Need-wide-requires
+wide-requires c κs = search needs
+
+add-from : tie.Need-add-from
+add-from c = search needs
+
+add-end : tie.Need-add-end
+add-end c = search needs
+
+add-end-2 : tie.Need-add-end-2
+add-end-2 c = search needs
+
+sub-place-counts : tie.Need-sub-place-counts
+sub-place-counts c = search needs
+
+part-place-counts-start : tie.Need-part-place-counts-start
+part-place-counts-start c = search needs
+
+part-place-counts-end : tie.Need-part-place-counts-end
+part-place-counts-end c = search needs
+
+place-counts-requires : tie.Need-place-counts-requires
+place-counts-requires c κs = search needs
+
+sub-place-counts-2 : tie.Need-sub-place-counts-2
+sub-place-counts-2 c = search needs
+
+part-place-counts-start-2 : tie.Need-part-place-counts-start-2
+part-place-counts-start-2 c = search needs
+
+part-place-counts-end-2 : tie.Need-part-place-counts-end-2
+part-place-counts-end-2 c = search needs
+
+place-counts-requires-2 : tie.Need-place-counts-requires-2
+place-counts-requires-2 c κs = search needs
+
+read-uses-requires : tie.Need-read-uses-requires
+read-uses-requires c κs = (body-small (c .before .before .before .before .before .before .before .before .before .before .before .args .table .now) (c .before .before .before .before .before .before .before .before .before .before .before .args .at) _ _ _ _ _ _ (c .before .before .before .before .before .before .before .before .wide .ensures .0) (part-in (c .before .before .before .before .before .before .before .before .before .before .before .args .table .now) (c .before .before .before .before .before .before .before .before .before .before .before .args .at) (c .before .before .before .before .before .before .before .before .wide .result) (c .before .before .before .before .before .before .before .before .wide .ensures .0)) (c .before .before .before .before .before .before .before .before .before .before .before .pre .0) (c .before .before .before .before .before .place-counts .ensures) (c .before .before .place-counts2 .ensures) (c .before .before .before .before .before .before .before .before .before .before .before .pre .1), omega arith, omega arith, omega arith, omega arith)
+
+returns : tie.Need-returns
+returns c = (body-read (c .before .before .before .before .before .before .before .before .before .before .before .before .args .table .now) (c .before .before .before .before .before .before .before .before .before .before .before .before .args .at) _ _ _ _ _ _ (c .before .before .before .before .before .before .before .before .before .wide .ensures .0) (part-in (c .before .before .before .before .before .before .before .before .before .before .before .before .args .table .now) (c .before .before .before .before .before .before .before .before .before .before .before .before .args .at) (c .before .before .before .before .before .before .before .before .before .wide .result) (c .before .before .before .before .before .before .before .before .before .wide .ensures .0)) (c .before .before .before .before .before .before .before .before .before .before .before .before .pre .0) (c .before .before .before .before .before .before .place-counts .ensures) (c .before .before .before .place-counts2 .ensures) _ _ _ (c .read-uses .ensures .0), ((λ z. next-sooner _ _ _ _ (omega arith) (c .read-uses .ensures .1 .0 z)), c .read-uses .ensures .1 .1))
+
+pub read-body-spec : {M : Type 1} → statement M
+read-body-spec =
+    tie.close
+    (tie.spec
+    add-wide
+    shared-slice-read-wide
+    wide-requires
+    add-from
+    add-end
+    add-end-2
+    sub-place-counts
+    part-place-counts-start
+    part-place-counts-end
+    place-counts-requires
+    sub-place-counts-2
+    part-place-counts-start-2
+    part-place-counts-end-2
+    place-counts-requires-2
+    read-uses-requires
+    returns)

@@ -1,0 +1,107 @@
+-- Where the reader stands between two fields of a production.
+use Prim.Native.Nat.{ℕ, _+_, _*_, _≤_, _<_}
+use mathlib.Core.Path.{_≡_}
+use mathlib.Core.Bool.{Bool, true, false}
+use mathlib.Core.List.{List, [], _∷_}
+use lib.ListN.{length}
+use Rattle.meaning.specs.Grammar.{Counts, Symbol, Rule, Condition, Occurrence}
+use Rattle.meaning.specs.Table.{byte, Header, Entry, State, nothingRead, lastComplete, readField, kindOf}
+use Rattle.fields.specs.Field.{Whole, Short, rest, judged, bodyAt}
+use Rattle.fields.specs.Reads.{stateOf, entryOf}
+use Rattle.rules.specs.Note.{Placed, Noted}
+use Rattle.table.specs.declared.Uses.{Uses}
+use Rattle.table.specs.declared.Refusal.{Refusal}
+use Rattle.table.specs.Outline.{headed, counted, SmallCounts}
+
+-- the header judged: its number
+pub record HeaderJudged (t : List ℕ) (number : ℕ) : Type 0 where
+  pub read : rest t nothingRead 0 ≡ judged number 0 (rest t (headed t) 7)
+  pub long : number ≡ 0 → 7 ≤ length t
+  pub few : number ≡ 0 → byte t 4 ≤ 48
+
+-- the counts of nonterminal n judged: their number
+pub record CountsJudged (t : List ℕ) (at n start result number : ℕ) : Type 0 where
+  pub read :
+      (h : Header) (cs : List Counts) (os : List ℕ) → length cs ≡ n → n < h .nonterminals → h .start ≡ start → h .result ≡ result
+      → rest t (stateOf h cs os [] 0 0) at
+      ≡ judged number at (rest t (stateOf h (record { inherited = byte t (at + 3); synthesized = byte t (at + 4) } ∷ cs) (at ∷ os) [] 0 0) (at + 5))
+  pub long : number ≡ 0 → at + 5 ≤ length t
+  pub small : number ≡ 0 → byte t (at + 3) + byte t (at + 4) ≤ 8
+
+-- all counts read, or a refusal
+pub record CountsRead (t : List ℕ) (n : ℕ) (inherited synthesized : List ℕ) (r : Refusal) : Type 0 where
+  pub read : rest t (headed t) 7 ≡ judged (r .number) (r .offset) (rest t (counted t inherited synthesized n) (7 + 5 * n))
+  pub long : r .number ≡ 0 → 7 + 5 * n ≤ length t
+  pub small : r .number ≡ 0 → SmallCounts inherited synthesized n
+  pub inside : r .offset ≤ length t
+
+-- the size that `size_at` gives
+abbrev pub Sized : List ℕ → ℕ → ℕ → Type 0
+Sized t at size = (size < 65536 → Whole t at size) × (65536 ≤ size → Short t at)
+
+-- the production is over: its table is, or a tag byte 3 follows
+abbrev pub Over : List ℕ → ℕ → Type 0
+Over t at = at < length t → byte t at ≡ 3
+
+-- a table, a production's offset, and the counts at its positions
+pub record Setting : Type 0 where
+  pub table : List ℕ
+  pub offset : ℕ
+  pub width : ℕ
+  pub inh : List ℕ
+  pub syn : List ℕ
+
+abbrev pub settingOf : List ℕ → ℕ → ℕ → List ℕ → List ℕ → Setting
+settingOf t o width inh syn = record { table = t; offset = o; width = width; inh = inh; syn = syn }
+
+-- what else a state in that production holds
+pub record Around (g : Setting) : Type 0 where
+  pub header : Header
+  pub counts : List Counts
+  pub offsets : List ℕ
+  pub left : ℕ
+  pub right : List Symbol
+  pub others : List Entry
+  pub all : header .nonterminals ≤ length counts
+  pub placed : Placed counts left right (g .width) (g .inh) (g .syn)
+
+abbrev pub stateIn : (g : Setting) → Around g → List (Rule Occurrence) → List (Condition Occurrence) → ℕ → ℕ → State
+stateIn g a rs cds r c = stateOf (a .header) (a .counts) (a .offsets) (entryOf (g .offset) (a .left) (a .right) rs cds ∷ a .others) r c
+
+-- a rule or condition judged, after r rules and c conditions of the table: its number
+pub record UseJudged (t : List ℕ) (at size r c width : ℕ) (inh syn note : List ℕ) (number : ℕ) : Type 0 where
+  pub read :
+      (o : ℕ) (a : Around (settingOf t o width inh syn)) (rs : List (Rule Occurrence)) (cds : List (Condition Occurrence)) → Noted note rs
+      → rest t (stateIn (settingOf t o width inh syn) a rs cds r c) at
+      ≡ judged number at (rest t (readField (stateIn (settingOf t o width inh syn) a rs cds r c) at (kindOf (byte t at)) (bodyAt t at size)) (at + 3 + size))
+  pub whole : number ≡ 0 → Whole t at size
+  pub kinds : number ≡ 0 → (byte t at ≡ 4 → ⊥) → byte t at ≡ 5
+  pub target : number ≡ 0 → byte t at ≡ 4 → (2 ≤ size) × (byte t (at + 3) < 13) × (1 ≤ byte t (at + 4)) × (byte t (at + 4) ≤ 8)
+
+-- the note after each field: exactly the occurrences that the production's rules have set so far
+abbrev pub Walked : Setting → ℕ → ℕ → ℕ → List ℕ → ℕ → ℕ → ℕ → Type 0
+Walked g from r₀ c₀ note at r c =
+    (a : Around g)
+    → (rs : List (Rule Occurrence)) × (cds : List (Condition Occurrence)) × Noted note rs
+    × (rest (g .table) (stateIn g a [] [] r₀ c₀) from ≡ rest (g .table) (stateIn g a rs cds r c) at)
+
+-- all rules and conditions of a production read, or a refusal
+abbrev pub UsesRead : Setting → ℕ → ℕ → ℕ → Uses → Type 0
+UsesRead g from r₀ c₀ u =
+    (a : Around g)
+    → (rs : List (Rule Occurrence)) × (cds : List (Condition Occurrence))
+    × (rest (g .table) (stateIn g a [] [] r₀ c₀) from ≡ judged (u .number) (u .at) (rest (g .table) (stateIn g a rs cds (u .rules) (u .conditions)) (u .at)))
+    × (u .number ≡ 0 → lastComplete (stateIn g a rs cds (u .rules) (u .conditions)) ≡ true)
+
+-- where the next production starts
+pub record Next (t : List ℕ) (from : ℕ) (u : Uses) : Type 0 where
+  pub after : from ≤ u .at
+  pub inside : u .at ≤ length t
+  pub over : Over t (u .at)
+  pub rules : u .rules ≤ u .at
+  pub conditions : u .conditions ≤ u .at
+
+-- the end of a production: a missing rule, or the next offset
+abbrev pub endOf : Bool → ℕ → ℕ → ℕ → ℕ → Uses
+endOf true offset at r c = record { number = 0; at = at; rules = r; conditions = c }
+endOf false offset at r c = record { number = 8; at = offset; rules = r; conditions = c }
