@@ -6,3 +6,4 @@ pub mod Passing
 pub mod Predicting
 pub mod Entering
 pub mod Advancing
+pub mod Calling

@@ -111,21 +111,25 @@ module _ {g : Grammar} {ws : List ℕ} {lent : Lent} {m : List ℤ} {ps : List �
 
 -- ---- where a place goes on
 
+-- the whole segment's place says its address; any other waits
+abbrev pub Waiting : Grammar → ℕ → Type 0
+Waiting g place = (place / 256 ≡ whole → ⊥) → T (placeWaits g place)
+
 pub record Resumes (ws : List ℕ) (place : ℕ) : Type 0 where
   pub grammar : Grammar
   pub begins : Begins grammar ws
   pub wellFormed : WellFormed grammar
-  pub waiting : T (placeWaits grammar place)
+  pub waiting : Waiting grammar place
 
-module _ {g : Grammar} {ws : List ℕ} (b : Begins g ws) (w : WellFormed g) (q : ℕ) (t : T (placeWaits g q)) where
+module _ {g : Grammar} {ws : List ℕ} (b : Begins g ws) (w : WellFormed g) (q : ℕ) (t : Waiting g q) where
   abbrev production : ℕ
   production = q / 256
 
   abbrev bodyWord : ℕ
   bodyWord = getD ws 2 0 + 8 * production + 4
 
-  waits-split : T (isListed g production) × T (ltb (q % 256) (length (productionAt g production .right)))
-  waits-split = both (isListed g production) (ltb (q % 256) (length (productionAt g production .right))) t
+  waits-split : (production ≡ whole → ⊥) → T (isListed g production) × T (ltb (q % 256) (length (productionAt g production .right)))
+  waits-split n = both (isListed g production) (ltb (q % 256) (length (productionAt g production .right))) (t n)
 
   -- the words that are read, in the program, and the address they give
   pub record Resumed : Type 0 where
@@ -134,11 +138,11 @@ module _ {g : Grammar} {ws : List ℕ} (b : Begins g ws) (w : WellFormed g) (q :
     pub address : getD ws (getD ws bodyWord 0 + q % 256) 0 ≡ placeAddress g q
 
   pub resumed : (production ≡ whole → ⊥) → Resumed
-  resumed n = go (or-cases (ltb production (length (g .productions))) (eqb production whole) (waits-split .0))
+  resumed n = go (or-cases (ltb production (length (g .productions))) (eqb production whole) (waits-split n .0))
     where
       listed-at : production < length (g .productions) → Resumed
       listed-at l =
-          let k = ltb→lt (q % 256) (length (productionAt g production .right)) (waits-split .1) in
+          let k = ltb→lt (q % 256) (length (productionAt g production .right)) (waits-split n .1) in
           let records = segment-words b .records in
           let isBody : getD ws bodyWord 0 ≡ bodyAddress g production = ap (λ a. getD ws a 0) (omega arith) ∙ record-words b w production l .body in
           record {
@@ -255,13 +259,13 @@ module _ {g : Grammar} {ws : List ℕ} {lent : Lent} {m : List ℤ} {ps : List �
     popped-small = let k = r .somePlaces in omega (arith, laid-read popped 1 (omega arith) (omega arith), r .parent .small)
 
     pub resumes : Resumes ws place
-    resumes = record { grammar = g; begins = h .begins; wellFormed = h .wellFormed; waiting = r .parent .waiting }
+    resumes = record { grammar = g; begins = h .begins; wellFormed = h .wellFormed; waiting = λ n. r .parent .waiting }
 
     -- where the place below goes on, by what was read of it
-    pub resumed-at : (q a : ℕ) → q ≡ getD ps (run .places - 1 - 1) 0 → ((g : Grammar) → Begins g ws → WellFormed g → T (placeWaits g q) → a ≡ placeAddress g q) → a ≡ placeAddress g place
+    pub resumed-at : (q a : ℕ) → q ≡ getD ps (run .places - 1 - 1) 0 → ((g : Grammar) → Begins g ws → WellFormed g → Waiting g q → a ≡ placeAddress g q) → a ≡ placeAddress g place
     resumed-at q a e f =
         let is : q ≡ place = e ∙ r .isPlace in
-        f g (h .begins) (h .wellFormed) (subst (λ j. T (placeWaits g j)) (sym is) (r .parent .waiting)) ∙ ap (placeAddress g) is
+        f g (h .begins) (h .wellFormed) (λ n. subst (λ j. T (placeWaits g j)) (sym is) (r .parent .waiting)) ∙ ap (placeAddress g) is
 
     leaves : (look : Look) → run .moves < movesLimit → next g lent look c ≡ moved left
     leaves look limit = next-is h look (r .hand) limit ∙ ap (λ fs. step c (parentOnward fs) (drop removedHere (c .registers))) (r .parent .frames)

@@ -3,10 +3,8 @@ ghost use Prim.Native.Nat.{ℕ, _+_, _-_, _/_, _%_, _≤_, _<_};
 ghost use mathlib.Core.Path.{_≡_};
 ghost use mathlib.Core.Bool.{true, _&&_};
 ghost use mathlib.Core.List.{List};
-ghost use lib.Dec.{T};
 ghost use lib.IntN.{ℤ};
 ghost use lib.ListN.{length, getD};
-ghost use Rattle.meaning.specs.Calls.{placeWaits};
 ghost use Rattle.meaning.specs.Grammar.{Grammar, Look};
 ghost use Rattle.meaning.specs.Machine as Machine;
 ghost use Rattle.meaning.specs.Rules.{WellFormed};
@@ -16,7 +14,7 @@ ghost use Rattle.theory_program.specs.Search.{found};
 ghost use Rattle.registers.specs.Stack.{stack};
 ghost use Rattle.machine.specs.Held.{Ready, Answers};
 ghost use Rattle.machine.specs.Moves.{countIf, passed};
-ghost use Rattle.machine.specs.Passing.{lookOf, Resumes};
+ghost use Rattle.machine.specs.Passing.{lookOf, Waiting, Resumes};
 ghost use Rattle.machine.specs.Advancing as Advancing;
 ghost use Rattle.machine.specs.Advancing.{Running, Advances, stopsAt};
 ghost use Rattle.machine.specs.Predicting.{recordOf, holdsAt, entersAt, Entry, Leads, Led};
@@ -82,10 +80,10 @@ fn pass(places: &mut [u32], height: usize, program: &[u32], at: usize)
     count(places, height);
 }
 
-// The address of the expect at which a place waits. 01: "the whole segment is production 128".
-fn resume(program: &[u32], place: usize) -> usize
+// The address from which a place goes on: that of the expect at which it waits. 01: "the whole segment is production 128".
+pub fn resume(program: &[u32], place: usize) -> usize
     requires { ⌜ Resumes (now program) place ⌝ }
-    ensures { λ r. ⌜ ((g : Grammar) → Begins g (now (program .entry)) → WellFormed g → T (placeWaits g place) → r ≡ placeAddress g place) ⌝ }
+    ensures { λ r. ⌜ ((g : Grammar) → Begins g (now (program .entry)) → WellFormed g → Waiting g place → r ≡ placeAddress g place) ⌝ }
 {
     let production = place / 256;
     if production == 128 {
