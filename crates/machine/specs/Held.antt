@@ -59,6 +59,10 @@ pub record Bounds (ws : List ℕ) (m : List ℤ) (ps : List ℕ) (run : Run) : T
 
 -- ---- what a move answers
 
+-- the run with one move more
+abbrev pub afterMove : Run → ℕ → Run
+afterMove run a = record { tokens = run .tokens; moves = run .moves + 1; registers = run .registers; places = run .places; at = a }
+
 -- a step for an outcome, from memory m and ps to m′ and ps′: a refused move changes nothing
 abbrev pub Made : Grammar → List ℕ → Lent → Outcome → List ℤ → List ℕ → List ℤ → List ℕ → Step → Type 0
 Made g ws lent o m ps m′ ps′ (Moved run) = (d : Config) × (o ≡ moved d) × Held g ws lent m′ ps′ run d

@@ -12,7 +12,7 @@ ghost use Rattle.theory_program.specs.Addresses.{Begins};
 ghost use Rattle.theory_program.specs.Resuming.{placeAddress};
 ghost use Rattle.theory_program.specs.Search.{found};
 ghost use Rattle.registers.specs.Stack.{stack};
-ghost use Rattle.machine.specs.Held.{Ready, Answers};
+ghost use Rattle.machine.specs.Held.{afterMove, Ready, Answers};
 ghost use Rattle.machine.specs.Moves.{countIf, passed};
 ghost use Rattle.machine.specs.Passing.{lookOf, Waiting, Resumes};
 ghost use Rattle.machine.specs.Advancing as Advancing;
@@ -38,6 +38,14 @@ pub enum Step {
 pub enum Ended {
     Stopped(Run),
     Failed(Run, u32),
+}
+
+// The run after one move more, whose next instruction stands at `at`.
+fn counted(run: Run, at: usize) -> Run
+    requires { ⌜ run .moves < Machine.movesLimit ⌝ }
+    ensures { λ r. ⌜ r ≡ afterMove run at ⌝ }
+{
+    Run { tokens: run.tokens, moves: run.moves + 1, registers: run.registers, places: run.places, at }
 }
 
 // ---- words and places
@@ -104,13 +112,9 @@ fn add(registers: &[i64], program: &[u32], run: Run) -> Step
     if registers.len() - run.registers < n {
         return Step::Blocked(31);
     }
-    Step::Moved(Run {
-        tokens: run.tokens,
-        moves: run.moves + 1,
-        registers: run.registers + n,
-        places: run.places,
-        at: run.at + 1,
-    })
+    let mut next = counted(run, run.at + 1);
+    next.registers = run.registers + n;
+    Step::Moved(next)
 }
 
 // ---- evaluate
@@ -122,13 +126,7 @@ fn evaluate(registers: &mut [i64], program: &[u32], run: Run) -> Step
 {
     let n = word_at(program, run.at) / 8;
     if registers::evaluate(registers, run.registers, program, run.at + 1, n) {
-        return Step::Moved(Run {
-            tokens: run.tokens,
-            moves: run.moves + 1,
-            registers: run.registers,
-            places: run.places,
-            at: run.at + 1 + 2 * n,
-        });
+        return Step::Moved(counted(run, run.at + 1 + 2 * n));
     }
     Step::Blocked(23)
 }
@@ -143,13 +141,9 @@ fn read(places: &mut [u32], program: &[u32], run: Run, look: usize) -> Step
         return Step::Blocked(unexpected(look));
     }
     pass(places, run.places, program, run.at + 1);
-    Step::Moved(Run {
-        tokens: run.tokens + 1,
-        moves: run.moves + 1,
-        registers: run.registers,
-        places: run.places,
-        at: run.at + 1,
-    })
+    let mut next = counted(run, run.at + 1);
+    next.tokens = run.tokens + 1;
+    Step::Moved(next)
 }
 
 // ---- test
@@ -162,13 +156,7 @@ fn test(registers: &[i64], places: &mut [u32], program: &[u32], run: Run) -> Ste
     let n = word_at(program, run.at) / 8;
     if registers::test(registers, run.registers, program, run.at + 1, n) {
         count(places, run.places);
-        return Step::Moved(Run {
-            tokens: run.tokens,
-            moves: run.moves + 1,
-            registers: run.registers,
-            places: run.places,
-            at: run.at + 1 + 3 * n,
-        });
+        return Step::Moved(counted(run, run.at + 1 + 3 * n));
     }
     Step::Blocked(22)
 }
@@ -187,13 +175,10 @@ fn remove(registers: &mut [i64], places: &mut [u32], program: &[u32], run: Run) 
     let at = resume(program, waiting) + 1;
     places[height] = 0;
     pass(places, height, program, at);
-    Step::Moved(Run {
-        tokens: run.tokens,
-        moves: run.moves + 1,
-        registers: run.registers - n,
-        places: height,
-        at,
-    })
+    let mut next = counted(run, at);
+    next.registers = run.registers - n;
+    next.places = height;
+    Step::Moved(next)
 }
 
 // ---- predict
@@ -280,13 +265,9 @@ fn predict(registers: &[i64], places: &mut [u32], program: &[u32], run: Run, loo
         return Step::Blocked(32);
     }
     places[height] = (256 * (p - 1)) as u32;
-    Step::Moved(Run {
-        tokens: run.tokens,
-        moves: run.moves + 1,
-        registers: run.registers,
-        places: height + 1,
-        at: word_at(program, record_of(program, p) + 6),
-    })
+    let mut next = counted(run, word_at(program, record_of(program, p) + 6));
+    next.places = height + 1;
+    Step::Moved(next)
 }
 
 // ---- one move
