@@ -1,17 +1,17 @@
 -- Moves until the token at hand is read, or the start symbol is left, and then until one needs what comes next.
-use Prim.Native.Nat.{ℕ, zero, suc, _+_, _-_, _%_, _≤_, _<_}
+use Prim.Native.Nat.{ℕ, suc, _-_, _%_, _≤_, _<_}
 use native.Mathlib.Omega.{arith}
 use mathlib.Core.Path.{_≡_, refl, sym, ap, ap₂, _∙_, subst, subst₂}
 use mathlib.Core.Bool.{Bool, true, false, _&&_, _||_}
 use mathlib.Core.List.{List, [], _∷_}
-use lib.ListN.{length, getD}
-use lib.Dec.{T, eqb, ltb, leb}
+use lib.ListN.{getD}
+use lib.Dec.{eqb, ltb}
 use lib.IntN.{ℤ}
 use borrow.Author.Tests.{le-leb}
 use Rattle.meaning.specs.Base.{isEmpty}
 use Rattle.meaning.specs.Grammar.{Grammar, terminal, nonterminal, whole}
 use Rattle.meaning.specs.Scheme.{Instruction, add, evaluate, expect, test, remove}
-use Rattle.meaning.specs.Machine.{Frame, Config, Lent, Look, token, over, Outcome, moved, blocked, chooseOutcome, next, nextOf, move, unexpected, needsLook, waits, isFinished, isDone, Settled, stopped, failed, advance, advanceFrom, movesLimit}
+use Rattle.meaning.specs.Machine.{Frame, Config, Lent, Look, blocked, chooseOutcome, next, nextOf, move, unexpected, needsLook, waits, isFinished, isDone, Settled, stopped, failed, advance, advanceFrom, movesLimit}
 use Rattle.meaning.specs.Part.{frame}
 use Rattle.theory_answers.specs.Bounds.{counts}
 use Rattle.theory_base.specs.Steps.{advance-stopped, advance-failed, advance-moved}
@@ -20,7 +20,7 @@ use Rattle.machine.specs.declared.Run.{Run}
 use Rattle.machine.specs.declared.Step.the-variants.{Moved, Blocked}
 use Rattle.machine.specs.declared.Ended as Ended
 use Rattle.machine.specs.declared.Ended.the-variants.{Stopped, Failed}
-use Rattle.machine.specs.Held.{Held, Made, Answers, AtHand, some, nothing, at-hand}
+use Rattle.machine.specs.Held.{Held, Answers, AtHand, some, nothing, at-hand}
 use Rattle.machine.specs.Passing.{lookIf, lookOf}
 
 -- what is answered for what the machine settles in

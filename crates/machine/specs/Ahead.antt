@@ -2,14 +2,14 @@
 use Prim.Native.Nat.{ℕ, zero, suc, _+_, _-_, _*_, _/_, _%_, _≤_, _<_}
 use native.Mathlib.Omega.{arith}
 use mathlib.Core.Path.{_≡_, refl, sym, ap, _∙_, subst}
-use mathlib.Core.Logic.{_⊎_, inl, inr}
+use mathlib.Core.Logic.{inr}
 use mathlib.Core.Bool.{Bool, true, false, not}
-use mathlib.Core.List.{List, [], _∷_, _++_, map, append-assoc, append-nil}
+use mathlib.Core.List.{List, [], _∷_, _++_, append-assoc, append-nil}
 use lib.ListN.{length, getD, drop}
 use lib.Dec.{T, eqb, eqb→eq, ltb, ltb→lt}
-use Rattle.meaning.specs.Base.{In, consIf, isEmpty}
-use Rattle.meaning.specs.Grammar.{Symbol, terminal, nonterminal, Condition, Rule, Production, Grammar, att, productionAt, whole}
-use Rattle.meaning.specs.Scheme.{Instruction, add, evaluate, expect, test, remove, scheme, symbolsScheme, symbolScheme, inheritedRules, synthesizedRules, testsAfter, removed, choose}
+use Rattle.meaning.specs.Base.{consIf, isEmpty}
+use Rattle.meaning.specs.Grammar.{Symbol, terminal, nonterminal, Condition, Production, Grammar, att, productionAt, whole}
+use Rattle.meaning.specs.Scheme.{Instruction, add, evaluate, expect, test, remove, scheme, symbolsScheme, inheritedRules, synthesizedRules, testsAfter, removed, choose}
 use Rattle.meaning.specs.Rules.{WellFormed}
 use Rattle.meaning.specs.Machine.{Frame, schemeIf, schemeAt, isExpect, expects, pendingTest, placeOf}
 use Rattle.meaning.specs.Part.{frame}
@@ -18,8 +18,8 @@ use Rattle.meaning.specs.Program.{instructionWords, schemeWords, segmentWords, 
 use Rattle.theory_base.specs.Members.{both}
 use Rattle.theory_base.specs.WellFormed.{not-whole}
 use Rattle.theory_base.specs.Frames.{scheme-listed}
-use Rattle.theory_program.specs.Stands.{Stands, stands-at, stands-left, stands-right, stands-word, stands-within}
-use Rattle.theory_program.specs.Code.{CodeAt, operation, code-head}
+use Rattle.theory_program.specs.Stands.{Stands, stands-left, stands-right, stands-word, stands-within}
+use Rattle.theory_program.specs.Code.{CodeAt, operation}
 use Rattle.theory_program.specs.Addresses.{Begins, schemeAddress, expectAddress, scheme-at, segment-at, expects-scheme}
 use Rattle.theory_program.specs.Proper.{AllProper, production-in, scheme-proper}
 use Rattle.theory_program.specs.Resuming.{placeAddress, place-code, place-proper}

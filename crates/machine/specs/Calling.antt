@@ -1,19 +1,18 @@
 -- What a call hands to the machine and has back from it: a record and stacks that fit are held, and what is held is what the call leaves.
-use Prim.Native.Nat.{ℕ, zero, suc, _+_, _-_, _*_, _/_, _%_, _≤_, _<_, min}
+use Prim.Native.Nat.{ℕ, zero, suc, _+_, _-_, _*_, _/_, _%_, _≤_, _<_}
 use native.Mathlib.Omega.{arith}
 use mathlib.Core.Path.{_≡_, refl, sym, ap, ap₂, _∙_, subst}
 use mathlib.Core.Logic.{_⊎_, inl, inr}
 use mathlib.Core.Bool.{Bool}
 use mathlib.Core.List.{List, [], _∷_, _++_, map, reverse}
-use lib.ListN.{length, getD, take, drop, replicate, length-drop, length-replicate, length-map}
+use lib.ListN.{length, getD, drop, replicate, length-drop, length-replicate, length-map}
 use lib.Dec.{T, eqb, eqb-refl, ltb, lt→ltb}
 use lib.IntN.{ℤ}
 use Rattle.meaning.specs.Grammar.{Grammar, Symbol, productionAt, whole}
 use Rattle.meaning.specs.Value.{mark}
 use Rattle.meaning.specs.Scheme.{expect}
 use Rattle.meaning.specs.Rules.{WellFormed}
-use Rattle.meaning.specs.Machine.{Config, placeOf, schemeAt, tokensLimit, movesLimit}
-use Rattle.meaning.specs.Part.{frame}
+use Rattle.meaning.specs.Machine.{Config, placeOf}
 use Rattle.meaning.specs.Calls.{Record, Stacks, lentOf, lay, layAll, frameOf, isListed, placeWaits, configOf, recordOf}
 use Rattle.meaning.specs.Fit.{WaitsAt, segment, inside, Left, Fit}
 use Rattle.theory_base.specs.Members.{and, or-left, or-right, no-elements}
@@ -22,11 +21,11 @@ use Rattle.theory_answers.specs.Memory.{places-back}
 use Rattle.theory_program.specs.Addresses.{Begins}
 use Rattle.theory_program.specs.Resuming.{placeAddress}
 use Rattle.registers.specs.Stack.{stack, stack-read}
-use Rattle.registers.specs.Laid.{Laid, laid-found}
+use Rattle.registers.specs.Laid.{laid-found}
 use Rattle.machine.specs.declared.Run.{Run}
 use Rattle.machine.specs.Laid.{LaidIn}
 use Rattle.machine.specs.Ahead.{Ahead, ahead-next, ahead-place}
-use Rattle.machine.specs.Held.{Held, topFrame}
+use Rattle.machine.specs.Held.{Held}
 use Rattle.machine.specs.Passing.{Waiting, Resumes}
 
 -- ---- cells of which all are lent

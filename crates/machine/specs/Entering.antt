@@ -6,22 +6,20 @@ use mathlib.Core.Logic.{inl}
 use mathlib.Core.Bool.{Bool, true, false}
 use mathlib.Core.List.{List, [], _∷_, map}
 use lib.ListN.{length, getD, set, length-map}
-use lib.Dec.{T, ltb}
+use lib.Dec.{T}
 use lib.IntN.{ℤ}
 use borrow.Author.Tests.{lt-ltb, le-ltb}
 use Rattle.meaning.specs.Base.{In, keep, isEmpty, countFrom}
 use Rattle.meaning.specs.Grammar.{Grammar, nonterminal, productionAt}
-use Rattle.meaning.specs.Scheme.{expect, scheme}
-use Rattle.meaning.specs.Rules.{WellFormed}
+use Rattle.meaning.specs.Scheme.{expect}
 use Rattle.meaning.specs.Sets.{has, starts}
-use Rattle.meaning.specs.Machine.{Config, Lent, lookNumber, Outcome, moved, blocked, chooseOutcome, step, next, push, unexpected, isOf, alternatives, entered, placeOf, schemeAt, expects, pendingTest, movesLimit}
+use Rattle.meaning.specs.Machine.{Config, Lent, lookNumber, moved, blocked, chooseOutcome, step, next, push, unexpected, isOf, alternatives, entered, placeOf, schemeAt, movesLimit}
 use Rattle.meaning.specs.Part.{frame, config}
 use Rattle.meaning.specs.Program.{directoryWord}
 use Rattle.theory_base.specs.Members.{T→true, in-keep, from-in}
-use Rattle.theory_base.specs.Frames.{scheme-listed}
 use Rattle.theory_answers.specs.ShapeMoves.{shape-move}
 use Rattle.theory_program.specs.Stands.{stands-within}
-use Rattle.theory_program.specs.Addresses.{Begins, record-at, directory-at, expects-scheme, schemeAddress}
+use Rattle.theory_program.specs.Addresses.{record-at, directory-at, schemeAddress}
 use Rattle.theory_program.specs.Search.{firstNumber, first-none, first-some, directory-none, directory-listed, found, found-start}
 use Rattle.registers.specs.Stack.{stack}
 use Rattle.registers.specs.Laid.{laid-stack, laid-push}
@@ -29,7 +27,7 @@ use Rattle.machine.specs.declared.Run.{Run}
 use Rattle.machine.specs.declared.Step.the-variants.{Moved, Blocked}
 use Rattle.machine.specs.Laid.{LaidIn, laid-size}
 use Rattle.machine.specs.Ahead.{Ahead, ahead-scheme, place-begins}
-use Rattle.machine.specs.Held.{Held, Made, Hand, hand-nonterminal, hand-proper, bounds, next-is}
+use Rattle.machine.specs.Held.{Held, Made, Hand, hand-nonterminal, hand-proper, next-is}
 use Rattle.machine.specs.Passing.{lookOf, look-number}
 use Rattle.machine.specs.Predicting.{recordOf, holdsAt, holds-here, at-record, at-scheme, Leads, Led}
 
@@ -156,16 +154,19 @@ module _ {g : Grammar} {ws : List ℕ} {lent : Lent} {m : List ℤ} {ps : List �
           let d : Config = config (frame q (schemeAt g q) ∷ c .frames) (c .registers) (c .tokens) (suc (c .moves)) in
           let e : next g lent (lookOf u) c ≡ moved d = entering .pushed ∙ ap (λ b. chooseOutcome b (blocked 32) (moved d)) (le-ltb (lent .maxPlaces) (suc (length (c .frames))) (omega arith)) in
           let place : v ≡ placeOf g (frame q (schemeAt g q)) = isPlace ∙ (omega (arith, entering .number, place-begins g (h .wellFormed) q listed)) in
-          let address : schemeAddress g q ≡ getD ws (recordOf ws p + 6) 0 = sym (ap (λ j. getD ws (recordOf ws j + 6) 0) (entering .number) ∙ at-scheme (h .begins) (h .wellFormed) (c .registers) q listed) in
-          (d, e, record {
-            wellFormed = h .wellFormed;
-            begins = h .begins;
-            shaped = shape-move g (h .wellFormed) lent (lookOf u) c d (h .shaped) e;
-            registers = h .registers;
-            places = subst (λ y. LaidIn 0 (lent .maxPlaces) (set ps (run .places) v) (run .places + 1) (y ∷ map (placeOf g) (c .frames))) place (laid-push (h .places) v (omega arith));
-            ahead = subst (λ a. Ahead g ws a (frame q (schemeAt g q))) address (ahead-scheme (h .begins) (h .wellFormed) q listed);
-            tokens = h .tokens;
-            moves = omega arith;
-            fewMoves = omega arith;
-            fewTokens = omega arith;
-          })
+          let address : schemeAddress g q ≡ getD ws (recordOf ws p + 6) 0 = sym (ap (λ j. getD ws (recordOf ws j + 6) 0) (entering .number) ∙ at-scheme (h .begins) (h .wellFormed) (c .registers) q listed) in (
+            d,
+            e,
+            record {
+              wellFormed = h .wellFormed;
+              begins = h .begins;
+              shaped = shape-move g (h .wellFormed) lent (lookOf u) c d (h .shaped) e;
+              registers = h .registers;
+              places = subst (λ y. LaidIn 0 (lent .maxPlaces) (set ps (run .places) v) (run .places + 1) (y ∷ map (placeOf g) (c .frames))) place (laid-push (h .places) v (omega arith));
+              ahead = subst (λ a. Ahead g ws a (frame q (schemeAt g q))) address (ahead-scheme (h .begins) (h .wellFormed) q listed);
+              tokens = h .tokens;
+              moves = omega arith;
+              fewMoves = omega arith;
+              fewTokens = omega arith;
+            },
+          )

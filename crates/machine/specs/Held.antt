@@ -1,12 +1,10 @@
 -- A run in memory: how the lent stacks, the program's words and the run's numbers hold a configuration, and what it is to answer with a move.
-use Prim.Native.Nat.{ℕ, suc, _+_, _/_, _%_, _≤_, _<_}
+use Prim.Native.Nat.{ℕ, _+_, _/_, _%_, _≤_, _<_}
 use native.Mathlib.Omega.{arith}
 use mathlib.Core.Path.{_≡_, refl, sym, ap, _∙_, subst}
 use mathlib.Core.Logic.{inl}
-use mathlib.Core.Bool.{Bool, true, false}
 use mathlib.Core.List.{List, [], _∷_, map, cons≢nil}
 use lib.ListN.{length, getD, length-map}
-use lib.Dec.{leb}
 use borrow.Author.Tests.{lt-leb}
 use lib.IntN.{ℤ}
 use Rattle.meaning.specs.Grammar.{Grammar, Rule, Condition, terminal, nonterminal, whole}
@@ -17,12 +15,12 @@ use Rattle.meaning.specs.Machine.{Frame, Config, Lent, Look, Outcome, moved, bl
 use Rattle.meaning.specs.Part.{frame, config}
 use Rattle.meaning.specs.Program.{schemeWords}
 use Rattle.meaning.specs.Statements.{Handles}
-use Rattle.theory_answers.specs.Shape.{Due, adds, hands, waits, tests, closes, removes, ends, Shaped}
-use Rattle.theory_answers.specs.ShapeMoves.{ShapedAt, shape-move}
+use Rattle.theory_answers.specs.Shape.{Due, adds, hands, waits, tests, closes, removes, ends}
+use Rattle.theory_answers.specs.ShapeMoves.{ShapedAt}
 use Rattle.theory_answers.specs.Handling.{handles}
 use Rattle.theory_program.specs.Addresses.{Begins}
 use Rattle.theory_program.specs.Stands.{stands-within}
-use Rattle.theory_program.specs.Code.{operation, operand, low-operation, code-head, is-add, is-evaluate, is-terminal, is-nonterminal, is-test, is-remove}
+use Rattle.theory_program.specs.Code.{operation, operand, code-head, is-add, is-evaluate, is-terminal, is-nonterminal, is-test, is-remove}
 use Rattle.theory_program.specs.Proper.{ProperInstruction}
 use Rattle.machine.specs.declared.Run.{Run}
 use Rattle.machine.specs.declared.Step.{Step}

@@ -1,36 +1,33 @@
 -- What each move leaves in memory: the new configuration is held, or the number refuses it and nothing changes.
-use Prim.Native.Nat.{ℕ, zero, suc, _+_, _-_, _*_, _/_, _%_, _≤_, _<_}
+use Prim.Native.Nat.{ℕ, suc, _+_, _-_, _*_, _/_, _%_, _≤_, _<_}
 use native.Mathlib.Omega.{arith}
-use mathlib.Core.Path.{_≡_, refl, sym, ap, ap₂, _∙_, subst, subst₂}
-use mathlib.Core.Logic.{_⊎_, inl, inr}
+use mathlib.Core.Path.{_≡_, refl, sym, ap, _∙_, subst}
 use mathlib.Core.Bool.{Bool, true, false, not}
 use mathlib.Core.List.{List, [], _∷_, _++_, map}
-use lib.ListN.{length, getD, set, drop, replicate, length-drop, length-map}
-use lib.Dec.{T, eqb, eqb→eq, ltb, leb}
+use lib.ListN.{length, getD, set, replicate}
+use lib.Dec.{eqb, eqb→eq}
 use lib.IntN.{ℤ}
-use borrow.Author.Tests.{lt-ltb, le-ltb, eq-eqb, ne-eqb}
+use borrow.Author.Tests.{lt-ltb, le-ltb, eq-eqb}
 use Rattle.theory_base.specs.Members.{apart}
 use Rattle.meaning.specs.Base.{all}
-use Rattle.meaning.specs.Grammar.{Grammar, Symbol, terminal, nonterminal, Rule, Condition, productionAt, whole}
-use Rattle.meaning.specs.Value.{mark, holds, inRange, apply}
+use Rattle.meaning.specs.Grammar.{Grammar, Symbol, Rule, Condition, productionAt, whole}
+use Rattle.meaning.specs.Value.{mark, holds}
 use Rattle.meaning.specs.Scheme.{Instruction, add, evaluate, expect, test, remove}
-use Rattle.meaning.specs.Machine.{Frame, Config, Lent, Look, token, over, Outcome, moved, blocked, chooseOutcome, step, next, move, accept, unexpected, onward, parentOnward, readRegister, writeAll, placeOf, pendingTest, isExpect, expects, movesLimit, tokensLimit}
+use Rattle.meaning.specs.Machine.{Config, Lent, Look, moved, blocked, chooseOutcome, step, next, readRegister, writeAll, placeOf, pendingTest, expects, movesLimit}
 use Rattle.meaning.specs.Part.{frame, config}
-use Rattle.meaning.specs.Calls.{frameOf, placeWaits, lay}
 use Rattle.meaning.specs.Program.{instructionWords, schemeWords}
-use Rattle.theory_answers.specs.ShapeMoves.{ShapedAt, shape-move}
-use Rattle.theory_program.specs.Code.{operation, code-head, code-evaluate, code-test, rules-length, conditions-length}
+use Rattle.theory_answers.specs.ShapeMoves.{shape-move}
+use Rattle.theory_program.specs.Code.{code-head, code-evaluate, code-test, rules-length, conditions-length}
 use Rattle.theory_program.specs.Stands.{stands-within}
 use Rattle.registers.specs.Stack.{stack, stack-laid}
 use Rattle.registers.specs.Laid.{laid-write, laid-add}
 use Rattle.registers.specs.Moves.{test-ready, test-done, evaluate-ready, evaluate-done}
 use Rattle.registers.specs.Read.{rulesFrom, conditionsFrom, Tests, Evaluates, valuesFit, afterRules, Evaluated}
 use Rattle.machine.specs.declared.Run.{Run}
-use Rattle.machine.specs.declared.Step.{Step}
 use Rattle.machine.specs.declared.Step.the-variants.{Moved, Blocked}
 use Rattle.machine.specs.Laid.{LaidIn, laid-size, laid-read}
-use Rattle.machine.specs.Ahead.{Ahead, Ordered, ahead-code, ahead-next, ahead-over, place-same, place-tested, place-passed, place-pending, pending-word, no-pending-word}
-use Rattle.machine.specs.Held.{Held, Made, Hand, topFrame, shaped-over, hand-add, hand-terminal, hand-test, hand-evaluate, hand-remove, hand-proper, bounds, next-is}
+use Rattle.machine.specs.Ahead.{Ahead, ahead-code, ahead-next, ahead-over, place-same, place-tested, place-passed, place-pending, pending-word, no-pending-word}
+use Rattle.machine.specs.Held.{Held, Made, Hand, hand-add, hand-test, hand-evaluate, hand-proper, bounds, next-is}
 
 -- ---- places
 

@@ -1,31 +1,30 @@
 -- Moves that pass a symbol: the read of a token, and the remove, after which the place below goes on.
-use Prim.Native.Nat.{ℕ, zero, suc, _+_, _-_, _*_, _/_, _%_, _≤_, _<_}
+use Prim.Native.Nat.{ℕ, suc, _+_, _-_, _*_, _/_, _%_, _≤_, _<_}
 use native.Mathlib.Omega.{arith}
-use mathlib.Core.Path.{_≡_, refl, sym, ap, ap₂, _∙_, subst, subst₂}
+use mathlib.Core.Path.{_≡_, refl, sym, ap, _∙_, subst}
 use mathlib.Core.Logic.{_⊎_, inl, inr}
-use mathlib.Core.Bool.{Bool, true, false, not}
-use mathlib.Core.List.{List, [], _∷_, _++_, map}
-use lib.ListN.{length, getD, set, drop, length-drop, length-map}
+use mathlib.Core.Bool.{Bool, true, false}
+use mathlib.Core.List.{List, [], _∷_, map}
+use lib.ListN.{length, getD, set, drop}
 use lib.Dec.{T, eqb, eqb→eq, eqb-refl, ltb, ltb→lt, lt→ltb}
 use lib.IntN.{ℤ}
 use borrow.Author.Tests.{eq-eqb, ne-eqb}
 use Rattle.meaning.specs.Grammar.{Grammar, Symbol, terminal, nonterminal, productionAt, whole}
 use Rattle.meaning.specs.Value.{mark}
-use Rattle.meaning.specs.Scheme.{Instruction, add, evaluate, expect, test, remove, choose}
+use Rattle.meaning.specs.Scheme.{Instruction, expect, remove, choose}
 use Rattle.meaning.specs.Rules.{WellFormed}
-use Rattle.meaning.specs.Machine.{Frame, Config, Lent, Look, token, over, lookNumber, moved, blocked, chooseOutcome, step, next, accept, unexpected, parentOnward, placeOf, expects, pendingTest, movesLimit, tokensLimit}
+use Rattle.meaning.specs.Machine.{Frame, Config, Lent, Look, token, over, lookNumber, moved, blocked, chooseOutcome, step, next, accept, unexpected, parentOnward, placeOf, expects, movesLimit}
 use Rattle.meaning.specs.Part.{frame, config, waitRest, leftRest}
 use Rattle.meaning.specs.Calls.{frameOf, isListed, placeWaits, lay}
-use Rattle.meaning.specs.Program.{recordsAddress}
 use Rattle.theory_base.specs.Members.{apart, and, or-left, or-right, or-cases, both}
 use Rattle.theory_base.specs.Values.{drop-head}
 use Rattle.theory_base.specs.Frames.{place-waits}
-use Rattle.theory_answers.specs.Shape.{Due, adds, hands, waits, tests, closes, removes, ends, Stands, segment, inside, Shaped}
+use Rattle.theory_answers.specs.Shape.{Due, adds, hands, waits, tests, closes, removes, ends, Stands, segment, inside}
 use Rattle.theory_answers.specs.ShapeMemory.{listed, short, place-short, place-back}
-use Rattle.theory_answers.specs.ShapeMoves.{ShapedAt, shape-move}
+use Rattle.theory_answers.specs.ShapeMoves.{shape-move}
 use Rattle.theory_program.specs.Code.{operation}
 use Rattle.theory_program.specs.Stands.{stands-within}
-use Rattle.theory_program.specs.Addresses.{Begins, recordAddress, bodyAddress, expectAddress, record-at, body-at, body-length, expect-word}
+use Rattle.theory_program.specs.Addresses.{Begins, bodyAddress, expectAddress, record-at, body-at, body-length, expect-word}
 use Rattle.theory_program.specs.Records.{segment-words, record-words}
 use Rattle.theory_program.specs.Resuming.{placeAddress}
 use Rattle.registers.specs.Stack.{stack}
@@ -35,7 +34,7 @@ use Rattle.machine.specs.declared.Step.the-variants.{Moved, Blocked}
 use Rattle.machine.specs.Laid.{LaidIn, laid-read, laid-pop}
 use Rattle.machine.specs.Ahead.{Ahead, ahead-next, ahead-place}
 use Rattle.machine.specs.Held.{Held, Made, Hand, topFrame, shaped-over, hand-terminal, hand-remove, hand-proper, bounds, next-is}
-use Rattle.machine.specs.Moves.{countIf, passed, follows, passed-laid, top-laid, after, onward-held}
+use Rattle.machine.specs.Moves.{passed, follows, passed-laid, top-laid, after, onward-held}
 
 -- ---- what comes next, by its number: 63 is the end
 
@@ -292,16 +291,19 @@ module _ {g : Grammar} {ws : List ℕ} {lent : Lent} {m : List ℤ} {ps : List �
         let rs : List ℤ = drop removedHere (c .registers) in
         let few : 1 + expects (y .rest) ≤ length (productionAt g (y .production) .right) = omega (arith, parent-ahead .few) in
         let next-ahead : Ahead g ws (a + 1) (frame (y .production) (y .rest)) = subst (λ j. Ahead g ws (j + 1) (frame (y .production) (y .rest))) (sym isAt) parent-next in
-        let e = leaves look limit in
-        (left, e, record {
-          wellFormed = h .wellFormed;
-          begins = h .begins;
-          shaped = shape-move g (h .wellFormed) lent look c left (h .shaped) e;
-          registers = subst (λ cells. LaidIn mark (lent .maxRegisters) cells (run .registers - removedHere) rs) (sym isRegisters) (laid-remove (h .registers) removedHere (r .fits));
-          places = subst (λ qs. LaidIn 0 (lent .maxPlaces) qs (run .places - 1) (placeOf g (frame (y .production) (y .rest)) ∷ map (placeOf g) (y .below))) (sym isPlaces) (passed-laid (y .production) (y .symbol) (y .rest) (left-over limit) next-ahead few popped);
-          ahead = next-ahead;
-          tokens = h .tokens;
-          moves = omega arith;
-          fewMoves = omega arith;
-          fewTokens = omega arith;
-        })
+        let e = leaves look limit in (
+          left,
+          e,
+          record {
+            wellFormed = h .wellFormed;
+            begins = h .begins;
+            shaped = shape-move g (h .wellFormed) lent look c left (h .shaped) e;
+            registers = subst (λ cells. LaidIn mark (lent .maxRegisters) cells (run .registers - removedHere) rs) (sym isRegisters) (laid-remove (h .registers) removedHere (r .fits));
+            places = subst (λ qs. LaidIn 0 (lent .maxPlaces) qs (run .places - 1) (placeOf g (frame (y .production) (y .rest)) ∷ map (placeOf g) (y .below))) (sym isPlaces) (passed-laid (y .production) (y .symbol) (y .rest) (left-over limit) next-ahead few popped);
+            ahead = next-ahead;
+            tokens = h .tokens;
+            moves = omega arith;
+            fewMoves = omega arith;
+            fewTokens = omega arith;
+          },
+        )

@@ -1,32 +1,27 @@
 -- Predict: the search along the directory and the next-words by the words of the program, and the push of the production found.
 use Prim.Native.Nat.{ℕ, zero, suc, _+_, _-_, _*_, _/_, _%_, _^_, _≤_, _<_}
 use native.Mathlib.Omega.{arith}
-use mathlib.Core.Path.{_≡_, refl, sym, ap, ap₂, _∙_, subst, subst₂}
+use mathlib.Core.Path.{_≡_, refl, sym, ap, ap₂, _∙_, subst₂}
 use mathlib.Core.Logic.{_↔_}
 use mathlib.Core.Bool.{Bool, true, false, _&&_}
-use mathlib.Core.List.{List, [], _∷_, map}
-use lib.ListN.{length, getD, set, length-map}
-use lib.Dec.{T, eqb, eqb→eq, ltb}
+use mathlib.Core.List.{List}
+use lib.ListN.{length, getD}
+use lib.Dec.{T, eqb}
 use lib.IntN.{ℤ}
-use borrow.Author.Tests.{lt-ltb, le-ltb, eq-eqb, ne-eqb}
-use Rattle.meaning.specs.Base.{In, all, keep, isEmpty}
-use Rattle.meaning.specs.Grammar.{Grammar, Condition, nonterminal, productionAt, whole, nonterminalCount}
+use borrow.Author.Tests.{eq-eqb, ne-eqb}
+use Rattle.meaning.specs.Base.{In, all}
+use Rattle.meaning.specs.Grammar.{Grammar, Condition, productionAt}
 use Rattle.meaning.specs.Value.{holds}
-use Rattle.meaning.specs.Scheme.{expect, entryTests, scheme}
+use Rattle.meaning.specs.Scheme.{entryTests, scheme}
 use Rattle.meaning.specs.Rules.{WellFormed, Reads}
 use Rattle.meaning.specs.Sets.{has, starts}
-use Rattle.meaning.specs.Machine.{Config, Lent, Look, lookNumber, Outcome, moved, blocked, chooseOutcome, next, predict, push, unexpected, alternatives, entered, readRegister, placeOf, schemeAt, expects, pendingTest, movesLimit}
-use Rattle.meaning.specs.Part.{frame, config}
-use Rattle.meaning.specs.Program.{directoryWord, recordsAddress}
-use Rattle.theory_base.specs.Members.{T→true}
-use Rattle.theory_base.specs.Frames.{scheme-listed}
-use Rattle.theory_answers.specs.ShapeMoves.{shape-move}
+use Rattle.meaning.specs.Machine.{next, entered, readRegister}
 use Rattle.theory_program.specs.Stands.{stands-within}
 use Rattle.theory_program.specs.Code.{conditions-length}
-use Rattle.theory_program.specs.Addresses.{Begins, recordAddress, schemeAddress, entryAddress, record-at, entry-at, directory-at, entry-before}
+use Rattle.theory_program.specs.Addresses.{Begins, recordAddress, schemeAddress, entryAddress, record-at, entry-at, entry-before}
 use Rattle.theory_program.specs.Proper.{ProperCondition, production-in, entry-proper}
 use Rattle.theory_program.specs.Records.{segment-words, record-words, set-word}
-use Rattle.theory_program.specs.Search.{firstNumber, first-none, first-some, nextWord, next-listed, directory-none, directory-listed, passes, found, found-start, found-turn, found-stop}
+use Rattle.theory_program.specs.Search.{nextWord, next-listed, passes, found, found-turn, found-stop}
 use Rattle.registers.specs.Read.{Valued, Tests, tests, conditionsFrom, conditions-read}
 use Rattle.machine.specs.Passing.{lookOf, look-number}
 
@@ -147,8 +142,8 @@ module _ {g : Grammar} {ws : List ℕ} {rs : List ℤ} {n p : ℕ} (s : Leads g 
           begins = s .begins;
           wellFormed = s .wellFormed;
           listed = λ q e.
-          let k = next-listed g (s .wellFormed) found-q q below (sym (at-next (s .begins) (s .wellFormed) rs found-q below) ∙ (ap (λ j. getD ws (recordOf ws j + 1) 0) (sym is-suc) ∙ e)) in
-          (k .1, k .2 ∙ at-production z .1 .2);
+              let k = next-listed g (s .wellFormed) found-q q below (sym (at-next (s .begins) (s .wellFormed) rs found-q below) ∙ (ap (λ j. getD ws (recordOf ws j + 1) 0) (sym is-suc) ∙ e)) in
+              (k .1, k .2 ∙ at-production z .1 .2);
           valued = s .valued;
         }
 

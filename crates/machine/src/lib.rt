@@ -45,7 +45,13 @@ fn counted(run: Run, at: usize) -> Run
     requires { ⌜ run .moves < Machine.movesLimit ⌝ }
     ensures { λ r. ⌜ r ≡ afterMove run at ⌝ }
 {
-    Run { tokens: run.tokens, moves: run.moves + 1, registers: run.registers, places: run.places, at }
+    Run {
+        tokens: run.tokens,
+        moves: run.moves + 1,
+        registers: run.registers,
+        places: run.places,
+        at,
+    }
 }
 
 // ---- words and places
@@ -315,7 +321,13 @@ fn stops(operation: usize, look: usize, before: u64, tokens: u64) -> bool
 }
 
 // Moves until the token is read, or at the end (63) the start symbol is left, and all that needs no next token is done.
-pub fn advance(registers: &mut [i64], places: &mut [u32], program: &[u32], run: Run, look: u8) -> Ended
+pub fn advance(
+    registers: &mut [i64],
+    places: &mut [u32],
+    program: &[u32],
+    run: Run,
+    look: u8,
+) -> Ended
     requires { ⌜ Running (now program) (now registers) (now places) run × (look < 64) ⌝ }
     ensures { λ r. ⌜ Advances (now (program .entry)) look (now (registers .entry)) (now (places .entry)) run (now (registers .exit)) (now (places .exit)) r ⌝ }
 {

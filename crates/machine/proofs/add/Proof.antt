@@ -4,36 +4,25 @@ use native.Mathlib.Omega.{arith}
 use borrow.Author.Needs.{needs}
 use Rattle.machine.proofs.add.Statement.{statement}
 use Rattle.machine.proofs.add.Tie as tie
-use Rattle.machine.proofs.add.Reads as reads
-use Rattle.machine.proofs.add.Lts as lts
-use Rattle.machine.proofs.counted.Reads as counted-reads
-use Rattle.machine.proofs.word_at.Reads as word-at-reads
 
--- src/lib.rt:111:13
 word-at-requires : tie.Need-word-at-requires
 word-at-requires c κs = bounds (c .before .pre .1 .held) .inside
 
--- src/lib.rt:112:8
 sub-if1 : tie.Need-sub-if1
 sub-if1 c = bounds (c .before .before .before .pre .1 .held) .registers
 
--- src/lib.rt:113:9
 returns : tie.Need-returns
 returns c = λ ps look g lent d h. let b = c .before .before .before .before .pre .1 in blocked-add h look (b .limit) (b .operation) (omega (arith, c .if1 .taken, bounds h .registers, c .before .before .word-at .ensures .0))
 
--- src/lib.rt:115:33
 add-counted : tie.Need-add-counted
 add-counted c = omega (arith, bounds (c .before .before .before .before .before .pre .1 .held) .inside)
 
--- src/lib.rt:115:9
 counted-requires : tie.Need-counted-requires
 counted-requires c κs = search needs
 
--- src/lib.rt:116:22
 add-next : tie.Need-add-next
 add-next c = search needs
 
--- src/lib.rt:107:1
 returns-2 : tie.Need-returns-2
 returns-2 c = λ ps look g lent d h. let b = c .before .before .before .before .before .before .before .pre .1 in rw (c .before .counted .ensures, c .before .before .before .before .before .word-at .ensures .0) (made-add h look (b .limit) (b .operation) (omega (arith, c .before .before .before .if1 .left, bounds h .registers, c .before .before .before .before .before .word-at .ensures .0)))
 

@@ -3,18 +3,11 @@ use denote.Ref.{now}
 use Prim.Native.Nat.{_+_, _-_, _<_}
 use Rattle.machine.specs.Passing.{removal, popped-small, resumes, resumed-at, resume-inside, made-remove}
 use Rattle.machine.specs.Held.{bounds}
-use mathlib.Core.Path.{_≡_, refl, sym, ap, _∙_}
+use mathlib.Core.Path.{_∙_}
 use native.Mathlib.Omega.{arith}
 use borrow.Author.Needs.{needs}
 use Rattle.machine.proofs.remove.Statement.{statement}
 use Rattle.machine.proofs.remove.Tie as tie
-use Rattle.machine.proofs.remove.Reads as reads
-use Rattle.machine.proofs.remove.Lts as lts
-use Rattle.machine.proofs.counted.Reads as counted-reads
-use Rattle.machine.proofs.pass.Reads as pass-reads
-use Rattle.machine.proofs.resume.Reads as resume-reads
-use Rattle.machine.proofs.word_at.Reads as word-at-reads
-use Rattle.registers.proofs.remove.Reads as remove-reads
 
 -- the code from which the place below goes on is in the program
 going : (c : tie.After-resume) → c .resume .result + 1 < length (now (c .before .before .before .before .before .before .before .before .before .before .args .program))
@@ -23,63 +16,48 @@ going c =
     let r = removal (b .held) (b .operation) in
     rw (resumed-at (b .held) r _ _ (c .before .word-at2 .ensures .0) (c .resume .ensures)) (resume-inside (b .held) r (b .limit))
 
--- src/lib.rt:171:13
 word-at-requires : tie.Need-word-at-requires
 word-at-requires c κs = bounds (c .before .before .pre .held) .inside
 
--- src/lib.rt:172:5
 remove-requires : tie.Need-remove-requires
 remove-requires c κs = let b = c .before .before .before .before .pre in (bounds (b .held) .registers, rw (c .before .word-at .ensures .0) (removal (b .held) (b .operation) .fits))
 
--- src/lib.rt:173:18
 sub-height : tie.Need-sub-height
 sub-height c = bounds (c .before .before .before .before .before .before .before .pre .held) .somePlace
 
--- src/lib.rt:174:35
 sub-word-at : tie.Need-sub-word-at
 sub-word-at c = let b = c .before .before .before .before .before .before .before .before .pre in omega (arith, removal (b .held) (b .operation) .somePlaces)
 
--- src/lib.rt:174:9
 word-at-requires-2 : tie.Need-word-at-requires-2
 word-at-requires-2 c κs = let b = c .before .before .before .before .before .before .before .before .pre in omega (arith, bounds (b .held) .places, bounds (b .held) .somePlace)
 
--- src/lib.rt:175:14
 resume-requires : tie.Need-resume-requires
 resume-requires c κs = let b = c .before .before .before .before .before .before .before .before .before .pre in let r = removal (b .held) (b .operation) in rw (c .word-at2 .ensures .0 ∙ r .isPlace) (resumes (b .held) r)
 
--- src/lib.rt:175:14
 add-at : tie.Need-add-at
 add-at c = omega (arith, going c)
 
--- src/lib.rt:176:5
 mul-places : tie.Need-mul-places
 mul-places c = let b = c .before .before .before .before .before .before .before .before .before .before .pre in omega (arith, bounds (b .held) .places)
 
--- src/lib.rt:176:5
 slice-write-places : tie.Need-slice-write-places
 slice-write-places c = let b = c .before .before .before .before .before .before .before .before .before .before .pre in omega (arith, bounds (b .held) .places, bounds (b .held) .somePlace)
 
--- src/lib.rt:177:5
 pass-requires : tie.Need-pass-requires
 pass-requires c κs = let b = c .before .before .before .before .before .before .before .before .before .before .before .pre in let r = removal (b .held) (b .operation) in ((omega (arith, r .somePlaces), omega (arith, bounds (b .held) .places, length-set (now (c .before .before .before .before .before .before .before .before .before .before .before .args .places)) (c .before .before .before .before .before .before .before .before .before .before .before .args .run .places - 1) 0), popped-small (b .held) r), going (c .before))
 
--- src/lib.rt:178:9
 counted-requires : tie.Need-counted-requires
 counted-requires c κs = search needs
 
--- src/lib.rt:179:22
 sub-next : tie.Need-sub-next
 sub-next c = let b = c .before .before .before .before .before .before .before .before .before .before .before .before .before .before .before .before .pre in rw (c .before .before .before .before .before .before .before .before .before .before .before .before .before .word-at .ensures .0) (removal (b .held) (b .operation) .fits)
 
--- src/lib.rt:167:1
 same-length : tie.Need-same-length
 same-length c = search needs
 
--- src/lib.rt:167:1
 same-length-2 : tie.Need-same-length-2
 same-length-2 c = c .before .before .before .before .pass .kept .0 ∙ length-set (now (c .before .before .before .before .before .before .before .before .before .before .before .before .before .before .before .before .args .places)) (c .before .before .before .before .before .before .before .before .before .before .before .before .before .before .before .before .args .run .places - 1) 0
 
--- src/lib.rt:167:1
 returns : tie.Need-returns
 returns c = λ look g lent d h. let b = c .before .before .before .before .before .before .before .before .before .before .before .before .before .before .before .before .pre in let r = removal h (b .operation) in rw (c .before .counted .ensures, c .before .before .before .before .before .before .before .before .before .before .before .before .before .word-at .ensures .0) (made-remove h r look (b .limit) _ _ (c .before .before .before .before .before .before .resume .result) (resumed-at h r _ _ (c .before .before .before .before .before .before .before .word-at2 .ensures .0) (c .before .before .before .before .before .before .resume .ensures)) (rw (c .before .before .before .before .before .before .before .before .before .before .before .before .before .word-at .ensures .0) at (c .before .before .before .before .before .before .before .before .before .before .before .remove .ensures)) (c .before .before .before .before .pass .ensures))
 
