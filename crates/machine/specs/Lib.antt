@@ -7,3 +7,4 @@ pub mod Predicting
 pub mod Entering
 pub mod Advancing
 pub mod Calling
+pub mod Rows
