@@ -19,6 +19,18 @@ ghost use Rattle.machine.specs.Advancing as Advancing;
 ghost use Rattle.machine.specs.Advancing.{Running, Advances, stopsAt};
 ghost use Rattle.machine.specs.Predicting.{recordOf, holdsAt, entersAt, Entry, Leads, Led};
 
+// What comes next, where it is the end of the segment.
+const END: usize = 63;
+
+// 01: "the whole segment is production 128".
+const WHOLE: usize = 128;
+
+// 01: "35 .. a move after 4,294,967,295".
+const MOVES_LIMIT: u64 = 4294967295;
+
+// The operation's number in a word that says that nothing is left; the others are in docs/PROGRAM.md.
+const NOTHING: usize = 6;
+
 // A run: what was counted, the heights of both stacks, and the address of the next instruction of the top place's production.
 pub struct Run {
     pub tokens: u64,
@@ -64,11 +76,11 @@ fn word_at(words: &[u32], at: usize) -> usize
     words[at] as usize
 }
 
-// The number that refuses what comes next; 63 is the end.
+// The number that refuses what comes next.
 fn unexpected(look: usize) -> u32
     ensures { λ r. ⌜ r ≡ Machine.unexpected (lookOf look) ⌝ }
 {
-    if look == 63 {
+    if look == END {
         return 24;
     }
     21
@@ -94,13 +106,13 @@ fn pass(places: &mut [u32], height: usize, program: &[u32], at: usize)
     count(places, height);
 }
 
-// The address from which a place goes on: that of the expect at which it waits. 01: "the whole segment is production 128".
+// The address from which a place goes on: that of the expect at which it waits; the whole segment's code begins at 0.
 pub fn resume(program: &[u32], place: usize) -> usize
     requires { ⌜ Resumes (now program) place ⌝ }
     ensures { λ r. ⌜ ((g : Grammar) → Begins g (now (program .entry)) → WellFormed g → Waiting g place → r ≡ placeAddress g place) ⌝ }
 {
     let production = place / 256;
-    if production == 128 {
+    if production == WHOLE {
         return place % 256;
     }
     let body = word_at(program, word_at(program, 2) + 8 * production + 4);
@@ -139,6 +151,7 @@ fn evaluate(registers: &mut [i64], program: &[u32], run: Run) -> Step
 
 // ---- read
 
+// The token that is expected.
 fn read(places: &mut [u32], program: &[u32], run: Run, look: usize) -> Step
     requires { ⌜ ((m : List ℤ) × Ready (now program) m (now places) run 2) ⌝ }
     ensures { λ r. ⌜ ((m : List ℤ) → Answers (now (program .entry)) m (now (places .entry)) run (lookOf look) m (now (places .exit)) r) ⌝ }
@@ -215,6 +228,7 @@ fn enters(registers: &[i64], height: usize, program: &[u32], row: usize) -> bool
     registers::test(registers, height, program, scheme - 3 * count, count)
 }
 
+// Both.
 fn passes(registers: &[i64], height: usize, program: &[u32], row: usize, look: usize) -> bool
     requires { ⌜ (height ≤ length (now registers)) × Entry (now program) (stack height (now registers)) row × (look < 64) ⌝ }
     ensures { λ r. ⌜ r ≡ holdsAt (now (program .entry)) row look && entersAt (now (program .entry)) (stack height (now (registers .entry))) row ⌝ }
@@ -253,6 +267,7 @@ fn find(registers: &[i64], height: usize, program: &[u32], look: usize, first: u
     later(registers, height, program, look, word_at(program, row + 1))
 }
 
+// Pushes the place of the alternative found. 01: "22 .. when alternatives hold the token or the end but none has its entry conditions met".
 fn predict(registers: &[i64], places: &mut [u32], program: &[u32], run: Run, look: usize) -> Step
     requires { ⌜ Ready (now program) (now registers) (now places) run 3 × (look < 64) ⌝ }
     ensures { λ r. ⌜ Answers (now (program .entry)) (now (registers .entry)) (now (places .entry)) run (lookOf look) (now (registers .entry)) (now (places .exit)) r ⌝ }
@@ -295,7 +310,7 @@ fn one(registers: &mut [i64], places: &mut [u32], program: &[u32], run: Run, loo
 
 // ---- until a move needs what comes next
 
-// Whether an operation needs it; 6 says that nothing is left.
+// Whether an operation needs it.
 fn looks(operation: usize) -> bool
     ensures { λ r. ⌜ r ≡ Advancing.looks operation ⌝ }
 {
@@ -305,14 +320,15 @@ fn looks(operation: usize) -> bool
     if operation == 3 {
         return true;
     }
-    operation == 6
+    operation == NOTHING
 }
 
+// Whether the token at hand is read, or at the end the start symbol is left, and the operation needs what comes then.
 fn stops(operation: usize, look: usize, before: u64, tokens: u64) -> bool
     ensures { λ r. ⌜ r ≡ stopsAt operation look before tokens ⌝ }
 {
-    if look == 63 {
-        return operation == 6;
+    if look == END {
+        return operation == NOTHING;
     }
     if before < tokens {
         return looks(operation);
@@ -320,7 +336,7 @@ fn stops(operation: usize, look: usize, before: u64, tokens: u64) -> bool
     false
 }
 
-// Moves until the token is read, or at the end (63) the start symbol is left, and all that needs no next token is done.
+// 01: "Everything that needs no next token is done before a stop."
 pub fn advance(
     registers: &mut [i64],
     places: &mut [u32],
@@ -338,10 +354,10 @@ pub fn advance(
         if stops(operation, u, run.tokens, state.tokens) {
             return Ended::Stopped(state);
         }
-        if operation == 6 {
+        if operation == NOTHING {
             return Ended::Failed(state, unexpected(u));
         }
-        if state.moves == 4294967295 {
+        if state.moves == MOVES_LIMIT {
             return Ended::Failed(state, 35);
         }
         match one(registers, places, program, state, u) {
