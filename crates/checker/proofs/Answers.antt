@@ -7,15 +7,15 @@ use Rattle.meaning.specs.Table.{State, Read, wellFormed, malformed, readTable}
 use Rattle.meaning.specs.Judgement as Judgement
 use Rattle.meaning.specs.Judgement.{accepted, rejected}
 use Rattle.meaning.specs.Decide.{judge}
-use Rattle.meaning.specs.PublicCalls.{Checked, usable, unusable, checkedAs, check}
+use Rattle.meaning.specs.PublicCalls.{Checked, unusable, checkedAs, check}
 use Rattle.table.specs.declared.Sizes.{Sizes}
 use Rattle.table.specs.declared.Reading.{Reading}
 use Rattle.table.specs.declared.Reading.the-variants.{WellFormed, Malformed}
 use Rattle.table.specs.Outline.{Outline}
 use Rattle.table.specs.Answer.{Answers, numberOf, offsetOf}
-use Rattle.checker.specs.Judging.{Outlined, Starting, Concludes, Brought, Answered, Judges}
+use Rattle.checker.specs.Judging.{Outlined, Concludes, Answered, Judges}
 use Rattle.checker.specs.declared.judging.Judged.{Judged}
-use Rattle.checker.specs.declared.judging.Judged.the-variants.{Usable, Unusable}
+use Rattle.checker.specs.declared.judging.Judged.the-variants.{Unusable}
 
 abbrev sizesIn : Reading → Sizes → Sizes
 sizesIn (WellFormed sizes) d = sizes

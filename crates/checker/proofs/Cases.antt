@@ -8,7 +8,7 @@ use mathlib.Core.List.{List, []}
 use borrow.Author.Tests.{lt-ltb, le-ltb}
 use lib.Dec.{ltb}
 use lib.ListN.{getD, length}
-use Rattle.meaning.specs.Table.{State, Read, wellFormed, malformed, readTable, noEntry}
+use Rattle.meaning.specs.Table.{State, Read, wellFormed, malformed, readTable}
 use Rattle.meaning.specs.Judgement as Judgement
 use Rattle.meaning.specs.Judgement.{accepted, rejected, entryOffset}
 use Rattle.meaning.specs.Decide.{judge, verdictOf}

@@ -4,33 +4,31 @@ use native.Mathlib.Omega.{arith}
 use mathlib.Core.Path.{_≡_, refl, sym, ap, ap₂, _∙_, subst}
 use mathlib.Core.Bool.{Bool, true, false}
 use mathlib.Core.Option.{Option, none, some}
-use mathlib.Core.List.{List, [], _∷_, map, reverse}
-use borrow.Author.Tests.{eq-eqb, ne-eqb}
+use mathlib.Core.List.{List, reverse}
+use borrow.Author.Tests.{ne-eqb}
 use lib.Dec.{eqb}
 use lib.ListN.{getD, length, replicate, length-map, length-reverse, length-replicate, getD-replicate}
 use lib.Seq.{ext-getD}
 use Rattle.meaning.specs.Base.{countFrom}
-use Rattle.meaning.specs.Grammar.{Grammar, Symbol, terminal, nonterminal, productionAt, nonterminalCount, inh}
+use Rattle.meaning.specs.Grammar.{Grammar, terminal, nonterminal, productionAt, nonterminalCount, inh}
 use Rattle.meaning.specs.Rules.{WellFormed}
 use Rattle.meaning.specs.Derivation.{Listed}
-use Rattle.meaning.specs.Table.{State, noEntry, headerOf, readTable, wellFormed, productionOf, grammarOf, symbolOf}
+use Rattle.meaning.specs.Table.{State, noEntry, productionOf, grammarOf, symbolOf}
 use Rattle.meaning.specs.Sets.{starts}
-use Rattle.meaning.specs.Judgement as Judgement
-use Rattle.meaning.specs.Judgement.{accepted, rejected, countsOffset, entryOffset}
+use Rattle.meaning.specs.Judgement.{countsOffset}
 use Rattle.meaning.specs.Decide.{isLeftRecursive, clashes, firstWhere, judge}
 use Rattle.theory_base.specs.WellFormed.{well-formed-at}
-use Rattle.theory_table.specs.ReadWellFormed.{Whole, whole-table, all-counted, read-well-formed}
+use Rattle.theory_table.specs.ReadWellFormed.{whole-table, all-counted, read-well-formed}
 use Rattle.theory_table.specs.Places.{Places, read-places}
 use Rattle.theory_sets.specs.Verdicts.{Result, searched}
 use Rattle.token_set.specs.Words.{setOf}
 use Rattle.table.specs.declared.Sizes.{Sizes}
-use Rattle.table.specs.Outline.{Outline, RowOf}
-use Rattle.analysis.specs.Rows.{Image, Rows, rightAt, right-length, right-at, image-of}
+use Rattle.analysis.specs.Rows.{Rows, rightAt, right-length, right-at}
 use Rattle.analysis.specs.Entries.{Entries}
 use Rattle.analysis.specs.EntryImage.{low-is, high-is, none-is, ownLow, ownHigh}
 use Rattle.analysis.specs.Finding.{Finding, fine, useless, recursive, clashing, orElse, isUseless, finding, numberOf, indexOf, verdictFrom, judge-is, Analysed}
-use Rattle.checker.specs.Intervals.{Interval, Room, Offsets, Fresh, GatheredTo}
-use Rattle.checker.specs.Judging.{Outlined, Starting, Concludes, concluded}
+use Rattle.checker.specs.Intervals.{Room, Offsets, Fresh, GatheredTo}
+use Rattle.checker.specs.Judging.{Outlined, Concludes, concluded}
 use Rattle.checker.specs.declared.judging.Judged.{Judged}
 use Rattle.checker.specs.declared.judging.Judged.the-variants.{Usable, Unusable}
 use Rattle.checker.proofs.Offsets.{few, inherited-few}

@@ -2,10 +2,9 @@
 use Prim.Native.Nat.{ℕ, suc, _+_, _≤_, _<_}
 use native.Mathlib.Omega.{arith}
 use native.Mathlib.Decide.{decLt}
-use mathlib.Core.Path.{_≡_, ap, _∙_, subst, sym}
-use mathlib.Core.Logic.{_⊎_, inl, inr}
+use mathlib.Core.Path.{_≡_, subst}
+use mathlib.Core.Logic.{inl, inr}
 use mathlib.Core.List.{List, [], _∷_, reverse}
-use Rattle.meaning.specs.Base.{In}
 use Rattle.meaning.specs.Grammar.{Occurrence, Condition, productionAt}
 use Rattle.meaning.specs.Layout.{Bytes}
 use Rattle.meaning.specs.Table.{byte, grammarOf}

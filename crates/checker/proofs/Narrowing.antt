@@ -4,15 +4,15 @@ use native.Mathlib.Omega.{arith}
 use native.Mathlib.Decide.{ℕ-discrete}
 use mathlib.Core.Path.{_≡_, refl, sym, ap, ap₂, _∙_, subst}
 use mathlib.Core.Bool.{Bool, true, false, _&&_, _||_, not}
-use mathlib.Core.List.{List, [], _∷_}
+use mathlib.Core.List.{List, _∷_}
 use borrow.Author.Tests.{eq-eqb, ne-eqb}
 use lib.Dec.{eqb}
 use lib.IntN.{ℤ}
-use lib.ListN.{getD, length, set, length-set}
+use lib.ListN.{getD, set, length-set}
 use lib.Seq.{getD-set-same, getD-set-other}
 use Rattle.meaning.specs.Base.{any}
 use Rattle.meaning.specs.Grammar.{Occurrence, Condition, range, atmost}
-use Rattle.meaning.specs.Table.{byte, occurrenceAt, constantAt, conditionOf, signed}
+use Rattle.meaning.specs.Table.{byte, occurrenceAt, constantAt, conditionOf}
 use Rattle.rules.specs.Rule.{fourAt}
 use Rattle.analysis.specs.Entries.{biased}
 use Rattle.analysis.specs.EntryImage.{isEntry, ownLow, ownHigh, biased-signed}

@@ -1,19 +1,17 @@
 -- The offsets of the productions of a table that is read whole, and the fields of each.
-use Prim.Native.Nat.{ℕ, zero, suc, _+_, _-_, _*_, _≤_, _<_}
+use Prim.Native.Nat.{ℕ, zero, suc, _+_, _-_, _≤_, _<_}
 use native.Mathlib.Omega.{arith}
 use native.Mathlib.Decide.{decLt}
 use mathlib.Core.Path.{_≡_, refl, sym, ap, _∙_, subst}
-use mathlib.Core.Bool.{Bool, true, false}
-use mathlib.Core.List.{List, [], _∷_, _++_, map, reverse}
+use mathlib.Core.List.{List, _++_, map, reverse}
 use borrow.Author.Tests.{lt-ltb, le-ltb}
-use lib.Dec.{ltb}
 use lib.ListN.{getD, length, take, drop, length-append, length-map, length-drop, length-reverse, List·getD-eq-default}
 use lib.Seq.{drop-append-seam, drop-drop, take-at}
 use Rattle.meaning.specs.Base.{In}
 use Rattle.meaning.specs.Grammar.{Grammar, noCounts, Occurrence, Condition, range, atmost, Production, productionAt, nonterminal, inh}
 use Rattle.meaning.specs.Rules.{InputAt, Reads, Proper, Input, WellFormed, WellFormedProduction}
-use Rattle.meaning.specs.Layout.{field, symbolByte, productionBytes, Bytes, RulesAndConditions}
-use Rattle.meaning.specs.Table.{State, Entry, noEntry, byte, wellFormed, readTable, productionOf, grammarOf}
+use Rattle.meaning.specs.Layout.{field, symbolByte, productionBytes, Bytes}
+use Rattle.meaning.specs.Table.{Entry, noEntry, byte, productionOf, grammarOf}
 use Rattle.meaning.specs.Judgement.{entryOffset}
 use Rattle.theory_base.specs.Members.{getD-in, map-at}
 use Rattle.theory_base.specs.WellFormed.{well-formed-at}

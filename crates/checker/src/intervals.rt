@@ -1,6 +1,6 @@
 // The entry conditions of each production as one interval for each attribute, for the analysis.
 ghost use mathlib.Core.Path.{_≡_};
-ghost use Prim.Native.Nat.{ℕ, _+_, _*_, _%_, _<_, _≤_, min, max};
+ghost use Prim.Native.Nat.{_+_, _*_, _%_, _<_, _≤_, min, max};
 ghost use lib.ListN.{length};
 ghost use Rattle.rules.specs.Rule.{fourAt};
 ghost use Rattle.checker.specs.Intervals.{Room, Apart, ConditionBody, Narrowed, Uses, FieldAt, Stepped, Gathered, Below, endIn, Offsets, Fresh, GatheredTo};

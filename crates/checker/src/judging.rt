@@ -1,6 +1,6 @@
 // A table judged: its fields, then refusals 11 to 13.
 ghost use mathlib.Core.Path.{_≡_};
-ghost use Prim.Native.Nat.{ℕ, _+_, _*_, _<_, _≤_};
+ghost use Prim.Native.Nat.{_+_, _*_, _<_};
 ghost use lib.ListN.{length};
 ghost use Rattle.meaning.specs.Decide.{judge};
 ghost use Rattle.checker.specs.Judging.{Outlined, Concludes, Judges, concluded};
@@ -46,8 +46,23 @@ fn judge_grammar(
     let productions = sizes.productions;
     let nonterminals = sizes.nonterminals;
     let start = sizes.start as u8;
-    crate::intervals::gather_all(table, productions, offsets, &mut lows, &mut highs, &mut flags);
-    let a = analysis::analyse(rows, productions, nonterminals, start, &lows, &highs, &flags);
+    crate::intervals::gather_all(
+        table,
+        productions,
+        offsets,
+        &mut lows,
+        &mut highs,
+        &mut flags,
+    );
+    let a = analysis::analyse(
+        rows,
+        productions,
+        nonterminals,
+        start,
+        &lows,
+        &highs,
+        &flags,
+    );
     let found = a.sets;
     *sets = found;
     conclude(sizes, a.number, a.index, offsets)

@@ -5,8 +5,8 @@ ghost use lib.ListN.{length};
 ghost use Rattle.meaning.specs.PublicCalls.{stretchOf};
 ghost use Rattle.checker.specs.Intervals.{Below};
 ghost use Rattle.checker.specs.Verdicts.{spanIn, stretchBy, Inside};
-use crate::judging::judge_table;
 use crate::judging::Judged;
+use crate::judging::judge_table;
 
 // From one offset to another, or a refusal.
 pub enum Span {
