@@ -1,0 +1,44 @@
+//! The segment engine in plain Rust: what the proved engine is measured and compared with.
+pub mod judge;
+pub mod listing;
+pub mod program;
+pub mod run;
+pub mod samples;
+pub mod table;
+
+use judge::Sets;
+use table::{Outline, Refusal};
+
+/// Judges a table.
+pub fn check(table: &[u8]) -> Result<(Outline, Sets), Refusal> {
+    let outline = table::read(table)?;
+    let sets = judge::judge(table, &outline)?;
+    Ok((outline, sets))
+}
+
+/// The start and end of a production's fields.
+pub fn stretch(table: &[u8], p: usize) -> Result<(usize, usize), Refusal> {
+    let (o, _) = check(table)?;
+    if p >= o.productions {
+        return Err(Refusal { number: 14, offset: 0 });
+    }
+    let end = if p + 1 < o.productions { o.offsets[p + 1] as usize } else { table.len() };
+    Ok((o.offsets[p] as usize, end))
+}
+
+#[cfg(test)]
+mod tests {
+    use super::*;
+
+    #[test]
+    fn samples_are_what_they_say() {
+        assert!(check(&samples::words()).is_ok());
+        for (n, third, conditions) in [(1, 0, 0), (4, 2, 8), (47, 33, 512)] {
+            let table = samples::chain(n, third, conditions);
+            assert!(check(&table).is_ok(), "{n}");
+            let late = check(&samples::refused_late(n, third, conditions)).err().unwrap();
+            assert_eq!((late.number, late.offset as usize), (13, table.len()));
+        }
+        println!("{} {} {}", samples::words().len(), samples::chain(4, 2, 8).len(), samples::chain(47, 33, 512).len());
+    }
+}
