@@ -12,13 +12,7 @@ use lib.Bits.{bitOr, or-shr, or-step}
 use lib.Pow.{pow-add, pow-pos, pow-lt, shl-shr, shr-shr}
 use borrow.Author.Tests.{eq-eqb, ne-eqb, eqb-true, eqb-false, ltb-true, ltb-false}
 use Rattle.rules.specs.Rule.{bit, ones}
-
-pub lt-or-le : (a b : ℕ) → (a < b) ⊎ (b ≤ a)
-lt-or-le a b = go (ltb a b) refl
-  where
-    go : (t : Bool) → ltb a b ≡ t → (a < b) ⊎ (b ≤ a)
-    go true e = inl (ltb-true a b e)
-    go false e = inr (ltb-false a b e)
+use Rattle.fields.proofs.Cases.{lt-or-le}
 
 -- two tests that mean the same
 eqb-iff : (a b a′ b′ : ℕ) → (a ≡ b → a′ ≡ b′) → (a′ ≡ b′ → a ≡ b) → eqb a b ≡ eqb a′ b′

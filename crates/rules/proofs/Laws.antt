@@ -14,7 +14,7 @@ use Rattle.fields.specs.Demand.{ifEqual}
 use Rattle.fields.proofs.Fine.{equal-fine, atMost-fine, below-fine, holds-fine}
 use Rattle.fields.proofs.Demands.{differs-not, equal-yes, equal-no, below-yes, below-no}
 use Rattle.rules.specs.Rule.{Small, classAt, classIn, classFault, orElse, lengthOf, operandCount, operandClass, divisorFits, ruleOrder, ruleUses, ruleFault, allCount}
-use Rattle.rules.proofs.Bits.{lt-or-le}
+use Rattle.fields.proofs.Cases.{lt-or-le, nonzero}
 
 pub else-first : (x y : ℕ) {z : ℕ} → z ≡ x → (z ≡ 0 → ⊥) → z ≡ orElse x y
 unfolding orElse
@@ -102,11 +102,11 @@ pub rule-fine :
     → (3 ≤ length b) × (byte b 0 < 13) × (1 ≤ byte b 1) × (byte b 1 ≤ 8)
 unfolding ruleFault ruleUses
 rule-fine r width inh syn note b small e =
-    let q = atMost-fine (λ z. omega arith) 3 (length b) e in
-    let u = below-fine (λ z. omega arith) r 1024 (q .1) in
-    let v = atMost-fine (λ z. omega arith) (byte b 2) 8 (u .1) in
-    let w = equal-fine (λ z. omega arith) (length b) (lengthOf (byte b 2)) (v .1) in
-    let x = holds-fine (λ z. omega arith) (divisorFits (byte b 2) b) (w .1) in
+    let q = atMost-fine (nonzero 3) 3 (length b) e in
+    let u = below-fine (nonzero 3) r 1024 (q .1) in
+    let v = atMost-fine (nonzero 4) (byte b 2) 8 (u .1) in
+    let w = equal-fine (nonzero 3) (length b) (lengthOf (byte b 2)) (v .1) in
+    let x = holds-fine (nonzero 3) (divisorFits (byte b 2) b) (w .1) in
     let n = operandCount (byte b 2) in
     let y = else-fine (classFault (classIn width inh syn b 0) (operandClass width inh syn b n 0) (operandClass width inh syn b n 1)) (ruleOrder note n b) (x .1) in
     let k = uses-ready width inh syn b 0 (classIn width inh syn b 0) (operandClass width inh syn b n 0) (operandClass width inh syn b n 1) small (omega (arith, q .0)) refl refl y in

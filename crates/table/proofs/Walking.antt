@@ -17,20 +17,14 @@ use Rattle.fields.proofs.Rest.{rest-end, rest-missing, judged-fine, judged-refu
 use Rattle.fields.proofs.Judged.{judge-not, stage-later}
 use Rattle.rules.specs.Rule.{Small, ruleFault, conditionFault, completeNote}
 use Rattle.rules.specs.Note.{Noted}
-use Rattle.rules.proofs.Bits.{lt-or-le}
 use Rattle.rules.proofs.Laws.{rule-fine}
 use Rattle.rules.proofs.RuleJudged.{rule-judged}
 use Rattle.rules.proofs.ConditionJudged.{condition-judged}
 use Rattle.rules.proofs.Complete.{noted-none, noted-more, complete-judged}
 use Rattle.table.specs.declared.Uses.{Uses}
 use Rattle.table.specs.Progress.{Over, Setting, settingOf, Around, stateIn, UseJudged, Walked, UsesRead, Next, endOf}
-use Rattle.table.proofs.Steps.{three, endBy}
-
-two : _≡_ {A = ℕ} 2 0 → ⊥
-two e = omega arith
-
-eight : _≡_ {A = ℕ} 8 0 → ⊥
-eight e = omega arith
+use Rattle.table.proofs.Steps.{endBy}
+use Rattle.fields.proofs.Cases.{lt-or-le, nonzero}
 
 pub stage-any : (h : Header) (cs : List Counts) (os : List ℕ) (e : Entry) (es : List Entry) (r c : ℕ) → h .nonterminals ≤ length cs → stage (stateOf h cs os (e ∷ es) r c) ≡ atAny
 stage-any h cs os e es r c l =
@@ -50,9 +44,9 @@ module _ (t : List ℕ) (at size r c width : ℕ) (inh syn note : List ℕ) (ins
   use-cut h =
       record {
         read = λ o a rs cds nt. step-short t (stateIn (g o) a rs cds r c) at inside (calm-other (stateIn (g o) a rs cds r c) (byte t at) other) _ h;
-        whole = λ z. absurd (two z);
-        kinds = λ z. absurd (two z);
-        target = λ z. absurd (two z);
+        whole = λ z. absurd (nonzero 1 z);
+        kinds = λ z. absurd (nonzero 1 z);
+        target = λ z. absurd (nonzero 1 z);
       }
 
   module _ (w : Whole t at size) where
@@ -77,9 +71,9 @@ module _ (t : List ℕ) (at size r c width : ℕ) (inh syn note : List ℕ) (ins
               (judge-not (stateIn (g o) a rs cds r c) at (byte t at) b
               (ap (λ x. tagStands x (byte t at)) (any-stage o a rs cds)
               ∙ or-none (eqb (byte t at) 3) (eqb (byte t at) 4) (eqb (byte t at) 5) (ne-eqb (byte t at) 3 other) (ne-eqb (byte t at) 4 n) (ne-eqb (byte t at) 5 m)));
-          whole = λ z. absurd (three z);
-          kinds = λ z. absurd (three z);
-          target = λ z. absurd (three z);
+          whole = λ z. absurd (nonzero 2 z);
+          kinds = λ z. absurd (nonzero 2 z);
+          target = λ z. absurd (nonzero 2 z);
         }
 
     module _ (small : Small width inh syn) (part : List ℕ) (is-part : part ≡ b) (number : ℕ) where
@@ -272,10 +266,10 @@ module _ (t : List ℕ) (from offset width : ℕ) (inh syn : List ℕ) (r₀ c�
                 let q = w .walked a in (
                   q .0,
                   q .1,
-                  q .3 ∙ missing a (q .0) (q .1) (complete-in a (q .0) (q .1) (q .2) ∙ e) ∙ sym (judged-refused 8 offset _ eight),
-                  λ z. absurd (eight z),
+                  q .3 ∙ missing a (q .0) (q .1) (complete-in a (q .0) (q .1) (q .2) ∙ e) ∙ sym (judged-refused 8 offset _ (nonzero 7)),
+                  λ z. absurd (nonzero 7 z),
                 );
-            next = λ z. absurd (eight z);
+            next = λ z. absurd (nonzero 7 z);
             inside = l;
           }
 

@@ -9,25 +9,19 @@ use native.Mathlib.Nat.{not-suc-le-zero}
 use lib.Dec.{T, eqb, leb, ltb, eqb→eq, leb→le, ltb→lt}
 use lib.IntN.{pos}
 use lib.Signed.{leZ}
-use lib.ListN.{length, getD, drop, length-map, length-drop, List·getD-map}
+use lib.ListN.{length, getD, drop, length-map, length-drop, length-reverse, List·getD-map}
 use lib.Seq.{getD-drop}
 use borrow.Author.Tests.{ltb-true, ltb-false, lt-leb, ne-eqb}
 use Rattle.meaning.specs.Base.{all}
 use Rattle.meaning.specs.Grammar.{Rule, Condition, Occurrence, terminal}
-use Rattle.meaning.specs.Table.{byte, State, Entry, Field, Read, wellFormed, malformed, Stage, atHeader, atCounts, atFirst, atAny, stage, tagStands, Kind, header, counts, production, rule, condition, kindOf, readField, judgeField, readTable, atEnd, lastComplete, current, nothingRead, symbolOf, ruleOf, conditionOf, onCurrent, occurrenceKnown, occurrenceAt, constantAt, functionOf, operands, reads, withRule, withCondition, ruleLength, conditionLength, headerOf, isSome}
+use Rattle.meaning.specs.Table.{byte, State, Entry, Field, Read, wellFormed, malformed, Stage, atHeader, atCounts, atFirst, atAny, stage, tagStands, Kind, header, counts, production, rule, condition, kindOf, readField, judgeField, readTable, atEnd, lastComplete, current, nothingRead, noEntry, symbolOf, ruleOf, conditionOf, onCurrent, occurrenceKnown, occurrenceAt, constantAt, functionOf, operands, reads, withRule, withCondition, ruleLength, conditionLength, headerOf, isSome}
 use Rattle.fields.specs.Field.{lengthAt, Whole, Short, rest, judged, bodyAt}
 use Rattle.fields.proofs.Rest.{rest-table, table-long, rest-end, rest-missing, rest-short, rest-field, body-length, body-byte, fieldOf}
 use Rattle.theory_sets.specs.Tests.{and-left, and-right, or-cases}
 use Rattle.theory_sets.specs.Fields.{goes-on, judged-0, Passed, Stood, stood, kind-stands}
 use Rattle.theory_sets.specs.GoodState.{Good, good-nothing, good-field}
 use Rattle.theory_fields.specs.Listed.{RuleForm, ConditionForm, Uses, none, ruled, conditioned, ProductionAt, Productions, nothing, produced}
-
-lt-or-le : (a b : ℕ) → (a < b) ⊎ (b ≤ a)
-lt-or-le a b = go (ltb a b) refl
-  where
-    go : (x : Bool) → ltb a b ≡ x → (a < b) ⊎ (b ≤ a)
-    go true e = inl (ltb-true a b e)
-    go false e = inr (ltb-false a b e)
+use Rattle.fields.proofs.Cases.{lt-or-le}
 
 -- ---- one more at the end
 
@@ -272,3 +266,20 @@ module _ (t : List ℕ) where
   -- the productions of a table that reads well stand in it one after the other, from the first to the end
   pub fields-listed : (f : State) → readTable t ≡ wellFormed f → (first : ℕ) × Productions t first (reverse (f .entries)) (length t)
   fields-listed f e = ⊎-elim (λ l. absurd (not-well 1 0 f (sym (table-long t l) ∙ e))) (λ l. closed (f .entries) (length t) (walk (suc (length t)) nothingRead f 0 (omega arith) (omega arith) good-nothing tt (sym (rest-table t l) ∙ e))) (lt-or-le 32768 (length t))
+
+  -- ---- by number
+
+  starts : {from end : ℕ} {es : List Entry} → Productions t from es end → from ≡ getD (map (λ e. e .offset) es) 0 end
+  starts nothing = refl
+  starts (produced e p u) = refl
+
+  each : {from end : ℕ} {es : List Entry} → Productions t from es end → (p : ℕ) → p < length es → ProductionAt t (getD es p noEntry) (getD (map (λ e. e .offset) es) (suc p) end)
+  each nothing p l = absurd (not-suc-le-zero l)
+  each (produced e k u) zero l = subst (λ (x : ℕ). ProductionAt t e x) (starts u) k
+  each (produced e k u) (suc p) l = each u p (omega arith)
+
+  -- production p stands at its offset, and its rules and conditions go on to the next production's offset or the end
+  pub production-at :
+      (f : State) → readTable t ≡ wellFormed f → (p : ℕ) → p < length (f .entries)
+      → ProductionAt t (getD (reverse (f .entries)) p noEntry) (getD (map (λ e. e .offset) (reverse (f .entries))) (suc p) (length t))
+  production-at f e p l = each (fields-listed f e .1) p (omega (arith, length-reverse (f .entries)))
