@@ -1,0 +1,36 @@
+use Prim.Native.Nat.{_≤_}
+use native.Mathlib.Omega.{arith}
+use mathlib.Core.Path.{_≡_}
+use Rattle.analysis.specs.Views.{Within, within-none, within-before, ClosedAt}
+use Rattle.analysis.specs.Growth.{Grown, grown-none, grown-then}
+use Rattle.analysis.proofs.closing.close_round.Statement.{statement}
+use Rattle.analysis.proofs.closing.close_round.Tie as tie
+
+abbrev Inv-loop : tie.InvT-loop
+Inv-loop rows count set tokens next₀ k₀ next k = (k ≤ count) × Grown (Within (ClosedAt tokens rows) 0 count) (Within (ClosedAt tokens rows) k count) set next
+
+abbrev μ-loop : tie.MeasureT-loop
+μ-loop rows count set tokens next₀ k₀ next k = k
+
+loop-holds : tie.Need-loop-holds Inv-loop μ-loop
+loop-holds c = (omega arith, grown-none _ (within-none _ _ (omega arith)))
+
+sub-k : tie.Need-sub-k Inv-loop μ-loop
+sub-k c = omega arith
+
+close-by-requires : tie.Need-close-by-requires Inv-loop μ-loop
+close-by-requires c κs = (c .before .before .pre, omega arith)
+
+loop-less : tie.Need-loop-less Inv-loop μ-loop
+loop-less c = omega arith
+
+loop-again : tie.Need-loop-again Inv-loop μ-loop
+loop-again c = let lp = c .before in (omega arith, grown-then _ _ _ (lp .before .loop .inv .1) (c .close-by .ensures) (within-before _ _))
+
+returns : tie.Need-returns Inv-loop μ-loop
+returns c = let e : c .before .loop .k ≡ 0 = omega arith in rw e at (c .before .loop .inv .1)
+
+pub close-round-spec : {M : Type 1} → statement M
+close-round-spec =
+    tie.close
+    (tie.spec Inv-loop μ-loop loop-holds sub-k close-by-requires loop-less loop-again returns)

@@ -1,0 +1,33 @@
+use Prim.Native.Nat.{_<_, _-_, _^_}
+use native.Mathlib.Omega.{arith}
+use borrow.Author.Needs.{needs}
+use Rattle.analysis.specs.Views.{Within, ClosedAt}
+use Rattle.analysis.specs.Growth.{Rising, rising-start, rising-on, settled}
+use Rattle.analysis.proofs.closing.closure.Statement.{statement}
+use Rattle.analysis.proofs.closing.closure.Tie as tie
+
+abbrev Inv-loop : tie.InvT-loop
+Inv-loop rows count tokens set₀ set = (set < 2 ^ 64) × Rising (Within (ClosedAt tokens rows) 0 count) 0 set
+
+abbrev μ-loop : tie.MeasureT-loop
+μ-loop rows count tokens set₀ set = 2 ^ 64 - set
+
+loop-holds : tie.Need-loop-holds Inv-loop μ-loop
+loop-holds c = (omega arith, rising-start _)
+
+close-round-requires : tie.Need-close-round-requires Inv-loop μ-loop
+close-round-requires c κs = c .before .pre
+
+returns : tie.Need-returns Inv-loop μ-loop
+returns c = settled _ _ _ (c .before .before .loop .inv .1) (c .before .close-round .ensures) (c .if1 .taken)
+
+loop-less : tie.Need-loop-less Inv-loop μ-loop
+loop-less c = omega (arith, c .before .close-round .ensures .grows)
+
+loop-again : tie.Need-loop-again Inv-loop μ-loop
+loop-again c = (search needs, rising-on _ _ _ (c .before .before .loop .inv .1) (c .before .close-round .ensures))
+
+pub closure-spec : {M : Type 1} → statement M
+closure-spec =
+    tie.close
+    (tie.spec Inv-loop μ-loop loop-holds close-round-requires returns loop-less loop-again)

@@ -1,0 +1,23 @@
+use borrow.Author.Needs.{needs}
+use Rattle.analysis.specs.Tables.{zeros-words}
+use Rattle.analysis.specs.Judged.{starts-found}
+use Rattle.analysis.proofs.starting.Statement.{statement}
+use Rattle.analysis.proofs.starting.Tie as tie
+
+fronts-requires : tie.Need-fronts-requires
+fronts-requires c κs = (c .pre .0, zeros-words 48)
+
+follow-where-requires : tie.Need-follow-where-requires
+follow-where-requires c κs = search needs
+
+all-starts-requires : tie.Need-all-starts-requires
+all-starts-requires c κs = search needs
+
+returns : tie.Need-returns
+returns c =
+    let fw = c .before .before .before in
+    λ g r s m. starts-found r _ _ _ _ m (fw .before .before .fronts .ensures) (λ k. rw s at (fw .follow-where .ensures k)) (c .all-starts .ensures)
+
+pub starting-spec : {M : Type 1} → statement M
+starting-spec =
+    tie.close (tie.spec fronts-requires follow-where-requires all-starts-requires returns)

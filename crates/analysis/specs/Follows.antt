@@ -1,0 +1,270 @@
+-- FOLLOW over the rows: from the rest of a right side, and from what comes after the left side where the rest derives nothing.
+use Prim.Native.Nat.{ℕ, zero, suc, _+_, _-_, _^_, _≤_, _<_, zero-le}
+use native.Mathlib.Decide.{decLt}
+use native.Mathlib.Omega.{arith}
+use mathlib.Core.Path.{_≡_, refl, sym, ap, _∙_, subst}
+use mathlib.Core.Logic.{⊎-elim}
+use mathlib.Core.Bool.{Bool, true, false, _&&_, _||_}
+use mathlib.Core.List.{List, [], _∷_}
+use lib.Bits.{bitOr}
+use lib.Dec.{T, lit<}
+use lib.ListN.{getD, length, drop, replicate}
+use lib.Seq.{drop-drop}
+use Rattle.meaning.specs.Base.{all}
+use Rattle.meaning.specs.Grammar.{Symbol, terminal, nonterminal}
+use Rattle.meaning.specs.Sets.{has, singleton, endNumber}
+use Rattle.meaning.specs.Table.{symbolOf}
+use Rattle.token_set.specs.Words.{setOf, set-end}
+use Rattle.theory_base.specs.Members.{both}
+use Rattle.theory_sets.specs.TokenSets.{or-false, single-has, single-only}
+use Rattle.analysis.specs.Rows.{Image, leftAt, sizeAt, byteAt, rightAt, right-cons, right-back, right-end, symbol-terminal, symbol-nonterminal}
+use Rattle.analysis.specs.Views.{members, sees, Inside, fit, turn, opens}
+use Rattle.analysis.specs.Growth.{or-is, none-in}
+use Rattle.analysis.specs.Tables.{Words, Joined, zeros-none, zeros-words}
+use Rattle.analysis.specs.Passes.{Passed, passed-join}
+
+-- from place i of production p on
+pub record BaseFrom (gone : ℕ → Bool) (first rows : List ℕ) (u p i : ℕ) (see : ℕ → Bool) : Type 0 where
+  pub at : (j n : ℕ) (rest : List Symbol) → i ≤ j → drop j (rightAt rows p) ≡ nonterminal n ∷ rest → T (opens true gone (sees first u) u false rest) → T (see n)
+
+pub record TailFrom (gone : ℕ → Bool) (rows : List ℕ) (p i : ℕ) (see : ℕ → Bool) : Type 0 where
+  pub at : (j n : ℕ) (rest : List Symbol) → i ≤ j → drop j (rightAt rows p) ≡ nonterminal n ∷ rest → T (all (fit false gone) rest) → T (see (leftAt rows p)) → T (see n)
+
+-- the productions before k
+pub record BasesTo (gone : ℕ → Bool) (first rows : List ℕ) (k u : ℕ) (see : ℕ → Bool) : Type 0 where
+  pub base : (p : ℕ) → p < k → BaseFrom gone first rows u p 0 see
+
+pub record TailsTo (gone : ℕ → Bool) (rows : List ℕ) (k : ℕ) (see : ℕ → Bool) : Type 0 where
+  pub tail : (p : ℕ) → p < k → TailFrom gone rows p 0 see
+
+pub record FollowClosed (gone : ℕ → Bool) (first rows : List ℕ) (count u : ℕ) (see : ℕ → Bool) : Type 0 where
+  pub bases : BasesTo gone first rows count u see
+  pub tails : TailsTo gone rows count see
+
+-- a table filled once, with what then holds of it
+pub record Filled (C P : ℕ → (ℕ → Bool) → Type 0) (s r : List ℕ) : Type 0 where
+  pub size : length r ≡ length s
+  pub words : Words s → Words r
+  pub keeps : (u : ℕ) → Inside (sees s u) (sees r u)
+  pub sound : (u : ℕ) (see : ℕ → Bool) → C u see → Inside (sees s u) see → Inside (sees r u) see
+  pub holds : (u : ℕ) → P u (sees r u)
+
+module _ {C P : ℕ → (ℕ → Bool) → Type 0} (s : List ℕ) where
+  pub filled-none : ((u : ℕ) → P u (sees s u)) → Filled C P s s
+  filled-none p = record { size = refl; words = λ w. w; keeps = λ u n t. t; sound = λ u see c k. k; holds = p }
+
+module _ {C P Q R : ℕ → (ℕ → Bool) → Type 0} (s r q : List ℕ) where
+  pub filled-then : Filled C P s r → Filled C Q r q → ((u : ℕ) → Inside (sees r u) (sees q u) → P u (sees r u) → Q u (sees q u) → R u (sees q u)) → Filled C R s q
+  filled-then a b joins =
+      record {
+        size = b .size ∙ a .size;
+        words = λ w. b .words (a .words w);
+        keeps = λ u n t. b .keeps u n (a .keeps u n t);
+        sound = λ u see c k. b .sound u see c (a .sound u see c k);
+        holds = λ u. joins u (b .keeps u) (a .holds u) (b .holds u);
+      }
+
+-- the set of symbol x has got what `add` has
+pub record Gets (x : Symbol) (add u : ℕ) (see : ℕ → Bool) : Type 0 where
+  pub got : (n : ℕ) → x ≡ nonterminal n → T (members add u) → T (see n)
+
+pub filled-join : {C : ℕ → (ℕ → Bool) → Type 0} (s r : List ℕ) (x : Symbol) (add : ℕ) (c : Bool) → Joined s x add c r
+    → ((u : ℕ) (see : ℕ → Bool) → C u see → T (members add u) → (n : ℕ) → x ≡ nonterminal n → T (see n)) → Filled C (Gets x add) s r
+filled-join s r x add c j fine =
+    record {
+      size = j .size;
+      words = j .words;
+      keeps = j .keeps;
+      sound = λ u see k i n t. ⊎-elim (i n) (λ w. fine u see k (w .1) n (w .0)) (j .only u n t);
+      holds = λ u. record { got = λ n e t. j .adds n e u t };
+    }
+
+-- what the rest of a right side begins with
+pub record Rest (gone : ℕ → Bool) (first rows : List ℕ) (k i rest : ℕ) : Type 0 where
+  pub is : (u : ℕ) → members rest u ≡ opens true gone (sees first u) u false (drop i (rightAt rows k))
+
+module _ (gone : ℕ → Bool) (first : List ℕ) {rows : List ℕ} {count : ℕ} (image : Image rows count) (k : ℕ) (lt : k < count) where
+  pub rest-start : Rest gone first rows k (sizeAt rows k) 0
+  rest-start = record { is = λ u. none-in u ∙ sym (ap (opens true gone (sees first u) u false) (right-end image k lt (sizeAt rows k) (omega arith))) }
+
+  module _ (i : ℕ) (more : 0 < i) (upto : i ≤ sizeAt rows k) where
+    pub rest-step : (rest r : ℕ) → Rest gone first rows k i rest → ((u : ℕ) → members r u ≡ turn true gone (sees first u) u (symbolOf (byteAt rows k (i - 1))) (members rest u)) → Rest gone first rows k (i - 1) r
+    rest-step rest r a e = record { is = λ u. e u ∙ ap (turn true gone (sees first u) u (symbolOf (byteAt rows k (i - 1)))) (a .is u) ∙ sym (ap (opens true gone (sees first u) u false) (right-back image k lt i more upto)) }
+
+    pub base-fine : (rest : ℕ) → Rest gone first rows k i rest → (u : ℕ) (see : ℕ → Bool) → FollowClosed gone first rows count u see → T (members rest u) → (n : ℕ) → symbolOf (byteAt rows k (i - 1)) ≡ nonterminal n → T (see n)
+    base-fine rest a u see c t n e = c .bases .base k lt .at (i - 1) n (drop i (rightAt rows k)) zero-le (right-back image k lt i more upto ∙ ap (λ (x : Symbol). x ∷ drop i (rightAt rows k)) e) (rw (a .is u) at t)
+
+    pub base-more : (rest : ℕ) → Rest gone first rows k i rest → (u : ℕ) (f h : ℕ → Bool) → Inside f h → BaseFrom gone first rows u k i f → Gets (symbolOf (byteAt rows k (i - 1))) rest u h → BaseFrom gone first rows u k (i - 1) h
+    base-more rest a u f h sub b g = record { at = λ j n xs l e t. go j n xs l e t (decLt j i) }
+      where
+        go : (j n : ℕ) (xs : List Symbol) → i - 1 ≤ j → drop j (rightAt rows k) ≡ nonterminal n ∷ xs → T (opens true gone (sees first u) u false xs) → Dec (j < i) → T (h n)
+        go j n xs l e t (no m) = sub n (b .at j n xs (omega arith) e t)
+        go j n xs l e t (yes m) =
+            let q : j ≡ i - 1 = omega arith in
+            let d : symbolOf (byteAt rows k (i - 1)) ∷ drop i (rightAt rows k) ≡ nonterminal n ∷ xs = sym (right-back image k lt i more upto) ∙ ap (λ (y : ℕ). drop y (rightAt rows k)) (sym q) ∙ e in
+            let x : symbolOf (byteAt rows k (i - 1)) ≡ nonterminal n = cc in
+            let y : xs ≡ drop i (rightAt rows k) = cc in
+            g .got n x (rw (a .is u) (rw y at t))
+
+-- nothing behind the end
+pub base-end : (gone : ℕ → Bool) (first : List ℕ) {rows : List ℕ} {count : ℕ} → Image rows count → (k : ℕ) → k < count → (u : ℕ) (see : ℕ → Bool) → BaseFrom gone first rows u k (sizeAt rows k) see
+base-end gone first {rows} image k lt u see = record { at = λ j n xs l e t. absurd (let d : [] ≡ nonterminal n ∷ xs = sym (right-end image k lt j l) ∙ e in let z : _≡_ {A = ℕ} 0 1 = cc in omega arith) }
+
+pub base-lift : {gone : ℕ → Bool} {first rows : List ℕ} {u p : ℕ} (f h : ℕ → Bool) → Inside f h → BaseFrom gone first rows u p 0 f → BaseFrom gone first rows u p 0 h
+base-lift f h sub b = record { at = λ j n xs l e t. sub n (b .at j n xs l e t) }
+
+module _ (gone : ℕ → Bool) (first rows : List ℕ) (k u : ℕ) where
+  pub bases-more : (f h : ℕ → Bool) → Inside f h → BasesTo gone first rows k u f → BaseFrom gone first rows u k 0 h → BasesTo gone first rows (k + 1) u h
+  bases-more f h sub b g = record { base = λ p l. go p l (decLt p k) }
+    where
+      here : (p : ℕ) → p ≡ k → BaseFrom gone first rows u p 0 h
+      here p e = rw e g
+
+      go : (p : ℕ) → p < k + 1 → Dec (p < k) → BaseFrom gone first rows u p 0 h
+      go p l (yes m) = base-lift f h sub (b .base p m)
+      go p l (no m) = here p (omega arith)
+
+-- ---- one symbol before a string
+module _ (gone : ℕ → Bool) (first : List ℕ) (s rest u : ℕ) where
+  abbrev turned : Bool
+  turned = turn true gone (sees first u) u (symbolOf s) (members rest u)
+
+  at : (x : Symbol) → symbolOf s ≡ x → turned ≡ turn true gone (sees first u) u x (members rest u)
+  at x e = ap (λ (y : Symbol). turn true gone (sees first u) u y (members rest u)) e
+
+  pub turn-token : (r : ℕ) → s < 128 → setOf r ≡ singleton s → members r u ≡ turned
+  turn-token r h one = ap (λ (l : List Bool). has l u) one ∙ sym (at (terminal s) (symbol-terminal s h))
+
+  pub turn-on : 128 ≤ s → gone (s - 128) ≡ true → members (bitOr (getD first (s - 128) 0) rest) u ≡ turned
+  turn-on h c = or-is (getD first (s - 128) 0) rest u ∙ sym (at (nonterminal (s - 128)) (symbol-nonterminal s h) ∙ ap (λ (y : Bool). sees first u (s - 128) || (y && members rest u)) c)
+
+  pub turn-stop : 128 ≤ s → gone (s - 128) ≡ false → members (getD first (s - 128) 0) u ≡ turned
+  turn-stop h c = sym (at (nonterminal (s - 128)) (symbol-nonterminal s h) ∙ ap (λ (y : Bool). sees first u (s - 128) || (y && members rest u)) c ∙ or-false (sees first u (s - 128)))
+
+-- ---- tails
+-- behind place r of production k and behind all later ones everything derives nothing, behind no earlier one
+pub record Tail (gone : ℕ → Bool) (rows : List ℕ) (k r : ℕ) : Type 0 where
+  pub upto : r ≤ sizeAt rows k
+  pub inner : (j : ℕ) → r ≤ j → T (all (fit false gone) (drop (j + 1) (rightAt rows k)))
+  pub outer : (j n : ℕ) (rest : List Symbol) → j < r → drop j (rightAt rows k) ≡ nonterminal n ∷ rest → T (all (fit false gone) rest) → ⊥
+
+all-drop : (f : Symbol → Bool) (m : ℕ) (xs : List Symbol) → T (all f xs) → T (all f (drop m xs))
+all-drop f zero xs t = t
+all-drop f (suc m) [] t = tt
+all-drop f (suc m) (x ∷ xs) t = all-drop f m xs (both (f x) (all f xs) t .1)
+
+module _ (gone : ℕ → Bool) {rows : List ℕ} {count : ℕ} (image : Image rows count) (k : ℕ) (lt : k < count) where
+  -- what derives nothing from a place on derives nothing from a later one on
+  later : (i j : ℕ) → i ≤ j → T (all (fit false gone) (drop i (rightAt rows k))) → T (all (fit false gone) (drop j (rightAt rows k)))
+  later i j l t =
+      let e : i + (j - i) ≡ j = omega arith in
+      subst (λ (m : ℕ). T (all (fit false gone) (drop m (rightAt rows k)))) e (rw (drop-drop (j - i) i (rightAt rows k)) at (all-drop (fit false gone) (j - i) (drop i (rightAt rows k)) t))
+
+  behind : (j n : ℕ) (rest : List Symbol) → drop j (rightAt rows k) ≡ nonterminal n ∷ rest → rest ≡ drop (j + 1) (rightAt rows k)
+  behind j n rest e = sym (sym (drop-drop 1 j (rightAt rows k)) ∙ ap (drop 1) e)
+
+  pub tail-start : T (all (fit false gone) (drop (sizeAt rows k) (rightAt rows k)))
+  tail-start = rw (right-end image k lt (sizeAt rows k) (omega arith)) tt
+
+  module _ (i : ℕ) (more : 0 < i) (upto : i ≤ sizeAt rows k) (t : T (all (fit false gone) (drop i (rightAt rows k)))) where
+    pub tail-next : fit false gone (symbolOf (byteAt rows k (i - 1))) ≡ true → T (all (fit false gone) (drop (i - 1) (rightAt rows k)))
+    tail-next e = rw (right-back image k lt i more upto, e) t
+
+    pub tail-here : fit false gone (symbolOf (byteAt rows k (i - 1))) ≡ false → Tail gone rows k (i - 1)
+    tail-here e = record { upto = omega arith; inner = λ j l. later i (j + 1) (omega arith) t; outer = λ j n rest l q a. not-here (later (j + 1) (i - 1) (omega arith) (subst (λ (xs : List Symbol). T (all (fit false gone) xs)) (behind j n rest q) a)) }
+      where
+        not-here : T (all (fit false gone) (drop (i - 1) (rightAt rows k))) → ⊥
+        not-here a = rw (right-back image k lt i more upto, e) at a
+
+  pub tail-all : (i : ℕ) → i ≡ 0 → T (all (fit false gone) (drop i (rightAt rows k))) → Tail gone rows k i
+  tail-all i z t = record { upto = omega arith; inner = λ j l. later i (j + 1) (omega arith) t; outer = λ j n rest l q a. omega arith }
+
+-- places r to i - 1 of production k have got what comes after its left side
+pub record TailTo (rows : List ℕ) (k r i : ℕ) (see : ℕ → Bool) : Type 0 where
+  pub at : (j n : ℕ) (rest : List Symbol) → r ≤ j → j < i → drop j (rightAt rows k) ≡ nonterminal n ∷ rest → T (see (leftAt rows k)) → T (see n)
+
+module _ (gone : ℕ → Bool) {rows : List ℕ} {count : ℕ} (image : Image rows count) (k : ℕ) (lt : k < count) (r : ℕ) (tail : Tail gone rows k r) where
+  tail-fine : (first s : List ℕ) (add i : ℕ) → r ≤ i → i < sizeAt rows k → ((u : ℕ) → T (members add u) → T (sees s u (leftAt rows k)))
+      → (u : ℕ) (see : ℕ → Bool) → FollowClosed gone first rows count u see → Inside (sees s u) see → T (members add u) → (n : ℕ) → symbolOf (byteAt rows k i) ≡ nonterminal n → T (see n)
+  tail-fine first s add i l m from u see c sub t n e =
+      c .tails .tail k lt .at i n (drop (i + 1) (rightAt rows k)) zero-le (right-cons image k lt i m ∙ ap (λ (x : Symbol). x ∷ drop (i + 1) (rightAt rows k)) e) (tail .inner i l) (sub (leftAt rows k) (from u t))
+
+  pub tail-step : (first t s q : List ℕ) (i : ℕ) (c : Bool) → r ≤ i → i < sizeAt rows k → ((u : ℕ) → Inside (sees t u) (sees s u)) → Joined s (symbolOf (byteAt rows k i)) (getD t (leftAt rows k) 0) c q
+      → Passed (FollowClosed gone first rows count) (Gets (symbolOf (byteAt rows k i)) (getD t (leftAt rows k) 0)) s q c
+  tail-step first t s q i c l m keeps j =
+      passed-join s q (symbolOf (byteAt rows k i)) (getD t (leftAt rows k) 0) c j (tail-fine first s (getD t (leftAt rows k) 0) i l m (λ u. keeps u (leftAt rows k)))
+      (λ adds u. record { got = λ n e. adds n e u })
+
+  pub tail-more : (add i : ℕ) (u : ℕ) (see : ℕ → Bool) → i < sizeAt rows k → (T (see (leftAt rows k)) → T (members add u)) → TailTo rows k r i see → Gets (symbolOf (byteAt rows k i)) add u see → TailTo rows k r (i + 1) see
+  tail-more add i u see m from b g = record { at = λ j n xs l h e t. go j n xs l h e t (decLt j i) }
+    where
+      go : (j n : ℕ) (xs : List Symbol) → r ≤ j → j < i + 1 → drop j (rightAt rows k) ≡ nonterminal n ∷ xs → T (see (leftAt rows k)) → Dec (j < i) → T (see n)
+      go j n xs l h e t (yes q) = b .at j n xs l q e t
+      go j n xs l h e t (no q) =
+          let z : j ≡ i = omega arith in
+          let d : symbolOf (byteAt rows k i) ∷ drop (i + 1) (rightAt rows k) ≡ nonterminal n ∷ xs = sym (right-cons image k lt i m) ∙ ap (λ (y : ℕ). drop y (rightAt rows k)) (sym z) ∙ e in
+          let x : symbolOf (byteAt rows k i) ≡ nonterminal n = cc in
+          g .got n x (from t)
+
+  pub tail-done : (i : ℕ) (see : ℕ → Bool) → sizeAt rows k ≤ i → TailTo rows k r i see → TailFrom gone rows k 0 see
+  tail-done i see m b = record { at = λ j n xs l e a t. go j n xs e a t (decLt j r) (decLt j (sizeAt rows k)) }
+    where
+      go : (j n : ℕ) (xs : List Symbol) → drop j (rightAt rows k) ≡ nonterminal n ∷ xs → T (all (fit false gone) xs) → T (see (leftAt rows k)) → Dec (j < r) → Dec (j < sizeAt rows k) → T (see n)
+      go j n xs e a t (yes q) d = absurd (tail .outer j n xs q e a)
+      go j n xs e a t (no q) (yes d) = b .at j n xs (omega arith) (omega arith) e t
+      go j n xs e a t (no q) (no d) = absurd (let f : [] ≡ nonterminal n ∷ xs = sym (right-end image k lt j (omega arith)) ∙ e in let z : _≡_ {A = ℕ} 0 1 = cc in omega arith)
+
+pub tails-more : (gone : ℕ → Bool) (rows : List ℕ) (k : ℕ) (see : ℕ → Bool) → TailsTo gone rows k see → TailFrom gone rows k 0 see → TailsTo gone rows (k + 1) see
+tails-more gone rows k see b g = record { tail = λ p l. go p l (decLt p k) }
+  where
+    here : (p : ℕ) → p ≡ k → TailFrom gone rows p 0 see
+    here p e = rw e g
+
+    go : (p : ℕ) → p < k + 1 → Dec (p < k) → TailFrom gone rows p 0 see
+    go p l (yes m) = b .tail p m
+    go p l (no m) = here p (omega arith)
+
+-- ---- the whole
+pub record Followed (gone : ℕ → Bool) (first rows : List ℕ) (count start : ℕ) (r : List ℕ) : Type 0 where
+  pub begun : T (sees r endNumber start)
+  pub closed : (u : ℕ) → FollowClosed gone first rows count u (sees r u)
+  pub least : (u : ℕ) (see : ℕ → Bool) → FollowClosed gone first rows count u see → (u ≡ endNumber → T (see start)) → Inside (sees r u) see
+
+-- on the way there
+pub record Following (gone : ℕ → Bool) (first rows : List ℕ) (count start : ℕ) (t : List ℕ) : Type 0 where
+  pub size : length t ≡ 48
+  pub words : Words t
+  pub begun : T (sees t endNumber start)
+  pub bases : (u : ℕ) → BasesTo gone first rows count u (sees t u)
+  pub least : (u : ℕ) (see : ℕ → Bool) → FollowClosed gone first rows count u see → (u ≡ endNumber → T (see start)) → Inside (sees t u) see
+
+module _ (gone : ℕ → Bool) (first rows : List ℕ) (count start : ℕ) where
+  pub following-start : (s t : List ℕ) (c : Bool) → Joined (replicate 48 0) (nonterminal start) (2 ^ 63) c s → Filled (FollowClosed gone first rows count) (BasesTo gone first rows count) s t → Following gone first rows count start t
+  following-start s t c j f =
+      record {
+        size = f .size ∙ j .size;
+        words = f .words (j .words (zeros-words 48));
+        begun = f .keeps endNumber start (j .adds start refl endNumber (rw set-end (single-has endNumber (lit< tt))));
+        bases = f .holds;
+        least = λ u see k b. f .sound u see k (λ n h. ⊎-elim (λ z. absurd (zeros-none 48 u n z)) (there u see b n) (j .only u n h));
+      }
+    where
+      there : (u : ℕ) (see : ℕ → Bool) → (u ≡ endNumber → T (see start)) → (n : ℕ) → (nonterminal start ≡ nonterminal n) × T (members (2 ^ 63) u) → T (see n)
+      there u see b n w =
+          let q = w .0 in
+          let e : start ≡ n = cc in
+          rw (sym e) (b (single-only endNumber u (rw set-end at (w .1))))
+
+  module _ (s t : List ℕ) (f : Following gone first rows count start s) where
+    pub following-on : (c : Bool) → Passed (FollowClosed gone first rows count) (λ u. TailsTo gone rows count) s t c → Following gone first rows count start t
+    following-on c p =
+        record {
+          size = p .size ∙ f .size;
+          words = p .words (f .words);
+          begun = p .keeps endNumber start (f .begun);
+          bases = λ u. record { base = λ q l. base-lift (sees s u) (sees t u) (p .keeps u) (f .bases u .base q l) };
+          least = λ u see k b. p .sound u see k (f .least u see k b);
+        }
+
+    pub followed : Passed (FollowClosed gone first rows count) (λ u. TailsTo gone rows count) s t false → Followed gone first rows count start t
+    followed p = rw (p .stuck refl .0) (record { begun = f .begun; closed = λ u. record { bases = f .bases u; tails = p .stuck refl .1 u }; least = f .least })

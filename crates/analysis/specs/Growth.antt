@@ -1,0 +1,94 @@
+-- A word that grows, production by production, until nothing changes. C is what makes a view closed; P is what a step that changes nothing shows.
+use Prim.Native.Nat.{ℕ, _≤_, _<_}
+use native.Mathlib.Nat.{le-refl}
+use native.Mathlib.Omega.{arith}
+use mathlib.Core.Path.{_≡_, refl, sym, _∙_, subst}
+use mathlib.Core.Logic.{_⊎_, ⊎-elim}
+use mathlib.Core.Bool.{Bool, true, false, _||_}
+use lib.Bits.{bitOr}
+use lib.Dec.{T, eqb, eqb→eq, eqb-refl}
+use Rattle.meaning.specs.Sets.{has, singleton}
+use Rattle.theory_sets.specs.TokenSets.{has-union, has-empty, union-left, union-right, union-cases, single-has, single-only}
+use Rattle.theory_sets.specs.Widths.{both-true}
+use Rattle.token_set.specs.Words.{setOf, set-empty, set-or, or-grows}
+use Rattle.analysis.specs.Views.{members, Inside}
+
+pub or-left : (a b n : ℕ) → T (members a n) → T (members (bitOr a b) n)
+or-left a b n t = rw (set-or a b) (union-left (setOf a) (setOf b) n t)
+
+pub or-right : (a b n : ℕ) → T (members b n) → T (members (bitOr a b) n)
+or-right a b n t = rw (set-or a b) (union-right (setOf a) (setOf b) n t)
+
+pub or-members : (a b n : ℕ) → T (members (bitOr a b) n) → T (members a n) ⊎ T (members b n)
+or-members a b n t = union-cases (setOf a) (setOf b) n (rw (set-or a b) at t)
+
+pub or-is : (a b n : ℕ) → members (bitOr a b) n ≡ (members a n || members b n)
+or-is a b n = rw (set-or a b) (has-union (setOf a) (setOf b) n)
+
+pub or-assoc : (a b c : Bool) → ((a || b) || c) ≡ (a || (b || c))
+or-assoc true b c = refl
+or-assoc false b c = refl
+
+pub none-in : (n : ℕ) → members 0 n ≡ false
+none-in n = rw set-empty (has-empty n)
+
+-- the word of one nonterminal or token
+pub single-is : (m n : ℕ) → m < 64 → has (singleton m) n ≡ eqb m n
+single-is m n l = both-true (has (singleton m) n) (eqb m n) (λ t. rw (single-only m n t) (eqb-refl m)) (λ t. rw (sym (eqb→eq m n t)) (single-has m l))
+
+pub record Grown (C P : (ℕ → Bool) → Type 0) (s r : ℕ) : Type 0 where
+  pub grows : s ≤ r
+  pub keeps : Inside (members s) (members r)
+  pub sound : (see : ℕ → Bool) → C see → Inside (members s) see → Inside (members r) see
+  pub stuck : r ≡ s → P (members s)
+
+-- the end of the steps: the least closed word above s
+pub record Settled (C : (ℕ → Bool) → Type 0) (s r : ℕ) : Type 0 where
+  pub keeps : Inside (members s) (members r)
+  pub closed : C (members r)
+  pub least : (see : ℕ → Bool) → C see → Inside (members s) see → Inside (members r) see
+
+module _ {C P : (ℕ → Bool) → Type 0} (s : ℕ) where
+  pub grown-none : P (members s) → Grown C P s s
+  grown-none p = record { grows = le-refl s; keeps = λ n t. t; sound = λ see c k. k; stuck = λ e. p }
+
+  pub grown-or : (x : ℕ) → ((see : ℕ → Bool) → C see → Inside (members s) see → Inside (members x) see) → (Inside (members x) (members s) → P (members s)) → Grown C P s (bitOr s x)
+  grown-or x fine closes =
+      record {
+        grows = or-grows s x;
+        keeps = or-left s x;
+        sound = λ see c k n t. ⊎-elim (k n) (fine see c k n) (or-members s x n t);
+        stuck = λ e. closes (λ n t. rw e at (or-right s x n t));
+      }
+
+module _ {C P Q R : (ℕ → Bool) → Type 0} (s r q : ℕ) where
+  -- one step after another
+  pub grown-then : Grown C P s r → Grown C Q r q → (P (members s) → Q (members s) → R (members s)) → Grown C R s q
+  grown-then a b joins =
+      record {
+        grows = omega (arith, a .grows, b .grows);
+        keeps = λ n t. b .keeps n (a .keeps n t);
+        sound = λ see c k. b .sound see c (a .sound see c k);
+        stuck = λ e. joins (a .stuck (same e)) (subst (λ (x : ℕ). Q (members x)) (same e) (b .stuck (e ∙ sym (same e))));
+      }
+    where
+      same : q ≡ s → r ≡ s
+      same e = omega (arith, a .grows, b .grows)
+
+pub grown-map : {C P Q : (ℕ → Bool) → Type 0} (s r : ℕ) → Grown C P s r → (P (members s) → Q (members s)) → Grown C Q s r
+grown-map s r a f = record { grows = a .grows; keeps = a .keeps; sound = a .sound; stuck = λ e. f (a .stuck e) }
+
+-- on the way there
+pub record Rising (C : (ℕ → Bool) → Type 0) (s r : ℕ) : Type 0 where
+  pub keeps : Inside (members s) (members r)
+  pub least : (see : ℕ → Bool) → C see → Inside (members s) see → Inside (members r) see
+
+module _ {C : (ℕ → Bool) → Type 0} (s : ℕ) where
+  pub rising-start : Rising C s s
+  rising-start = record { keeps = λ n t. t; least = λ see c k. k }
+
+  pub rising-on : {P : (ℕ → Bool) → Type 0} (r q : ℕ) → Rising C s r → Grown C P r q → Rising C s q
+  rising-on r q a b = record { keeps = λ n t. b .keeps n (a .keeps n t); least = λ see c k. b .sound see c (a .least see c k) }
+
+  pub settled : (r q : ℕ) → Rising C s r → Grown C C r q → q ≡ r → Settled C s r
+  settled r q a b e = record { keeps = a .keeps; closed = b .stuck e; least = a .least }

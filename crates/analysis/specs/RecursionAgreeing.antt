@@ -1,0 +1,141 @@
+-- The left recursive nonterminals over the rows are those that 01's definition computes.
+use Prim.Native.Nat.{ℕ, _<_, zero-le}
+use native.Mathlib.Omega.{arith}
+use mathlib.Core.Path.{_≡_, refl, sym, _∙_, subst}
+use mathlib.Core.Logic.{_⊎_, inl, inr}
+use mathlib.Core.Bool.{Bool, false, _&&_, _||_}
+use mathlib.Core.List.{List, [], _∷_, _++_, nil≢cons, head-eq-of-cons-eq}
+use lib.Dec.{T, eqb, eqb→eq, eqb-refl, ltb→lt}
+use lib.ListN.{getD}
+use Rattle.meaning.specs.Base.{all, any}
+use Rattle.meaning.specs.Grammar.{Symbol, terminal, nonterminal, Grammar, productionAt, nonterminalCount, isNonterminal}
+use Rattle.meaning.specs.Derivation.{Listed, LeftRecursive}
+use Rattle.meaning.specs.Sets.{rounds, nullable, emptySymbol, productionsOf}
+use Rattle.meaning.specs.Decide.{leads, leadsTo, leadsOn, isLeftRecursive}
+use Rattle.theory_base.specs.Members.{and, both, or-cases, or-left, or-right}
+use Rattle.theory_sets.specs.Derivations.{Yields, nothing, same, expand, derives→yields}
+use Rattle.theory_sets.specs.Tests.{tabled-cases, tabled-at}
+use Rattle.theory_sets.specs.Productions.{known, Chosen, of-cases, of-at, symbols}
+use Rattle.theory_sets.specs.Nullable.{nullable-closed, yields→emptyString}
+use Rattle.theory_sets.specs.Spread.{spread-grows, spread-closed}
+use Rattle.theory_sets.specs.LeftRecursion.{recursive→LeftRecursive}
+use Rattle.theory_sets.specs.LeastSets.{led-least}
+use Rattle.theory_sets.specs.Widths.{both-true}
+use Rattle.analysis.specs.Rows.{Rows, leftAt, rightAt}
+use Rattle.analysis.specs.Views.{members, sees, Inside, opens, opens-more}
+use Rattle.analysis.specs.Recursion.{Recursive}
+use Rattle.analysis.specs.Agreeing.{Marks, listed, counted}
+
+-- a front that is seen stands behind symbols that derive nothing
+pub opens-leads : (gone see : ℕ → Bool) (e : List Bool) → ((n : ℕ) → gone n ≡ getD e n false) → (u : ℕ) (xs : List Symbol) → T (opens false gone see u false xs) → (m : ℕ) × T (leads e m xs) × T (see m)
+opens-leads gone see e marks u [] t = absurd t
+opens-leads gone see e marks u (terminal s ∷ xs) t = absurd t
+opens-leads gone see e marks u (nonterminal n ∷ xs) t = go (or-cases (see n) (gone n && opens false gone see u false xs) t) (opens-leads gone see e marks u xs)
+  where
+    go : T (see n) ⊎ T (gone n && opens false gone see u false xs) → (T (opens false gone see u false xs) → (m : ℕ) × T (leads e m xs) × T (see m)) → (m : ℕ) × T (leads e m (nonterminal n ∷ xs)) × T (see m)
+    go (inl h) k = (n, or-left (eqb n n) (getD e n false && leads e n xs) (eqb-refl n), h)
+    go (inr h) k =
+        let w = k (both (gone n) (opens false gone see u false xs) h .1) in
+        (w .0, or-right (eqb n (w .0)) (getD e n false && leads e (w .0) xs) (and (getD e n false) (leads e (w .0) xs) (rw (marks n) at (both (gone n) (opens false gone see u false xs) h .0)) (w .1)), w .2)
+
+-- what leads is a known nonterminal
+known-lead : (g : Grammar) (e : List Bool) (m : ℕ) (xs : List Symbol) → T (all (known g) xs) → T (leads e m xs) → m < nonterminalCount g
+known-lead g e m [] k t = absurd t
+known-lead g e m (x ∷ xs) k t = go x (both (known g x) (all (known g) xs) k .0) (or-cases (isNonterminal m x) (emptySymbol e x && leads e m xs) t) (known-lead g e m xs (both (known g x) (all (known g) xs) k .1))
+  where
+    go : (y : Symbol) → T (known g y) → T (isNonterminal m y) ⊎ T (emptySymbol e y && leads e m xs) → (T (leads e m xs) → m < nonterminalCount g) → m < nonterminalCount g
+    go (terminal s) q (inl h) j = absurd h
+    go (nonterminal n) q (inl h) j = rw (sym (eqb→eq n m h)) (ltb→lt n (nonterminalCount g) q)
+    go y q (inr h) j = j (both (emptySymbol e y) (leads e m xs) h .1)
+
+module _ {rows : List ℕ} {count : ℕ} {g : Grammar} (r : Rows rows count g) (null : ℕ) (gone : Marks null (nullable g)) where
+  abbrev led : ℕ → List Bool
+  led n = rounds (nonterminalCount g) (leadsOn g) (leadsTo g n)
+
+  -- where a production of n leads, and on from there
+  led-start : (p m : ℕ) → Listed g p → T (leads (nullable g) m (productionAt g p .right)) → T (getD (led (productionAt g p .left)) m false)
+  led-start p m l t =
+      let k = known-lead g (nullable g) m (productionAt g p .right) (symbols (r .sound) p l) t in
+      spread-grows (r .sound) (leads (nullable g)) (nonterminalCount g) (leadsTo g (productionAt g p .left)) m k
+      (tabled-at (λ q. any (λ x. leads (nullable g) q (x .right)) (productionsOf g (productionAt g p .left))) (nonterminalCount g) m k (of-at (r .sound) (λ x. leads (nullable g) m (x .right)) p l t))
+
+  led-next : (n m p : ℕ) → Listed g p → T (getD (led n) (productionAt g p .left) false) → T (leads (nullable g) m (productionAt g p .right)) → T (getD (led n) m false)
+  led-next n m p l h t = spread-closed (r .sound) (leads (nullable g)) (leadsTo g n) m p (known-lead g (nullable g) m (productionAt g p .right) (symbols (r .sound) p l) t) l h t
+
+  led-trans : (a m n : ℕ) → T (getD (led a) m false) → T (getD (led m) n false) → T (getD (led a) n false)
+  led-trans a m n h = led-least (r .sound) m (led a) start (λ k p l. led-next a k p l) n
+    where
+      start : (k : ℕ) → T (getD (leadsTo g m) k false) → T (getD (led a) k false)
+      start k t = go (of-cases (r .sound) (λ x. leads (nullable g) k (x .right)) m (tabled-cases (λ q. any (λ x. leads (nullable g) q (x .right)) (productionsOf g m)) (nonterminalCount g) k t .1))
+        where
+          go : Chosen g (λ p. eqb (p .left) m && leads (nullable g) k (p .right)) → T (getD (led a) k false)
+          go c =
+              let q = productionAt g (c .number) in
+              let e = eqb→eq (q .left) m (both (eqb (q .left) m) (leads (nullable g) k (q .right)) (c .passes) .0) in
+              led-next a k (c .number) (c .listed) (rw e h) (both (eqb (q .left) m) (leads (nullable g) k (q .right)) (c .passes) .1)
+
+  -- m is n or leads to n
+  abbrev reaches : ℕ → ℕ → Bool
+  reaches n m = eqb m n || getD (led m) n false
+
+  lead-on : (n p : ℕ) → Listed g p → T (opens false (members null) (reaches n) n false (productionAt g p .right)) → T (getD (led (productionAt g p .left)) n false)
+  lead-on n p l t = go (opens-leads (members null) (reaches n) (nullable g) (gone .is) n (productionAt g p .right) t)
+    where
+      go : (m : ℕ) × T (leads (nullable g) m (productionAt g p .right)) × T (reaches n m) → T (getD (led (productionAt g p .left)) n false)
+      go w = on (or-cases (eqb (w .0) n) (getD (led (w .0)) n false) (w .2))
+        where
+          on : T (eqb (w .0) n) ⊎ T (getD (led (w .0)) n false) → T (getD (led (productionAt g p .left)) n false)
+          on (inl e) = rw (eqb→eq (w .0) n e) at (led-start p (w .0) l (w .1))
+          on (inr h) = led-trans (productionAt g p .left) (w .0) n (led-start p (w .0) l (w .1)) h
+
+  module _ (w : ℕ) (st : Recursive (members null) rows count w) where
+    fronts-inside : (n : ℕ) → Inside (sees (st .fronts) n) (reaches n)
+    fronts-inside n = st .settled .least n (reaches n) (record { at = λ p _ l t. rw (r .left p l) (or-right (eqb (productionAt g p .left) n) (getD (led (productionAt g p .left)) n false) (lead-on n p (listed r p l) (rw (r .right p l) at t))) }) own
+      where
+        own : Inside (sees (st .own) n) (reaches n)
+        own m t = or-left (eqb m n) (getD (led m) n false) (rw (st .each .only n m t) (eqb-refl m))
+
+    to : (n : ℕ) → T (members w n) → T (isLeftRecursive g n)
+    to n t =
+        let q = st .found .outof n t in
+        let l = q .1 in
+        let e : productionAt g (q .0) .left ≡ n = sym (r .left (q .0) l) ∙ q .2 in
+        let b = opens-more false (members null) (sees (st .fronts) n) (reaches n) n (fronts-inside n) false false (λ h. h) (rightAt rows (q .0)) (q .3) in
+        subst (λ (m : ℕ). T (getD (led m) n false)) e (lead-on n (q .0) (listed r (q .0) l) (rw (r .right (q .0) l) at b))
+
+    -- a string that derives one with m at its front begins with m by the fronts
+    yields-front : (m : ℕ) {xs ys : List Symbol} → Yields g xs ys → (a : List Symbol) → ys ≡ nonterminal m ∷ a → T (all (known g) xs) → T (opens false (members null) (sees (st .fronts) m) m false xs)
+    yields-front m nothing a e k = absurd (nil≢cons e)
+    yields-front m (same x {xs} d) a e k =
+        let h = head-eq-of-cons-eq e in
+        let l = ltb→lt m (nonterminalCount g) (rw h at (both (known g x) (all (known g) xs) k .0)) in
+        rw h (or-left (sees (st .fronts) m m) (members null m && opens false (members null) (sees (st .fronts) m) m false xs) (st .settled .keeps m m (st .each .own m (let z = r .narrow in omega arith))))
+    yields-front m (expand p {xs} {zs} {ys} l d d′) a e k = go zs e d (λ b h i. yields-front m d b h i) (λ b h i. yields-front m d′ b h i)
+      where
+        go : (zs : List Symbol) → zs ++ ys ≡ nonterminal m ∷ a → Yields g (productionAt g p .right) zs
+            → ((b : List Symbol) → zs ≡ nonterminal m ∷ b → T (all (known g) (productionAt g p .right)) → T (opens false (members null) (sees (st .fronts) m) m false (productionAt g p .right)))
+            → ((b : List Symbol) → ys ≡ nonterminal m ∷ b → T (all (known g) xs) → T (opens false (members null) (sees (st .fronts) m) m false xs))
+            → T (opens false (members null) (sees (st .fronts) m) m false (nonterminal (productionAt g p .left) ∷ xs))
+        go [] e d i j =
+            or-right (sees (st .fronts) m (productionAt g p .left)) (members null (productionAt g p .left) && opens false (members null) (sees (st .fronts) m) m false xs)
+            (and (members null (productionAt g p .left)) (opens false (members null) (sees (st .fronts) m) m false xs)
+            (rw (gone .is (productionAt g p .left)) (nullable-closed (r .sound) p l (yields→emptyString (r .sound) d refl)))
+            (j a e (both (known g (nonterminal (productionAt g p .left))) (all (known g) xs) k .1)))
+        go (z ∷ zs) e d i j =
+            let c = counted r p l in
+            let b = i zs (cc (head-eq-of-cons-eq e)) (symbols (r .sound) p l) in
+            or-left (sees (st .fronts) m (productionAt g p .left)) (members null (productionAt g p .left) && opens false (members null) (sees (st .fronts) m) m false xs)
+            (rw (r .left p c) at (st .settled .closed m .at p zero-le c (rw (r .right p c) b)))
+
+    back : (n : ℕ) → T (isLeftRecursive g n) → T (members w n)
+    back n t = go (recursive→LeftRecursive (r .sound) n t)
+      where
+        go : LeftRecursive g n → T (members w n)
+        go q =
+            let c = counted r (q .0) (q .2) in
+            let e : leftAt rows (q .0) ≡ n = r .left (q .0) c ∙ q .3 in
+            let b = yields-front n (derives→yields (q .4)) (q .1) refl (symbols (r .sound) (q .0) (q .2)) in
+            rw e at (st .found .into (q .0) c (rw (e, r .right (q .0) c) b))
+
+    pub recursive-is : (n : ℕ) → members w n ≡ isLeftRecursive g n
+    recursive-is n = both-true (members w n) (isLeftRecursive g n) (to n) (back n)

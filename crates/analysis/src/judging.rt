@@ -1,0 +1,40 @@
+// The lowest nonterminal that is useless or left recursive.
+use token_set::TokenSet;
+ghost use mathlib.Core.Path.{_≡_};
+ghost use mathlib.Core.Bool.{true, false, not, _&&_};
+ghost use Prim.Native.Nat.{ℕ, _+_, _<_, _≤_};
+ghost use Rattle.analysis.specs.Views.{members};
+ghost use Rattle.analysis.specs.Numbers.{Found};
+
+// The lowest of the first n numbers that is not in both sets; n where there is none.
+pub fn lowest_useless(reached: u64, productive: u64, n: usize) -> usize
+    requires { ⌜ n ≤ 48 ⌝ }
+    ensures { λ r. ⌜ Found (λ i. not (members reached i && members productive i)) n r ⌝ }
+{
+    let mut i: usize = 0;
+    while i < n {
+        if !TokenSet(reached).has(i as u8) {
+            return i;
+        }
+        if !TokenSet(productive).has(i as u8) {
+            return i;
+        }
+        i += 1;
+    }
+    i
+}
+
+// The lowest of the first n numbers that is in the set; n where there is none.
+pub fn lowest_in(set: u64, n: usize) -> usize
+    requires { ⌜ n ≤ 48 ⌝ }
+    ensures { λ r. ⌜ Found (members set) n r ⌝ }
+{
+    let mut i: usize = 0;
+    while i < n {
+        if TokenSet(set).has(i as u8) {
+            return i;
+        }
+        i += 1;
+    }
+    i
+}

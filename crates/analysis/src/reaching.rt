@@ -1,0 +1,78 @@
+// The nonterminals that the start symbol reaches.
+use token_set::TokenSet;
+ghost use mathlib.Core.Path.{_≡_};
+ghost use mathlib.Core.Bool.{true, false};
+ghost use Prim.Native.Nat.{ℕ, _+_, _*_, _<_, _≤_};
+ghost use Rattle.meaning.specs.Base.{any};
+ghost use Rattle.meaning.specs.Grammar.{isNonterminal};
+ghost use Rattle.meaning.specs.Table.{symbolOf};
+ghost use Rattle.analysis.specs.Rows.{Image, rightAt};
+ghost use Rattle.analysis.specs.Views.{members, ReachAt, Within};
+ghost use Rattle.analysis.specs.Growth.{Grown, Settled};
+
+// The set of a symbol: its nonterminal, or nothing for a token.
+fn symbol_set(s: u8) -> u64
+    requires { ⌜ s < 176 ⌝ }
+    ensures { λ r. ⌜ ((n : ℕ) → members r n ≡ isNonterminal n (symbolOf s)) ⌝ }
+{
+    if s < 128 {
+        return TokenSet::EMPTY.0;
+    }
+    TokenSet::of_token(s - 128).0
+}
+
+// The nonterminals on the right of production k.
+fn right_set(rows: &[u8; 2048], count: usize, k: usize) -> u64
+    requires { ⌜ Image (now rows) count × (k < count) ⌝ }
+    ensures { λ r. ⌜ ((n : ℕ) → members r n ≡ any (isNonterminal n) (rightAt (now (rows .entry)) k)) ⌝ }
+{
+    let at = k * 16;
+    let n = rows[at + 1] as usize;
+    let mut out = TokenSet::EMPTY.0;
+    let mut i: usize = 0;
+    while i < n {
+        out |= symbol_set(rows[at + 2 + i]);
+        i += 1;
+    }
+    out
+}
+
+// The set, with the nonterminals on the right of production k where its left side is in.
+fn reach_by(rows: &[u8; 2048], count: usize, k: usize, set: u64) -> u64
+    requires { ⌜ Image (now rows) count × (k < count) ⌝ }
+    ensures { λ r. ⌜ Grown (Within (ReachAt (now (rows .entry))) 0 count) (ReachAt (now (rows .entry)) k) set r ⌝ }
+{
+    if !TokenSet(set).has(rows[k * 16]) {
+        return set;
+    }
+    set | right_set(rows, count, k)
+}
+
+// One round over the productions.
+fn reach_round(rows: &[u8; 2048], count: usize, set: u64) -> u64
+    requires { ⌜ Image (now rows) count ⌝ }
+    ensures { λ r. ⌜ Grown (Within (ReachAt (now (rows .entry))) 0 count) (Within (ReachAt (now (rows .entry))) 0 count) set r ⌝ }
+{
+    let mut next = set;
+    let mut k: usize = 0;
+    while k < count {
+        next = reach_by(rows, count, k, next);
+        k += 1;
+    }
+    next
+}
+
+// The nonterminals that those of a set reach.
+pub fn reach(rows: &[u8; 2048], count: usize, first: u64) -> u64
+    requires { ⌜ Image (now rows) count ⌝ }
+    ensures { λ r. ⌜ Settled (Within (ReachAt (now (rows .entry))) 0 count) first r ⌝ }
+{
+    let mut set = first;
+    loop {
+        let next = reach_round(rows, count, set);
+        if next == set {
+            return set;
+        }
+        set = next;
+    }
+}

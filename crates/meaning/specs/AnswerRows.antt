@@ -1,0 +1,36 @@
+-- Which refusals an opening, a feed and a finish may answer with.
+use Prim.Native.Nat.{ℕ}
+use mathlib.Core.Path.{_≡_, refl}
+use mathlib.Core.Bool.{Bool, true, false}
+use mathlib.Core.List.{List, [], _∷_, map}
+use lib.IntN.{pos}
+use Rattle.meaning.specs.Base.{keep, countFrom}
+use Rattle.meaning.specs.Calls.{Answer, more, value, refused, tableRefused}
+use Rattle.meaning.specs.PublicCalls.{feed, finish}
+use Rattle.meaning.specs.Statements.{openingAnswer, callAnswer}
+
+-- the numbers below 40 that are answered
+abbrev numbers : (ℕ → Answer) → (Answer → Bool) → List ℕ
+numbers made may = keep (λ k. may (made k)) (countFrom 0 40)
+
+opening-refusals : numbers (λ k. refused k 0) openingAnswer ≡ 30 ∷ 31 ∷ 32 ∷ []
+opening-refusals = refl
+
+feed-refusals : numbers (λ k. refused k 0) (callAnswer (feed [])) ≡ 20 ∷ 21 ∷ 22 ∷ 23 ∷ 30 ∷ 31 ∷ 32 ∷ 33 ∷ 34 ∷ 35 ∷ []
+feed-refusals = refl
+
+finish-refusals : numbers (λ k. refused k 0) (callAnswer finish) ≡ 22 ∷ 23 ∷ 24 ∷ 30 ∷ 31 ∷ 32 ∷ 33 ∷ 34 ∷ 35 ∷ []
+finish-refusals = refl
+
+table-refusals : map (numbers (λ k. tableRefused k 0)) (openingAnswer ∷ callAnswer (feed []) ∷ callAnswer finish ∷ []) ≡ (countFrom 1 13) ∷ (countFrom 1 13) ∷ (countFrom 1 13) ∷ []
+table-refusals = refl
+
+-- opened with 0 moves, fed with any number, finished with a value of 32 bits
+going-on : map openingAnswer (more 0 ∷ more 1 ∷ value (pos 0) 0 ∷ []) ≡ true ∷ false ∷ false ∷ []
+going-on = refl
+
+fed : map (callAnswer (feed [])) (more 9 ∷ value (pos 0) 0 ∷ []) ≡ true ∷ false ∷ []
+fed = refl
+
+finished : map (callAnswer finish) (more 9 ∷ value (pos 2147483647) 9 ∷ value (pos 2147483648) 9 ∷ []) ≡ false ∷ true ∷ false ∷ []
+finished = refl

@@ -1,0 +1,88 @@
+-- How a grammar is laid out in a table's bytes, as a relation: rules and conditions of a production come in any order, so a grammar has several tables. 01: "fields: one-byte tag, two-byte length, body. Numbers are unsigned and big-endian; constants and bounds are four-byte two's complement. Every other number in a body is one byte, so an occurrence is two."
+use Prim.Native.Nat.{ℕ, zero, suc, _+_, _-_, _/_, _%_, _≤_, _<_}
+use mathlib.Core.Path.{_≡_}
+use mathlib.Core.List.{List, [], _∷_, _++_, map}
+use lib.ListN.{length}
+use lib.IntN.{ℤ, pos, negsuc}
+use Rattle.meaning.specs.Base.{In}
+use Rattle.meaning.specs.Grammar.{Symbol, terminal, nonterminal, Occurrence, Function, const, copy, sum, diff, prod, maxi, mini, addc, quot, Rule, Condition, range, atmost, Production, Counts, Grammar, nonterminalCount}
+
+-- ---- numbers
+
+abbrev pub field : ℕ → List ℕ → List ℕ
+field tag body = tag ∷ length body / 256 ∷ length body % 256 ∷ body
+
+abbrev pub unsigned : ℤ → ℕ
+unsigned (pos n) = n
+unsigned (negsuc n) = 4294967295 - n
+
+abbrev pub fourBytes : ℕ → List ℕ
+fourBytes n = n / 16777216 % 256 ∷ n / 65536 % 256 ∷ n / 256 % 256 ∷ n % 256 ∷ []
+
+abbrev pub constantBytes : ℤ → List ℕ
+constantBytes c = fourBytes (unsigned c)
+
+abbrev pub occurrenceBytes : Occurrence → List ℕ
+occurrenceBytes o = o .position ∷ o .attribute ∷ []
+
+-- 01: "Among symbols a terminal is its number, a nonterminal 128 plus its number"
+abbrev pub symbolByte : Symbol → ℕ
+symbolByte (terminal t) = t
+symbolByte (nonterminal n) = 128 + n
+
+-- ---- bodies
+
+-- 01: "T .., N .., start nonterminal, index of its result attribute"
+abbrev pub headerBytes : Grammar → List ℕ
+headerBytes g = g .terminals ∷ nonterminalCount g ∷ g .start ∷ g .result ∷ []
+
+abbrev pub countsBytes : Counts → List ℕ
+countsBytes c = c .inherited ∷ c .synthesized ∷ []
+
+abbrev pub productionBytes : Production → List ℕ
+productionBytes p = p .left ∷ length (p .right) ∷ map symbolByte (p .right)
+
+-- 01: "function, operands. Functions: 0 const c; 1 copy a; 2 sum a b; 3 diff a b; 4 prod a b; 5 max a b; 6 min a b; 7 addc a c; 8 quot a c"
+abbrev pub functionBytes : Function Occurrence → List ℕ
+functionBytes (const c) = 0 ∷ constantBytes c
+functionBytes (copy a) = 1 ∷ occurrenceBytes a
+functionBytes (sum a b) = 2 ∷ occurrenceBytes a ++ occurrenceBytes b
+functionBytes (diff a b) = 3 ∷ occurrenceBytes a ++ occurrenceBytes b
+functionBytes (prod a b) = 4 ∷ occurrenceBytes a ++ occurrenceBytes b
+functionBytes (maxi a b) = 5 ∷ occurrenceBytes a ++ occurrenceBytes b
+functionBytes (mini a b) = 6 ∷ occurrenceBytes a ++ occurrenceBytes b
+functionBytes (addc a c) = 7 ∷ occurrenceBytes a ++ constantBytes c
+functionBytes (quot a c) = 8 ∷ occurrenceBytes a ++ constantBytes c
+
+abbrev pub ruleBytes : Rule Occurrence → List ℕ
+ruleBytes r = occurrenceBytes (r .target) ++ functionBytes (r .function)
+
+-- 01: "kind 0, occurrence, low, high; kind 1, two occurrences"
+abbrev pub conditionBytes : Condition Occurrence → List ℕ
+conditionBytes (range o l h) = 0 ∷ occurrenceBytes o ++ (constantBytes l ++ constantBytes h)
+conditionBytes (atmost o u) = 1 ∷ occurrenceBytes o ++ occurrenceBytes u
+
+-- ---- the table
+
+-- 01: "After a production its rules and conditions come in any order."
+pub data RulesAndConditions : List (Rule Occurrence) → List (Condition Occurrence) → List ℕ → Type 0 where
+  nothing : RulesAndConditions [] [] []
+  rule : (r : Rule Occurrence) {rs : List (Rule Occurrence)} {cs : List (Condition Occurrence)} {bs : List ℕ} → RulesAndConditions rs cs bs → RulesAndConditions (r ∷ rs) cs (field 4 (ruleBytes r) ++ bs)
+  condition : (c : Condition Occurrence) {rs : List (Rule Occurrence)} {cs : List (Condition Occurrence)} {bs : List ℕ} → RulesAndConditions rs cs bs → RulesAndConditions rs (c ∷ cs) (field 5 (conditionBytes c) ++ bs)
+
+pub data Productions : List Production → List ℕ → Type 0 where
+  nothing : Productions [] []
+  production : (p : Production) {ps : List Production} {body rest : List ℕ} → RulesAndConditions (p .rules) (p .conditions) body → Productions ps rest → Productions (p ∷ ps) (field 3 (productionBytes p) ++ (body ++ rest))
+
+abbrev pub countsFields : List Counts → List ℕ
+countsFields [] = []
+countsFields (c ∷ cs) = field 2 (countsBytes c) ++ countsFields cs
+
+pub record LaidOut (g : Grammar) (bs : List ℕ) : Type 0 where
+  pub rest : List ℕ
+  pub productions : Productions (g .productions) rest
+  pub isTable : bs ≡ field 1 (headerBytes g) ++ (countsFields (g .counts) ++ rest)
+
+-- a table is a list of bytes
+abbrev pub Bytes : List ℕ → Type 0
+Bytes bs = (b : ℕ) → In b bs → b < 256

@@ -1,0 +1,154 @@
+-- The program: the translation scheme of a grammar as 32-bit words, in the layout that docs/PROGRAM.md describes. 01: "Its content depends on the table alone, in a layout written in docs/"
+-- Four sections: 8 words on the whole segment; the directory, 64 words for each nonterminal; a record of 8 words for each production; then each production's body: where its expects stand, its entry tests, its scheme.
+use Prim.Native.Nat.{ℕ, zero, suc, _+_, _*_}
+use mathlib.Core.Bool.{Bool, true, false, _&&_}
+use mathlib.Core.List.{List, [], _∷_, _++_, map}
+use lib.ListN.{length}
+use lib.Dec.{eqb}
+use Rattle.meaning.specs.Base.{countFrom}
+use Rattle.meaning.specs.Grammar.{Symbol, terminal, nonterminal, Function, const, copy, sum, diff, prod, maxi, mini, addc, quot, Rule, Condition, range, atmost, Production, Grammar, syn, nonterminalCount}
+use Rattle.meaning.specs.Scheme.{Instruction, add, evaluate, expect, test, remove, scheme, entryTests}
+use Rattle.meaning.specs.Sets.{TokenSet, has, starts}
+use Rattle.meaning.specs.Layout.{unsigned}
+
+abbrev pub concat : {A : Type 0} → List (List A) → List A
+concat [] = []
+concat (xs ∷ xss) = xs ++ concat xss
+
+-- ---- rules and conditions
+
+-- 4 numbers in one word: selectors are below 128, functions below 16
+abbrev pub packed : ℕ → ℕ → ℕ → ℕ → ℕ
+packed target function a b = target + 128 * function + 2048 * a + 262144 * b
+
+-- two words for a rule: target, function and operands; the constant
+abbrev pub functionWords : ℕ → Function ℕ → List ℕ
+functionWords t (const c) = packed t 0 0 0 ∷ unsigned c ∷ []
+functionWords t (copy a) = packed t 1 a 0 ∷ 0 ∷ []
+functionWords t (sum a b) = packed t 2 a b ∷ 0 ∷ []
+functionWords t (diff a b) = packed t 3 a b ∷ 0 ∷ []
+functionWords t (prod a b) = packed t 4 a b ∷ 0 ∷ []
+functionWords t (maxi a b) = packed t 5 a b ∷ 0 ∷ []
+functionWords t (mini a b) = packed t 6 a b ∷ 0 ∷ []
+functionWords t (addc a c) = packed t 7 a 0 ∷ unsigned c ∷ []
+functionWords t (quot a c) = packed t 8 a 0 ∷ unsigned c ∷ []
+
+abbrev pub ruleWords : Rule ℕ → List ℕ
+ruleWords r = functionWords (r .target) (r .function)
+
+-- three words for a condition: kind and selectors; low; high
+abbrev pub conditionWords : Condition ℕ → List ℕ
+conditionWords (range a l h) = packed a 0 0 0 ∷ unsigned l ∷ unsigned h ∷ []
+conditionWords (atmost a b) = packed a 1 b 0 ∷ 0 ∷ 0 ∷ []
+
+-- ---- instructions: a head word, the operation's number plus 8 times its operand, and the items of an evaluate or a test
+
+abbrev pub symbolHead : Symbol → ℕ
+symbolHead (terminal t) = 2 + 8 * t
+symbolHead (nonterminal n) = 3 + 8 * n
+
+abbrev pub instructionWords : Instruction → List ℕ
+instructionWords (add n) = (0 + 8 * n) ∷ []
+instructionWords (evaluate rs) = (1 + 8 * length rs) ∷ concat (map ruleWords rs)
+instructionWords (expect x) = symbolHead x ∷ []
+instructionWords (test cs) = (4 + 8 * length cs) ∷ concat (map conditionWords cs)
+instructionWords (remove n) = (5 + 8 * n) ∷ []
+
+abbrev pub schemeWords : List Instruction → List ℕ
+schemeWords is = concat (map instructionWords is)
+
+-- the addresses of the expects of a scheme that begins at address a
+abbrev pub expectsAt : ℕ → List Instruction → List ℕ
+expectsAt a [] = []
+expectsAt a (expect x ∷ is) = a ∷ expectsAt (suc a) is
+expectsAt a (add n ∷ is) = expectsAt (a + length (instructionWords (add n))) is
+expectsAt a (evaluate rs ∷ is) = expectsAt (a + length (instructionWords (evaluate rs))) is
+expectsAt a (test cs ∷ is) = expectsAt (a + length (instructionWords (test cs))) is
+expectsAt a (remove n ∷ is) = expectsAt (a + length (instructionWords (remove n))) is
+
+-- ---- bodies
+
+abbrev pub entryWords : Grammar → Production → List ℕ
+entryWords g p = concat (map conditionWords (entryTests g p))
+
+-- how far behind the body's first word the scheme begins
+abbrev pub schemeOffset : Grammar → Production → ℕ
+schemeOffset g p = length (p .right) + length (entryWords g p)
+
+-- of the body that begins at address a
+abbrev pub bodyWords : Grammar → ℕ → Production → List ℕ
+bodyWords g a p = expectsAt (a + schemeOffset g p) (scheme g p) ++ (entryWords g p ++ schemeWords (scheme g p))
+
+abbrev pub bodySize : Grammar → Production → ℕ
+bodySize g p = schemeOffset g p + length (schemeWords (scheme g p))
+
+abbrev pub bodiesFrom : Grammar → ℕ → List Production → List ℕ
+bodiesFrom g a [] = []
+bodiesFrom g a (p ∷ ps) = bodyWords g a p ++ bodiesFrom g (a + bodySize g p) ps
+
+-- ---- records: left side, next production of the same left side (its number plus 1, or 0), FIRST-then-FOLLOW as two words, address of the body, number of entry tests, address of the scheme, number of symbols
+
+abbrev pub bitIf : Bool → ℕ → ℕ
+bitIf true n = n
+bitIf false n = 0
+
+-- the places k, k + 1, .. of a set, `size` of them, as a number whose first bit is `weight`
+abbrev pub setBits : TokenSet → ℕ → ℕ → ℕ → ℕ
+setBits s k weight zero = 0
+setBits s k weight (suc size) = bitIf (has s k) weight + setBits s (suc k) (weight + weight) size
+
+-- the first production of n among ps, whose numbers begin at i, that passes a test: its number plus 1, or 0
+abbrev pub firstOf : (Production → Bool) → ℕ → List Production → ℕ
+firstOf f i [] = 0
+firstOf f i (p ∷ ps) = elim (f p) [ true ↦ suc i | false ↦ firstOf f (suc i) ps ]
+
+abbrev pub recordWords : Grammar → ℕ → ℕ → Production → List Production → List ℕ
+recordWords g a i p later =
+    p .left
+    ∷ firstOf (λ q. eqb (q .left) (p .left)) (suc i) later
+    ∷ setBits (starts g p) 0 1 32
+    ∷ setBits (starts g p) 32 1 32
+    ∷ a
+    ∷ length (entryTests g p)
+    ∷ (a + schemeOffset g p)
+    ∷ length (p .right)
+    ∷ []
+
+abbrev pub recordsFrom : Grammar → ℕ → ℕ → List Production → List ℕ
+recordsFrom g a i [] = []
+recordsFrom g a i (p ∷ ps) = recordWords g a i p ps ++ recordsFrom g (a + bodySize g p) (suc i) ps
+
+-- ---- the directory: for a nonterminal and what comes next (63: the end), the first production whose set holds it
+
+abbrev pub directoryWord : Grammar → ℕ → ℕ → ℕ
+directoryWord g n u = firstOf (λ p. eqb (p .left) n && has (starts g p) u) 0 (g .productions)
+
+abbrev pub directory : Grammar → List ℕ
+directory g = concat (map (λ n. map (directoryWord g n) (countFrom 0 64)) (countFrom 0 (nonterminalCount g)))
+
+-- ---- the whole
+
+abbrev pub directoryAddress : ℕ
+directoryAddress = 8
+
+abbrev pub recordsAddress : Grammar → ℕ
+recordsAddress g = directoryAddress + 64 * nonterminalCount g
+
+abbrev pub bodiesAddress : Grammar → ℕ
+bodiesAddress g = recordsAddress g + 8 * length (g .productions)
+
+-- the whole segment's scheme: its expect, and a word that says that nothing is left; where the records begin; the number of terminals; the start symbol's registers; the result attribute; the number of productions; a free word
+abbrev pub segmentWords : Grammar → List ℕ
+segmentWords g =
+    symbolHead (nonterminal (g .start))
+    ∷ 6
+    ∷ recordsAddress g
+    ∷ g .terminals
+    ∷ syn g (nonterminal (g .start))
+    ∷ g .result
+    ∷ length (g .productions)
+    ∷ 0
+    ∷ []
+
+abbrev pub programOf : Grammar → List ℕ
+programOf g = segmentWords g ++ (directory g ++ (recordsFrom g (bodiesAddress g) 0 (g .productions) ++ bodiesFrom g (bodiesAddress g) (g .productions)))

@@ -1,0 +1,78 @@
+-- Values: the range and its ends, the mark, each function with negative operands, the two kinds of condition.
+use Prim.Native.Nat.{ℕ, _-_, _*_}
+use mathlib.Core.Path.{_≡_, refl}
+use mathlib.Core.Bool.{true, false}
+use mathlib.Core.List.{[], _∷_, map}
+use lib.ListN.{getD}
+use lib.IntN.{ℤ, pos, negsuc}
+use Rattle.meaning.specs.Grammar.{Function, const, copy, sum, diff, prod, maxi, mini, addc, quot, range, atmost}
+use Rattle.meaning.specs.Value.{lowest, highest, inRange, mark, quotient, apply, holds}
+
+-- negsuc n is -(n + 1)
+range-ends : map inRange (negsuc 2147483648 ∷ negsuc 2147483647 ∷ negsuc 0 ∷ pos 0 ∷ pos 2147483647 ∷ pos 2147483648 ∷ []) ≡ false ∷ true ∷ true ∷ true ∷ true ∷ false ∷ []
+range-ends = refl
+
+-- the lowest 64-bit number, -2^63, and it is no value
+mark-is : mark ≡ negsuc (2147483648 * 4294967296 - 1)
+mark-is = refl
+
+mark-out-of-range : inRange mark ≡ false
+mark-out-of-range = refl
+
+-- the operands by number
+vals : ℕ → ℤ
+vals k = getD (pos 7 ∷ negsuc 6 ∷ pos 2 ∷ negsuc 1 ∷ []) k (pos 0)
+
+-- on 7, -7, 2, -2
+computed : Function ℕ → ℤ
+computed f = apply vals f
+
+constants : map computed (const (pos 5) ∷ const (negsuc 4) ∷ copy 0 ∷ copy 1 ∷ []) ≡ pos 5 ∷ negsuc 4 ∷ pos 7 ∷ negsuc 6 ∷ []
+unfolding vals computed
+constants = refl
+
+sums : map computed (sum 0 2 ∷ sum 0 3 ∷ sum 1 2 ∷ sum 1 3 ∷ sum 0 1 ∷ []) ≡ pos 9 ∷ pos 5 ∷ negsuc 4 ∷ negsuc 8 ∷ pos 0 ∷ []
+unfolding vals computed
+sums = refl
+
+differences : map computed (diff 0 2 ∷ diff 2 0 ∷ diff 0 3 ∷ diff 1 2 ∷ diff 1 3 ∷ diff 0 0 ∷ []) ≡ pos 5 ∷ negsuc 4 ∷ pos 9 ∷ negsuc 8 ∷ negsuc 4 ∷ pos 0 ∷ []
+unfolding vals computed
+differences = refl
+
+products : map computed (prod 0 2 ∷ prod 0 3 ∷ prod 1 2 ∷ prod 1 3 ∷ []) ≡ pos 14 ∷ negsuc 13 ∷ negsuc 13 ∷ pos 14 ∷ []
+unfolding vals computed
+products = refl
+
+greatest : map computed (maxi 0 2 ∷ maxi 2 0 ∷ maxi 1 2 ∷ maxi 1 3 ∷ maxi 3 1 ∷ maxi 0 0 ∷ []) ≡ pos 7 ∷ pos 7 ∷ pos 2 ∷ negsuc 1 ∷ negsuc 1 ∷ pos 7 ∷ []
+unfolding vals computed
+greatest = refl
+
+least : map computed (mini 0 2 ∷ mini 2 0 ∷ mini 1 2 ∷ mini 1 3 ∷ mini 3 1 ∷ mini 0 0 ∷ []) ≡ pos 2 ∷ pos 2 ∷ negsuc 6 ∷ negsuc 6 ∷ negsuc 6 ∷ pos 7 ∷ []
+unfolding vals computed
+least = refl
+
+additions : map computed (addc 0 (pos 3) ∷ addc 0 (negsuc 9) ∷ addc 1 (pos 3) ∷ addc 1 (negsuc 0) ∷ []) ≡ pos 10 ∷ negsuc 2 ∷ negsuc 3 ∷ negsuc 7 ∷ []
+unfolding vals computed
+additions = refl
+
+-- toward zero
+quotients : map computed (quot 0 (pos 2) ∷ quot 1 (pos 2) ∷ quot 0 (pos 1) ∷ quot 1 (pos 1) ∷ quot 0 (pos 7) ∷ quot 1 (pos 7) ∷ quot 0 (pos 8) ∷ quot 1 (pos 1000000) ∷ []) ≡ pos 3 ∷ negsuc 2 ∷ pos 7 ∷ negsuc 6 ∷ pos 1 ∷ negsuc 0 ∷ pos 0 ∷ pos 0 ∷ []
+unfolding vals computed
+quotients = refl
+
+quotient-of-ends : map (λ a. quotient a (pos 1000000)) (lowest ∷ highest ∷ []) ≡ negsuc 2146 ∷ pos 2147 ∷ []
+quotient-of-ends = refl
+
+-- exact, in range or not
+products-of-ends : apply (λ k. getD (lowest ∷ highest ∷ []) k (pos 0)) (prod 0 0) ≡ pos 4611686018427387904
+products-of-ends = refl
+
+-- both bounds belong to a range
+ranges : map (holds vals) (range 0 (pos 7) (pos 7) ∷ range 0 (pos 0) (pos 6) ∷ range 0 (pos 8) (pos 9) ∷ range 1 (negsuc 6) (pos 0) ∷ range 1 (negsuc 5) (pos 0) ∷ range 1 (negsuc 9) (negsuc 6) ∷ range 1 (negsuc 9) (negsuc 7) ∷ []) ≡ true ∷ false ∷ false ∷ true ∷ false ∷ true ∷ false ∷ []
+unfolding vals
+ranges = refl
+
+-- the first at most the second
+comparisons : map (holds vals) (atmost 0 0 ∷ atmost 0 1 ∷ atmost 1 0 ∷ atmost 2 0 ∷ atmost 0 2 ∷ atmost 1 3 ∷ atmost 3 1 ∷ []) ≡ true ∷ false ∷ true ∷ true ∷ false ∷ true ∷ false ∷ []
+unfolding vals
+comparisons = refl

@@ -1,0 +1,3 @@
+pub mod Ranges
+pub mod Runs
+pub mod Stars

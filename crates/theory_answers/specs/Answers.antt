@@ -1,0 +1,271 @@
+-- Demand 1: each call, for arbitrary bytes, areas, records, stacks and tokens, gives what it is for, or exactly one numbered refusal of 01.
+use Prim.Native.Nat.{ℕ, _≤_}
+use native.Mathlib.Omega.{arith}
+use mathlib.Core.Path.{_≡_, refl, sym, ap, _∙_, subst}
+use mathlib.Core.Logic.{_⊎_, inl, inr}
+use mathlib.Core.Bool.{Bool, true, false}
+use mathlib.Core.List.{List, [], reverse}
+use lib.ListN.{length, take}
+use lib.Dec.{T, ltb}
+use Rattle.meaning.specs.Grammar.{Grammar, Look, token, over}
+use Rattle.meaning.specs.Rules.{WellFormed}
+use Rattle.meaning.specs.Table.{State, Read, wellFormed, malformed, readTable, grammarOf}
+use Rattle.meaning.specs.Judgement.{Verdict, accepted, rejected}
+use Rattle.meaning.specs.Decide.{judge}
+use Rattle.meaning.specs.Machine.{Config, Settled, stopped, failed, waits, opening, feedAll, finishAll, tokensLimit, movesLimit}
+use Rattle.meaning.specs.Walk.{nothing}
+use Rattle.meaning.specs.Calls.{Record, Stacks, Called, Answer, closedRecord, more, refused, tableRefused, lentOf, recordOf, layAll, configOf, stacksFit, asBrought, openOf, afterFeed, afterFinish, whenFit}
+use Rattle.meaning.specs.Fit.{Fit}
+use Rattle.meaning.specs.PublicCalls.{Checked, usable, unusable, checkedAs, check, Call, feed, finish, callOf, areaLength, written, Effect, effect, opens, performs}
+use Rattle.meaning.specs.Statements.{isTableNumber, openingAnswer, callAnswer, AlwaysAnswers, Met, MovesTo, CallsMove, EmptyFeed, LimitsOnly, HandlesAlways}
+use Rattle.theory_base.specs.Members.{T→true}
+use Rattle.theory_table.specs.ReadWellFormed.{read-well-formed}
+use Rattle.theory_table.specs.AcceptedTable.{accepted-well-formed}
+use Rattle.theory_answers.specs.FitTest.{fit-exactly}
+use Rattle.theory_answers.specs.ShapeMoves.{ShapedAt, shape-move}
+use Rattle.theory_answers.specs.ShapeMemory.{fit-shaped, fit-waits, at-stop, result-ranged}
+use Rattle.theory_answers.specs.Handling.{handles}
+use Rattle.theory_answers.specs.Memory.{Within, read-back, laid-fits, fit-within, same-record, same-stacks}
+use Rattle.theory_answers.specs.Bounds.{Blocks, atLimit, notExpected, conditionFalse, outOfRange, noRegister, noPlace, within-move}
+use Rattle.theory_answers.specs.Runs.{makes-keep, Led, FeedBlocks, manyTokens, notToken, atMove, Fed, fed, Finished, finished}
+use Rattle.theory_answers.specs.TableNumbers.{CheckedRight, check-number}
+use Rattle.theory_answers.specs.Called.{called-is}
+
+-- ---- the table of a call
+
+check-reads : (bs : List ℕ) (s : State) → check bs ≡ usable s → readTable bs ≡ wellFormed s
+check-reads bs s h = go (readTable bs) refl h
+  where
+    by : (u : State) (v : Verdict) → checkedAs u v ≡ usable s → u ≡ s
+    by u accepted h = cc
+    by u (rejected n o) h = absurd (let z : _≡_ {A = ℕ} 0 1 = cc in omega arith)
+
+    go : (x : Read) → readTable bs ≡ x → elim x as (λ z. Checked) [ malformed n o ↦ unusable n o | wellFormed u ↦ checkedAs u (judge u) ] ≡ usable s → readTable bs ≡ wellFormed s
+    go (malformed n o) e h = absurd (let z : _≡_ {A = ℕ} 0 1 = cc in omega arith)
+    go (wellFormed u) e h = e ∙ ap wellFormed (by u (judge u) h)
+
+checked-formed : (bs : List ℕ) (s : State) → check bs ≡ usable s → WellFormed (grammarOf s)
+checked-formed bs s h = read-well-formed bs s (check-reads bs s h)
+
+-- ---- the moves of a call on what fits
+
+abbrev made : Grammar → Record → Stacks → Call → Called
+made g r m (feed ts) = afterFeed g m (feedAll g (lentOf m) ts (configOf g r m))
+made g r m finish = afterFinish g m (finishAll g (lentOf m) (configOf g r m))
+
+call-is : (g : Grammar) (r : Record) (m : Stacks) (c : Call) → callOf g r m c ≡ whenFit g r m (made g r m c)
+call-is g r m (feed ts) = refl
+call-is g r m finish = refl
+
+-- whatever holds of each way a call may go holds of the call
+module _ (Q : Answer → Record → Stacks → Type 0) (program : Grammar → List ℕ) (bs area : List ℕ) (r : Record) (m : Stacks) (c : Call) where
+  abbrev Holds : Called → Type 0
+  Holds k = Q (k .answer) (k .state) (k .stacks)
+
+  when-fit : (g : Grammar) (k : Called) → Q (refused 33 0) r m → Q (refused 34 0) r m → (Fit g r m → Holds k) → Holds (whenFit g r m k)
+  when-fit g k a b h = go (r .isOpen) (stacksFit g r m) refl
+    where
+      go : (o b : Bool) → stacksFit g r m ≡ b → Holds (elim o as (λ z. Called) [ false ↦ asBrought (refused 33 0) r m | true ↦ elim b as (λ z. Called) [ false ↦ asBrought (refused 34 0) r m | true ↦ k ] ])
+      go false f e = a
+      go true false e = b
+      go true true e = h (fit-exactly g r m .0 (rw e tt))
+
+  abbrev Leaves : Effect → Type 0
+  Leaves e = Q (e .answer) (e .state) (e .stacks)
+
+  by-cases : Q (refused 30 0) r m → ((n o : ℕ) → T (isTableNumber n) → Q (tableRefused n o) r m) → Q (refused 33 0) r m → Q (refused 34 0) r m
+      → ((s : State) → check bs ≡ usable s → Fit (grammarOf s) r m → Holds (made (grammarOf s) r m c))
+      → Leaves (performs program bs area r m c)
+  by-cases short turned closed unfit h = go (ltb (length area) areaLength) (check bs) refl (check-number bs)
+    where
+      go : (b : Bool) (k : Checked) → check bs ≡ k → CheckedRight k → Leaves (elim b as (λ z. Effect) [
+        | true ↦ effect (asBrought (refused 30 0) r m) area
+        | false ↦ elim k as (λ z. Effect) [ unusable n o ↦ effect (asBrought (tableRefused n o) r m) area | usable s ↦ effect (callOf (grammarOf s) r m c) (written (program (grammarOf s)) area) ]
+      ])
+      go true k e t = short
+      go false (unusable n o) e t = turned n o t
+      go false (usable s) e t = subst Holds (sym (call-is (grammarOf s) r m c)) (when-fit (grammarOf s) (made (grammarOf s) r m c) closed unfit (h s e))
+
+-- ---- every configuration that the moves of a call lead to
+
+module _ (g : Grammar) (wf : WellFormed g) (r : Record) (m : Stacks) (f : Fit g r m) where
+  fits-shaped : ShapedAt g (configOf g r m)
+  fits-shaped = fit-shaped g wf (reverse (take (r .placeHeight) (m .places))) (reverse (take (r .registerHeight) (m .registers))) (f .stands)
+
+  fits-wait : T (waits (configOf g r m .frames))
+  fits-wait = fit-waits g wf (reverse (take (r .placeHeight) (m .places))) (reverse (take (r .registerHeight) (m .registers))) (f .stands)
+
+  start : (us : List ℕ) → Led g (lentOf m) us (configOf g r m) us (configOf g r m)
+  start us = record { moves = []; made = nothing; few = f .moves }
+
+  led-shaped : (us vs : List ℕ) (e : Config) → Led g (lentOf m) us (configOf g r m) vs e → ShapedAt g e
+  led-shaped us vs e l = makes-keep g (lentOf m) (ShapedAt g) (λ k a b s h. shape-move g wf (lentOf m) k a b s h) (l .made) fits-shaped
+
+  led-within : (us vs : List ℕ) (e : Config) → Led g (lentOf m) us (configOf g r m) vs e → Within (lentOf m) e
+  led-within us vs e l = makes-keep g (lentOf m) (Within (lentOf m)) (λ k a b s h. within-move g (lentOf m) k a b s h) (l .made) (fit-within g wf r m f)
+
+  feed-leads : (ts : List ℕ) → Fed g (lentOf m) ts (configOf g r m) (feedAll g (lentOf m) ts (configOf g r m))
+  feed-leads ts = fed g (lentOf m) ts (configOf g r m) ts (configOf g r m) (start ts) fits-wait (f .tokens)
+
+  finish-leads : Finished g (lentOf m) [] (configOf g r m) (finishAll g (lentOf m) (configOf g r m))
+  finish-leads = finished g (lentOf m) [] (configOf g r m) (configOf g r m) (start [])
+
+-- ---- 01's numbers
+
+token-number : (t : ℕ) (e : Config) {k : ℕ} → Blocks (token t) e k → (ts : List ℕ) (n : ℕ) → T (callAnswer (feed ts) (refused k n))
+token-number t e (atLimit l) ts n = tt
+token-number t e notExpected ts n = tt
+token-number t e conditionFalse ts n = tt
+token-number t e outOfRange ts n = tt
+token-number t e noRegister ts n = tt
+token-number t e noPlace ts n = tt
+
+feed-number : (e : Config) {k : ℕ} → FeedBlocks e k → (ts : List ℕ) (n : ℕ) → T (callAnswer (feed ts) (refused k n))
+feed-number e (manyTokens l) ts n = tt
+feed-number e notToken ts n = tt
+feed-number e (atMove t b) ts n = token-number t e b ts n
+
+end-number : (e : Config) {k : ℕ} → Blocks over e k → (n : ℕ) → T (callAnswer finish (refused k n))
+end-number e (atLimit l) n = tt
+end-number e notExpected n = tt
+end-number e conditionFalse n = tt
+end-number e outOfRange n = tt
+end-number e noRegister n = tt
+end-number e noPlace n = tt
+
+-- before the moves
+early : (c : Call) → T (callAnswer c (refused 30 0)) × T (callAnswer c (refused 33 0)) × T (callAnswer c (refused 34 0))
+early (feed ts) = (tt, tt, tt)
+early finish = (tt, tt, tt)
+
+turned-back : (c : Call) (n o : ℕ) → T (isTableNumber n) → T (callAnswer c (tableRefused n o))
+turned-back (feed ts) n o t = t
+turned-back finish n o t = t
+
+fit-answers : (g : Grammar) → WellFormed g → (r : Record) (m : Stacks) → Fit g r m → (c : Call) → T (callAnswer c (made g r m c .answer))
+fit-answers g wf r m f (feed ts) = go (feedAll g (lentOf m) ts (configOf g r m)) (feed-leads g wf r m f ts)
+  where
+    go : (o : Settled) → Fed g (lentOf m) ts (configOf g r m) o → T (callAnswer (feed ts) (afterFeed g m o .answer))
+    go (stopped e) v = tt
+    go (failed e k) v = feed-number e (v .3) ts (e .tokens)
+fit-answers g wf r m f finish = go (finishAll g (lentOf m) (configOf g r m)) (finish-leads g wf r m f)
+  where
+    go : (o : Settled) → Finished g (lentOf m) [] (configOf g r m) o → T (callAnswer finish (afterFinish g m o .answer))
+    go (stopped e) v = result-ranged g wf e (led-shaped g wf r m f [] [] e (v .0)) (v .1)
+    go (failed e k) v = end-number e (v .1) (e .tokens)
+
+opens-right : (program : Grammar → List ℕ) (bs area : List ℕ) (m : Stacks) → T (openingAnswer (opens program bs area m .answer))
+opens-right program bs area m = go (ltb (length area) areaLength) (check bs) (check-number bs)
+  where
+    opened : (a b : Bool) (g : Grammar) → T (openingAnswer (elim a as (λ z. Called) [
+      | true ↦ asBrought (refused 31 0) closedRecord m
+      | false ↦ elim b as (λ z. Called) [ true ↦ asBrought (refused 32 0) closedRecord m | false ↦ record { answer = more 0; state = recordOf true (opening g); stacks = layAll g (opening g) m } ]
+    ] .answer))
+    opened true b g = tt
+    opened false true g = tt
+    opened false false g = tt
+
+    go : (b : Bool) (k : Checked) → CheckedRight k → T (openingAnswer (elim b as (λ z. Effect) [
+      | true ↦ effect (asBrought (refused 30 0) closedRecord m) area
+      | false ↦ elim k as (λ z. Effect) [ unusable n o ↦ effect (asBrought (tableRefused n o) closedRecord m) area | usable s ↦ effect (openOf (grammarOf s) m) (written (program (grammarOf s)) area) ]
+    ] .answer))
+    go true k t = tt
+    go false (unusable n o) t = t
+    go false (usable s) t = opened (ltb (lentOf m .maxRegisters) (length (opening (grammarOf s) .registers))) (ltb (lentOf m .maxPlaces) 1) (grammarOf s)
+
+pub always-answers : AlwaysAnswers
+always-answers = (opens-right, performs-right)
+  where
+    performs-right : (program : Grammar → List ℕ) (bs area : List ℕ) (r : Record) (m : Stacks) (c : Call) → T (callAnswer c (performs program bs area r m c .answer))
+    performs-right program bs area r m c = by-cases (λ a u v. T (callAnswer c a)) program bs area r m c (early c .0) (turned-back c) (early c .1) (early c .2) (λ s e f. fit-answers (grammarOf s) (checked-formed bs s e) r m f c)
+
+-- ---- 35
+
+refused-is : (a b c d : ℕ) → refused a b ≡ refused c d → a ≡ c
+refused-is a b c d e = cc
+
+move-limit : (l : Look) (e : Config) {k : ℕ} → Blocks l e k → k ≡ 35 → movesLimit ≤ e .moves
+move-limit l e (atLimit m) q = m
+move-limit (token t) e notExpected q = absurd (omega arith)
+move-limit over e notExpected q = absurd (omega arith)
+move-limit l e conditionFalse q = absurd (omega arith)
+move-limit l e outOfRange q = absurd (omega arith)
+move-limit l e noRegister q = absurd (omega arith)
+move-limit l e noPlace q = absurd (omega arith)
+
+feed-limit : (e : Config) {k : ℕ} → FeedBlocks e k → e .moves ≤ movesLimit → k ≡ 35 → (e .tokens ≡ tokensLimit) ⊎ (e .moves ≡ movesLimit)
+feed-limit e (manyTokens l) m q = inl l
+feed-limit e notToken m q = absurd (omega arith)
+feed-limit e (atMove t b) m q = inr (omega (arith, move-limit (token t) e b q))
+
+abbrev AtLimit : ℕ → Answer → Record → Type 0
+AtLimit n a r = a ≡ refused 35 n → (r .tokens ≡ tokensLimit) ⊎ (r .moves ≡ movesLimit)
+
+fit-limits : (g : Grammar) → WellFormed g → (r : Record) (m : Stacks) → Fit g r m → (c : Call) (n : ℕ) → AtLimit n (made g r m c .answer) (made g r m c .state)
+fit-limits g wf r m f (feed ts) n = go (feedAll g (lentOf m) ts (configOf g r m)) (feed-leads g wf r m f ts)
+  where
+    go : (o : Settled) → Fed g (lentOf m) ts (configOf g r m) o → AtLimit n (afterFeed g m o .answer) (afterFeed g m o .state)
+    go (stopped e) v q = absurd (let z : _≡_ {A = ℕ} 0 1 = cc in omega arith)
+    go (failed e k) v q = feed-limit e (v .3) (v .1 .few) (refused-is k (e .tokens) 35 n q)
+fit-limits g wf r m f finish n = go (finishAll g (lentOf m) (configOf g r m)) (finish-leads g wf r m f)
+  where
+    go : (o : Settled) → Finished g (lentOf m) [] (configOf g r m) o → AtLimit n (afterFinish g m o .answer) (afterFinish g m o .state)
+    go (stopped e) v q = absurd (let z : _≡_ {A = ℕ} 0 1 = cc in omega arith)
+    go (failed e k) v q = inr (omega (arith, v .0 .few, move-limit over e (v .1) (refused-is k (e .tokens) 35 n q)))
+
+pub limits-only : LimitsOnly
+limits-only program bs area r m c n = by-cases (λ a u v. AtLimit n a u) program bs area r m c
+    (λ q. absurd (omega (arith, refused-is 30 0 35 n q)))
+    (λ k o t q. absurd (let z : _≡_ {A = ℕ} 0 1 = cc in omega arith))
+    (λ q. absurd (omega (arith, refused-is 33 0 35 n q)))
+    (λ q. absurd (omega (arith, refused-is 34 0 35 n q)))
+    (λ s e f. fit-limits (grammarOf s) (checked-formed bs s e) r m f c n)
+
+-- ---- calls that are not turned back before their moves
+
+pub when-met : (g : Grammar) (r : Record) (m : Stacks) (k : Called) → r .isOpen ≡ true → Fit g r m → whenFit g r m k ≡ k
+when-met g r m k o f = go (r .isOpen) (stacksFit g r m) o (T→true (stacksFit g r m) (fit-exactly g r m .1 f))
+  where
+    go : (a b : Bool) → a ≡ true → b ≡ true → (elim a as (λ z. Called) [ false ↦ asBrought (refused 33 0) r m | true ↦ elim b as (λ z. Called) [ false ↦ asBrought (refused 34 0) r m | true ↦ k ] ]) ≡ k
+    go true true x y = refl
+    go false b x y = absurd (subst T (sym x) tt)
+    go true false x y = absurd (subst T (sym y) tt)
+
+module _ (program : Grammar → List ℕ) (bs area : List ℕ) (g : Grammar) (r : Record) (m : Stacks) (met : Met bs g area r m) where
+  performs-met : (c : Call) → performs program bs area r m c ≡ effect (made g r m c) (written (program g) area)
+  performs-met c = called-is program bs g (met .accepts) area (met .long) r m (λ h. callOf h r m c) ∙ ap (λ k. effect k (written (program g) area)) (call-is g r m c ∙ when-met g r m (made g r m c) (met .isOpen) (met .fits))
+
+  wf : WellFormed g
+  wf = accepted-well-formed bs g (met .accepts)
+
+  fed-to : (ts : List ℕ) (words : List ℕ) (o : Settled) → Fed g (lentOf m) ts (configOf g r m) o → MovesTo g m (configOf g r m) (feed ts) (effect (afterFeed g m o) words)
+  fed-to ts words (stopped e) v =
+      let s = at-stop g wf (e .frames) (e .registers) (led-shaped g wf r m (met .fits) ts [] e (v .0)) (v .1) in
+      let w = led-within g wf r m (met .fits) ts [] e (v .0) in
+      record { moves = v .0 .moves; left = []; to = e; made = v .0 .made; isRecord = refl; isStacks = refl; readBack = λ z. (laid-fits g true e m s w (v .2), read-back g true e m s w) }
+  fed-to ts words (failed e k) v = record { moves = v .1 .moves; left = v .0; to = e; made = v .1 .made; isRecord = refl; isStacks = refl; readBack = λ z. absurd (subst T (sym z) tt) }
+
+  finished-to : (words : List ℕ) (o : Settled) → Finished g (lentOf m) [] (configOf g r m) o → MovesTo g m (configOf g r m) finish (effect (afterFinish g m o) words)
+  finished-to words (stopped e) v = record { moves = v .0 .moves; left = []; to = e; made = v .0 .made; isRecord = refl; isStacks = refl; readBack = λ z. absurd (subst T (sym z) tt) }
+  finished-to words (failed e k) v = record { moves = v .0 .moves; left = []; to = e; made = v .0 .made; isRecord = refl; isStacks = refl; readBack = λ z. absurd (subst T (sym z) tt) }
+
+  made-to : (c : Call) → MovesTo g m (configOf g r m) c (effect (made g r m c) (written (program g) area))
+  made-to (feed ts) = fed-to ts (written (program g) area) (feedAll g (lentOf m) ts (configOf g r m)) (feed-leads g wf r m (met .fits) ts)
+  made-to finish = finished-to (written (program g) area) (finishAll g (lentOf m) (configOf g r m)) (finish-leads g wf r m (met .fits))
+
+pub calls-move : CallsMove
+calls-move program bs area g r m c met = subst (λ e. MovesTo g m (configOf g r m) c e) (sym (performs-met program bs area g r m met c)) (made-to program bs area g r m met c)
+
+pub empty-feed : EmptyFeed
+empty-feed program bs area g r m met =
+    let f : WellFormed g = accepted-well-formed bs g (met .accepts) in
+    let state : recordOf true (configOf g r m) ≡ r = ap (λ o. recordOf o (configOf g r m)) (sym (met .isOpen)) ∙ same-record g f r m (met .fits) in
+    let stacks : layAll g (configOf g r m) m ≡ m = same-stacks g f r m (met .fits) in
+    performs-met program bs area g r m met (feed []) ∙ (λ i. record { answer = more (r .moves); state = state i; stacks = stacks i; area = written (program g) area })
+
+-- ---- what fits is handled, whatever tokens come
+
+pub handles-always : HandlesAlways
+handles-always bs g r m a f ws us vs c mk p i is fs e =
+    let wf : WellFormed g = accepted-well-formed bs g a in
+    handles g wf c (makes-keep g (lentOf m) (ShapedAt g) (λ l x y s h. shape-move g wf (lentOf m) l x y s h) mk (fits-shaped g wf r m f)) p i is fs e

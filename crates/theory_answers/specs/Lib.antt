@@ -1,0 +1,12 @@
+pub mod FitTest
+pub mod Selecting
+pub mod Shape
+pub mod ShapeMoves
+pub mod ShapeMemory
+pub mod Handling
+pub mod Memory
+pub mod Bounds
+pub mod Runs
+pub mod TableNumbers
+pub mod Called
+pub mod Answers

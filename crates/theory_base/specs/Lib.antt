@@ -1,0 +1,13 @@
+pub mod Members
+pub mod WellFormed
+pub mod Agree
+pub mod Selectors
+pub mod Evaluate
+pub mod Values
+pub mod Present
+pub mod Evaluations
+pub mod Grow
+pub mod Frames
+pub mod Counted
+pub mod Walks
+pub mod Steps

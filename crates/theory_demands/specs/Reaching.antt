@@ -1,0 +1,43 @@
+-- Demand 3 for any tokens: every list of calls stands at a configuration that so many moves from the opening lead to.
+use Prim.Native.Nat.{ℕ, _+_}
+use native.Mathlib.Omega.{arith}
+use mathlib.Core.Path.{_≡_, refl, sym, ap, _∙_, subst}
+use mathlib.Core.Logic.{inl, inr}
+use mathlib.Core.Bool.{false}
+use mathlib.Core.List.{List, [], _∷_, append-nil}
+use lib.ListN.{length, length-append}
+use lib.Dec.{T}
+use Rattle.meaning.specs.Grammar.{Grammar}
+use Rattle.meaning.specs.Machine.{Config, Lent, opening, lookAt}
+use Rattle.meaning.specs.Walk.{Act, actBy, Makes, nothing, andThen}
+use Rattle.meaning.specs.Calls.{lentOf, recordOf}
+use Rattle.meaning.specs.Statements.{Reached, ReachedAlways}
+use Rattle.theory_table.specs.AcceptedTable.{accepted-well-formed}
+use Rattle.theory_answers.specs.Bounds.{counts}
+use Rattle.theory_sound.specs.Histories.{Run, runs}
+use Rattle.theory_answers.specs.Runs.{Led}
+use Rattle.theory_demands.specs.ByGrammar.{by-grammar}
+
+-- ---- the counter counts the moves
+
+module _ (g : Grammar) (lent : Lent) where
+  pub counted : {us vs : List ℕ} {c d : Config} {ws : List Act} → Makes g lent us c ws vs d → d .moves ≡ length ws + c .moves
+  counted {c = c} nothing = omega arith
+  counted (andThen {ws = ws} {vs = vs} {d = d} p i is fs e m f h) =
+      let n = counts g lent (lookAt vs) d e h .moves in
+      let k = length-append ws (actBy p i e ∷ []) in
+      omega (arith, n, k, counted m)
+
+pub reached-always : ReachedAlways
+reached-always program bs g m₀ ts isOver r m a h = go (runs g (accepted-well-formed bs g a) m₀ ts isOver r m (by-grammar program bs g a h))
+  where
+    count : {us vs : List ℕ} {c : Config} {ws : List Act} → Makes g (lentOf m₀) us (opening g) ws vs c → length ws ≡ c .moves
+    count {c = c} k = omega (arith, counted g (lentOf m₀) k)
+
+    go : Run g m₀ ts r m → Reached g m₀ ts r m
+    go (inl o) =
+        let l = subst (λ z. Led g (lentOf m₀) z (opening g) [] (o .config)) (append-nil ts) (o .leads []) in
+        record { moves = l .moves; unread = []; config = o .config; made = l .made; counted = count (l .made) ∙ sym (ap (λ z. z .moves) (o .isRecord)); isRecord = o .isRecord ∙ ap (λ b. recordOf b (o .config)) (sym (ap (λ z. z .isOpen) (o .isRecord))); isStacks = o .isStacks; allRead = λ e. refl }
+    go (inr o) =
+        let isClosed : r .isOpen ≡ false = ap (λ z. z .isOpen) (o .isRecord) in
+        record { moves = o .led .moves; unread = o .unread; config = o .config; made = o .led .made; counted = count (o .led .made) ∙ sym (ap (λ z. z .moves) (o .isRecord)); isRecord = o .isRecord ∙ ap (λ b. recordOf b (o .config)) (sym isClosed); isStacks = o .isStacks; allRead = λ e. absurd (subst T (sym e ∙ isClosed) tt) }

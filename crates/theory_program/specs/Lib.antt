@@ -1,0 +1,13 @@
+pub mod Stands
+pub mod Code
+pub mod Addresses
+pub mod RuleCounts
+pub mod Proper
+pub mod Unpacked
+pub mod SetWords
+pub mod Search
+pub mod Records
+pub mod Resuming
+pub mod Sizes
+pub mod SmallWords
+pub mod AddressRows

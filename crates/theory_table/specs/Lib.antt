@@ -1,0 +1,13 @@
+pub mod Reading
+pub mod Occurrences
+pub mod Invariant
+pub mod ReadWellFormed
+pub mod AcceptedTable
+pub mod Numbers
+pub mod LaidOutRead
+pub mod Bodies
+pub mod Stretches
+pub mod ReadLaidOut
+pub mod Exactly
+pub mod Rows
+pub mod Places

@@ -1,0 +1,9 @@
+use Rattle.token_set.specs.Words.{set-or}
+use Rattle.token_set.proofs.TokenSet.union.Statement.{statement}
+use Rattle.token_set.proofs.TokenSet.union.Tie as tie
+
+returns : tie.Need-returns
+returns c = set-or _ _
+
+pub union-spec : {M : Type 1} → statement M
+union-spec = tie.close (tie.spec returns)

@@ -1,0 +1,63 @@
+-- Rows: what the definitions say of some numbers.
+use Prim.Native.Nat.{ℕ}
+use mathlib.Core.Path.{_≡_, refl}
+use mathlib.Core.List.{[], _∷_, map}
+use lib.IntN.{pos, negsuc}
+use Rattle.meaning.specs.Table.{signed, constantAt}
+use Rattle.meaning.specs.Value.{lowest, highest, mark}
+use Rattle.value.specs.Ranged.{ranged}
+use Rattle.value.specs.Computed.{computed}
+
+-- const, copy, sum, diff, prod, max, min, addc and quot of -7 and 2, and a function that 01 does not have
+seven : map (λ (f : ℕ). ranged (computed f (negsuc 6) (pos 2))) (0 ∷ 1 ∷ 2 ∷ 3 ∷ 4 ∷ 5 ∷ 6 ∷ 7 ∷ 8 ∷ 9 ∷ [])
+    ≡ negsuc 6 ∷ negsuc 6 ∷ negsuc 4 ∷ negsuc 8 ∷ negsuc 13 ∷ pos 2 ∷ negsuc 6 ∷ negsuc 4 ∷ negsuc 2 ∷ pos 0 ∷ []
+seven = refl
+
+-- of -3 and -5
+both-negative : map (λ (f : ℕ). ranged (computed f (negsuc 2) (negsuc 4))) (2 ∷ 3 ∷ 4 ∷ 5 ∷ 6 ∷ 7 ∷ [])
+    ≡ negsuc 7 ∷ pos 2 ∷ pos 15 ∷ negsuc 2 ∷ negsuc 4 ∷ negsuc 7 ∷ []
+both-negative = refl
+
+quotient-up : ranged (computed 8 (pos 7) (pos 2)) ≡ pos 3
+quotient-up = refl
+
+quotient-small : ranged (computed 8 (negsuc 0) (pos 1000000)) ≡ pos 0
+quotient-small = refl
+
+-- ---- the limits
+
+highest-sum : ranged (computed 2 (pos 2147483640) (pos 7)) ≡ highest
+highest-sum = refl
+
+sum-out : ranged (computed 2 highest (pos 1)) ≡ mark
+sum-out = refl
+
+lowest-difference : ranged (computed 3 (negsuc 2147483646) (pos 1)) ≡ lowest
+lowest-difference = refl
+
+difference-out : ranged (computed 3 lowest (pos 1)) ≡ mark
+difference-out = refl
+
+lowest-product : ranged (computed 4 (pos 65536) (negsuc 32767)) ≡ lowest
+lowest-product = refl
+
+product-out : ranged (computed 4 (pos 65536) (pos 32768)) ≡ mark
+product-out = refl
+
+lowest-squared : ranged (computed 4 lowest lowest) ≡ mark
+lowest-squared = refl
+
+addc-out : ranged (computed 7 lowest (negsuc 0)) ≡ mark
+addc-out = refl
+
+-- ---- constants
+
+constants : map signed (0 ∷ 2147483647 ∷ 2147483648 ∷ 4294967295 ∷ []) ≡ pos 0 ∷ highest ∷ lowest ∷ negsuc 0 ∷ []
+constants = refl
+
+constant-read : constantAt (9 ∷ 255 ∷ 255 ∷ 255 ∷ 254 ∷ []) 1 ≡ negsuc 1
+constant-read = refl
+
+-- bytes past the end are 0
+constant-cut-short : constantAt (1 ∷ 2 ∷ []) 0 ≡ pos 16908288
+constant-cut-short = refl

@@ -1,0 +1,6 @@
+pub mod Ranged
+pub mod Computed
+pub mod Constants
+pub mod Sizes
+pub mod Overflow
+pub mod Examples

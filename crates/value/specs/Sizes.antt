@@ -1,0 +1,75 @@
+-- The size of a sum, a difference, a product and a quotient, and of a number between two bounds.
+use Prim.Native.Nat.{ℕ, zero, suc, _+_, _*_, _/_, _≤_, _<_}
+use native.Mathlib.Nat.{div-le-self, div-zero, mul-le-mul-left, mul-le-mul-right, le-trans}
+use native.Mathlib.Omega.{arith}
+use mathlib.Core.Path.{_≡_, refl}
+use mathlib.Core.Bool.{Bool, true, false, _&&_, cond}
+use borrow.Author.Tests.{leb-true, leb-false}
+use lib.Dec.{ltb}
+use lib.IntN.{ℤ, pos, negsuc, negℤ, natAbs, _+ℤ_, _-ℤ_, _*ℤ_}
+use lib.Signed.{leZ}
+use Rattle.meaning.specs.Value.{quotient}
+
+pub natAbs-neg : (a : ℤ) → natAbs (negℤ a) ≡ natAbs a
+natAbs-neg (pos zero) = refl
+natAbs-neg (pos (suc n)) = refl
+natAbs-neg (negsuc n) = refl
+
+natAbs-cond : (t : Bool) (x y : ℤ) (n : ℕ) → natAbs x ≤ n → natAbs y ≤ n → natAbs (cond t x y) ≤ n
+natAbs-cond true x y n p q = p
+natAbs-cond false x y n p q = q
+
+pub natAbs-add : (a b : ℤ) → natAbs (a +ℤ b) ≤ natAbs a + natAbs b
+natAbs-add (pos a) (pos b) = omega arith
+natAbs-add (pos a) (negsuc b) = natAbs-cond (ltb a (suc b)) _ _ _ (omega arith) (omega arith)
+natAbs-add (negsuc a) (pos b) = natAbs-cond (ltb b (suc a)) _ _ _ (omega arith) (omega arith)
+natAbs-add (negsuc a) (negsuc b) = omega arith
+
+pub natAbs-sub : (a b : ℤ) → natAbs (a -ℤ b) ≤ natAbs a + natAbs b
+natAbs-sub a b = omega (arith, natAbs-add a (negℤ b), natAbs-neg b)
+
+pub natAbs-mul : (a b : ℤ) → natAbs (a *ℤ b) ≡ natAbs a * natAbs b
+natAbs-mul (pos a) (pos b) = refl
+natAbs-mul (pos a) (negsuc b) = natAbs-neg (pos (a * suc b))
+natAbs-mul (negsuc a) (pos b) = natAbs-neg (pos (suc a * b))
+natAbs-mul (negsuc a) (negsuc b) = refl
+
+-- ---- quotients
+pub quotient-size : (a c : ℤ) → natAbs (quotient a c) ≤ natAbs a
+quotient-size (pos a) (pos c) = div-le-self a c
+quotient-size (pos a) (negsuc c) = rw (natAbs-neg (pos (a / suc c))) (div-le-self a (suc c))
+quotient-size (negsuc a) (pos c) = rw (natAbs-neg (pos (suc a / c))) (div-le-self (suc a) c)
+quotient-size (negsuc a) (negsuc c) = div-le-self (suc a) (suc c)
+
+pub quotient-by-zero : (a : ℤ) → quotient a (pos 0) ≡ pos 0
+quotient-by-zero (pos n) = rw (div-zero n)
+quotient-by-zero (negsuc n) = rw (div-zero (suc n))
+
+-- ---- products
+products : (m n k l : ℕ) → m ≤ k → n ≤ l → m * n ≤ k * l
+products m n k l p q = le-trans (mul-le-mul-right n p) (mul-le-mul-left k q)
+
+pub mul-at-most : (a b : ℤ) (k l : ℕ) → natAbs a ≤ k → natAbs b ≤ l → natAbs (a *ℤ b) ≤ k * l
+mul-at-most a b k l p q = rw (natAbs-mul a b) (products (natAbs a) (natAbs b) k l p q)
+
+pub mul-at-least : (a b : ℤ) (k l : ℕ) → k ≤ natAbs a → l ≤ natAbs b → k * l ≤ natAbs (a *ℤ b)
+mul-at-least a b k l p q = rw (natAbs-mul a b) (products k l (natAbs a) (natAbs b) p q)
+
+-- ---- bounds
+and-left : (a b : Bool) → (a && b) ≡ true → a ≡ true
+and-left true b e = refl
+and-left false b e = e
+
+-- between -(k + 1) and h the size is at most k + 1, where h is at most k + 1
+pub inside : (z : ℤ) (k h : ℕ) → h ≤ suc k → (leZ (negsuc k) z && leZ z (pos h)) ≡ true → natAbs z ≤ suc k
+inside (pos n) k h p e = omega (arith, leb-true n h e)
+inside (negsuc n) k h p e = omega (arith, leb-true n k (and-left (leZ (negsuc k) (negsuc n)) true e))
+
+-- outside -(k + 1) and k + 1 the size is above k + 1
+pub outside : (z : ℤ) (k : ℕ) → (leZ (negsuc k) z && leZ z (pos (suc k))) ≡ false → suc k < natAbs z
+outside (pos n) k e = leb-false n (suc k) e
+outside (negsuc n) k e = omega (arith, leb-false n k (left-false (leZ (negsuc k) (negsuc n)) e))
+  where
+    left-false : (a : Bool) → (a && true) ≡ false → a ≡ false
+    left-false true e = e
+    left-false false e = refl

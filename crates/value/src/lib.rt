@@ -1,0 +1,208 @@
+ghost use Prim.Native.Nat.{_+_, _<_, _≤_};
+ghost use mathlib.Core.Path.{_≡_};
+ghost use mathlib.Core.Bool.{true, _&&_};
+ghost use lib.ListN.{length};
+ghost use lib.IntN.{_+ℤ_, _-ℤ_, _*ℤ_};
+ghost use lib.Signed.{leZ};
+ghost use Rattle.meaning.specs.Calls.{isMark};
+ghost use Rattle.meaning.specs.Table.{byte, signed, constantAt};
+ghost use Rattle.meaning.specs.Value as Value;
+ghost use Rattle.meaning.specs.Value.{inRange};
+ghost use Rattle.value.specs.Computed as Computed;
+ghost use Rattle.value.specs.Computed.{computed};
+ghost use Rattle.value.specs.Constants.{wordAt};
+ghost use Rattle.value.specs.Ranged.{ranged};
+
+// 01: "the mark is the lowest 64-bit number".
+pub const MARK: i64 = i64::MIN;
+
+// 01: "Values are signed 32-bit": the one place in code where their limits stand.
+const LOWEST: i64 = -2147483648;
+
+const HIGHEST: i64 = 2147483647;
+
+// Two numbers further from 0 than this have a product that is no value; where one is not, the product fits an i64.
+const NEAR: i64 = 1000000;
+
+// ---- conditions
+
+pub fn at_most(a: i64, b: i64) -> bool
+    ensures { λ r. ⌜ r ≡ leZ a b ⌝ }
+{
+    a <= b
+}
+
+pub fn in_bounds(v: i64, low: i64, high: i64) -> bool
+    ensures { λ r. ⌜ r ≡ leZ low v && leZ v high ⌝ }
+{
+    if low <= v {
+        return v <= high;
+    }
+    false
+}
+
+// ---- values and the mark
+
+pub fn is_mark(v: i64) -> bool
+    ensures { λ r. ⌜ r ≡ isMark v ⌝ }
+{
+    in_bounds(v, MARK, MARK)
+}
+
+pub fn in_range(v: i64) -> bool
+    ensures { λ r. ⌜ r ≡ inRange v ⌝ }
+{
+    in_bounds(v, LOWEST, HIGHEST)
+}
+
+// z where it is a value, else the mark.
+pub fn within(z: i64) -> i64
+    ensures { λ r. ⌜ r ≡ ranged z ⌝ }
+{
+    if in_range(z) {
+        return z;
+    }
+    MARK
+}
+
+// ---- functions
+
+pub fn sum(a: i64, b: i64) -> i64
+    requires { ⌜ (inRange a ≡ true) × (inRange b ≡ true) ⌝ }
+    ensures { λ r. ⌜ r ≡ ranged (a +ℤ b) ⌝ }
+{
+    within(a + b)
+}
+
+pub fn difference(a: i64, b: i64) -> i64
+    requires { ⌜ (inRange a ≡ true) × (inRange b ≡ true) ⌝ }
+    ensures { λ r. ⌜ r ≡ ranged (a -ℤ b) ⌝ }
+{
+    within(a - b)
+}
+
+// Tested before it is made, so that it need not fit an i64.
+pub fn product(a: i64, b: i64) -> i64
+    requires { ⌜ (inRange a ≡ true) × (inRange b ≡ true) ⌝ }
+    ensures { λ r. ⌜ r ≡ ranged (a *ℤ b) ⌝ }
+{
+    if in_bounds(a, -NEAR, NEAR) {
+        return within(a * b);
+    }
+    if in_bounds(b, -NEAR, NEAR) {
+        return within(a * b);
+    }
+    MARK
+}
+
+pub fn larger(a: i64, b: i64) -> i64
+    ensures { λ r. ⌜ r ≡ Computed.larger a b ⌝ }
+{
+    if a <= b {
+        return b;
+    }
+    a
+}
+
+pub fn smaller(a: i64, b: i64) -> i64
+    ensures { λ r. ⌜ r ≡ Computed.smaller a b ⌝ }
+{
+    if a <= b {
+        return a;
+    }
+    b
+}
+
+// Toward zero; by 0 it is 0, as in the definition.
+pub fn quotient(a: i64, c: i64) -> i64
+    requires { ⌜ inRange a ≡ true ⌝ }
+    ensures { λ r. ⌜ r ≡ ranged (Value.quotient a c) ⌝ }
+{
+    if c == 0 {
+        return 0;
+    }
+    within(a / c)
+}
+
+// A function by its number in 01. The constant stands for const's first operand, and for the second one of addc and quot.
+pub fn compute(function: u32, a: i64, b: i64) -> i64
+    requires { ⌜ (inRange a ≡ true) × (inRange b ≡ true) ⌝ }
+    ensures { λ r. ⌜ r ≡ ranged (computed function a b) ⌝ }
+{
+    match function {
+        0 => a,
+        1 => a,
+        2 => sum(a, b),
+        3 => difference(a, b),
+        4 => product(a, b),
+        5 => larger(a, b),
+        6 => smaller(a, b),
+        7 => sum(a, b),
+        8 => quotient(a, b),
+        _ => 0,
+    }
+}
+
+// ---- constants
+
+// The constant that a word stands for.
+pub fn constant(word: u32) -> i64
+    ensures { λ r. ⌜ (r ≡ signed word) × (inRange r ≡ true) ⌝ }
+{
+    let z = word as i64;
+    if word < 2147483648 {
+        return z;
+    }
+    z - 4294967296
+}
+
+fn wide(x: u8) -> u32
+    ensures { λ r. ⌜ (r ≡ x) × (r < 256) ⌝ }
+{
+    x as u32
+}
+
+// 0 past the end.
+fn byte_at(bytes: &[u8], at: usize) -> u32
+    ensures { λ r. ⌜ (r ≡ byte (now (bytes .entry)) at) × (r < 256) ⌝ }
+{
+    if bytes.len() <= at {
+        return 0;
+    }
+    wide(bytes[at])
+}
+
+// Four bytes as one number, the highest first.
+pub fn whole_word(bytes: &[u8], at: usize) -> u32
+    requires { ⌜ at + 4 ≤ length (now bytes) ⌝ }
+    ensures { λ r. ⌜ r ≡ wordAt (now (bytes .entry)) at ⌝ }
+{
+    let a = wide(bytes[at]);
+    let b = wide(bytes[at + 1]);
+    let c = wide(bytes[at + 2]);
+    let d = wide(bytes[at + 3]);
+    ((a * 256 + b) * 256 + c) * 256 + d
+}
+
+// The same, with 0 for each byte past the end.
+pub fn word_at(bytes: &[u8], at: usize) -> u32
+    ensures { λ r. ⌜ r ≡ wordAt (now (bytes .entry)) at ⌝ }
+{
+    let len = bytes.len();
+    if len <= at {
+        return 0;
+    }
+    if at + 4 <= len {
+        return whole_word(bytes, at);
+    }
+    let a = byte_at(bytes, at);
+    let b = byte_at(bytes, at + 1);
+    let c = byte_at(bytes, at + 2);
+    ((a * 256 + b) * 256 + c) * 256
+}
+
+pub fn constant_at(bytes: &[u8], at: usize) -> i64
+    ensures { λ r. ⌜ r ≡ constantAt (now (bytes .entry)) at ⌝ }
+{
+    constant(word_at(bytes, at))
+}
