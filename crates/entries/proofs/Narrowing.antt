@@ -95,6 +95,24 @@ module _ (lows₀ highs₀ flags : List ℕ) (p : ℕ) (lows highs : List ℕ) (
 
 -- ---- narrowed
 
+pub kept-then : (u v w : Spans) (p : ℕ) → Kept u v p → Kept v w p → Kept u w p
+kept-then u v w p k l =
+    record {
+      lows = λ i h. l .lows i h ∙ k .lows i h;
+      highs = λ i h. l .highs i h ∙ k .highs i h;
+      flags = λ i h. l .flags i h ∙ k .flags i h;
+      long = l .long;
+    }
+
+-- the part of a production before stays
+pub spanned-kept : (v w : Spans) (n p : ℕ) (cs : List (Condition Occurrence)) → p < n → Kept v w n → Spanned v p cs → Spanned w p cs
+spanned-kept v w n p cs l k s =
+    record {
+      low = λ a h. k .lows (p * 8 + a) (omega arith) ∙ s .low a h;
+      high = λ a h. k .highs (p * 8 + a) (omega arith) ∙ s .high a h;
+      flag = ap (λ x. eqb x 0) (k .flags p l) ∙ s .flag;
+    }
+
 pub kept-same : (v : Spans) (p : ℕ) → Long v → Kept v v p
 kept-same v p l = record { lows = λ i h. refl; highs = λ i h. refl; flags = λ i h. refl; long = l }
 

@@ -1,14 +1,14 @@
 -- What holds of a field without a fault.
 use Prim.Native.Nat.{ℕ, _+_, _≤_, _<_}
-use mathlib.Core.Path.{_≡_, refl}
+use mathlib.Core.Path.{_≡_, refl, sym, _∙_, ap}
 use mathlib.Core.Bool.{Bool, true, false, cond}
 use mathlib.Core.List.{List}
 use native.Mathlib.Omega.{arith}
 use lib.Dec.{eqb, leb, ltb}
 use lib.ListN.{length}
-use borrow.Author.Tests.{eqb-true, leb-true, ltb-true}
+use borrow.Author.Tests.{eqb-true, leb-true, ltb-true, eqb-false}
 use Rattle.meaning.specs.Table.{byte}
-use Rattle.fields.specs.Demand.{holds, equal, atMost, below}
+use Rattle.fields.specs.Demand.{holds, equal, atMost, below, differs}
 use Rattle.fields.specs.Judge.{headerFault, countsFault, productionFault, symbolsKnown}
 use Rattle.fields.proofs.Cases.{nonzero}
 
@@ -21,6 +21,14 @@ module _ {n r : ℕ} (h : n ≡ 0 → ⊥) where
   pub equal-fine : (a b : ℕ) → equal a b n r ≡ 0 → (a ≡ b) × (r ≡ 0)
   unfolding equal
   equal-fine a b e = let q = by-test (eqb a b) n r e h in (eqb-true a b (q .0), q .1)
+
+  pub differs-fine : (a b : ℕ) → differs a b n r ≡ 0 → (a ≡ b → ⊥) × (r ≡ 0)
+  unfolding differs
+  differs-fine a b e = go (eqb a b) refl
+    where
+      go : (x : Bool) → eqb a b ≡ x → (a ≡ b → ⊥) × (r ≡ 0)
+      go true q = absurd (h (sym (ap (λ y. cond y n r) q) ∙ e))
+      go false q = (eqb-false a b q, sym (ap (λ y. cond y n r) q) ∙ e)
 
   pub atMost-fine : (a b : ℕ) → atMost a b n r ≡ 0 → (a ≤ b) × (r ≡ 0)
   unfolding atMost

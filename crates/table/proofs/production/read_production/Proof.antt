@@ -1,60 +1,80 @@
-use native.Mathlib.Omega.{arith}
 use borrow.Author.Needs.{needs}
-use Rattle.table.proofs.Producing.{part-in, small-body, part-short}
-use Rattle.table.proofs.Rows.{production-refused, production-read}
 use Rattle.table.proofs.production.read_production.Statement.{statement}
 use Rattle.table.proofs.production.read_production.Tie as tie
+use Rattle.table.proofs.production.read_production.Reads as reads
+use Rattle.table.proofs.production.read_production.Lts as lts
+use Rattle.fields.proofs.wide.Reads as wide-reads
+use Rattle.table.proofs.production.copy_row.Reads as copy-row-reads
+use Rattle.table.proofs.production.production_number.Reads as production-number-reads
+use Rattle.table.proofs.production.read_body.Reads as read-body-reads
 
+-- src/production.rt:131:9
 production-number-requires : tie.Need-production-number-requires
 production-number-requires c κs = search needs
 
+-- src/production.rt:133:9
 returns : tie.Need-returns
-returns c = production-refused _ _ _ _ _ _ _ _ _ _ _ _ (c .before .production-number .ensures) (c .before .before .before .pre .7) (c .if1 .taken) (omega arith) (c .before .before .before .pre .6)
+returns c = ?
 
+-- src/production.rt:140:16
 add-from : tie.Need-add-from
 add-from c = search needs
 
+-- src/production.rt:141:15
 add-end : tie.Need-add-end
 add-end c = search needs
 
+-- src/production.rt:141:43
 add-wide : tie.Need-add-wide
 add-wide c = search needs
 
+-- src/production.rt:141:37
 shared-slice-read-wide : tie.Need-shared-slice-read-wide
-shared-slice-read-wide c = omega (arith, c .before .before .production-number .ensures .known (omega arith) .long)
+shared-slice-read-wide c = ?
 
+-- src/production.rt:141:24
 wide-requires : tie.Need-wide-requires
 wide-requires c κs = search needs
 
+-- src/production.rt:141:15
 add-end-2 : tie.Need-add-end-2
 add-end-2 c = search needs
 
+-- src/production.rt:142:23
 sub-copy-row : tie.Need-sub-copy-row
 sub-copy-row c = search needs
 
+-- src/production.rt:142:23
 part-copy-row-start : tie.Need-part-copy-row-start
 part-copy-row-start c = search needs
 
+-- src/production.rt:142:23
 part-copy-row-end : tie.Need-part-copy-row-end
-part-copy-row-end c = omega (arith, c .before .before .before .before .production-number .ensures .known (omega arith) .long)
+part-copy-row-end c = ?
 
+-- src/production.rt:142:5
 copy-row-requires : tie.Need-copy-row-requires
-copy-row-requires c κs = (c .before .before .before .before .before .production-number .ensures .known (omega arith) .few, part-short (c .before .before .before .before .before .before .before .args .table .now) (c .before .before .before .before .before .before .before .args .at) (c .before .before .wide .result) (omega (arith, c .before .before .before .before .before .production-number .ensures .known (omega arith) .short)), c .before .before .before .before .before .before .before .pre .6)
+copy-row-requires c κs = ?
 
+-- src/production.rt:143:18
 cast-offsets : tie.Need-cast-offsets
 cast-offsets c = search needs
 
+-- src/production.rt:143:5
 mul-offsets : tie.Need-mul-offsets
-mul-offsets c = omega (arith, c .before .before .before .before .before .before .production-number .ensures .known (omega arith) .few)
+mul-offsets c = ?
 
+-- src/production.rt:143:5
 element-write-offsets : tie.Need-element-write-offsets
-element-write-offsets c = c .before .before .before .before .before .before .production-number .ensures .known (omega arith) .few
+element-write-offsets c = ?
 
+-- src/production.rt:144:5
 read-body-requires : tie.Need-read-body-requires
-read-body-requires c κs = (c .before .before .before .before .before .before .production-number .ensures .known (omega arith) .long, small-body _ _ _ _ _ _ _ (c .before .before .before .before .before .before .production-number .ensures .known (omega arith)) (c .before .before .before .before .before .before .before .before .pre .3), c .before .before .before .before .before .before .before .before .pre .4, c .before .before .before .before .before .before .before .before .pre .5, c .before .before .before .before .before .before .before .before .pre .8, c .before .before .before .before .before .before .before .before .pre .9)
+read-body-requires c κs = ?
 
+-- src/production.rt:112:1
 returns-2 : tie.Need-returns-2
-returns-2 c = production-read _ _ _ _ _ _ _ _ _ _ _ _ (c .before .before .before .before .before .before .before .production-number .ensures) (c .before .before .before .before .before .before .before .before .before .pre .7) (omega arith) _ _ (part-in (c .before .before .before .before .before .before .before .before .before .args .table .now) (c .before .before .before .before .before .before .before .before .before .args .at) (c .before .before .before .before .wide .result) (c .before .before .before .before .wide .ensures .0)) (c .before .copy-row .ensures) _ (c .read-body .ensures .0) (c .read-body .ensures .1 .0) (c .read-body .ensures .1 .1)
+returns-2 c = ?
 
 pub read-production-spec : {M : Type 1} → statement M
 read-production-spec =
