@@ -1,4 +1,17 @@
+-- BEGIN FILL
+use Rattle.fields.proofs.Demands.{holds-met, holds-not, lacks-met, lacks-not, equal-met, equal-not, differs-met, differs-not, atMost-met, atMost-not, below-met, below-not, equal-yes, equal-no, below-yes, below-no, said-met, said-not, said-lacks, said-has}
+use mathlib.Core.Path.{_≡_, refl, sym, _∙_, ap, ap₂, subst}
+use native.Mathlib.Omega.{arith}
 use borrow.Author.Needs.{needs}
+use borrow.Author.Tests.{not-true, not-false, ltb-true, ltb-false, leb-true, leb-false, eqb-true, eqb-false, lt-ltb, le-ltb, le-leb, lt-leb, eq-eqb, ne-eqb}
+use mathlib.Core.Logic.{⊎-elim}
+use Prim.Native.Nat.{ℕ, zero, suc, _+_, _-_, _*_, _≤_, _<_, _^_, _/_, _%_}
+use mathlib.Core.Bool.{Bool, true, false, _&&_, not}
+use mathlib.Core.List.{List, [], _∷_}
+use lib.ListN.{length, getD, take, drop, set}
+use Rattle.table.proofs.Producing.{part-in, part-short, body-small, body-read, next-sooner, small-body}
+use Rattle.entries.proofs.Narrowing.{kept-then}
+-- END FILL
 use Rattle.table.proofs.production.read_body.Statement.{statement}
 use Rattle.table.proofs.production.read_body.Tie as tie
 use Rattle.table.proofs.production.read_body.Reads as reads
@@ -70,11 +83,11 @@ begin-requires c κs = search needs
 
 -- src/production.rt:108:5
 read-uses-requires : tie.Need-read-uses-requires
-read-uses-requires c κs = ?
+read-uses-requires c κs = (body-small (c .before .before .before .before .before .before .before .before .before .before .before .before .before .before .before .before .before .before .args .table .now) (c .before .before .before .before .before .before .before .before .before .before .before .before .before .before .before .before .before .before .args .at) _ _ _ _ _ _ (c .before .before .before .before .before .before .before .before .before .before .before .before .before .before .before .wide .ensures .0) (part-in (c .before .before .before .before .before .before .before .before .before .before .before .before .before .before .before .before .before .before .args .table .now) (c .before .before .before .before .before .before .before .before .before .before .before .before .before .before .before .before .before .before .args .at) (c .before .before .before .before .before .before .before .before .before .before .before .before .before .before .before .wide .result) (c .before .before .before .before .before .before .before .before .before .before .before .before .before .before .before .wide .ensures .0)) (c .before .before .before .before .before .before .before .before .before .before .before .before .before .before .before .before .before .before .pre .0) (c .before .before .before .before .before .before .before .before .before .before .before .before .place-counts .ensures) (c .before .before .before .before .before .before .before .before .before .place-counts2 .ensures) (c .before .before .before .before .before .before .before .before .before .before .before .before .before .before .before .before .before .before .pre .1), omega arith, omega arith, omega arith, omega arith, c .before .before .before .before .before .before .before .before .before .before .before .before .before .before .before .before .before .before .pre .6, c .before .before .before .before .before .begin .ensures .0, c .before .before .before .before .before .begin .ensures .1 .long)
 
 -- src/production.rt:81:1
 returns : tie.Need-returns
-returns c = ?
+returns c = (body-read (c .before .before .before .before .before .before .before .before .before .before .before .before .before .before .before .before .before .before .before .args .table .now) (c .before .before .before .before .before .before .before .before .before .before .before .before .before .before .before .before .before .before .before .args .at) _ _ _ _ _ _ (c .before .before .before .before .before .before .before .before .before .before .before .before .before .before .before .before .wide .ensures .0) (part-in (c .before .before .before .before .before .before .before .before .before .before .before .before .before .before .before .before .before .before .before .args .table .now) (c .before .before .before .before .before .before .before .before .before .before .before .before .before .before .before .before .before .before .before .args .at) (c .before .before .before .before .before .before .before .before .before .before .before .before .before .before .before .before .wide .result) (c .before .before .before .before .before .before .before .before .before .before .before .before .before .before .before .before .wide .ensures .0)) (c .before .before .before .before .before .before .before .before .before .before .before .before .before .before .before .before .before .before .before .pre .0) (c .before .before .before .before .before .before .before .before .before .before .before .before .before .place-counts .ensures) (c .before .before .before .before .before .before .before .before .before .before .place-counts2 .ensures) _ _ _ _ _ (c .read-uses .ensures .0), ((λ z. next-sooner _ _ _ _ (omega arith) (c .read-uses .ensures .1 .0 z)), (c .read-uses .ensures .1 .1 .0, kept-then _ _ _ _ (c .before .before .before .before .before .before .begin .ensures .1) (c .read-uses .ensures .1 .1 .1))))
 
 pub read-body-spec : {M : Type 1} → statement M
 read-body-spec =
