@@ -120,16 +120,16 @@ unfolding conditionFault rangeFault atMostFault
 condition-fine c width inh syn b e =
     let q = atMost-fine (nonzero 3) 1 (length b) e in
     let u = below-fine (nonzero 3) c 512 (q .1) in
-    let v = atMost-fine (nonzero 4) (byte b 0) 1 (u .1) in
-    ( q .0
-    , (λ z. equal-fine (nonzero 3) (length b) 11 (equal-yes (byte b 0) 0 _ _ z refl ∙ v .1) .0)
-    , λ n x y.
-      let w = equal-fine (nonzero 3) (length b) 5 (equal-no (byte b 0) 0 _ _ n refl ∙ v .1) in
-      let k = differs-fine (nonzero 4) (classIn width inh syn b 1) 0 (w .1) in
-      let l = differs-fine (nonzero 4) (classIn width inh syn b 3) 0 (k .1) in
-      let m = differs-fine (nonzero 6) (classIn width inh syn b 1) 2 (l .1) in
-      let o = differs-fine (nonzero 6) (classIn width inh syn b 3) 2 (m .1) in
-      differs-fine (nonzero 9) (byte b 3) 0 (equal-yes (byte b 1) 0 _ _ x refl ∙ o .1) .0 y
+    let v = atMost-fine (nonzero 4) (byte b 0) 1 (u .1) in (
+      q .0,
+      (λ z. equal-fine (nonzero 3) (length b) 11 (equal-yes (byte b 0) 0 _ _ z refl ∙ v .1) .0),
+      λ n x y.
+          let w = equal-fine (nonzero 3) (length b) 5 (equal-no (byte b 0) 0 _ _ n refl ∙ v .1) in
+          let k = differs-fine (nonzero 4) (classIn width inh syn b 1) 0 (w .1) in
+          let l = differs-fine (nonzero 4) (classIn width inh syn b 3) 0 (k .1) in
+          let m = differs-fine (nonzero 6) (classIn width inh syn b 1) 2 (l .1) in
+          let o = differs-fine (nonzero 6) (classIn width inh syn b 3) 2 (m .1) in
+          differs-fine (nonzero 9) (byte b 3) 0 (equal-yes (byte b 1) 0 _ _ x refl ∙ o .1) .0 y,
     )
 
 pub ap3 : {A B : Type 0} (f : A → A → A → B) {x x′ y y′ z z′ : A} → x ≡ x′ → y ≡ y′ → z ≡ z′ → f x y z ≡ f x′ y′ z′

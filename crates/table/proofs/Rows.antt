@@ -107,8 +107,9 @@ module _ (t : List ℕ) (at p terminals nonterminals : ℕ) (inherited synthesiz
                 j .read h cs os es r₀ c₀ tm nt (omega (arith, length-counts inherited synthesized nonterminals)) len done ∙ judged-fine number at _ fine ∙ m .2,
                 m .3,
                 λ z. (
-                  ( subst (λ (n : ℕ). RowOf rows (set offsets₀ p at) n (entryOf at (leftIn t at) (rightIn t at) (m .0) (m .1))) (sym len) (row-is (entryOf at (leftIn t at) (rightIn t at) (m .0) (m .1)) refl refl refl)
-                  , subst (λ (n : ℕ). Spanned v n (m .1)) (sym len) (m .4 z)
+                  (
+                    subst (λ (n : ℕ). RowOf rows (set offsets₀ p at) n (entryOf at (leftIn t at) (rightIn t at) (m .0) (m .1))) (sym len) (row-is (entryOf at (leftIn t at) (rightIn t at) (m .0) (m .1)) refl refl refl),
+                    subst (λ (n : ℕ). Spanned v n (m .1)) (sym len) (m .4 z),
                   ),
                   laid-kept rows₀ rows offsets₀ v₀ v p at (copied .before) stays es (omega (arith, len)) laid,
                 ),

@@ -84,5 +84,15 @@ pub fn read_table(
         result,
         productions: 0,
     };
-    production::read_productions(table, sizes, inherited, synthesized, rows, offsets, lows, highs, flags)
+    production::read_productions(
+        table,
+        sizes,
+        inherited,
+        synthesized,
+        rows,
+        offsets,
+        lows,
+        highs,
+        flags,
+    )
 }

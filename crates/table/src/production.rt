@@ -105,7 +105,20 @@ pub fn read_body(
     place_counts(&table[from..end], inherited, &mut inh);
     place_counts(&table[from..end], synthesized, &mut syn);
     entries::begin(p, lows, highs, flags);
-    crate::walk::read_uses(table, end, at, width, &inh, &syn, rules, conditions, p, lows, highs, flags)
+    crate::walk::read_uses(
+        table,
+        end,
+        at,
+        width,
+        &inh,
+        &syn,
+        rules,
+        conditions,
+        p,
+        lows,
+        highs,
+        flags,
+    )
 }
 
 // Production p, with its row, its offset, its rules and conditions.
@@ -141,7 +154,18 @@ pub fn read_production(
     let end = at + 5 + fields::wide(table[at + 4]);
     copy_row(rows, p, &table[from..end]);
     offsets[p] = at as u32;
-    read_body(table, at, inherited, synthesized, rules, conditions, p, lows, highs, flags)
+    read_body(
+        table,
+        at,
+        inherited,
+        synthesized,
+        rules,
+        conditions,
+        p,
+        lows,
+        highs,
+        flags,
+    )
 }
 
 // All productions, from the last tag 2 field on.
@@ -175,7 +199,11 @@ pub fn read_productions(
             rows,
             offsets,
             rules,
-            conditions, lows, highs, flags);
+            conditions,
+            lows,
+            highs,
+            flags,
+        );
         if u.number != 0 {
             let offset = u.at as u32;
             return Reading::Malformed {

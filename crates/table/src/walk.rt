@@ -105,10 +105,19 @@ pub fn read_uses(
         let size = fields::size_at(table, at);
         let number = use_number(table, at, size, r, c, width, inh, syn, &note);
         if number != 0 {
-            return Uses { number, at, rules: r, conditions: c };
+            return Uses {
+                number,
+                at,
+                rules: r,
+                conditions: c,
+            };
         }
         if fields::wide(table[at]) == 4 {
-            rules::note::note_down(&mut note, fields::wide(table[at + 3]), fields::wide(table[at + 4]));
+            rules::note::note_down(
+                &mut note,
+                fields::wide(table[at + 3]),
+                fields::wide(table[at + 4]),
+            );
             r += 1;
             at = at + 3 + size;
             continue;

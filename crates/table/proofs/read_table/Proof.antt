@@ -1,76 +1,59 @@
+use mathlib.Core.Path.{refl}
+use native.Mathlib.Omega.{arith}
 use borrow.Author.Needs.{needs}
+use Rattle.table.proofs.Rows.{answer-refused}
+use Rattle.table.proofs.Tables.{header-answer, counts-answer, productions-answer}
+use Rattle.fields.proofs.Rest.{table-long}
 use Rattle.table.proofs.read_table.Statement.{statement}
 use Rattle.table.proofs.read_table.Tie as tie
-use Rattle.table.proofs.read_table.Reads as reads
-use Rattle.table.proofs.read_table.Lts as lts
-use Rattle.fields.proofs.wide.Reads as wide-reads
-use Rattle.table.proofs.counts.read_counts.Reads as read-counts-reads
-use Rattle.table.proofs.header.header_number.Reads as header-number-reads
-use Rattle.table.proofs.production.read_productions.Reads as read-productions-reads
 
--- src/lib.rt:59:9
 returns : tie.Need-returns
-returns c = ?
+returns c = answer-refused _ _ _ _ _ _ _ _ _ (table-long (c .before .before .args .table .now) (c .if1 .taken)) refl
 
--- src/lib.rt:64:9
 header-number-requires : tie.Need-header-number-requires
 header-number-requires c κs = search needs
 
--- src/lib.rt:66:9
 returns-2 : tie.Need-returns-2
-returns-2 c = ?
+returns-2 c = answer-refused _ _ _ _ _ _ _ _ _ (header-answer _ (omega arith) _ (c .before .header-number .ensures) (c .if2 .taken)) refl
 
--- src/lib.rt:68:34
 shared-slice-read-wide : tie.Need-shared-slice-read-wide
-shared-slice-read-wide c = ?
+shared-slice-read-wide c = omega (arith, c .before .before .header-number .ensures .long (omega arith))
 
--- src/lib.rt:68:9
 wide-requires : tie.Need-wide-requires
 wide-requires c κs = search needs
 
--- src/lib.rt:69:37
 shared-slice-read-wide-2 : tie.Need-shared-slice-read-wide-2
-shared-slice-read-wide-2 c = ?
+shared-slice-read-wide-2 c = omega (arith, c .before .before .before .before .header-number .ensures .long (omega arith))
 
--- src/lib.rt:69:9
 wide-requires-2 : tie.Need-wide-requires-2
 wide-requires-2 c κs = search needs
 
--- src/lib.rt:70:30
 shared-slice-read-wide-3 : tie.Need-shared-slice-read-wide-3
-shared-slice-read-wide-3 c = ?
+shared-slice-read-wide-3 c = omega (arith, c .before .before .before .before .before .before .header-number .ensures .long (omega arith))
 
--- src/lib.rt:70:9
 wide-requires-3 : tie.Need-wide-requires-3
 wide-requires-3 c κs = search needs
 
--- src/lib.rt:71:31
 shared-slice-read-wide-4 : tie.Need-shared-slice-read-wide-4
-shared-slice-read-wide-4 c = ?
+shared-slice-read-wide-4 c = omega (arith, c .before .before .before .before .before .before .before .before .header-number .ensures .long (omega arith))
 
--- src/lib.rt:71:9
 wide-requires-4 : tie.Need-wide-requires-4
 wide-requires-4 c κs = search needs
 
--- src/lib.rt:72:9
 read-counts-requires : tie.Need-read-counts-requires
-read-counts-requires c κs = ?
+read-counts-requires c κs = (c .before .before .before .before .before .before .wide2 .ensures .0, c .before .before .before .before .wide3 .ensures .0, c .before .before .wide4 .ensures .0, omega (arith, c .before .before .before .before .before .before .before .before .before .before .before .header-number .ensures .few (omega arith)), c .before .before .before .before .before .before .before .before .before .before .before .header-number .ensures .long (omega arith), c .before .before .before .before .before .before .before .before .before .before .before .before .before .before .pre .0, c .before .before .before .before .before .before .before .before .before .before .before .before .before .before .pre .1)
 
--- src/lib.rt:74:22
 cast-offset : tie.Need-cast-offset
 cast-offset c = search needs
 
--- src/lib.rt:75:9
 returns-3 : tie.Need-returns-3
-returns-3 c = ?
+returns-3 c = answer-refused _ _ _ _ _ _ _ _ _ (counts-answer _ (omega arith) _ (c .before .before .before .before .before .before .before .before .before .before .before .before .before .before .before .header-number .ensures) (omega arith) _ _ _ _ (c .before .before .before .read-counts .ensures .0) (c .before .if3 .taken)) refl
 
--- src/lib.rt:87:5
 read-productions-requires : tie.Need-read-productions-requires
-read-productions-requires c κs = ?
+read-productions-requires c κs = (record { terminals = c .before .before .before .before .before .before .before .before .before .before .before .before .before .before .before .before .before .before .wide .ensures .0; nonterminals = c .before .before .before .before .before .before .before .before .before .before .before .before .before .before .before .before .wide2 .ensures .0; start = c .before .before .before .before .before .before .before .before .before .before .before .before .before .before .wide3 .ensures .0; result = c .before .before .before .before .before .before .before .before .before .before .before .before .wide4 .ensures .0; few = omega (arith, c .before .before .before .before .before .before .before .before .before .before .before .before .before .before .before .before .before .before .before .before .before .header-number .ensures .few (omega arith)); long = c .before .before .before .before .before .before .before .before .before .read-counts .ensures .0 .long (omega arith); short = c .before .before .before .before .before .before .before .before .before .before .before .before .before .before .before .before .before .before .before .before .before .before .if1 .left; small = c .before .before .before .before .before .before .before .before .before .read-counts .ensures .0 .small (omega arith); first = c .before .before .before .before .before .before .before .before .before .read-counts .ensures .1 .0; second = c .before .before .before .before .before .before .before .before .before .read-counts .ensures .1 .1 }, c .before .before .before .before .before .before .before .before .before .before .before .before .before .before .before .before .before .before .before .before .before .before .before .before .pre .2, c .before .before .before .before .before .before .before .before .before .before .before .before .before .before .before .before .before .before .before .before .before .before .before .before .pre .3, c .before .before .before .before .before .before .before .before .before .before .before .before .before .before .before .before .before .before .before .before .before .before .before .before .pre .4)
 
--- src/lib.rt:45:1
 returns-4 : tie.Need-returns-4
-returns-4 c = ?
+returns-4 c = productions-answer _ (omega arith) _ (c .before .before .before .before .before .before .before .before .before .before .before .before .before .before .before .before .before .before .before .before .before .before .header-number .ensures) (omega arith) _ _ _ _ (c .before .before .before .before .before .before .before .before .before .before .read-counts .ensures .0) _ _ _ _ (omega arith) (c .read-productions .ensures)
 
 pub read-table-spec : {M : Type 1} → statement M
 read-table-spec =

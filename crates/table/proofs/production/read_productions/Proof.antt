@@ -1,24 +1,11 @@
--- BEGIN FILL
-use Rattle.fields.proofs.Demands.{holds-met, holds-not, lacks-met, lacks-not, equal-met, equal-not, differs-met, differs-not, atMost-met, atMost-not, below-met, below-not, equal-yes, equal-no, below-yes, below-no, said-met, said-not, said-lacks, said-has}
-use mathlib.Core.Path.{_≡_, refl, sym, _∙_, ap, ap₂, subst}
+use mathlib.Core.Path.{refl}
 use native.Mathlib.Omega.{arith}
-use borrow.Author.Needs.{needs}
-use borrow.Author.Tests.{not-true, not-false, ltb-true, ltb-false, leb-true, leb-false, eqb-true, eqb-false, lt-ltb, le-ltb, le-leb, lt-leb, eq-eqb, ne-eqb}
-use mathlib.Core.Logic.{⊎-elim}
-use Prim.Native.Nat.{ℕ, zero, suc, _+_, _-_, _*_, _≤_, _<_, _^_, _/_, _%_}
-use mathlib.Core.Bool.{Bool, true, false, _&&_, not}
-use mathlib.Core.List.{List, [], _∷_}
-use lib.ListN.{length, getD, take, drop, set}
-use Rattle.table.proofs.Producing.{part-in, part-short, body-small, body-read, next-sooner, small-body}
-use Rattle.entries.proofs.Narrowing.{kept-then}
+use Prim.Native.Nat.{_-_}
+use lib.ListN.{length}
 use Rattle.entries.specs.Span.{spansOf}
-use Rattle.table.proofs.Rows.{production-refused, production-read, Reached, reached-start, reached-more, reached-refused, reached-none, answer-refused, answer-whole}
--- END FILL
+use Rattle.table.proofs.Rows.{Reached, reached-start, reached-more, reached-refused, reached-none, answer-refused, answer-whole}
 use Rattle.table.proofs.production.read_productions.Statement.{statement}
 use Rattle.table.proofs.production.read_productions.Tie as tie
-use Rattle.table.proofs.production.read_productions.Reads as reads
-use Rattle.table.proofs.production.read_productions.Lts as lts
-use Rattle.table.proofs.production.read_production.Reads as read-production-reads
 
 abbrev Inv-loop : tie.InvT-loop
 Inv-loop table sizes inherited synthesized rows₀ offsets₀ lows₀ highs₀ flags₀ at₀ p₀ rules₀ conditions₀ rows offsets lows highs flags at p rules conditions = Reached table (sizes .nonterminals) inherited synthesized rows offsets (spansOf lows highs flags) p at rules conditions
@@ -26,51 +13,39 @@ Inv-loop table sizes inherited synthesized rows₀ offsets₀ lows₀ highs₀ f
 abbrev μ-loop : tie.MeasureT-loop
 μ-loop table sizes inherited synthesized rows₀ offsets₀ lows₀ highs₀ flags₀ at₀ p₀ rules₀ conditions₀ rows offsets lows highs flags at p rules conditions = length table - at
 
--- src/production.rt:162:22
 mul-at : tie.Need-mul-at Inv-loop μ-loop
 mul-at c = omega (arith, c .before .before .pre .0 .few)
 
--- src/production.rt:162:18
 add-at : tie.Need-add-at Inv-loop μ-loop
 add-at c = omega (arith, c .before .before .pre .0 .few)
 
--- src/production.rt:166:5
 loop-holds : tie.Need-loop-holds Inv-loop μ-loop
 loop-holds c = reached-start _ _ _ _ _ _ _ (c .before .before .pre .0 .long) (c .before .before .pre .1) (c .before .before .pre .2) (c .before .before .pre .3)
 
--- src/production.rt:167:13
 read-production-requires : tie.Need-read-production-requires Inv-loop μ-loop
 read-production-requires c κs = (c .before .before .before .before .before .loop-test .taken, c .before .before .before .before .before .before .before .before .before .pre .0 .short, (λ h. c .before .before .before .before .before .before .loop .inv .over h (c .before .before .before .before .before .loop-test .taken)), c .before .before .before .before .before .before .before .before .before .pre .0 .small, c .before .before .before .before .before .before .before .before .before .pre .0 .first, c .before .before .before .before .before .before .before .before .before .pre .0 .second, c .before .before .before .before .before .before .loop .inv .kept, c .before .before .before .before .before .before .loop .inv .kept-offsets, c .before .before .before .before .before .before .loop .inv .rules, c .before .before .before .before .before .before .loop .inv .conditions, c .before .before .before .before .before .before .loop .inv .kept-spans)
 
--- src/production.rt:180:26
 cast-offset : tie.Need-cast-offset Inv-loop μ-loop
 cast-offset c = omega (arith, c .before .before .before .read-production .ensures .inside, c .before .before .before .before .before .before .before .before .before .before .before .before .before .pre .0 .short)
 
--- src/production.rt:181:13
 returns : tie.Need-returns Inv-loop μ-loop
 returns c = answer-refused _ _ _ _ _ _ _ _ _ (reached-refused _ _ _ _ _ _ _ _ _ _ _ (c .before .before .before .before .before .before .before .before .before .before .loop .inv) (c .before .before .before .before .before .before .before .before .before .before .before .before .before .pre .0 .nonterminals) _ (c .before .before .before .before .before .before .before .before .before .before .before .before .before .pre .0 .terminals) _ _ _ _ (c .before .before .before .read-production .ensures) (c .before .if1 .taken)) refl
 
--- src/production.rt:186:9
 add-p : tie.Need-add-p Inv-loop μ-loop
 add-p c = omega (arith, c .before .before .before .before .before .before .before .before .before .loop .inv .few)
 
--- src/production.rt:166:5
 loop-less : tie.Need-loop-less Inv-loop μ-loop
 loop-less c = omega (arith, c .before .before .read-production .ensures .next (omega arith) .after, c .before .before .read-production .ensures .inside)
 
--- src/production.rt:166:5
 loop-again : tie.Need-loop-again Inv-loop μ-loop
 loop-again c = reached-more _ _ _ _ _ _ _ _ _ _ _ (c .before .before .before .before .before .before .before .before .before .loop .inv) (c .before .before .before .before .before .before .before .before .before .before .before .before .pre .0 .nonterminals) _ (c .before .before .before .before .before .before .before .before .before .before .before .before .pre .0 .terminals) _ _ _ _ (c .before .before .read-production .ensures) (omega arith)
 
--- src/production.rt:192:22
 cast-offset-2 : tie.Need-cast-offset-2 Inv-loop μ-loop
 cast-offset-2 c = omega (arith, c .before .before .loop .inv .inside, c .before .before .before .before .before .pre .0 .short)
 
--- src/production.rt:193:9
 returns-2 : tie.Need-returns-2 Inv-loop μ-loop
 returns-2 c = answer-refused _ _ _ _ _ _ _ _ _ (reached-none _ _ _ _ _ _ _ _ _ _ _ (c .before .before .loop .inv) (c .before .before .before .before .before .pre .0 .nonterminals) (c .before .loop-test .left) (omega arith)) refl
 
--- src/production.rt:148:1
 returns-3 : tie.Need-returns-3 Inv-loop μ-loop
 returns-3 c = answer-whole _ _ _ _ _ _ _ _ _ _ _ (c .before .before .before .before .before .pre .0) (c .before .before .loop .inv) (c .before .loop-test .left) (c .if2 .left)
 
