@@ -5,7 +5,7 @@ use native.Mathlib.Omega.{arith}
 use mathlib.Core.Path.{_≡_, refl, sym, _∙_, subst}
 use mathlib.Core.Bool.{Bool, true, false, _&&_, _||_}
 use mathlib.Core.List.{List}
-use lib.Dec.{T, eqb, leb, eqb→eq, eqb-refl, leb→le, le→leb}
+use lib.Dec.{T, eqb, leb, eqb→eq, leb→le, le→leb}
 use lib.ListN.{getD, length, replicate, set, length-set}
 use lib.Seq.{getD-set-same, getD-set-other}
 use Rattle.meaning.specs.Base.{all, any, countFrom}
@@ -21,21 +21,9 @@ use Rattle.analysis.specs.Views.{members, sees, opens}
 use Rattle.analysis.specs.Growth.{or-left, or-right}
 use Rattle.analysis.specs.Numbers.{Clear, clear-any, all-count, count-all, any-count}
 
--- the first k productions have their FIRST-then-FOLLOW sets
-pub record StartsTo (gone : ℕ → Bool) (first follow rows : List ℕ) (k : ℕ) (sets : List ℕ) : Type 0 where
-  pub size : length sets ≡ 128
-  pub is : (p : ℕ) → p < k → (u : ℕ) → members (getD sets p 0) u ≡ opens true gone (sees first u) u (sees follow u (leftAt rows p)) (rightAt rows p)
-
-module _ (gone : ℕ → Bool) (first follow rows : List ℕ) where
-  pub starts-none : StartsTo gone first follow rows 0 (replicate 128 0)
-  starts-none = record { size = refl; is = λ p l. absurd (omega arith) }
-
-  pub starts-next : (k x : ℕ) (sets : List ℕ) → k < 128 → StartsTo gone first follow rows k sets → ((u : ℕ) → members x u ≡ opens true gone (sees first u) u (sees follow u (leftAt rows k)) (rightAt rows k)) → StartsTo gone first follow rows (k + 1) (set sets k x)
-  starts-next k x sets l s e = record { size = length-set sets k x ∙ s .size; is = λ p m u. go p m u (ℕ-discrete p k) }
-    where
-      go : (p : ℕ) → p < k + 1 → (u : ℕ) → Dec (p ≡ k) → members (getD (set sets k x) p 0) u ≡ opens true gone (sees first u) u (sees follow u (leftAt rows p)) (rightAt rows p)
-      go p m u (yes q) = rw (q, getD-set-same sets k x 0 (rw (s .size) l)) (e u)
-      go p m u (no q) = rw (getD-set-other sets k p x 0 q) (s .is p (omega arith) u)
+-- FIRST-then-FOLLOW of production p, by tables of FIRST and FOLLOW
+abbrev pub startsBy : (ℕ → Bool) → List ℕ → List ℕ → List ℕ → ℕ → ℕ → Bool
+startsBy gone first follow rows p u = opens true gone (sees first u) u (sees follow u (leftAt rows p)) (rightAt rows p)
 
 module _ (lows highs : List ℕ) (p q : ℕ) where
   -- attribute a + 1 leaves a value to both

@@ -1,13 +1,12 @@
 -- The intervals of Entries from a production's conditions as they are read, the latest first: each condition changes at most one interval.
 use Prim.Native.Nat.{ℕ, _+_, _-_, _%_, _<_, min, max}
-use native.Mathlib.Nat.{mod-eq-of-lt}
 use native.Mathlib.Decide.{decLt}
 use native.Mathlib.Omega.{arith}
 use mathlib.Core.Path.{_≡_, refl, sym, ap, _∙_}
 use mathlib.Core.Bool.{Bool, true, false, _&&_, _||_, not}
 use mathlib.Core.List.{List, [], _∷_, map, reverse, reverseAux}
 use lib.Dec.{T, eqb, ltb}
-use lib.IntN.{ℤ, pos, negsuc}
+use lib.IntN.{pos, negsuc}
 use borrow.Author.Tests.{lt-ltb, le-ltb}
 use Rattle.meaning.specs.Base.{any, keep, consIf, isEmpty}
 use Rattle.meaning.specs.Grammar.{Occurrence, Condition, range, atmost, Production, Grammar, conditionPosition}

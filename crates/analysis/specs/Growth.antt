@@ -1,10 +1,14 @@
 -- A word that grows, production by production, until nothing changes. C is what makes a view closed; P is what a step that changes nothing shows.
-use Prim.Native.Nat.{ℕ, _≤_, _<_}
+use Prim.Native.Nat.{ℕ, _+_, _≤_, _<_}
 use native.Mathlib.Nat.{le-refl}
 use native.Mathlib.Omega.{arith}
 use mathlib.Core.Path.{_≡_, refl, sym, _∙_, subst}
 use mathlib.Core.Logic.{_⊎_, ⊎-elim}
 use mathlib.Core.Bool.{Bool, true, false, _||_}
+use mathlib.Core.List.{List}
+use native.Mathlib.Decide.{ℕ-discrete}
+use lib.ListN.{getD, length, replicate, set, length-set}
+use lib.Seq.{getD-set-same, getD-set-other}
 use lib.Bits.{bitOr}
 use lib.Dec.{T, eqb, eqb→eq, eqb-refl}
 use Rattle.meaning.specs.Sets.{has, singleton}
@@ -75,9 +79,6 @@ module _ {C P Q R : (ℕ → Bool) → Type 0} (s r q : ℕ) where
       same : q ≡ s → r ≡ s
       same e = omega (arith, a .grows, b .grows)
 
-pub grown-map : {C P Q : (ℕ → Bool) → Type 0} (s r : ℕ) → Grown C P s r → (P (members s) → Q (members s)) → Grown C Q s r
-grown-map s r a f = record { grows = a .grows; keeps = a .keeps; sound = a .sound; stuck = λ e. f (a .stuck e) }
-
 -- on the way there
 pub record Rising (C : (ℕ → Bool) → Type 0) (s r : ℕ) : Type 0 where
   pub keeps : Inside (members s) (members r)
@@ -92,3 +93,19 @@ module _ {C : (ℕ → Bool) → Type 0} (s : ℕ) where
 
   pub settled : (r q : ℕ) → Rising C s r → Grown C C r q → q ≡ r → Settled C s r
   settled r q a b e = record { keeps = a .keeps; closed = b .stuck e; least = a .least }
+
+-- ---- a word for each of the first k productions
+pub record SetsTo (f : ℕ → ℕ → Bool) (k : ℕ) (sets : List ℕ) : Type 0 where
+  pub size : length sets ≡ 128
+  pub is : (p : ℕ) → p < k → (n : ℕ) → members (getD sets p 0) n ≡ f p n
+
+module _ (f : ℕ → ℕ → Bool) where
+  pub sets-none : SetsTo f 0 (replicate 128 0)
+  sets-none = record { size = refl; is = λ p l. absurd (omega arith) }
+
+  pub sets-next : (k x : ℕ) (sets : List ℕ) → k < 128 → SetsTo f k sets → ((n : ℕ) → members x n ≡ f k n) → SetsTo f (k + 1) (set sets k x)
+  sets-next k x sets l s e = record { size = length-set sets k x ∙ s .size; is = λ p m n. go p m n (ℕ-discrete p k) }
+    where
+      go : (p : ℕ) → p < k + 1 → (n : ℕ) → Dec (p ≡ k) → members (getD (set sets k x) p 0) n ≡ f p n
+      go p m n (yes q) = rw (q, getD-set-same sets k x 0 (rw (s .size) l)) (e n)
+      go p m n (no q) = rw (getD-set-other sets k p x 0 q) (s .is p (omega arith) n)

@@ -19,13 +19,13 @@ use Rattle.theory_sets.specs.Intervals.{entry}
 use Rattle.token_set.specs.Words.{setOf}
 use Rattle.analysis.specs.Rows.{Rows, leftAt}
 use Rattle.analysis.specs.Views.{members, sees, Within, ClosedAt, ReachAt, FrontAt}
-use Rattle.analysis.specs.Growth.{Settled, none-in}
+use Rattle.analysis.specs.Growth.{Settled, SetsTo, none-in}
 use Rattle.analysis.specs.Passes.{WithinAll, SettledTable}
 use Rattle.analysis.specs.Follows.{Followed}
 use Rattle.analysis.specs.Recursion.{Recursive}
 use Rattle.analysis.specs.Numbers.{Found, found-same, all-count-same, any-count-same}
 use Rattle.analysis.specs.Entries.{Entries, lowEnd, highEnd, low-append, high-append, satisfiable-is}
-use Rattle.analysis.specs.Clashing.{StartsTo, overlapBy, agreeBy, clashBy, clashesBy}
+use Rattle.analysis.specs.Clashing.{startsBy, overlapBy, agreeBy, clashBy, clashesBy}
 use Rattle.analysis.specs.Agreeing.{Marks, listed, counted, productive-marks, reachable-marks}
 use Rattle.analysis.specs.TokenAgreeing.{first-holds, follow-holds, starts-is}
 use Rattle.analysis.specs.RecursionAgreeing.{recursive-is}
@@ -42,7 +42,7 @@ module _ {rows : List ℕ} {count : ℕ} {g : Grammar} (r : Rows rows count g) w
 
   -- FOLLOW is needed only where some nonterminal derives nothing
   pub starts-found : (null : ℕ) (f t sets : List ℕ) → Marks null (nullable g) → SettledTable (WithinAll (FrontAt true (members null) rows) 0 count) (replicate 48 0) f
-      → ((null ≡ 0 → ⊥) → Followed (members null) f rows count (g .start) t) → StartsTo (members null) f t rows count sets → (p : ℕ) → Listed g p → setOf (getD sets p 0) ≡ starts g (productionAt g p)
+      → ((null ≡ 0 → ⊥) → Followed (members null) f rows count (g .start) t) → SetsTo (startsBy (members null) f t rows) count sets → (p : ℕ) → Listed g p → setOf (getD sets p 0) ≡ starts g (productionAt g p)
   starts-found null f t sets gone fs fo st p l =
       let m = counted r p l in
       let firsts = first-holds r null gone f fs in

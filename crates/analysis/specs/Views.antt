@@ -65,6 +65,10 @@ fit-more b f h k (nonterminal n) u = k n u
 abbrev pub ReachAt : List ℕ → ℕ → (ℕ → Bool) → Type 0
 ReachAt rows p see = T (see (leftAt rows p)) → (n : ℕ) → T (any (isNonterminal n) (rightAt rows p)) → T (see n)
 
+-- the nonterminals on the right of production p
+abbrev pub rightBy : List ℕ → ℕ → ℕ → Bool
+rightBy rows p n = any (isNonterminal n) (rightAt rows p)
+
 -- ---- what a string begins with, and what comes after it where it derives nothing.
 -- `gone` is the view of what derives nothing, `see` that of what begins with u; w says whether u comes after, b whether tokens count.
 abbrev pub turn : Bool → (ℕ → Bool) → (ℕ → Bool) → ℕ → Symbol → Bool → Bool

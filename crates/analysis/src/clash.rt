@@ -9,8 +9,9 @@ ghost use lib.Dec.{leb};
 ghost use lib.ListN.{length, getD};
 ghost use Rattle.analysis.specs.Rows.{Image};
 ghost use Rattle.analysis.specs.Views.{members};
+ghost use Rattle.analysis.specs.Growth.{SetsTo};
 ghost use Rattle.analysis.specs.Numbers.{Found};
-ghost use Rattle.analysis.specs.Clashing.{StartsTo, Rivals, agreeBy, clashBy, clashesBy};
+ghost use Rattle.analysis.specs.Clashing.{startsBy, Rivals, agreeBy, clashBy, clashesBy};
 
 // FIRST-then-FOLLOW of each production.
 pub fn all_starts(
@@ -21,7 +22,7 @@ pub fn all_starts(
     follow: &[u64; 48],
 ) -> [u64; 128]
     requires { ⌜ Image (now rows) count ⌝ }
-    ensures { λ r. ⌜ StartsTo (members null) (now (first .entry)) (now (follow .entry)) (now (rows .entry)) count r ⌝ }
+    ensures { λ r. ⌜ SetsTo (startsBy (members null) (now (first .entry)) (now (follow .entry)) (now (rows .entry))) count r ⌝ }
 {
     let mut sets = [0u64; 128];
     let mut k: usize = 0;

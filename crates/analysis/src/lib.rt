@@ -15,6 +15,7 @@ use crate::fronts::fronts;
 use crate::judging::lowest_in;
 use crate::judging::lowest_useless;
 use crate::reaching::reach;
+use crate::reaching::right_sets;
 use crate::recursion::recursive;
 use token_set::TokenSet;
 ghost use mathlib.Core.Path.{_≡_};
@@ -42,7 +43,8 @@ pub fn useless(rows: &[u8; 2048], count: usize, nonterminals: usize, start: u8) 
 {
     let productive = closure(rows, count, true);
     let first = TokenSet::of_token(start).0;
-    let reached = reach(rows, count, first);
+    let rights = right_sets(rows, count);
+    let reached = reach(rows, count, &rights, first);
     lowest_useless(reached, productive, nonterminals)
 }
 

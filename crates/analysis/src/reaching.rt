@@ -7,8 +7,8 @@ ghost use Rattle.meaning.specs.Base.{any};
 ghost use Rattle.meaning.specs.Grammar.{isNonterminal};
 ghost use Rattle.meaning.specs.Table.{symbolOf};
 ghost use Rattle.analysis.specs.Rows.{Image, rightAt};
-ghost use Rattle.analysis.specs.Views.{members, ReachAt, Within};
-ghost use Rattle.analysis.specs.Growth.{Grown, Settled};
+ghost use Rattle.analysis.specs.Views.{members, rightBy, ReachAt, Within};
+ghost use Rattle.analysis.specs.Growth.{Grown, Settled, SetsTo};
 
 // The set of a symbol: its nonterminal, or nothing for a token.
 fn symbol_set(s: u8) -> u64
@@ -37,39 +37,53 @@ fn right_set(rows: &[u8; 2048], count: usize, k: usize) -> u64
     out
 }
 
+// The same for all productions.
+pub fn right_sets(rows: &[u8; 2048], count: usize) -> [u64; 128]
+    requires { ⌜ Image (now rows) count ⌝ }
+    ensures { λ r. ⌜ SetsTo (rightBy (now (rows .entry))) count r ⌝ }
+{
+    let mut sets = [0u64; 128];
+    let mut k: usize = 0;
+    while k < count {
+        sets[k] = right_set(rows, count, k);
+        k += 1;
+    }
+    sets
+}
+
 // The set, with the nonterminals on the right of production k where its left side is in.
-fn reach_by(rows: &[u8; 2048], count: usize, k: usize, set: u64) -> u64
-    requires { ⌜ Image (now rows) count × (k < count) ⌝ }
+fn reach_by(rows: &[u8; 2048], count: usize, rights: &[u64; 128], k: usize, set: u64) -> u64
+    requires { ⌜ Image (now rows) count × SetsTo (rightBy (now rows)) count (now rights) × (k < count) ⌝ }
     ensures { λ r. ⌜ Grown (Within (ReachAt (now (rows .entry))) 0 count) (ReachAt (now (rows .entry)) k) set r ⌝ }
 {
     if !TokenSet(set).has(rows[k * 16]) {
         return set;
     }
-    set | right_set(rows, count, k)
+    set | rights[k]
 }
 
 // One round over the productions.
-fn reach_round(rows: &[u8; 2048], count: usize, set: u64) -> u64
-    requires { ⌜ Image (now rows) count ⌝ }
+fn reach_round(rows: &[u8; 2048], count: usize, rights: &[u64; 128], set: u64) -> u64
+    requires { ⌜ Image (now rows) count × SetsTo (rightBy (now rows)) count (now rights) ⌝ }
     ensures { λ r. ⌜ Grown (Within (ReachAt (now (rows .entry))) 0 count) (Within (ReachAt (now (rows .entry))) 0 count) set r ⌝ }
 {
     let mut next = set;
     let mut k: usize = 0;
     while k < count {
-        next = reach_by(rows, count, k, next);
+        next = reach_by(rows, count, rights, k, next);
         k += 1;
     }
     next
 }
 
-// The nonterminals that those of a set reach.
-pub fn reach(rows: &[u8; 2048], count: usize, first: u64) -> u64
-    requires { ⌜ Image (now rows) count ⌝ }
+// The nonterminals that those of a set reach, from the right sides' sets.
+pub fn reach(rows: &[u8; 2048], count: usize, rights: &[u64; 128], first: u64) -> u64
+    requires { ⌜ Image (now rows) count × SetsTo (rightBy (now rows)) count (now rights) ⌝ }
     ensures { λ r. ⌜ Settled (Within (ReachAt (now (rows .entry))) 0 count) first r ⌝ }
 {
     let mut set = first;
     loop {
-        let next = reach_round(rows, count, set);
+        let next = reach_round(rows, count, rights, set);
         if next == set {
             return set;
         }

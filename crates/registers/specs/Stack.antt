@@ -34,7 +34,7 @@ reverse-set (x ∷ xs) (suc k) v l =
     ∙ (ap (λ z. z ++ (x ∷ [])) (reverse-set xs k v (omega arith))
     ∙ sym (rw (reverse-cons x xs, e) (set-append-left (reverse xs) (x ∷ []) (length xs - suc k) v (omega (arith, length-reverse xs)))))
 
-reverse-replicate : {A : Type 0} (k : ℕ) (a : A) → reverse (replicate k a) ≡ replicate k a
+pub reverse-replicate : {A : Type 0} (k : ℕ) (a : A) → reverse (replicate k a) ≡ replicate k a
 reverse-replicate zero a = refl
 reverse-replicate (suc k) a =
     let e : k + 1 ≡ suc k = omega arith in

@@ -74,7 +74,7 @@ fit-marks (suc n) [] t = absurd t
 fit-marks (suc n) (x ∷ xs) t = ap₂ (λ z zs. z ∷ zs) (mark-is x (both (isMark x) (cellsFit (replicate n marked) xs) t .0)) (fit-marks n xs (both (isMark x) (cellsFit (replicate n marked) xs) t .1))
 
 -- all of them valued, so their order does not matter
-syn-cells : (g : Grammar) (xs : List Symbol) (below : List Cell) → synCells g xs below ≡ replicate (total (map (syn g) xs)) valued ++ below
+pub syn-cells : (g : Grammar) (xs : List Symbol) (below : List Cell) → synCells g xs below ≡ replicate (total (map (syn g) xs)) valued ++ below
 syn-cells g [] below = refl
 syn-cells g (x ∷ xs) below =
     let e : total (map (syn g) xs) + syn g x ≡ syn g x + total (map (syn g) xs) = omega arith in
@@ -239,7 +239,7 @@ module _ {A : Type 0} (f : A → Bool) (clear : A) (n h : ℕ) (mem : List A) (l
 
 -- ---- the whole test
 
-abbrev alone : List ℕ → Bool
+abbrev pub alone : List ℕ → Bool
 alone ps = elim ps [ [] ↦ false | p ∷ qs ↦ elim qs [ [] ↦ eqb p 32769 | q ∷ rest ↦ false ] ]
 
 alone-is : (ps : List ℕ) → T (alone ps) → ps ≡ 32769 ∷ []

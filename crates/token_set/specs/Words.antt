@@ -1,17 +1,17 @@
 -- A token set as a word: token t is in it where bit t is 1. The end is bit 63.
-use Prim.Native.Nat.{ℕ, zero, suc, _+_, _-_, _*_, _/_, _%_, _^_, _≤_, _<_, zero-le, min, max}
-use native.Mathlib.Nat.{lt-of-lt-of-le, one-mul, mod-eq-of-lt, div-self, mod-lt, zero-div, div-one, div-eq-of-lt, zero-lt-suc, pow-suc, mul-mod-left}
+use Prim.Native.Nat.{ℕ, zero, suc, _+_, _-_, _*_, _/_, _%_, _^_, _≤_, _<_, min, max}
+use native.Mathlib.Nat.{one-mul, mod-eq-of-lt, div-self, mod-lt, zero-div, div-one, div-eq-of-lt, zero-lt-suc, pow-suc, mul-mod-left}
 use native.Mathlib.Numerals.{one-add}
 use native.Mathlib.Omega.{arith}
 use native.Mathlib.Decide.{decLt, ℕ-discrete}
 use mathlib.Core.Path.{_≡_, refl, sym, ap, ap₂, _∙_, subst}
 use mathlib.Core.Bool.{Bool, true, false, _||_, not}
 use mathlib.Core.List.{List, [], _∷_, map}
-use lib.Arith.{bin-ind, lt-one}
+use lib.Arith.{lt-one}
 use lib.Bits.{bitAnd, bitOr, and-shr, or-shr, or-step, and-step, and-mask, and-le-l, and-le-r, or-add-and}
 use lib.Dec.{T, eqb, eqb→eq, not-T, T-not}
 use lib.ListN.{length, set, length-map, length-replicate, length-set, List·getD-eq-default}
-use lib.Pow.{pow-mono, pow-pos, pow-add, pow-lt, shl-shr, shr-shr}
+use lib.Pow.{pow-pos, pow-add, pow-lt, shl-shr, shr-shr}
 use lib.Seq.{ext-getD, getD-set-other}
 use Rattle.meaning.specs.Base.{countFrom}
 use Rattle.meaning.specs.Sets.{TokenSet, emptySet, singleton, _∪_, has, endNumber}
@@ -188,32 +188,6 @@ meet-test a b l = both-true (not (eqb (bitAnd a b) 0)) (meet (setOf a) (setOf b)
         let u = meet-cases (setOf a) (setOf b) h in
         not-T (eqb (bitAnd a b) 0) (λ e. let z : bit (bitAnd a b) (u .0) ≡ 0 = rw (eqb→eq (bitAnd a b) 0 e) (bit-zero (u .0)) in omega (arith, bit-and a b (u .0), in-bit a (u .0) (u .1), in-bit b (u .0) (u .2)))
 
--- ---- for loops that add to a set until nothing changes: a union is no smaller a number, a subset no larger
+-- for loops that add to a set until nothing changes: a union is no smaller a number
 pub or-grows : (a b : ℕ) → a ≤ bitOr a b
 or-grows a b = omega (arith, or-add-and a b, and-le-r a b)
-
-sub-bits : (a b : ℕ) → ((t : ℕ) → bit a t ≡ 1 → bit b t ≡ 1) → a ≤ b
-sub-bits = bin-ind (λ (n : ℕ). (b : ℕ) → ((t : ℕ) → bit n t ≡ 1 → bit b t ≡ 1) → n ≤ b) (λ b h. zero-le) step
-  where
-    low : (n b : ℕ) → ((t : ℕ) → bit n t ≡ 1 → bit b t ≡ 1) → (x : ℕ) → n % 2 ≡ x → n % 2 ≤ b % 2
-    low n b h zero e = omega arith
-    low n b h (suc x) e =
-        let one : n % 2 ≡ 1 = omega arith in
-        omega (arith, bit-first b, h 0 (bit-first n ∙ one))
-
-    step : (n : ℕ) → ((b : ℕ) → ((t : ℕ) → bit (n / 2) t ≡ 1 → bit b t ≡ 1) → n / 2 ≤ b) → (b : ℕ) → ((t : ℕ) → bit n t ≡ 1 → bit b t ≡ 1) → n ≤ b
-    step n ih b h =
-        let up = ih (b / 2) (λ t q. sym (bit-suc b t) ∙ h (suc t) (bit-suc n t ∙ q)) in
-        let lo = low n b h (n % 2) refl in
-        omega arith
-
-bit-below : (n t : ℕ) → n < 2 ^ 64 → bit n t ≡ 1 → t < 64
-unfolding bit
-bit-below n t l e = go (decLt t 64)
-  where
-    go : Dec (t < 64) → t < 64
-    go (yes m) = m
-    go (no m) = absurd (let z : n / 2 ^ t % 2 ≡ 0 = ap (λ (x : ℕ). x % 2) (div-eq-of-lt (lt-of-lt-of-le l (pow-mono {i = 64} {j = t} (omega arith)))) in omega arith)
-
-pub sub-le : (a b : ℕ) → a < 2 ^ 64 → ((t : ℕ) → T (has (setOf a) t) → T (has (setOf b) t)) → a ≤ b
-sub-le a b l h = sub-bits a b (λ t e. in-bit b t (h t (bit-in a t (bit-below a t l e) e)))

@@ -1,6 +1,6 @@
-use Rattle.meaning.specs.Sets.{singleton}
 use borrow.Author.Needs.{needs}
 use mathlib.Core.Path.{ap, _∙_}
+use Rattle.meaning.specs.Sets.{singleton}
 use Rattle.analysis.specs.Judged.{useless-found}
 use Rattle.analysis.proofs.useless.Statement.{statement}
 use Rattle.analysis.proofs.useless.Tie as tie
@@ -11,6 +11,9 @@ closure-requires c κs = search needs
 of-token-requires : tie.Need-of-token-requires
 of-token-requires c κs = search needs
 
+right-sets-requires : tie.Need-right-sets-requires
+right-sets-requires c κs = search needs
+
 reach-requires : tie.Need-reach-requires
 reach-requires c κs = search needs
 
@@ -20,10 +23,16 @@ lowest-useless-requires c κs = search needs
 returns : tie.Need-returns
 returns c =
     let re = c .before in
-    let ot = re .before in
+    let ot = re .before .before .before in
     λ g r n s. useless-found r _ _ _ _ (ot .of-token .ensures ∙ ap singleton s) (re .reach .ensures) (ot .before .closure .ensures) (rw n at (c .lowest-useless .ensures))
 
 pub useless-spec : {M : Type 1} → statement M
 useless-spec =
     tie.close
-    (tie.spec closure-requires of-token-requires reach-requires lowest-useless-requires returns)
+    (tie.spec
+    closure-requires
+    of-token-requires
+    right-sets-requires
+    reach-requires
+    lowest-useless-requires
+    returns)

@@ -3,18 +3,19 @@ use native.Mathlib.Omega.{arith}
 use borrow.Author.Needs.{needs}
 use mathlib.Core.Path.{_≡_}
 use Rattle.analysis.specs.Views.{members}
-use Rattle.analysis.specs.Clashing.{StartsTo, starts-none, starts-next}
+use Rattle.analysis.specs.Growth.{SetsTo, sets-none, sets-next}
+use Rattle.analysis.specs.Clashing.{startsBy}
 use Rattle.analysis.proofs.clash.all_starts.Statement.{statement}
 use Rattle.analysis.proofs.clash.all_starts.Tie as tie
 
 abbrev Inv-loop : tie.InvT-loop
-Inv-loop rows count null first follow sets₀ k₀ sets k = (k ≤ count) × StartsTo (members null) first follow rows k sets
+Inv-loop rows count null first follow sets₀ k₀ sets k = (k ≤ count) × SetsTo (startsBy (members null) first follow rows) k sets
 
 abbrev μ-loop : tie.MeasureT-loop
 μ-loop rows count null first follow sets₀ k₀ sets k = count - k
 
 loop-holds : tie.Need-loop-holds Inv-loop μ-loop
-loop-holds c = (omega arith, starts-none _ _ _ _)
+loop-holds c = (omega arith, sets-none _)
 
 mul-left : tie.Need-mul-left Inv-loop μ-loop
 mul-left c = omega arith
@@ -50,7 +51,7 @@ loop-again : tie.Need-loop-again Inv-loop μ-loop
 loop-again c =
     let lp = c .before .before .before in
     let st = lp .before .before in
-    (omega arith, starts-next _ _ _ _ _ _ _ (omega (arith, st .pre .few)) (lp .before .loop .inv .1) (c .begins .ensures))
+    (omega arith, sets-next _ _ _ _ (omega (arith, st .pre .few)) (lp .before .loop .inv .1) (c .begins .ensures))
 
 returns : tie.Need-returns Inv-loop μ-loop
 returns c = let e : c .before .loop .k ≡ c .before .before .args .count = omega arith in rw e at (c .before .loop .inv .1)

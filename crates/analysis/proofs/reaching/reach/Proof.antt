@@ -7,10 +7,10 @@ use Rattle.analysis.proofs.reaching.reach.Statement.{statement}
 use Rattle.analysis.proofs.reaching.reach.Tie as tie
 
 abbrev Inv-loop : tie.InvT-loop
-Inv-loop rows count first set₀ set = (set < 2 ^ 64) × Rising (Within (ReachAt rows) 0 count) set₀ set
+Inv-loop rows count rights first set₀ set = (set < 2 ^ 64) × Rising (Within (ReachAt rows) 0 count) set₀ set
 
 abbrev μ-loop : tie.MeasureT-loop
-μ-loop rows count first set₀ set = 2 ^ 64 - set
+μ-loop rows count rights first set₀ set = 2 ^ 64 - set
 
 loop-holds : tie.Need-loop-holds Inv-loop μ-loop
 loop-holds c = (search needs, rising-start _)

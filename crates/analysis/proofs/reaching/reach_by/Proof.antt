@@ -17,17 +17,28 @@ has-requires c κs = search needs
 returns : tie.Need-returns
 returns c =
     let st = c .before .before .before in
-    reaches-not (st .args .rows .now) _ (st .pre .1) _ (sym (c .before .has .ensures) ∙ not-true _ (c .if1 .taken))
+    reaches-not (st .args .rows .now) _ (st .pre .2) _ (sym (c .before .has .ensures) ∙ not-true _ (c .if1 .taken))
 
-right-set-requires : tie.Need-right-set-requires
-right-set-requires c κs = search needs
+mul-result : tie.Need-mul-result
+mul-result c = search needs
+
+element-copy-out-result : tie.Need-element-copy-out-result
+element-copy-out-result c = search needs
 
 returns-2 : tie.Need-returns-2
 returns-2 c =
-    let st = c .before .before .before .before in
-    reaches-new (st .args .rows .now) _ (st .pre .1) _ _ (sym (c .before .before .has .ensures) ∙ not-false _ (c .before .if1 .left)) (c .right-set .ensures)
+    let el = c .before in
+    let st = el .before .before .before in
+    reaches-new (st .args .rows .now) _ (st .pre .2) _ _ (sym (el .before .has .ensures) ∙ not-false _ (el .if1 .left)) (st .pre .1 .is _ (st .pre .2))
 
 pub reach-by-spec : {M : Type 1} → statement M
 reach-by-spec =
     tie.close
-    (tie.spec mul-has element-copy-out-has has-requires returns right-set-requires returns-2)
+    (tie.spec
+    mul-has
+    element-copy-out-has
+    has-requires
+    returns
+    mul-result
+    element-copy-out-result
+    returns-2)

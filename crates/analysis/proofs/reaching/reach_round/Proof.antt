@@ -7,16 +7,16 @@ use Rattle.analysis.proofs.reaching.reach_round.Statement.{statement}
 use Rattle.analysis.proofs.reaching.reach_round.Tie as tie
 
 abbrev Inv-loop : tie.InvT-loop
-Inv-loop rows count set next₀ k₀ next k = (k ≤ count) × Grown (Within (ReachAt rows) 0 count) (Within (ReachAt rows) 0 k) set next
+Inv-loop rows count rights set next₀ k₀ next k = (k ≤ count) × Grown (Within (ReachAt rows) 0 count) (Within (ReachAt rows) 0 k) set next
 
 abbrev μ-loop : tie.MeasureT-loop
-μ-loop rows count set next₀ k₀ next k = count - k
+μ-loop rows count rights set next₀ k₀ next k = count - k
 
 loop-holds : tie.Need-loop-holds Inv-loop μ-loop
 loop-holds c = (omega arith, grown-none _ (within-none _ _ (omega arith)))
 
 reach-by-requires : tie.Need-reach-by-requires Inv-loop μ-loop
-reach-by-requires c κs = (c .before .before .pre, omega arith)
+reach-by-requires c κs = let st = c .before .before in (st .pre .0, st .pre .1, omega arith)
 
 add-k : tie.Need-add-k Inv-loop μ-loop
 add-k c = omega arith

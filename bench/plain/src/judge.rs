@@ -1,0 +1,201 @@
+//! Refusals 11 to 13: FIRST, FOLLOW and what follows from them.
+use crate::table::{constant, Outline, Refusal};
+
+pub const END: u64 = 1 << 63;
+
+pub struct Sets {
+    /// FIRST-then-FOLLOW of each production.
+    pub starts: [u64; 128],
+}
+
+struct Analysis<'a> {
+    o: &'a Outline,
+    nullable: u64,
+    first: [u64; 48],
+    follow: [u64; 48],
+}
+
+fn until_stable(mut step: impl FnMut() -> bool) {
+    while step() {}
+}
+
+impl<'a> Analysis<'a> {
+    fn right(&self, p: usize) -> &'a [u8] {
+        let row = &self.o.rows[p];
+        &row[2..2 + row[1] as usize]
+    }
+
+    fn left(&self, p: usize) -> usize {
+        self.o.rows[p][0] as usize
+    }
+
+    /// The nonterminals with a right side whose symbols are all in the set; tokens count where `tokens` says so.
+    fn closure(&self, tokens: bool) -> u64 {
+        let mut set = 0u64;
+        until_stable(|| {
+            let before = set;
+            for p in 0..self.o.productions {
+                let ok = |&s: &u8| if s < 128 { tokens } else { set >> (s - 128) & 1 == 1 };
+                if self.right(p).iter().all(ok) {
+                    set |= 1 << self.left(p);
+                }
+            }
+            set != before
+        });
+        set
+    }
+
+    fn reachable(&self) -> u64 {
+        let mut set = 1u64 << self.o.start;
+        until_stable(|| {
+            let before = set;
+            for p in 0..self.o.productions {
+                if set >> self.left(p) & 1 == 1 {
+                    for &s in self.right(p) {
+                        if s >= 128 {
+                            set |= 1 << (s - 128);
+                        }
+                    }
+                }
+            }
+            set != before
+        });
+        set
+    }
+
+    fn is_nullable(&self, s: u8) -> bool {
+        s >= 128 && self.nullable >> (s - 128) & 1 == 1
+    }
+
+    /// FIRST of a string, and whether the string derives nothing.
+    fn first_of(&self, xs: &[u8]) -> (u64, bool) {
+        let mut set = 0;
+        for &s in xs {
+            set |= if s < 128 { 1 << s } else { self.first[(s - 128) as usize] };
+            if !self.is_nullable(s) {
+                return (set, false);
+            }
+        }
+        (set, true)
+    }
+
+    fn find_first(&mut self) {
+        loop {
+            let mut changed = false;
+            for p in 0..self.o.productions {
+                let new = self.first[self.left(p)] | self.first_of(self.right(p)).0;
+                changed |= new != self.first[self.left(p)];
+                self.first[self.left(p)] = new;
+            }
+            if !changed {
+                return;
+            }
+        }
+    }
+
+    fn find_follow(&mut self) {
+        self.follow[self.o.start as usize] = END;
+        loop {
+            let mut changed = false;
+            for p in 0..self.o.productions {
+                let mut after = self.follow[self.left(p)];
+                for &s in self.right(p).iter().rev() {
+                    if s < 128 {
+                        after = 1 << s;
+                        continue;
+                    }
+                    let n = (s - 128) as usize;
+                    let new = self.follow[n] | after;
+                    changed |= new != self.follow[n];
+                    self.follow[n] = new;
+                    after = if self.is_nullable(s) { after | self.first[n] } else { self.first[n] };
+                }
+            }
+            if !changed {
+                return;
+            }
+        }
+    }
+
+    /// The lowest nonterminal that reaches itself leftmost without reading.
+    fn recursive(&self) -> Option<usize> {
+        let mut leads = [0u64; 48];
+        for p in 0..self.o.productions {
+            for &s in self.right(p) {
+                if s < 128 {
+                    break;
+                }
+                leads[self.left(p)] |= 1 << (s - 128);
+                if !self.is_nullable(s) {
+                    break;
+                }
+            }
+        }
+        let n = self.o.nonterminals as usize;
+        for k in 0..n {
+            for i in 0..n {
+                if leads[i] >> k & 1 == 1 {
+                    leads[i] |= leads[k];
+                }
+            }
+        }
+        (0..n).find(|&i| leads[i] >> i & 1 == 1)
+    }
+}
+
+/// The intersection of a production's entry ranges, attribute by attribute; none without entry conditions.
+fn entry_ranges(table: &[u8], o: &Outline) -> Vec<Option<[(i32, i32); 8]>> {
+    (0..o.productions)
+        .map(|p| {
+            let end = if p + 1 < o.productions { o.offsets[p + 1] as usize } else { table.len() };
+            let mut at = o.offsets[p] as usize;
+            let mut found = None;
+            while at < end {
+                let size = table[at + 1] as usize * 256 + table[at + 2] as usize;
+                let b = &table[at + 3..at + 3 + size];
+                if table[at] == 5 && b[0] == 0 && b[1] == 0 {
+                    let ranges = found.get_or_insert([(i32::MIN, i32::MAX); 8]);
+                    let r = &mut ranges[b[2] as usize - 1];
+                    *r = (r.0.max(constant(b, 3)), r.1.min(constant(b, 7)));
+                }
+                at += 3 + size;
+            }
+            found
+        })
+        .collect()
+}
+
+fn can_both(a: &Option<[(i32, i32); 8]>, b: &Option<[(i32, i32); 8]>) -> bool {
+    match (a, b) {
+        (Some(a), Some(b)) => a.iter().zip(b).all(|(x, y)| x.0.max(y.0) <= x.1.min(y.1)),
+        _ => true,
+    }
+}
+
+pub fn judge(table: &[u8], o: &Outline) -> Result<Sets, Refusal> {
+    let mut a = Analysis { o, nullable: 0, first: [0; 48], follow: [0; 48] };
+    let useful = a.reachable() & a.closure(true);
+    if let Some(n) = (0..o.nonterminals as usize).find(|n| useful >> n & 1 == 0) {
+        return Err(Refusal { number: 11, offset: 7 + 5 * n as u32 });
+    }
+    a.nullable = a.closure(false);
+    if let Some(n) = a.recursive() {
+        return Err(Refusal { number: 12, offset: 7 + 5 * n as u32 });
+    }
+    a.find_first();
+    a.find_follow();
+    let mut sets = Sets { starts: [0; 128] };
+    for p in 0..o.productions {
+        let (first, empty) = a.first_of(a.right(p));
+        sets.starts[p] = if empty { first | a.follow[a.left(p)] } else { first };
+    }
+    let entries = entry_ranges(table, o);
+    for p in 0..o.productions {
+        for q in 0..p {
+            if a.left(p) == a.left(q) && sets.starts[p] & sets.starts[q] != 0 && can_both(&entries[p], &entries[q]) {
+                return Err(Refusal { number: 13, offset: o.offsets[p] });
+            }
+        }
+    }
+    Ok(sets)
+}

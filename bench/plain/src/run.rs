@@ -1,0 +1,358 @@
+//! Opening, feeding and finishing a run.
+use crate::judge::judge;
+use crate::program::{build, AREA};
+use crate::table::read;
+
+pub const MARK: i64 = i64::MIN;
+const MOVES: u64 = u32::MAX as u64;
+const TOKENS: u64 = 65535;
+const SEGMENT: u32 = 32768;
+
+#[derive(Clone, Copy, Debug, PartialEq, Eq, Default)]
+pub struct Record {
+    pub open: bool,
+    pub tokens: u64,
+    pub moves: u64,
+    pub registers: u64,
+    pub places: u64,
+}
+
+#[derive(Clone, Copy, Debug, PartialEq, Eq)]
+pub enum Answer {
+    Opened,
+    More(u64),
+    Value(i64, u64),
+    Refused(u32, u64),
+}
+
+struct Machine<'a> {
+    program: &'a [u32],
+    registers: &'a mut [i64],
+    places: &'a mut [u32],
+    rh: usize,
+    ph: usize,
+    tokens: u64,
+    moves: u64,
+    /// Address of the next instruction of the top place.
+    at: usize,
+    records: usize,
+}
+
+fn signed(word: u32) -> i64 {
+    word as i32 as i64
+}
+
+impl Machine<'_> {
+    fn register(&self, selector: u32) -> i64 {
+        self.registers[self.rh - selector as usize]
+    }
+
+    fn compute(&self, w: u32, c: u32) -> Option<i64> {
+        let a = || self.register(w >> 11 & 127);
+        let b = || self.register(w >> 18);
+        let v = match w >> 7 & 15 {
+            0 => signed(c),
+            1 => a(),
+            2 => a() + b(),
+            3 => a() - b(),
+            4 => a() * b(),
+            5 => a().max(b()),
+            6 => a().min(b()),
+            7 => a() + signed(c),
+            _ => a() / signed(c),
+        };
+        (v == v as i32 as i64).then_some(v)
+    }
+
+    fn holds(&self, at: usize) -> bool {
+        let w = self.program[at];
+        let a = self.register(w & 127);
+        if w >> 7 & 15 == 0 {
+            signed(self.program[at + 1]) <= a && a <= signed(self.program[at + 2])
+        } else {
+            a <= self.register(w >> 11 & 127)
+        }
+    }
+
+    fn evaluate(&mut self, n: usize) -> Result<(), u32> {
+        let mut values = [0i64; 8];
+        for i in 0..n {
+            let at = self.at + 1 + 2 * i;
+            values[i] = self.compute(self.program[at], self.program[at + 1]).ok_or(23u32)?;
+        }
+        for i in 0..n {
+            let target = self.program[self.at + 1 + 2 * i] & 127;
+            let to = self.rh - target as usize;
+            self.registers[to] = values[i];
+        }
+        self.at += 1 + 2 * n;
+        Ok(())
+    }
+
+    fn test(&mut self, n: usize) -> Result<(), u32> {
+        for i in 0..n {
+            if !self.holds(self.at + 1 + 3 * i) {
+                return Err(22);
+            }
+        }
+        self.at += 1 + 3 * n;
+        self.places[self.ph - 1] += 1;
+        Ok(())
+    }
+
+    fn pass(&mut self) {
+        if self.program[self.at] & 7 != 4 {
+            self.places[self.ph - 1] += 1;
+        }
+    }
+
+    fn predict(&mut self, n: usize, look: usize) -> Result<(), u32> {
+        let mut p = self.program[8 + 64 * n + look];
+        if p == 0 {
+            return Err(if look == 63 { 24 } else { 21 });
+        }
+        loop {
+            let r = self.records + 8 * (p as usize - 1);
+            let entries = self.program[r + 5] as usize;
+            let scheme = self.program[r + 6] as usize;
+            if (0..entries).all(|i| self.holds(scheme - 3 * entries + 3 * i)) {
+                if self.ph == self.places.len() {
+                    return Err(32);
+                }
+                self.places[self.ph] = 256 * (p - 1);
+                self.ph += 1;
+                self.at = scheme;
+                return Ok(());
+            }
+            loop {
+                p = self.program[self.records + 8 * (p as usize - 1) + 1];
+                if p == 0 {
+                    return Err(22);
+                }
+                let set = self.records + 8 * (p as usize - 1) + 2 + look / 32;
+                if self.program[set] >> (look % 32) & 1 == 1 {
+                    break;
+                }
+            }
+        }
+    }
+
+    fn remove(&mut self, n: usize) {
+        self.registers[self.rh - n..self.rh].fill(MARK);
+        self.rh -= n;
+        self.places[self.ph - 1] = 0;
+        self.ph -= 1;
+        self.at = self.expect_of(self.places[self.ph - 1]) + 1;
+        self.pass();
+    }
+
+    /// The address of the expect at which a place waits.
+    fn expect_of(&self, place: u32) -> usize {
+        if place >= SEGMENT {
+            return (place - SEGMENT) as usize;
+        }
+        let r = self.records + 8 * (place / 256) as usize;
+        self.program[self.program[r + 4] as usize + (place % 256) as usize] as usize
+    }
+
+    fn one(&mut self, look: usize) -> Result<(), u32> {
+        let word = self.program[self.at];
+        let n = (word >> 3) as usize;
+        match word & 7 {
+            0 => {
+                if self.registers.len() - self.rh < n {
+                    return Err(31);
+                }
+                self.rh += n;
+                self.at += 1;
+            }
+            1 => self.evaluate(n)?,
+            2 => {
+                if look != n {
+                    return Err(if look == 63 { 24 } else { 21 });
+                }
+                self.tokens += 1;
+                self.at += 1;
+                self.pass();
+            }
+            3 => self.predict(n, look)?,
+            4 => self.test(n)?,
+            _ => self.remove(n),
+        }
+        Ok(())
+    }
+
+    /// Moves until the token is read, or the start symbol is left, and all that needs no next token is done.
+    fn advance(&mut self, look: usize) -> Result<(), u32> {
+        let before = self.tokens;
+        loop {
+            let op = self.program[self.at] & 7;
+            if op == 6 {
+                return if look == 63 || self.tokens > before { Ok(()) } else { Err(21) };
+            }
+            if look != 63 && self.tokens > before && (op == 2 || op == 3) {
+                return Ok(());
+            }
+            if self.moves == MOVES {
+                return Err(35);
+            }
+            self.one(look)?;
+            self.moves += 1;
+        }
+    }
+
+    fn feed(&mut self, tokens: &[u8]) -> Result<(), u32> {
+        let terminals = self.program[3];
+        for &t in tokens {
+            if self.tokens == TOKENS {
+                return Err(35);
+            }
+            if t as u32 >= terminals {
+                return Err(20);
+            }
+            self.advance(t as usize)?;
+        }
+        Ok(())
+    }
+
+    fn record(&self, open: bool) -> Record {
+        Record { open, tokens: self.tokens, moves: self.moves, registers: self.rh as u64, places: self.ph as u64 }
+    }
+}
+
+/// 34: whether record and stacks are such as a run leaves.
+fn fits(o: &crate::table::Outline, r: &Record, registers: &[i64], places: &[u32]) -> bool {
+    let (rh, ph) = (r.registers as usize, r.places as usize);
+    if r.tokens > TOKENS || r.moves > MOVES || r.registers > registers.len() as u64 || r.places > places.len() as u64 || rh > registers.len() || ph > places.len() || ph == 0 {
+        return false;
+    }
+    if registers[rh..].iter().any(|&v| v != MARK) || places[ph..].iter().any(|&p| p != 0) {
+        return false;
+    }
+    let value = |v: i64| v == v as i32 as i64;
+    let mut at = 0;
+    let mut take = |n: usize, valued: bool| {
+        if rh - at < n {
+            return false;
+        }
+        at += n;
+        registers[at - n..at].iter().all(|&v| if valued { value(v) } else { v == MARK })
+    };
+    let start = 128 + o.start;
+    if places[0] == SEGMENT + 1 {
+        return ph == 1 && take(o.syn(start) as usize, true) && at == rh;
+    }
+    if places[0] != SEGMENT || !take(o.syn(start) as usize, false) {
+        return false;
+    }
+    let mut awaited = start;
+    for &place in &places[1..ph] {
+        let (p, k) = ((place / 256) as usize, (place % 256) as usize);
+        if p >= o.productions || k >= o.rows[p][1] as usize || 128 + o.rows[p][0] != awaited {
+            return false;
+        }
+        for &x in &o.rows[p][2..2 + k] {
+            if !take(o.syn(x) as usize, true) {
+                return false;
+            }
+        }
+        awaited = o.rows[p][2 + k];
+        if !take(o.syn(awaited) as usize, false) || !take(o.inh(awaited) as usize, true) {
+            return false;
+        }
+    }
+    at == rh
+}
+
+fn lend<'a>(registers: &'a mut [i64], places: &'a mut [u32]) -> (&'a mut [i64], &'a mut [u32]) {
+    let (r, p) = (registers.len().min(4096), places.len().min(1024));
+    (&mut registers[..r], &mut places[..p])
+}
+
+pub fn open(table: &[u8], registers: &mut [i64], places: &mut [u32], program: &mut [u32]) -> (Record, Answer) {
+    let none = Record::default();
+    if program.len() < AREA {
+        return (none, Answer::Refused(30, 0));
+    }
+    let refused = |r: crate::table::Refusal| (none, Answer::Refused(r.number, r.offset as u64));
+    let o = match read(table) {
+        Ok(o) => o,
+        Err(r) => return refused(r),
+    };
+    let sets = match judge(table, &o) {
+        Ok(s) => s,
+        Err(r) => return refused(r),
+    };
+    build(table, &o, &sets, program);
+    let (registers, places) = lend(registers, places);
+    let n = o.syn(128 + o.start) as usize;
+    if registers.len() < n {
+        return (none, Answer::Refused(31, 0));
+    }
+    if places.is_empty() {
+        return (none, Answer::Refused(32, 0));
+    }
+    registers.fill(MARK);
+    places.fill(0);
+    places[0] = SEGMENT;
+    (Record { open: true, tokens: 0, moves: 0, registers: n as u64, places: 1 }, Answer::Opened)
+}
+
+fn call(
+    table: &[u8],
+    record: Record,
+    registers: &mut [i64],
+    places: &mut [u32],
+    program: &mut [u32],
+    tokens: Option<&[u8]>,
+) -> (Record, Answer) {
+    if program.len() < AREA {
+        return (record, Answer::Refused(30, 0));
+    }
+    let refused = |r: crate::table::Refusal| (record, Answer::Refused(r.number, r.offset as u64));
+    let o = match read(table) {
+        Ok(o) => o,
+        Err(r) => return refused(r),
+    };
+    let sets = match judge(table, &o) {
+        Ok(s) => s,
+        Err(r) => return refused(r),
+    };
+    build(table, &o, &sets, program);
+    if !record.open {
+        return (record, Answer::Refused(33, 0));
+    }
+    let (registers, places) = lend(registers, places);
+    if !fits(&o, &record, registers, places) {
+        return (record, Answer::Refused(34, 0));
+    }
+    let mut m = Machine {
+        program,
+        registers,
+        places,
+        rh: record.registers as usize,
+        ph: record.places as usize,
+        tokens: record.tokens,
+        moves: record.moves,
+        at: 0,
+        records: 8 + 64 * o.nonterminals as usize,
+    };
+    m.at = m.expect_of(m.places[m.ph - 1]);
+    let outcome = match tokens {
+        Some(ts) => m.feed(ts),
+        None => m.advance(63),
+    };
+    match (outcome, tokens) {
+        (Err(k), _) => (m.record(false), Answer::Refused(k, m.tokens)),
+        (Ok(()), Some(_)) => (m.record(true), Answer::More(m.moves)),
+        (Ok(()), None) => (m.record(false), Answer::Value(m.register(o.result as u32), m.moves)),
+    }
+}
+
+pub fn feed(table: &[u8], record: Record, registers: &mut [i64], places: &mut [u32], program: &mut [u32], tokens: &[u8]) -> (Record, Answer) {
+    call(table, record, registers, places, program, Some(tokens))
+}
+
+pub fn finish(table: &[u8], record: Record, registers: &mut [i64], places: &mut [u32], program: &mut [u32]) -> (Record, Answer) {
+    call(table, record, registers, places, program, None)
+}

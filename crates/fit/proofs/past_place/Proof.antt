@@ -1,0 +1,67 @@
+use native.Mathlib.Omega.{arith}
+use denote.Ref.{now}
+use Rattle.fit.proofs.Places.{place-passes}
+use borrow.Author.Needs.{needs}
+use Rattle.fit.proofs.past_place.Statement.{statement}
+use Rattle.fit.proofs.past_place.Tie as tie
+
+mul-wide : tie.Need-mul-wide
+mul-wide c = search needs
+
+add-wide : tie.Need-add-wide
+add-wide c = search needs
+
+add-wide-2 : tie.Need-add-wide-2
+add-wide-2 c = search needs
+
+element-copy-out-wide : tie.Need-element-copy-out-wide
+element-copy-out-wide c = search needs
+
+wide-requires : tie.Need-wide-requires
+wide-requires c κs = search needs
+
+counts-passed-requires : tie.Need-counts-passed-requires
+counts-passed-requires c κs = search needs
+
+past-requires : tie.Need-past-requires
+past-requires c κs = search needs
+
+count-of-requires : tie.Need-count-of-requires
+count-of-requires c κs =
+    let s = c .before .before .before .before in
+    omega (arith, c .before .before .wide .ensures .0, s .pre .1 .symbols (s .args .passed) (omega arith))
+
+past-requires-2 : tie.Need-past-requires-2
+past-requires-2 c κs = search needs
+
+count-of-requires-2 : tie.Need-count-of-requires-2
+count-of-requires-2 c κs =
+    let s = c .before .before .before .before .before .before in
+    omega (arith, c .before .before .before .before .wide .ensures .0, s .pre .1 .symbols (s .args .passed) (omega arith))
+
+past-requires-3 : tie.Need-past-requires-3
+past-requires-3 c κs = search needs
+
+returns : tie.Need-returns
+returns c =
+    let s = c .before .before .before .before .before .before .before .before in
+    place-passes (now (s .args .registers)) (now (s .args .rows)) (now (s .args .inherited)) (now (s .args .synthesized)) (s .args .production) (s .args .passed) (s .args .at)
+    (c .before .before .before .before .before .before .wide .ensures .0) (c .before .before .before .before .before .counts-passed .ensures .0) (c .before .before .before .count-of .ensures .0) (c .before .count-of2 .ensures .0)
+    (c .before .before .before .before .past .ensures) (c .before .before .past2 .ensures) (c .past3 .ensures)
+
+pub past-place-spec : {M : Type 1} → statement M
+past-place-spec =
+    tie.close
+    (tie.spec
+    mul-wide
+    add-wide
+    add-wide-2
+    element-copy-out-wide
+    wide-requires
+    counts-passed-requires
+    past-requires
+    count-of-requires
+    past-requires-2
+    count-of-requires-2
+    past-requires-3
+    returns)
