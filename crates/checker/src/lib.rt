@@ -8,7 +8,6 @@ use crate::judging::judge_table;
 use crate::spans::Span;
 use crate::spans::span_of;
 
-pub mod intervals;
 pub mod judging;
 pub mod spans;
 

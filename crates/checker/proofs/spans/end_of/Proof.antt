@@ -1,8 +1,8 @@
 use native.Mathlib.Omega.{arith}
-use Rattle.checker.proofs.Offsets.{end-next, end-last}
+use Rattle.checker.proofs.Cases.{end-next, end-last}
 use borrow.Author.Needs.{needs}
-use Rattle.checker.proofs.intervals.end_of.Statement.{statement}
-use Rattle.checker.proofs.intervals.end_of.Tie as tie
+use Rattle.checker.proofs.spans.end_of.Statement.{statement}
+use Rattle.checker.proofs.spans.end_of.Tie as tie
 
 add-if1 : tie.Need-add-if1
 add-if1 c = search needs
