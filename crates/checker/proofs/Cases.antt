@@ -4,25 +4,24 @@ use native.Mathlib.Omega.{arith}
 use native.Mathlib.Decide.{decLt}
 use mathlib.Core.Path.{_≡_, refl, sym, ap, ap₂, _∙_, subst}
 use mathlib.Core.Bool.{Bool, true, false}
-use mathlib.Core.List.{List, []}
+use mathlib.Core.List.{List, [], reverse}
 use borrow.Author.Tests.{lt-ltb, le-ltb}
 use lib.Dec.{ltb}
-use lib.ListN.{getD, length}
-use Rattle.meaning.specs.Table.{State, Read, wellFormed, malformed, readTable, noEntry}
+use lib.ListN.{getD, length, length-map, length-reverse}
+use Rattle.meaning.specs.Table.{State, Read, wellFormed, malformed, readTable, productionOf}
 use Rattle.meaning.specs.Judgement as Judgement
 use Rattle.meaning.specs.Judgement.{accepted, rejected, entryOffset}
 use Rattle.meaning.specs.Decide.{judge, verdictOf}
 use Rattle.meaning.specs.PublicCalls.{Checked, usable, unusable, checkedAs, check, Stretch, cut, stretchEnd, stretchOf}
+use Rattle.theory_table.specs.ReadWellFormed.{read-well-formed}
 use Rattle.theory_table.specs.Places.{Places, read-places}
 use Rattle.table.specs.declared.Sizes.{Sizes}
-use Rattle.checker.specs.Intervals.{endIn, Below, Offsets}
 use Rattle.checker.specs.Judging.{Brought, Answered, Judges}
-use Rattle.checker.specs.Verdicts.{stretchBy, stretchIs, Inside, spanIn}
+use Rattle.checker.specs.Verdicts.{stretchBy, stretchIs, Inside, endIn, Below, spanIn}
 use Rattle.checker.specs.declared.judging.Judged.{Judged}
 use Rattle.checker.specs.declared.judging.Judged.the-variants.{Usable, Unusable}
 use Rattle.checker.specs.declared.spans.Span.{Span}
 use Rattle.checker.specs.declared.spans.Span.the-variants.{Within, Nowhere}
-use Rattle.checker.proofs.Offsets.{few, below, end-next, end-last}
 
 -- ---- the cases
 
@@ -86,6 +85,15 @@ module _ (t inh syn rows offsets sets : List ℕ) (q : Judged) (j : Judges t inh
 
 -- ---- the stretch
 
+module _ (long n : ℕ) (offsets : List ℕ) (p : ℕ) where
+  pub end-next : p + 1 < n → getD offsets (p + 1) 0 ≡ endIn long n offsets p
+  unfolding endIn
+  end-next l = rw (endIn, lt-ltb (p + 1) n l) refl
+
+  pub end-last : n ≤ p + 1 → long ≡ endIn long n offsets p
+  unfolding endIn
+  end-last l = rw (endIn, le-ltb (p + 1) n l) refl
+
 pub span-missing : (long n : ℕ) (offsets : List ℕ) (p : ℕ) → n ≤ p → Nowhere 14 0 ≡ spanIn long n offsets p
 unfolding spanIn
 span-missing long n offsets p l = rw (spanIn, le-ltb p n l) refl
@@ -121,14 +129,23 @@ module _ (t : List ℕ) (sizes : Sizes) (inh syn rows offsets sets : List ℕ) (
   abbrev n : ℕ
   n = sizes .productions
 
-  known : Offsets t n offsets
-  known = record { state = s; isRead = x .brought .isRead; counted = x .brought .outline .productions; each = λ p l. x .brought .outline .each p l .offset }
+  counted : n ≡ length (s .entries)
+  counted = x .brought .outline .productions
 
-  pub span-asks : (n ≤ 128) × (length offsets ≡ 128) × Below (length t) n offsets
-  span-asks = (few t n offsets known, x .brought .outline .lengths .3, below t n offsets known)
+  offset : (p : ℕ) → p < n → getD offsets p 0 ≡ entryOffset s p
+  offset p l = x .brought .outline .each p l .offset
 
   places : Places t s
   places = read-places t s (x .brought .isRead)
+
+  below : Below (length t) n offsets
+  below q l = omega (arith, offset q l, places .below q (omega (arith, counted)))
+
+  few : n ≤ 128
+  few = omega (arith, counted, read-well-formed t s (x .brought .isRead) .productions .1, length-map (reverse (s .entries)) productionOf, length-reverse (s .entries))
+
+  pub span-asks : (n ≤ 128) × (length offsets ≡ 128) × Below (length t) n offsets
+  span-asks = (few, x .brought .outline .lengths .3, below)
 
   module _ (p : ℕ) where
     end-is : p < n → endIn (length t) n offsets p ≡ stretchEnd t s p
@@ -140,8 +157,8 @@ module _ (t : List ℕ) (sizes : Sizes) (inh syn rows offsets sets : List ℕ) (
         go : Dec (p + 1 < n) → endIn (length t) n offsets p ≡ stretchEnd t s p
         go (yes m) =
             let e : p + 1 ≡ suc p = omega arith in
-            sym (end-next (length t) n offsets p m) ∙ x .brought .outline .each (p + 1) m .offset ∙ ap (entryOffset s) e ∙ sym (by true (lt-ltb (suc p) (length (s .entries)) (omega (arith, known .counted))))
-        go (no m) = sym (end-last (length t) n offsets p (omega arith)) ∙ sym (by false (le-ltb (suc p) (length (s .entries)) (omega (arith, known .counted))))
+            sym (end-next (length t) n offsets p m) ∙ offset (p + 1) m ∙ ap (entryOffset s) e ∙ sym (by true (lt-ltb (suc p) (length (s .entries)) (omega (arith, counted))))
+        go (no m) = sym (end-last (length t) n offsets p (omega arith)) ∙ sym (by false (le-ltb (suc p) (length (s .entries)) (omega (arith, counted))))
 
     pub stretch-said : (r : Span) → r ≡ spanIn (length t) n offsets p → (k o : ℕ) → stretchBy t r k o ≡ stretchOf t p k o
     stretch-said r e k o = ap (λ z. stretchBy t z k o) e ∙ go (decLt p n) ∙ sym (stretch-read t s p k o (x .isUsable))
@@ -149,24 +166,24 @@ module _ (t : List ℕ) (sizes : Sizes) (inh syn rows offsets sets : List ℕ) (
         go : Dec (p < n) → stretchBy t (spanIn (length t) n offsets p) k o ≡ stretchWhere t s p k o (ltb p (length (s .entries)))
         go (yes l) =
             ap (λ z. stretchBy t z k o) (sym (span-found (length t) n offsets p (endIn (length t) n offsets p) l refl))
-            ∙ ap₂ (λ a b. stretchIs (cut t a b) k o) (x .brought .outline .each p l .offset) (end-is l)
-            ∙ sym (ap (stretchWhere t s p k o) (lt-ltb p (length (s .entries)) (omega (arith, known .counted))))
+            ∙ ap₂ (λ a b. stretchIs (cut t a b) k o) (offset p l) (end-is l)
+            ∙ sym (ap (stretchWhere t s p k o) (lt-ltb p (length (s .entries)) (omega (arith, counted))))
         go (no l) =
             ap (λ z. stretchBy t z k o) (sym (span-missing (length t) n offsets p (omega arith)))
-            ∙ sym (ap (stretchWhere t s p k o) (le-ltb p (length (s .entries)) (omega (arith, known .counted))))
+            ∙ sym (ap (stretchWhere t s p k o) (le-ltb p (length (s .entries)) (omega (arith, counted))))
 
     pub span-inside : (r : Span) → r ≡ spanIn (length t) n offsets p → Inside t r
     span-inside r e = subst (Inside t) (sym e) (go (decLt p n))
       where
         ends : p < n → Dec (p + 1 < n) → (getD offsets p 0 < endIn (length t) n offsets p) × (endIn (length t) n offsets p ≤ length t)
         ends l (yes m) =
-            let a = x .brought .outline .each p l .offset in
-            let b = x .brought .outline .each (p + 1) m .offset in
-            let u = places .rising p (p + 1) (omega arith) (omega (arith, known .counted)) in
-            let v = places .below (p + 1) (omega (arith, known .counted)) in
+            let a = offset p l in
+            let b = offset (p + 1) m in
+            let u = places .rising p (p + 1) (omega arith) (omega (arith, counted)) in
+            let v = places .below (p + 1) (omega (arith, counted)) in
             let w = end-next (length t) n offsets p m in
             (omega (arith, a, b, u, w), omega (arith, b, v, w))
-        ends l (no m) = let w = end-last (length t) n offsets p (omega arith) in (omega (arith, below t n offsets known p l, w), omega (arith, w))
+        ends l (no m) = let w = end-last (length t) n offsets p (omega arith) in (omega (arith, below p l, w), omega (arith, w))
 
         go : Dec (p < n) → Inside t (spanIn (length t) n offsets p)
         go (yes l) = subst (Inside t) (span-found (length t) n offsets p (endIn (length t) n offsets p) l refl) (ends l (decLt (p + 1) n))

@@ -4,36 +4,34 @@ use native.Mathlib.Omega.{arith}
 use mathlib.Core.Path.{_≡_, refl, sym, ap, ap₂, _∙_, subst}
 use mathlib.Core.Bool.{Bool, true, false}
 use mathlib.Core.Option.{Option, none, some}
-use mathlib.Core.List.{List, [], _∷_, map, reverse}
-use borrow.Author.Tests.{eq-eqb, ne-eqb}
+use mathlib.Core.List.{List, reverse}
+use borrow.Author.Tests.{ne-eqb}
 use lib.Dec.{eqb}
-use lib.ListN.{getD, length, replicate, length-map, length-reverse, length-replicate, getD-replicate}
+use lib.ListN.{getD, length, length-map, length-reverse}
 use lib.Seq.{ext-getD}
 use Rattle.meaning.specs.Base.{countFrom}
-use Rattle.meaning.specs.Grammar.{Grammar, Symbol, terminal, nonterminal, productionAt, nonterminalCount, inh}
+use Rattle.meaning.specs.Grammar.{Grammar, terminal, nonterminal, productionAt, nonterminalCount, inh, noCounts}
 use Rattle.meaning.specs.Rules.{WellFormed}
 use Rattle.meaning.specs.Derivation.{Listed}
-use Rattle.meaning.specs.Table.{State, noEntry, headerOf, readTable, wellFormed, productionOf, grammarOf, symbolOf}
+use Rattle.meaning.specs.Table.{State, noEntry, productionOf, grammarOf, symbolOf}
 use Rattle.meaning.specs.Sets.{starts}
-use Rattle.meaning.specs.Judgement as Judgement
-use Rattle.meaning.specs.Judgement.{accepted, rejected, countsOffset, entryOffset}
+use Rattle.meaning.specs.Judgement.{countsOffset}
 use Rattle.meaning.specs.Decide.{isLeftRecursive, clashes, firstWhere, judge}
+use Rattle.theory_base.specs.Members.{getD-in}
 use Rattle.theory_base.specs.WellFormed.{well-formed-at}
-use Rattle.theory_table.specs.ReadWellFormed.{Whole, whole-table, all-counted, read-well-formed}
+use Rattle.theory_table.specs.ReadWellFormed.{whole-table, all-counted, read-well-formed}
 use Rattle.theory_table.specs.Places.{Places, read-places}
 use Rattle.theory_sets.specs.Verdicts.{Result, searched}
 use Rattle.token_set.specs.Words.{setOf}
 use Rattle.table.specs.declared.Sizes.{Sizes}
-use Rattle.table.specs.Outline.{Outline, RowOf}
-use Rattle.analysis.specs.Rows.{Image, Rows, rightAt, right-length, right-at, image-of}
+use Rattle.entries.specs.Span.{Spans, Spanned}
+use Rattle.table.proofs.Intervals.{low-told, high-told, flag-told}
+use Rattle.analysis.specs.Rows.{Rows, rightAt, right-length, right-at}
 use Rattle.analysis.specs.Entries.{Entries}
-use Rattle.analysis.specs.EntryImage.{low-is, high-is, none-is, ownLow, ownHigh}
 use Rattle.analysis.specs.Finding.{Finding, fine, useless, recursive, clashing, orElse, isUseless, finding, numberOf, indexOf, verdictFrom, judge-is, Analysed}
-use Rattle.checker.specs.Intervals.{Interval, Room, Offsets, Fresh, GatheredTo}
-use Rattle.checker.specs.Judging.{Outlined, Starting, Concludes, concluded}
+use Rattle.checker.specs.Judging.{Outlined, Concludes, concluded}
 use Rattle.checker.specs.declared.judging.Judged.{Judged}
 use Rattle.checker.specs.declared.judging.Judged.the-variants.{Usable, Unusable}
-use Rattle.checker.proofs.Offsets.{few, inherited-few}
 
 -- ---- the answer's cases
 
@@ -54,22 +52,12 @@ conclude-nonterminal sizes offsets (suc n) i z h = go (eqb (suc n) 13) (ne-eqb (
     go : (b : Bool) → b ≡ false → Unusable (suc n) (7 + 5 * i) ≡ Unusable (suc n) (elim b [ true ↦ getD offsets i 0 | false ↦ 7 + 5 * i ])
     go b e = rw e refl
 
--- ---- nothing gathered yet
-
-pub fresh-start : Fresh 0 (replicate 1024 0) (replicate 1024 4294967295) (replicate 128 0)
-unfolding ownLow ownHigh
-fresh-start q a b = record {
-  low = λ m l. getD-replicate 1024 (q * 8 + m) 0 0 (omega arith);
-  high = λ m l. getD-replicate 1024 (q * 8 + m) 4294967295 0 (omega arith);
-  flag = ap (λ z. eqb z 0) (getD-replicate 128 q 0 0 b);
-}
-
-pub room-start : Room (replicate 1024 0) (replicate 1024 4294967295) (replicate 128 0)
-room-start = (length-replicate {A = ℕ} 1024 0, length-replicate {A = ℕ} 1024 4294967295, length-replicate {A = ℕ} 128 0)
-
 -- ---- what the analysis takes
 
-module _ (t : List ℕ) (sizes : Sizes) (rows offsets : List ℕ) (x : Outlined t sizes rows offsets) where
+module _ (sizes : Sizes) (rows offsets : List ℕ) (v : Spans) (x : Outlined sizes rows offsets v) where
+  abbrev t : List ℕ
+  t = x .table
+
   abbrev s : State
   s = x .state
 
@@ -94,9 +82,6 @@ module _ (t : List ℕ) (sizes : Sizes) (rows offsets : List ℕ) (x : Outlined 
   pub start-small : sizes .start < 48
   start-small = omega (arith, x .outline .start, formed .start, formed .nonterminals .1)
 
-  pub offsets-of : Offsets t (sizes .productions) offsets
-  offsets-of = record { state = s; isRead = x .isRead; counted = x .outline .productions; each = λ p l. x .outline .each p l .offset }
-
   entry-is : (p : ℕ) → p < sizes .productions → productionAt g p ≡ productionOf (getD (reverse (s .entries)) p noEntry)
   entry-is p l = places .isProduction p (omega (arith, x .outline .productions))
 
@@ -112,7 +97,7 @@ module _ (t : List ℕ) (sizes : Sizes) (rows offsets : List ℕ) (x : Outlined 
   }
     where
       room : sizes .productions * 16 ≤ length rows
-      room = omega (arith, x .outline .lengths .2, few t (sizes .productions) offsets offsets-of)
+      room = omega (arith, x .outline .lengths .2, formed .productions .1, many)
 
       size : (p : ℕ) → p < sizes .productions → getD rows (p * 16 + 1) 0 ≡ length (getD (reverse (s .entries)) p noEntry .right)
       size p l =
@@ -137,20 +122,28 @@ module _ (t : List ℕ) (sizes : Sizes) (rows offsets : List ℕ) (x : Outlined 
               ap (λ k. getD rows k 0) e
 
   left-few : (p : ℕ) → Listed g p → inh g (nonterminal (productionAt g p .left)) ≤ 8
-  unfolding offsets-of
-  left-few p m = inherited-few t (sizes .productions) offsets offsets-of (productionAt g p) (well-formed-at g formed p m .left)
+  left-few p m =
+      let l = well-formed-at g formed p m .left in
+      let k = formed .attributes (getD (g .counts) (productionAt g p .left) noCounts) (getD-in (g .counts) (productionAt g p .left) noCounts l) in
+      omega arith
 
-  gathered : {l h f : List ℕ} → ((y : Offsets t (sizes .productions) offsets) → GatheredTo (y .state) (sizes .productions) l h f) → GatheredTo s (sizes .productions) l h f
-  unfolding offsets-of
-  gathered k = k offsets-of
+  module _ (p : ℕ) (m : Listed g p) where
+    inside : p < length (s .entries)
+    inside = omega (arith, many, x .outline .productions)
 
-  pub entries-of : (l h f : List ℕ) → ((y : Offsets t (sizes .productions) offsets) → GatheredTo (y .state) (sizes .productions) l h f) → Entries l h f g
-  entries-of l h f k = record {
+    few : length (s .entries) ≤ 128
+    few = omega (arith, formed .productions .1, many, x .outline .productions)
+
+    spanned : Spanned v p (getD (reverse (s .entries)) p noEntry .conditions)
+    spanned = x .outline .spans p (omega (arith, many))
+
+  pub entries-of : Entries (v .lows) (v .highs) (v .flags) g
+  entries-of = record {
     ranged = formed;
     narrow = left-few;
-    low = λ p a m v. let d = gathered k p (omega (arith, many)) in d .2 .low a v ∙ sym (low-is g (productionAt g p) (suc a) (d .0) (d .1));
-    high = λ p a m v. let d = gathered k p (omega (arith, many)) in d .2 .high a v ∙ sym (high-is g (productionAt g p) (suc a) (d .0) (d .1));
-    flag = λ p m. let d = gathered k p (omega (arith, many)) in d .2 .flag ∙ sym (none-is g (productionAt g p) (d .0) (d .1));
+    low = λ p a m l. low-told s p (inside p m) (few p m) v (spanned p m) a l;
+    high = λ p a m l. high-told s p (inside p m) (few p m) v (spanned p m) a l;
+    flag = λ p m. flag-told s p (inside p m) (few p m) v (spanned p m);
   }
 
   -- ---- what it finds

@@ -13,18 +13,20 @@ use Rattle.meaning.specs.Judgement.{accepted, rejected}
 use Rattle.meaning.specs.Decide.{judge}
 use Rattle.meaning.specs.PublicCalls.{Checked, usable, unusable, check}
 use Rattle.token_set.specs.Words.{setOf}
+use Rattle.entries.specs.Span.{Spans}
 use Rattle.table.specs.declared.Sizes.{Sizes}
 use Rattle.table.specs.Outline.{Outline}
 use Rattle.checker.specs.declared.judging.Judged.{Judged}
 use Rattle.checker.specs.declared.judging.Judged.the-variants.{Usable, Unusable}
 
--- the table is read whole, with this outline
-pub record Outlined (t : List ℕ) (sizes : Sizes) (rows offsets : List ℕ) : Type 0 where
+-- the outline of a table that is read whole
+pub record Outlined (sizes : Sizes) (rows offsets : List ℕ) (v : Spans) : Type 0 where
+  pub table : List ℕ
   pub state : State
   pub inherited : List ℕ
   pub synthesized : List ℕ
-  pub isRead : readTable t ≡ wellFormed state
-  pub outline : Outline state sizes inherited synthesized rows offsets
+  pub isRead : readTable table ≡ wellFormed state
+  pub outline : Outline state sizes inherited synthesized rows offsets v
 
 -- each set is FIRST-then-FOLLOW of its production
 abbrev pub Starting : State → ℕ → List ℕ → Type 0
@@ -39,7 +41,8 @@ Concludes s sizes sets r (rejected n o) = r ≡ Unusable n o
 pub record Brought (t : List ℕ) (s : State) (sizes : Sizes) (inherited synthesized rows offsets sets : List ℕ) : Type 0 where
   pub isRead : readTable t ≡ wellFormed s
   pub isAccepted : judge s ≡ accepted
-  pub outline : Outline s sizes inherited synthesized rows offsets
+  pub intervals : Spans
+  pub outline : Outline s sizes inherited synthesized rows offsets intervals
   pub starting : Starting s (sizes .productions) sets
 
 -- the answer, with the lent lists, for what the table is

@@ -1,3 +1,2 @@
-pub mod Intervals
 pub mod Judging
 pub mod Verdicts

@@ -1,6 +1,5 @@
 -- 01's numbers and values for the answers of the public calls.
 use Prim.Native.Nat.{ℕ, _+_, _≤_, _<_}
-use mathlib.Core.Path.{_≡_}
 use mathlib.Core.Bool.{true, false}
 use mathlib.Core.List.{List, []}
 use lib.Dec.{ltb}
@@ -8,7 +7,6 @@ use lib.ListN.{getD, length}
 use Rattle.meaning.specs.Judgement as Judgement
 use Rattle.meaning.specs.Judgement.{accepted, rejected}
 use Rattle.meaning.specs.PublicCalls.{Stretch, cut}
-use Rattle.checker.specs.Intervals.{endIn}
 use Rattle.checker.specs.declared.Verdict.{Verdict}
 use Rattle.checker.specs.declared.Verdict.the-variants.{Accepted, Refused}
 use Rattle.checker.specs.declared.spans.Span.{Span}
@@ -32,6 +30,14 @@ stretchBy t (Nowhere number offset) n o = stretchIs [] number offset
 abbrev pub Inside : List ℕ → Span → Type 0
 Inside t (Within from to) = (from < to) × (to ≤ length t)
 Inside t (Nowhere number offset) = Unit {0}
+
+-- where the stretch of production p of n ends
+unfoldable pub endIn : ℕ → ℕ → List ℕ → ℕ → ℕ
+endIn long n offsets p = elim (ltb (p + 1) n) [ true ↦ getD offsets (p + 1) 0 | false ↦ long ]
+
+-- the offsets of n productions are below an end
+abbrev pub Below : ℕ → ℕ → List ℕ → Type 0
+Below long n offsets = (q : ℕ) → q < n → getD offsets q 0 < long
 
 -- the span of production p of n with these offsets
 unfoldable pub spanIn : ℕ → ℕ → List ℕ → ℕ → Span

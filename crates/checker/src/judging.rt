@@ -1,8 +1,9 @@
 // A table judged: its fields, then refusals 11 to 13.
 ghost use mathlib.Core.Path.{_≡_};
-ghost use Prim.Native.Nat.{ℕ, _+_, _*_, _<_, _≤_};
+ghost use Prim.Native.Nat.{_+_, _*_, _<_};
 ghost use lib.ListN.{length};
 ghost use Rattle.meaning.specs.Decide.{judge};
+ghost use Rattle.entries.specs.Span.{spansOf};
 ghost use Rattle.checker.specs.Judging.{Outlined, Concludes, Judges, concluded};
 use table::Reading;
 use table::Sizes;
@@ -31,23 +32,21 @@ fn conclude(sizes: Sizes, number: u32, index: usize, offsets: &[u32; 128]) -> Ju
 
 // Refusals 11 to 13 of a table that is well formed, by its outline.
 fn judge_grammar(
-    table: &[u8],
     sizes: Sizes,
     rows: &[u8; 2048],
     offsets: &[u32; 128],
+    lows: &[u32; 1024],
+    highs: &[u32; 1024],
+    flags: &[u8; 128],
     sets: &mut [u64; 128],
 ) -> Judged
-    requires { ⌜ Outlined (now table) sizes (now rows) (now offsets) ⌝ }
-    ensures { λ r. ⌜ ((x : Outlined (now (table .entry)) sizes (now (rows .entry)) (now (offsets .entry))) → Concludes (x .state) sizes (now (sets .exit)) r (judge (x .state))) ⌝ }
+    requires { ⌜ Outlined sizes (now rows) (now offsets) (spansOf (now lows) (now highs) (now flags)) ⌝ }
+    ensures { λ r. ⌜ ((x : Outlined sizes (now (rows .entry)) (now (offsets .entry)) (spansOf (now (lows .entry)) (now (highs .entry)) (now (flags .entry)))) → Concludes (x .state) sizes (now (sets .exit)) r (judge (x .state))) ⌝ }
 {
-    let mut lows = [0u32; 1024];
-    let mut highs = [4294967295u32; 1024];
-    let mut flags = [0u8; 128];
     let productions = sizes.productions;
     let nonterminals = sizes.nonterminals;
     let start = sizes.start as u8;
-    crate::intervals::gather_all(table, productions, offsets, &mut lows, &mut highs, &mut flags);
-    let a = analysis::analyse(rows, productions, nonterminals, start, &lows, &highs, &flags);
+    let a = analysis::analyse(rows, productions, nonterminals, start, lows, highs, flags);
     let found = a.sets;
     *sets = found;
     conclude(sizes, a.number, a.index, offsets)
@@ -66,11 +65,25 @@ pub fn judge_table(
     requires { ⌜ (length (now inherited) ≡ 48) × (length (now synthesized) ≡ 48) × (length (now rows) ≡ 2048) × (length (now offsets) ≡ 128) ⌝ }
     ensures { λ r. ⌜ Judges (now (table .entry)) (now (inherited .exit)) (now (synthesized .exit)) (now (rows .exit)) (now (offsets .exit)) (now (sets .exit)) r ⌝ }
 {
-    match table::read_table(table, inherited, synthesized, rows, offsets) {
+    let mut lows = [0u32; 1024];
+    let mut highs = [0u32; 1024];
+    let mut flags = [0u8; 128];
+    match table::read_table(
+        table,
+        inherited,
+        synthesized,
+        rows,
+        offsets,
+        &mut lows,
+        &mut highs,
+        &mut flags,
+    ) {
         Reading::Malformed { number, offset } => Judged::Unusable {
             number: number as u32,
             offset,
         },
-        Reading::WellFormed(sizes) => judge_grammar(table, sizes, rows, offsets, sets),
+        Reading::WellFormed(sizes) => {
+            judge_grammar(sizes, rows, offsets, &lows, &highs, &flags, sets)
+        }
     }
 }

@@ -3,12 +3,11 @@ ghost use mathlib.Core.Path.{_≡_};
 ghost use Rattle.meaning.specs.Decide.{verdictOf};
 ghost use Rattle.meaning.specs.PublicCalls.{stretchOf};
 ghost use Rattle.checker.specs.Verdicts.{verdictIs, stretchIs};
-use crate::judging::judge_table;
 use crate::judging::Judged;
-use crate::spans::span_of;
+use crate::judging::judge_table;
 use crate::spans::Span;
+use crate::spans::span_of;
 
-pub mod intervals;
 pub mod judging;
 pub mod spans;
 

@@ -1,17 +1,27 @@
 // Where in the table a production's stretch lies.
 ghost use mathlib.Core.Path.{_≡_};
-ghost use Prim.Native.Nat.{ℕ, _≤_};
+ghost use Prim.Native.Nat.{ℕ, _≤_, _<_};
 ghost use lib.ListN.{length};
 ghost use Rattle.meaning.specs.PublicCalls.{stretchOf};
-ghost use Rattle.checker.specs.Intervals.{Below};
-ghost use Rattle.checker.specs.Verdicts.{spanIn, stretchBy, Inside};
-use crate::judging::judge_table;
+ghost use Rattle.checker.specs.Verdicts.{Below, endIn, spanIn, stretchBy, Inside};
 use crate::judging::Judged;
+use crate::judging::judge_table;
 
 // From one offset to another, or a refusal.
 pub enum Span {
     Within { from: usize, to: usize },
     Nowhere { number: u32, offset: u32 },
+}
+
+// Where the stretch of production p ends: at the next production, or at the table's end.
+fn end_of(long: usize, productions: usize, offsets: &[u32; 128], p: usize) -> usize
+    requires { ⌜ (p < productions) × (productions ≤ 128) × (length (now offsets) ≡ 128) × Below long productions (now offsets) ⌝ }
+    ensures { λ r. ⌜ r ≡ endIn long productions (now (offsets .entry)) p ⌝ }
+{
+    if p + 1 < productions {
+        return offsets[p + 1] as usize;
+    }
+    long
 }
 
 // The span of production p of an accepted table.
@@ -26,7 +36,7 @@ fn span_in(long: usize, productions: usize, offsets: &[u32; 128], p: usize) -> S
         };
     }
     let from = offsets[p] as usize;
-    let to = crate::intervals::end_of(long, productions, offsets, p);
+    let to = end_of(long, productions, offsets, p);
     Span::Within { from, to }
 }
 

@@ -1,15 +1,15 @@
 -- What holds of a field without a fault.
 use Prim.Native.Nat.{ℕ, _+_, _≤_, _<_}
-use mathlib.Core.Path.{_≡_, refl}
+use mathlib.Core.Path.{_≡_, refl, sym, _∙_, ap}
 use mathlib.Core.Bool.{Bool, true, false, cond}
 use mathlib.Core.List.{List}
-use native.Mathlib.Omega.{arith}
 use lib.Dec.{eqb, leb, ltb}
 use lib.ListN.{length}
-use borrow.Author.Tests.{eqb-true, leb-true, ltb-true}
+use borrow.Author.Tests.{eqb-true, leb-true, ltb-true, eqb-false}
 use Rattle.meaning.specs.Table.{byte}
-use Rattle.fields.specs.Demand.{holds, equal, atMost, below}
+use Rattle.fields.specs.Demand.{holds, equal, atMost, below, differs}
 use Rattle.fields.specs.Judge.{headerFault, countsFault, productionFault, symbolsKnown}
+use Rattle.fields.proofs.Cases.{nonzero}
 
 -- a demand with number n that is met, and the demands after it
 by-test : (b : Bool) (n r : ℕ) → cond b r n ≡ 0 → (n ≡ 0 → ⊥) → (b ≡ true) × (r ≡ 0)
@@ -20,6 +20,14 @@ module _ {n r : ℕ} (h : n ≡ 0 → ⊥) where
   pub equal-fine : (a b : ℕ) → equal a b n r ≡ 0 → (a ≡ b) × (r ≡ 0)
   unfolding equal
   equal-fine a b e = let q = by-test (eqb a b) n r e h in (eqb-true a b (q .0), q .1)
+
+  pub differs-fine : (a b : ℕ) → differs a b n r ≡ 0 → (a ≡ b → ⊥) × (r ≡ 0)
+  unfolding differs
+  differs-fine a b e = go (eqb a b) refl
+    where
+      go : (x : Bool) → eqb a b ≡ x → (a ≡ b → ⊥) × (r ≡ 0)
+      go true q = absurd (h (sym (ap (λ y. cond y n r) q) ∙ e))
+      go false q = (eqb-false a b q, sym (ap (λ y. cond y n r) q) ∙ e)
 
   pub atMost-fine : (a b : ℕ) → atMost a b n r ≡ 0 → (a ≤ b) × (r ≡ 0)
   unfolding atMost
@@ -33,27 +41,21 @@ module _ {n r : ℕ} (h : n ≡ 0 → ⊥) where
   unfolding holds
   holds-fine b e = by-test b n r e h
 
-four : _≡_ {A = ℕ} 4 0 → ⊥
-four e = omega arith
-
-five : _≡_ {A = ℕ} 5 0 → ⊥
-five e = omega arith
-
 module _ (b : List ℕ) where
   pub header-fine : headerFault b ≡ 0 → (length b ≡ 4) × (byte b 1 ≤ 48)
   unfolding headerFault
   header-fine e =
-      let q = equal-fine four (length b) 4 e in
-      let u = atMost-fine four 1 (byte b 0) (q .1) in
-      let v = atMost-fine four (byte b 0) 63 (u .1) in
-      let w = atMost-fine four 1 (byte b 1) (v .1) in
-      (q .0, atMost-fine four (byte b 1) 48 (w .1) .0)
+      let q = equal-fine (nonzero 3) (length b) 4 e in
+      let u = atMost-fine (nonzero 3) 1 (byte b 0) (q .1) in
+      let v = atMost-fine (nonzero 3) (byte b 0) 63 (u .1) in
+      let w = atMost-fine (nonzero 3) 1 (byte b 1) (v .1) in
+      (q .0, atMost-fine (nonzero 3) (byte b 1) 48 (w .1) .0)
 
   pub counts-fine : (n start result : ℕ) → countsFault n start result b ≡ 0 → (length b ≡ 2) × (byte b 0 + byte b 1 ≤ 8)
   unfolding countsFault
   counts-fine n start result e =
-      let q = equal-fine four (length b) 2 e in
-      (q .0, atMost-fine four (byte b 0 + byte b 1) 8 (q .1) .0)
+      let q = equal-fine (nonzero 3) (length b) 2 e in
+      (q .0, atMost-fine (nonzero 3) (byte b 0 + byte b 1) 8 (q .1) .0)
 
   pub record ProductionFine (terminals nonterminals p : ℕ) : Type 0 where
     pub short : byte b 1 ≤ 12
@@ -65,9 +67,9 @@ module _ (b : List ℕ) where
   pub production-fine : (terminals nonterminals p : ℕ) → productionFault terminals nonterminals p b ≡ 0 → ProductionFine terminals nonterminals p
   unfolding productionFault
   production-fine terminals nonterminals p e =
-      let q = atMost-fine four 2 (length b) e in
-      let u = atMost-fine four (byte b 1) 12 (q .1) in
-      let v = equal-fine four (length b) (2 + byte b 1) (u .1) in
-      let w = below-fine four p 128 (v .1) in
-      let x = below-fine five (byte b 0) nonterminals (w .1) in
-      record { short = u .0; long = v .0; few = w .0; left = x .0; symbols = holds-fine five (symbolsKnown terminals nonterminals b 2) (x .1) .0 }
+      let q = atMost-fine (nonzero 3) 2 (length b) e in
+      let u = atMost-fine (nonzero 3) (byte b 1) 12 (q .1) in
+      let v = equal-fine (nonzero 3) (length b) (2 + byte b 1) (u .1) in
+      let w = below-fine (nonzero 3) p 128 (v .1) in
+      let x = below-fine (nonzero 4) (byte b 0) nonterminals (w .1) in
+      record { short = u .0; long = v .0; few = w .0; left = x .0; symbols = holds-fine (nonzero 4) (symbolsKnown terminals nonterminals b 2) (x .1) .0 }

@@ -1,3 +1,4 @@
+pub mod Cases
 pub mod Demands
 pub mod Walks
 pub mod Fine

@@ -11,6 +11,7 @@ use lib.Seq.{drop-cons, getD-drop, getD-take, drop-drop, length-take-le}
 use borrow.Author.Tests.{le-leb, lt-leb, leb-true, eqb-true, eq-eqb, ne-eqb}
 use Rattle.meaning.specs.Table.{byte, State, Field, Read, malformed, readAll, readTable, atEnd, lastComplete, current, judgeField, readField, kindOf, nothingRead}
 use Rattle.fields.specs.Field.{lengthAt, bodyAt, Whole, Short, rest, judged}
+use Rattle.fields.proofs.Cases.{nonzero, and-false}
 
 abbrev sizeIn : List ℕ → ℕ
 sizeIn bs = byte bs 0 * 256 + byte bs 1
@@ -167,17 +168,13 @@ judged-refused n o a h = ap (λ x. elim x [ false ↦ malformed n o | true ↦ a
 
 pub calm-complete : (s : State) (tag : ℕ) → lastComplete s ≡ true → (eqb tag 3 && not (lastComplete s)) ≡ false
 calm-complete s tag e = ap (λ x. eqb tag 3 && not x) e ∙ and-false (eqb tag 3)
-  where
-    and-false : (x : Bool) → x && false ≡ false
-    and-false true = refl
-    and-false false = refl
 
 pub calm-other : (s : State) (tag : ℕ) → (tag ≡ 3 → ⊥) → (eqb tag 3 && not (lastComplete s)) ≡ false
 calm-other s tag n = ap (λ x. x && not (lastComplete s)) (ne-eqb tag 3 n)
 
 module _ (t : List ℕ) (s : State) (at : ℕ) (inside : at < length t) (calm : (eqb (byte t at) 3 && not (lastComplete s)) ≡ false) (after : Read) where
   pub step-short : Short t at → rest t s at ≡ judged 2 at after
-  step-short h = rest-short t s at inside calm h ∙ sym (judged-refused 2 at after (λ e. absurd (let z : _≡_ {A = ℕ} 2 0 = e in omega arith)))
+  step-short h = rest-short t s at inside calm h ∙ sym (judged-refused 2 at after (nonzero 1))
 
   pub step-field :
       (size : ℕ) → Whole t at size → (number : ℕ) → judgeField s (fieldOf at (byte t at) (bodyAt t at size)) ≡ number

@@ -2,23 +2,17 @@
 use Prim.Native.Nat.{ℕ, zero, suc, _+_, _-_, _*_, _/_, _%_, _^_, _≤_, _<_, max}
 use mathlib.Core.Path.{_≡_, refl, sym, _∙_, ap, subst}
 use mathlib.Core.Bool.{Bool, true, false, _&&_, _||_}
-use mathlib.Core.Logic.{_⊎_, inl, inr, ⊎-elim}
+use mathlib.Core.Logic.{⊎-elim}
 use native.Mathlib.Omega.{arith}
 use native.Mathlib.Nat.{mod-one, mod-lt, div-one, div-self, div-eq-of-lt, zero-lt-suc, pow-suc, mul-mod-left, one-mul, mod-eq-of-lt}
 use native.Mathlib.Numerals.{one-add}
-use lib.Dec.{eqb, ltb}
+use lib.Dec.{eqb}
 use lib.Arith.{mod-mul}
 use lib.Bits.{bitOr, or-shr, or-step}
 use lib.Pow.{pow-add, pow-pos, pow-lt, shl-shr, shr-shr}
-use borrow.Author.Tests.{eq-eqb, ne-eqb, eqb-true, eqb-false, ltb-true, ltb-false}
+use borrow.Author.Tests.{eq-eqb, ne-eqb, eqb-true, eqb-false}
 use Rattle.rules.specs.Rule.{bit, ones}
-
-pub lt-or-le : (a b : ℕ) → (a < b) ⊎ (b ≤ a)
-lt-or-le a b = go (ltb a b) refl
-  where
-    go : (t : Bool) → ltb a b ≡ t → (a < b) ⊎ (b ≤ a)
-    go true e = inl (ltb-true a b e)
-    go false e = inr (ltb-false a b e)
+use Rattle.fields.proofs.Cases.{lt-or-le}
 
 -- two tests that mean the same
 eqb-iff : (a b a′ b′ : ℕ) → (a ≡ b → a′ ≡ b′) → (a′ ≡ b′ → a ≡ b) → eqb a b ≡ eqb a′ b′

@@ -18,6 +18,7 @@ use Rattle.rules.specs.Rule.{Small, bit, ones, filledAt, settled, allCou
 use Rattle.rules.specs.Note.{Placed, Noted, occurrence, isSet}
 use Rattle.rules.proofs.Bits.{bit-set, bit-zero, bit-suc, bit-first, bit-shifted}
 use Rattle.rules.proofs.Uses.{entry, state, inherited-in, synthesized-in}
+use Rattle.fields.proofs.Cases.{and-true}
 
 -- ---- the note grows with each rule
 
@@ -157,10 +158,6 @@ module _ (h : Header) (cs : List Counts) (os : List ℕ) (es : List Entry) (r c 
 
     right-inputs : all (test false i) (countFrom (1 + i) y) ≡ true
     right-inputs = count-true (test false i) (1 + i) y (λ a p q. ap (λ x. not x || isSet rs (occurrence k a)) (lt-leb a i (omega arith)))
-
-    and-true : (x : Bool) → x && true ≡ x
-    and-true true = refl
-    and-true false = refl
 
     by-side : (z : Bool) → all (test z i) (countFrom 1 (i + y)) ≡ cond z (ones (n / 2 ^ i) y) (ones n i)
     by-side true = count-split (test true i) 1 i y ∙ ap₂ _&&_ left-inputs left-outputs

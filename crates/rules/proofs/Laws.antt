@@ -11,10 +11,10 @@ use borrow.Author.Tests.{eqb-true}
 use Rattle.meaning.specs.Base.{all, countFrom}
 use Rattle.meaning.specs.Table.{byte}
 use Rattle.fields.specs.Demand.{ifEqual}
-use Rattle.fields.proofs.Fine.{equal-fine, atMost-fine, below-fine, holds-fine}
+use Rattle.fields.proofs.Fine.{equal-fine, differs-fine, atMost-fine, below-fine, holds-fine}
 use Rattle.fields.proofs.Demands.{differs-not, equal-yes, equal-no, below-yes, below-no}
-use Rattle.rules.specs.Rule.{Small, classAt, classIn, classFault, orElse, lengthOf, operandCount, operandClass, divisorFits, ruleOrder, ruleUses, ruleFault, allCount}
-use Rattle.rules.proofs.Bits.{lt-or-le}
+use Rattle.rules.specs.Rule.{Small, classAt, classIn, classFault, orElse, lengthOf, operandCount, operandClass, divisorFits, ruleOrder, ruleUses, ruleFault, rangeFault, atMostFault, conditionFault, allCount}
+use Rattle.fields.proofs.Cases.{lt-or-le, nonzero}
 
 pub else-first : (x y : ℕ) {z : ℕ} → z ≡ x → (z ≡ 0 → ⊥) → z ≡ orElse x y
 unfolding orElse
@@ -102,15 +102,35 @@ pub rule-fine :
     → (3 ≤ length b) × (byte b 0 < 13) × (1 ≤ byte b 1) × (byte b 1 ≤ 8)
 unfolding ruleFault ruleUses
 rule-fine r width inh syn note b small e =
-    let q = atMost-fine (λ z. omega arith) 3 (length b) e in
-    let u = below-fine (λ z. omega arith) r 1024 (q .1) in
-    let v = atMost-fine (λ z. omega arith) (byte b 2) 8 (u .1) in
-    let w = equal-fine (λ z. omega arith) (length b) (lengthOf (byte b 2)) (v .1) in
-    let x = holds-fine (λ z. omega arith) (divisorFits (byte b 2) b) (w .1) in
+    let q = atMost-fine (nonzero 3) 3 (length b) e in
+    let u = below-fine (nonzero 3) r 1024 (q .1) in
+    let v = atMost-fine (nonzero 4) (byte b 2) 8 (u .1) in
+    let w = equal-fine (nonzero 3) (length b) (lengthOf (byte b 2)) (v .1) in
+    let x = holds-fine (nonzero 3) (divisorFits (byte b 2) b) (w .1) in
     let n = operandCount (byte b 2) in
     let y = else-fine (classFault (classIn width inh syn b 0) (operandClass width inh syn b n 0) (operandClass width inh syn b n 1)) (ruleOrder note n b) (x .1) in
     let k = uses-ready width inh syn b 0 (classIn width inh syn b 0) (operandClass width inh syn b n 0) (operandClass width inh syn b n 1) small (omega (arith, q .0)) refl refl y in
     (q .0, k .1, k .2, k .3)
+
+-- a condition without a fault
+pub condition-fine :
+    (c width : ℕ) (inh syn b : List ℕ) → conditionFault c width inh syn b ≡ 0
+    → (1 ≤ length b) × (byte b 0 ≡ 0 → length b ≡ 11) × ((byte b 0 ≡ 0 → ⊥) → byte b 1 ≡ 0 → byte b 3 ≡ 0 → ⊥)
+unfolding conditionFault rangeFault atMostFault
+condition-fine c width inh syn b e =
+    let q = atMost-fine (nonzero 3) 1 (length b) e in
+    let u = below-fine (nonzero 3) c 512 (q .1) in
+    let v = atMost-fine (nonzero 4) (byte b 0) 1 (u .1) in (
+      q .0,
+      (λ z. equal-fine (nonzero 3) (length b) 11 (equal-yes (byte b 0) 0 _ _ z refl ∙ v .1) .0),
+      λ n x y.
+          let w = equal-fine (nonzero 3) (length b) 5 (equal-no (byte b 0) 0 _ _ n refl ∙ v .1) in
+          let k = differs-fine (nonzero 4) (classIn width inh syn b 1) 0 (w .1) in
+          let l = differs-fine (nonzero 4) (classIn width inh syn b 3) 0 (k .1) in
+          let m = differs-fine (nonzero 6) (classIn width inh syn b 1) 2 (l .1) in
+          let o = differs-fine (nonzero 6) (classIn width inh syn b 3) 2 (m .1) in
+          differs-fine (nonzero 9) (byte b 3) 0 (equal-yes (byte b 1) 0 _ _ x refl ∙ o .1) .0 y,
+    )
 
 pub ap3 : {A B : Type 0} (f : A → A → A → B) {x x′ y y′ z z′ : A} → x ≡ x′ → y ≡ y′ → z ≡ z′ → f x y z ≡ f x′ y′ z′
 ap3 f p q r = cc

@@ -9,6 +9,7 @@ use lib.Signed.{leZ}
 use borrow.Author.Tests.{leb-true, leb-false, le-leb, lt-leb, ltb-true, ltb-false}
 use Rattle.meaning.specs.Table.{signed}
 use Rattle.rules.specs.Rule.{inOrder}
+use Rattle.fields.proofs.Cases.{and-false}
 
 -- two tests that mean the same
 pub leb-iff : (a b a′ b′ : ℕ) → (a ≤ b → a′ ≤ b′) → (a′ ≤ b′ → a ≤ b) → leb a b ≡ leb a′ b′
@@ -53,10 +54,6 @@ module _ (x y : ℕ) (small-x : x < 4294967296) (small-y : y < 4294967296) where
 divisor-by : (n : ℕ) (s : Bool) → ltb n 2147483648 ≡ s → leZ (pos 1) (bySign s n) && leZ (bySign s n) (pos 1000000) ≡ leb 1 n && leb n 1000000
 divisor-by n true p = refl
 divisor-by n false p = let h = ltb-false n 2147483648 p in sym (ap (λ x. leb 1 n && x) (lt-leb n 1000000 (omega arith)) ∙ and-false (leb 1 n))
-  where
-    and-false : (x : Bool) → x && false ≡ false
-    and-false true = refl
-    and-false false = refl
 
 pub divisor-same : (n : ℕ) → leZ (pos 1) (signed n) && leZ (signed n) (pos 1000000) ≡ leb 1 n && leb n 1000000
 divisor-same n = divisor-by n (ltb n 2147483648) refl

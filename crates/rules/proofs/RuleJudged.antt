@@ -20,6 +20,7 @@ use Rattle.rules.specs.Note.{Placed, Noted, occurrence, isSet}
 use Rattle.rules.proofs.Laws.{ap3, class-inside, class-first, class-last}
 use Rattle.rules.proofs.Order.{divisor-same}
 use Rattle.rules.proofs.Uses.{Classed, input, classed, uses-by, entry, state}
+use Rattle.fields.proofs.Cases.{and-true}
 
 -- ---- the operands by the function
 
@@ -68,10 +69,6 @@ length-by (suc (suc (suc (suc (suc (suc (suc (suc (suc f))))))))) l = absurd (om
 -- a test of the k-th of n operands
 abbrev given : ℕ → ℕ → Bool → Bool
 given k n x = cond (ltb k n) x true
-
-and-true : (x : Bool) → x && true ≡ x
-and-true true = refl
-and-true false = refl
 
 all-given : (g : Occurrence → Bool) (x y : Occurrence) (n : ℕ) → n ≤ 2 → all g (take n (x ∷ y ∷ [])) ≡ given 0 n (g x) && given 1 n (g y)
 all-given g x y zero l = refl

@@ -13,6 +13,7 @@ use Rattle.fields.specs.Demand.{ifEqual, ifBelow, differs, below}
 use Rattle.fields.specs.Reads.{stateOf, entryOf}
 use Rattle.rules.specs.Rule.{classAt, classFault, orElse}
 use Rattle.rules.specs.Note.{symbolIn, Placed, occurrence}
+use Rattle.fields.proofs.Cases.{nonzero}
 
 -- known, an input, class
 pub data Classed : Bool → Bool → ℕ → Type 0 where
@@ -125,4 +126,4 @@ module _ (n n′ z x x′ y y′ : Bool) (f : z ≡ false → x ≡ x′) (g : z
   uses-by output output unknown e = refl
   uses-by output output input e = refl
   uses-by output output output e = refl
-  uses-by output input input e = order-same n n′ z x x′ y y′ (e (λ q. absurd (let w : 2 ≡ 0 = q in omega arith))) f g
+  uses-by output input input e = order-same n n′ z x x′ y y′ (e (nonzero 1)) f g

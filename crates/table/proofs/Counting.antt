@@ -12,9 +12,9 @@ use Rattle.meaning.specs.Table.{byte, Read}
 use Rattle.fields.specs.Field.{rest, judged}
 use Rattle.fields.specs.Reads.{stateOf}
 use Rattle.fields.proofs.Rest.{judged-fine, judged-refused}
-use Rattle.rules.proofs.Bits.{lt-or-le}
 use Rattle.table.specs.Outline.{headerIn, headed, countsUpTo, offsetsUpTo, counted, SmallCounts}
 use Rattle.table.specs.Progress.{CountsJudged, CountsRead}
+use Rattle.fields.proofs.Cases.{lt-or-le}
 
 pub length-counts : (inh syn : List ℕ) (n : ℕ) → length (countsUpTo inh syn n) ≡ n
 length-counts inh syn zero = refl

@@ -5,3 +5,4 @@ pub mod Walking
 pub mod Producing
 pub mod Rows
 pub mod Tables
+pub mod Intervals

@@ -8,8 +8,8 @@ use native.Mathlib.Nat.{not-suc-le-zero}
 use lib.ListN.{length, getD, set, length-set}
 use lib.Seq.{getD-set-same, getD-set-other}
 use Rattle.meaning.specs.Table.{byte}
-use Rattle.rules.proofs.Bits.{lt-or-le}
 use Rattle.table.specs.Outline.{countOf, symbolByte, Copied}
+use Rattle.fields.proofs.Cases.{lt-or-le}
 
 -- the counts of positions below k are written
 pub record Placing (b counts places : List ℕ) (k : ℕ) : Type 0 where

@@ -23,16 +23,13 @@ use Rattle.fields.proofs.Fine.{ProductionFine, production-fine}
 use Rattle.fields.proofs.Walks.{all-each}
 use Rattle.rules.specs.Rule.{Small}
 use Rattle.rules.specs.Note.{symbolIn}
-use Rattle.rules.proofs.Bits.{lt-or-le}
+use Rattle.entries.specs.Span.{Spans}
 use Rattle.table.specs.declared.Uses.{Uses}
 use Rattle.table.specs.Outline.{SmallCounts, Numbered, countOf, symbolByte, countsUpTo, Written}
 use Rattle.table.specs.Progress.{settingOf, Around, UsesRead, Next}
 use Rattle.table.specs.Productions.{widthIn, bodyIn, leftIn, rightIn, ProductionKnown, ProductionJudged, SmallBody, CountsAgree, BodyRead}
-use Rattle.table.proofs.Steps.{three}
 use Rattle.table.proofs.Counting.{length-counts}
-
-two : _≡_ {A = ℕ} 2 0 → ⊥
-two e = omega arith
+use Rattle.fields.proofs.Cases.{lt-or-le, nonzero}
 
 none-of : (es : List Entry) → length es ≡ 0 → es ≡ []
 none-of [] e = refl
@@ -43,7 +40,7 @@ module _ (t : List ℕ) (at p terminals nonterminals : ℕ) (inside : at < lengt
   production-cut s =
       record {
         read = λ h cs os es r c tm nt all len done. step-short t (stateOf h cs os es r c) at inside (calm-complete (stateOf h cs os es r c) (byte t at) done) _ s;
-        known = λ z. absurd (two z);
+        known = λ z. absurd (nonzero 1 z);
       }
 
   module _ (size : ℕ) (w : Whole t at size) where
@@ -56,8 +53,8 @@ module _ (t : List ℕ) (at p terminals nonterminals : ℕ) (inside : at < lengt
           read = λ h cs os es r c tm nt all len done.
               step-field t (stateOf h cs os es r c) at inside (calm-complete (stateOf h cs os es r c) (byte t at) done) _ size w 3
               (first-not h cs os es r c at b (byte t at) (omega (arith, all, nt)) (none-of es (⊎-elim (λ l. absurd (n (f l))) (λ l. omega arith) (lt-or-le 0 p))) n)
-              (λ e. absurd (three e));
-          known = λ z. absurd (three z);
+              (λ e. absurd (nonzero 2 e));
+          known = λ z. absurd (nonzero 2 z);
         }
 
     module _ (fine : ProductionFine b terminals nonterminals p) where
@@ -250,8 +247,8 @@ module _ (t : List ℕ) (at w : ℕ) (inherited synthesized inh syn part : List 
   right-long : length (rightIn t at) ≡ w
   right-long = length-map (drop 2 (bodyIn t at)) symbolOf ∙ length-drop 2 (bodyIn t at) ∙ omega (arith, body-long)
 
-  pub body-read : (r₀ c₀ : ℕ) (u : Uses) → UsesRead (settingOf t at w inh syn) (at + 5 + w) r₀ c₀ u → BodyRead t at inherited synthesized r₀ c₀ u
-  body-read r₀ c₀ u f h cs os es all agree =
+  pub body-read : (r₀ c₀ : ℕ) (v : Spans) (n : ℕ) (u : Uses) → UsesRead (settingOf t at w inh syn) (at + 5 + w) r₀ c₀ v n u → BodyRead t at inherited synthesized r₀ c₀ v n u
+  body-read r₀ c₀ v n u f h cs os es all agree =
       let a : Around (settingOf t at w inh syn) =
       record {
         header = h;
@@ -269,7 +266,7 @@ module _ (t : List ℕ) (at w : ℕ) (inherited synthesized inh syn part : List 
       }
       in
       let m = f a in
-      (m .0, m .1, ap (λ (i : ℕ). rest t (stateOf h cs os (entryOf at (leftIn t at) (rightIn t at) [] [] ∷ es) r₀ c₀) (at + 5 + i)) (sym is-width) ∙ m .2, m .3)
+      (m .0, m .1, ap (λ (i : ℕ). rest t (stateOf h cs os (entryOf at (leftIn t at) (rightIn t at) [] [] ∷ es) r₀ c₀) (at + 5 + i)) (sym is-width) ∙ m .2, m .3, m .4)
 
 pub next-sooner : (t : List ℕ) (a b : ℕ) (u : Uses) → a ≤ b → Next t b u → Next t a u
 next-sooner t a b u l n = record { after = omega (arith, n .after); inside = n .inside; over = n .over; rules = n .rules; conditions = n .conditions }

@@ -16,12 +16,7 @@ use Rattle.fields.proofs.Judged.{header-judged, header-not, counts-judged, coun
 use Rattle.fields.proofs.Fine.{header-fine, counts-fine}
 use Rattle.table.specs.Outline.{headed}
 use Rattle.table.specs.Progress.{HeaderJudged, CountsJudged}
-
-two : _≡_ {A = ℕ} 2 0 → ⊥
-two e = omega arith
-
-pub three : _≡_ {A = ℕ} 3 0 → ⊥
-three e = omega arith
+use Rattle.fields.proofs.Cases.{nonzero}
 
 -- the part of a table that a body is
 pub part-body : (t : List ℕ) (at size : ℕ) → take (at + 3 + size - (at + 3)) (drop (at + 3) t) ≡ bodyAt t at size
@@ -44,7 +39,7 @@ four-same p q r t = cc
 
 module _ (t : List ℕ) where
   pub header-end : length t ≡ 0 → (after : Read) → rest t nothingRead 0 ≡ judged 3 0 after
-  header-end e after = rest-end t nothingRead 0 (omega arith) ∙ sym (judged-refused 3 0 after three)
+  header-end e after = rest-end t nothingRead 0 (omega arith) ∙ sym (judged-refused 3 0 after (nonzero 2))
 
   module _ (inside : 0 < length t) where
     pub header-short : Short t 0 → (after : Read) → rest t nothingRead 0 ≡ judged 2 0 after
@@ -52,7 +47,7 @@ module _ (t : List ℕ) where
 
     pub header-tag : (size : ℕ) → Whole t 0 size → (byte t 0 ≡ 1 → ⊥) → (after : Read) → rest t nothingRead 0 ≡ judged 3 0 after
     header-tag size w n after =
-        step-field t nothingRead 0 inside (calm-complete nothingRead (byte t 0) refl) after size w 3 (header-not 0 (byte t 0) (bodyAt t 0 size) n) (λ e. absurd (three e))
+        step-field t nothingRead 0 inside (calm-complete nothingRead (byte t 0) refl) after size w 3 (header-not 0 (byte t 0) (bodyAt t 0 size) n) (λ e. absurd (nonzero 2 e))
 
     module _ (size : ℕ) (w : Whole t 0 size) where
       abbrev b : List ℕ
@@ -92,7 +87,7 @@ module _ (t : List ℕ) (h : Header) (cs : List Counts) (os : List ℕ) (at : �
 
   pub counts-end : length t ≤ at → (after : Read) → rest t s at ≡ judged 3 at after
   counts-end e after =
-      rest-end t s at e ∙ ap (endBy s at) (stage-counts h cs os [] 0 0 few) ∙ sym (judged-refused 3 at after three)
+      rest-end t s at e ∙ ap (endBy s at) (stage-counts h cs os [] 0 0 few) ∙ sym (judged-refused 3 at after (nonzero 2))
 
   module _ (inside : at < length t) where
     pub counts-short : Short t at → (after : Read) → rest t s at ≡ judged 2 at after
@@ -100,7 +95,7 @@ module _ (t : List ℕ) (h : Header) (cs : List Counts) (os : List ℕ) (at : �
 
     pub counts-tag : (size : ℕ) → Whole t at size → (byte t at ≡ 2 → ⊥) → (after : Read) → rest t s at ≡ judged 3 at after
     counts-tag size w n after =
-        step-field t s at inside calm after size w 3 (counts-not h cs os at (bodyAt t at size) (byte t at) few n) (λ e. absurd (three e))
+        step-field t s at inside calm after size w 3 (counts-not h cs os at (bodyAt t at size) (byte t at) few n) (λ e. absurd (nonzero 2 e))
 
     module _ (size : ℕ) (w : Whole t at size) where
       abbrev b′ : List ℕ
@@ -135,14 +130,14 @@ module _ (t : List ℕ) (h : Header) (cs : List Counts) (os : List ℕ) (at : �
 
 module _ (t : List ℕ) where
   pub header-over : length t ≡ 0 → HeaderJudged t 3
-  header-over e = record { read = header-end t e _; long = λ z. absurd (three z); few = λ z. absurd (three z) }
+  header-over e = record { read = header-end t e _; long = λ z. absurd (nonzero 2 z); few = λ z. absurd (nonzero 2 z) }
 
   module _ (inside : 0 < length t) where
     pub header-cut : Short t 0 → HeaderJudged t 2
-    header-cut h = record { read = header-short t inside h _; long = λ z. absurd (two z); few = λ z. absurd (two z) }
+    header-cut h = record { read = header-short t inside h _; long = λ z. absurd (nonzero 1 z); few = λ z. absurd (nonzero 1 z) }
 
     pub header-other : (size : ℕ) → Whole t 0 size → (byte t 0 ≡ 1 → ⊥) → HeaderJudged t 3
-    header-other size w n = record { read = header-tag t inside size w n _; long = λ z. absurd (three z); few = λ z. absurd (three z) }
+    header-other size w n = record { read = header-tag t inside size w n _; long = λ z. absurd (nonzero 2 z); few = λ z. absurd (nonzero 2 z) }
 
     pub header-right : (size : ℕ) (part : List ℕ) (number : ℕ) → Whole t 0 size → byte t 0 ≡ 1 → part ≡ bodyAt t 0 size → number ≡ headerFault part → HeaderJudged t number
     header-right size part number w tag p e =
@@ -158,8 +153,8 @@ module _ (t : List ℕ) (at n start result : ℕ) where
   counts-over e =
       record {
         read = λ h cs os p q u v. counts-end t h cs os at (omega arith) e _;
-        long = λ z. absurd (three z);
-        small = λ z. absurd (three z);
+        long = λ z. absurd (nonzero 2 z);
+        small = λ z. absurd (nonzero 2 z);
       }
 
   module _ (inside : at < length t) where
@@ -167,8 +162,8 @@ module _ (t : List ℕ) (at n start result : ℕ) where
     counts-cut e =
         record {
           read = λ h cs os p q u v. counts-short t h cs os at (omega arith) inside e _;
-          long = λ z. absurd (two z);
-          small = λ z. absurd (two z);
+          long = λ z. absurd (nonzero 1 z);
+          small = λ z. absurd (nonzero 1 z);
         }
 
     module _ (size : ℕ) (w : Whole t at size) where
@@ -176,8 +171,8 @@ module _ (t : List ℕ) (at n start result : ℕ) where
       counts-other e =
           record {
             read = λ h cs os p q u v. counts-tag t h cs os at (omega arith) inside size w e _;
-            long = λ z. absurd (three z);
-            small = λ z. absurd (three z);
+            long = λ z. absurd (nonzero 2 z);
+            small = λ z. absurd (nonzero 2 z);
           }
 
       abbrev body : List ℕ

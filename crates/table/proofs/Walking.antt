@@ -1,5 +1,5 @@
 -- The rules and conditions of a production, one after the other.
-use Prim.Native.Nat.{ℕ, zero, suc, _+_, _-_, _^_, _≤_, _<_}
+use Prim.Native.Nat.{ℕ, zero, suc, _+_, _-_, _^_, _≤_, _<_, max}
 use mathlib.Core.Path.{_≡_, refl, sym, _∙_, ap, ap₂, subst, subst₂}
 use mathlib.Core.Bool.{Bool, true, false, _&&_, _||_, not, true≢false}
 use mathlib.Core.List.{List, [], _∷_}
@@ -9,28 +9,25 @@ use lib.Bits.{bitOr}
 use lib.Dec.{eqb}
 use lib.ListN.{length, getD, set, replicate, length-set}
 use borrow.Author.Tests.{ne-eqb, eq-eqb, lt-ltb}
-use Rattle.meaning.specs.Grammar.{Counts, Rule, Condition, Occurrence}
-use Rattle.meaning.specs.Table.{byte, Header, Entry, atFirst, atAny, stage, tagStands, wellFormed, malformed, judgeField, readField, kindOf, ruleOf, conditionOf, lastComplete}
+use Rattle.meaning.specs.Grammar.{Counts, Rule, Condition, range, atmost, Occurrence}
+use Rattle.meaning.specs.Table.{byte, Header, Entry, atFirst, atAny, stage, tagStands, wellFormed, malformed, judgeField, readField, kindOf, ruleOf, conditionOf, constantAt, occurrenceAt, lastComplete}
 use Rattle.fields.specs.Field.{Whole, Short, rest, judged, bodyAt}
 use Rattle.fields.specs.Reads.{stateOf, entryOf}
 use Rattle.fields.proofs.Rest.{rest-end, rest-missing, judged-fine, judged-refused, step-short, step-field, calm-other, body-length, body-byte, fieldOf}
 use Rattle.fields.proofs.Judged.{judge-not, stage-later}
 use Rattle.rules.specs.Rule.{Small, ruleFault, conditionFault, completeNote}
 use Rattle.rules.specs.Note.{Noted}
-use Rattle.rules.proofs.Bits.{lt-or-le}
-use Rattle.rules.proofs.Laws.{rule-fine}
+use Rattle.rules.proofs.Laws.{rule-fine, condition-fine}
 use Rattle.rules.proofs.RuleJudged.{rule-judged}
 use Rattle.rules.proofs.ConditionJudged.{condition-judged}
 use Rattle.rules.proofs.Complete.{noted-none, noted-more, complete-judged}
+use Rattle.analysis.specs.EntryImage.{isEntry}
+use Rattle.entries.specs.Span.{Spans, Spanned, Long, Kept}
+use Rattle.entries.proofs.Narrowing.{kept-same, kept-then}
 use Rattle.table.specs.declared.Uses.{Uses}
 use Rattle.table.specs.Progress.{Over, Setting, settingOf, Around, stateIn, UseJudged, Walked, UsesRead, Next, endOf}
-use Rattle.table.proofs.Steps.{three, endBy}
-
-two : _≡_ {A = ℕ} 2 0 → ⊥
-two e = omega arith
-
-eight : _≡_ {A = ℕ} 8 0 → ⊥
-eight e = omega arith
+use Rattle.table.proofs.Steps.{endBy}
+use Rattle.fields.proofs.Cases.{lt-or-le, nonzero}
 
 pub stage-any : (h : Header) (cs : List Counts) (os : List ℕ) (e : Entry) (es : List Entry) (r c : ℕ) → h .nonterminals ≤ length cs → stage (stateOf h cs os (e ∷ es) r c) ≡ atAny
 stage-any h cs os e es r c l =
@@ -50,9 +47,10 @@ module _ (t : List ℕ) (at size r c width : ℕ) (inh syn note : List ℕ) (ins
   use-cut h =
       record {
         read = λ o a rs cds nt. step-short t (stateIn (g o) a rs cds r c) at inside (calm-other (stateIn (g o) a rs cds r c) (byte t at) other) _ h;
-        whole = λ z. absurd (two z);
-        kinds = λ z. absurd (two z);
-        target = λ z. absurd (two z);
+        whole = λ z. absurd (nonzero 1 z);
+        form = λ z. absurd (nonzero 1 z);
+        kinds = λ z. absurd (nonzero 1 z);
+        target = λ z. absurd (nonzero 1 z);
       }
 
   module _ (w : Whole t at size) where
@@ -77,9 +75,10 @@ module _ (t : List ℕ) (at size r c width : ℕ) (inh syn note : List ℕ) (ins
               (judge-not (stateIn (g o) a rs cds r c) at (byte t at) b
               (ap (λ x. tagStands x (byte t at)) (any-stage o a rs cds)
               ∙ or-none (eqb (byte t at) 3) (eqb (byte t at) 4) (eqb (byte t at) 5) (ne-eqb (byte t at) 3 other) (ne-eqb (byte t at) 4 n) (ne-eqb (byte t at) 5 m)));
-          whole = λ z. absurd (three z);
-          kinds = λ z. absurd (three z);
-          target = λ z. absurd (three z);
+          whole = λ z. absurd (nonzero 2 z);
+          form = λ z. absurd (nonzero 2 z);
+          kinds = λ z. absurd (nonzero 2 z);
+          target = λ z. absurd (nonzero 2 z);
         }
 
     module _ (small : Small width inh syn) (part : List ℕ) (is-part : part ≡ b) (number : ℕ) where
@@ -92,6 +91,19 @@ module _ (t : List ℕ) (at size r c width : ℕ) (inh syn note : List ℕ) (ins
           let y : byte b 1 ≡ byte t (at + 4) = body-byte t at size 1 (omega arith) ∙ ap (byte t) {x = at + 3 + 1} {y = at + 4} (omega arith) in
           (k, omega (arith, q .1), omega (arith, q .2), omega (arith, q .3))
 
+      not-entry : (byte b 0 ≡ 0 → ⊥) → (byte b 1 ≡ 0 → byte b 3 ≡ 0 → ⊥) → isEntry (conditionOf b) ≡ false
+      not-entry n m =
+          ap isEntry (ap (λ x. elim x [ true ↦ range (occurrenceAt b 1) (constantAt b 3) (constantAt b 7) | false ↦ atmost (occurrenceAt b 1) (occurrenceAt b 3) ]) (ne-eqb (byte b 0) 0 n))
+          ∙ ne-eqb (max (byte b 1) (byte b 3)) 0 (λ e. m (omega arith) (omega arith))
+
+      form-in : conditionFault c width inh syn b ≡ 0 → (1 ≤ size) × (byte t (at + 3) ≡ 0 → size ≡ 11) × ((byte t (at + 3) ≡ 0 → ⊥) → isEntry (conditionOf b) ≡ false)
+      form-in e =
+          let q = condition-fine c width inh syn b e in
+          let l = body-length t at size (w .inside) in
+          let k : 1 ≤ size = omega (arith, q .0) in
+          let x : byte b 0 ≡ byte t (at + 3) = body-byte t at size 0 (omega arith) ∙ ap (byte t) {x = at + 3 + 0} {y = at + 3} (omega arith) in
+          (k, (λ z. sym l ∙ q .1 (x ∙ z)), λ n. not-entry (λ z. n (sym x ∙ z)) (q .2 (λ z. n (sym x ∙ z))))
+
       pub use-rule : byte t at ≡ 4 → number ≡ ruleFault r width inh syn note part → UseJudged t at size r c width inh syn note number
       use-rule tag e =
           let q : number ≡ ruleFault r width inh syn note b = e ∙ ap (ruleFault r width inh syn note) is-part in
@@ -102,6 +114,7 @@ module _ (t : List ℕ) (at size r c width : ℕ) (inh syn note : List ℕ) (ins
                 ∙ rule-judged (a .header) (a .counts) (a .offsets) (a .others) r c o (a .left) (a .right) rs cds width inh syn note (a .placed) small nt b at (any-stage o a rs cds)
                 ∙ sym q);
             whole = λ z. w;
+            form = λ z f. absurd (omega (arith, tag, f));
             kinds = λ z n. absurd (n tag);
             target = λ z f. target-in (sym q ∙ z);
           }
@@ -116,48 +129,62 @@ module _ (t : List ℕ) (at size r c width : ℕ) (inh syn note : List ℕ) (ins
                 ∙ condition-judged (a .header) (a .counts) (a .offsets) (a .others) r c o (a .left) (a .right) rs cds width inh syn (a .placed) b at (any-stage o a rs cds)
                 ∙ sym q);
             whole = λ z. w;
+            form = λ z f. form-in (sym q ∙ z);
             kinds = λ z n. tag;
             target = λ z f. absurd (omega (arith, tag, f));
           }
 
+-- the part of the table that a condition's body is, ready to narrow the intervals
+pub part-ready :
+    (t : List ℕ) (at size : ℕ) (part : List ℕ) → Whole t at size → part ≡ bodyAt t at size
+    → (1 ≤ size) × (byte t (at + 3) ≡ 0 → size ≡ 11) × ((byte t (at + 3) ≡ 0 → ⊥) → isEntry (conditionOf (bodyAt t at size)) ≡ false)
+    → (1 ≤ length part) × (byte part 0 ≡ 0 → length part ≡ 11) × ((byte part 0 ≡ 0 → ⊥) → isEntry (conditionOf part) ≡ false)
+part-ready t at size part w e f =
+    let l : length part ≡ size = ap length e ∙ body-length t at size (w .inside) in
+    let x : byte part 0 ≡ byte t (at + 3) = ap (λ (b : List ℕ). byte b 0) e ∙ body-byte t at size 0 (omega (arith, f .0)) ∙ ap (byte t) {x = at + 3 + 0} {y = at + 3} (omega arith) in
+    (omega (arith, f .0), (λ z. l ∙ f .1 (sym x ∙ z)), λ n. ap (λ (b : List ℕ). isEntry (conditionOf b)) e ∙ f .2 (λ z. n (x ∙ z)))
+
 -- ---- the loop over the fields
 
-pub record Walking (t : List ℕ) (from offset width : ℕ) (inh syn : List ℕ) (r₀ c₀ : ℕ) (note : List ℕ) (at r c : ℕ) : Type 0 where
+pub record Walking (t : List ℕ) (from offset width : ℕ) (inh syn : List ℕ) (r₀ c₀ : ℕ) (v₀ : Spans) (p : ℕ) (note : List ℕ) (v : Spans) (at r c : ℕ) : Type 0 where
   pub after : from ≤ at
   pub inside : at ≤ length t
   pub rules : r ≤ at
   pub conditions : c ≤ at
   pub kept : length note ≡ 13
-  pub walked : Walked (settingOf t offset width inh syn) from r₀ c₀ note at r c
+  pub walked : Walked (settingOf t offset width inh syn) from r₀ c₀ note v p at r c
+  pub same : Kept v₀ v p
 
 zeros : (n k : ℕ) → _≡_ {A = ℕ} (getD (replicate n 0) k 0) 0
 zeros zero k = refl
 zeros (suc n) zero = refl
 zeros (suc n) (suc k) = zeros n k
 
-module _ (t : List ℕ) (from offset width : ℕ) (inh syn : List ℕ) (r₀ c₀ : ℕ) where
+module _ (t : List ℕ) (from offset width : ℕ) (inh syn : List ℕ) (r₀ c₀ : ℕ) (v₀ : Spans) (p : ℕ) where
   abbrev s : Setting
   s = settingOf t offset width inh syn
 
-  pub walk-start : from ≤ length t → r₀ ≤ from → c₀ ≤ from → Walking t from offset width inh syn r₀ c₀ (replicate 13 0) from r₀ c₀
-  walk-start l p q =
+  pub walk-start : from ≤ length t → r₀ ≤ from → c₀ ≤ from → Spanned v₀ p [] → Long v₀ → Walking t from offset width inh syn r₀ c₀ v₀ p (replicate 13 0) v₀ from r₀ c₀
+  walk-start l m q s k =
       record {
         after = omega arith;
         inside = l;
-        rules = p;
+        rules = m;
         conditions = q;
         kept = refl;
-        walked = λ a. ([], [], noted-none (replicate 13 0) (zeros 13), refl);
+        walked = λ a. ([], [], noted-none (replicate 13 0) (zeros 13), s, refl);
+        same = kept-same v₀ p k;
       }
 
-  module _ (note : List ℕ) (at r c : ℕ) (w : Walking t from offset width inh syn r₀ c₀ note at r c) where
+  module _ (note : List ℕ) (v : Spans) (at r c : ℕ) (w : Walking t from offset width inh syn r₀ c₀ v₀ p note v at r c) where
     module _ (size number : ℕ) (j : UseJudged t at size r c width inh syn note number) where
-      pub walk-refused : (number ≡ 0 → ⊥) → UsesRead s from r₀ c₀ (record { number = number; at = at; rules = r; conditions = c })
+      pub walk-refused : (number ≡ 0 → ⊥) → UsesRead s from r₀ c₀ v p (record { number = number; at = at; rules = r; conditions = c })
       walk-refused n a =
           let q = w .walked a in (
             q .0,
             q .1,
-            q .3 ∙ j .read offset a (q .0) (q .1) (q .2) ∙ judged-refused number at _ n ∙ sym (judged-refused number at _ n),
+            q .4 ∙ j .read offset a (q .0) (q .1) (q .2) ∙ judged-refused number at _ n ∙ sym (judged-refused number at _ n),
+            (λ z. absurd (n z)),
             λ z. absurd (n z),
           )
 
@@ -176,45 +203,49 @@ module _ (t : List ℕ) (from offset width : ℕ) (inh syn : List ℕ) (r₀ c�
             j .read offset a rs cds nt ∙ judged-fine number at _ fine
             ∙ ap (λ (x : ℕ). rest t (readField (stateIn s a rs cds r c) at (kindOf x) b′) next) e
 
-        abbrev p : ℕ
-        p = byte t (at + 3)
+        abbrev place : ℕ
+        place = byte t (at + 3)
 
-        abbrev q : ℕ
-        q = byte t (at + 4)
+        abbrev number-of : ℕ
+        number-of = byte t (at + 4)
 
-        walk-rule : byte t at ≡ 4 → Walking t from offset width inh syn r₀ c₀ (set note p (bitOr (getD note p 0) (2 ^ (q - 1)))) next (r + 1) c
+        walk-rule : byte t at ≡ 4 → Walking t from offset width inh syn r₀ c₀ v₀ p (set note place (bitOr (getD note place 0) (2 ^ (number-of - 1)))) v next (r + 1) c
         walk-rule tag =
             let k = j .target fine tag in
-            let x : byte b′ 0 ≡ p = body-byte t at size 0 (omega (arith, k .0)) ∙ ap (byte t) {x = at + 3 + 0} {y = at + 3} (omega arith) in
-            let y : byte b′ 1 ≡ q = body-byte t at size 1 (omega (arith, k .0)) ∙ ap (byte t) {x = at + 3 + 1} {y = at + 4} (omega arith) in
+            let x : byte b′ 0 ≡ place = body-byte t at size 0 (omega (arith, k .0)) ∙ ap (byte t) {x = at + 3 + 0} {y = at + 3} (omega arith) in
+            let y : byte b′ 1 ≡ number-of = body-byte t at size 1 (omega (arith, k .0)) ∙ ap (byte t) {x = at + 3 + 1} {y = at + 4} (omega arith) in
             let one : suc r ≡ r + 1 = omega arith in
             record {
               after = omega (arith, w .after);
               inside = j .whole fine .inside;
               rules = omega (arith, w .rules);
               conditions = omega (arith, w .conditions);
-              kept = length-set note p (bitOr (getD note p 0) (2 ^ (q - 1))) ∙ w .kept;
+              kept = length-set note place (bitOr (getD note place 0) (2 ^ (number-of - 1))) ∙ w .kept;
               walked = λ a.
                   let m = w .walked a in (
                     ruleOf b′ ∷ m .0,
                     m .1,
                     subst₂ (λ (u v : ℕ). Noted (set note u (bitOr (getD note u 0) (2 ^ (v - 1)))) (ruleOf b′ ∷ m .0)) x y (noted-more note (m .0) (ruleOf b′) (m .2) (w .kept) (omega (arith, k .1)) (omega (arith, k .2))),
-                    m .3 ∙ onward a (m .0) (m .1) (m .2) 4 tag ∙ ap (λ (n : ℕ). rest t (stateIn s a (ruleOf b′ ∷ m .0) (m .1) n c) next) one,
+                    m .3,
+                    m .4 ∙ onward a (m .0) (m .1) (m .2) 4 tag ∙ ap (λ (n : ℕ). rest t (stateIn s a (ruleOf b′ ∷ m .0) (m .1) n c) next) one,
                   );
+              same = w .same;
             }
 
         -- the same for the numbers and the note that the code has
         pub walk-noted :
-            (m n : ℕ) (note′ : List ℕ) → byte t at ≡ 4 → m ≡ p → n ≡ q → note′ ≡ set note m (bitOr (getD note m 0) (2 ^ (n - 1)))
-            → Walking t from offset width inh syn r₀ c₀ note′ next (r + 1) c
+            (m n : ℕ) (note′ : List ℕ) → byte t at ≡ 4 → m ≡ place → n ≡ number-of → note′ ≡ set note m (bitOr (getD note m 0) (2 ^ (n - 1)))
+            → Walking t from offset width inh syn r₀ c₀ v₀ p note′ v next (r + 1) c
         walk-noted m n note′ tag x y e =
             subst
-            (λ (l : List ℕ). Walking t from offset width inh syn r₀ c₀ l next (r + 1) c)
+            (λ (l : List ℕ). Walking t from offset width inh syn r₀ c₀ v₀ p l v next (r + 1) c)
             (sym (e ∙ ap₂ (λ (u v : ℕ). set note u (bitOr (getD note u 0) (2 ^ (v - 1)))) x y))
             (walk-rule tag)
 
-        pub walk-condition : (byte t at ≡ 4 → ⊥) → Walking t from offset width inh syn r₀ c₀ note next r (c + 1)
-        walk-condition n =
+        pub walk-condition :
+            (v′ : Spans) (part : List ℕ) → (byte t at ≡ 4 → ⊥) → part ≡ b′ → ((cs : List (Condition Occurrence)) → Spanned v p cs → Spanned v′ p (conditionOf part ∷ cs)) → Kept v v′ p
+            → Walking t from offset width inh syn r₀ c₀ v₀ p note v′ next r (c + 1)
+        walk-condition v′ part n is-part narrowed stays =
             let one : suc c ≡ c + 1 = omega arith in
             record {
               after = omega (arith, w .after);
@@ -227,8 +258,10 @@ module _ (t : List ℕ) (from offset width : ℕ) (inh syn : List ℕ) (r₀ c�
                     m .0,
                     conditionOf b′ ∷ m .1,
                     m .2,
-                    m .3 ∙ onward a (m .0) (m .1) (m .2) 5 (j .kinds fine n) ∙ ap (λ (k : ℕ). rest t (stateIn s a (m .0) (conditionOf b′ ∷ m .1) r k) next) one,
+                    subst (λ (x : List ℕ). Spanned v′ p (conditionOf x ∷ m .1)) is-part (narrowed (m .1) (m .3)),
+                    m .4 ∙ onward a (m .0) (m .1) (m .2) 5 (j .kinds fine n) ∙ ap (λ (k : ℕ). rest t (stateIn s a (m .0) (conditionOf b′ ∷ m .1) r k) next) one,
                   );
+              same = kept-then v₀ v v′ p (w .same) stays;
             }
 
     -- ---- the production is over
@@ -253,7 +286,7 @@ module _ (t : List ℕ) (from offset width : ℕ) (inh syn : List ℕ) (r₀ c�
               ∙ ap (λ x. elim x [ true ↦ wellFormed (stateIn s a rs cds r c) | false ↦ malformed 8 offset ]) e
 
       pub record Ended (u : Uses) : Type 0 where
-        pub read : UsesRead s from r₀ c₀ u
+        pub read : UsesRead s from r₀ c₀ v p u
         pub next : u .number ≡ 0 → Next t from u
         pub inside : u .at ≤ length t
 
@@ -262,7 +295,7 @@ module _ (t : List ℕ) (from offset width : ℕ) (inh syn : List ℕ) (r₀ c�
           record {
             read = λ a.
                 let q = w .walked a in
-                (q .0, q .1, q .3 ∙ sym (judged-fine 0 at _ refl), λ z. complete-in a (q .0) (q .1) (q .2) ∙ e);
+                (q .0, q .1, q .4 ∙ sym (judged-fine 0 at _ refl), (λ z. complete-in a (q .0) (q .1) (q .2) ∙ e), λ z. q .3);
             next = λ z. record { after = w .after; inside = w .inside; over = over; rules = w .rules; conditions = w .conditions };
             inside = w .inside;
           }
@@ -272,10 +305,11 @@ module _ (t : List ℕ) (from offset width : ℕ) (inh syn : List ℕ) (r₀ c�
                 let q = w .walked a in (
                   q .0,
                   q .1,
-                  q .3 ∙ missing a (q .0) (q .1) (complete-in a (q .0) (q .1) (q .2) ∙ e) ∙ sym (judged-refused 8 offset _ eight),
-                  λ z. absurd (eight z),
+                  q .4 ∙ missing a (q .0) (q .1) (complete-in a (q .0) (q .1) (q .2) ∙ e) ∙ sym (judged-refused 8 offset _ (nonzero 7)),
+                  (λ z. absurd (nonzero 7 z)),
+                  λ z. absurd (nonzero 7 z),
                 );
-            next = λ z. absurd (eight z);
+            next = λ z. absurd (nonzero 7 z);
             inside = l;
           }
 
