@@ -1,3 +1,4 @@
 pub mod Laws
 pub mod Symbols
 pub mod Leveling
+pub mod Schemes

@@ -3,19 +3,21 @@ use Prim.Native.Nat.{ℕ, zero, suc, _+_, _-_, _*_, _≤_, _<_}
 use native.Mathlib.Omega.{arith}
 use mathlib.Core.Path.{_≡_, refl, sym, ap, ap₂, _∙_, subst}
 use mathlib.Core.Bool.{Bool, true, false}
-use mathlib.Core.List.{List, [], _∷_, _++_}
-use lib.ListN.{length, getD, drop}
+use mathlib.Core.List.{List, [], _∷_, _++_, append-assoc}
+use lib.ListN.{length, getD, drop, length-append, drop-of-length-le}
+use lib.Seq.{drop-cons}
 use lib.Dec.{ltb, T}
 use Rattle.meaning.specs.Grammar.{Symbol, terminal, nonterminal, Production, Grammar, inh, syn, att, symbolAt, nonterminalCount}
 use Rattle.meaning.specs.Rules.{Known, WellFormed, WellFormedProduction}
 use Rattle.meaning.specs.Layout.{RulesAndConditions}
-use Rattle.meaning.specs.Scheme.{choose, synBetween, scheme, symbolsScheme}
-use Rattle.meaning.specs.Program.{symbolHead, schemeWords, expectsAt, schemeOffset, bodySize}
+use Rattle.meaning.specs.Scheme.{Instruction, choose, scheme, symbolsScheme, entryTests}
+use Rattle.meaning.specs.Program.{symbolHead, schemeWords, expectsAt, entryWords, schemeOffset, bodyWords, bodySize}
 use Rattle.meaning.specs.Table.{byte, symbolOf}
 use Rattle.theory_base.specs.Members.{getD-in}
+use Rattle.theory_program.specs.Code.{conditions-length}
 use Rattle.blocks.specs.Walk.{Listed, itemCount}
 use Rattle.bodies.specs.Levels.{Leveled, level}
-use Rattle.bodies.specs.Words.{symbolWords, endScheme, endWords}
+use Rattle.bodies.specs.Words.{symbolWords, aheadSize, scheme-symbol, expects-symbol, endScheme, endWords, scheme-end, expects-end}
 
 pub record Given (row fields inherited synthesized : List ℕ) : Type 0 where
   pub grammar : Grammar
@@ -133,7 +135,48 @@ pub record ExpectsFit (row fields inherited synthesized rules tests levels area 
 
 -- ---- the whole body
 
-pub record BodyFits (row fields inherited synthesized area : List ℕ) (a : ℕ) : Type 0 where
+pub record BodyFits (row fields inherited synthesized tests area : List ℕ) (a : ℕ) : Type 0 where
   pub given : Given row fields inherited synthesized
+  pub testCounts : (k : ℕ) → k < 13 → getD tests k 0 ≡ itemCount false k (listedOf given)
   pub room : a + bodySize (given .grammar) (given .production) ≤ 16384
   pub long : 16384 ≤ length area
+
+-- ---- laws
+
+module _ (g : Grammar) (p : Production) where
+  pub words-turn : (k : ℕ) → k < length (p .right) → restWords g p k ≡ symbolWords g p (suc k) (symbolAt p (suc k)) ++ restWords g p (k + 1)
+  unfolding restWords
+  words-turn k l =
+      let e : k + 1 ≡ suc k = omega arith in
+      rw e (ap (symbolsWords g p (suc k)) (drop-cons (p .right) k (terminal 0) l))
+
+  pub words-end : (k : ℕ) → length (p .right) ≤ k → restWords g p k ≡ []
+  unfolding restWords
+  words-end k l = ap (symbolsWords g p (suc k)) (drop-of-length-le (p .right) {i = k} l)
+
+  pub expects-turn : (k a : ℕ) → k < length (p .right) → restExpects g p k a ≡ (a + aheadSize g p (suc k) (symbolAt p (suc k))) ∷ restExpects g p (k + 1) (a + length (symbolWords g p (suc k) (symbolAt p (suc k))))
+  unfolding restExpects
+  expects-turn k a l =
+      let e : k + 1 ≡ suc k = omega arith in
+      rw e (ap (λ z. expectsAt a (symbolsScheme g p (suc k) z (endScheme g p))) (drop-cons (p .right) k (terminal 0) l) ∙ expects-symbol g p (suc k) (symbolAt p (suc k)) (symbolsScheme g p (suc (suc k)) (drop (suc k) (p .right)) (endScheme g p)) a)
+
+  pub expects-over : (k a : ℕ) → length (p .right) ≤ k → restExpects g p k a ≡ []
+  unfolding restExpects
+  expects-over k a l = ap (λ z. expectsAt a (symbolsScheme g p (suc k) z (endScheme g p))) (drop-of-length-le (p .right) {i = k} l) ∙ expects-end g p a
+
+  symbols-scheme : (k : ℕ) (xs : List Symbol) (rest : List Instruction) → schemeWords (symbolsScheme g p k xs rest) ≡ symbolsWords g p k xs ++ schemeWords rest
+  symbols-scheme k [] rest = refl
+  symbols-scheme k (x ∷ xs) rest =
+      scheme-symbol g p k x (symbolsScheme g p (suc k) xs rest)
+      ∙ (ap (λ z. symbolWords g p k x ++ z) (symbols-scheme (suc k) xs rest) ∙ sym (append-assoc (symbolWords g p k x) (symbolsWords g p (suc k) xs) (schemeWords rest)))
+
+  pub scheme-words : schemeWords (scheme g p) ≡ restWords g p 0 ++ endWords g p
+  unfolding restWords
+  scheme-words = symbols-scheme 1 (p .right) (endScheme g p) ∙ ap (λ z. symbolsWords g p 1 (p .right) ++ z) (scheme-end g p)
+
+  pub body-words : (a : ℕ) → bodyWords g a p ≡ restExpects g p 0 (a + schemeOffset g p) ++ (entryWords g p ++ (restWords g p 0 ++ endWords g p))
+  unfolding restExpects
+  body-words a = ap (λ z. expectsAt (a + schemeOffset g p) (scheme g p) ++ (entryWords g p ++ z)) scheme-words
+
+  pub body-size : bodySize g p ≡ length (p .right) + 3 * length (entryTests g p) + length (restWords g p 0) + length (endWords g p)
+  body-size = omega (arith, ap length scheme-words, length-append (restWords g p 0) (endWords g p), conditions-length (entryTests g p))

@@ -140,3 +140,170 @@ fn write_symbol(
         expect + 1,
     )
 }
+
+// The instructions of all symbols.
+fn write_symbols(
+    row: &[u8],
+    fields: &[u8],
+    inherited: &[u8],
+    synthesized: &[u8],
+    rules: &[u32],
+    tests: &[u32],
+    levels: &[u32],
+    area: &mut [u32],
+    address: usize,
+) -> usize
+    requires { ⌜ SymbolsFit (now row) (now fields) (now inherited) (now synthesized) (now rules) (now tests) (now levels) (now area) address ⌝ }
+    ensures { λ r. ⌜ ((x : SymbolsFit (now (row .entry)) (now (fields .entry)) (now (inherited .entry)) (now (synthesized .entry)) (now (rules .entry)) (now (tests .entry)) (now (levels .entry)) (now (area .entry)) address) → Wrote (now (area .entry)) (now (area .exit)) address r (restWords (x .prepared .given .grammar) (x .prepared .given .production) 0)) ⌝ }
+{
+    let size = value::byte_at(row, 1) as usize;
+    let mut k: usize = 0;
+    let mut to = address;
+    while k < size {
+        to = write_symbol(
+            row,
+            fields,
+            inherited,
+            synthesized,
+            rules,
+            tests,
+            levels,
+            k,
+            area,
+            to,
+        );
+        k += 1;
+    }
+    to
+}
+
+// The synthesized attributes of all symbols.
+fn whole_sum(
+    row: &[u8],
+    fields: &[u8],
+    inherited: &[u8],
+    synthesized: &[u8],
+    rules: &[u32],
+    tests: &[u32],
+    levels: &[u32],
+) -> u32
+    requires { ⌜ Prepared (now row) (now fields) (now inherited) (now synthesized) (now rules) (now tests) (now levels) ⌝ }
+    ensures { λ r. ⌜ ((x : Prepared (now (row .entry)) (now (fields .entry)) (now (inherited .entry)) (now (synthesized .entry)) (now (rules .entry)) (now (tests .entry)) (now (levels .entry))) → r ≡ synBetween (x .given .grammar) (x .given .production) 0 (length (rightOf (x .given)))) ⌝ }
+{
+    let size = value::byte_at(row, 1) as usize;
+    if size == 0 {
+        return 0;
+    }
+    let own = count_at(inherited, value::byte_at(row, size + 1));
+    number_at(levels, size) - own
+}
+
+// The left side's synthesized attributes, and the remove.
+fn write_end(
+    row: &[u8],
+    fields: &[u8],
+    inherited: &[u8],
+    synthesized: &[u8],
+    rules: &[u32],
+    tests: &[u32],
+    levels: &[u32],
+    area: &mut [u32],
+    address: usize,
+) -> usize
+    requires { ⌜ EndFits (now row) (now fields) (now inherited) (now synthesized) (now rules) (now tests) (now levels) (now area) address ⌝ }
+    ensures { λ r. ⌜ ((x : EndFits (now (row .entry)) (now (fields .entry)) (now (inherited .entry)) (now (synthesized .entry)) (now (rules .entry)) (now (tests .entry)) (now (levels .entry)) (now (area .entry)) address) → Wrote (now (area .entry)) (now (area .exit)) address r (endWords (x .prepared .given .grammar) (x .prepared .given .production))) ⌝ }
+{
+    let sum = whole_sum(row, fields, inherited, synthesized, rules, tests, levels);
+    let own = value::byte_at(inherited, value::byte_at(row, 0) as usize);
+    let count = number_at(rules, 0);
+    let remove = blocks::write_block(fields, true, 0, count, sum, levels, area, address);
+    area[remove] = 5 + 8 * (own + sum);
+    remove + 1
+}
+
+// ---- the addresses of the expects of a scheme
+
+fn write_expects(
+    row: &[u8],
+    fields: &[u8],
+    inherited: &[u8],
+    synthesized: &[u8],
+    rules: &[u32],
+    tests: &[u32],
+    levels: &[u32],
+    area: &mut [u32],
+    address: usize,
+    scheme: usize,
+) -> usize
+    requires { ⌜ ExpectsFit (now row) (now fields) (now inherited) (now synthesized) (now rules) (now tests) (now levels) (now area) address scheme ⌝ }
+    ensures { λ r. ⌜ ((x : ExpectsFit (now (row .entry)) (now (fields .entry)) (now (inherited .entry)) (now (synthesized .entry)) (now (rules .entry)) (now (tests .entry)) (now (levels .entry)) (now (area .entry)) address scheme) → Wrote (now (area .entry)) (now (area .exit)) address r (restExpects (x .prepared .given .grammar) (x .prepared .given .production) 0 scheme)) ⌝ }
+{
+    let size = value::byte_at(row, 1) as usize;
+    let mut k: usize = 0;
+    let mut at = scheme;
+    while k < size {
+        let symbol = value::byte_at(row, k + 2);
+        let all = count_at(inherited, symbol) + count_at(synthesized, symbol);
+        let ahead = add_size(all) + block_size(true, number_at(rules, k + 1));
+        let behind = block_size(false, number_at(tests, k + 1));
+        area[address + k] = (at + ahead) as u32;
+        at = at + ahead + 1 + behind;
+        k += 1;
+    }
+    address + size
+}
+
+// ---- the body
+
+pub fn write_body(
+    row: &[u8],
+    fields: &[u8],
+    inherited: &[u8],
+    synthesized: &[u8],
+    tests: &[u32],
+    area: &mut [u32],
+    address: usize,
+) -> usize
+    requires { ⌜ BodyFits (now row) (now fields) (now inherited) (now synthesized) (now tests) (now area) address ⌝ }
+    ensures { λ r. ⌜ ((x : BodyFits (now (row .entry)) (now (fields .entry)) (now (inherited .entry)) (now (synthesized .entry)) (now (tests .entry)) (now (area .entry)) address) → Wrote (now (area .entry)) (now (area .exit)) address r (bodyWords (x .given .grammar) address (x .given .production))) ⌝ }
+{
+    let rules = blocks::count_items(fields, true);
+    let levels = find_levels(row, fields, inherited, synthesized);
+    let size = value::byte_at(row, 1) as usize;
+    let scheme = address + size + 3 * number_at(tests, 0) as usize;
+    let entry = write_expects(
+        row,
+        fields,
+        inherited,
+        synthesized,
+        &rules,
+        tests,
+        &levels,
+        area,
+        address,
+        scheme,
+    );
+    let first = blocks::write_items(fields, false, 0, 0, &levels, area, entry);
+    let end = write_symbols(
+        row,
+        fields,
+        inherited,
+        synthesized,
+        &rules,
+        tests,
+        &levels,
+        area,
+        first,
+    );
+    write_end(
+        row,
+        fields,
+        inherited,
+        synthesized,
+        &rules,
+        tests,
+        &levels,
+        area,
+        end,
+    )
+}
