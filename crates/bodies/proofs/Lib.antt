@@ -2,3 +2,4 @@ pub mod Laws
 pub mod Symbols
 pub mod Leveling
 pub mod Schemes
+pub mod Bodies

@@ -68,7 +68,7 @@ fn block_size(rules: bool, n: u32) -> usize
 
 pub fn find_levels(row: &[u8], fields: &[u8], inherited: &[u8], synthesized: &[u8]) -> [u32; 13]
     requires { ⌜ Given (now row) (now fields) (now inherited) (now synthesized) ⌝ }
-    ensures { λ r. ⌜ ((x : Given (now (row .entry)) (now (fields .entry)) (now (inherited .entry)) (now (synthesized .entry))) → Leveled (x .grammar) (x .production) r) ⌝ }
+    ensures { λ r. ⌜ (length r ≡ 13) × ((x : Given (now (row .entry)) (now (fields .entry)) (now (inherited .entry)) (now (synthesized .entry))) → Leveled (x .grammar) (x .production) r) ⌝ }
 {
     let mut levels = [0u32; 13];
     let size = value::byte_at(row, 1) as usize;

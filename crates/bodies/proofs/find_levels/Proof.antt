@@ -80,7 +80,7 @@ loop-again c = (omega arith, omega arith, simp length-set (c .before .before .be
 
 -- src/lib.rt:69:1
 returns : tie.Need-returns Inv-loop μ-loop
-returns c = λ x. L.levels-end x (c .before .loop .inv .3 x) (omega (arith, c .before .before .byte-at .ensures .0, x .size))
+returns c = (c .before .loop .inv .2, λ x. L.levels-end x (c .before .loop .inv .3 x) (omega (arith, c .before .before .byte-at .ensures .0, x .size)))
 
 pub find-levels-spec : {M : Type 1} → statement M
 find-levels-spec =
