@@ -12,7 +12,7 @@ ghost use Rattle.bodies.specs.Given.{Given, rightOf, countAt, headOf, Pr
 // ---- numbers
 
 // 0 past the end.
-fn number_at(numbers: &[u32], at: usize) -> u32
+pub fn number_at(numbers: &[u32], at: usize) -> u32
     ensures { λ r. ⌜ r ≡ getD (now (numbers .entry)) at 0 ⌝ }
 {
     if numbers.len() <= at {

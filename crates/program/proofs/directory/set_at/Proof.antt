@@ -1,0 +1,24 @@
+use borrow.Author.Needs.{needs}
+use Rattle.program.proofs.directory.set_at.Statement.{statement}
+use Rattle.program.proofs.directory.set_at.Tie as tie
+use Rattle.program.proofs.directory.set_at.Reads as reads
+use Rattle.program.proofs.directory.set_at.Lts as lts
+
+-- src/directory.rt:15:9
+returns : tie.Need-returns
+returns c = ?
+
+-- src/directory.rt:17:5
+mul-result : tie.Need-mul-result
+mul-result c = search needs
+
+-- src/directory.rt:17:5
+shared-slice-read-result : tie.Need-shared-slice-read-result
+shared-slice-read-result c = search needs
+
+-- src/directory.rt:11:1
+returns-2 : tie.Need-returns-2
+returns-2 c = search needs
+
+pub set-at-spec : {M : Type 1} → statement M
+set-at-spec = tie.close (tie.spec returns mul-result shared-slice-read-result returns-2)
