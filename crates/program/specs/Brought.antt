@@ -63,7 +63,7 @@ abbrev pub fieldsAt : List ℕ → ℕ → ℕ → List ℕ
 fieldsAt table from to = take (to - from) (drop from table)
 
 module _ {table rows inherited synthesized offsets sets : List ℕ} {terminals nonterminals start result count : ℕ} (x : Brought table rows inherited synthesized offsets sets terminals nonterminals start result count) where
-  abbrev g : Grammar
+  abbrev pub g : Grammar
   g = grammarIn x
 
   pub well-formed : WellFormed g
@@ -73,19 +73,19 @@ module _ {table rows inherited synthesized offsets sets : List ℕ} {terminals n
   count-is = x .isCount ∙ sym (length-map (reverse (x .state .entries)) productionOf ∙ length-reverse (x .state .entries))
 
   module _ (bytes : Bytes table) (p : ℕ) (l : p < count) where
-    abbrev pr : Production
+    abbrev pub pr : Production
     pr = productionAt g p
 
-    abbrev e : Entry
+    abbrev pub e : Entry
     e = getD (reverse (x .state .entries)) p noEntry
 
-    listed : p < length (x .state .entries)
+    pub listed : p < length (x .state .entries)
     listed = omega (arith, x .isCount)
 
-    is-production : pr ≡ productionOf e
+    pub is-production : pr ≡ productionOf e
     is-production = read-places table (x .state) (x .read) .isProduction p listed
 
-    abbrev stretch : StretchAt table e (getD (map (λ d. d .offset) (reverse (x .state .entries))) (suc p) (length table))
+    abbrev pub stretch : StretchAt table e (getD (map (λ d. d .offset) (reverse (x .state .entries))) (suc p) (length table))
     stretch = read-stretch table (x .state) bytes (x .read) p listed
 
     -- the next production's offset, or the table's end
@@ -106,41 +106,42 @@ module _ {table rows inherited synthesized offsets sets : List ℕ} {terminals n
     from-is : fieldsFrom rows offsets p ≡ e .offset + length (field 3 (productionBytes (productionOf e)))
     from-is = omega (arith, x .offset p l, x .size p l, head-length)
 
-    to-is : stretchEnd table offsets count p ≡ fieldsFrom rows offsets p + length (stretch .body)
+    pub to-is : stretchEnd table offsets count p ≡ fieldsFrom rows offsets p + length (stretch .body)
     to-is = omega (arith, end-is, stretch .isEnd, from-is, length-append (field 3 (productionBytes (productionOf e))) (stretch .body))
 
-    behind : drop (fieldsFrom rows offsets p) table ≡ stretch .body ++ stretch .rest
-    behind =
-        ap (λ n. drop n table) from-is
-        ∙ (sym (drop-drop (length (field 3 (productionBytes (productionOf e)))) (e .offset) table)
-        ∙ (ap (drop (length (field 3 (productionBytes (productionOf e))))) (stretch .isHere) ∙ drop-at (field 3 (productionBytes (productionOf e))) (stretch .body ++ stretch .rest) _ refl))
+    module _ (from to : ℕ) (ef : from ≡ fieldsFrom rows offsets p) (et : to ≡ stretchEnd table offsets count p) where
+      behind : drop from table ≡ stretch .body ++ stretch .rest
+      behind =
+          ap (λ n. drop n table) (ef ∙ from-is)
+          ∙ (sym (drop-drop (length (field 3 (productionBytes (productionOf e)))) (e .offset) table)
+          ∙ (ap (drop (length (field 3 (productionBytes (productionOf e))))) (stretch .isHere) ∙ drop-at (field 3 (productionBytes (productionOf e))) (stretch .body ++ stretch .rest) _ refl))
 
-    fields-are : fieldsAt table (fieldsFrom rows offsets p) (stretchEnd table offsets count p) ≡ stretch .body
-    fields-are = ap (take (stretchEnd table offsets count p - fieldsFrom rows offsets p)) behind ∙ take-at (stretch .body) (stretch .rest) (stretchEnd table offsets count p - fieldsFrom rows offsets p) (omega (arith, to-is))
+      pub fields-are : fieldsAt table from to ≡ stretch .body
+      fields-are = ap (take (to - from)) behind ∙ take-at (stretch .body) (stretch .rest) (to - from) (omega (arith, ef, et, to-is))
 
-    pub fields-place : (fieldsFrom rows offsets p ≤ stretchEnd table offsets count p) × (stretchEnd table offsets count p ≤ length table)
-    fields-place = (omega (arith, to-is), omega (arith, to-is, from-is, head-length, ap length (stretch .isHere), length-append (field 3 (productionBytes (productionOf e))) (stretch .body ++ stretch .rest), length-append (stretch .body) (stretch .rest), length-drop (e .offset) table))
+      pub fields-place : (from ≤ to) × (to ≤ length table)
+      fields-place = (omega (arith, ef, et, to-is), omega (arith, et, to-is, from-is, head-length, ap length (stretch .isHere), length-append (field 3 (productionBytes (productionOf e))) (stretch .body ++ stretch .rest), length-append (stretch .body) (stretch .rest), length-drop (e .offset) table))
 
-    row-byte : (i : ℕ) → i < 16 → byte (rowAt rows p) i ≡ getD rows (16 * p + i) 0
-    row-byte i m = getD-take (16 * p + 16 - 16 * p) (drop (16 * p) rows) i 0 (omega arith) ∙ getD-drop (16 * p) rows i 0
+      pub row-byte : (i : ℕ) → i < 16 → byte (rowAt rows p) i ≡ getD rows (16 * p + i) 0
+      row-byte i m = getD-take (16 * p + 16 - 16 * p) (drop (16 * p) rows) i 0 (omega arith) ∙ getD-drop (16 * p) rows i 0
 
-    pub given-at : Given (rowAt rows p) (fieldsAt table (fieldsFrom rows offsets p) (stretchEnd table offsets count p)) inherited synthesized
-    given-at = record {
-      grammar = g;
-      production = pr;
-      wellFormed = well-formed;
-      ofGrammar = fits;
-      left = row-byte 0 (omega arith) ∙ (ap (λ i. getD rows i 0) first ∙ x .left p l);
-      size = row-byte 1 (omega arith) ∙ x .size p l;
-      symbols = λ k m. ap symbolOf (row-byte (k + 2) (omega (arith, fits .short))) ∙ x .symbols p k l m;
-      inherit = λ n m. x .inherit n (omega (arith, x .isNonterminals));
-      synthesize = λ n m. x .synthesize n (omega (arith, x .isNonterminals));
-      own = subst (λ q. RulesAndConditions (q .rules) (q .conditions) (fieldsAt table (fieldsFrom rows offsets p) (stretchEnd table offsets count p))) (sym is-production) (subst (λ z. RulesAndConditions (productionOf e .rules) (productionOf e .conditions) z) (sym fields-are) (stretch .own));
-      short = omega (arith, ap length fields-are, fields-place .1, to-is, table-reads table (x .state) (x .read) .0);
-    }
-      where
-        fits : WellFormedProduction g pr
-        fits = well-formed-at g well-formed p (omega (arith, count-is))
+      unfoldable pub given-at : Given (rowAt rows p) (fieldsAt table from to) inherited synthesized
+      given-at = record {
+        grammar = g;
+        production = pr;
+        wellFormed = well-formed;
+        ofGrammar = fits;
+        left = row-byte 0 (omega arith) ∙ (ap (λ i. getD rows i 0) first ∙ x .left p l);
+        size = row-byte 1 (omega arith) ∙ x .size p l;
+        symbols = λ k m. ap symbolOf (row-byte (k + 2) (omega (arith, fits .short))) ∙ x .symbols p k l m;
+        inherit = λ n m. x .inherit n (omega (arith, x .isNonterminals));
+        synthesize = λ n m. x .synthesize n (omega (arith, x .isNonterminals));
+        own = subst (λ q. RulesAndConditions (q .rules) (q .conditions) (fieldsAt table from to)) (sym is-production) (subst (λ z. RulesAndConditions (productionOf e .rules) (productionOf e .conditions) z) (sym fields-are) (stretch .own));
+        short = omega (arith, ap length fields-are, ef, et, fields-place .1, to-is, table-reads table (x .state) (x .read) .0);
+      }
+        where
+          fits : WellFormedProduction g pr
+          fits = well-formed-at g well-formed p (omega (arith, count-is))
 
-        first : 16 * p + 0 ≡ 16 * p
-        first = omega arith
+          first : 16 * p + 0 ≡ 16 * p
+          first = omega arith

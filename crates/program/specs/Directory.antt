@@ -31,7 +31,7 @@ pub record Alternatives (rows sets : List ℕ) (nonterminals count : ℕ) : Type
   pub left : (p : ℕ) → p < count → getD rows (16 * p) 0 ≡ productionAt grammar p .left
   pub starting : (p u : ℕ) → p < count → u < 64 → eqb (getD sets p 0 / 2 ^ u % 2) 1 ≡ has (starts grammar (productionAt grammar p)) u
 
-pub alternatives : {table rows inherited synthesized offsets sets : List ℕ} {terminals nonterminals start result count : ℕ} → Brought table rows inherited synthesized offsets sets terminals nonterminals start result count → Alternatives rows sets nonterminals count
+abbrev pub alternatives : {table rows inherited synthesized offsets sets : List ℕ} {terminals nonterminals start result count : ℕ} → Brought table rows inherited synthesized offsets sets terminals nonterminals start result count → Alternatives rows sets nonterminals count
 alternatives x = record { grammar = grammarIn x; wellFormed = well-formed x; isNonterminals = x .isNonterminals; isCount = count-is x; left = x .left; starting = x .starting }
 
 abbrev pub zeros : ℕ → List ℕ

@@ -9,7 +9,7 @@ ghost use Rattle.program.specs.Directory.{Alternatives, zeros, markIf, M
 
 // 0 past the end.
 pub fn set_at(sets: &[u64], at: usize) -> u64
-    ensures { λ r. ⌜ r ≡ getD (now (sets .entry)) at 0 ⌝ }
+    ensures { λ r. ⌜ (r ≡ getD (now (sets .entry)) at 0) × (r < 18446744073709551616) ⌝ }
 {
     if sets.len() <= at {
         return 0;

@@ -1,4 +1,7 @@
+use native.Mathlib.Omega.{arith}
 use borrow.Author.Needs.{needs}
+use Rattle.program.proofs.Laws as L
+use lib.ListN.{length-set}
 use Rattle.program.proofs.put_four.Statement.{statement}
 use Rattle.program.proofs.put_four.Tie as tie
 use Rattle.program.proofs.put_four.Reads as reads
@@ -22,7 +25,7 @@ mul-area-2 c = search needs
 
 -- src/lib.rt:30:5
 slice-write-area-2 : tie.Need-slice-write-area-2
-slice-write-area-2 c = ?
+slice-write-area-2 c = simp length-set (omega arith)
 
 -- src/lib.rt:31:10
 add-area-2 : tie.Need-add-area-2
@@ -34,7 +37,7 @@ mul-area-3 c = search needs
 
 -- src/lib.rt:31:5
 slice-write-area-3 : tie.Need-slice-write-area-3
-slice-write-area-3 c = ?
+slice-write-area-3 c = simp length-set (omega arith)
 
 -- src/lib.rt:32:10
 add-area-3 : tie.Need-add-area-3
@@ -46,7 +49,7 @@ mul-area-4 c = search needs
 
 -- src/lib.rt:32:5
 slice-write-area-4 : tie.Need-slice-write-area-4
-slice-write-area-4 c = ?
+slice-write-area-4 c = simp length-set (omega arith)
 
 -- src/lib.rt:33:5
 add-result : tie.Need-add-result
@@ -58,7 +61,7 @@ same-length c = search needs
 
 -- src/lib.rt:25:1
 returns : tie.Need-returns
-returns c = ?
+returns c = L.four-written _ _ _ _ _ _
 
 pub put-four-spec : {M : Type 1} → statement M
 put-four-spec =

@@ -1,4 +1,6 @@
+use native.Mathlib.Omega.{arith}
 use borrow.Author.Needs.{needs}
+use Rattle.program.proofs.Laws as L
 use Rattle.program.proofs.records.stretch_end.Statement.{statement}
 use Rattle.program.proofs.records.stretch_end.Tie as tie
 use Rattle.program.proofs.records.stretch_end.Reads as reads
@@ -23,11 +25,11 @@ cast-result c = search needs
 
 -- src/records.rt:76:9
 returns : tie.Need-returns
-returns c = ?
+returns c = L.end-next _ _ _ _ _ (omega arith) (c .number-at .ensures)
 
 -- src/records.rt:71:1
 returns-2 : tie.Need-returns-2
-returns-2 c = ?
+returns-2 c = L.end-last _ _ _ _ (omega arith)
 
 pub stretch-end-spec : {M : Type 1} → statement M
 stretch-end-spec =
