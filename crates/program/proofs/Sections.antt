@@ -48,18 +48,22 @@ module _ {rows sets : List ℕ} {nonterminals count : ℕ} (x : Alternatives row
 
 module _ {rows sets : List ℕ} {nonterminals count : ℕ} {old : List ℕ} (long : 16384 ≤ length old) where
   pub directory-start : {area : List ℕ} → area ≡ patch old 8 (zeros (8 + 64 * nonterminals - 8)) → DirectoryGo rows sets nonterminals count old count area
-  directory-start e = record { go = λ x.
-    let same : 8 + 64 * nonterminals - 8 ≡ 64 * nonterminalCount (x .grammar) = omega (arith, x .isNonterminals) in
-    subst (λ z. Filled (x .grammar) old z count) (sym (e ∙ ap (λ z. patch old 8 (zeros z)) same)) (filled-start (x .grammar) old (omega (arith, long, x .wellFormed .nonterminals .1)) count (omega (arith, x .isCount))) }
+  directory-start e = record {
+    go = λ x.
+        let same : 8 + 64 * nonterminals - 8 ≡ 64 * nonterminalCount (x .grammar) = omega (arith, x .isNonterminals) in
+        subst (λ z. Filled (x .grammar) old z count) (sym (e ∙ ap (λ z. patch old 8 (zeros z)) same)) (filled-start (x .grammar) old (omega (arith, long, x .wellFormed .nonterminals .1)) count (omega (arith, x .isCount)));
+  }
 
   module _ {p : ℕ} {area : List ℕ} (d : DirectoryGo rows sets nonterminals count old p area) where
     pub directory-size : Alternatives rows sets nonterminals count → length area ≡ length old
     directory-size x = d .go x .size
 
     pub directory-turn : {new : List ℕ} {b s : ℕ} → 0 < p → p ≤ count → b ≡ getD rows (16 * (p - 1)) 0 → s ≡ getD sets (p - 1) 0 → Marked area new (8 + 64 * b) s p 64 → DirectoryGo rows sets nonterminals count old (p - 1) new
-    directory-turn {new} {b} {s} l m eb es k = record { go = λ x.
-      let e : p ≡ p - 1 + 1 = omega arith in
-      filled-turn x (p - 1) b (omega arith) eb (subst (λ z. Filled (x .grammar) old area z) e (d .go x)) (subst (λ z. Marked area new (8 + 64 * b) (getD sets (p - 1) 0) z 64) e (subst (λ z. Marked area new (8 + 64 * b) z p 64) es k)) }
+    directory-turn {new} {b} {s} l m eb es k = record {
+      go = λ x.
+          let e : p ≡ p - 1 + 1 = omega arith in
+          filled-turn x (p - 1) b (omega arith) eb (subst (λ z. Filled (x .grammar) old area z) e (d .go x)) (subst (λ z. Marked area new (8 + 64 * b) (getD sets (p - 1) 0) z 64) e (subst (λ z. Marked area new (8 + 64 * b) z p 64) es k));
+    }
 
     pub directory-end : p ≡ 0 → (x : Alternatives rows sets nonterminals count) → Wrote old area 8 (8 + 64 * nonterminals) (directory (x .grammar))
     directory-end z x =
@@ -171,13 +175,15 @@ end-is g = omega (arith, length-append (segmentWords g) (directory g ++ allProdu
 module _ {table rows inherited synthesized offsets sets : List ℕ} {sizes : Sizes} {old : List ℕ} (long : 16384 ≤ length old) where
   pub productions-start : ProductionsGo table rows inherited synthesized offsets sets sizes old 0 old (8 + 64 * sizes .nonterminals) (8 + 64 * sizes .nonterminals + 8 * sizes .productions)
   unfolding restRecords restBodies
-  productions-start = record { go = λ x.
-    let g = grammarIn x in
-    let r : recordsAddress g ≡ 8 + 64 * sizes .nonterminals = omega (arith, x .isNonterminals) in
-    let a : bodiesAddress g ≡ 8 + 64 * sizes .nonterminals + 8 * sizes .productions = omega (arith, x .isNonterminals, count-is x) in
-    subst (λ z. Growing old (recordsAddress g) (allProductions g) old z (8 + 64 * sizes .nonterminals + 8 * sizes .productions) (restRecords g 0 (8 + 64 * sizes .nonterminals + 8 * sizes .productions)) (restBodies g 0 (8 + 64 * sizes .nonterminals + 8 * sizes .productions))) r
-    (subst (λ z. Growing old (recordsAddress g) (allProductions g) old (recordsAddress g) z (restRecords g 0 z) (restBodies g 0 z)) a
-    (growing-start old (recordsAddress g) (bodiesAddress g) (recordsFrom g (bodiesAddress g) 0 (g .productions)) (bodiesFrom g (bodiesAddress g) (g .productions)) (omega (arith, records-length g (bodiesAddress g) 0 (g .productions))))) }
+  productions-start = record {
+    go = λ x.
+        let g = grammarIn x in
+        let r : recordsAddress g ≡ 8 + 64 * sizes .nonterminals = omega (arith, x .isNonterminals) in
+        let a : bodiesAddress g ≡ 8 + 64 * sizes .nonterminals + 8 * sizes .productions = omega (arith, x .isNonterminals, count-is x) in
+        subst (λ z. Growing old (recordsAddress g) (allProductions g) old z (8 + 64 * sizes .nonterminals + 8 * sizes .productions) (restRecords g 0 (8 + 64 * sizes .nonterminals + 8 * sizes .productions)) (restBodies g 0 (8 + 64 * sizes .nonterminals + 8 * sizes .productions))) r
+        (subst (λ z. Growing old (recordsAddress g) (allProductions g) old (recordsAddress g) z (restRecords g 0 z) (restBodies g 0 z)) a
+        (growing-start old (recordsAddress g) (bodiesAddress g) (recordsFrom g (bodiesAddress g) 0 (g .productions)) (bodiesFrom g (bodiesAddress g) (g .productions)) (omega (arith, records-length g (bodiesAddress g) 0 (g .productions)))));
+  }
 
   module _ {p : ℕ} {area : List ℕ} {at body : ℕ} (s : ProductionsGo table rows inherited synthesized offsets sets sizes old p area at body) where
     pub productions-size : Outlined table rows inherited synthesized offsets sets sizes → length area ≡ length old
@@ -209,12 +215,14 @@ module _ {table rows inherited synthesized offsets sets : List ℕ} {sizes : Siz
 
       pub productions-turn : {new : List ℕ} {end : ℕ} → ((y : ProductionFits table rows inherited synthesized offsets sets sizes p area at body) → ProductionWrote (grammarIn (y .brought)) p area new at body end) → ProductionsGo table rows inherited synthesized offsets sets sizes old (p + 1) new (at + 8) end
       unfolding production-fits
-      productions-turn {new} {end} f = record { go = λ x.
-        let g = grammarIn x in
-        let w = f (production-fits x) in
-        let e : body + bodySize g (productionAt g p) ≡ end = omega (arith, w .bodied .address, body-length g body (productionAt g p)) in
-        subst (λ z. Growing old (recordsAddress g) (allProductions g) new (at + 8) end (restRecords g (p + 1) z) (restBodies g (p + 1) z)) e
-        (growing-turn (growing-as (records-turn g (well-formed x) p body (listed x)) (bodies-turn g (well-formed x) p body (listed x)) (s .go x)) (w .recorded) (w .bodied)) }
+      productions-turn {new} {end} f = record {
+        go = λ x.
+            let g = grammarIn x in
+            let w = f (production-fits x) in
+            let e : body + bodySize g (productionAt g p) ≡ end = omega (arith, w .bodied .address, body-length g body (productionAt g p)) in
+            subst (λ z. Growing old (recordsAddress g) (allProductions g) new (at + 8) end (restRecords g (p + 1) z) (restBodies g (p + 1) z)) e
+            (growing-turn (growing-as (records-turn g (well-formed x) p body (listed x)) (bodies-turn g (well-formed x) p body (listed x)) (s .go x)) (w .recorded) (w .bodied));
+      }
 
     pub productions-end : sizes .productions ≤ p → (x : Outlined table rows inherited synthesized offsets sets sizes) → Wrote old area (recordsAddress (grammarIn x)) body (allProductions (grammarIn x))
     productions-end l x =
