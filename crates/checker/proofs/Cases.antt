@@ -14,6 +14,7 @@ use Rattle.meaning.specs.Judgement.{accepted, rejected, entryOffset}
 use Rattle.meaning.specs.Decide.{judge, verdictOf}
 use Rattle.meaning.specs.PublicCalls.{Checked, usable, unusable, checkedAs, check, Stretch, cut, stretchEnd, stretchOf}
 use Rattle.theory_table.specs.Places.{Places, read-places}
+use Rattle.theory_table.specs.Reading.{table-reads}
 use Rattle.table.specs.declared.Sizes.{Sizes}
 use Rattle.checker.specs.Intervals.{endIn, Below, Offsets}
 use Rattle.checker.specs.Judging.{Brought, Answered, Judges}
@@ -167,12 +168,12 @@ module _ (t : List ℕ) (sizes : Sizes) (inh syn rows offsets sets : List ℕ) (
         ends l (no m) = let w = end-last (length t) n offsets p (omega arith) in (omega (arith, below t n offsets known p l, w), omega (arith, w))
 
         go : Dec (p < n) → Inside t (spanIn (length t) n offsets p)
-        go (yes l) = subst (Inside t) (span-found (length t) n offsets p (endIn (length t) n offsets p) l refl) (ends l (decLt (p + 1) n))
+        go (yes l) = subst (Inside t) (span-found (length t) n offsets p (endIn (length t) n offsets p) l refl) (let e = ends l (decLt (p + 1) n) in (e .0, e .1, omega (arith, e .1, table-reads t s (x .brought .isRead) .0)))
         go (no l) = subst (Inside t) (span-missing (length t) n offsets p (omega arith)) tt
 
 -- ---- by the span's cases
 
-pub inside-within : (t : List ℕ) (r : Span) (from to : ℕ) → r ≡ Within from to → Inside t r → (from < to) × (to ≤ length t)
+pub inside-within : (t : List ℕ) (r : Span) (from to : ℕ) → r ≡ Within from to → Inside t r → (from < to) × (to ≤ length t) × (to ≤ 32768)
 inside-within t r from to e i = subst (Inside t) e i
 
 pub stretch-within : (t : List ℕ) (p : ℕ) (r : Span) (from to : ℕ) → r ≡ Within from to → r ≡ spanOf t p → (n o : ℕ) → stretchIs (cut t from to) n o ≡ stretchOf t p n o

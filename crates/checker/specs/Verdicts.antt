@@ -40,9 +40,9 @@ spanAs t p (unusable number offset) = Nowhere number offset
 unfoldable pub spanOf : List ℕ → ℕ → Span
 spanOf t p = spanAs t p (check t)
 
--- a span lies in the table, and is not empty
+-- a span lies in the table, which is no longer than 01 allows, and is not empty
 abbrev pub Inside : List ℕ → Span → Type 0
-Inside t (Within from to) = (from < to) × (to ≤ length t)
+Inside t (Within from to) = (from < to) × (to ≤ length t) × (to ≤ 32768)
 Inside t (Nowhere number offset) = Unit {0}
 
 -- the span of production p of n with these offsets
