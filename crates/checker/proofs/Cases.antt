@@ -15,9 +15,10 @@ use Rattle.meaning.specs.Decide.{judge, verdictOf}
 use Rattle.meaning.specs.PublicCalls.{Checked, usable, unusable, checkedAs, check, Stretch, cut, stretchEnd, stretchOf}
 use Rattle.theory_table.specs.ReadWellFormed.{read-well-formed}
 use Rattle.theory_table.specs.Places.{Places, read-places}
+use Rattle.theory_table.specs.Reading.{table-reads}
 use Rattle.table.specs.declared.Sizes.{Sizes}
 use Rattle.checker.specs.Judging.{Brought, Answered, Judges}
-use Rattle.checker.specs.Verdicts.{stretchBy, stretchIs, Inside, endIn, Below, spanIn}
+use Rattle.checker.specs.Verdicts.{stretchBy, stretchIs, spanWhere, spanAs, spanOf, Inside, endIn, Below, spanIn}
 use Rattle.checker.specs.declared.judging.Judged.{Judged}
 use Rattle.checker.specs.declared.judging.Judged.the-variants.{Usable, Unusable}
 use Rattle.checker.specs.declared.spans.Span.{Span}
@@ -102,25 +103,22 @@ pub span-found : (long n : ℕ) (offsets : List ℕ) (p to : ℕ) → p < n → 
 unfolding spanIn
 span-found long n offsets p to l e = rw (spanIn, lt-ltb p n l) (ap (Within (getD offsets p 0)) e)
 
-abbrev stretchWhere : List ℕ → State → ℕ → ℕ → ℕ → Bool → Stretch
-stretchWhere t s p n o true = stretchIs (cut t (entryOffset s p) (stretchEnd t s p)) n o
-stretchWhere t s p n o false = stretchIs [] 14 0
+pub span-refused : (t : List ℕ) (p m f : ℕ) → check t ≡ unusable m f → Nowhere m f ≡ spanOf t p
+unfolding spanOf
+span-refused t p m f e = sym (ap (spanAs t p) e)
 
-stretch-read : (t : List ℕ) (s : State) (p n o : ℕ) → check t ≡ usable s → stretchOf t p n o ≡ stretchWhere t s p n o (ltb p (length (s .entries)))
-stretch-read t s p n o e = go (check t) e
+-- the stretch that a production's span is
+stretch-span : (t : List ℕ) (p n o : ℕ) → stretchBy t (spanOf t p) n o ≡ stretchOf t p n o
+unfolding spanOf
+stretch-span t p n o = go (check t)
   where
-    by : (b : Bool) → _≡_ {A = Stretch} (elim b [ true ↦ record { part = cut t (entryOffset s p) (stretchEnd t s p); number = n; offset = o } | false ↦ record { part = []; number = 14; offset = 0 } ]) (stretchWhere t s p n o b)
-    by true = refl
-    by false = refl
+    by : (s : State) (b : Bool) → stretchBy t (spanWhere t s p b) n o ≡ (elim b [ true ↦ record { part = cut t (entryOffset s p) (stretchEnd t s p); number = n; offset = o } | false ↦ record { part = []; number = 14; offset = 0 } ])
+    by s true = refl
+    by s false = refl
 
-    go : (k : Checked) → k ≡ usable s → _≡_ {A = Stretch} (elim k [ unusable m f ↦ record { part = []; number = m; offset = f } | usable s ↦ elim (ltb p (length (s .entries))) [ true ↦ record { part = cut t (entryOffset s p) (stretchEnd t s p); number = n; offset = o } | false ↦ record { part = []; number = 14; offset = 0 } ] ]) (stretchWhere t s p n o (ltb p (length (s .entries))))
-    go k q = rw q (by (ltb p (length (s .entries))))
-
-pub stretch-refused : (t : List ℕ) (p m f n o : ℕ) → check t ≡ unusable m f → stretchBy t (Nowhere m f) n o ≡ stretchOf t p n o
-stretch-refused t p m f n o e = go (check t) e
-  where
-    go : (k : Checked) → k ≡ unusable m f → _≡_ {A = Stretch} (stretchIs [] m f) (elim k [ unusable m f ↦ record { part = []; number = m; offset = f } | usable s ↦ elim (ltb p (length (s .entries))) [ true ↦ record { part = cut t (entryOffset s p) (stretchEnd t s p); number = n; offset = o } | false ↦ record { part = []; number = 14; offset = 0 } ] ])
-    go k q = rw q refl
+    go : (k : Checked) → stretchBy t (spanAs t p k) n o ≡ (elim k [ unusable m f ↦ record { part = []; number = m; offset = f } | usable s ↦ elim (ltb p (length (s .entries))) [ true ↦ record { part = cut t (entryOffset s p) (stretchEnd t s p); number = n; offset = o } | false ↦ record { part = []; number = 14; offset = 0 } ] ])
+    go (usable s) = by s (ltb p (length (s .entries)))
+    go (unusable m f) = refl
 
 module _ (t : List ℕ) (sizes : Sizes) (inh syn rows offsets sets : List ℕ) (x : Accepts t sizes inh syn rows offsets sets) where
   abbrev s : State
@@ -160,17 +158,18 @@ module _ (t : List ℕ) (sizes : Sizes) (inh syn rows offsets sets : List ℕ) (
             sym (end-next (length t) n offsets p m) ∙ offset (p + 1) m ∙ ap (entryOffset s) e ∙ sym (by true (lt-ltb (suc p) (length (s .entries)) (omega (arith, counted))))
         go (no m) = sym (end-last (length t) n offsets p (omega arith)) ∙ sym (by false (le-ltb (suc p) (length (s .entries)) (omega (arith, counted))))
 
-    pub stretch-said : (r : Span) → r ≡ spanIn (length t) n offsets p → (k o : ℕ) → stretchBy t r k o ≡ stretchOf t p k o
-    stretch-said r e k o = ap (λ z. stretchBy t z k o) e ∙ go (decLt p n) ∙ sym (stretch-read t s p k o (x .isUsable))
+    pub span-said : (r : Span) → r ≡ spanIn (length t) n offsets p → r ≡ spanOf t p
+    unfolding spanOf
+    span-said r e = e ∙ go (decLt p n) ∙ sym (ap (spanAs t p) (x .isUsable))
       where
-        go : Dec (p < n) → stretchBy t (spanIn (length t) n offsets p) k o ≡ stretchWhere t s p k o (ltb p (length (s .entries)))
+        go : Dec (p < n) → spanIn (length t) n offsets p ≡ spanWhere t s p (ltb p (length (s .entries)))
         go (yes l) =
-            ap (λ z. stretchBy t z k o) (sym (span-found (length t) n offsets p (endIn (length t) n offsets p) l refl))
-            ∙ ap₂ (λ a b. stretchIs (cut t a b) k o) (offset p l) (end-is l)
-            ∙ sym (ap (stretchWhere t s p k o) (lt-ltb p (length (s .entries)) (omega (arith, counted))))
+            sym (span-found (length t) n offsets p (endIn (length t) n offsets p) l refl)
+            ∙ ap₂ Within (offset p l) (end-is l)
+            ∙ sym (ap (spanWhere t s p) (lt-ltb p (length (s .entries)) (omega (arith, counted))))
         go (no l) =
-            ap (λ z. stretchBy t z k o) (sym (span-missing (length t) n offsets p (omega arith)))
-            ∙ sym (ap (stretchWhere t s p k o) (le-ltb p (length (s .entries)) (omega (arith, counted))))
+            sym (span-missing (length t) n offsets p (omega arith))
+            ∙ sym (ap (spanWhere t s p) (le-ltb p (length (s .entries)) (omega (arith, counted))))
 
     pub span-inside : (r : Span) → r ≡ spanIn (length t) n offsets p → Inside t r
     span-inside r e = subst (Inside t) (sym e) (go (decLt p n))
@@ -186,16 +185,16 @@ module _ (t : List ℕ) (sizes : Sizes) (inh syn rows offsets sets : List ℕ) (
         ends l (no m) = let w = end-last (length t) n offsets p (omega arith) in (omega (arith, below p l, w), omega (arith, w))
 
         go : Dec (p < n) → Inside t (spanIn (length t) n offsets p)
-        go (yes l) = subst (Inside t) (span-found (length t) n offsets p (endIn (length t) n offsets p) l refl) (ends l (decLt (p + 1) n))
+        go (yes l) = subst (Inside t) (span-found (length t) n offsets p (endIn (length t) n offsets p) l refl) (let e = ends l (decLt (p + 1) n) in (e .0, e .1, omega (arith, e .1, table-reads t s (x .brought .isRead) .0)))
         go (no l) = subst (Inside t) (span-missing (length t) n offsets p (omega arith)) tt
 
 -- ---- by the span's cases
 
-pub inside-within : (t : List ℕ) (r : Span) (from to : ℕ) → r ≡ Within from to → Inside t r → (from < to) × (to ≤ length t)
+pub inside-within : (t : List ℕ) (r : Span) (from to : ℕ) → r ≡ Within from to → Inside t r → (from < to) × (to ≤ length t) × (to ≤ 32768)
 inside-within t r from to e i = subst (Inside t) e i
 
-pub stretch-within : (t : List ℕ) (p : ℕ) (r : Span) (from to : ℕ) → r ≡ Within from to → ((n o : ℕ) → stretchBy t r n o ≡ stretchOf t p n o) → (n o : ℕ) → stretchIs (cut t from to) n o ≡ stretchOf t p n o
-stretch-within t p r from to e k n o = ap (λ z. stretchBy t z n o) (sym e) ∙ k n o
+pub stretch-within : (t : List ℕ) (p : ℕ) (r : Span) (from to : ℕ) → r ≡ Within from to → r ≡ spanOf t p → (n o : ℕ) → stretchIs (cut t from to) n o ≡ stretchOf t p n o
+stretch-within t p r from to e k n o = ap (λ z. stretchBy t z n o) (sym e ∙ k) ∙ stretch-span t p n o
 
-pub stretch-nowhere : (t : List ℕ) (p : ℕ) (r : Span) (m f : ℕ) → r ≡ Nowhere m f → ((n o : ℕ) → stretchBy t r n o ≡ stretchOf t p n o) → (n o : ℕ) → stretchIs [] m f ≡ stretchOf t p n o
-stretch-nowhere t p r m f e k n o = ap (λ z. stretchBy t z n o) (sym e) ∙ k n o
+pub stretch-nowhere : (t : List ℕ) (p : ℕ) (r : Span) (m f : ℕ) → r ≡ Nowhere m f → r ≡ spanOf t p → (n o : ℕ) → stretchIs [] m f ≡ stretchOf t p n o
+stretch-nowhere t p r m f e k n o = ap (λ z. stretchBy t z n o) (sym e ∙ k) ∙ stretch-span t p n o

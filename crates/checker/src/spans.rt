@@ -2,8 +2,7 @@
 ghost use mathlib.Core.Path.{_≡_};
 ghost use Prim.Native.Nat.{ℕ, _≤_, _<_};
 ghost use lib.ListN.{length};
-ghost use Rattle.meaning.specs.PublicCalls.{stretchOf};
-ghost use Rattle.checker.specs.Verdicts.{Below, endIn, spanIn, stretchBy, Inside};
+ghost use Rattle.checker.specs.Verdicts.{Below, endIn, spanIn, spanOf, Inside};
 use crate::judging::Judged;
 use crate::judging::judge_table;
 
@@ -42,7 +41,7 @@ fn span_in(long: usize, productions: usize, offsets: &[u32; 128], p: usize) -> S
 
 // The span of production p of any bytes as a table.
 pub fn span_of(table: &[u8], p: usize) -> Span
-    ensures said { λ r. ⌜ ((n o : ℕ) → stretchBy (now (table .entry)) r n o ≡ stretchOf (now (table .entry)) p n o) ⌝ }
+    ensures said { λ r. ⌜ r ≡ spanOf (now (table .entry)) p ⌝ }
     ensures inside { λ r. ⌜ Inside (now (table .entry)) r ⌝ }
 {
     let mut inherited = [0u8; 48];

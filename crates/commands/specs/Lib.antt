@@ -1,0 +1,5 @@
+pub mod Words
+pub mod Hex
+pub mod Number
+pub mod Answers
+pub mod Rows

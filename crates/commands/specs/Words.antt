@@ -1,0 +1,14 @@
+-- The words of a line, which single spaces separate.
+use Prim.Native.Nat.{ℕ, _+_}
+use mathlib.Core.Path.{_≡_, refl}
+use mathlib.Core.List.{List, [], _∷_}
+use lib.ListN.{take, drop}
+use Rattle.bytes.specs.Bytes.{indexOf}
+
+-- what stands before the first space, or all
+abbrev pub firstWord : List ℕ → List ℕ
+firstWord s = take (indexOf 32 s) s
+
+-- what stands after the first space, or nothing
+abbrev pub afterWord : List ℕ → List ℕ
+afterWord s = drop (indexOf 32 s + 1) s

@@ -1,0 +1,47 @@
+// Numbers as words of decimal digits.
+ghost use mathlib.Core.Path.{_≡_};
+ghost use Prim.Native.Nat.{_<_, _≤_};
+ghost use Rattle.commands.specs.Number.{limit, appended, numberOf, parsedAs};
+
+pub enum Parsed {
+    Number(usize),
+    NoNumber,
+}
+
+// A number of this size or more is refused.
+const LIMIT: usize = 1000000000000000000;
+
+// The number n with one more digit; the limit where the byte is no digit.
+fn append(n: usize, b: u8) -> usize
+    requires { ⌜ n < limit ⌝ }
+    ensures { λ r. ⌜ r ≡ appended n b ⌝ }
+{
+    let d = b as usize;
+    if d < 48 {
+        return LIMIT;
+    }
+    if 57 < d {
+        return LIMIT;
+    }
+    10 * n + (d - 48)
+}
+
+// The number that a word spells.
+pub fn parse(word: &[u8]) -> Parsed
+    ensures { λ r. ⌜ parsedAs r ≡ numberOf (now (word .entry)) ⌝ }
+{
+    if word.len() == 0 {
+        return Parsed::NoNumber;
+    }
+    let mut n: usize = 0;
+    let mut i: usize = 0;
+    while i < word.len() {
+        let next = append(n, word[i]);
+        if LIMIT <= next {
+            return Parsed::NoNumber;
+        }
+        n = next;
+        i += 1;
+    }
+    Parsed::Number(n)
+}

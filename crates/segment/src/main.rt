@@ -1,0 +1,4 @@
+// Answers commands, a line each: vectors/README.md.
+fn main() {
+    commands::run();
+}
