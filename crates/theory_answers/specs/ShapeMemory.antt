@@ -29,11 +29,11 @@ use Rattle.meaning.specs.Fit as Fit
 
 -- ---- a place and its frame
 
-listed : (g : Grammar) → {p : ℕ} {fs : List Frame} {base : List ℤ} → Stands g p fs base → (p ≡ whole) ⊎ (p < length (g .productions))
+pub listed : (g : Grammar) → {p : ℕ} {fs : List Frame} {base : List ℤ} → Stands g p fs base → (p ≡ whole) ⊎ (p < length (g .productions))
 listed g segment = inl refl
 listed g (inside q k xs vs ss l e n s) = inr l
 
-short : (g : Grammar) → WellFormed g → {p : ℕ} {fs : List Frame} {base : List ℤ} → Stands g p fs base → length (productionAt g p .right) ≤ 12
+pub short : (g : Grammar) → WellFormed g → {p : ℕ} {fs : List Frame} {base : List ℤ} → Stands g p fs base → length (productionAt g p .right) ≤ 12
 short g wf segment = omega arith
 short g wf (inside {p} q k xs vs ss l e n s) = well-formed-at g wf p l .short
 
@@ -177,10 +177,10 @@ pub record Waits (g : Grammar) (fs : List Frame) (rs : List ℤ) (x : Symbol) : 
 
 -- the place of a frame that waits, and the frame from that place
 module _ (g : Grammar) (wf : WellFormed g) {p : ℕ} {fs : List Frame} {base : List ℤ} (st : Stands g p fs base) (k : ℕ) (x : Symbol) (xs : List Symbol) (e : drop k (productionAt g p .right) ≡ x ∷ xs) where
-  place-short : k < 256
+  pub place-short : k < 256
   place-short = omega (arith, drop-head k (productionAt g p .right) x (terminal 0) xs e .0, short g wf st)
 
-  place-back : frameOf g (placeOf g (frame p (waitRest g p k x xs))) ≡ frame p (waitRest g p k x xs)
+  pub place-back : frameOf g (placeOf g (frame p (waitRest g p k x xs))) ≡ frame p (waitRest g p k x xs)
   place-back = ap (frameOf g) (place-waits g p k x xs e) ∙ frame-back g wf p k x xs (listed g st) place-short e
 
 -- the whole segment waits at the start symbol

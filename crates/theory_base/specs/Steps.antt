@@ -1,9 +1,9 @@
 -- What one move of the machine leads to, by its instruction.
-use Prim.Native.Nat.{ℕ, suc, _+_, _≤_, _<_}
+use Prim.Native.Nat.{ℕ, zero, suc, _+_, _≤_, _<_}
 use native.Mathlib.Omega.{arith}
-use mathlib.Core.Path.{_≡_, refl, sym, ap, subst}
+use mathlib.Core.Path.{_≡_, refl, sym, ap, subst, ap₂}
 use mathlib.Core.Logic.{inl}
-use mathlib.Core.Bool.{Bool, true, false, not}
+use mathlib.Core.Bool.{Bool, true, false, not, _&&_}
 use mathlib.Core.List.{List, [], _∷_, _++_}
 use lib.ListN.{length, drop}
 use lib.Dec.{T, ltb, leb, eqb, eqb→eq, nltb→le, nleb→lt}
@@ -12,7 +12,7 @@ use Rattle.meaning.specs.Base.{In, all, isEmpty, keep, countFrom}
 use Rattle.meaning.specs.Grammar.{Grammar, terminal, nonterminal, productionAt, Look, token, over}
 use Rattle.meaning.specs.Value.{apply, holds, inRange}
 use Rattle.meaning.specs.Scheme.{Instruction, add, evaluate, expect, test, remove}
-use Rattle.meaning.specs.Machine.{Frame, Config, Lent, Outcome, moved, blocked, chooseOutcome, next, nextOf, move, readRegister, writeAll, movesLimit, onward, parentOnward, accept, predict, push, alternatives, entered, isOf, unexpected, schemeAt}
+use Rattle.meaning.specs.Machine.{Frame, Config, Lent, Outcome, moved, blocked, chooseOutcome, next, nextOf, move, readRegister, writeAll, movesLimit, onward, parentOnward, accept, predict, push, alternatives, entered, isOf, unexpected, schemeAt, Settled, stopped, failed, waits, isDone, advance}
 use Rattle.meaning.specs.Sets.{lookNumber, starts, has}
 use Rattle.meaning.specs.Part.{marks, frame, config}
 use Rattle.theory_base.specs.Members.{both, in-keep, from-in}
@@ -132,3 +132,21 @@ result g lent l c f fs (test cs) d h =
 result g lent l c f fs (remove n) d h = moved-is (config (parentOnward fs) (drop n (c .registers)) (c .tokens) (suc (c .moves))) d h
 result g lent l c f fs (expect (terminal t)) d h = must-accept c f fs t l d h
 result g lent l c f fs (expect (nonterminal n)) d h = must-foresee g lent n l c d h
+
+-- ---- one turn of `advance`
+
+module _ (g : Grammar) (lent : Lent) (look : Look) (n : ℕ) where
+  -- whether to stop, and the outcome of the move at hand; a move leads on
+  abbrev turn : (Config → Settled) → Config → Bool → Outcome → Settled
+  turn on c b o = elim b as (λ x. Settled) [ true ↦ stopped c | false ↦ elim o as (λ x. Settled) [ blocked k ↦ failed c k | moved d ↦ on d ] ]
+
+  pub advance-stopped : (left : ℕ) (c : Config) → waits (c .frames) && isDone look n c ≡ true → advance left g lent look n c ≡ stopped c
+  advance-stopped zero c e = ap (λ b. turn (λ d. failed c 35) c b (next g lent look c)) e
+  advance-stopped (suc left) c e = ap (λ b. turn (λ d. advance left g lent look n d) c b (next g lent look c)) e
+
+  pub advance-failed : (left : ℕ) (c : Config) (k : ℕ) → waits (c .frames) && isDone look n c ≡ false → next g lent look c ≡ blocked k → advance left g lent look n c ≡ failed c k
+  advance-failed zero c k e f = ap₂ (turn (λ d. failed c 35) c) e f
+  advance-failed (suc left) c k e f = ap₂ (turn (λ d. advance left g lent look n d) c) e f
+
+  pub advance-moved : (left : ℕ) (c d : Config) → waits (c .frames) && isDone look n c ≡ false → next g lent look c ≡ moved d → advance (suc left) g lent look n c ≡ advance left g lent look n d
+  advance-moved left c d e f = ap₂ (turn (λ z. advance left g lent look n z) c) e f

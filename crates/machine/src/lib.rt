@@ -1,0 +1,365 @@
+// The moves of 01 on lent stacks, by the program's words, and the loop that makes them.
+ghost use Prim.Native.Nat.{ℕ, _+_, _-_, _/_, _%_, _≤_, _<_};
+ghost use mathlib.Core.Path.{_≡_};
+ghost use mathlib.Core.Bool.{true, _&&_};
+ghost use mathlib.Core.List.{List};
+ghost use lib.Dec.{T};
+ghost use lib.IntN.{ℤ};
+ghost use lib.ListN.{length, getD};
+ghost use Rattle.meaning.specs.Calls.{placeWaits};
+ghost use Rattle.meaning.specs.Grammar.{Grammar, Look};
+ghost use Rattle.meaning.specs.Machine as Machine;
+ghost use Rattle.meaning.specs.Rules.{WellFormed};
+ghost use Rattle.theory_program.specs.Addresses.{Begins};
+ghost use Rattle.theory_program.specs.Resuming.{placeAddress};
+ghost use Rattle.theory_program.specs.Search.{found};
+ghost use Rattle.registers.specs.Stack.{stack};
+ghost use Rattle.machine.specs.Held.{Ready, Answers};
+ghost use Rattle.machine.specs.Moves.{countIf, passed};
+ghost use Rattle.machine.specs.Passing.{lookOf, Resumes};
+ghost use Rattle.machine.specs.Advancing as Advancing;
+ghost use Rattle.machine.specs.Advancing.{Running, Advances, stopsAt};
+ghost use Rattle.machine.specs.Predicting.{recordOf, holdsAt, entersAt, Entry, Leads, Led};
+
+// A run: what was counted, the heights of both stacks, and the address of the next instruction of the top place's production.
+pub struct Run {
+    pub tokens: u64,
+    pub moves: u64,
+    pub registers: usize,
+    pub places: usize,
+    pub at: usize,
+}
+
+// What a move leads to: the run after it, or the number that refuses it.
+pub enum Step {
+    Moved(Run),
+    Blocked(u32),
+}
+
+// What moves lead to until one needs what comes next: a stop, or the number that refuses the move at hand.
+pub enum Ended {
+    Stopped(Run),
+    Failed(Run, u32),
+}
+
+// ---- words and places
+
+// A word of the program, or a place.
+fn word_at(words: &[u32], at: usize) -> usize
+    requires { ⌜ at < length (now words) ⌝ }
+    ensures { λ r. ⌜ (r ≡ getD (now (words .entry)) at 0) × (r < 4294967296) ⌝ }
+{
+    words[at] as usize
+}
+
+// The number that refuses what comes next; 63 is the end.
+fn unexpected(look: usize) -> u32
+    ensures { λ r. ⌜ r ≡ Machine.unexpected (lookOf look) ⌝ }
+{
+    if look == 63 {
+        return 24;
+    }
+    21
+}
+
+// The top place has passed one symbol more.
+fn count(places: &mut [u32], height: usize)
+    requires { ⌜ (1 ≤ height) × (height ≤ length (now places)) × (getD (now places) (height - 1) 0 < 65536) ⌝ }
+    ensures { λ r. ⌜ now (places .exit) ≡ countIf true height (now (places .entry)) ⌝ }
+{
+    let top = height - 1;
+    places[top] = places[top] + 1;
+}
+
+// After a read or a remove: the symbol is passed now, unless a test follows.
+fn pass(places: &mut [u32], height: usize, program: &[u32], at: usize)
+    requires { ⌜ ((1 ≤ height) × (height ≤ length (now places)) × (getD (now places) (height - 1) 0 < 65536)) × (at < length (now program)) ⌝ }
+    ensures { λ r. ⌜ now (places .exit) ≡ passed (now (program .entry)) at height (now (places .entry)) ⌝ }
+{
+    if word_at(program, at) % 8 == 4 {
+        return;
+    }
+    count(places, height);
+}
+
+// The address of the expect at which a place waits. 01: "the whole segment is production 128".
+fn resume(program: &[u32], place: usize) -> usize
+    requires { ⌜ Resumes (now program) place ⌝ }
+    ensures { λ r. ⌜ ((g : Grammar) → Begins g (now (program .entry)) → WellFormed g → T (placeWaits g place) → r ≡ placeAddress g place) ⌝ }
+{
+    let production = place / 256;
+    if production == 128 {
+        return place % 256;
+    }
+    let body = word_at(program, word_at(program, 2) + 8 * production + 4);
+    word_at(program, body + place % 256)
+}
+
+// ---- add
+
+// The registers of the next symbol. They are clear already.
+fn add(registers: &[i64], program: &[u32], run: Run) -> Step
+    requires { ⌜ ((ps : List ℕ) × Ready (now program) (now registers) ps run 0) ⌝ }
+    ensures { λ r. ⌜ ((ps : List ℕ) (look : Look) → Answers (now (program .entry)) (now (registers .entry)) ps run look (now (registers .entry)) ps r) ⌝ }
+{
+    let n = word_at(program, run.at) / 8;
+    if registers.len() - run.registers < n {
+        return Step::Blocked(31);
+    }
+    Step::Moved(Run {
+        tokens: run.tokens,
+        moves: run.moves + 1,
+        registers: run.registers + n,
+        places: run.places,
+        at: run.at + 1,
+    })
+}
+
+// ---- evaluate
+
+// 01: "all or none".
+fn evaluate(registers: &mut [i64], program: &[u32], run: Run) -> Step
+    requires { ⌜ ((ps : List ℕ) × Ready (now program) (now registers) ps run 1) ⌝ }
+    ensures { λ r. ⌜ ((ps : List ℕ) (look : Look) → Answers (now (program .entry)) (now (registers .entry)) ps run look (now (registers .exit)) ps r) ⌝ }
+{
+    let n = word_at(program, run.at) / 8;
+    if registers::evaluate(registers, run.registers, program, run.at + 1, n) {
+        return Step::Moved(Run {
+            tokens: run.tokens,
+            moves: run.moves + 1,
+            registers: run.registers,
+            places: run.places,
+            at: run.at + 1 + 2 * n,
+        });
+    }
+    Step::Blocked(23)
+}
+
+// ---- read
+
+fn read(places: &mut [u32], program: &[u32], run: Run, look: usize) -> Step
+    requires { ⌜ ((m : List ℤ) × Ready (now program) m (now places) run 2) ⌝ }
+    ensures { λ r. ⌜ ((m : List ℤ) → Answers (now (program .entry)) m (now (places .entry)) run (lookOf look) m (now (places .exit)) r) ⌝ }
+{
+    if word_at(program, run.at) / 8 != look {
+        return Step::Blocked(unexpected(look));
+    }
+    pass(places, run.places, program, run.at + 1);
+    Step::Moved(Run {
+        tokens: run.tokens + 1,
+        moves: run.moves + 1,
+        registers: run.registers,
+        places: run.places,
+        at: run.at + 1,
+    })
+}
+
+// ---- test
+
+// The conditions of a symbol that was left; after it the place counts the symbol.
+fn test(registers: &[i64], places: &mut [u32], program: &[u32], run: Run) -> Step
+    requires { ⌜ Ready (now program) (now registers) (now places) run 4 ⌝ }
+    ensures { λ r. ⌜ ((look : Look) → Answers (now (program .entry)) (now (registers .entry)) (now (places .entry)) run look (now (registers .entry)) (now (places .exit)) r) ⌝ }
+{
+    let n = word_at(program, run.at) / 8;
+    if registers::test(registers, run.registers, program, run.at + 1, n) {
+        count(places, run.places);
+        return Step::Moved(Run {
+            tokens: run.tokens,
+            moves: run.moves + 1,
+            registers: run.registers,
+            places: run.places,
+            at: run.at + 1 + 3 * n,
+        });
+    }
+    Step::Blocked(22)
+}
+
+// ---- remove
+
+// The registers of the symbols and of the left side's inherited attributes, and the place; the one below goes on.
+fn remove(registers: &mut [i64], places: &mut [u32], program: &[u32], run: Run) -> Step
+    requires { ⌜ Ready (now program) (now registers) (now places) run 5 ⌝ }
+    ensures { λ r. ⌜ ((look : Look) → Answers (now (program .entry)) (now (registers .entry)) (now (places .entry)) run look (now (registers .exit)) (now (places .exit)) r) ⌝ }
+{
+    let n = word_at(program, run.at) / 8;
+    registers::remove(registers, run.registers, n);
+    let height = run.places - 1;
+    let waiting = word_at(places, height - 1);
+    let at = resume(program, waiting) + 1;
+    places[height] = 0;
+    pass(places, height, program, at);
+    Step::Moved(Run {
+        tokens: run.tokens,
+        moves: run.moves + 1,
+        registers: run.registers - n,
+        places: height,
+        at,
+    })
+}
+
+// ---- predict
+
+// The address of a production's record, by its number plus 1.
+fn record_of(program: &[u32], p: usize) -> usize
+    requires { ⌜ (2 < length (now program)) × (1 ≤ p) × (p ≤ 128) ⌝ }
+    ensures { λ r. ⌜ r ≡ recordOf (now (program .entry)) p ⌝ }
+{
+    word_at(program, 2) + 8 * (p - 1)
+}
+
+// Whether the set of a production holds what comes next.
+fn holds(program: &[u32], row: usize, look: usize) -> bool
+    requires { ⌜ (row + 8 ≤ length (now program)) × (look < 64) ⌝ }
+    ensures { λ r. ⌜ r ≡ holdsAt (now (program .entry)) row look ⌝ }
+{
+    (word_at(program, row + 2 + look / 32) >> (look % 32)) % 2 == 1
+}
+
+// Whether the entry conditions of a production hold.
+fn enters(registers: &[i64], height: usize, program: &[u32], row: usize) -> bool
+    requires { ⌜ (height ≤ length (now registers)) × Entry (now program) (stack height (now registers)) row ⌝ }
+    ensures { λ r. ⌜ r ≡ entersAt (now (program .entry)) (stack height (now (registers .entry))) row ⌝ }
+{
+    let count = word_at(program, row + 5);
+    let scheme = word_at(program, row + 6);
+    registers::test(registers, height, program, scheme - 3 * count, count)
+}
+
+fn passes(registers: &[i64], height: usize, program: &[u32], row: usize, look: usize) -> bool
+    requires { ⌜ (height ≤ length (now registers)) × Entry (now program) (stack height (now registers)) row × (look < 64) ⌝ }
+    ensures { λ r. ⌜ r ≡ holdsAt (now (program .entry)) row look && entersAt (now (program .entry)) (stack height (now (registers .entry))) row ⌝ }
+{
+    if holds(program, row, look) {
+        return enters(registers, height, program, row);
+    }
+    false
+}
+
+// The first production that passes, by its number plus 1, from the one that a next-word says on; 0 where none does.
+fn later(registers: &[i64], height: usize, program: &[u32], look: usize, from: usize) -> usize
+    requires { ⌜ (height ≤ length (now registers)) × (look < 64) × Led (now program) (stack height (now registers)) from ⌝ }
+    ensures { λ r. ⌜ ((g : Grammar) (n : ℕ) → Leads g (now (program .entry)) (stack height (now (registers .entry))) n from → r ≡ found g (stack height (now (registers .entry))) n (lookOf look) from) ⌝ }
+{
+    let mut p = from;
+    while p != 0 {
+        let row = record_of(program, p);
+        if passes(registers, height, program, row, look) {
+            return p;
+        }
+        p = word_at(program, row + 1);
+    }
+    0
+}
+
+// The same from the one that the directory says, whose set holds what comes next.
+fn find(registers: &[i64], height: usize, program: &[u32], look: usize, first: usize) -> usize
+    requires { ⌜ ((height ≤ length (now registers)) × (look < 64) × Led (now program) (stack height (now registers)) first) × ((first ≡ 0 → ⊥) × (holdsAt (now program) (recordOf (now program) first) look ≡ true)) ⌝ }
+    ensures { λ r. ⌜ ((g : Grammar) (n : ℕ) → Leads g (now (program .entry)) (stack height (now (registers .entry))) n first → r ≡ found g (stack height (now (registers .entry))) n (lookOf look) first) ⌝ }
+{
+    let row = record_of(program, first);
+    if enters(registers, height, program, row) {
+        return first;
+    }
+    later(registers, height, program, look, word_at(program, row + 1))
+}
+
+fn predict(registers: &[i64], places: &mut [u32], program: &[u32], run: Run, look: usize) -> Step
+    requires { ⌜ Ready (now program) (now registers) (now places) run 3 × (look < 64) ⌝ }
+    ensures { λ r. ⌜ Answers (now (program .entry)) (now (registers .entry)) (now (places .entry)) run (lookOf look) (now (registers .entry)) (now (places .exit)) r ⌝ }
+{
+    let n = word_at(program, run.at) / 8;
+    let first = word_at(program, 8 + 64 * n + look);
+    if first == 0 {
+        return Step::Blocked(unexpected(look));
+    }
+    let p = find(registers, run.registers, program, look, first);
+    if p == 0 {
+        return Step::Blocked(22);
+    }
+    let height = run.places;
+    if height == places.len() {
+        return Step::Blocked(32);
+    }
+    places[height] = (256 * (p - 1)) as u32;
+    Step::Moved(Run {
+        tokens: run.tokens,
+        moves: run.moves + 1,
+        registers: run.registers,
+        places: height + 1,
+        at: word_at(program, record_of(program, p) + 6),
+    })
+}
+
+// ---- one move
+
+// What the instruction at hand does.
+fn one(registers: &mut [i64], places: &mut [u32], program: &[u32], run: Run, look: usize) -> Step
+    requires { ⌜ Ready (now program) (now registers) (now places) run (getD (now program) (run .at) 0 % 8) × (getD (now program) (run .at) 0 % 8 ≤ 5) × (look < 64) ⌝ }
+    ensures { λ r. ⌜ Answers (now (program .entry)) (now (registers .entry)) (now (places .entry)) run (lookOf look) (now (registers .exit)) (now (places .exit)) r ⌝ }
+{
+    match word_at(program, run.at) % 8 {
+        0 => add(registers, program, run),
+        1 => evaluate(registers, program, run),
+        2 => read(places, program, run, look),
+        3 => predict(registers, places, program, run, look),
+        4 => test(registers, places, program, run),
+        _ => remove(registers, places, program, run),
+    }
+}
+
+// ---- until a move needs what comes next
+
+// Whether an operation needs it; 6 says that nothing is left.
+fn looks(operation: usize) -> bool
+    ensures { λ r. ⌜ r ≡ Advancing.looks operation ⌝ }
+{
+    if operation == 2 {
+        return true;
+    }
+    if operation == 3 {
+        return true;
+    }
+    operation == 6
+}
+
+fn stops(operation: usize, look: usize, before: u64, tokens: u64) -> bool
+    ensures { λ r. ⌜ r ≡ stopsAt operation look before tokens ⌝ }
+{
+    if look == 63 {
+        return operation == 6;
+    }
+    if before < tokens {
+        return looks(operation);
+    }
+    false
+}
+
+// Moves until the token is read, or at the end (63) the start symbol is left, and all that needs no next token is done.
+pub fn advance(registers: &mut [i64], places: &mut [u32], program: &[u32], run: Run, look: u8) -> Ended
+    requires { ⌜ Running (now program) (now registers) (now places) run × (look < 64) ⌝ }
+    ensures { λ r. ⌜ Advances (now (program .entry)) look (now (registers .entry)) (now (places .entry)) run (now (registers .exit)) (now (places .exit)) r ⌝ }
+{
+    let u = look as usize;
+    let mut state = run;
+    loop {
+        let operation = word_at(program, state.at) % 8;
+        if stops(operation, u, run.tokens, state.tokens) {
+            return Ended::Stopped(state);
+        }
+        if operation == 6 {
+            return Ended::Failed(state, unexpected(u));
+        }
+        if state.moves == 4294967295 {
+            return Ended::Failed(state, 35);
+        }
+        match one(registers, places, program, state, u) {
+            Step::Moved(next) => {
+                state = next;
+            }
+            Step::Blocked(k) => {
+                return Ended::Failed(state, k);
+            }
+        }
+    }
+}
