@@ -24,19 +24,17 @@ const MOVES_LIMIT: u64 = 4294967295;
 
 // ---- stretches of cells
 
+// The bits in which cells differ from the mark are gathered with no way out of the loop, so that it takes several cells at once.
 fn all_marked(cells: &[i64]) -> bool
     ensures { λ r. ⌜ r ≡ all isMark (now (cells .entry)) ⌝ }
 {
+    let mut differing: i64 = 0;
     let mut i = 0;
     while i < cells.len() {
-        let v = cells[i];
-        if value::is_mark(v) {
-            i += 1;
-        } else {
-            return false;
-        }
+        differing |= cells[i] ^ value::MARK;
+        i += 1;
     }
-    true
+    differing == 0
 }
 
 fn all_valued(cells: &[i64]) -> bool
@@ -57,14 +55,13 @@ fn all_valued(cells: &[i64]) -> bool
 fn all_zero(cells: &[u32]) -> bool
     ensures { λ r. ⌜ r ≡ all (λ p. eqb p 0) (now (cells .entry)) ⌝ }
 {
+    let mut bits: u32 = 0;
     let mut i = 0;
     while i < cells.len() {
-        if cells[i] != 0 {
-            return false;
-        }
+        bits |= cells[i];
         i += 1;
     }
-    true
+    bits == 0
 }
 
 // ---- registers of a kind, from a position up

@@ -1,56 +1,71 @@
-use Prim.Native.Nat.{_+_, _-_, _≤_}
+use Prim.Native.Nat.{ℕ, _-_, _≤_}
 use native.Mathlib.Omega.{arith}
-use mathlib.Core.Path.{_≡_, sym, ap, _∙_}
-use mathlib.Core.Bool.{Bool, true, false, _&&_}
-use mathlib.Core.List.{List}
+use mathlib.Core.Path.{_≡_, refl}
+use mathlib.Core.Bool.{Bool, _&&_}
 use borrow.Author.Needs.{needs, sfits-of}
 use denote.Ref.{now}
-use lib.ListN.{length, drop}
+use lib.Dec.{eqb}
+use lib.ListN.{length, getD, drop}
 use Rattle.meaning.specs.Base.{all}
+use lib.Bits.{bitXor}
+use lib.IntN.{ℤ, pos}
+use mir.Syntax.{w64}
+use mir.Val.{ofZ}
 use Rattle.meaning.specs.Calls.{isMark}
-use Rattle.fit.proofs.Laws.{all-signed, all-end}
+use Rattle.fit.proofs.Laws.{mark-bits, gather-turn, gather-end}
 use Rattle.fit.proofs.all_marked.Statement.{statement}
 use Rattle.fit.proofs.all_marked.Tie as tie
 use Rattle.fit.proofs.all_marked.Reads as reads
 use Rattle.fit.proofs.all_marked.Lts as lts
 
 abbrev Inv-loop : tie.InvT-loop
-Inv-loop cells i₀ i = (i ≤ length cells) × (all isMark cells ≡ all isMark (drop i cells))
+Inv-loop cells differing₀ i₀ differing i = (i ≤ length cells) × (all isMark cells ≡ eqb differing 0 && all isMark (drop i cells))
 
 abbrev μ-loop : tie.MeasureT-loop
-μ-loop cells i₀ i = length cells - i
+μ-loop cells differing₀ i₀ differing i = length cells - i
 
+-- src/lib.rt:33:5
 loop-holds : tie.Need-loop-holds Inv-loop μ-loop
-loop-holds c = search needs
+loop-holds c = (omega arith, refl)
 
-mul-v : tie.Need-mul-v Inv-loop μ-loop
-mul-v c = omega arith
+-- src/lib.rt:34:22
+mul-differing : tie.Need-mul-differing Inv-loop μ-loop
+mul-differing c = omega arith
 
-shared-slice-copy-out-v : tie.Need-shared-slice-copy-out-v Inv-loop μ-loop
-shared-slice-copy-out-v c = omega arith
+-- src/lib.rt:34:22
+shared-slice-copy-out-differing : tie.Need-shared-slice-copy-out-differing Inv-loop μ-loop
+shared-slice-copy-out-differing c = omega arith
 
-is-mark-requires : tie.Need-is-mark-requires Inv-loop μ-loop
-is-mark-requires c κs = search needs
-
+-- src/lib.rt:35:9
 add-i : tie.Need-add-i Inv-loop μ-loop
 add-i c = omega arith
 
+-- src/lib.rt:33:5
 loop-less : tie.Need-loop-less Inv-loop μ-loop
 loop-less c = omega arith
 
-turn : (c : tie.After-is-mark Inv-loop μ-loop) → all isMark (now (c .before .before .before .before .args .cells)) ≡ c .is-mark .result && all isMark (drop (c .before .before .before .loop .i + 1) (now (c .before .before .before .before .args .cells)))
-turn c =
-    let l = c .before .before .before .loop in
-    all-signed isMark (now (c .before .before .before .before .args .cells)) (l .i) (c .is-mark .result) (omega arith) (sfits-of (c .before .v .given)) (c .is-mark .ensures) (l .inv .1)
-
+-- src/lib.rt:33:5
 loop-again : tie.Need-loop-again Inv-loop μ-loop
-loop-again c = (omega arith, rw (c .if1 .taken) at (turn (c .before)))
+loop-again c =
+    let l = c .before .before .loop in
+    let cells = now (c .before .before .before .args .cells) in
+    let v : ℤ = getD cells (l .i) (pos 0) in
+    (omega arith, gather-turn isMark cells (l .i) (pos 0) (l .differing) (bitXor (ofZ w64 v) 9223372036854775808) (omega arith) (mark-bits v (sfits-of (c .differing .given))) (l .inv .1))
 
+-- src/lib.rt:28:1
 returns : tie.Need-returns Inv-loop μ-loop
-returns c = sym (rw (c .if1 .left) at (turn (c .before)))
-
-returns-2 : tie.Need-returns-2 Inv-loop μ-loop
-returns-2 c = sym (c .before .loop .inv .1 ∙ all-end isMark (now (c .before .before .args .cells)) (c .before .loop .i) (omega arith))
+returns c = gather-end isMark (now (c .before .before .args .cells)) (c .before .loop .i) (c .before .loop .differing) (c .loop-test .left) (c .before .loop .inv .1)
 
 pub all-marked-spec : {M : Type 1} → statement M
-all-marked-spec = tie.close (tie.spec Inv-loop μ-loop loop-holds mul-v shared-slice-copy-out-v is-mark-requires add-i loop-less loop-again returns returns-2)
+all-marked-spec =
+    tie.close
+    (tie.spec
+    Inv-loop
+    μ-loop
+    loop-holds
+    mul-differing
+    shared-slice-copy-out-differing
+    add-i
+    loop-less
+    loop-again
+    returns)

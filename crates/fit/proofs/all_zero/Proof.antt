@@ -1,14 +1,13 @@
-use Prim.Native.Nat.{ℕ, _+_, _-_, _≤_}
+use Prim.Native.Nat.{ℕ, _-_, _≤_}
 use native.Mathlib.Omega.{arith}
-use mathlib.Core.Path.{_≡_, sym, _∙_}
-use mathlib.Core.Bool.{Bool, true, false}
+use mathlib.Core.Path.{_≡_, refl}
+use mathlib.Core.Bool.{Bool, _&&_}
 use borrow.Author.Needs.{needs}
-use borrow.Author.Tests.{eq-eqb, ne-eqb}
 use denote.Ref.{now}
 use lib.Dec.{eqb}
-use lib.ListN.{length, drop}
+use lib.ListN.{length, getD, drop}
 use Rattle.meaning.specs.Base.{all}
-use Rattle.fit.proofs.Laws.{all-tested, all-end}
+use Rattle.fit.proofs.Laws.{gather-turn, gather-end}
 use Rattle.fit.proofs.all_zero.Statement.{statement}
 use Rattle.fit.proofs.all_zero.Tie as tie
 use Rattle.fit.proofs.all_zero.Reads as reads
@@ -18,38 +17,52 @@ abbrev isZero : ℕ → Bool
 isZero p = eqb p 0
 
 abbrev Inv-loop : tie.InvT-loop
-Inv-loop cells i₀ i = (i ≤ length cells) × (all isZero cells ≡ all isZero (drop i cells))
+Inv-loop cells bits₀ i₀ bits i = (i ≤ length cells) × (all isZero cells ≡ eqb bits 0 && all isZero (drop i cells))
 
 abbrev μ-loop : tie.MeasureT-loop
-μ-loop cells i₀ i = length cells - i
+μ-loop cells bits₀ i₀ bits i = length cells - i
 
+-- src/lib.rt:60:5
 loop-holds : tie.Need-loop-holds Inv-loop μ-loop
-loop-holds c = search needs
+loop-holds c = (omega arith, refl)
 
-mul-if1 : tie.Need-mul-if1 Inv-loop μ-loop
-mul-if1 c = omega arith
+-- src/lib.rt:61:17
+mul-bits : tie.Need-mul-bits Inv-loop μ-loop
+mul-bits c = omega arith
 
-shared-slice-read-if1 : tie.Need-shared-slice-read-if1 Inv-loop μ-loop
-shared-slice-read-if1 c = omega arith
+-- src/lib.rt:61:17
+shared-slice-read-bits : tie.Need-shared-slice-read-bits Inv-loop μ-loop
+shared-slice-read-bits c = omega arith
 
-returns : tie.Need-returns Inv-loop μ-loop
-returns c =
-    let l = c .before .before .before .loop in
-    sym (all-tested isZero (now (c .before .before .before .before .args .cells)) (l .i) 0 false (omega arith) (sym (ne-eqb _ 0 (c .if1 .taken))) (l .inv .1))
-
+-- src/lib.rt:62:9
 add-i : tie.Need-add-i Inv-loop μ-loop
 add-i c = omega arith
 
+-- src/lib.rt:60:5
 loop-less : tie.Need-loop-less Inv-loop μ-loop
 loop-less c = omega arith
 
+-- src/lib.rt:60:5
 loop-again : tie.Need-loop-again Inv-loop μ-loop
 loop-again c =
-    let l = c .before .before .before .loop in
-    (omega arith, all-tested isZero (now (c .before .before .before .before .args .cells)) (l .i) 0 true (omega arith) (sym (eq-eqb _ 0 (c .if1 .left))) (l .inv .1))
+    let l = c .before .before .loop in
+    let cells = now (c .before .before .before .args .cells) in
+    (omega arith, gather-turn isZero cells (l .i) 0 (l .bits) (getD cells (l .i) 0) (omega arith) refl (l .inv .1))
 
-returns-2 : tie.Need-returns-2 Inv-loop μ-loop
-returns-2 c = sym (c .before .loop .inv .1 ∙ all-end isZero (now (c .before .before .args .cells)) (c .before .loop .i) (omega arith))
+-- src/lib.rt:55:1
+returns : tie.Need-returns Inv-loop μ-loop
+returns c = gather-end isZero (now (c .before .before .args .cells)) (c .before .loop .i) (c .before .loop .bits) (c .loop-test .left) (c .before .loop .inv .1)
 
 pub all-zero-spec : {M : Type 1} → statement M
-all-zero-spec = tie.close (tie.spec Inv-loop μ-loop loop-holds mul-if1 shared-slice-read-if1 returns add-i loop-less loop-again returns-2)
+all-zero-spec =
+    tie.close
+    (tie.spec
+    Inv-loop
+    μ-loop
+    loop-holds
+    mul-bits
+    shared-slice-read-bits
+    add-i
+    loop-less
+    loop-again
+    returns)
