@@ -45,7 +45,7 @@ pub enum Ended {
 // ---- words and places
 
 // A word of the program, or a place.
-fn word_at(words: &[u32], at: usize) -> usize
+pub fn word_at(words: &[u32], at: usize) -> usize
     requires { ⌜ at < length (now words) ⌝ }
     ensures { λ r. ⌜ (r ≡ getD (now (words .entry)) at 0) × (r < 4294967296) ⌝ }
 {
@@ -83,7 +83,7 @@ fn pass(places: &mut [u32], height: usize, program: &[u32], at: usize)
 }
 
 // The address of the expect at which a place waits. 01: "the whole segment is production 128".
-fn resume(program: &[u32], place: usize) -> usize
+pub fn resume(program: &[u32], place: usize) -> usize
     requires { ⌜ Resumes (now program) place ⌝ }
     ensures { λ r. ⌜ ((g : Grammar) → Begins g (now (program .entry)) → WellFormed g → T (placeWaits g place) → r ≡ placeAddress g place) ⌝ }
 {
