@@ -41,7 +41,7 @@ same-length-2 c = search needs
 
 -- src/lib.rt:39:1
 returns-3 : tie.Need-returns-3
-returns-3 c = let below : c .before .before .before .before .before .before .before .before .before .before .before .before .args .t < getD (now (c .before .before .before .before .before .before .before .before .before .before .before .before .args .program)) 3 0 = omega (arith, c .before .before .before .before .before .before .if2 .left, c .before .before .before .before .before .before .before .word-at .ensures .0) in token-read _ _ _ _ (omega (arith, c .before .before .before .before .before .before .before .before .if1 .left)) below (token-small _ (c .before .before .before .before .before .before .before .before .before .before .before .before .pre) below) (c .before .before .before .advance .ensures)
+returns-3 c = let below : c .before .before .before .before .before .before .before .before .before .before .before .before .args .t < getD (now (c .before .before .before .before .before .before .before .before .before .before .before .before .args .program)) 3 0 = omega (arith, c .before .before .before .before .before .before .if2 .left, c .before .before .before .before .before .before .before .word-at .ensures .0) in token-read _ (c .before .before .before .advance .last .0) (c .before .before .before .advance .last .1 .0) (c .before .before .before .advance .result) (omega (arith, c .before .before .before .before .before .before .before .before .if1 .left)) below (token-small _ (c .before .before .before .before .before .before .before .before .before .before .before .before .pre) below) (c .before .before .before .advance .ensures)
 
 pub feed-token-spec : {M : Type 1} → statement M
 feed-token-spec =
