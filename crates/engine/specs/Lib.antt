@@ -1,1 +1,6 @@
 pub mod Feeding
+pub mod Records
+pub mod Starting
+pub mod Leaving
+pub mod Judging
+pub mod Performing

@@ -1,13 +1,53 @@
 // 01's calls on a run: it is opened, fed lists of tokens, and finished.
-ghost use Prim.Native.Nat.{ℕ, _<_};
+ghost use Prim.Native.Nat.{ℕ, _≤_, _<_};
 ghost use mathlib.Core.Path.{_≡_};
+ghost use mathlib.Core.List.{List};
+ghost use lib.IntN.{ℤ};
 ghost use lib.ListN.{length, replicate, getD};
 ghost use Rattle.meaning.specs.Value.{mark};
 ghost use Rattle.machine.specs.Advancing.{Running};
+ghost use Rattle.meaning.specs.Rules.{WellFormed};
+ghost use Rattle.meaning.specs.Grammar.{Grammar};
+ghost use Rattle.meaning.specs.Fit.{Fit};
+ghost use Rattle.meaning.specs.Calls.{lentOf, configOf, feedOf, finishOf};
+ghost use Rattle.theory_program.specs.Addresses.{Begins};
+ghost use Rattle.theory_program.specs.Resuming.{placeAddress};
+ghost use Rattle.machine.specs.Held.{Held};
+ghost use Rattle.fit.specs.Shown.{Shown};
+ghost use Rattle.fit.specs.Cut.{stacksOf};
 ghost use Rattle.engine.specs.Feeding.{FeedsToken, Feeds};
+ghost use Rattle.engine.specs.Records.{recordIs, calledIs};
+ghost use Rattle.engine.specs.Starting.{Stood, Standing, Fitting};
+ghost use Rattle.engine.specs.Leaving.{recordFrom, fedFrom, finishedFrom, Ending};
+ghost use Rattle.engine.specs.Judging.{Brought, turnedBack};
 
 use machine::Run;
 use machine::Ended;
+
+// Open or closed, tokens read, moves made, and the heights of both stacks.
+pub struct Record {
+    pub open: bool,
+    pub tokens: u64,
+    pub moves: u64,
+    pub registers: u64,
+    pub places: u64,
+}
+
+pub enum Answer {
+    // Opened or fed: the moves made since opening.
+    More(u64),
+    // Finished: the segment's value, and the moves.
+    Value(i64, u64),
+    // One of 20 to 24 or 30 to 35, with the tokens read.
+    Refused { number: u32, tokens: u64 },
+    // One of 1 to 13, with the field's offset.
+    TableRefused { number: u32, offset: u64 },
+}
+
+pub struct Called {
+    pub record: Record,
+    pub answer: Answer,
+}
 
 const TOKENS_LIMIT: u64 = 65535;
 
@@ -67,4 +107,178 @@ fn feed_tokens(registers: &mut [i64], places: &mut [u32], program: &[u32], run: 
         i += 1;
     }
     Ended::Stopped(state)
+}
+
+// ---- from a record to a run
+
+// 01: the whole segment's place once the start symbol is left.
+const LEFT: usize = 32769;
+
+// The address at which a place goes on.
+fn address_of(program: &[u32], place: usize) -> usize
+    requires { ⌜ Standing (now program) place ⌝ }
+    ensures { λ r. ⌜ ((g : Grammar) → Begins g (now (program .entry)) → WellFormed g → Stood g place → r ≡ placeAddress g place) ⌝ }
+{
+    if place == LEFT {
+        return 1;
+    }
+    machine::resume(program, place)
+}
+
+fn run_of(places: &[u32], program: &[u32], brought: Record) -> Run
+    requires { ⌜ ((vs : List ℤ) × Fitting (now program) vs (now places) (recordIs brought)) ⌝ }
+    ensures { λ r. ⌜ ((g : Grammar) (vs : List ℤ) → Begins g (now (program .entry)) → WellFormed g → length vs ≤ 4096 → length (now (places .entry)) ≤ 1024 → Fit g (recordIs brought) (stacksOf vs (now (places .entry))) → Held g (now (program .entry)) (lentOf (stacksOf vs (now (places .entry)))) vs (now (places .entry)) r (configOf g (recordIs brought) (stacksOf vs (now (places .entry))))) ⌝ }
+{
+    let height = brought.places as usize;
+    let place = machine::word_at(places, height - 1);
+    Run {
+        tokens: brought.tokens,
+        moves: brought.moves,
+        registers: brought.registers as usize,
+        places: height,
+        at: address_of(program, place),
+    }
+}
+
+// ---- from a run to what is handed back
+
+fn record_of(open: bool, run: Run) -> Record
+    ensures { λ r. ⌜ r ≡ recordFrom «open» run ⌝ }
+{
+    Record {
+        open,
+        tokens: run.tokens,
+        moves: run.moves,
+        registers: run.registers as u64,
+        places: run.places as u64,
+    }
+}
+
+fn fed(ended: Ended) -> Called
+    ensures { λ r. ⌜ r ≡ fedFrom ended ⌝ }
+{
+    match ended {
+        Ended::Stopped(run) => Called {
+            record: record_of(true, run),
+            answer: Answer::More(run.moves),
+        },
+        Ended::Failed(run, number) => Called {
+            record: record_of(false, run),
+            answer: Answer::Refused {
+                number,
+                tokens: run.tokens,
+            },
+        },
+    }
+}
+
+// The value is the result register of the start symbol.
+fn finished(registers: &[i64], program: &[u32], ended: Ended) -> Called
+    requires { ⌜ Ending (now program) (now registers) ended ⌝ }
+    ensures { λ r. ⌜ r ≡ finishedFrom (getD (now (program .entry)) 5 0) (now (registers .entry)) ended ⌝ }
+{
+    match ended {
+        Ended::Stopped(run) => Called {
+            record: record_of(false, run),
+            answer: Answer::Value(registers::read(registers, run.registers, program[5]), run.moves),
+        },
+        Ended::Failed(run, number) => Called {
+            record: record_of(false, run),
+            answer: Answer::Refused {
+                number,
+                tokens: run.tokens,
+            },
+        },
+    }
+}
+
+// ---- the calls on exactly the lent cells
+
+// 33 or 34; 0 where the call goes on to its moves.
+fn turned_back(
+    registers: &[i64],
+    places: &[u32],
+    rows: &[u8; 2048],
+    inherited: &[u8; 48],
+    synthesized: &[u8; 48],
+    productions: usize,
+    start: usize,
+    brought: Record,
+) -> u32
+    requires { ⌜ (length (now registers) ≤ 4096) × (length (now places) ≤ 1024) × ((g : Grammar) × Shown g (now rows) (now inherited) (now synthesized) productions start) ⌝ }
+    ensures { λ r. ⌜ ((g : Grammar) → Shown g (now (rows .entry)) (now (inherited .entry)) (now (synthesized .entry)) productions start → r ≡ turnedBack g (recordIs brought) (stacksOf (now (registers .entry)) (now (places .entry)))) ⌝ }
+{
+    if !brought.open {
+        return 33;
+    }
+    if fit::fits(
+        registers,
+        places,
+        brought.tokens,
+        brought.moves,
+        brought.registers,
+        brought.places,
+        rows,
+        inherited,
+        synthesized,
+        productions,
+        start,
+    ) {
+        return 0;
+    }
+    34
+}
+
+// A feed: the tokens of the list, one after the other.
+fn feed_lent(
+    registers: &mut [i64],
+    places: &mut [u32],
+    program: &[u32],
+    rows: &[u8; 2048],
+    inherited: &[u8; 48],
+    synthesized: &[u8; 48],
+    productions: usize,
+    start: usize,
+    brought: Record,
+    tokens: &[u8],
+) -> Called
+    requires { ⌜ (length (now registers) ≤ 4096) × (length (now places) ≤ 1024) × Brought (now program) (now rows) (now inherited) (now synthesized) productions start ⌝ }
+    ensures { λ r. ⌜ ((g : Grammar) → Begins g (now (program .entry)) → Shown g (now (rows .entry)) (now (inherited .entry)) (now (synthesized .entry)) productions start → calledIs r (now (registers .exit)) (now (places .exit)) ≡ feedOf g (recordIs brought) (stacksOf (now (registers .entry)) (now (places .entry))) (now (tokens .entry))) ⌝ }
+{
+    let number = turned_back(registers, places, rows, inherited, synthesized, productions, start, brought);
+    if number != 0 {
+        return Called {
+            record: brought,
+            answer: Answer::Refused { number, tokens: 0 },
+        };
+    }
+    let run = run_of(places, program, brought);
+    fed(feed_tokens(registers, places, program, run, tokens))
+}
+
+// A finish: the moves that the end of the segment brings about.
+fn finish_lent(
+    registers: &mut [i64],
+    places: &mut [u32],
+    program: &[u32],
+    rows: &[u8; 2048],
+    inherited: &[u8; 48],
+    synthesized: &[u8; 48],
+    productions: usize,
+    start: usize,
+    brought: Record,
+) -> Called
+    requires { ⌜ (length (now registers) ≤ 4096) × (length (now places) ≤ 1024) × Brought (now program) (now rows) (now inherited) (now synthesized) productions start ⌝ }
+    ensures { λ r. ⌜ ((g : Grammar) → Begins g (now (program .entry)) → Shown g (now (rows .entry)) (now (inherited .entry)) (now (synthesized .entry)) productions start → calledIs r (now (registers .exit)) (now (places .exit)) ≡ finishOf g (recordIs brought) (stacksOf (now (registers .entry)) (now (places .entry)))) ⌝ }
+{
+    let number = turned_back(registers, places, rows, inherited, synthesized, productions, start, brought);
+    if number != 0 {
+        return Called {
+            record: brought,
+            answer: Answer::Refused { number, tokens: 0 },
+        };
+    }
+    let run = run_of(places, program, brought);
+    let ended = machine::advance(registers, places, program, run, 63);
+    finished(registers, program, ended)
 }
