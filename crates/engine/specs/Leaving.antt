@@ -30,6 +30,7 @@ use Rattle.registers.specs.Stack.{stack}
 use Rattle.machine.specs.Advancing.{Settles}
 use Rattle.fit.specs.Cut.{stacksOf}
 use Rattle.engine.specs.declared.Record.{Record}
+use Rattle.engine.specs.declared.Answer.{Answer}
 use Rattle.engine.specs.declared.Answer.the-variants.{More, Value, Refused}
 use Rattle.engine.specs.declared.Called.{Called}
 use Rattle.engine.specs.Records.{recordIs, calledIs}
@@ -38,6 +39,9 @@ use Rattle.engine.specs.Starting.{laid-all}
 -- the record of a run
 abbrev pub recordFrom : Bool → Run → Record
 recordFrom o run = record { «open» = o; tokens = run .tokens; moves = run .moves; registers = run .registers; places = run .places }
+
+abbrev pub closedFrom : Answer → Called
+closedFrom a = record { «record» = record { «open» = false; tokens = 0; moves = 0; registers = 0; places = 0 }; answer = a }
 
 -- what a feed hands back for what its tokens led to
 abbrev pub fedFrom : Ended.Ended → Called

@@ -4,3 +4,5 @@ pub mod Starting
 pub mod Leaving
 pub mod Judging
 pub mod Performing
+pub mod Opening
+pub mod Cutting

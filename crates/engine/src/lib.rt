@@ -1,5 +1,5 @@
 // 01's calls on a run: it is opened, fed lists of tokens, and finished.
-ghost use Prim.Native.Nat.{ℕ, _≤_, _<_};
+ghost use Prim.Native.Nat.{ℕ, _≤_, _<_, min};
 ghost use mathlib.Core.Path.{_≡_};
 ghost use mathlib.Core.List.{List};
 ghost use lib.IntN.{ℤ};
@@ -9,7 +9,7 @@ ghost use Rattle.machine.specs.Advancing.{Running};
 ghost use Rattle.meaning.specs.Rules.{WellFormed};
 ghost use Rattle.meaning.specs.Grammar.{Grammar};
 ghost use Rattle.meaning.specs.Fit.{Fit};
-ghost use Rattle.meaning.specs.Calls.{lentOf, configOf, feedOf, finishOf};
+ghost use Rattle.meaning.specs.Calls.{lentOf, configOf, openOf, feedOf, finishOf};
 ghost use Rattle.theory_program.specs.Addresses.{Begins};
 ghost use Rattle.theory_program.specs.Resuming.{placeAddress};
 ghost use Rattle.machine.specs.Held.{Held};
@@ -18,7 +18,7 @@ ghost use Rattle.fit.specs.Cut.{stacksOf};
 ghost use Rattle.engine.specs.Feeding.{FeedsToken, Feeds};
 ghost use Rattle.engine.specs.Records.{recordIs, calledIs};
 ghost use Rattle.engine.specs.Starting.{Stood, Standing, Fitting};
-ghost use Rattle.engine.specs.Leaving.{recordFrom, fedFrom, finishedFrom, Ending};
+ghost use Rattle.engine.specs.Leaving.{recordFrom, closedFrom, fedFrom, finishedFrom, Ending};
 ghost use Rattle.engine.specs.Judging.{Brought, turnedBack};
 
 use machine::Run;
@@ -111,7 +111,9 @@ fn feed_tokens(registers: &mut [i64], places: &mut [u32], program: &[u32], run: 
 
 // ---- from a record to a run
 
-// 01: the whole segment's place once the start symbol is left.
+// 01: the whole segment's place, while the start symbol is waited at and once it is left.
+const SEGMENT: u32 = 32768;
+
 const LEFT: usize = 32769;
 
 // The address at which a place goes on.
@@ -281,4 +283,140 @@ fn finish_lent(
     let run = run_of(places, program, brought);
     let ended = machine::advance(registers, places, program, run, 63);
     finished(registers, program, ended)
+}
+
+// ---- an opening
+
+// 01: "the record is closed and all zero".
+fn closed(answer: Answer) -> Called
+    ensures { λ r. ⌜ r ≡ closedFrom answer ⌝ }
+{
+    Called {
+        record: Record {
+            open: false,
+            tokens: 0,
+            moves: 0,
+            registers: 0,
+            places: 0,
+        },
+        answer,
+    }
+}
+
+// 01: "At opening 31 precedes 32, no stack is written".
+fn open_lent(registers: &mut [i64], places: &mut [u32], program: &[u32]) -> Called
+    requires { ⌜ (length (now registers) ≤ 4096) × (length (now places) ≤ 1024) × (4 < length (now program)) ⌝ }
+    ensures { λ r. ⌜ ((g : Grammar) → Begins g (now (program .entry)) → calledIs r (now (registers .exit)) (now (places .exit)) ≡ openOf g (stacksOf (now (registers .entry)) (now (places .entry)))) ⌝ }
+{
+    let count = machine::word_at(program, 4);
+    if registers.len() < count {
+        return closed(Answer::Refused {
+            number: 31,
+            tokens: 0,
+        });
+    }
+    if places.len() == 0 {
+        return closed(Answer::Refused {
+            number: 32,
+            tokens: 0,
+        });
+    }
+    clear_registers(registers);
+    clear_places(places);
+    places[0] = SEGMENT;
+    Called {
+        record: Record {
+            open: true,
+            tokens: 0,
+            moves: 0,
+            registers: count as u64,
+            places: 1,
+        },
+        answer: Answer::More(0),
+    }
+}
+
+// ---- the lent cells
+
+fn smaller(a: usize, b: usize) -> usize
+    ensures { λ r. ⌜ r ≡ min a b ⌝ }
+{
+    if a < b {
+        return a;
+    }
+    b
+}
+
+// 01: "cells past these are neither read nor written and don't count as lent".
+const REGISTERS: usize = 4096;
+
+const PLACES: usize = 1024;
+
+fn open_cells(registers: &mut [i64], places: &mut [u32], program: &[u32]) -> Called
+    requires { ⌜ 4 < length (now program) ⌝ }
+    ensures { λ r. ⌜ ((g : Grammar) → Begins g (now (program .entry)) → calledIs r (now (registers .exit)) (now (places .exit)) ≡ openOf g (stacksOf (now (registers .entry)) (now (places .entry)))) ⌝ }
+{
+    let n = smaller(registers.len(), REGISTERS);
+    let k = smaller(places.len(), PLACES);
+    open_lent(&mut registers[..n], &mut places[..k], program)
+}
+
+fn feed_cells(
+    registers: &mut [i64],
+    places: &mut [u32],
+    program: &[u32],
+    rows: &[u8; 2048],
+    inherited: &[u8; 48],
+    synthesized: &[u8; 48],
+    productions: usize,
+    start: usize,
+    brought: Record,
+    tokens: &[u8],
+) -> Called
+    requires { ⌜ Brought (now program) (now rows) (now inherited) (now synthesized) productions start ⌝ }
+    ensures { λ r. ⌜ ((g : Grammar) → Begins g (now (program .entry)) → Shown g (now (rows .entry)) (now (inherited .entry)) (now (synthesized .entry)) productions start → calledIs r (now (registers .exit)) (now (places .exit)) ≡ feedOf g (recordIs brought) (stacksOf (now (registers .entry)) (now (places .entry))) (now (tokens .entry))) ⌝ }
+{
+    let n = smaller(registers.len(), REGISTERS);
+    let k = smaller(places.len(), PLACES);
+    feed_lent(
+        &mut registers[..n],
+        &mut places[..k],
+        program,
+        rows,
+        inherited,
+        synthesized,
+        productions,
+        start,
+        brought,
+        tokens,
+    )
+}
+
+fn finish_cells(
+    registers: &mut [i64],
+    places: &mut [u32],
+    program: &[u32],
+    rows: &[u8; 2048],
+    inherited: &[u8; 48],
+    synthesized: &[u8; 48],
+    productions: usize,
+    start: usize,
+    brought: Record,
+) -> Called
+    requires { ⌜ Brought (now program) (now rows) (now inherited) (now synthesized) productions start ⌝ }
+    ensures { λ r. ⌜ ((g : Grammar) → Begins g (now (program .entry)) → Shown g (now (rows .entry)) (now (inherited .entry)) (now (synthesized .entry)) productions start → calledIs r (now (registers .exit)) (now (places .exit)) ≡ finishOf g (recordIs brought) (stacksOf (now (registers .entry)) (now (places .entry)))) ⌝ }
+{
+    let n = smaller(registers.len(), REGISTERS);
+    let k = smaller(places.len(), PLACES);
+    finish_lent(
+        &mut registers[..n],
+        &mut places[..k],
+        program,
+        rows,
+        inherited,
+        synthesized,
+        productions,
+        start,
+        brought,
+    )
 }
