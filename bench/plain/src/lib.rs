@@ -3,6 +3,7 @@ pub mod judge;
 pub mod listing;
 pub mod program;
 pub mod run;
+pub mod samples;
 pub mod table;
 
 use judge::Sets;
@@ -23,4 +24,21 @@ pub fn stretch(table: &[u8], p: usize) -> Result<(usize, usize), Refusal> {
     }
     let end = if p + 1 < o.productions { o.offsets[p + 1] as usize } else { table.len() };
     Ok((o.offsets[p] as usize, end))
+}
+
+#[cfg(test)]
+mod tests {
+    use super::*;
+
+    #[test]
+    fn samples_are_what_they_say() {
+        assert!(check(&samples::words()).is_ok());
+        for (n, third, conditions) in [(1, 0, 0), (4, 2, 8), (47, 33, 512)] {
+            let table = samples::chain(n, third, conditions);
+            assert!(check(&table).is_ok(), "{n}");
+            let late = check(&samples::refused_late(n, third, conditions)).err().unwrap();
+            assert_eq!((late.number, late.offset as usize), (13, table.len()));
+        }
+        println!("{} {} {}", samples::words().len(), samples::chain(4, 2, 8).len(), samples::chain(47, 33, 512).len());
+    }
 }

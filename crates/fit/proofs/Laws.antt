@@ -1,5 +1,5 @@
 -- The loops, a turn at a time.
-use Prim.Native.Nat.{ℕ, zero, suc, _+_, _-_, _*_, _<_, _≤_}
+use Prim.Native.Nat.{ℕ, suc, _+_, _-_, _*_, _<_, _≤_}
 use native.Mathlib.Numerals.{add-one}
 use native.Mathlib.Omega.{arith}
 use mathlib.Core.Path.{_≡_, refl, sym, ap, _∙_}
@@ -39,17 +39,17 @@ all-signed f xs i b l s e q = all-tested f xs i (pos 0) b l (e ∙ ap f (toZ-ofZ
 
 -- ---- a stretch of registers, its cells tested
 
-module _ (vs : List ℤ) (kind : Cell) (at n : ℕ) (fits : at + n ≤ length vs) (b : Bool) (e : b ≡ all (cellFits kind) (take (at + n - at) (drop at vs))) where
-  tested : b ≡ all (cellFits kind) (take n (drop at vs))
+module _ (vs : List ℤ) (c : Cell) (at n : ℕ) (fits : at + n ≤ length vs) (b : Bool) (e : b ≡ all (cellFits c) (take (at + n - at) (drop at vs))) where
+  tested : b ≡ all (cellFits c) (take n (drop at vs))
   tested =
       let d : at + n - at ≡ n = omega arith in
       rw d at e
 
-  pub stretch-met : b ≡ true → Passes vs (replicate n kind) at (at + n)
-  stretch-met q = passes-met vs kind at n fits (sym tested ∙ q)
+  pub stretch-met : b ≡ true → Passes vs (replicate n c) at (at + n)
+  stretch-met q = passes-met vs c at n fits (sym tested ∙ q)
 
-  pub stretch-not : b ≡ false → Passes vs (replicate n kind) at (length vs + 1)
-  stretch-not q = passes-not vs kind at n fits (sym tested ∙ q)
+  pub stretch-not : b ≡ false → Passes vs (replicate n c) at (length vs + 1)
+  stretch-not q = passes-not vs c at n fits (sym tested ∙ q)
 
 -- ---- the symbols passed
 

@@ -2,7 +2,7 @@
 use Prim.Native.Nat.{ℕ, _+_, _*_, _/_, _%_, _<_, _≤_}
 use native.Mathlib.Numerals.{add-one}
 use native.Mathlib.Omega.{arith}
-use mathlib.Core.Path.{_≡_, refl, sym, ap, ap₂, _∙_}
+use mathlib.Core.Path.{_≡_, refl, sym, ap, _∙_}
 use mathlib.Core.Bool.{Bool, true, false, _&&_, or-false}
 use mathlib.Core.List.{List, [], _∷_, _++_, append-nil}
 use borrow.Author.Tests.{ne-eqb}
@@ -13,8 +13,8 @@ use lib.Seq.{drop-cons}
 use Rattle.meaning.specs.Grammar.{Symbol, nonterminal, Grammar, productionAt, syn}
 use Rattle.meaning.specs.Table.{symbolOf}
 use Rattle.meaning.specs.Calls.{valued, marked, cellsFit, awaited}
-use Rattle.theory_base.specs.Members.{true→T, T→true, both}
-use Rattle.fit.specs.Upward.{Passes, passes-then, fitsFrom, from-start, from-end, standsFit, placeOn, placesAbove, cellsOf, cellsAbove}
+use Rattle.theory_base.specs.Members.{true→T, both}
+use Rattle.fit.specs.Upward.{Passes, passes-then, fitsFrom, from-start, from-end, standsFit, placesAbove, cellsOf, cellsAbove}
 use Rattle.fit.specs.Shown.{Shown, Readable, RowTo, countOf, countsFrom, rowOn, cellsAt, row-on, start-count, symbol-awaited, cells-of}
 
 -- the registers of a place, stretch by stretch

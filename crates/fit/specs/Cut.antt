@@ -1,7 +1,7 @@
 -- 34 looks at the lent cells alone. 01: "cells past these are neither read nor written and don't count as lent".
 use Prim.Native.Nat.{ℕ, zero, suc, _-_, _≤_, min}
 use native.Mathlib.Omega.{arith}
-use mathlib.Core.Path.{_≡_, refl, sym, ap, ap₂, _∙_}
+use mathlib.Core.Path.{_≡_, refl, sym, ap, ap₂}
 use mathlib.Core.Bool.{Bool, true, false, _&&_}
 use mathlib.Core.List.{List, [], _∷_, reverse}
 use borrow.Author.Tests.{leb-true}
@@ -69,20 +69,18 @@ fits-cut g r m =
 abbrev pub numbers : (tokens moves registerHeight placeHeight : ℕ) → Record
 numbers tokens moves registerHeight placeHeight = record { isOpen = true; tokens = tokens; moves = moves; registerHeight = registerHeight; placeHeight = placeHeight }
 
--- where all cells are lent: the tests in order
+-- where all cells are lent: the tests in their order, each by its outcome
 module _ (g : Grammar) (w : WellFormed g) (r : Record) (vs : List ℤ) (ps : List ℕ) (few : length vs ≤ 4096) (low : length ps ≤ 1024) where
-  pub fits-lent : stacksFit g r (stacksOf vs ps)
-      ≡ leb (r .tokens) tokensLimit && leb (r .moves) movesLimit
-        && leb (r .registerHeight) (length vs) && leb (r .placeHeight) (length ps)
-        && standsFit g (take (r .placeHeight) ps) (take (r .registerHeight) vs)
-        && all isMark (take (length vs - r .registerHeight) (drop (r .registerHeight) vs))
-        && all (λ p. eqb p 0) (take (length ps - r .placeHeight) (drop (r .placeHeight) ps))
-  fits-lent =
+  pub fits-by : {t m a b s x y : Bool}
+      → leb (r .tokens) tokensLimit ≡ t
+      → leb (r .moves) movesLimit ≡ m
+      → leb (r .registerHeight) (length vs) ≡ a
+      → leb (r .placeHeight) (length ps) ≡ b
+      → standsFit g (take (r .placeHeight) ps) (take (r .registerHeight) vs) ≡ s
+      → all isMark (take (length vs - r .registerHeight) (drop (r .registerHeight) vs)) ≡ x
+      → all (λ p. eqb p 0) (take (length ps - r .placeHeight) (drop (r .placeHeight) ps)) ≡ y
+      → stacksFit g r (stacksOf vs ps) ≡ t && m && a && b && s && x && y
+  fits-by et em ea eb es ex ey =
       let n : min (length vs) 4096 ≡ length vs = omega arith in
       let k : min (length ps) 1024 ≡ length ps = omega arith in
-      rw (n, k, stack-fits-up g w (take (r .placeHeight) ps) (take (r .registerHeight) vs)) refl
-
-  -- each test by its outcome
-  pub fits-by : {t m a b s x y : Bool} → leb (r .tokens) tokensLimit ≡ t → leb (r .moves) movesLimit ≡ m → leb (r .registerHeight) (length vs) ≡ a → leb (r .placeHeight) (length ps) ≡ b
-      → standsFit g (take (r .placeHeight) ps) (take (r .registerHeight) vs) ≡ s → all isMark (take (length vs - r .registerHeight) (drop (r .registerHeight) vs)) ≡ x → all (λ p. eqb p 0) (take (length ps - r .placeHeight) (drop (r .placeHeight) ps)) ≡ y → stacksFit g r (stacksOf vs ps) ≡ t && m && a && b && s && x && y
-  fits-by et em ea eb es ex ey = fits-lent ∙ rw (et, em, ea, eb, es, ex, ey) refl
+      rw (n, k, stack-fits-up g w (take (r .placeHeight) ps) (take (r .registerHeight) vs), et, em, ea, eb, es, ex, ey) refl

@@ -1,3 +1,4 @@
 pub mod Upward
 pub mod Shown
 pub mod Cut
+pub mod Examples

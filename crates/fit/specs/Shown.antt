@@ -3,7 +3,7 @@ use Prim.Native.Nat.{ℕ, zero, suc, _+_, _-_, _*_, _/_, _%_, _≤_, _<_}
 use native.Mathlib.Omega.{arith}
 use mathlib.Core.Path.{_≡_, refl, sym, ap, ap₂, _∙_, subst}
 use mathlib.Core.Bool.{Bool, true, false, _&&_, cond}
-use mathlib.Core.List.{List, [], _∷_, _++_, map}
+use mathlib.Core.List.{List, _++_, map}
 use borrow.Author.Tests.{lt-ltb, le-ltb, ltb-true, ltb-false, eq-eqb, ne-eqb, eqb-true, eqb-false}
 use lib.ListN.{getD, length, take, drop, replicate}
 use lib.Seq.{drop-cons}
@@ -169,7 +169,7 @@ module _ {g : Grammar} {rows inherited synthesized : List ℕ} {productions star
         let known = known-at (p / 256) (p % 256) l k in
         let e : 16 * (p / 256) + 2 + 0 ≡ 16 * (p / 256) + 2 = omega arith in
         let c : countsFrom rows synthesized (16 * (p / 256) + 2) (p % 256) ≡ total (map (syn g) (take (p % 256) (productionAt g (p / 256) .right))) =
-            ap (λ j. countsFrom rows synthesized j (p % 256)) (sym e) ∙ counts-from (syn g) (λ t. refl) synthesized (s .synthesizedOf) (p / 256) l (p % 256) 0 (omega arith) in
+        ap (λ j. countsFrom rows synthesized j (p % 256)) (sym e) ∙ counts-from (syn g) (λ t. refl) synthesized (s .synthesizedOf) (p / 256) l (p % 256) 0 (omega arith) in
         let a : countOf synthesized x ≡ syn g (awaited g p) = count-of (syn g) (λ t. refl) synthesized (s .synthesizedOf) x known ∙ ap (syn g) symbol-awaited in
         let b : countOf inherited x ≡ inh g (awaited g p) = count-of (inh g) (λ t. refl) inherited (s .inheritedOf) x known ∙ ap (inh g) symbol-awaited in
         ap₂ (λ n r. replicate n valued ++ r) c (ap₂ (λ m n. replicate m marked ++ replicate n valued) a b)

@@ -5,14 +5,14 @@ use mathlib.Core.Path.{_≡_, refl, sym, ap, ap₂, _∙_}
 use mathlib.Core.Bool.{Bool, true, false, _&&_, _||_, and-true, and-false, and-assoc}
 use mathlib.Core.List.{List, [], _∷_, _++_, map, reverseAux, reverse, reverse-append, reverse-reverse, append-assoc, append-nil}
 use borrow.Author.Tests.{le-leb, lt-leb, leb-true, leb-false, eqb-true, eq-eqb, ne-eqb}
-use lib.ListN.{length, take, drop, replicate, length-append, length-replicate, length-reverseAux, length-drop, drop-of-length-le}
+use lib.ListN.{length, take, drop, replicate, length-append, length-replicate, length-reverseAux, length-drop}
 use lib.Seq.{drop-drop}
 use lib.Dec.{eqb, ltb, leb}
 use lib.IntN.{ℤ}
 use Rattle.meaning.specs.Base.{all, total, isEmpty}
 use Rattle.meaning.specs.Grammar.{Symbol, nonterminal, Grammar, productionAt, inh, syn, isNonterminal, whole}
 use Rattle.meaning.specs.Rules.{WellFormed}
-use Rattle.meaning.specs.Calls.{Cell, valued, marked, cellFits, cellsFit, synCells, waitingCells, awaited, placesFit, placeCells, stackFits}
+use Rattle.meaning.specs.Calls.{Cell, valued, marked, cellFits, cellsFit, waitingCells, awaited, placesFit, placeCells, stackFits}
 use Rattle.theory_answers.specs.FitTest.{syn-cells, alone}
 use Rattle.registers.specs.Stack.{reverse-replicate}
 
@@ -52,6 +52,11 @@ fit-short c n ds vs l = unfit (replicate n c ++ ds) vs (λ e. omega (arith, leng
 -- the registers from `at` on are those of the cells; past the end none are
 unfoldable pub fitsFrom : List ℤ → ℕ → List Cell → Bool
 fitsFrom vs at cs = leb at (length vs) && cellsFit cs (drop at vs)
+
+-- the kind of a cell by whether it is marked
+abbrev pub kind : Bool → Cell
+kind true = marked
+kind false = valued
 
 -- cells cs, from `at` on, are passed at r; past the end where they do not fit
 pub record Passes (vs : List ℤ) (cs : List Cell) (at r : ℕ) : Type 0 where
@@ -161,7 +166,7 @@ module _ (g : Grammar) where
       let below : List Cell = placeCells g qs in
       let lower : reverse (replicate t valued ++ below) ≡ reverse below ++ replicate t valued = reverse-append (replicate t valued) below ∙ ap (λ z. reverse below ++ z) (reverse-replicate t valued) in
       let upper : reverse (waitingCells g x) ≡ replicate (syn g x) marked ++ replicate (inh g x) valued =
-          reverse-append (replicate (inh g x) valued) (replicate (syn g x) marked) ∙ ap₂ (λ y z. y ++ z) (reverse-replicate (syn g x) marked) (reverse-replicate (inh g x) valued) in
+      reverse-append (replicate (inh g x) valued) (replicate (syn g x) marked) ∙ ap₂ (λ y z. y ++ z) (reverse-replicate (syn g x) marked) (reverse-replicate (inh g x) valued) in
       ap (λ z. reverse (waitingCells g x ++ z)) (syn-cells g (take (p % 256) (productionAt g (p / 256) .right)) below)
       ∙ (reverse-append (waitingCells g x) (replicate t valued ++ below)
       ∙ (ap₂ (λ y z. y ++ z) lower upper

@@ -1,15 +1,14 @@
 // 34: whether the stacks fit, in any record and any lent cells. Registers are taken from the bottom up, as the places tell them.
 ghost use Prim.Native.Nat.{_+_, _*_, _<_, _≤_};
 ghost use mathlib.Core.Path.{_≡_};
-ghost use mathlib.Core.Bool.{_&&_, true};
-ghost use mathlib.Core.List.{reverse};
-ghost use lib.ListN.{length, getD, drop, replicate};
+ghost use mathlib.Core.Bool.{_&&_};
+ghost use lib.ListN.{length, drop, replicate};
 ghost use lib.Dec.{eqb};
 ghost use Rattle.meaning.specs.Base.{all};
 ghost use Rattle.meaning.specs.Grammar.{Grammar, nonterminal};
 ghost use Rattle.meaning.specs.Value.{inRange};
-ghost use Rattle.meaning.specs.Calls.{isMark, valued, marked, stackFits, stacksFit};
-ghost use Rattle.fit.specs.Upward.{Passes, fitsFrom, placesAbove, cellsAbove, standsFit};
+ghost use Rattle.meaning.specs.Calls.{isMark, cellFits, stacksFit};
+ghost use Rattle.fit.specs.Upward.{kind, Passes, fitsFrom, placesAbove, cellsAbove, standsFit};
 ghost use Rattle.fit.specs.Shown.{Shown, Readable, RowTo, countOf, countsFrom, rowOn, cellsAt};
 ghost use Rattle.fit.specs.Cut.{numbers, stacksOf};
 
@@ -64,32 +63,26 @@ fn all_zero(cells: &[u32]) -> bool
     bits == 0
 }
 
-// ---- registers of a kind, from a position up
-
-// Where `count` values from `at` on end; past the end of the registers if they do not stand there.
-fn past_valued(registers: &[i64], at: usize, count: usize) -> usize
-    requires { ⌜ (at ≤ length (now registers) + 1) × (count ≤ 4096) ⌝ }
-    ensures { λ r. ⌜ Passes (now (registers .entry)) (replicate count valued) at r ⌝ }
+// Whether all cells are marked, or all have values.
+fn all_fit(cells: &[i64], marked: bool) -> bool
+    ensures { λ r. ⌜ r ≡ all (cellFits (kind marked)) (now (cells .entry)) ⌝ }
 {
-    let end = at + count;
-    if registers.len() < end {
-        return registers.len() + 1;
+    if marked {
+        return all_marked(cells);
     }
-    if all_valued(&registers[at..end]) {
-        return end;
-    }
-    registers.len() + 1
+    all_valued(cells)
 }
 
-fn past_marked(registers: &[i64], at: usize, count: usize) -> usize
+// Where `count` registers of a kind end that stand from `at` on; past the end of the registers where they do not stand.
+fn past(registers: &[i64], at: usize, count: usize, marked: bool) -> usize
     requires { ⌜ (at ≤ length (now registers) + 1) × (count ≤ 4096) ⌝ }
-    ensures { λ r. ⌜ Passes (now (registers .entry)) (replicate count marked) at r ⌝ }
+    ensures { λ r. ⌜ Passes (now (registers .entry)) (replicate count (kind marked)) at r ⌝ }
 {
     let end = at + count;
     if registers.len() < end {
         return registers.len() + 1;
     }
-    if all_marked(&registers[at..end]) {
+    if all_fit(&registers[at..end], marked) {
         return end;
     }
     registers.len() + 1
@@ -115,12 +108,7 @@ fn count_of(counts: &[u8; 48], symbol: usize) -> usize
 }
 
 // The counts of the first `passed` symbols of a production.
-fn counts_passed(
-    rows: &[u8; 2048],
-    counts: &[u8; 48],
-    production: usize,
-    passed: usize,
-) -> usize
+fn counts_passed(rows: &[u8; 2048], counts: &[u8; 48], production: usize, passed: usize) -> usize
     requires { ⌜ RowTo (now rows) production passed ⌝ }
     ensures { λ r. ⌜ (r ≡ countsFrom (now (rows .entry)) (now (counts .entry)) (16 * production + 2) passed) × (r ≤ 4096) ⌝ }
 {
@@ -167,9 +155,14 @@ fn past_place(
     ensures { λ r. ⌜ Passes (now (registers .entry)) (cellsAt (now (rows .entry)) (now (inherited .entry)) (now (synthesized .entry)) production passed) at r ⌝ }
 {
     let symbol = wide(rows[16 * production + (passed + 2)]);
-    let below = past_valued(registers, at, counts_passed(rows, synthesized, production, passed));
-    let middle = past_marked(registers, below, count_of(synthesized, symbol));
-    past_valued(registers, middle, count_of(inherited, symbol))
+    let below = past(
+        registers,
+        at,
+        counts_passed(rows, synthesized, production, passed),
+        false,
+    );
+    let middle = past(registers, below, count_of(synthesized, symbol), true);
+    past(registers, middle, count_of(inherited, symbol), false)
 }
 
 // Whether the places above the bottom one stand on each other, and the registers from `at` up are theirs.
@@ -194,7 +187,15 @@ fn stand_above(
         if stands_on(rows, productions, awaited, place) {
             let production = (place / 256) as usize;
             let passed = (place % 256) as usize;
-            reached = past_place(registers, reached, rows, inherited, synthesized, production, passed);
+            reached = past_place(
+                registers,
+                reached,
+                rows,
+                inherited,
+                synthesized,
+                production,
+                passed,
+            );
             awaited = wide(rows[16 * production + (passed + 2)]);
             i += 1;
         } else {
@@ -228,13 +229,22 @@ fn stand(
         if places.len() != 1 {
             return false;
         }
-        return past_valued(registers, 0, count) == registers.len();
+        return past(registers, 0, count, false) == registers.len();
     }
     if bottom != SEGMENT {
         return false;
     }
-    let at = past_marked(registers, 0, count);
-    stand_above(registers, at, places, rows, inherited, synthesized, productions, start)
+    let at = past(registers, 0, count, true);
+    stand_above(
+        registers,
+        at,
+        places,
+        rows,
+        inherited,
+        synthesized,
+        productions,
+        start,
+    )
 }
 
 // 34: whether the lent cells that count fit a record's numbers.
@@ -268,7 +278,15 @@ pub fn fits(
     if places.len() < top {
         return false;
     }
-    if !stand(&registers[..height], &places[..top], rows, inherited, synthesized, productions, start) {
+    if !stand(
+        &registers[..height],
+        &places[..top],
+        rows,
+        inherited,
+        synthesized,
+        productions,
+        start,
+    ) {
         return false;
     }
     if !all_marked(&registers[height..]) {

@@ -1,8 +1,8 @@
-use Prim.Native.Nat.{ℕ, _-_, _≤_}
+use Prim.Native.Nat.{_-_, _≤_}
 use native.Mathlib.Omega.{arith}
 use mathlib.Core.Path.{_≡_, refl}
-use mathlib.Core.Bool.{Bool, _&&_}
-use borrow.Author.Needs.{needs, sfits-of}
+use mathlib.Core.Bool.{_&&_}
+use borrow.Author.Needs.{sfits-of}
 use denote.Ref.{now}
 use lib.Dec.{eqb}
 use lib.ListN.{length, getD, drop}
@@ -15,8 +15,6 @@ use Rattle.meaning.specs.Calls.{isMark}
 use Rattle.fit.proofs.Laws.{mark-bits, gather-turn, gather-end}
 use Rattle.fit.proofs.all_marked.Statement.{statement}
 use Rattle.fit.proofs.all_marked.Tie as tie
-use Rattle.fit.proofs.all_marked.Reads as reads
-use Rattle.fit.proofs.all_marked.Lts as lts
 
 abbrev Inv-loop : tie.InvT-loop
 Inv-loop cells differing₀ i₀ differing i = (i ≤ length cells) × (all isMark cells ≡ eqb differing 0 && all isMark (drop i cells))
@@ -24,27 +22,21 @@ Inv-loop cells differing₀ i₀ differing i = (i ≤ length cells) × (all isMa
 abbrev μ-loop : tie.MeasureT-loop
 μ-loop cells differing₀ i₀ differing i = length cells - i
 
--- src/lib.rt:33:5
 loop-holds : tie.Need-loop-holds Inv-loop μ-loop
 loop-holds c = (omega arith, refl)
 
--- src/lib.rt:34:22
 mul-differing : tie.Need-mul-differing Inv-loop μ-loop
 mul-differing c = omega arith
 
--- src/lib.rt:34:22
 shared-slice-copy-out-differing : tie.Need-shared-slice-copy-out-differing Inv-loop μ-loop
 shared-slice-copy-out-differing c = omega arith
 
--- src/lib.rt:35:9
 add-i : tie.Need-add-i Inv-loop μ-loop
 add-i c = omega arith
 
--- src/lib.rt:33:5
 loop-less : tie.Need-loop-less Inv-loop μ-loop
 loop-less c = omega arith
 
--- src/lib.rt:33:5
 loop-again : tie.Need-loop-again Inv-loop μ-loop
 loop-again c =
     let l = c .before .before .loop in
@@ -52,7 +44,6 @@ loop-again c =
     let v : ℤ = getD cells (l .i) (pos 0) in
     (omega arith, gather-turn isMark cells (l .i) (pos 0) (l .differing) (bitXor (ofZ w64 v) 9223372036854775808) (omega arith) (mark-bits v (sfits-of (c .differing .given))) (l .inv .1))
 
--- src/lib.rt:28:1
 returns : tie.Need-returns Inv-loop μ-loop
 returns c = gather-end isMark (now (c .before .before .args .cells)) (c .before .loop .i) (c .before .loop .differing) (c .loop-test .left) (c .before .loop .inv .1)
 

@@ -1,8 +1,7 @@
 use Prim.Native.Nat.{_+_, _-_, _≤_}
 use native.Mathlib.Omega.{arith}
-use mathlib.Core.Path.{_≡_, sym, ap, _∙_}
-use mathlib.Core.Bool.{Bool, true, false, _&&_}
-use mathlib.Core.List.{List}
+use mathlib.Core.Path.{_≡_, sym, _∙_}
+use mathlib.Core.Bool.{_&&_}
 use borrow.Author.Needs.{needs, sfits-of}
 use denote.Ref.{now}
 use lib.ListN.{length, drop}
@@ -11,8 +10,6 @@ use Rattle.meaning.specs.Value.{inRange}
 use Rattle.fit.proofs.Laws.{all-signed, all-end}
 use Rattle.fit.proofs.all_valued.Statement.{statement}
 use Rattle.fit.proofs.all_valued.Tie as tie
-use Rattle.fit.proofs.all_valued.Reads as reads
-use Rattle.fit.proofs.all_valued.Lts as lts
 
 abbrev Inv-loop : tie.InvT-loop
 Inv-loop cells i₀ i = (i ≤ length cells) × (all inRange cells ≡ all inRange (drop i cells))

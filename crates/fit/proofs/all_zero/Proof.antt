@@ -2,7 +2,6 @@ use Prim.Native.Nat.{ℕ, _-_, _≤_}
 use native.Mathlib.Omega.{arith}
 use mathlib.Core.Path.{_≡_, refl}
 use mathlib.Core.Bool.{Bool, _&&_}
-use borrow.Author.Needs.{needs}
 use denote.Ref.{now}
 use lib.Dec.{eqb}
 use lib.ListN.{length, getD, drop}
@@ -10,8 +9,6 @@ use Rattle.meaning.specs.Base.{all}
 use Rattle.fit.proofs.Laws.{gather-turn, gather-end}
 use Rattle.fit.proofs.all_zero.Statement.{statement}
 use Rattle.fit.proofs.all_zero.Tie as tie
-use Rattle.fit.proofs.all_zero.Reads as reads
-use Rattle.fit.proofs.all_zero.Lts as lts
 
 abbrev isZero : ℕ → Bool
 isZero p = eqb p 0
@@ -22,34 +19,27 @@ Inv-loop cells bits₀ i₀ bits i = (i ≤ length cells) × (all isZero cells �
 abbrev μ-loop : tie.MeasureT-loop
 μ-loop cells bits₀ i₀ bits i = length cells - i
 
--- src/lib.rt:60:5
 loop-holds : tie.Need-loop-holds Inv-loop μ-loop
 loop-holds c = (omega arith, refl)
 
--- src/lib.rt:61:17
 mul-bits : tie.Need-mul-bits Inv-loop μ-loop
 mul-bits c = omega arith
 
--- src/lib.rt:61:17
 shared-slice-read-bits : tie.Need-shared-slice-read-bits Inv-loop μ-loop
 shared-slice-read-bits c = omega arith
 
--- src/lib.rt:62:9
 add-i : tie.Need-add-i Inv-loop μ-loop
 add-i c = omega arith
 
--- src/lib.rt:60:5
 loop-less : tie.Need-loop-less Inv-loop μ-loop
 loop-less c = omega arith
 
--- src/lib.rt:60:5
 loop-again : tie.Need-loop-again Inv-loop μ-loop
 loop-again c =
     let l = c .before .before .loop in
     let cells = now (c .before .before .before .args .cells) in
     (omega arith, gather-turn isZero cells (l .i) 0 (l .bits) (getD cells (l .i) 0) (omega arith) refl (l .inv .1))
 
--- src/lib.rt:55:1
 returns : tie.Need-returns Inv-loop μ-loop
 returns c = gather-end isZero (now (c .before .before .args .cells)) (c .before .loop .i) (c .before .loop .bits) (c .loop-test .left) (c .before .loop .inv .1)
 

@@ -1,4 +1,4 @@
-use Prim.Native.Nat.{ℕ, _+_, _-_, _*_, _/_, _%_, _≤_, _<_}
+use Prim.Native.Nat.{ℕ, _+_, _-_, _/_, _%_, _≤_}
 use native.Mathlib.Omega.{arith}
 use mathlib.Core.Path.{_≡_, sym, ap, _∙_}
 use mathlib.Core.Bool.{true}
@@ -7,16 +7,10 @@ use denote.Ref.{now}
 use lib.ListN.{length, getD, drop}
 use Rattle.meaning.specs.Grammar.{Grammar, nonterminal}
 use Rattle.meaning.specs.Table.{symbolOf}
-use Rattle.fit.specs.Shown.{Shown, Readable, RowTo, rowOn, symbol-high}
-use Rattle.fit.specs.Upward.{Passes}
+use Rattle.fit.specs.Shown.{Shown, RowTo, rowOn, symbol-high}
 use Rattle.fit.proofs.Places.{stands, row-readable, stands-not, stands-turn, stands-end}
 use Rattle.fit.proofs.stand_above.Statement.{statement}
 use Rattle.fit.proofs.stand_above.Tie as tie
-use Rattle.fit.proofs.stand_above.Reads as reads
-use Rattle.fit.proofs.stand_above.Lts as lts
-use Rattle.fit.proofs.past_place.Reads as past-place-reads
-use Rattle.fit.proofs.stands_on.Reads as stands-on-reads
-use Rattle.fit.proofs.wide.Reads as wide-reads
 
 abbrev Inv-loop : tie.InvT-loop
 Inv-loop registers at places rows inherited synthesized productions start reached₀ awaited₀ i₀ reached awaited i =
@@ -36,69 +30,53 @@ passed c = sym (c .before .stands-on .ensures) ∙ c .if1 .taken
 row : (c : tie.Then1 Inv-loop μ-loop) → RowTo (now (c .before .before .before .before .before .before .args .rows)) (place c / 256) (place c % 256)
 row c = row-readable (now (c .before .before .before .before .before .before .args .rows)) (c .before .before .before .before .before .before .args .productions) (c .before .before .before .before .loop .awaited) (place c) (passed c) (c .before .before .before .before .before .before .pre .1)
 
--- src/lib.rt:183:23
 add-awaited : tie.Need-add-awaited Inv-loop μ-loop
 add-awaited c = omega (arith, c .before .pre .1 .begins)
 
--- src/lib.rt:185:5
 loop-holds : tie.Need-loop-holds Inv-loop μ-loop
 loop-holds c =
     let s = c .before in
     (s .pre .0, λ g h. ap (λ x. stands g x (drop 1 (now (s .args .places))) (now (s .args .registers)) (s .args .at)) (ap nonterminal (h .begins) ∙ sym (symbol-high (s .args .start))))
 
--- src/lib.rt:186:21
 mul-place : tie.Need-mul-place Inv-loop μ-loop
 mul-place c = omega arith
 
--- src/lib.rt:186:21
 shared-slice-read-place : tie.Need-shared-slice-read-place Inv-loop μ-loop
 shared-slice-read-place c = omega arith
 
--- src/lib.rt:187:12
 stands-on-requires : tie.Need-stands-on-requires Inv-loop μ-loop
 stands-on-requires c κs = c .before .before .before .before .pre .1 .few
 
--- src/lib.rt:188:30
 cast-production : tie.Need-cast-production Inv-loop μ-loop
 cast-production c = omega (arith, row c .few)
 
--- src/lib.rt:189:26
 cast-passed : tie.Need-cast-passed Inv-loop μ-loop
 cast-passed c = search needs
 
--- src/lib.rt:190:13
 past-place-requires : tie.Need-past-place-requires Inv-loop μ-loop
 past-place-requires c κs = (c .before .before .before .before .loop .inv .0, row c)
 
--- src/lib.rt:191:33
 mul-wide : tie.Need-mul-wide Inv-loop μ-loop
 mul-wide c = omega (arith, row (c .before) .few)
 
--- src/lib.rt:191:52
 add-wide : tie.Need-add-wide Inv-loop μ-loop
 add-wide c = omega arith
 
--- src/lib.rt:191:33
 add-wide-2 : tie.Need-add-wide-2 Inv-loop μ-loop
 add-wide-2 c = omega (arith, row (c .before) .few)
 
--- src/lib.rt:191:28
 element-copy-out-wide : tie.Need-element-copy-out-wide Inv-loop μ-loop
 element-copy-out-wide c = omega (arith, row (c .before) .few, row (c .before) .short)
 
--- src/lib.rt:191:13
 wide-requires : tie.Need-wide-requires Inv-loop μ-loop
 wide-requires c κs = search needs
 
--- src/lib.rt:192:13
 add-i : tie.Need-add-i Inv-loop μ-loop
 add-i c = omega arith
 
--- src/lib.rt:185:5
 loop-less : tie.Need-loop-less Inv-loop μ-loop
 loop-less c = omega arith
 
--- src/lib.rt:185:5
 loop-again : tie.Need-loop-again Inv-loop μ-loop
 loop-again c =
     let p = c .before .before in
@@ -107,18 +85,16 @@ loop-again c =
     let a = s .args in (
       p .past-place .ensures .inside,
       λ g h. l .inv .1 g h
-        ∙ (stands-turn h (now (a .registers)) (now (a .places)) (l .i) (l .reached) (l .awaited) (p .before .before .before .before .loop-test .taken) (passed (p .before)) (p .past-place .ensures)
-        ∙ ap (λ x. stands g (symbolOf x) (drop (l .i + 1) (now (a .places))) (now (a .registers)) (p .past-place .result)) (sym (c .wide .ensures .0))),
+          ∙ (stands-turn h (now (a .registers)) (now (a .places)) (l .i) (l .reached) (l .awaited) (p .before .before .before .before .loop-test .taken) (passed (p .before)) (p .past-place .ensures)
+          ∙ ap (λ x. stands g (symbolOf x) (drop (l .i + 1) (now (a .places))) (now (a .registers)) (p .past-place .result)) (sym (c .wide .ensures .0))),
     )
 
--- src/lib.rt:194:13
 returns : tie.Need-returns Inv-loop μ-loop
 returns c =
     let l = c .before .before .before .before .loop in
     let a = c .before .before .before .before .before .before .args in
     λ g h. sym (l .inv .1 g h ∙ stands-not h (now (a .registers)) (now (a .places)) (l .i) (l .reached) (l .awaited) (c .before .before .before .loop-test .taken) (sym (c .before .stands-on .ensures) ∙ c .if1 .left))
 
--- src/lib.rt:169:1
 returns-2 : tie.Need-returns-2 Inv-loop μ-loop
 returns-2 c =
     let l = c .before .loop in

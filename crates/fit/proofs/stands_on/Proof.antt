@@ -1,5 +1,5 @@
 use Prim.Native.Nat.{ℕ, _+_, _*_, _/_, _%_, _<_, _≤_}
-use mathlib.Core.Path.{refl, sym, ap, _∙_}
+use mathlib.Core.Path.{refl, ap}
 use native.Mathlib.Omega.{arith}
 use borrow.Author.Needs.{needs}
 use borrow.Author.Tests.{lt-ltb, le-ltb}
@@ -8,9 +8,6 @@ use lib.Dec.{eqb}
 use lib.ListN.{getD}
 use Rattle.fit.proofs.stands_on.Statement.{statement}
 use Rattle.fit.proofs.stands_on.Tie as tie
-use Rattle.fit.proofs.stands_on.Reads as reads
-use Rattle.fit.proofs.stands_on.Lts as lts
-use Rattle.fit.proofs.wide.Reads as wide-reads
 
 cast-production : tie.Need-cast-production
 cast-production c = search needs

@@ -1,0 +1,83 @@
+//! Tables to measure with.
+
+fn field(table: &mut Vec<u8>, tag: u8, body: &[u8]) {
+    table.extend([tag, (body.len() / 256) as u8, (body.len() % 256) as u8]);
+    table.extend(body);
+}
+
+/// Document 01's grammar of words and tags.
+pub fn words() -> Vec<u8> {
+    let mut t = Vec::new();
+    field(&mut t, 1, &[3, 2, 0, 1]);
+    field(&mut t, 2, &[0, 1]);
+    field(&mut t, 2, &[1, 1]);
+    field(&mut t, 3, &[0, 1, 129]);
+    field(&mut t, 4, &[1, 1, 0, 0, 0, 0, 0]);
+    field(&mut t, 4, &[0, 1, 1, 1, 2]);
+    field(&mut t, 3, &[1, 2, 0, 129]);
+    field(&mut t, 4, &[2, 1, 1, 0, 1]);
+    field(&mut t, 4, &[0, 2, 7, 2, 2, 0, 0, 0, 1]);
+    field(&mut t, 3, &[1, 4, 1, 129, 2, 129]);
+    field(&mut t, 4, &[2, 1, 7, 0, 1, 0, 0, 0, 1]);
+    field(&mut t, 4, &[4, 1, 1, 0, 1]);
+    field(&mut t, 4, &[0, 2, 2, 2, 2, 4, 2]);
+    field(&mut t, 5, &[0, 0, 1, 0, 0, 0, 0, 0, 0, 0, 2]);
+    field(&mut t, 3, &[1, 0]);
+    field(&mut t, 4, &[0, 2, 0, 0, 0, 0, 0]);
+    t
+}
+
+/// A chain of n nonterminals, 1 to 47, behind the start symbol; each has a production of tokens only, one that goes on to the next
+/// nonterminal and, up to `third` of them, one that goes on twice. `conditions` entry ranges in all, at most 4 a production.
+/// With 47, 33 and 512 it is nearly the largest table that can be accepted.
+pub fn chain(n: usize, third: usize, conditions: usize) -> Vec<u8> {
+    let mut t = Vec::new();
+    let mut ranges = conditions;
+    field(&mut t, 1, &[63, n as u8 + 1, 0, 1]);
+    field(&mut t, 2, &[0, 1]);
+    for _ in 0..n {
+        field(&mut t, 2, &[4, 4]);
+    }
+    field(&mut t, 3, &[0, 12, 129, 9, 9, 9, 9, 9, 9, 9, 9, 9, 9, 9]);
+    for a in 1..=4 {
+        field(&mut t, 4, &[1, a, 0, 0, 0, 0, a]);
+    }
+    field(&mut t, 4, &[0, 1, 7, 1, 5, 0, 0, 0, 1]);
+    for k in 1..=n {
+        let next = 128 + k as u8 + 1;
+        let kinds = 1 + (k < n) as usize + (k < n && k <= third) as usize;
+        for kind in 0..kinds {
+            let mut body = vec![k as u8, 12];
+            body.push(kind as u8);
+            body.extend(std::iter::repeat(next).take(kind));
+            body.resize(14, 9);
+            field(&mut t, 3, &body);
+            for child in 0..kind as u8 {
+                for a in 1..=4 {
+                    field(&mut t, 4, &[2 + child, a, 7, 0, a, 0, 0, 0, 1]);
+                }
+            }
+            for a in 5..=8 {
+                let from = if kind == 0 { [0, a - 4] } else { [1 + kind as u8, a] };
+                field(&mut t, 4, &[0, a, 7, from[0], from[1], 0, 0, 0, 1]);
+            }
+            for a in 1..=4 {
+                if ranges > 0 {
+                    ranges -= 1;
+                    field(&mut t, 5, &[0, 0, a, 0xff, 0xff, 0, 0, 0, 0, 0xff, 0xff]);
+                }
+            }
+        }
+    }
+    t
+}
+
+/// The same table, refused by 13 at its last production, which another one clashes with.
+pub fn refused_late(n: usize, third: usize, conditions: usize) -> Vec<u8> {
+    let mut t = chain(n, third, conditions);
+    field(&mut t, 3, &[n as u8, 1, 0]);
+    for a in 5..=8 {
+        field(&mut t, 4, &[0, a, 1, 0, a - 4]);
+    }
+    t
+}

@@ -1,0 +1,73 @@
+-- Rows: 01's grammar of words and tags, stopped after word open.
+use Prim.Native.Nat.{ℕ}
+use mathlib.Core.Path.{_≡_, refl}
+use mathlib.Core.Bool.{true, false}
+use mathlib.Core.List.{List, [], _∷_, _++_}
+use lib.ListN.{replicate}
+use lib.IntN.{ℤ, pos}
+use Rattle.meaning.specs.Value.{mark}
+use Rattle.meaning.specs.Words.{words}
+use Rattle.meaning.specs.Calls.{stacksFit}
+use Rattle.fit.specs.Upward.{kind, fitsFrom, placesAbove, cellsAbove, standsFit}
+use Rattle.fit.specs.Shown.{countOf, countsFrom, rowOn, cellsAt}
+use Rattle.fit.specs.Cut.{numbers, stacksOf}
+
+-- 01: "places from the bottom 32768, 0, 257, 513"; the registers from the bottom, the highest but one as given
+abbrev places : List ℕ
+places = 32768 ∷ 0 ∷ 257 ∷ 513 ∷ []
+
+abbrev registers : ℤ → List ℤ
+registers v = mark ∷ mark ∷ pos 0 ∷ mark ∷ pos 0 ∷ v ∷ pos 1 ∷ []
+
+fits : standsFit words places (registers mark) ≡ true
+unfolding standsFit placesAbove cellsAbove
+fits = refl
+
+-- a waiting symbol's synthesized register is marked
+valued-waiting : standsFit words places (registers (pos 0)) ≡ false
+unfolding standsFit placesAbove cellsAbove
+valued-waiting = refl
+
+-- the start symbol is left: its value alone, and one place
+left : standsFit words (32769 ∷ []) (pos 2 ∷ []) ≡ true
+unfolding standsFit
+left = refl
+
+left-on-left : standsFit words (32769 ∷ 32769 ∷ []) (pos 2 ∷ []) ≡ false
+unfolding standsFit
+left-on-left = refl
+
+-- the start symbol's register and the first place's two are passed
+from-two : fitsFrom (registers mark) 3 (cellsAbove words (257 ∷ 513 ∷ [])) ≡ true
+unfolding fitsFrom cellsAbove
+from-two = refl
+
+-- the rows of productions 0 and 1, and the counts
+abbrev rows : List ℕ
+rows = 0 ∷ 1 ∷ 129 ∷ replicate 13 0 ++ (1 ∷ 2 ∷ 0 ∷ 129 ∷ [])
+
+abbrev inherited : List ℕ
+inherited = 0 ∷ 1 ∷ []
+
+abbrev synthesized : List ℕ
+synthesized = 1 ∷ 1 ∷ []
+
+on-first : rowOn rows 2 129 257 ≡ true
+on-first = refl
+
+on-start : rowOn rows 2 128 257 ≡ false
+on-start = refl
+
+no-symbol-left : rowOn rows 2 129 258 ≡ false
+no-symbol-left = refl
+
+cells : cellsAt rows inherited synthesized 1 1 ≡ kind true ∷ kind false ∷ []
+unfolding countOf countsFrom
+cells = refl
+
+-- 34 on lent cells, all above the heights cleared, and one not
+cleared : stacksFit words (numbers 2 11 7 4) (stacksOf (registers mark ++ (mark ∷ [])) (places ++ (0 ∷ []))) ≡ true
+cleared = refl
+
+not-cleared : stacksFit words (numbers 2 11 7 4) (stacksOf (registers mark ++ (pos 0 ∷ [])) (places ++ (0 ∷ []))) ≡ false
+not-cleared = refl

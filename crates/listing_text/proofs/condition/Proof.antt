@@ -1,0 +1,61 @@
+use Rattle.listing_lines.specs.Line.{conditionLine}
+use Rattle.text.specs.Written.{wrote-as}
+use Rattle.theory_program.specs.Unpacked.{conditionFrom}
+use mathlib.Core.Path.{refl}
+use borrow.Author.Needs.{needs}
+use Rattle.listing_text.proofs.condition.Statement.{statement}
+use Rattle.listing_text.proofs.condition.Tie as tie
+
+word-requires : tie.Need-word-requires
+word-requires c κs = search needs
+
+add-word : tie.Need-add-word
+add-word c = search needs
+
+word-requires-2 : tie.Need-word-requires-2
+word-requires-2 c κs = search needs
+
+add-word-2 : tie.Need-add-word-2
+add-word-2 c = search needs
+
+word-requires-3 : tie.Need-word-requires-3
+word-requires-3 c κs = search needs
+
+condition-line-requires : tie.Need-condition-line-requires
+condition-line-requires c κs = search needs
+
+sub-go-on : tie.Need-sub-go-on
+sub-go-on c = search needs
+
+add-go-on : tie.Need-add-go-on
+add-go-on c = search needs
+
+go-on-requires : tie.Need-go-on-requires
+go-on-requires c κs = search needs
+
+same-length : tie.Need-same-length
+same-length c = search needs
+
+returns : tie.Need-returns
+returns c = record {
+  text = wrote-as (λ i. conditionLine (c .before .before .before .before .before .before .before .before .before .before .before .before .before .before .args .c .production) (c .before .before .before .before .before .before .before .before .before .before .before .before .before .before .args .c .passed) (conditionFrom (c .before .before .before .before .before .before .before .before .before .before .before .word .ensures i) (c .before .before .before .before .before .before .before .before .before .word2 .ensures i) (c .before .before .before .before .before .before .before .word3 .ensures i))) (c .before .before .before .before .before .condition-line .ensures .0);
+  short = c .before .before .before .before .before .condition-line .ensures .1;
+  some = refl;
+  next = c .go-on .ensures;
+}
+
+pub condition-spec : {M : Type 1} → statement M
+condition-spec =
+    tie.close
+    (tie.spec
+    word-requires
+    add-word
+    word-requires-2
+    add-word-2
+    word-requires-3
+    condition-line-requires
+    sub-go-on
+    add-go-on
+    go-on-requires
+    same-length
+    returns)

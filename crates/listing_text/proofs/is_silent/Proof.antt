@@ -1,0 +1,29 @@
+use Rattle.listing_text.specs.Tests.{stays-items, stays-outside, stays-add, skips-others}
+use borrow.Author.Tests.{not-true, not-false}
+use mathlib.Core.Path.{sym, _∙_}
+use native.Mathlib.Omega.{arith}
+use borrow.Author.Needs.{needs}
+use Rattle.listing_text.proofs.is_silent.Statement.{statement}
+use Rattle.listing_text.proofs.is_silent.Tie as tie
+
+returns : tie.Need-returns
+returns c = stays-items (c .before .before .before .args .program .now) (c .before .before .before .args .c) (c .if1 .taken)
+
+is-inside-requires : tie.Need-is-inside-requires
+is-inside-requires c κs = search needs
+
+returns-2 : tie.Need-returns-2
+returns-2 c = stays-outside (c .before .before .before .before .before .args .program .now) (c .before .before .before .before .before .args .c) (omega arith) (sym (c .before .is-inside .ensures .0) ∙ not-true (c .before .is-inside .result) (c .if2 .taken))
+
+word-requires : tie.Need-word-requires
+word-requires c κs = search needs
+
+returns-3 : tie.Need-returns-3
+returns-3 c = stays-add (c .before .before .before .before .before .before .before .args .program .now) (c .before .before .before .before .before .before .before .args .c) (omega arith) (c .before .word .result) (c .before .word .ensures) (sym (c .before .before .before .is-inside .ensures .0) ∙ not-false (c .before .before .before .is-inside .result) (c .before .before .if2 .left)) (c .if3 .taken)
+
+returns-4 : tie.Need-returns-4
+returns-4 c = skips-others (c .before .before .before .before .before .before .before .args .program .now) (c .before .before .before .before .before .before .before .args .c) (omega arith) (c .before .word .result) (c .before .word .ensures) (sym (c .before .before .before .is-inside .ensures .0) ∙ not-false (c .before .before .before .is-inside .result) (c .before .before .if2 .left)) (c .if3 .left)
+
+pub is-silent-spec : {M : Type 1} → statement M
+is-silent-spec =
+    tie.close (tie.spec returns is-inside-requires returns-2 word-requires returns-3 returns-4)

@@ -1,0 +1,96 @@
+use Rattle.listing_text.specs.Handed.{emits-as, step-stop, step-rule, step-condition, step-add, step-remove, told-stop, told-line}
+use Rattle.listing_text.specs.Tests.{inside-facts}
+use Rattle.listing_lines.specs.Line.{addLine, removeLine}
+use borrow.Author.Tests.{not-true, not-false}
+use mathlib.Core.Path.{refl, sym, ap, _∙_}
+use Prim.Native.Nat.{_+_, _/_, _%_}
+use native.Mathlib.Omega.{arith}
+use borrow.Author.Needs.{needs}
+use Rattle.listing_text.proofs.next_line.Statement.{statement}
+use Rattle.listing_text.proofs.next_line.Tie as tie
+
+settle-requires : tie.Need-settle-requires
+settle-requires c κs = search needs
+
+is-inside-requires : tie.Need-is-inside-requires
+is-inside-requires c κs = search needs
+
+returns : tie.Need-returns
+returns c =
+    let ws = c .before .before .before .before .before .args .program .now in
+    let d = c .before .before .settle .result in
+    (omega arith, told-stop ws (c .before .before .before .before .before .args .cursor) d (c .before .before .settle .ensures .1) (c .before .before .before .before .before .args .out .now) _ (step-stop ws d (c .before .before .settle .ensures .0) (sym (c .before .is-inside .ensures .0) ∙ not-true (c .before .is-inside .result) (c .if1 .taken))) refl)
+
+rule-requires : tie.Need-rule-requires
+rule-requires c κs = let i = inside-facts (c .before .before .before .before .before .before .before .before .before .args .program .now) (c .before .before .before .before .before .before .settle .result) (sym (c .before .before .before .before .before .is-inside .ensures .0) ∙ not-false (c .before .before .before .before .before .is-inside .result) (c .before .before .before .before .if1 .left)) in (i .1, omega arith, omega arith)
+
+same-length : tie.Need-same-length
+same-length c = search needs
+
+returns-2 : tie.Need-returns-2
+returns-2 c =
+    let ws = c .before .before .before .before .before .before .before .before .before .before .before .before .args .program .now in
+    let d = c .before .before .before .before .before .before .before .before .before .settle .result in
+    told-line ws (c .before .before .before .before .before .before .before .before .before .before .before .before .args .cursor) d (c .before .before .before .before .before .before .before .before .before .settle .ensures .1) (omega arith) (step-rule ws d (c .before .before .before .before .before .before .before .before .before .settle .ensures .0) (sym (c .before .before .before .before .before .before .before .before .is-inside .ensures .0) ∙ not-false (c .before .before .before .before .before .before .before .before .is-inside .result) (c .before .before .before .before .before .before .before .if1 .left)) (omega arith) (c .before .before .before .before .if3 .taken)) (c .before .before .rule .ensures)
+
+condition-requires : tie.Need-condition-requires
+condition-requires c κs = let i = inside-facts (c .before .before .before .before .before .before .before .before .before .args .program .now) (c .before .before .before .before .before .before .settle .result) (sym (c .before .before .before .before .before .is-inside .ensures .0) ∙ not-false (c .before .before .before .before .before .is-inside .result) (c .before .before .before .before .if1 .left)) in (i .1, omega arith, omega arith)
+
+same-length-2 : tie.Need-same-length-2
+same-length-2 c = search needs
+
+returns-3 : tie.Need-returns-3
+returns-3 c =
+    let ws = c .before .before .before .before .before .before .before .before .before .before .before .before .args .program .now in
+    let d = c .before .before .before .before .before .before .before .before .before .settle .result in
+    told-line ws (c .before .before .before .before .before .before .before .before .before .before .before .before .args .cursor) d (c .before .before .before .before .before .before .before .before .before .settle .ensures .1) (omega arith) (step-condition ws d (c .before .before .before .before .before .before .before .before .before .settle .ensures .0) (sym (c .before .before .before .before .before .before .before .before .is-inside .ensures .0) ∙ not-false (c .before .before .before .before .before .before .before .before .is-inside .result) (c .before .before .before .before .before .before .before .if1 .left)) (omega arith) (c .before .before .before .before .if3 .left)) (c .before .before .condition .ensures)
+
+word-requires : tie.Need-word-requires
+word-requires c κs = search needs
+
+add-requires : tie.Need-add-requires
+add-requires c κs = let i = inside-facts (c .before .before .before .before .before .before .before .before .before .before .args .program .now) (c .before .before .before .before .before .before .before .settle .result) (sym (c .before .before .before .before .before .before .is-inside .ensures .0) ∙ not-false (c .before .before .before .before .before .before .is-inside .result) (c .before .before .before .before .before .if1 .left)) in (i .1, i .2, omega arith)
+
+same-length-3 : tie.Need-same-length-3
+same-length-3 c = search needs
+
+returns-4 : tie.Need-returns-4
+returns-4 c =
+    let ws = c .before .before .before .before .before .before .before .before .before .before .before .before .before .args .program .now in
+    let d = c .before .before .before .before .before .before .before .before .before .before .settle .result in
+    let e = c .before .before .before .before .before .word .ensures in
+    told-line ws (c .before .before .before .before .before .before .before .before .before .before .before .before .before .args .cursor) d (c .before .before .before .before .before .before .before .before .before .before .settle .ensures .1) (omega arith) (step-add ws d (c .before .before .before .before .before .before .before .before .before .before .settle .ensures .0) (sym (c .before .before .before .before .before .before .before .before .before .is-inside .ensures .0) ∙ not-false (c .before .before .before .before .before .before .before .before .before .is-inside .result) (c .before .before .before .before .before .before .before .before .if1 .left)) (omega arith) (sym (ap (λ v. v % 8) e) ∙ c .before .before .before .before .if4 .taken)) (emits-as (ap (λ v. addLine (d .production) (d .passed + 1) (v / 8)) e) (c .before .before .add .ensures))
+
+remove-requires : tie.Need-remove-requires
+remove-requires c κs = (c .before .before .before .before .before .before .is-inside .ensures .1 (not-false (c .before .before .before .before .before .before .is-inside .result) (c .before .before .before .before .before .if1 .left)), omega arith)
+
+same-length-4 : tie.Need-same-length-4
+same-length-4 c = search needs
+
+returns-5 : tie.Need-returns-5
+returns-5 c =
+    let ws = c .before .before .before .before .before .before .before .before .before .before .before .before .before .args .program .now in
+    let d = c .before .before .before .before .before .before .before .before .before .before .settle .result in
+    let e = c .before .before .before .before .before .word .ensures in
+    told-line ws (c .before .before .before .before .before .before .before .before .before .before .before .before .before .args .cursor) d (c .before .before .before .before .before .before .before .before .before .before .settle .ensures .1) (omega arith) (step-remove ws d (c .before .before .before .before .before .before .before .before .before .before .settle .ensures .0) (sym (c .before .before .before .before .before .before .before .before .before .is-inside .ensures .0) ∙ not-false (c .before .before .before .before .before .before .before .before .before .is-inside .result) (c .before .before .before .before .before .before .before .before .if1 .left)) (omega arith) (λ z. c .before .before .before .before .if4 .left (ap (λ v. v % 8) e ∙ z))) (emits-as (ap (λ v. removeLine (d .production) (v / 8)) e) (c .before .before .remove .ensures))
+
+pub next-line-spec : {M : Type 1} → statement M
+next-line-spec =
+    tie.close
+    (tie.spec
+    settle-requires
+    is-inside-requires
+    returns
+    rule-requires
+    same-length
+    returns-2
+    condition-requires
+    same-length-2
+    returns-3
+    word-requires
+    add-requires
+    same-length-3
+    returns-4
+    remove-requires
+    same-length-4
+    returns-5)

@@ -1,0 +1,57 @@
+use Rattle.listing_lines.specs.Line.{ruleLine}
+use Rattle.text.specs.Written.{wrote-as}
+use Rattle.theory_program.specs.Unpacked.{ruleFrom}
+use mathlib.Core.Path.{refl}
+use borrow.Author.Needs.{needs}
+use Rattle.listing_text.proofs.rule.Statement.{statement}
+use Rattle.listing_text.proofs.rule.Tie as tie
+
+position-requires : tie.Need-position-requires
+position-requires c κs = search needs
+
+word-requires : tie.Need-word-requires
+word-requires c κs = search needs
+
+add-word : tie.Need-add-word
+add-word c = search needs
+
+word-requires-2 : tie.Need-word-requires-2
+word-requires-2 c κs = search needs
+
+rule-line-requires : tie.Need-rule-line-requires
+rule-line-requires c κs = search needs
+
+sub-go-on : tie.Need-sub-go-on
+sub-go-on c = search needs
+
+add-go-on : tie.Need-add-go-on
+add-go-on c = search needs
+
+go-on-requires : tie.Need-go-on-requires
+go-on-requires c κs = search needs
+
+same-length : tie.Need-same-length
+same-length c = search needs
+
+returns : tie.Need-returns
+returns c = record {
+  text = wrote-as (λ i. ruleLine (c .before .before .before .before .before .before .before .before .before .before .before .before .before .args .c .production) (c .before .before .before .before .before .before .before .before .before .before .position .ensures i) (ruleFrom (c .before .before .before .before .before .before .before .before .before .word .ensures i) (c .before .before .before .before .before .before .before .word2 .ensures i))) (c .before .before .before .before .before .rule-line .ensures .0);
+  short = c .before .before .before .before .before .rule-line .ensures .1;
+  some = refl;
+  next = c .go-on .ensures;
+}
+
+pub rule-spec : {M : Type 1} → statement M
+rule-spec =
+    tie.close
+    (tie.spec
+    position-requires
+    word-requires
+    add-word
+    word-requires-2
+    rule-line-requires
+    sub-go-on
+    add-go-on
+    go-on-requires
+    same-length
+    returns)

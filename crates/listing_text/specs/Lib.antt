@@ -1,0 +1,9 @@
+pub mod Lines
+pub mod Cursors
+pub mod Tests
+pub mod Falling
+pub mod Pending
+pub mod Heads
+pub mod Starts
+pub mod Steps
+pub mod Handed
