@@ -225,5 +225,6 @@ answer-whole t sizes inherited synthesized rows offsets p at r c ready w ended s
         productions = sym (w .count);
         counts = refl;
         each = λ i l. numbered noEntry (RowOf rows offsets) (w .entries) (w .laid) i (omega (arith, w .count));
+        lengths = (ready .first, ready .second, w .kept, w .kept-offsets);
       },
     )

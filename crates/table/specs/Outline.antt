@@ -78,3 +78,4 @@ pub record Outline (s : State) (sizes : Sizes) (inherited synthesized rows offse
   pub productions : sizes .productions ≡ length (s .entries)
   pub counts : s .counts ≡ countsUpTo inherited synthesized (sizes .nonterminals)
   pub each : (p : ℕ) → p < sizes .productions → RowOf rows offsets p (getD (reverse (s .entries)) p noEntry)
+  pub lengths : (length inherited ≡ 48) × (length synthesized ≡ 48) × (length rows ≡ 2048) × (length offsets ≡ 128)
