@@ -79,7 +79,7 @@ module _ (f : ℕ → ℕ → ℕ) (wide : ℕ) where
       let z : wide * suc n ≡ wide + wide * n = omega arith in
       length-append (row i) (concat (map row (countFrom (suc i) n))) ∙ omega (arith, row-length i, rows-length (suc i) n, z)
 
-  row-at : (i n k u : ℕ) → k < n → u < wide → getD (concat (map row (countFrom i n))) (wide * k + u) 0 ≡ f (i + k) u
+  pub row-at : (i n k u : ℕ) → k < n → u < wide → getD (concat (map row (countFrom i n))) (wide * k + u) 0 ≡ f (i + k) u
   row-at i zero k u l m = absurd (omega arith)
   row-at i (suc n) zero u l m =
       let rest = concat (map row (countFrom (suc i) n)) in

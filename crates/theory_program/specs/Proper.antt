@@ -89,7 +89,7 @@ total-most f m h (x ∷ xs) =
     let z : m * suc (length xs) ≡ m + m * length xs = omega arith in
     omega (arith, h x, total-most f m h xs, z)
 
-syn-most : (g : Grammar) → WellFormed g → (p : Production) → length (p .right) ≤ 12 → (i k : ℕ) → synBetween g p i k ≤ 96
+pub syn-most : (g : Grammar) → WellFormed g → (p : Production) → length (p .right) ≤ 12 → (i k : ℕ) → synBetween g p i k ≤ 96
 syn-most g w p s i k =
     let xs = take (k - i) (drop i (p .right)) in
     omega (arith, total-most (syn g) 8 (λ x. omega (arith, att-most g w x)) xs, length-take (k - i) (drop i (p .right)), length-drop i (p .right))

@@ -29,10 +29,10 @@ low-byte high low n l e = omega arith
 
 -- ---- constants
 
-abbrev joined : ℕ → ℕ → ℕ → ℕ → ℕ
+abbrev pub joined : ℕ → ℕ → ℕ → ℕ → ℕ
 joined x y z w = ((x * 256 + y) * 256 + z) * 256 + w
 
-four-joined : (n : ℕ) → n < 4294967296 → joined (n / 16777216 % 256) (n / 65536 % 256) (n / 256 % 256) (n % 256) ≡ n
+pub four-joined : (n : ℕ) → n < 4294967296 → joined (n / 16777216 % 256) (n / 65536 % 256) (n / 256 % 256) (n % 256) ≡ n
 four-joined n l =
     let a : n / 256 * 256 + n % 256 ≡ n = omega arith in
     let b : n / 65536 * 256 + n / 256 % 256 ≡ n / 256 = omega arith in

@@ -156,14 +156,14 @@ pub fn constant(word: u32) -> i64
     z - 4294967296
 }
 
-fn wide(x: u8) -> u32
+pub fn wide(x: u8) -> u32
     ensures { λ r. ⌜ (r ≡ x) × (r < 256) ⌝ }
 {
     x as u32
 }
 
 // 0 past the end.
-fn byte_at(bytes: &[u8], at: usize) -> u32
+pub fn byte_at(bytes: &[u8], at: usize) -> u32
     ensures { λ r. ⌜ (r ≡ byte (now (bytes .entry)) at) × (r < 256) ⌝ }
 {
     if bytes.len() <= at {

@@ -1,0 +1,60 @@
+-- The definitions of specs/ by the tests that the code makes.
+use Prim.Native.Nat.{ℕ, zero, suc, _+_, _-_, _*_, _≤_, _<_}
+use native.Mathlib.Omega.{arith}
+use mathlib.Core.Path.{_≡_, refl, sym, ap, _∙_}
+use mathlib.Core.Bool.{Bool, true, false}
+use mathlib.Core.List.{List, [], _∷_}
+use lib.ListN.{length, set, getD, List·getD-eq-default}
+use lib.Dec.{eqb}
+use borrow.Author.Tests.{lt-ltb, le-ltb, eq-eqb, ne-eqb}
+use Rattle.meaning.specs.Table.{byte}
+use Rattle.blocks.specs.Items.{itemSize}
+use Rattle.blocks.specs.Patch.{Wrote, wrote-none, wrote-one, wrote-as}
+use Rattle.bodies.specs.Words.{addWords, addSize, blockSize}
+use Rattle.bodies.specs.Given.{countAt, headOf}
+
+pub past-end : (l : List ℕ) (i : ℕ) → length l ≤ i → 0 ≡ getD l i 0
+past-end l i h = sym (List·getD-eq-default l 0 {n = i} h)
+
+pub count-terminal : (counts : List ℕ) (b : ℕ) → b < 128 → 0 ≡ countAt counts b
+unfolding countAt
+count-terminal counts b l = rw (lt-ltb b 128 l)
+
+pub count-nonterminal : (counts : List ℕ) (b r : ℕ) → 128 ≤ b → r ≡ byte counts (b - 128) → r ≡ countAt counts b
+unfolding countAt
+count-nonterminal counts b r l e = rw (le-ltb b 128 l) e
+
+pub head-terminal : (b : ℕ) → b < 128 → 2 + 8 * b ≡ headOf b
+unfolding headOf
+head-terminal b l = rw (lt-ltb b 128 l)
+
+pub head-nonterminal : (b : ℕ) → 128 ≤ b → 3 + 8 * (b - 128) ≡ headOf b
+unfolding headOf
+head-nonterminal b l = rw (le-ltb b 128 l)
+
+pub add-none : (n : ℕ) → n ≡ 0 → 0 ≡ addSize n
+unfolding addSize
+add-none n e = rw (eq-eqb n 0 e)
+
+pub add-some : (n : ℕ) → (n ≡ 0 → ⊥) → 1 ≡ addSize n
+unfolding addSize
+add-some n e = rw (ne-eqb n 0 e)
+
+pub add-not-written : (area : List ℕ) (a n : ℕ) → n ≡ 0 → Wrote area area a a (addWords n)
+unfolding addWords
+add-not-written area a n e = rw (eq-eqb n 0 e) (wrote-none area a)
+
+pub add-written : (area : List ℕ) (a n : ℕ) → (n ≡ 0 → ⊥) → Wrote area (set area a (8 * n)) a (a + 1) (addWords n)
+unfolding addWords
+add-written area a n e = rw (ne-eqb n 0 e) (wrote-one area a (8 * n))
+
+pub size-none : (rules : Bool) (n : ℕ) → n ≡ 0 → 0 ≡ blockSize rules n
+unfolding blockSize
+size-none rules n e = rw (eq-eqb n 0 e)
+
+pub size-some : (rules : Bool) (n : ℕ) → (n ≡ 0 → ⊥) → 1 + itemSize rules * n ≡ blockSize rules n
+unfolding blockSize
+size-some rules n e = rw (ne-eqb n 0 e)
+
+pub size-of : {rules b : Bool} → rules ≡ b → (n : ℕ) → itemSize rules * n ≡ itemSize b * n
+size-of e n = ap (λ z. itemSize z * n) e

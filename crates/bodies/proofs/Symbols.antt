@@ -1,0 +1,135 @@
+-- The instructions of one symbol.
+use Prim.Native.Nat.{ℕ, zero, suc, _+_, _-_, _*_, _≤_, _<_}
+use native.Mathlib.Decide.{ℕ-discrete}
+use native.Mathlib.Numerals.{add-one}
+use native.Mathlib.Omega.{arith}
+use mathlib.Core.Path.{_≡_, refl, sym, ap, ap₂, _∙_}
+use mathlib.Core.Bool.{Bool, true, false}
+use mathlib.Core.List.{List, [], _∷_, _++_, map, append-assoc}
+use lib.ListN.{length, set, getD, length-append, length-map, length-set}
+use Rattle.meaning.specs.Grammar.{Production, Grammar, inh, syn, att, symbolAt}
+use Rattle.meaning.specs.Scheme.{synBetween, mapRule, mapCondition, selectInherited, selectAfter, rulesFor, conditionsAt, inheritedRules, synthesizedRules, testsAfter}
+use Rattle.meaning.specs.Program.{symbolHead}
+use Rattle.meaning.specs.Table.{byte}
+use Rattle.theory_program.specs.Proper.{att-most, syn-most}
+use Rattle.blocks.specs.Items.{itemSize}
+use Rattle.blocks.specs.Patch.{Wrote, wrote-as, wrote-one, wrote-then, wrote-length}
+use Rattle.blocks.specs.Walk.{Listed, BlockFits, countOf, wordsOf, itemCount, blockWords, block, count-few}
+use Rattle.bodies.specs.Levels.{level, inherited-words, synthesized-words, tests-words}
+use Rattle.bodies.specs.Words.{addWords, addSize, blockSize, add-length, aheadSize, symbolWords, symbol-length, evaluateWords, evaluate-length, testWords}
+use Rattle.bodies.specs.Given.{Given, rightOf, listedOf, countAt, headOf, inherited-at, synthesized-at, head-at, Prepared, SymbolFits, wordsAt}
+use Rattle.bodies.proofs.Laws.{size-some}
+
+-- ---- how many
+
+module _ (g : Grammar) (p : Production) where
+  pub inherited-count : (k : ℕ) → length (inheritedRules g p k) ≡ countOf true k (p .rules) (p .conditions)
+  unfolding countOf
+  inherited-count k = length-map (rulesFor p k) (mapRule (selectInherited g p k))
+
+  pub synthesized-count : length (synthesizedRules g p) ≡ countOf true 0 (p .rules) (p .conditions)
+  unfolding countOf
+  synthesized-count = length-map (rulesFor p 0) (mapRule (selectAfter g p (length (p .right))))
+
+  pub tests-count : (k : ℕ) → length (testsAfter g p k) ≡ countOf false k (p .rules) (p .conditions)
+  unfolding countOf
+  tests-count k = length-map (conditionsAt p k) (mapCondition (selectAfter g p k))
+
+-- ---- a block finds room
+
+abbrev pub block-fits : {d : List ℕ} (x : Listed d) (short : length d ≤ 32768) (rules : Bool) (k n : ℕ) {area : List ℕ} {a : ℕ} → n ≡ itemCount rules k x → a + blockSize rules n ≤ length area → BlockFits d rules k n area a
+block-fits {d} x short rules k n e l = record { listed = x; counted = e; few = omega (arith, e, count-few d x rules k); room = λ some. omega (arith, size-some rules n (omega arith)) }
+
+module _ {row fields inherited synthesized rules tests levels : List ℕ} {k : ℕ} {area : List ℕ} {a : ℕ} (x : SymbolFits row fields inherited synthesized rules tests levels k area a) where
+  abbrev given : Given row fields inherited synthesized
+  given = x .prepared .given
+
+  abbrev g : Grammar
+  g = given .grammar
+
+  abbrev p : Production
+  p = given .production
+
+  short : length (p .right) ≤ 12
+  short = given .ofGrammar .short
+
+  words-size : length (wordsAt given k) ≡ addSize (att g (symbolAt p (suc k))) + blockSize true (length (inheritedRules g p (suc k))) + 1 + blockSize false (length (testsAfter g p (suc k)))
+  unfolding aheadSize
+  words-size = symbol-length g p (suc k) (symbolAt p (suc k))
+
+  pub index-small : k < 12
+  index-small = omega (arith, short, x .here)
+
+  module _ {b own out : ℕ} (eb : b ≡ byte row (k + 2)) (eo : own ≡ countAt inherited b) (es : out ≡ countAt synthesized b) where
+    own-is : own ≡ inh g (symbolAt p (suc k))
+    own-is = eo ∙ (ap (countAt inherited) eb ∙ inherited-at given k (x .here))
+
+    all-is : own + out ≡ att g (symbolAt p (suc k))
+    all-is = ap₂ (λ y z. y + z) own-is (es ∙ (ap (countAt synthesized) eb ∙ synthesized-at given k (x .here)))
+
+    pub add-fits : (own + out < 512) × (a + addSize (own + out) ≤ length area)
+    add-fits = (omega (arith, all-is, att-most g (given .wellFormed) (symbolAt p (suc k))), omega (arith, ap addSize all-is, words-size, x .room, x .long))
+
+    module _ {top n : ℕ} (et : top ≡ getD levels (k + 1) 0) (en : n ≡ getD rules (k + 1) 0) where
+      top-is : top ≡ level g p (suc k)
+      top-is = let e : k + 1 ≡ suc k = omega arith in et ∙ (ap (λ z. getD levels z 0) e ∙ x .prepared .leveled (suc k) (omega (arith, x .here)))
+
+      pub top-small : top ≤ 1024
+      top-small = omega (arith, top-is, syn-most g (given .wellFormed) p short 0 (suc k), att-most g (given .wellFormed) (symbolAt p (suc k)))
+
+      pub own-below : own ≤ top
+      own-below = omega (arith, own-is, top-is)
+
+      after-is : top - own ≡ synBetween g p 0 (suc k)
+      after-is = omega (arith, own-is, top-is)
+
+      rules-is : n ≡ itemCount true (k + 1) (listedOf given)
+      rules-is = en ∙ x .prepared .ruleCounts (k + 1) (omega (arith, index-small))
+
+      rules-length : length (inheritedRules g p (suc k)) ≡ n
+      rules-length = let e : k + 1 ≡ suc k = omega arith in inherited-count g p (suc k) ∙ (sym (rules-is ∙ ap (λ z. itemCount true z (listedOf given)) e))
+
+      evaluate-words : blockWords true top levels (k + 1) n (listedOf given) ≡ evaluateWords (inheritedRules g p (suc k))
+      evaluate-words =
+          let e : k + 1 ≡ suc k = omega arith in
+          ap₂ (λ y z. block true y z) (sym rules-length) (ap₂ (λ y z. wordsOf true y levels z (p .rules) (p .conditions)) top-is e ∙ inherited-words g p (given .ofGrammar) levels (x .prepared .leveled) k (x .here))
+
+      module _ {mid : List ℕ} {at : ℕ} (w : Wrote area mid a at (addWords (own + out))) where
+        pub evaluate-fits : BlockFits fields true (k + 1) n mid at
+        evaluate-fits = block-fits (listedOf given) (given .short) true (k + 1) n rules-is (omega (arith, w .address, add-length (own + out), ap addSize all-is, wrote-length w, words-size, x .room, x .long, ap (blockSize true) rules-length))
+
+        module _ {then : List ℕ} {next : ℕ} (f : (y : BlockFits fields true (k + 1) n mid at) → Wrote mid then at next (blockWords true top levels (k + 1) n (y .listed))) where
+          so-far : Wrote area then a next (addWords (att g (symbolAt p (suc k))) ++ evaluateWords (inheritedRules g p (suc k)))
+          unfolding evaluate-fits
+          so-far = wrote-then (wrote-as (ap addWords all-is) w) (wrote-as evaluate-words (f evaluate-fits))
+
+          next-is : next ≡ a + (addSize (att g (symbolAt p (suc k))) + blockSize true (length (inheritedRules g p (suc k))))
+          next-is = omega (arith, so-far .address, length-append (addWords (att g (symbolAt p (suc k)))) (evaluateWords (inheritedRules g p (suc k))), add-length (att g (symbolAt p (suc k))), evaluate-length (inheritedRules g p (suc k)))
+
+          pub next-small : next < 16384
+          next-small = omega (arith, next-is, words-size, x .room)
+
+          pub next-inside : next < length then
+          next-inside = omega (arith, next-is, wrote-length so-far, words-size, x .room, x .long)
+
+          module _ {m h : ℕ} (em : m ≡ getD tests (k + 1) 0) (eh : h ≡ headOf b) where
+            tests-is : m ≡ itemCount false (k + 1) (listedOf given)
+            tests-is = em ∙ x .prepared .testCounts (k + 1) (omega (arith, index-small))
+
+            tests-length : length (testsAfter g p (suc k)) ≡ m
+            tests-length = let e : k + 1 ≡ suc k = omega arith in tests-count g p (suc k) ∙ (sym (tests-is ∙ ap (λ z. itemCount false z (listedOf given)) e))
+
+            test-words : blockWords false (top - own) levels (k + 1) m (listedOf given) ≡ testWords (testsAfter g p (suc k))
+            test-words =
+                let e : k + 1 ≡ suc k = omega arith in
+                ap₂ (λ y z. block false y z) (sym tests-length) (ap₂ (λ y z. wordsOf false y levels z (p .rules) (p .conditions)) after-is e ∙ tests-words g p (given .ofGrammar) levels (x .prepared .leveled) (suc k) (omega (arith, x .here)))
+
+            pub test-fits : BlockFits fields false (k + 1) m (set then next h) (next + 1)
+            test-fits = block-fits (listedOf given) (given .short) false (k + 1) m tests-is (omega (arith, next-is, length-set then next h, wrote-length so-far, words-size, x .room, x .long, ap (blockSize false) tests-length))
+
+            pub symbol-written : {new : List ℕ} {end : ℕ} → ((y : BlockFits fields false (k + 1) m (set then next h) (next + 1)) → Wrote (set then next h) new (next + 1) end (blockWords false (top - own) levels (k + 1) m (y .listed))) → Wrote area new a end (wordsAt given k)
+            unfolding symbolWords test-fits
+            symbol-written q =
+                let here : h ≡ symbolHead (symbolAt p (suc k)) = eh ∙ (ap headOf eb ∙ head-at given k (x .here)) in
+                let last = wrote-then (wrote-one then next h) (wrote-as test-words (q test-fits)) in
+                wrote-as (append-assoc (addWords (att g (symbolAt p (suc k)))) (evaluateWords (inheritedRules g p (suc k))) (symbolHead (symbolAt p (suc k)) ∷ testWords (testsAfter g p (suc k)))) (wrote-then so-far (wrote-as (ap (λ z. z ∷ testWords (testsAfter g p (suc k))) here) last))

@@ -1,0 +1,182 @@
+-- What is brought of one production: its row (left side, length, symbols as the table has them), the bytes of its rules and conditions, and the attribute counts of all nonterminals.
+use Prim.Native.Nat.{ℕ, zero, suc, _+_, _-_, _*_, _≤_, _<_}
+use native.Mathlib.Omega.{arith}
+use mathlib.Core.Path.{_≡_, refl, sym, ap, ap₂, _∙_, subst}
+use mathlib.Core.Bool.{Bool, true, false}
+use mathlib.Core.List.{List, [], _∷_, _++_, append-assoc}
+use lib.ListN.{length, getD, drop, length-append, drop-of-length-le}
+use lib.Seq.{drop-cons}
+use lib.Dec.{ltb, T}
+use Rattle.meaning.specs.Grammar.{Symbol, terminal, nonterminal, Production, Grammar, inh, syn, att, symbolAt, nonterminalCount}
+use Rattle.meaning.specs.Rules.{Known, WellFormed, WellFormedProduction}
+use Rattle.meaning.specs.Layout.{RulesAndConditions}
+use Rattle.meaning.specs.Scheme.{Instruction, choose, scheme, symbolsScheme, entryTests}
+use Rattle.meaning.specs.Program.{symbolHead, schemeWords, expectsAt, entryWords, schemeOffset, bodyWords, bodySize}
+use Rattle.meaning.specs.Table.{byte, symbolOf}
+use Rattle.theory_base.specs.Members.{getD-in}
+use Rattle.theory_program.specs.Code.{conditions-length}
+use Rattle.blocks.specs.Walk.{Listed, itemCount}
+use Rattle.bodies.specs.Levels.{Leveled, level}
+use Rattle.bodies.specs.Words.{symbolWords, aheadSize, scheme-symbol, expects-symbol, endScheme, endWords, scheme-end, expects-end}
+
+pub record Given (row fields inherited synthesized : List ℕ) : Type 0 where
+  pub grammar : Grammar
+  pub production : Production
+  pub wellFormed : WellFormed grammar
+  pub ofGrammar : WellFormedProduction grammar production
+  pub left : byte row 0 ≡ production .left
+  pub size : byte row 1 ≡ length (production .right)
+  pub symbols : (k : ℕ) → k < length (production .right) → symbolOf (byte row (k + 2)) ≡ symbolAt production (suc k)
+  pub inherit : (n : ℕ) → n < nonterminalCount grammar → byte inherited n ≡ inh grammar (nonterminal n)
+  pub synthesize : (n : ℕ) → n < nonterminalCount grammar → byte synthesized n ≡ syn grammar (nonterminal n)
+  pub own : RulesAndConditions (production .rules) (production .conditions) fields
+  pub short : length fields ≤ 32768
+
+abbrev pub rightOf : {row fields inherited synthesized : List ℕ} → Given row fields inherited synthesized → List Symbol
+rightOf x = x .production .right
+
+abbrev pub listedOf : {row fields inherited synthesized : List ℕ} → Given row fields inherited synthesized → Listed fields
+listedOf x = record { rules = x .production .rules; conditions = x .production .conditions; own = x .own; constants = x .ofGrammar .constants; proper = x .ofGrammar .proper }
+
+-- ---- symbols by their bytes
+
+-- a count of a symbol, 0 for a terminal
+unfoldable pub countAt : List ℕ → ℕ → ℕ
+countAt counts b = choose (ltb b 128) 0 (byte counts (b - 128))
+
+unfoldable pub headOf : ℕ → ℕ
+headOf b = choose (ltb b 128) (2 + 8 * b) (3 + 8 * (b - 128))
+
+abbrev symbolBy : Bool → ℕ → Symbol
+symbolBy c b = elim c as (λ z. Symbol) [ true ↦ terminal b | false ↦ nonterminal (b - 128) ]
+
+pub head-is : (b : ℕ) → headOf b ≡ symbolHead (symbolOf b)
+unfolding headOf
+head-is b = go (ltb b 128)
+  where
+    go : (c : Bool) → choose c (2 + 8 * b) (3 + 8 * (b - 128)) ≡ symbolHead (symbolBy c b)
+    go true = refl
+    go false = refl
+
+module _ {row fields inherited synthesized : List ℕ} (x : Given row fields inherited synthesized) where
+  known : (k : ℕ) → k < length (rightOf x) → Known (x .grammar) (symbolAt (x .production) (suc k))
+  known k l = x .ofGrammar .symbols (symbolAt (x .production) (suc k)) (getD-in (rightOf x) k (terminal 0) l)
+
+  count-by : (counts : List ℕ) (f : Symbol → ℕ) → ((t : ℕ) → f (terminal t) ≡ 0) → ((n : ℕ) → n < nonterminalCount (x .grammar) → byte counts n ≡ f (nonterminal n)) → (b : ℕ) → Known (x .grammar) (symbolOf b) → countAt counts b ≡ f (symbolOf b)
+  unfolding countAt
+  count-by counts f ft fn b kn = go (ltb b 128) kn
+    where
+      go : (c : Bool) → Known (x .grammar) (symbolBy c b) → choose c 0 (byte counts (b - 128)) ≡ f (symbolBy c b)
+      go true h = sym (ft b)
+      go false h = fn (b - 128) h
+
+  count-at : (counts : List ℕ) (f : Symbol → ℕ) → ((t : ℕ) → f (terminal t) ≡ 0) → ((n : ℕ) → n < nonterminalCount (x .grammar) → byte counts n ≡ f (nonterminal n)) → (k : ℕ) → k < length (rightOf x) → countAt counts (byte row (k + 2)) ≡ f (symbolAt (x .production) (suc k))
+  count-at counts f ft fn k l = count-by counts f ft fn (byte row (k + 2)) (subst (Known (x .grammar)) (sym (x .symbols k l)) (known k l)) ∙ ap f (x .symbols k l)
+
+  pub inherited-at : (k : ℕ) → k < length (rightOf x) → countAt inherited (byte row (k + 2)) ≡ inh (x .grammar) (symbolAt (x .production) (suc k))
+  inherited-at k l = count-at inherited (inh (x .grammar)) (λ t. refl) (x .inherit) k l
+
+  pub synthesized-at : (k : ℕ) → k < length (rightOf x) → countAt synthesized (byte row (k + 2)) ≡ syn (x .grammar) (symbolAt (x .production) (suc k))
+  synthesized-at k l = count-at synthesized (syn (x .grammar)) (λ t. refl) (x .synthesize) k l
+
+  pub head-at : (k : ℕ) → k < length (rightOf x) → headOf (byte row (k + 2)) ≡ symbolHead (symbolAt (x .production) (suc k))
+  head-at k l = head-is (byte row (k + 2)) ∙ ap symbolHead (x .symbols k l)
+
+  pub left-inherited : byte inherited (byte row 0) ≡ inh (x .grammar) (nonterminal (x .production .left))
+  left-inherited = ap (byte inherited) (x .left) ∙ x .inherit (x .production .left) (x .ofGrammar .left)
+
+-- ---- what is computed first: how many rules and conditions each position has, and the levels
+
+pub record Prepared (row fields inherited synthesized rules tests levels : List ℕ) : Type 0 where
+  pub given : Given row fields inherited synthesized
+  pub ruleCounts : (k : ℕ) → k < 13 → getD rules k 0 ≡ itemCount true k (listedOf given)
+  pub testCounts : (k : ℕ) → k < 13 → getD tests k 0 ≡ itemCount false k (listedOf given)
+  pub leveled : Leveled (given .grammar) (given .production) levels
+
+abbrev pub wordsAt : {row fields inherited synthesized : List ℕ} → Given row fields inherited synthesized → ℕ → List ℕ
+wordsAt x k = symbolWords (x .grammar) (x .production) (suc k) (symbolAt (x .production) (suc k))
+
+-- there is room for the words of the symbol at position k + 1
+pub record SymbolFits (row fields inherited synthesized rules tests levels : List ℕ) (k : ℕ) (area : List ℕ) (a : ℕ) : Type 0 where
+  pub prepared : Prepared row fields inherited synthesized rules tests levels
+  pub here : k < length (rightOf (prepared .given))
+  pub room : a + length (wordsAt (prepared .given) k) ≤ 16384
+  pub long : 16384 ≤ length area
+
+-- ---- all symbols
+
+abbrev pub symbolsWords : Grammar → Production → ℕ → List Symbol → List ℕ
+symbolsWords g p k [] = []
+symbolsWords g p k (x ∷ xs) = symbolWords g p k x ++ symbolsWords g p (suc k) xs
+
+-- from position k + 1 on
+unfoldable pub restWords : Grammar → Production → ℕ → List ℕ
+restWords g p k = symbolsWords g p (suc k) (drop k (p .right))
+
+pub record SymbolsFit (row fields inherited synthesized rules tests levels area : List ℕ) (a : ℕ) : Type 0 where
+  pub prepared : Prepared row fields inherited synthesized rules tests levels
+  pub room : a + length (restWords (prepared .given .grammar) (prepared .given .production) 0) ≤ 16384
+  pub long : 16384 ≤ length area
+
+pub record EndFits (row fields inherited synthesized rules tests levels area : List ℕ) (a : ℕ) : Type 0 where
+  pub prepared : Prepared row fields inherited synthesized rules tests levels
+  pub room : a + length (endWords (prepared .given .grammar) (prepared .given .production)) ≤ 16384
+  pub long : 16384 ≤ length area
+
+-- the addresses of the expects from position k + 1 on, where its instructions begin at a
+unfoldable pub restExpects : Grammar → Production → ℕ → ℕ → List ℕ
+restExpects g p k a = expectsAt a (symbolsScheme g p (suc k) (drop k (p .right)) (endScheme g p))
+
+pub record ExpectsFit (row fields inherited synthesized rules tests levels area : List ℕ) (a b : ℕ) : Type 0 where
+  pub prepared : Prepared row fields inherited synthesized rules tests levels
+  pub room : a + length (rightOf (prepared .given)) ≤ 16384
+  pub long : 16384 ≤ length area
+  pub behind : b + length (restWords (prepared .given .grammar) (prepared .given .production) 0) ≤ 16384
+
+-- ---- the whole body
+
+pub record BodyFits (row fields inherited synthesized tests area : List ℕ) (a : ℕ) : Type 0 where
+  pub given : Given row fields inherited synthesized
+  pub testCounts : (k : ℕ) → k < 13 → getD tests k 0 ≡ itemCount false k (listedOf given)
+  pub room : a + bodySize (given .grammar) (given .production) ≤ 16384
+  pub long : 16384 ≤ length area
+
+-- ---- laws
+
+module _ (g : Grammar) (p : Production) where
+  pub words-turn : (k : ℕ) → k < length (p .right) → restWords g p k ≡ symbolWords g p (suc k) (symbolAt p (suc k)) ++ restWords g p (k + 1)
+  unfolding restWords
+  words-turn k l =
+      let e : k + 1 ≡ suc k = omega arith in
+      rw e (ap (symbolsWords g p (suc k)) (drop-cons (p .right) k (terminal 0) l))
+
+  pub words-end : (k : ℕ) → length (p .right) ≤ k → restWords g p k ≡ []
+  unfolding restWords
+  words-end k l = ap (symbolsWords g p (suc k)) (drop-of-length-le (p .right) {i = k} l)
+
+  pub expects-turn : (k a : ℕ) → k < length (p .right) → restExpects g p k a ≡ (a + aheadSize g p (suc k) (symbolAt p (suc k))) ∷ restExpects g p (k + 1) (a + length (symbolWords g p (suc k) (symbolAt p (suc k))))
+  unfolding restExpects
+  expects-turn k a l =
+      let e : k + 1 ≡ suc k = omega arith in
+      rw e (ap (λ z. expectsAt a (symbolsScheme g p (suc k) z (endScheme g p))) (drop-cons (p .right) k (terminal 0) l) ∙ expects-symbol g p (suc k) (symbolAt p (suc k)) (symbolsScheme g p (suc (suc k)) (drop (suc k) (p .right)) (endScheme g p)) a)
+
+  pub expects-over : (k a : ℕ) → length (p .right) ≤ k → restExpects g p k a ≡ []
+  unfolding restExpects
+  expects-over k a l = ap (λ z. expectsAt a (symbolsScheme g p (suc k) z (endScheme g p))) (drop-of-length-le (p .right) {i = k} l) ∙ expects-end g p a
+
+  symbols-scheme : (k : ℕ) (xs : List Symbol) (rest : List Instruction) → schemeWords (symbolsScheme g p k xs rest) ≡ symbolsWords g p k xs ++ schemeWords rest
+  symbols-scheme k [] rest = refl
+  symbols-scheme k (x ∷ xs) rest =
+      scheme-symbol g p k x (symbolsScheme g p (suc k) xs rest)
+      ∙ (ap (λ z. symbolWords g p k x ++ z) (symbols-scheme (suc k) xs rest) ∙ sym (append-assoc (symbolWords g p k x) (symbolsWords g p (suc k) xs) (schemeWords rest)))
+
+  pub scheme-words : schemeWords (scheme g p) ≡ restWords g p 0 ++ endWords g p
+  unfolding restWords
+  scheme-words = symbols-scheme 1 (p .right) (endScheme g p) ∙ ap (λ z. symbolsWords g p 1 (p .right) ++ z) (scheme-end g p)
+
+  pub body-words : (a : ℕ) → bodyWords g a p ≡ restExpects g p 0 (a + schemeOffset g p) ++ (entryWords g p ++ (restWords g p 0 ++ endWords g p))
+  unfolding restExpects
+  body-words a = ap (λ z. expectsAt (a + schemeOffset g p) (scheme g p) ++ (entryWords g p ++ z)) scheme-words
+
+  pub body-size : bodySize g p ≡ length (p .right) + 3 * length (entryTests g p) + length (restWords g p 0) + length (endWords g p)
+  body-size = omega (arith, ap length scheme-words, length-append (restWords g p 0) (endWords g p), conditions-length (entryTests g p))

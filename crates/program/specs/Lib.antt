@@ -1,0 +1,4 @@
+pub mod Brought
+pub mod Directory
+pub mod Records
+pub mod Built
