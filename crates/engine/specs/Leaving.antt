@@ -40,6 +40,9 @@ use Rattle.engine.specs.Starting.{laid-all}
 abbrev pub recordFrom : Bool → Run → Record
 recordFrom o run = record { «open» = o; tokens = run .tokens; moves = run .moves; registers = run .registers; places = run .places }
 
+abbrev pub broughtFrom : Record → Answer → Called
+broughtFrom r a = record { «record» = r; answer = a }
+
 abbrev pub closedFrom : Answer → Called
 closedFrom a = record { «record» = record { «open» = false; tokens = 0; moves = 0; registers = 0; places = 0 }; answer = a }
 

@@ -10,17 +10,23 @@ ghost use Rattle.meaning.specs.Rules.{WellFormed};
 ghost use Rattle.meaning.specs.Grammar.{Grammar};
 ghost use Rattle.meaning.specs.Fit.{Fit};
 ghost use Rattle.meaning.specs.Calls.{lentOf, configOf, openOf, feedOf, finishOf};
+ghost use Rattle.meaning.specs.Program.{programOf};
+ghost use Rattle.meaning.specs.Table.{State, grammarOf};
+ghost use Rattle.meaning.specs.PublicCalls.{written, opens, performs, feed, finish};
+ghost use Rattle.checker.specs.Judging as Checked;
 ghost use Rattle.theory_program.specs.Addresses.{Begins};
 ghost use Rattle.theory_program.specs.Resuming.{placeAddress};
 ghost use Rattle.machine.specs.Held.{Held};
 ghost use Rattle.fit.specs.Shown.{Shown};
 ghost use Rattle.fit.specs.Cut.{stacksOf};
 ghost use Rattle.engine.specs.Feeding.{FeedsToken, Feeds};
-ghost use Rattle.engine.specs.Records.{recordIs, calledIs};
+ghost use Rattle.engine.specs.Records.{recordIs, calledIs, effectIs};
 ghost use Rattle.engine.specs.Starting.{Stood, Standing, Fitting};
-ghost use Rattle.engine.specs.Leaving.{recordFrom, closedFrom, fedFrom, finishedFrom, Ending};
+ghost use Rattle.engine.specs.Leaving.{recordFrom, broughtFrom, closedFrom, fedFrom, finishedFrom, Ending};
 ghost use Rattle.engine.specs.Judging.{Brought, turnedBack};
+ghost use Rattle.engine.specs.Preparing.{PreparedAs};
 
+use checker::judging::Judged;
 use machine::Run;
 use machine::Ended;
 
@@ -47,6 +53,12 @@ pub enum Answer {
 pub struct Called {
     pub record: Record,
     pub answer: Answer,
+}
+
+// What a call begins with: it is turned back by 30 or by its table, or the table is accepted and its program written.
+enum Prepared {
+    Turned(Answer),
+    Ready { productions: usize, start: usize },
 }
 
 const TOKENS_LIMIT: u64 = 65535;
@@ -194,6 +206,16 @@ fn finished(registers: &[i64], program: &[u32], ended: Ended) -> Called
     }
 }
 
+// 01: "the record comes back as brought".
+fn as_brought(brought: Record, answer: Answer) -> Called
+    ensures { λ r. ⌜ r ≡ broughtFrom brought answer ⌝ }
+{
+    Called {
+        record: brought,
+        answer,
+    }
+}
+
 // ---- the calls on exactly the lent cells
 
 // 33 or 34; 0 where the call goes on to its moves.
@@ -249,10 +271,7 @@ fn feed_lent(
 {
     let number = turned_back(registers, places, rows, inherited, synthesized, productions, start, brought);
     if number != 0 {
-        return Called {
-            record: brought,
-            answer: Answer::Refused { number, tokens: 0 },
-        };
+        return as_brought(brought, Answer::Refused { number, tokens: 0 });
     }
     let run = run_of(places, program, brought);
     fed(feed_tokens(registers, places, program, run, tokens))
@@ -275,10 +294,7 @@ fn finish_lent(
 {
     let number = turned_back(registers, places, rows, inherited, synthesized, productions, start, brought);
     if number != 0 {
-        return Called {
-            record: brought,
-            answer: Answer::Refused { number, tokens: 0 },
-        };
+        return as_brought(brought, Answer::Refused { number, tokens: 0 });
     }
     let run = run_of(places, program, brought);
     let ended = machine::advance(registers, places, program, run, 63);
@@ -419,4 +435,173 @@ fn finish_cells(
         start,
         brought,
     )
+}
+
+// ---- 30, the table and its program
+
+// 01: "A program area of at least 16,384 32-bit words is lent".
+const AREA: usize = 16384;
+
+fn write_program(
+    table: &[u8],
+    rows: &[u8; 2048],
+    inherited: &[u8; 48],
+    synthesized: &[u8; 48],
+    offsets: &[u32; 128],
+    sets: &[u64; 128],
+    sizes: table::Sizes,
+    program: &mut [u32],
+)
+    requires { ⌜ ((s : State) × Checked.Brought (now table) s sizes (now inherited) (now synthesized) (now rows) (now offsets) (now sets)) × (16384 ≤ length (now program)) ⌝ }
+    ensures { λ r. ⌜ ((s : State) → Checked.Brought (now (table .entry)) s sizes (now (inherited .entry)) (now (synthesized .entry)) (now (rows .entry)) (now (offsets .entry)) (now (sets .entry)) → now (program .exit) ≡ written (programOf (grammarOf s)) (now (program .entry))) ⌝ }
+{
+    let same = program::Sizes {
+        terminals: sizes.terminals,
+        nonterminals: sizes.nonterminals,
+        start: sizes.start,
+        result: sizes.result,
+        productions: sizes.productions,
+    };
+    program::build(
+        table,
+        rows,
+        inherited,
+        synthesized,
+        offsets,
+        sets,
+        same,
+        program,
+    );
+}
+
+// Writes the program of an accepted table, and its rows and counts into the lent arrays; on 30 and on a table's refusal not a word of the area changes.
+fn prepare(
+    table: &[u8],
+    program: &mut [u32],
+    rows: &mut [u8; 2048],
+    inherited: &mut [u8; 48],
+    synthesized: &mut [u8; 48],
+) -> Prepared
+    requires { ⌜ (length (now rows) ≡ 2048) × (length (now inherited) ≡ 48) × (length (now synthesized) ≡ 48) ⌝ }
+    ensures { λ r. ⌜ PreparedAs (now (table .entry)) (now (program .entry)) (now (program .exit)) (now (rows .exit)) (now (inherited .exit)) (now (synthesized .exit)) r ⌝ }
+{
+    if program.len() < AREA {
+        return Prepared::Turned(Answer::Refused {
+            number: 30,
+            tokens: 0,
+        });
+    }
+    let mut offsets = [0u32; 128];
+    let mut sets = [0u64; 128];
+    match checker::judging::judge_table(
+        table,
+        inherited,
+        synthesized,
+        rows,
+        &mut offsets,
+        &mut sets,
+    ) {
+        Judged::Unusable { number, offset } => Prepared::Turned(Answer::TableRefused {
+            number,
+            offset: offset as u64,
+        }),
+        Judged::Usable(sizes) => {
+            write_program(
+                table,
+                rows,
+                inherited,
+                synthesized,
+                &offsets,
+                &sets,
+                sizes,
+                program,
+            );
+            Prepared::Ready {
+                productions: sizes.productions,
+                start: sizes.start,
+            }
+        }
+    }
+}
+
+// ---- the calls
+
+impl Record {
+    // Opens a run. A refusal hands back a closed record, all zero.
+    pub fn open(
+        table: &[u8],
+        registers: &mut [i64],
+        places: &mut [u32],
+        program: &mut [u32],
+    ) -> Called
+        ensures { λ r. ⌜ effectIs r (now (registers .exit)) (now (places .exit)) (now (program .exit)) ≡ opens programOf (now (table .entry)) (now (program .entry)) (stacksOf (now (registers .entry)) (now (places .entry))) ⌝ }
+    {
+        let mut rows = [0u8; 2048];
+        let mut inherited = [0u8; 48];
+        let mut synthesized = [0u8; 48];
+        match prepare(table, program, &mut rows, &mut inherited, &mut synthesized) {
+            Prepared::Turned(answer) => closed(answer),
+            Prepared::Ready { productions, start } => open_cells(registers, places, program),
+        }
+    }
+
+    // Feeds a list of tokens.
+    pub fn feed(
+        self,
+        table: &[u8],
+        registers: &mut [i64],
+        places: &mut [u32],
+        program: &mut [u32],
+        tokens: &[u8],
+    ) -> Called
+        ensures { λ r. ⌜ effectIs r (now (registers .exit)) (now (places .exit)) (now (program .exit)) ≡ performs programOf (now (table .entry)) (now (program .entry)) (recordIs self) (stacksOf (now (registers .entry)) (now (places .entry))) (feed (now (tokens .entry))) ⌝ }
+    {
+        let mut rows = [0u8; 2048];
+        let mut inherited = [0u8; 48];
+        let mut synthesized = [0u8; 48];
+        match prepare(table, program, &mut rows, &mut inherited, &mut synthesized) {
+            Prepared::Turned(answer) => as_brought(self, answer),
+            Prepared::Ready { productions, start } => feed_cells(
+                registers,
+                places,
+                program,
+                &rows,
+                &inherited,
+                &synthesized,
+                productions,
+                start,
+                self,
+                tokens,
+            ),
+        }
+    }
+
+    // Finishes the segment.
+    pub fn finish(
+        self,
+        table: &[u8],
+        registers: &mut [i64],
+        places: &mut [u32],
+        program: &mut [u32],
+    ) -> Called
+        ensures { λ r. ⌜ effectIs r (now (registers .exit)) (now (places .exit)) (now (program .exit)) ≡ performs programOf (now (table .entry)) (now (program .entry)) (recordIs self) (stacksOf (now (registers .entry)) (now (places .entry))) finish ⌝ }
+    {
+        let mut rows = [0u8; 2048];
+        let mut inherited = [0u8; 48];
+        let mut synthesized = [0u8; 48];
+        match prepare(table, program, &mut rows, &mut inherited, &mut synthesized) {
+            Prepared::Turned(answer) => as_brought(self, answer),
+            Prepared::Ready { productions, start } => finish_cells(
+                registers,
+                places,
+                program,
+                &rows,
+                &inherited,
+                &synthesized,
+                productions,
+                start,
+                self,
+            ),
+        }
+    }
 }

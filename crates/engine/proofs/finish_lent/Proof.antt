@@ -4,7 +4,7 @@ use mathlib.Core.Path.{_≡_, refl, sym, ap, _∙_, subst}
 use lib.ListN.{length, getD}
 use denote.Ref.{now}
 use Rattle.fit.specs.Cut.{stacksOf}
-use Rattle.engine.specs.Records.{recordIs}
+use Rattle.engine.specs.Records.{recordIs, calledIs}
 use Rattle.engine.specs.Judging.{when-turned}
 use Rattle.engine.specs.Performing.{Judged, judged-fitting, judged-running, finish-ending, finish-made}
 use borrow.Author.Needs.{needs}
@@ -25,6 +25,9 @@ judged c = record { few = c .before .before .before .before .before .before .pre
 turned-back-requires : tie.Need-turned-back-requires
 turned-back-requires c κs = search needs
 
+as-brought-requires : tie.Need-as-brought-requires
+as-brought-requires c κs = search needs
+
 -- src/lib.rt:276:9
 same-length : tie.Need-same-length
 same-length c = search needs
@@ -35,7 +38,7 @@ same-length-2 c = search needs
 
 -- src/lib.rt:276:9
 returns : tie.Need-returns
-returns c = λ g s t. sym (when-turned g (recordIs (c .before .before .before .before .before .before .args .brought)) (stacksOf (now (c .before .before .before .before .before .before .args .registers)) (now (c .before .before .before .before .before .before .args .places))) _ (c .before .turned-back .result) (c .before .turned-back .ensures g t) (c .if1 .taken))
+returns c = λ g s t. ap (λ z. calledIs z (now (c .before .before .before .before .before .before .before .args .registers)) (now (c .before .before .before .before .before .before .before .args .places))) (c .as-brought .ensures) ∙ sym (when-turned g (recordIs (c .before .before .before .before .before .before .before .args .brought)) (stacksOf (now (c .before .before .before .before .before .before .before .args .registers)) (now (c .before .before .before .before .before .before .before .args .places))) _ (c .before .before .turned-back .result) (c .before .before .turned-back .ensures g t) (c .before .if1 .taken))
 
 -- src/lib.rt:281:9
 run-of-requires : tie.Need-run-of-requires
@@ -66,6 +69,7 @@ finish-lent-spec =
     tie.close
     (tie.spec
     turned-back-requires
+    as-brought-requires
     same-length
     same-length-2
     returns
