@@ -1,7 +1,7 @@
 -- The cases of what a call begins with.
 use Prim.Native.Nat.{ℕ, _≤_, _<_}
 use native.Mathlib.Omega.{arith}
-use mathlib.Core.Path.{_≡_, refl, sym, ap, _∙_, subst}
+use mathlib.Core.Path.{_≡_, sym, ap, _∙_, subst}
 use mathlib.Core.List.{List}
 use lib.ListN.{length}
 use Rattle.meaning.specs.Grammar.{Grammar}
@@ -40,7 +40,6 @@ module _ (t inherited synthesized rows offsets sets : List ℕ) (q : Judged) (j 
 module _ {t area area′ rows inherited synthesized : List ℕ} {p : Prepared} (q : PreparedAs t area area′ rows inherited synthesized p) where
   pub prepared-ready : (productions start : ℕ) → p ≡ Ready productions start → Accepting t area area′ rows inherited synthesized productions start
   prepared-ready productions start e = subst (PreparedAs t area area′ rows inherited synthesized) e q
-
 
 module _ (t area area′ rows inherited synthesized : List ℕ) (p : Prepared) (q : PreparedAs t area area′ rows inherited synthesized p) where
   pub prepared-turned : (a : Answer) → p ≡ Turned a → (r : Record) (m : Stacks) (made : Grammar → Called) → effect (asBrought (answerIs a) r m) area′ ≡ called programOf t area r m made

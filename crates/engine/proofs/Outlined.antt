@@ -1,11 +1,11 @@
 -- What the checker leaves of an accepted table is what the test of the stacks and the builder take.
-use Prim.Native.Nat.{ℕ, suc, _+_, _*_, _/_, _%_, _^_, _≤_, _<_}
+use Prim.Native.Nat.{ℕ, _+_, _*_, _/_, _%_, _^_, _<_}
 use native.Mathlib.Omega.{arith}
-use mathlib.Core.Path.{_≡_, refl, sym, ap, ap₂, _∙_, subst}
+use mathlib.Core.Path.{_≡_, sym, ap, _∙_, subst}
 use mathlib.Core.List.{List, reverse}
 use lib.ListN.{length, getD, length-map, length-reverse}
 use lib.Dec.{eqb}
-use Rattle.meaning.specs.Grammar.{Grammar, Counts, noCounts, Symbol, terminal, nonterminal, inh, syn, symbolAt, productionAt, nonterminalCount}
+use Rattle.meaning.specs.Grammar.{noCounts, terminal, nonterminal, inh, syn, productionAt, nonterminalCount}
 use Rattle.meaning.specs.Rules.{WellFormed}
 use Rattle.meaning.specs.Sets.{has, starts}
 use Rattle.meaning.specs.Table.{State, symbolOf, noEntry, productionOf, grammarOf}

@@ -47,8 +47,8 @@ module _ {ws : List ℕ} {m : List ℤ} {ps : List ℕ} {run : Run} (t : ℕ) wh
   token-read m′ ps′ e l u small a g lent c h =
       let look : lookOf t ≡ token t = ap (λ b. lookIf b t) (ne-eqb t 63 (λ z. omega arith)) in
       let same : advanceFrom g lent (lookOf t) c ≡ feedToken g lent t c =
-          ap (λ k. advanceFrom g lent k c) look
-          ∙ sym (ap (λ b. chosen t g lent c b (ltb t (g .terminals))) (lt-leb tokensLimit (c .tokens) (omega (arith, h .tokens))) ∙ ap (chosen t g lent c false) (lt-ltb t (g .terminals) (omega (arith, segment-words (h .begins) .terminals)))) in
+      ap (λ k. advanceFrom g lent k c) look
+      ∙ sym (ap (λ b. chosen t g lent c b (ltb t (g .terminals))) (lt-leb tokensLimit (c .tokens) (omega (arith, h .tokens))) ∙ ap (chosen t g lent c false) (lt-ltb t (g .terminals) (omega (arith, segment-words (h .begins) .terminals)))) in
       subst (λ o. Settles g ws lent o m′ ps′ e) same (a g lent c h)
 
 -- ---- a list of tokens

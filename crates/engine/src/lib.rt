@@ -25,10 +25,9 @@ ghost use Rattle.engine.specs.Starting.{Stood, Standing, Fitting};
 ghost use Rattle.engine.specs.Leaving.{recordFrom, broughtFrom, closedFrom, fedFrom, finishedFrom, Ending};
 ghost use Rattle.engine.specs.Judging.{Brought, turnedBack};
 ghost use Rattle.engine.specs.Preparing.{PreparedAs};
-
 use checker::judging::Judged;
-use machine::Run;
 use machine::Ended;
+use machine::Run;
 
 // Open or closed, tokens read, moves made, and the heights of both stacks.
 pub struct Record {
@@ -101,7 +100,13 @@ fn feed_token(registers: &mut [i64], places: &mut [u32], program: &[u32], run: R
     machine::advance(registers, places, program, run, t)
 }
 
-fn feed_tokens(registers: &mut [i64], places: &mut [u32], program: &[u32], run: Run, tokens: &[u8]) -> Ended
+fn feed_tokens(
+    registers: &mut [i64],
+    places: &mut [u32],
+    program: &[u32],
+    run: Run,
+    tokens: &[u8],
+) -> Ended
     requires { ⌜ Running (now program) (now registers) (now places) run ⌝ }
     ensures { λ r. ⌜ Feeds (now (program .entry)) (now (tokens .entry)) (now (registers .entry)) (now (places .entry)) run (now (registers .exit)) (now (places .exit)) r ⌝ }
 {
@@ -194,7 +199,10 @@ fn finished(registers: &[i64], program: &[u32], ended: Ended) -> Called
     match ended {
         Ended::Stopped(run) => Called {
             record: record_of(false, run),
-            answer: Answer::Value(registers::read(registers, run.registers, program[5]), run.moves),
+            answer: Answer::Value(
+                registers::read(registers, run.registers, program[5]),
+                run.moves,
+            ),
         },
         Ended::Failed(run, number) => Called {
             record: record_of(false, run),
@@ -269,7 +277,16 @@ fn feed_lent(
     requires { ⌜ (length (now registers) ≤ 4096) × (length (now places) ≤ 1024) × Brought (now program) (now rows) (now inherited) (now synthesized) productions start ⌝ }
     ensures { λ r. ⌜ ((g : Grammar) → Begins g (now (program .entry)) → Shown g (now (rows .entry)) (now (inherited .entry)) (now (synthesized .entry)) productions start → calledIs r (now (registers .exit)) (now (places .exit)) ≡ feedOf g (recordIs brought) (stacksOf (now (registers .entry)) (now (places .entry))) (now (tokens .entry))) ⌝ }
 {
-    let number = turned_back(registers, places, rows, inherited, synthesized, productions, start, brought);
+    let number = turned_back(
+        registers,
+        places,
+        rows,
+        inherited,
+        synthesized,
+        productions,
+        start,
+        brought,
+    );
     if number != 0 {
         return as_brought(brought, Answer::Refused { number, tokens: 0 });
     }
@@ -292,7 +309,16 @@ fn finish_lent(
     requires { ⌜ (length (now registers) ≤ 4096) × (length (now places) ≤ 1024) × Brought (now program) (now rows) (now inherited) (now synthesized) productions start ⌝ }
     ensures { λ r. ⌜ ((g : Grammar) → Begins g (now (program .entry)) → Shown g (now (rows .entry)) (now (inherited .entry)) (now (synthesized .entry)) productions start → calledIs r (now (registers .exit)) (now (places .exit)) ≡ finishOf g (recordIs brought) (stacksOf (now (registers .entry)) (now (places .entry)))) ⌝ }
 {
-    let number = turned_back(registers, places, rows, inherited, synthesized, productions, start, brought);
+    let number = turned_back(
+        registers,
+        places,
+        rows,
+        inherited,
+        synthesized,
+        productions,
+        start,
+        brought,
+    );
     if number != 0 {
         return as_brought(brought, Answer::Refused { number, tokens: 0 });
     }

@@ -1,38 +1,24 @@
-use Prim.Native.Nat.{ℕ, _+_, _-_, _≤_, _<_}
-use native.Mathlib.Omega.{arith}
-use mathlib.Core.Path.{_≡_, refl, sym, ap, _∙_, subst}
-use lib.ListN.{length, getD, length-set}
-use denote.Ref.{now}
-use borrow.Author.Needs.{needs, sfits-of}
+use borrow.Author.Needs.{needs}
 use Rattle.engine.specs.Leaving.{fed-stopped, fed-failed}
 use borrow.Author.Needs.{needs}
 use Rattle.engine.proofs.fed.Statement.{statement}
 use Rattle.engine.proofs.fed.Tie as tie
-use Rattle.engine.proofs.fed.Reads as reads
-use Rattle.engine.proofs.fed.Lts as lts
-use Rattle.engine.proofs.record_of.Reads as record-of-reads
 
--- src/lib.rt:161:24
 enum-known-ended : tie.Need-enum-known-ended
 enum-known-ended c = search needs
 
--- src/lib.rt:162:21
 record-of-requires : tie.Need-record-of-requires
 record-of-requires c κs = search needs
 
--- src/lib.rt:165:23
 enum-known-ended-2 : tie.Need-enum-known-ended-2
 enum-known-ended-2 c = search needs
 
--- src/lib.rt:166:21
 record-of-requires-2 : tie.Need-record-of-requires-2
 record-of-requires-2 c κs = search needs
 
--- src/lib.rt:157:1
 returns : tie.Need-returns
 returns c = fed-stopped (c .before .before .before .before .args .ended) (c .before .before .ended .given .0 .0) (c .record-of .result) (c .before .before .ended .given .1) (c .record-of .ensures)
 
--- src/lib.rt:157:1
 returns-2 : tie.Need-returns-2
 returns-2 c = fed-failed (c .before .before .before .before .args .ended) (c .before .before .ended2 .given .0 .0) (c .before .before .ended2 .given .0 .1 .0) (c .record-of2 .result) (c .before .before .ended2 .given .1) (c .record-of2 .ensures)
 

@@ -1,57 +1,42 @@
-use Prim.Native.Nat.{ℕ, _≤_, _<_}
 use native.Mathlib.Omega.{arith}
-use mathlib.Core.Path.{_≡_, refl, sym, ap, _∙_, subst}
-use lib.ListN.{length, length-take}
+use mathlib.Core.Path.{sym}
+use lib.ListN.{length-take}
 use lib.Seq.{length-take-le}
 use denote.Ref.{now}
-use Rattle.engine.specs.Records.{recordIs, calledIs}
+use Rattle.engine.specs.Records.{calledIs}
 use Rattle.meaning.specs.Calls.{openOf}
 use Rattle.engine.specs.Cutting.{open-cut, made-whole}
 use borrow.Author.Needs.{needs}
 use Rattle.engine.proofs.open_cells.Statement.{statement}
 use Rattle.engine.proofs.open_cells.Tie as tie
-use Rattle.engine.proofs.open_cells.Reads as reads
-use Rattle.engine.proofs.open_cells.Lts as lts
-use Rattle.engine.proofs.open_lent.Reads as open-lent-reads
-use Rattle.engine.proofs.smaller.Reads as smaller-reads
 
--- src/lib.rt:359:9
 smaller-requires : tie.Need-smaller-requires
 smaller-requires c κs = search needs
 
--- src/lib.rt:360:9
 smaller-requires-2 : tie.Need-smaller-requires-2
 smaller-requires-2 c κs = search needs
 
--- src/lib.rt:361:15
 slice-relend-prefix-open-lent : tie.Need-slice-relend-prefix-open-lent
 slice-relend-prefix-open-lent c = search needs
 
--- src/lib.rt:361:15
 slice-aggregate-open-lent : tie.Need-slice-aggregate-open-lent
 slice-aggregate-open-lent c = sym (length-take-le _ _ (omega (arith, c .before .before .smaller .ensures)))
 
--- src/lib.rt:361:36
 slice-relend-prefix-open-lent-2 : tie.Need-slice-relend-prefix-open-lent-2
 slice-relend-prefix-open-lent-2 c = search needs
 
--- src/lib.rt:361:36
 slice-aggregate-open-lent-2 : tie.Need-slice-aggregate-open-lent-2
 slice-aggregate-open-lent-2 c = sym (length-take-le _ _ (omega (arith, c .before .before .smaller2 .ensures)))
 
--- src/lib.rt:361:5
 open-lent-requires : tie.Need-open-lent-requires
 open-lent-requires c κs = (omega (arith, length-take (c .before .before .before .smaller .result) (now (c .before .before .before .before .before .before .args .registers)), c .before .before .before .smaller .ensures), omega (arith, length-take (c .before .before .smaller2 .result) (now (c .before .before .before .before .before .before .args .places)), c .before .before .smaller2 .ensures), c .before .before .before .before .before .before .pre)
 
--- src/lib.rt:355:1
 same-length : tie.Need-same-length
 same-length c = search needs
 
--- src/lib.rt:355:1
 same-length-2 : tie.Need-same-length-2
 same-length-2 c = search needs
 
--- src/lib.rt:355:1
 returns : tie.Need-returns
 returns c = λ g s. made-whole (openOf g) (now (c .before .before .before .before .before .before .before .before .before .before .args .registers)) (now (c .before .before .before .before .before .before .before .before .before .before .args .places)) (c .before .before .before .before .before .before .before .smaller .result) (c .before .before .before .before .before .before .smaller2 .result) (c .before .before .before .before .before .before .before .smaller .ensures) (c .before .before .before .before .before .before .smaller2 .ensures) (calledIs (c .before .before .before .open-lent .result) (c .before .before .before .open-lent .last .0) (c .before .before .before .open-lent .last .1 .0)) (c .before .before .before .open-lent .ensures g s) (open-cut g (now (c .before .before .before .before .before .before .before .before .before .before .args .registers)) (now (c .before .before .before .before .before .before .before .before .before .before .args .places)))
 

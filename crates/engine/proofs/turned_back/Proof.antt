@@ -1,34 +1,23 @@
 use Rattle.engine.specs.Records.{recordIs}
 use Rattle.fit.specs.Cut.{stacksOf}
-use mathlib.Core.Bool.{Bool, true, false}
-use Prim.Native.Nat.{ℕ, _+_, _-_, _≤_, _<_}
-use native.Mathlib.Omega.{arith}
-use mathlib.Core.Path.{_≡_, refl, sym, ap, _∙_, subst}
-use lib.ListN.{length, getD, length-set}
+use mathlib.Core.Bool.{true, false}
+use mathlib.Core.Path.{sym, _∙_}
 use denote.Ref.{now}
-use borrow.Author.Needs.{needs, sfits-of}
 use Rattle.engine.specs.Judging.{number-closed, number-judged}
 use borrow.Author.Tests.{not-true, not-false}
 use Rattle.fit.specs.Shown.{readable}
 use Rattle.engine.proofs.turned_back.Statement.{statement}
 use Rattle.engine.proofs.turned_back.Tie as tie
-use Rattle.engine.proofs.turned_back.Reads as reads
-use Rattle.engine.proofs.turned_back.Lts as lts
-use Rattle.fit.proofs.fits.Reads as fits-reads
 
--- src/lib.rt:212:9
 returns : tie.Need-returns
 returns c = λ g s. number-closed g (recordIs (c .before .before .before .args .brought)) (stacksOf (now (c .before .before .before .args .registers)) (now (c .before .before .before .args .places))) (not-true (c .before .before .before .args .brought .«open») (c .if1 .taken))
 
--- src/lib.rt:214:8
 fits-requires : tie.Need-fits-requires
 fits-requires c κs = let p = c .before .before .before .pre in (p .0, p .1, readable (p .2 .1))
 
--- src/lib.rt:227:9
 returns-2 : tie.Need-returns-2
 returns-2 c = λ g s. number-judged g (recordIs (c .before .before .before .before .before .args .brought)) (stacksOf (now (c .before .before .before .before .before .args .registers)) (now (c .before .before .before .before .before .args .places))) true (not-false (c .before .before .before .before .before .args .brought .«open») (c .before .before .if1 .left)) (sym (c .before .fits2 .ensures g s) ∙ c .if2 .taken)
 
--- src/lib.rt:198:1
 returns-3 : tie.Need-returns-3
 returns-3 c = λ g s. number-judged g (recordIs (c .before .before .before .before .before .args .brought)) (stacksOf (now (c .before .before .before .before .before .args .registers)) (now (c .before .before .before .before .before .args .places))) false (not-false (c .before .before .before .before .before .args .brought .«open») (c .before .before .if1 .left)) (sym (c .before .fits2 .ensures g s) ∙ c .if2 .left)
 

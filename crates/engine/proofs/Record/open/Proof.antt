@@ -1,63 +1,44 @@
-use Prim.Native.Nat.{ℕ, _≤_, _<_}
-use native.Mathlib.Omega.{arith}
-use mathlib.Core.Path.{_≡_, refl, sym, ap, _∙_, subst}
-use lib.ListN.{length}
+use mathlib.Core.Path.{ap, _∙_}
 use denote.Ref.{now}
 use Rattle.fit.specs.Cut.{stacksOf}
-use Rattle.engine.specs.Records.{recordIs, calledIs, effectIs}
-use Rattle.engine.specs.Preparing.{accepting-begins, accepting-brought, accepting-called}
+use Rattle.engine.specs.Records.{calledIs, effectIs}
+use Rattle.engine.specs.Preparing.{accepting-begins, accepting-called}
 use Rattle.engine.proofs.Cases.{prepared-ready, prepared-turned, area-long}
 use Rattle.meaning.specs.Calls.{closedRecord, openOf}
 use borrow.Author.Needs.{needs}
 use Rattle.engine.proofs.Record.open.Statement.{statement}
 use Rattle.engine.proofs.Record.open.Tie as tie
-use Rattle.engine.proofs.Record.open.Reads as reads
-use Rattle.engine.proofs.Record.open.Lts as lts
-use Rattle.engine.proofs.closed.Reads as closed-reads
-use Rattle.engine.proofs.open_cells.Reads as open-cells-reads
-use Rattle.engine.proofs.prepare.Reads as prepare-reads
 
--- src/lib.rt:538:15
 prepare-requires : tie.Need-prepare-requires
 prepare-requires c κs = search needs
 
--- src/lib.rt:539:30
 enum-known-answer : tie.Need-enum-known-answer
 enum-known-answer c = search needs
 
--- src/lib.rt:539:41
 closed-requires : tie.Need-closed-requires
 closed-requires c κs = search needs
 
--- src/lib.rt:540:31
 enum-known-productions : tie.Need-enum-known-productions
 enum-known-productions c = search needs
 
--- src/lib.rt:540:55
 open-cells-requires : tie.Need-open-cells-requires
 open-cells-requires c κs = area-long (prepared-ready (c .before .before .before .before .before .before .before .before .prepare .ensures) (c .before .before .before .before .productions .given .0 .0) (c .before .before .before .before .productions .given .0 .1 .0) (c .before .before .before .before .productions .given .1))
 
--- src/lib.rt:527:5
 same-length : tie.Need-same-length
 same-length c = search needs
 
--- src/lib.rt:527:5
 returns : tie.Need-returns
 returns c = ap (λ z. effectIs z (now (c .before .before .before .before .before .before .before .before .before .before .before .before .before .before .args .registers)) (now (c .before .before .before .before .before .before .before .before .before .before .before .before .before .before .args .places)) (c .before .before .before .before .before .before .prepare .last .1 .0)) (c .closed .ensures) ∙ prepared-turned (now (c .before .before .before .before .before .before .before .before .before .before .before .before .before .before .args .table)) (now (c .before .before .before .before .before .before .before .before .before .before .before .before .before .before .args .program)) (c .before .before .before .before .before .before .prepare .last .1 .0) (c .before .before .before .before .before .before .prepare .last .1 .1 .0) (c .before .before .before .before .before .before .prepare .last .1 .1 .1 .0) (c .before .before .before .before .before .before .prepare .last .1 .1 .1 .1 .0) (c .before .before .before .before .before .before .prepare .result) (c .before .before .before .before .before .before .prepare .ensures) (c .before .before .answer .given .0 .0) (c .before .before .answer .given .1) closedRecord (stacksOf (now (c .before .before .before .before .before .before .before .before .before .before .before .before .before .before .args .registers)) (now (c .before .before .before .before .before .before .before .before .before .before .before .before .before .before .args .places))) (λ g. openOf g (stacksOf (now (c .before .before .before .before .before .before .before .before .before .before .before .before .before .before .args .registers)) (now (c .before .before .before .before .before .before .before .before .before .before .before .before .before .before .args .places))))
 
--- src/lib.rt:527:5
 same-length-2 : tie.Need-same-length-2
 same-length-2 c = search needs
 
--- src/lib.rt:527:5
 same-length-3 : tie.Need-same-length-3
 same-length-3 c = search needs
 
--- src/lib.rt:527:5
 same-length-4 : tie.Need-same-length-4
 same-length-4 c = search needs
 
--- src/lib.rt:527:5
 returns-2 : tie.Need-returns-2
 returns-2 c = let a = (prepared-ready (c .before .before .before .before .before .before .before .before .before .before .before .before .prepare .ensures) (c .before .before .before .before .before .before .before .before .productions .given .0 .0) (c .before .before .before .before .before .before .before .before .productions .given .0 .1 .0) (c .before .before .before .before .before .before .before .before .productions .given .1)) in accepting-called a closedRecord (stacksOf (now (c .before .before .before .before .before .before .before .before .before .before .before .before .before .before .before .before .before .before .before .before .args .registers)) (now (c .before .before .before .before .before .before .before .before .before .before .before .before .before .before .before .before .before .before .before .before .args .places))) (λ g. openOf g (stacksOf (now (c .before .before .before .before .before .before .before .before .before .before .before .before .before .before .before .before .before .before .before .before .args .registers)) (now (c .before .before .before .before .before .before .before .before .before .before .before .before .before .before .before .before .before .before .before .before .args .places)))) (calledIs (c .before .before .before .open-cells .result) (c .before .before .before .open-cells .last .0) (c .before .before .before .open-cells .last .1 .0)) (c .before .before .before .open-cells .ensures _ (accepting-begins a))
 
