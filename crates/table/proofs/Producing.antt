@@ -148,7 +148,7 @@ module _ (inh syn : List ℕ) where
   each-right zero = tt
   each-right (suc n) = (ap (λ (m : ℕ). record { inherited = getD inh m 0; synthesized = getD syn m 0 }) (sym (length-counts inh syn n)), each-right n)
 
-  counts-at : (n m : ℕ) → m < n → getD (reverse (countsUpTo inh syn n)) m noCounts ≡ record { inherited = getD inh m 0; synthesized = getD syn m 0 }
+  pub counts-at : (n m : ℕ) → m < n → getD (reverse (countsUpTo inh syn n)) m noCounts ≡ record { inherited = getD inh m 0; synthesized = getD syn m 0 }
   counts-at n m h = numbered noCounts Right (countsUpTo inh syn n) (each-right n) m (omega (arith, length-counts inh syn n))
 
   -- a symbol's counts, by its byte

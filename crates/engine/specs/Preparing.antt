@@ -1,0 +1,73 @@
+-- What each call begins with: 30, the table, and its program written. 01: "Order: 30, table, 33, 34, then the moves".
+use Prim.Native.Nat.{ℕ, _≤_, _<_}
+use native.Mathlib.Omega.{arith}
+use mathlib.Core.Path.{_≡_, refl, sym, ap, _∙_, subst}
+use mathlib.Core.Bool.{Bool, true, false}
+use mathlib.Core.List.{List}
+use lib.ListN.{length}
+use lib.Dec.{ltb}
+use lib.IntN.{ℤ}
+use borrow.Author.Tests.{lt-ltb, le-ltb}
+use Rattle.meaning.specs.Grammar.{Grammar}
+use Rattle.meaning.specs.Table.{State, grammarOf}
+use Rattle.meaning.specs.Program.{programOf}
+use Rattle.meaning.specs.Calls as Calls
+use Rattle.meaning.specs.Calls.{Record, Stacks, Called, refused, tableRefused, asBrought}
+use Rattle.meaning.specs.PublicCalls.{Checked, usable, unusable, check, areaLength, written, Effect, effect, called}
+use Rattle.theory_program.specs.Addresses.{Begins, written-begins}
+use Rattle.fit.specs.Shown.{Shown}
+use Rattle.engine.specs.declared.Prepared.{Prepared}
+use Rattle.engine.specs.declared.Prepared.the-variants.{Turned, Ready}
+use Rattle.engine.specs.declared.Answer.{Answer}
+use Rattle.engine.specs.Records.{answerIs}
+use Rattle.engine.specs.Judging.{Brought}
+
+-- an accepted table: its program stands in the area, and its rows are shown
+pub record Accepting (t area area′ rows inherited synthesized : List ℕ) (productions start : ℕ) : Type 0 where
+  pub long : areaLength ≤ length area
+  pub state : State
+  pub isUsable : check t ≡ usable state
+  pub isWritten : area′ ≡ written (programOf (grammarOf state)) area
+  pub shown : Shown (grammarOf state) rows inherited synthesized productions start
+
+-- whatever a call brings and would make, it is turned back with answer a
+abbrev pub TurnedBack : List ℕ → List ℕ → Answer → Type 0
+TurnedBack t area a = (r : Record) (m : Stacks) (made : Grammar → Called) → called programOf t area r m made ≡ effect (asBrought (answerIs a) r m) area
+
+abbrev pub PreparedAs : List ℕ → List ℕ → List ℕ → List ℕ → List ℕ → List ℕ → Prepared → Type 0
+PreparedAs t area area′ rows inherited synthesized (Turned a) = TurnedBack t area a × (area′ ≡ area)
+PreparedAs t area area′ rows inherited synthesized (Ready productions start) = Accepting t area area′ rows inherited synthesized productions start
+
+-- ---- the call of each case
+
+module _ (t area : List ℕ) (r : Record) (m : Stacks) (made : Grammar → Called) where
+  abbrev byTable : Checked → Effect
+  byTable x = elim x [ unusable n o ↦ effect (asBrought (tableRefused n o) r m) area | usable s ↦ effect (made (grammarOf s)) (written (programOf (grammarOf s)) area) ]
+
+  abbrev byArea : Bool → Effect
+  byArea b = elim b [ true ↦ effect (asBrought (refused 30 0) r m) area | false ↦ byTable (check t) ]
+
+  pub called-short : length area < areaLength → called programOf t area r m made ≡ effect (asBrought (refused 30 0) r m) area
+  called-short l = ap byArea (lt-ltb (length area) areaLength l)
+
+  module _ (l : areaLength ≤ length area) where
+    long : called programOf t area r m made ≡ byTable (check t)
+    long = ap byArea (le-ltb (length area) areaLength l)
+
+    pub called-refused : (n o : ℕ) → check t ≡ unusable n o → called programOf t area r m made ≡ effect (asBrought (tableRefused n o) r m) area
+    called-refused n o e = long ∙ ap byTable e
+
+    pub called-usable : (s : State) → check t ≡ usable s → called programOf t area r m made ≡ effect (made (grammarOf s)) (written (programOf (grammarOf s)) area)
+    called-usable s e = long ∙ ap byTable e
+
+-- ---- what an accepted table brings
+
+module _ {t area area′ rows inherited synthesized : List ℕ} {productions start : ℕ} (a : Accepting t area area′ rows inherited synthesized productions start) where
+  pub accepting-begins : Begins (grammarOf (a .state)) area′
+  accepting-begins = subst (Begins (grammarOf (a .state))) (sym (a .isWritten)) (written-begins (grammarOf (a .state)) area)
+
+  pub accepting-brought : Brought area′ rows inherited synthesized productions start
+  accepting-brought = record { grammar = grammarOf (a .state); begins = accepting-begins; shown = a .shown }
+
+  pub accepting-called : (r : Record) (m : Stacks) (made : Grammar → Called) (k : Called) → k ≡ made (grammarOf (a .state)) → effect k area′ ≡ called programOf t area r m made
+  accepting-called r m made k e = (λ i. effect (e i) (a .isWritten i)) ∙ sym (called-usable t area r m made (a .long) (a .state) (a .isUsable))
