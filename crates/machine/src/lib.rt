@@ -69,7 +69,7 @@ fn counted(run: Run, at: usize) -> Run
 // ---- words and places
 
 // A word of the program, or a place.
-fn word_at(words: &[u32], at: usize) -> usize
+pub fn word_at(words: &[u32], at: usize) -> usize
     requires { ⌜ at < length (now words) ⌝ }
     ensures { λ r. ⌜ (r ≡ getD (now (words .entry)) at 0) × (r < 4294967296) ⌝ }
 {
