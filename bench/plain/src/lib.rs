@@ -39,6 +39,7 @@ mod tests {
             let late = check(&samples::refused_late(n, third, conditions)).err().unwrap();
             assert_eq!((late.number, late.offset as usize), (13, table.len()));
         }
-        println!("{} {} {}", samples::words().len(), samples::chain(4, 2, 8).len(), samples::chain(47, 33, 512).len());
+        let longest = samples::longest_refused();
+        assert_eq!((longest.len(), check(&longest).err().unwrap().number), (32768, 5));
     }
 }

@@ -81,3 +81,12 @@ pub fn refused_late(n: usize, third: usize, conditions: usize) -> Vec<u8> {
     }
     t
 }
+
+/// As long as a table may be, refused by 5 at its last field, a rule with an unknown function.
+pub fn longest_refused() -> Vec<u8> {
+    let mut t = chain(47, 33, 512);
+    let mut body = vec![0; 32768 - t.len() - 3];
+    body[2] = 9;
+    field(&mut t, 4, &body);
+    t
+}
