@@ -10,7 +10,7 @@ use Rattle.meaning.specs.Base.{countFrom}
 use Rattle.meaning.specs.Grammar.{Grammar, Function, const, copy, sum, addc, Rule, nonterminal}
 use Rattle.meaning.specs.Scheme.{add, evaluate, expect, remove}
 use Rattle.meaning.specs.Machine.{Config, Lent, moved, blocked, opening, next, lookAt, unread, writeAll}
-use Rattle.meaning.specs.Tree.{Tree, leaf, node, noTrees, treeAnd, movesOf, TreeOf, valueOf}
+use Rattle.meaning.specs.Tree.{Tree, leaf, node, noTrees, treeAnd, TreeOf, valueOf}
 use Rattle.meaning.specs.Walk.{Act, predicts, reads, performs, walk, walkTo, actBy, Makes, nothing, andThen}
 use Rattle.meaning.specs.Drawn.{registersFor, depth, WalkFits, drawnRecord, drawnStacks, drawnMoves}
 use Rattle.meaning.specs.Calls.{Called, more, value, refused, openOf}
@@ -49,9 +49,6 @@ its-stops = refl
 
 after-word-open : walkTo 2 (walk words tree) ≡ take 11 (walk words tree)
 after-word-open = refl
-
-its-counts : map (λ j. movesOf words j 0 tree) (countFrom 0 6) ≡ 0 ∷ 7 ∷ 11 ∷ 15 ∷ 23 ∷ 32 ∷ []
-its-counts = refl
 
 over : map length (drawnMoves words tree 4 false ∷ drawnMoves words tree 4 true ∷ []) ≡ 23 ∷ 32 ∷ []
 over = refl
@@ -127,9 +124,6 @@ wide-walks : acts 50 wide (lent 10 4) wideSegment (opening wide) ≡ walk wide w
 wide-walks = refl
 
 -- the tests count, and stand before the stop
-wide-counts : map (λ j. movesOf wide j 0 wideTree) (countFrom 0 6) ≡ 0 ∷ 11 ∷ 14 ∷ 21 ∷ 30 ∷ 30 ∷ []
-wide-counts = refl
-
 wide-stops : map (λ j. length (walkTo j (walk wide wideTree))) (countFrom 0 5) ≡ 0 ∷ 11 ∷ 14 ∷ 21 ∷ 30 ∷ []
 wide-stops = refl
 
@@ -176,7 +170,7 @@ secondTree =
     noTrees))))) noTrees)
 
 second-drawn : ℕ → Called
-second-drawn j = called (more (movesOf words j 0 secondTree)) (drawnRecord words secondTree j false) (drawnStacks words secondTree j false (used 12 7))
+second-drawn j = called (more (length (walkTo j (walk words secondTree)))) (drawnRecord words secondTree j false) (drawnStacks words secondTree j false (used 12 7))
 
 second-at : map (λ j. thenFeed words (take j (1 ∷ 2 ∷ 0 ∷ [])) (openOf words (used 12 7))) (countFrom 0 4) ≡ map second-drawn (countFrom 0 4)
 unfolding second-drawn secondTree

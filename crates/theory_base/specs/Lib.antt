@@ -8,6 +8,7 @@ pub mod Present
 pub mod Evaluations
 pub mod Grow
 pub mod Frames
+pub mod MoveCounts
 pub mod Counted
 pub mod Walks
 pub mod Steps

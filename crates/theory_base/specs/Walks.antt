@@ -8,7 +8,8 @@ use lib.Dec.{ltb, lt→ltb, ltb→lt}
 use Rattle.meaning.specs.Base.{isEmpty}
 use Rattle.meaning.specs.Grammar.{nonterminal, Grammar, inh, syn, att, productionAt, symbolAt}
 use Rattle.meaning.specs.Scheme.{conditionsAt}
-use Rattle.meaning.specs.Tree.{Tree, Forest, leaf, node, noTrees, treeAnd, yield, yields, width, oneIf, countIf, isOpened, isLeft, areLeft, movesOf, movesIn}
+use Rattle.meaning.specs.Tree.{Tree, Forest, leaf, node, noTrees, treeAnd, yield, yields, width, isOpened, isLeft, areLeft}
+use Rattle.theory_base.specs.MoveCounts.{oneIf, countIf, movesOf, movesIn}
 use Rattle.meaning.specs.Drawn.{registersFor, registersIn}
 use Rattle.theory_base.specs.Members.{T→true, true→T, both}
 

@@ -10,7 +10,8 @@ use lib.Dec.{T}
 use Rattle.meaning.specs.Grammar.{Grammar, nonterminal}
 use Rattle.meaning.specs.Rules.{WellFormed}
 use Rattle.meaning.specs.Judgement.{Accepted}
-use Rattle.meaning.specs.Tree.{Tree, TreeOf, valueOf, movesOf}
+use Rattle.meaning.specs.Tree.{Tree, TreeOf, valueOf}
+use Rattle.theory_base.specs.MoveCounts.{movesOf}
 use Rattle.meaning.specs.Walk.{walk}
 use Rattle.meaning.specs.Calls.{Record, Stacks, Called, refused, value, lentOf, openOf, feedOf, finishOf, whenFit, stacksFit, asBrought, afterFinish, configOf}
 use Rattle.meaning.specs.Machine.{finishAll}

@@ -12,7 +12,8 @@ use Rattle.meaning.specs.Grammar.{Symbol, terminal, Grammar, inh, att, producti
 use Rattle.meaning.specs.Rules.{WellFormedProduction, WellFormed}
 use Rattle.meaning.specs.Scheme.{Instruction, add, evaluate, expect, test, remove, conditionsAt, inheritedRules, synthesizedRules, testsAfter, removed, symbolScheme, symbolsScheme, scheme}
 use Rattle.meaning.specs.Machine.{isExpect}
-use Rattle.meaning.specs.Tree.{Tree, Forest, leaf, node, noTrees, treeAnd, yield, yields, width, WellEvaluated, WellEvaluateds, isOpened, isLeft, areLeft, oneIf, countIf, movesOf, movesIn}
+use Rattle.meaning.specs.Tree.{Tree, Forest, leaf, node, noTrees, treeAnd, yield, yields, width, WellEvaluated, WellEvaluateds, isOpened, isLeft, areLeft}
+use Rattle.theory_base.specs.MoveCounts.{oneIf, countIf, movesOf, movesIn}
 use Rattle.meaning.specs.Walk.{Act, predicts, reads, performs, beforeExpect, afterExpect, walk, walkOn, walkTo}
 use Rattle.theory_base.specs.WellFormed.{well-formed-at, evaluable}
 use Rattle.theory_base.specs.Present.{inherited-present, synthesized-present, tests-present}
