@@ -1,7 +1,7 @@
 -- What 01 draws from a segment's tree: whether its walk fits what is lent, and the record and the stacks after j tokens and after the end.
-use Prim.Native.Nat.{ℕ, zero, suc, _+_, _≤_, max}
+use Prim.Native.Nat.{ℕ, suc, _+_, _≤_, max}
 use mathlib.Core.Bool.{Bool, true, false, not}
-use mathlib.Core.List.{List, [], _∷_}
+use mathlib.Core.List.{List}
 use lib.ListN.{length}
 use Rattle.meaning.specs.Grammar.{Grammar, att, syn, nonterminal, productionAt, symbolAt}
 use Rattle.meaning.specs.Value.{mark}

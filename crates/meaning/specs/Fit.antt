@@ -1,7 +1,6 @@
 -- 34, declaratively. 01: "Stacks fit when the record's numbers are inside their limits, the bottom place is the whole segment's, each other place's left side is the symbol the place below waits at, the top place waits or is 32,769, registers are as many and marked as the picture says, values are in range and the rest is cleared." (`stacksFit` in Calls is the test of it.)
-use Prim.Native.Nat.{ℕ, zero, suc, _+_, _*_, _≤_, _<_}
+use Prim.Native.Nat.{ℕ, suc, _+_, _*_, _≤_, _<_}
 use mathlib.Core.Path.{_≡_}
-use mathlib.Core.Bool.{true, false}
 use mathlib.Core.Logic.{_⊎_}
 use mathlib.Core.List.{List, [], _∷_, _++_, reverse, map}
 use lib.ListN.{getD, length, take, replicate}

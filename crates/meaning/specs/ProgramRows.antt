@@ -1,10 +1,10 @@
 -- The program of 01's grammar of words and tags, section by section.
-use Prim.Native.Nat.{ℕ, _+_, _*_}
+use Prim.Native.Nat.{_+_}
 use mathlib.Core.Path.{_≡_, refl}
-use mathlib.Core.List.{List, [], _∷_, _++_}
+use mathlib.Core.List.{[], _∷_, _++_}
 use lib.ListN.{length, take, drop}
 use Rattle.meaning.specs.Words.{words}
-use Rattle.meaning.specs.Program.{programOf, recordsAddress, bodiesAddress}
+use Rattle.meaning.specs.Program.{programOf}
 
 -- expect S, nothing left, records at 136, 3 terminals, 1 register, result 1, 4 productions
 segmentRow : take 8 (programOf words) ≡ 3 ∷ 6 ∷ 136 ∷ 3 ∷ 1 ∷ 1 ∷ 4 ∷ 0 ∷ []

@@ -1,6 +1,6 @@
 -- The calls as a caller makes them: any bytes for a table, any program area, record, stacks and tokens. 01: "Order: 30, table, 33, 34, then the moves"
 use Prim.Native.Nat.{ℕ, suc, _-_}
-use mathlib.Core.Bool.{Bool, true, false}
+use mathlib.Core.Bool.{true, false}
 use mathlib.Core.List.{List, [], _∷_, _++_}
 use lib.ListN.{length, drop, take}
 use lib.Dec.{ltb}

@@ -1,5 +1,5 @@
 -- The demands, as statements: each is a type, and its proof, in theory_demands, is a value of it.
-use Prim.Native.Nat.{ℕ, zero, suc, _+_, _≤_, _<_}
+use Prim.Native.Nat.{ℕ, _+_, _≤_, _<_}
 use mathlib.Core.Path.{_≡_}
 use mathlib.Core.Logic.{_↔_, _⊎_}
 use mathlib.Core.Bool.{Bool, true, false}
@@ -15,7 +15,7 @@ use Rattle.meaning.specs.Judgement.{Accepted, Judged, Verdict, AllUseful
 use Rattle.meaning.specs.Decide.{verdictOf}
 use Rattle.meaning.specs.Value.{inRange}
 use Rattle.meaning.specs.Scheme.{Instruction, add, evaluate, expect, test, remove, entryTests}
-use Rattle.meaning.specs.Machine.{Frame, Config, Lent, Outcome, moved, opening, next, lookAt, unread, readRegister, movesLimit, tokensLimit}
+use Rattle.meaning.specs.Machine.{Frame, Config, Lent, moved, opening, next, lookAt, unread, readRegister, movesLimit, tokensLimit}
 use Rattle.meaning.specs.Tree.{Tree, TreeOf, valueOf}
 use Rattle.meaning.specs.Walk.{Act, walk, Makes}
 use Rattle.meaning.specs.Selectors.{SelectorsFind}

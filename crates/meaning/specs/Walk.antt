@@ -1,12 +1,10 @@
 -- The walk of a tree as a sequence of moves. 01: "The walk makes, after opening, the moves for the tree's nodes from left to right; after j tokens, all before the predict or read that needs the next token or the end."
 use Prim.Native.Nat.{ℕ, zero, suc, _+_}
-use mathlib.Core.Bool.{Bool, true, false}
 use mathlib.Core.Path.{_≡_}
 use mathlib.Core.List.{List, [], _∷_, _++_}
-use lib.ListN.{getD, length}
-use Rattle.meaning.specs.Grammar.{Symbol, terminal, nonterminal, Grammar, productionAt}
+use Rattle.meaning.specs.Grammar.{terminal, nonterminal, Grammar, productionAt}
 use Rattle.meaning.specs.Scheme.{Instruction, add, evaluate, expect, test, remove, scheme}
-use Rattle.meaning.specs.Machine.{Frame, Config, Lent, Outcome, moved, next, lookAt, unread}
+use Rattle.meaning.specs.Machine.{Frame, Config, Lent, moved, next, lookAt, unread}
 use Rattle.meaning.specs.Tree.{Tree, Forest, leaf, node, noTrees, treeAnd}
 
 -- one move by name: a predict of a production, the read of a token, or an instruction of a production's scheme (an add, evaluate, test or remove)
