@@ -15,7 +15,7 @@ use Rattle.meaning.specs.Machine.{Frame, Config, Lent, moved, next, isExpect, p
 use Rattle.meaning.specs.Tree.{Tree, Forest, leaf, node, noTrees, treeAnd, child}
 use Rattle.meaning.specs.Rules.{WellFormed}
 use Rattle.meaning.specs.Part.{Open, Point, fresh, added, valued, left, closing, Ancestor, Part, yieldsOf, yieldBelow, yieldPart, forestOnto, tailIf, freshRest, leftRest, waitRest, drawRest, frame, drawFrames, childrenOf, nodeOn}
-use Rattle.meaning.specs.Walk.{Act, performs, walk, walkOn, topProduction, actBy}
+use Rattle.meaning.specs.Walk.{Act, performs, walkOn, topProduction, actBy}
 use Rattle.meaning.specs.Walk as Walk
 use Rattle.theory_base.specs.Values.{treeOf}
 use Rattle.theory_base.specs.Frames.{scheme-listed}
