@@ -1,0 +1,77 @@
+//! Damaged texts and random segments: every answer is told in words, at a place that exists.
+use grammar::{engine, run, to_table, Built};
+use std::collections::BTreeMap;
+
+const NAMES: [&str; 3] = ["words", "clause", "sheet"];
+
+fn read(name: &str) -> String {
+    let file = format!("{}/../../grammars/{name}.grammar", env!("CARGO_MANIFEST_DIR"));
+    std::fs::read_to_string(file).expect(name)
+}
+
+/// Numbers that look random and are the same in each run.
+struct Chance(u64);
+
+impl Chance {
+    fn below(&mut self, n: usize) -> usize {
+        self.0 = self.0.wrapping_mul(6_364_136_223_846_793_005).wrapping_add(1_442_695_040_888_963_407);
+        (self.0 >> 33) as usize % n
+    }
+}
+
+/// The text with a line dropped, doubled, moved, or one of its words put in the place of another.
+fn damaged(text: &str, chance: &mut Chance) -> String {
+    let mut lines: Vec<String> = text.lines().filter(|l| !l.starts_with('#') && !l.is_empty()).map(String::from).collect();
+    let (from, to) = (chance.below(lines.len()), chance.below(lines.len()));
+    match chance.below(4) {
+        0 => drop(lines.remove(from)),
+        1 => lines.insert(to, lines[from].clone()),
+        2 => lines.swap(from, to),
+        _ => {
+            let words: Vec<String> = lines[from].split_whitespace().map(String::from).collect();
+            let mut changed: Vec<&str> = lines[to].split_whitespace().collect();
+            let (i, j) = (chance.below(words.len()), chance.below(changed.len()));
+            changed[j] = &words[i];
+            lines[to] = changed.join(" ");
+        }
+    }
+    lines.join("\n")
+}
+
+#[test]
+fn damaged_texts_are_judged_in_words() {
+    let mut chance = Chance(1);
+    let mut refusals = BTreeMap::new();
+    for name in NAMES {
+        let text = read(name);
+        for _ in 0..2000 {
+            let text = damaged(&text, &mut chance);
+            let Err(fault) = to_table(&text) else { continue };
+            let line = text.lines().nth(fault.span.line - 1).expect("the fault's line");
+            assert!((1..=line.chars().count() + 1).contains(&fault.span.column), "{}", fault.show(name, &text));
+            if let Some((number, words)) = fault.message.strip_prefix("refused ").and_then(|m| m.split_once(": ")) {
+                let number: u32 = number.parse().expect("a number");
+                assert_ne!(words, engine::meaning(number), "{}", fault.show(name, &text));
+                *refusals.entry(number).or_insert(0) += 1;
+            }
+        }
+    }
+    assert!(refusals.len() >= 6, "{refusals:?}");
+}
+
+#[test]
+fn random_segments_are_told_in_words() {
+    let mut chance = Chance(2);
+    for name in NAMES {
+        let built: Built = to_table(&read(name)).expect(name);
+        for _ in 0..1000 {
+            let tokens: Vec<u8> = (0..chance.below(12)).map(|_| chance.below(built.grammar.tokens.len()) as u8).collect();
+            let outcome = engine::run(&built.table, &tokens);
+            if let Err(refusal) = outcome.answer {
+                let told = run::told(&built, &tokens, &outcome, refusal);
+                assert!(told.starts_with(&format!("refused {} after {}, ", refusal.number, refusal.at)), "{told}");
+                assert!(!told.ends_with(": ") && !told.ends_with(engine::meaning(refusal.number)), "{tokens:?}: {told}");
+            }
+        }
+    }
+}
