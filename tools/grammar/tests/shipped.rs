@@ -59,6 +59,14 @@ fn words_is_the_table_of_the_specification() {
     assert_eq!(built.table, plain::samples::words());
 }
 
+#[test]
+fn the_documented_grammar_is_words() {
+    let docs = std::fs::read_to_string(concat!(env!("CARGO_MANIFEST_DIR"), "/../../docs/GRAMMARS.md")).expect("docs");
+    let (_, rest) = docs.split_once("```grammar\n").expect("an example");
+    let (text, _) = rest.split_once("```").expect("the end of the example");
+    assert_eq!(to_table(text).expect("accepted").table, read("words").1.table);
+}
+
 /// Grammar, tokens, the refusal in words.
 const TOLD: &[(&str, &str, &str)] = &[
     ("words", "word close", "refused 21 after 1, at token 2, `close`: the segment is already complete"),
