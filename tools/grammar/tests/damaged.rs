@@ -1,13 +1,10 @@
 //! Damaged texts and random segments: every answer is told in words, at a place that exists.
+mod common;
+use common::shipped;
 use grammar::{engine, run, to_table, Built};
 use std::collections::BTreeMap;
 
 const NAMES: [&str; 3] = ["words", "clause", "sheet"];
-
-fn read(name: &str) -> String {
-    let file = format!("{}/../../grammars/{name}.grammar", env!("CARGO_MANIFEST_DIR"));
-    std::fs::read_to_string(file).expect(name)
-}
 
 /// Numbers that look random and are the same in each run.
 struct Chance(u64);
@@ -43,7 +40,7 @@ fn damaged_texts_are_judged_in_words() {
     let mut chance = Chance(1);
     let mut refusals = BTreeMap::new();
     for name in NAMES {
-        let text = read(name);
+        let text = shipped(name);
         for _ in 0..2000 {
             let text = damaged(&text, &mut chance);
             let Err(fault) = to_table(&text) else { continue };
@@ -63,7 +60,7 @@ fn damaged_texts_are_judged_in_words() {
 fn random_segments_are_told_in_words() {
     let mut chance = Chance(2);
     for name in NAMES {
-        let built: Built = to_table(&read(name)).expect(name);
+        let built: Built = to_table(&shipped(name)).expect(name);
         for _ in 0..1000 {
             let tokens: Vec<u8> = (0..chance.below(12)).map(|_| chance.below(built.grammar.tokens.len()) as u8).collect();
             let outcome = engine::run(&built.table, &tokens);

@@ -28,7 +28,7 @@ fn parsed(line: &str) -> Option<(u32, usize, usize, &str)> {
 #[test]
 fn refusals_name_their_line() {
     let cases: Vec<&str> = CASES.split("== ").skip(1).collect();
-    assert_eq!(cases.len(), 27);
+    assert_eq!(cases.len(), 28);
     for case in cases {
         let (line, rest) = case.split_once('\n').expect(case);
         let (number, line, column, message) = parsed(line).expect(line);
