@@ -131,14 +131,12 @@ impl<'a> Stop<'a> {
         }
     }
 
-    /// Whether the awaited part is done: its synthesized registers are valued and its inherited ones gone.
+    /// Whether the awaited part is done, and its inherited registers gone; one that takes nothing has no entry conditions.
     fn is_done(&self) -> bool {
         let places = &self.outcome.places[1..];
         let waiting: usize = places.iter().map(|place| self.registers_of(*place)).sum();
         let start = self.counts(Symbol::Part(self.grammar().start)).1;
-        let (takes, gives) = self.counts(self.awaited);
-        let registers = &self.outcome.registers;
-        gives > 0 && registers.len() == start + waiting - takes && registers[registers.len() - 1] != i64::MIN
+        self.outcome.registers.len() == start + waiting - self.counts(self.awaited).0
     }
 
     /// The registers of a place that waits: synthesized ones of the symbols passed, all of the next one.

@@ -72,15 +72,16 @@ fn many_rules(rules: usize) -> String {
     text
 }
 
+/// The 2,338th condition ends with the last byte allowed.
 #[test]
 fn a_table_too_long() {
-    let text = format!("{HEAD}S: open S\n n = S.n\n{}", " 0 <= S.n <= 1\n".repeat(2400));
+    let text = format!("{HEAD}S: {}S\n n = S.n\n{}", "open ".repeat(10), " 0 <= S.n <= 1\n".repeat(2400));
     let fault = to_table(&text).expect_err("too long");
-    let length = 7 + 5 + 7 + 8 + 2400 * 14;
+    let length = 7 + 5 + 16 + 8 + 2400 * 14;
     let words =
         format!("refused 1: the table is too long, {length} bytes where 32,768 are allowed; this line is the first past them");
     assert_eq!(fault.message, words);
-    assert_eq!(fault.span.line, 6 + (32_768 - 27) / 14);
+    assert_eq!(fault.span.line, 5 + 2339);
 }
 
 #[test]

@@ -51,6 +51,7 @@ fn the_plain_engine_agrees() {
 fn the_largest_sample_comes_back() {
     let old = plain::samples::chain(47, 33, 512);
     let text = to_text(&old).expect("accepted");
+    assert!(text.contains("token z\ntoken aa\ntoken ab\n") && text.contains("part AV(i1, i2, i3, i4) -> s1, s2, s3, s4\n"));
     assert_eq!(to_table(&text).expect("accepted").table, old);
 }
 
