@@ -222,7 +222,14 @@ impl Machine<'_> {
 /// 34: whether record and stacks are such as a run leaves.
 fn fits(o: &Outline, r: &Record, registers: &[i64], places: &[u32]) -> bool {
     let (rh, ph) = (r.registers as usize, r.places as usize);
-    if r.tokens > TOKENS || r.moves > MOVES || r.registers > registers.len() as u64 || r.places > places.len() as u64 || rh > registers.len() || ph > places.len() || ph == 0 {
+    if r.tokens > TOKENS
+        || r.moves > MOVES
+        || r.registers > registers.len() as u64
+        || r.places > places.len() as u64
+        || rh > registers.len()
+        || ph > places.len()
+        || ph == 0
+    {
         return false;
     }
     if registers[rh..].iter().any(|&v| v != MARK) || places[ph..].iter().any(|&p| p != 0) {
@@ -340,7 +347,14 @@ fn call(
     }
 }
 
-pub fn feed(table: &[u8], record: Record, registers: &mut [i64], places: &mut [u32], program: &mut [u32], tokens: &[u8]) -> (Record, Answer) {
+pub fn feed(
+    table: &[u8],
+    record: Record,
+    registers: &mut [i64],
+    places: &mut [u32],
+    program: &mut [u32],
+    tokens: &[u8],
+) -> (Record, Answer) {
     call(table, record, registers, places, program, Some(tokens))
 }
 

@@ -111,11 +111,7 @@ impl Engine {
     }
 
     fn call<A>(&mut self, call: impl FnOnce(&[u8], &mut Record, &mut Memory) -> A) -> A {
-        let mut memory = Memory {
-            registers: &mut self.registers,
-            places: &mut self.places,
-            program: &mut self.program,
-        };
+        let mut memory = Memory { registers: &mut self.registers, places: &mut self.places, program: &mut self.program };
         call(&self.table, &mut self.record, &mut memory)
     }
 }

@@ -59,6 +59,7 @@ impl fmt::Display for Refusal {
         write!(f, "refused with {}, {}, ", self.number, self.reason())?;
         match self.offset() {
             Some(offset) => write!(f, "at byte {offset}"),
+            None if self.count == 1 => write!(f, "after 1 token"),
             None => write!(f, "after {} tokens", self.count),
         }
     }
