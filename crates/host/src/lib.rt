@@ -1,8 +1,19 @@
-// The engine for programs in C and Rust: a `&[u8]` is a pointer and a length, a lent number a pointer.
+// The engine for programs in C and Rust: a slice is a pointer and a length, a lent number or array a pointer.
 ghost use mathlib.Core.Path.{_≡_};
 ghost use Rattle.meaning.specs.Decide.{verdictOf};
-ghost use Rattle.host.specs.Passed.{checked};
+ghost use Rattle.meaning.specs.Program.{programOf};
+ghost use Rattle.meaning.specs.PublicCalls.{opens, performs, feed, finish};
+ghost use Rattle.fit.specs.Cut.{stacksOf};
+ghost use Rattle.engine.specs.Records.{recordIs, answerIs};
+ghost use Rattle.host.specs.Passed.{checked, Stretched};
+ghost use Rattle.host.specs.Lent.{broughtIn, flagOf, numbersOf, numberOf, countOf, valueOf, PassedOn};
 use checker::Verdict;
+use checker::spans::Span;
+use engine::Answer;
+use engine::Called;
+use engine::Record;
+
+// ---- calls on a table
 
 // The verdict on a table: number and offset of its refusal, or 0 and 0.
 #[no_mangle]
@@ -22,4 +33,178 @@ pub extern "C" fn segment_check(table: &[u8], number: &mut u32, offset: &mut u32
             *offset = o;
         }
     }
+}
+
+// A production's stretch of the table, as its start and length; number and offset are then 0. On a refusal these are the
+// refusal's, and start and length are 0.
+#[no_mangle]
+pub extern "C" fn segment_stretch(
+    table: &[u8],
+    production: usize,
+    start: &mut usize,
+    length: &mut usize,
+    number: &mut u32,
+    offset: &mut u32,
+)
+    ensures { λ r. ⌜ Stretched (now (table .entry)) production (now (start .exit)) (now (length .exit)) (now (number .exit)) (now (offset .exit)) ⌝ }
+{
+    match checker::spans::span_of(table, production) {
+        Span::Within { from, to } => {
+            *start = from;
+            *length = to - from;
+            *number = 0;
+            *offset = 0;
+        }
+        Span::Nowhere {
+            number: n,
+            offset: o,
+        } => {
+            *start = 0;
+            *length = 0;
+            *number = n;
+            *offset = o;
+        }
+    }
+}
+
+// ---- a record as five numbers
+
+fn brought(numbers: &[u64; 5]) -> Record
+    ensures { λ r. ⌜ recordIs r ≡ broughtIn (now (numbers .entry)) ⌝ }
+{
+    Record {
+        open: numbers[0] != 0,
+        tokens: numbers[1],
+        moves: numbers[2],
+        registers: numbers[3],
+        places: numbers[4],
+    }
+}
+
+fn flag(open: bool) -> u64
+    ensures { λ r. ⌜ r ≡ flagOf «open» ⌝ }
+{
+    if open {
+        return 1;
+    }
+    0
+}
+
+fn hand_back(record: Record, numbers: &mut [u64; 5])
+    ensures { λ r. ⌜ now (numbers .exit) ≡ numbersOf (recordIs «record») ⌝ }
+{
+    *numbers = [
+        flag(record.open),
+        record.tokens,
+        record.moves,
+        record.registers,
+        record.places,
+    ];
+}
+
+// ---- an answer as three numbers
+
+fn number_of(answer: Answer) -> u32
+    ensures { λ r. ⌜ r ≡ numberOf (answerIs answer) ⌝ }
+{
+    match answer {
+        Answer::More(_) => 0,
+        Answer::Value(_, _) => 0,
+        Answer::Refused { number, tokens: _ } => number,
+        Answer::TableRefused { number, offset: _ } => number,
+    }
+}
+
+fn count_of(answer: Answer) -> u64
+    ensures { λ r. ⌜ r ≡ countOf (answerIs answer) ⌝ }
+{
+    match answer {
+        Answer::More(moves) => moves,
+        Answer::Value(_, moves) => moves,
+        Answer::Refused { number: _, tokens } => tokens,
+        Answer::TableRefused { number: _, offset } => offset,
+    }
+}
+
+fn value_of(answer: Answer) -> i64
+    ensures { λ r. ⌜ r ≡ valueOf (answerIs answer) ⌝ }
+{
+    match answer {
+        Answer::More(_) => 0,
+        Answer::Value(v, _) => v,
+        Answer::Refused {
+            number: _,
+            tokens: _,
+        } => 0,
+        Answer::TableRefused {
+            number: _,
+            offset: _,
+        } => 0,
+    }
+}
+
+// ---- calls on a run
+
+fn pass_on(called: Called, numbers: &mut [u64; 5], number: &mut u32, count: &mut u64)
+    ensures { λ r. ⌜ (now (numbers .exit) ≡ numbersOf (recordIs (called .«record»))) × (now (number .exit) ≡ numberOf (answerIs (called .answer))) × (now (count .exit) ≡ countOf (answerIs (called .answer))) ⌝ }
+{
+    hand_back(called.record, numbers);
+    let answer = called.answer;
+    *number = number_of(answer);
+    *count = count_of(answer);
+}
+
+// Opens a run. A refusal hands back a closed record, all zero.
+#[no_mangle]
+pub extern "C" fn segment_open(
+    table: &[u8],
+    record: &mut [u64; 5],
+    registers: &mut [i64],
+    places: &mut [u32],
+    program: &mut [u32],
+    number: &mut u32,
+    count: &mut u64,
+)
+    ensures { λ r. ⌜ PassedOn (now («record» .exit)) (now (number .exit)) (now (count .exit)) (now (registers .exit)) (now (places .exit)) (now (program .exit)) (opens programOf (now (table .entry)) (now (program .entry)) (stacksOf (now (registers .entry)) (now (places .entry)))) ⌝ }
+{
+    let called = Record::open(table, registers, places, program);
+    pass_on(called, record, number, count);
+}
+
+// Feeds a list of tokens.
+#[no_mangle]
+pub extern "C" fn segment_feed(
+    table: &[u8],
+    record: &mut [u64; 5],
+    registers: &mut [i64],
+    places: &mut [u32],
+    program: &mut [u32],
+    tokens: &[u8],
+    number: &mut u32,
+    count: &mut u64,
+)
+    ensures { λ r. ⌜ PassedOn (now («record» .exit)) (now (number .exit)) (now (count .exit)) (now (registers .exit)) (now (places .exit)) (now (program .exit)) (performs programOf (now (table .entry)) (now (program .entry)) (broughtIn (now («record» .entry))) (stacksOf (now (registers .entry)) (now (places .entry))) (feed (now (tokens .entry)))) ⌝ }
+{
+    let called = brought(record).feed(table, registers, places, program, tokens);
+    pass_on(called, record, number, count);
+}
+
+// Finishes the segment.
+#[no_mangle]
+pub extern "C" fn segment_finish(
+    table: &[u8],
+    record: &mut [u64; 5],
+    registers: &mut [i64],
+    places: &mut [u32],
+    program: &mut [u32],
+    number: &mut u32,
+    value: &mut i64,
+    count: &mut u64,
+)
+    ensures { λ r. ⌜ PassedOn (now («record» .exit)) (now (number .exit)) (now (count .exit)) (now (registers .exit)) (now (places .exit)) (now (program .exit)) (performs programOf (now (table .entry)) (now (program .entry)) (broughtIn (now («record» .entry))) (stacksOf (now (registers .entry)) (now (places .entry))) finish) × (now (value .exit) ≡ valueOf (performs programOf (now (table .entry)) (now (program .entry)) (broughtIn (now («record» .entry))) (stacksOf (now (registers .entry)) (now (places .entry))) finish .answer)) ⌝ }
+{
+    let called = brought(record).finish(table, registers, places, program);
+    let answer = called.answer;
+    *value = value_of(answer);
+    pass_on(called, record, number, count);
 }
