@@ -1,10 +1,10 @@
 //! A table's refusal in words, at the line it concerns.
-use crate::engine::{meaning, Refusal};
-use crate::model::{Condition, Function, Grammar, Item, Occurrence, Production, Symbol};
+use crate::model::{Condition, Function, Grammar, Item, Occurrence, Production};
 use crate::resolve::Places;
 use crate::source::{Fault, Span};
 use crate::table::{Field, What};
 use plain::judge::{clash, Analysis};
+use segment::Refusal;
 
 /// A grammar's text and table together.
 pub struct Judged<'a> {
@@ -19,23 +19,29 @@ type Found = (Span, String);
 impl Judged<'_> {
     /// The engine's refusal of the table as a fault of the text.
     pub fn explain(&self, refusal: Refusal) -> Fault {
-        let what = self.fields.iter().find(|f| f.offset as u64 == refusal.at).map(|f| f.what);
-        let (span, words) = match (refusal.number, what) {
+        let what = self.fields.iter().find(|f| f.offset as u64 == refusal.count).map(|f| f.what);
+        let field = || (self.place(what.unwrap_or(What::Header)), refusal.reason().into());
+        let (span, words) = self.found(refusal.number, what).unwrap_or_else(field);
+        Fault { span, message: format!("refused {}: {words}", refusal.number) }
+    }
+
+    /// What is wrong and where, for the refusals that a text can meet.
+    fn found(&self, number: u32, what: Option<What>) -> Option<Found> {
+        Some(match (number, what) {
             (1, _) => self.too_long(),
             (3, None) => (self.places.end, "the table is over too early: there is no production".into()),
             (4, Some(what)) => self.outside_limits(what),
             (6, Some(What::Part(n))) => self.start(n),
-            (7, Some(What::Item(p, i))) => self.wrong_side(p, i),
+            (7, Some(What::Item(p, i))) => self.wrong_side(p, i)?,
             (8, Some(What::Item(p, i))) => self.second_rule(p, i),
             (8, Some(What::Production(p))) => self.missing(p),
-            (9, Some(What::Item(p, i))) => self.reads_too_far(p, i),
+            (9, Some(What::Item(p, i))) => self.reads_too_far(p, i)?,
             (10, Some(What::Item(p, i))) => self.wrong_condition(p, i),
-            (11, Some(What::Part(n))) => self.useless(n),
-            (12, Some(What::Part(n))) => self.circle(n),
-            (13, Some(What::Production(p))) => self.clash(p),
-            (number, what) => (self.place(what.unwrap_or(What::Header)), meaning(number).into()),
-        };
-        Fault { span, message: format!("refused {}: {words}", refusal.number) }
+            (11, Some(What::Part(n))) => self.useless(n)?,
+            (12, Some(What::Part(n))) => self.circle(n)?,
+            (13, Some(What::Production(p))) => self.clash(p)?,
+            _ => return None,
+        })
     }
 
     fn place(&self, what: What) -> Span {
@@ -62,10 +68,7 @@ impl Judged<'_> {
     fn too_long(&self) -> Found {
         let first = self.fields.iter().find(|f| f.end > 32_768).map_or(What::Header, |f| f.what);
         let length = self.table.len();
-        (
-            self.place(first),
-            format!("the table is too long, {length} bytes where 32,768 are allowed; this line is the first past them"),
-        )
+        (self.place(first), format!("the table is too long, {length} bytes where 32,768 are allowed; this line is the first past them"))
     }
 
     fn outside_limits(&self, what: What) -> Found {
@@ -73,9 +76,7 @@ impl Judged<'_> {
         let (tokens, parts) = (&self.places.tokens, &self.places.parts);
         match what {
             What::Header if tokens.is_empty() => (self.places.start, "no token is declared; a grammar has 1 to 63".into()),
-            What::Header if tokens.len() > 63 => {
-                (tokens[63], format!("`{}` is the 64th token; a grammar has 1 to 63", g.tokens[63]))
-            }
+            What::Header if tokens.len() > 63 => (tokens[63], format!("`{}` is the 64th token; a grammar has 1 to 63", g.tokens[63])),
             What::Header => (parts[48], format!("`{}` is the 49th part; a grammar has 1 to 48", self.part_name(48))),
             What::Part(n) => {
                 let count = g.parts[n].attributes().count();
@@ -102,10 +103,7 @@ impl Judged<'_> {
 
     fn start(&self, n: usize) -> Found {
         let takes = self.grammar.parts[n].takes.join("`, `");
-        (
-            self.places.parts[n],
-            format!("the start symbol `{}` takes `{takes}`; it has no inherited attributes", self.part_name(n)),
-        )
+        (self.places.parts[n], format!("the start symbol `{}` takes `{takes}`; it has no inherited attributes", self.part_name(n)))
     }
 
     /// The occurrences of a rule or condition, the one set first, with their places.
@@ -119,16 +117,16 @@ impl Judged<'_> {
         }
     }
 
-    fn wrong_side(&self, p: usize, i: usize) -> Found {
+    fn wrong_side(&self, p: usize, i: usize) -> Option<Found> {
         let production = self.production(p);
         let is_rule = matches!(production.items[i], Item::Rule(..));
         for (k, (o, span)) in self.occurrences(p, i).into_iter().enumerate() {
             let sets = is_rule && k == 0;
             if sets == self.grammar.is_input(production, o) {
-                return (span, self.side(p, o, sets));
+                return Some((span, self.side(p, o, sets)));
             }
         }
-        (self.place(What::Item(p, i)), meaning(7).into())
+        None
     }
 
     /// Why an occurrence is not set, or not read.
@@ -164,20 +162,19 @@ impl Judged<'_> {
         (self.place(What::Production(p)), format!("no rule for {}", names.join(", ")))
     }
 
-    fn reads_too_far(&self, p: usize, i: usize) -> Found {
+    fn reads_too_far(&self, p: usize, i: usize) -> Option<Found> {
         let found = self.occurrences(p, i);
         let (target, _) = found[0];
-        let (o, span) = found[1..].iter().copied().find(|(o, _)| o.position >= target.position).unwrap_or(found[0]);
+        let (o, span) = found[1..].iter().copied().find(|(o, _)| o.position >= target.position)?;
         let (set, read) = (self.label(p, target), self.label(p, o));
-        (span, format!("the rule for `{set}` reads `{read}`, which is known only later; it reads what stands to the left of it"))
+        let words = format!("the rule for `{set}` reads `{read}`, which is known only later; it reads what stands to the left of it");
+        Some((span, words))
     }
 
     fn wrong_condition(&self, p: usize, i: usize) -> Found {
         let span = self.place(What::Item(p, i));
         match &self.production(p).items[i] {
-            Item::Condition(Condition::Range(_, low, high)) => {
-                (span, format!("the low bound {low} is above the high bound {high}"))
-            }
+            Item::Condition(Condition::Range(_, low, high)) => (span, format!("the low bound {low} is above the high bound {high}")),
             _ => (span, "an entry condition is a range; two attributes of the left side are not compared".into()),
         }
     }
@@ -190,8 +187,8 @@ impl Judged<'_> {
         Some(look(&mut analysis, &outline))
     }
 
-    fn useless(&self, n: usize) -> Found {
-        let (reached, ending) = self.analysed(|a, _| (a.reachable(), a.productive())).unwrap_or_default();
+    fn useless(&self, n: usize) -> Option<Found> {
+        let (reached, ending) = self.analysed(|a, _| (a.reachable(), a.productive()))?;
         let name = self.part_name(n);
         let words = if reached >> n & 1 == 0 {
             format!("`{name}` is unreachable: no derivation from `{}` contains it", self.part_name(self.grammar.start))
@@ -200,50 +197,41 @@ impl Judged<'_> {
         } else {
             let endless = (0..self.grammar.parts.len()).filter(|m| ending >> m & 1 == 0);
             let names: Vec<String> = endless.map(|m| format!("`{}`", self.part_name(m))).collect();
-            format!(
-                "`{name}` derives no token string: each of its productions goes on to a part that derives none: {}",
-                names.join(", ")
-            )
+            format!("`{name}` derives no token string: each of its productions goes on to a part that derives none: {}", names.join(", "))
         };
-        (self.places.parts[n], words)
+        Some((self.places.parts[n], words))
     }
 
     /// The shortest way from a part to itself over what productions begin with.
-    fn circle(&self, n: usize) -> Found {
-        let leads = self.analysed(|a, _| a.leads()).unwrap_or([0; 48]);
+    fn circle(&self, n: usize) -> Option<Found> {
+        let leads = self.analysed(|a, _| a.leads())?;
         let mut ways = vec![vec![n]];
         let mut seen = 0u64;
         let mut at = 0;
-        while at < ways.len() {
+        while leads[*ways.get(at)?.last()?] >> n & 1 == 0 {
             let way = ways[at].clone();
-            let next = leads[way[way.len() - 1]];
-            if next >> n & 1 == 1 {
-                let names: Vec<String> = way.iter().chain([&n]).map(|&m| format!("`{}`", self.part_name(m))).collect();
-                let words =
-                    format!("`{}` can reach itself leftmost without reading: {}", self.part_name(n), names.join(" begins with "));
-                return (self.places.parts[n], words);
-            }
+            let next = leads[*way.last()?];
             let new = (0..48).filter(|&m| (next & !seen) >> m & 1 == 1);
             ways.extend(new.map(|m| [&way[..], &[m]].concat()));
             seen |= next;
             at += 1;
         }
-        (self.places.parts[n], meaning(12).into())
+        let names: Vec<String> = ways[at].iter().chain([&n]).map(|&m| format!("`{}`", self.part_name(m))).collect();
+        let way = names.join(" begins with ");
+        Some((self.places.parts[n], format!("{} can reach itself leftmost without reading: {way}", names[0])))
     }
 
-    fn clash(&self, p: usize) -> Found {
-        let span = self.place(What::Production(p));
-        let found = self.analysed(|a, o| {
+    fn clash(&self, p: usize) -> Option<Found> {
+        let (q, both) = self.analysed(|a, o| {
             let sets = a.starts();
             clash(self.table, o, &sets).map(|(p, q)| (q, sets.starts[p] & sets.starts[q]))
-        });
-        let Some(Some((q, both))) = found else { return (span, meaning(13).into()) };
-        let token = both.trailing_zeros() as usize;
-        let next = match self.grammar.tokens.get(token) {
-            Some(_) => format!("before `{}`", self.grammar.name(Symbol::Token(token))),
+        })??;
+        let next = match self.grammar.tokens.get(both.trailing_zeros() as usize) {
+            Some(token) => format!("before `{token}`"),
             None => "at the end of the segment".into(),
         };
         let (line, name) = (self.place(What::Production(q)).line, self.part_name(self.production(p).left));
-        (span, format!("this production of `{name}` clashes with the one on line {line}: {next} both are possible"))
+        let words = format!("this production of `{name}` clashes with the one on line {line}: {next} both are possible");
+        Some((self.place(What::Production(p)), words))
     }
 }

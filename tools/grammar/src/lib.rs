@@ -1,5 +1,4 @@
 //! Grammars in a readable text form, turned into tables of the segment engine and back. docs/GRAMMARS.md describes the form.
-pub mod engine;
 pub mod explain;
 mod lex;
 pub mod model;
@@ -10,10 +9,10 @@ pub mod run;
 pub mod source;
 pub mod table;
 
-use engine::Refusal;
 use explain::Judged;
 use model::Grammar;
 use resolve::Places;
+use segment::Refusal;
 use source::Fault;
 
 /// A grammar, where it stands in its text, and its table.
@@ -28,7 +27,7 @@ pub struct Built {
 pub fn to_table(text: &str) -> Result<Built, Fault> {
     let (grammar, places) = resolve::grammar(text)?;
     let (table, fields) = table::table(&grammar);
-    match engine::check(&table) {
+    match segment::check(&table) {
         Ok(()) => Ok(Built { grammar, places, table }),
         Err(refusal) => {
             let judged = Judged { grammar: &grammar, places: &places, table: &table, fields: &fields };
@@ -39,6 +38,6 @@ pub fn to_table(text: &str) -> Result<Built, Fault> {
 
 /// The text of a table that the proved engine accepts, with made-up names.
 pub fn to_text(table: &[u8]) -> Result<String, Refusal> {
-    engine::check(table)?;
+    segment::check(table)?;
     Ok(print::text(&table::grammar(table)))
 }

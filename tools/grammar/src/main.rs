@@ -1,5 +1,5 @@
 //! The command `grammar`: docs/GRAMMARS.md describes it.
-use grammar::{engine, run, to_table, to_text, Built};
+use grammar::{run, to_table, to_text, Built};
 use std::io::Write;
 use std::process::ExitCode;
 
@@ -56,16 +56,14 @@ fn write_table(file: &str, out: &str) -> Result<Vec<u8>, String> {
 }
 
 fn text(file: &str) -> Result<Vec<u8>, String> {
-    match to_text(&read(file)?) {
-        Ok(text) => Ok(text.into()),
-        Err(r) => Err(format!("{file}: refused {} at byte {}: {}", r.number, r.at, engine::meaning(r.number))),
-    }
+    let text = to_text(&read(file)?).map_err(|refusal| format!("{file}: {refusal}"))?;
+    Ok(text.into())
 }
 
 fn segment(file: &str, words: &[&str]) -> Result<Vec<u8>, String> {
     let built = build(file)?;
     let tokens = run::tokens(&built.grammar, words)?;
-    let outcome = engine::run(&built.table, &tokens);
+    let outcome = run::run(&built.table, &tokens).map_err(|refusal| format!("{file}: {refusal}"))?;
     match outcome.answer {
         Ok(value) => Ok(format!("{value}\n").into()),
         Err(refusal) => Err(run::told(&built, &tokens, &outcome, refusal)),

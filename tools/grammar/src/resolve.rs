@@ -173,8 +173,7 @@ impl Names {
 
     /// The position on the right side that a name, or a name and a number, stands for.
     fn position(&self, p: &Production, w: &Word) -> Result<usize, Fault> {
-        let places =
-            |name: &str| -> Vec<usize> { (1..=p.right.len()).filter(|&k| self.symbol_name(p.right[k - 1]) == name).collect() };
+        let places = |name: &str| -> Vec<usize> { (1..=p.right.len()).filter(|&k| self.symbol_name(p.right[k - 1]) == name).collect() };
         match places(&w.text)[..] {
             [] => {}
             [k] => return Ok(k),
@@ -190,11 +189,7 @@ impl Names {
             let times = if found.len() == 1 { "once".into() } else { format!("{} times", found.len()) };
             return fault(w.span, format!("there is no `{}`: `{name}` stands {times} on the right side", w.text));
         }
-        let hint = if name == self.symbol_name(Symbol::Part(p.left)) {
-            "; the left side's attributes are written without it"
-        } else {
-            ""
-        };
+        let hint = if name == self.symbol_name(Symbol::Part(p.left)) { "; the left side's attributes are written without it" } else { "" };
         fault(w.span, format!("`{}` does not stand on the right side{hint}", w.text))
     }
 

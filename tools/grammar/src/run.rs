@@ -1,8 +1,8 @@
 //! A segment given by names, and its refusal in words.
-use crate::engine::{meaning, Outcome, Refusal};
 use crate::model::{Condition, Grammar, Item, Occurrence, Production, Symbol};
 use crate::{print, Built};
 use plain::judge::Analysis;
+use segment::{Engine, Refusal};
 
 /// The numbers of tokens given by name.
 pub fn tokens(g: &Grammar, words: &[&str]) -> Result<Vec<u8>, String> {
@@ -13,45 +13,69 @@ pub fn tokens(g: &Grammar, words: &[&str]) -> Result<Vec<u8>, String> {
     words.iter().enumerate().map(number).collect()
 }
 
-/// Where a run stopped: the production and the position of the symbol that the top place waits at; position 0 is the start symbol.
-struct Stop<'a> {
-    built: &'a Built,
-    production: Option<(usize, usize)>,
-    awaited: Symbol,
-    outcome: &'a Outcome,
+/// How a run ended: the value or the refusal, how many tokens were fed (a refused one counts), whether the finish was called, and
+/// the engine as it stands.
+#[derive(Debug)]
+pub struct Outcome {
+    pub answer: Result<i64, Refusal>,
+    fed: usize,
+    finished: bool,
+    engine: Engine,
+}
+
+/// Runs a segment on full stacks, a token at a time.
+pub fn run(table: &[u8], tokens: &[u8]) -> Result<Outcome, Refusal> {
+    let mut engine = Engine::new(table)?;
+    for (i, token) in tokens.iter().enumerate() {
+        if let Err(refusal) = engine.feed(&[*token]) {
+            return Ok(Outcome { answer: Err(refusal), fed: i + 1, finished: false, engine });
+        }
+    }
+    Ok(Outcome { answer: engine.finish(), fed: tokens.len(), finished: true, engine })
 }
 
 /// A refusal of a segment in words: number, tokens read, the token's position and name, and what was expected or did not hold.
 pub fn told(built: &Built, tokens: &[u8], outcome: &Outcome, refusal: Refusal) -> String {
-    let read = refusal.at as usize;
+    let read = refusal.count as usize;
     let name = |i: usize| format!("token {}, `{}`", i + 1, built.grammar.tokens[tokens[i] as usize]);
     let place = match outcome.fed {
         _ if outcome.finished => "at the end".into(),
-        0 => "at the start".into(),
         fed if fed > read => format!("at {}", name(read)),
         _ => format!("after {}", name(read - 1)),
     };
     let next = tokens.get(read).copied().filter(|_| outcome.fed > read);
     let reason = match (refusal.number, Stop::new(built, outcome)) {
-        (23, _) => too_large(built, outcome),
-        (number, Some(stop)) => stop.reason(number, next),
         (21, None) => "the segment is already complete".into(),
-        (number, None) => meaning(number).into(),
+        (21 | 22 | 24, Some(stop)) => stop.reason(refusal.number, next),
+        (23, _) => too_large(built, outcome),
+        (31, _) => "it would need more than 4,096 registers".into(),
+        (32, _) => "it would need more than 1,024 places".into(),
+        _ => refusal.reason().into(),
     };
     format!("refused {} after {read}, {place}: {reason}", refusal.number)
 }
 
 fn too_large(built: &Built, outcome: &Outcome) -> String {
-    let place = outcome.places.last().copied().unwrap_or_default();
+    let place = outcome.engine.places().last().copied().unwrap_or_default();
     let line = built.places.productions.get((place / 256) as usize).map(|p| p.span.line);
     let rule = line.map_or(String::new(), |line| format!(", by a rule of the production on line {line}"));
-    format!("{}{rule}", meaning(23))
+    format!("a value outside 32 bits{rule}")
+}
+
+/// Where a run stopped: the production and the position of the symbol that the top place waits at, none for the start symbol.
+struct Stop<'a> {
+    built: &'a Built,
+    production: Option<(usize, usize)>,
+    awaited: Symbol,
+    registers: Vec<i64>,
+    places: &'a [u32],
 }
 
 impl<'a> Stop<'a> {
     fn new(built: &'a Built, outcome: &'a Outcome) -> Option<Stop<'a>> {
         let g = &built.grammar;
-        let (production, awaited) = match *outcome.places.last()? {
+        let places = outcome.engine.places();
+        let (production, awaited) = match *places.last()? {
             32_769.. => return None,
             32_768 => (None, Symbol::Part(g.start)),
             place => {
@@ -59,15 +83,15 @@ impl<'a> Stop<'a> {
                 (Some((p, position)), *g.productions[p].right.get(position - 1)?)
             }
         };
-        Some(Stop { built, production, awaited, outcome })
+        let registers = outcome.engine.registers().map(Option::unwrap_or_default).collect();
+        Some(Stop { built, production, awaited, registers, places })
     }
 
     fn reason(&self, number: u32, next: Option<u8>) -> String {
         match number {
             21 => format!("expected {}", self.expected()),
             22 => self.not_met(next),
-            24 => format!("the segment is over where it expects {}", self.expected()),
-            _ => meaning(number).into(),
+            _ => format!("the segment is over where it expects {}", self.expected()),
         }
     }
 
@@ -96,8 +120,7 @@ impl<'a> Stop<'a> {
         }
         let starts = self.starts();
         let set = self.alternatives().iter().fold(0, |set, &p| set | starts[p]);
-        let mut names: Vec<String> =
-            (0..tokens.len()).filter(|t| set >> t & 1 == 1).map(|t| format!("`{}`", tokens[t])).collect();
+        let mut names: Vec<String> = (0..tokens.len()).filter(|t| set >> t & 1 == 1).map(|t| format!("`{}`", tokens[t])).collect();
         if set >> 63 == 1 {
             names.push("the end".into());
         }
@@ -133,10 +156,9 @@ impl<'a> Stop<'a> {
 
     /// Whether the awaited part is done, and its inherited registers gone; one that takes nothing has no entry conditions.
     fn is_done(&self) -> bool {
-        let places = &self.outcome.places[1..];
-        let waiting: usize = places.iter().map(|place| self.registers_of(*place)).sum();
+        let waiting: usize = self.places[1..].iter().map(|place| self.registers_of(*place)).sum();
         let start = self.counts(Symbol::Part(self.grammar().start)).1;
-        self.outcome.registers.len() == start + waiting - self.counts(self.awaited).0
+        self.registers.len() == start + waiting - self.counts(self.awaited).0
     }
 
     /// The registers of a place that waits: synthesized ones of the symbols passed, all of the next one.
@@ -175,7 +197,6 @@ impl<'a> Stop<'a> {
     fn value(&self, p: &Production, top: usize, o: Occurrence) -> i64 {
         let above: usize = (o.position + 1..=top).map(|k| self.counts(p.symbol(k)).1).sum();
         let gone = if o.position == 0 { 0 } else { self.counts(p.symbol(o.position)).0 };
-        let registers = &self.outcome.registers;
-        registers[registers.len() - (above + o.attribute - gone)]
+        self.registers[self.registers.len() - (above + o.attribute - gone)]
     }
 }

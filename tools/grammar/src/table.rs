@@ -123,11 +123,9 @@ pub fn grammar(table: &[u8]) -> Grammar {
             }),
             (4, Some(p)) => p.items.push(Item::Rule(occurrence_at(b, 0), function_of(b))),
             (5, Some(p)) => p.items.push(Item::Condition(condition_of(b))),
-            _ => g.productions.push(Production {
-                left: b[0] as usize,
-                right: b[2..].iter().map(|&s| symbol_of(s)).collect(),
-                items: vec![],
-            }),
+            _ => {
+                g.productions.push(Production { left: b[0] as usize, right: b[2..].iter().map(|&s| symbol_of(s)).collect(), items: vec![] })
+            }
         }
         at = end;
     }

@@ -51,7 +51,7 @@ fn table_and_text_go_round() {
     let text = scratch("clause.again", &grammar(&["text", &table]).stdout);
     assert_eq!(grammar(&["table", &text]).stdout, bytes);
     let cut = scratch("cut.table", &bytes[..bytes.len() - 1]);
-    let told = format!("{cut}: refused 2 at byte {}: field cut short\n", bytes.len() - 12);
+    let told = format!("{cut}: refused with 2, field cut short, at byte {}\n", bytes.len() - 12);
     assert_answer(grammar(&["text", &cut]), 1, "", &told);
 }
 

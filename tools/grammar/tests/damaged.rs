@@ -1,7 +1,8 @@
 //! Damaged texts and random segments: every answer is told in words, at a place that exists.
 mod common;
 use common::shipped;
-use grammar::{engine, run, to_table, Built};
+use grammar::{run, to_table, Built};
+use segment::Refusal;
 use std::collections::BTreeMap;
 
 const NAMES: [&str; 3] = ["words", "clause", "sheet"];
@@ -48,7 +49,7 @@ fn damaged_texts_are_judged_in_words() {
             assert!((1..=line.chars().count() + 1).contains(&fault.span.column), "{}", fault.show(name, &text));
             if let Some((number, words)) = fault.message.strip_prefix("refused ").and_then(|m| m.split_once(": ")) {
                 let number: u32 = number.parse().expect("a number");
-                assert_ne!(words, engine::meaning(number), "{}", fault.show(name, &text));
+                assert_ne!(words, Refusal { number, count: 0 }.reason(), "{}", fault.show(name, &text));
                 *refusals.entry(number).or_insert(0) += 1;
             }
         }
@@ -63,11 +64,11 @@ fn random_segments_are_told_in_words() {
         let built: Built = to_table(&shipped(name)).expect(name);
         for _ in 0..1000 {
             let tokens: Vec<u8> = (0..chance.below(12)).map(|_| chance.below(built.grammar.tokens.len()) as u8).collect();
-            let outcome = engine::run(&built.table, &tokens);
+            let outcome = run::run(&built.table, &tokens).expect("opened");
             if let Err(refusal) = outcome.answer {
                 let told = run::told(&built, &tokens, &outcome, refusal);
-                assert!(told.starts_with(&format!("refused {} after {}, ", refusal.number, refusal.at)), "{told}");
-                assert!(!told.ends_with(": ") && !told.ends_with(engine::meaning(refusal.number)), "{tokens:?}: {told}");
+                assert!(told.starts_with(&format!("refused {} after {}, ", refusal.number, refusal.count)), "{told}");
+                assert!(!told.ends_with(": ") && !told.ends_with(refusal.reason()), "{tokens:?}: {told}");
             }
         }
     }

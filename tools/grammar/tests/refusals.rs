@@ -1,5 +1,6 @@
 //! Every refusal of the proved engine that a text can meet, with the line, column and names it concerns.
-use grammar::{engine, to_table, to_text};
+use grammar::{to_table, to_text};
+use segment::Refusal;
 
 /// A grammar of a start part S and what a case adds.
 const HEAD: &str = "\
@@ -78,8 +79,7 @@ fn a_table_too_long() {
     let text = format!("{HEAD}S: {}S\n n = S.n\n{}", "open ".repeat(10), " 0 <= S.n <= 1\n".repeat(2400));
     let fault = to_table(&text).expect_err("too long");
     let length = 7 + 5 + 16 + 8 + 2400 * 14;
-    let words =
-        format!("refused 1: the table is too long, {length} bytes where 32,768 are allowed; this line is the first past them");
+    let words = format!("refused 1: the table is too long, {length} bytes where 32,768 are allowed; this line is the first past them");
     assert_eq!(fault.message, words);
     assert_eq!(fault.span.line, 5 + 2339);
 }
@@ -88,21 +88,13 @@ fn a_table_too_long() {
 fn a_damaged_table_has_no_text() {
     let table = to_table(&format!("{HEAD}S: word\n n = 1\n")).expect("accepted").table;
     let refused = |table: &[u8]| to_text(table).expect_err("refused");
-    assert_eq!(refused(&table[..5]), engine::Refusal { number: 2, at: 0 });
-    assert_eq!(refused(&[&table[..], &[9, 0, 0]].concat()), engine::Refusal { number: 3, at: table.len() as u64 });
+    assert_eq!(refused(&table[..5]), Refusal { number: 2, count: 0 });
+    assert_eq!(refused(&[&table[..], &[9, 0, 0]].concat()), Refusal { number: 3, count: table.len() as u64 });
     let mut unknown = table.clone();
     unknown[17] = 7;
-    assert_eq!(refused(&unknown), engine::Refusal { number: 5, at: 12 });
+    assert_eq!(refused(&unknown), Refusal { number: 5, count: 12 });
 }
 
 fn letters(i: usize) -> String {
     format!("{}{}", (b'a' + (i / 26) as u8) as char, (b'a' + (i % 26) as u8) as char)
-}
-
-#[test]
-fn every_number_has_its_words() {
-    let known = (1..=14).chain(20..=24).chain(30..=35);
-    assert!(known.clone().all(|n| engine::meaning(n) != engine::meaning(0)));
-    let words: std::collections::HashSet<_> = known.clone().map(engine::meaning).collect();
-    assert_eq!(words.len(), known.count());
 }

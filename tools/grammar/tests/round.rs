@@ -2,7 +2,7 @@
 mod common;
 use common::shipped;
 use grammar::model::Grammar;
-use grammar::{engine, print, resolve, table, to_table, to_text};
+use grammar::{print, resolve, table, to_table, to_text};
 use std::collections::BTreeSet;
 
 fn bytes(hex: &str) -> Option<Vec<u8>> {
@@ -43,7 +43,7 @@ fn accepted_tables_come_back() {
 fn the_plain_engine_agrees() {
     for table in vectors() {
         let plain = plain::check(&table).map(|_| ()).map_err(|r| (r.number, u64::from(r.offset)));
-        assert_eq!(engine::check(&table).map_err(|r| (r.number, r.at)), plain);
+        assert_eq!(segment::check(&table).map_err(|r| (r.number, r.count)), plain);
     }
 }
 
@@ -102,5 +102,5 @@ fn conditions_have_their_bytes() {
     let body = |i: usize| &bytes[fields[i].offset..fields[i].end];
     assert_eq!(body(5), [5, 0, 11, 0, 2, 1, 0xff, 0xff, 0xff, 0xff, 0, 0, 1, 0]);
     assert_eq!(body(6), [5, 0, 5, 1, 2, 1, 1, 1]);
-    assert_eq!(engine::check(&bytes), Ok(()));
+    assert_eq!(segment::check(&bytes), Ok(()));
 }

@@ -1,7 +1,8 @@
 //! Refusals of segments in words.
 mod common;
 use common::shipped;
-use grammar::{engine, run, to_table, Built};
+use grammar::{run, to_table, Built};
+use segment::Refusal;
 
 fn read(name: &str) -> Built {
     to_table(&shipped(name)).expect(name)
@@ -10,7 +11,7 @@ fn read(name: &str) -> Built {
 fn told(built: &Built, words: &str) -> String {
     let words: Vec<&str> = words.split_whitespace().collect();
     let tokens = run::tokens(&built.grammar, &words).expect("tokens");
-    let outcome = engine::run(&built.table, &tokens);
+    let outcome = run::run(&built.table, &tokens).expect("opened");
     let refusal = outcome.answer.expect_err("a refusal");
     run::told(built, &tokens, &outcome, refusal)
 }
@@ -41,7 +42,7 @@ const TOLD: &[(&str, &str, &str)] = &[
     (
         "sheet",
         "limit nine nine nine nine nine nine nine nine nine nine",
-        "refused 23 after 10, at token 11, `nine`: value outside 32 bits, by a rule of the production on line 116",
+        "refused 23 after 10, at token 11, `nine`: a value outside 32 bits, by a rule of the production on line 116",
     ),
 ];
 
@@ -64,8 +65,9 @@ fn unknown_tokens_are_named() {
 #[test]
 fn deep_segments_meet_the_places() {
     let built = read("words");
-    assert_eq!(engine::run(&built.table, &[0; 1021]).answer, Ok(1021));
-    assert_eq!(engine::run(&built.table, &[0; 1022]).answer, Err(engine::Refusal { number: 32, at: 1022 }));
+    let answer = |n: usize| run::run(&built.table, &vec![0; n]).expect("opened").answer;
+    assert_eq!((answer(1021), answer(1022)), (Ok(1021), Err(Refusal { number: 32, count: 1022 })));
+    assert_eq!(told(&built, &"word ".repeat(1023)), "refused 32 after 1022, at token 1023, `word`: it would need more than 1,024 places");
 }
 
 /// Two alternatives hold the end; each has an entry condition that is false.

@@ -1,7 +1,7 @@
 //! The grammars that ship: accepted, and the examples in their comments answered as they say.
 mod common;
 use common::shipped;
-use grammar::{engine, run, to_table, Built};
+use grammar::{run, to_table, Built};
 
 fn read(name: &str) -> (String, Built) {
     let text = shipped(name);
@@ -23,9 +23,9 @@ fn examples(text: &str) -> Vec<(Vec<&str>, &str)> {
 
 fn answer(built: &Built, words: &[&str]) -> String {
     let tokens = run::tokens(&built.grammar, words).expect("tokens");
-    match engine::run(&built.table, &tokens).answer {
+    match run::run(&built.table, &tokens).expect("opened").answer {
         Ok(value) => format!("gives {value}"),
-        Err(refusal) => format!("refused {} after {}", refusal.number, refusal.at),
+        Err(refusal) => format!("refused {} after {}", refusal.number, refusal.count),
     }
 }
 
