@@ -1,11 +1,13 @@
 //! Damaged texts and random segments: every answer is told in words, at a place that exists.
 mod common;
 use common::shipped;
-use grammar::{run, to_table, Built};
+use grammar::{run, to_table, to_text, Built};
 use segment::Refusal;
 use std::collections::BTreeMap;
 
 const NAMES: [&str; 3] = ["words", "clause", "sheet"];
+
+const CHARS: [char; 20] = ['a', 'L', 'é', '0', '9', '_', ' ', '\t', '.', ':', '=', '<', '-', '+', '*', '/', '(', ',', '#', '\u{1f600}'];
 
 /// Numbers that look random and are the same in each run.
 struct Chance(u64);
@@ -17,14 +19,20 @@ impl Chance {
     }
 }
 
-/// The text with a line dropped, doubled, moved, or one of its words put in the place of another.
+/// The text with a line dropped, doubled, moved, one of its words put in the place of another, or a character changed.
 fn damaged(text: &str, chance: &mut Chance) -> String {
     let mut lines: Vec<String> = text.lines().filter(|l| !l.starts_with('#') && !l.is_empty()).map(String::from).collect();
     let (from, to) = (chance.below(lines.len()), chance.below(lines.len()));
-    match chance.below(4) {
+    match chance.below(5) {
         0 => drop(lines.remove(from)),
         1 => lines.insert(to, lines[from].clone()),
         2 => lines.swap(from, to),
+        3 => {
+            let mut chars: Vec<char> = lines[to].chars().collect();
+            let at = chance.below(chars.len());
+            chars[at] = CHARS[chance.below(CHARS.len())];
+            lines[to] = chars.into_iter().collect();
+        }
         _ => {
             let words: Vec<String> = lines[from].split_whitespace().map(String::from).collect();
             let mut changed: Vec<&str> = lines[to].split_whitespace().collect();
@@ -44,7 +52,13 @@ fn damaged_texts_are_judged_in_words() {
         let text = shipped(name);
         for _ in 0..2000 {
             let text = damaged(&text, &mut chance);
-            let Err(fault) = to_table(&text) else { continue };
+            let fault = match to_table(&text) {
+                Err(fault) => fault,
+                Ok(built) => {
+                    assert_eq!(to_table(&to_text(&built.table).expect("accepted")).expect(&text).table, built.table);
+                    continue;
+                }
+            };
             let line = text.lines().nth(fault.span.line - 1).expect("the fault's line");
             assert!((1..=line.chars().count() + 1).contains(&fault.span.column), "{}", fault.show(name, &text));
             if let Some((number, words)) = fault.message.strip_prefix("refused ").and_then(|m| m.split_once(": ")) {

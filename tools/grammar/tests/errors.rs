@@ -107,6 +107,14 @@ fn faults_name_line_and_column() {
 }
 
 #[test]
+fn an_empty_text_has_no_start() {
+    for text in ["", "\n", "# nothing but a comment"] {
+        let fault = to_table(text).expect_err("no start");
+        assert_eq!((fault.span.line, fault.message.as_str()), (1, "the text has no line `start PART.ATTRIBUTE`"), "{text:?}");
+    }
+}
+
+#[test]
 fn what_no_byte_holds_is_a_fault() {
     let tokens: Vec<String> = (0..256).map(|i| name("t", i)).collect();
     let parts: String = (0..128).map(|i| format!("part {}\n", name("P", i))).collect();
