@@ -1,41 +1,71 @@
 //! Measures the proved engine beside the plain one: same machine, same run, same input.
+mod engines;
+
+use engines::{Engine, Plain, Proved};
 use plain::samples;
 use std::hint::black_box;
 use std::time::Instant;
 
-extern "C" {
-    fn segment_check(table: *const u8, length: usize, number: &mut u32, offset: &mut u32);
-}
+const ROUNDS: usize = 20;
 
-/// Number and offset of a table's refusal, 0 and 0 where it is accepted.
-fn proved(table: &[u8]) -> (u32, u32) {
-    let (mut number, mut offset) = (0, 0);
-    unsafe { segment_check(table.as_ptr(), table.len(), &mut number, &mut offset) };
-    (number, offset)
-}
-
-fn in_rust(table: &[u8]) -> (u32, u32) {
-    match plain::check(table) {
-        Ok(_) => (0, 0),
-        Err(r) => (r.number, r.offset),
-    }
-}
-
-/// The best of several rounds, in nanoseconds a call.
-fn time(judge: impl Fn(&[u8]) -> (u32, u32), table: &[u8]) -> f64 {
-    let calls = (2_000_000 / (table.len() + 100)).max(10);
+/// The best of several rounds of so many calls, in nanoseconds a call.
+fn time(calls: usize, mut call: impl FnMut()) -> f64 {
     let mut best = f64::MAX;
-    for _ in 0..20 {
+    for _ in 0..ROUNDS {
         let start = Instant::now();
         for _ in 0..calls {
-            black_box(judge(black_box(table)));
+            call();
         }
         best = best.min(start.elapsed().as_nanos() as f64 / calls as f64);
     }
     best
 }
 
-fn main() {
+fn calls_for(table: &[u8]) -> usize {
+    (1_000_000 / (table.len() + 100)).max(10)
+}
+
+fn judging<E: Engine>(table: &[u8]) -> f64 {
+    time(calls_for(table), || {
+        black_box(E::check(black_box(table)));
+    })
+}
+
+fn opening<E: Engine>(table: &[u8]) -> f64 {
+    let mut engine = E::new();
+    time(calls_for(table), || {
+        black_box(engine.open(black_box(table))).unwrap();
+    })
+}
+
+/// A feed without tokens, after `before` has been fed.
+fn empty_feed<E: Engine>(table: &[u8], before: &[u8]) -> f64 {
+    let mut engine = E::new();
+    engine.open(table).unwrap();
+    engine.feed(table, before).unwrap();
+    time(calls_for(table), || {
+        black_box(engine.feed(black_box(table), &[])).unwrap();
+    })
+}
+
+/// The feeds of a run, in pieces of so many tokens, on buffers made anew: the best of several rounds in nanoseconds, with the
+/// moves of the feeds and the segment's value.
+fn run<E: Engine>(table: &[u8], tokens: &[u8], piece: usize) -> (f64, u64, i64) {
+    let (mut best, mut moves, mut value) = (f64::MAX, 0, 0);
+    for _ in 0..ROUNDS {
+        let mut engine = E::new();
+        engine.open(table).unwrap();
+        let start = Instant::now();
+        for part in tokens.chunks(piece) {
+            moves = black_box(engine.feed(black_box(table), black_box(part))).unwrap();
+        }
+        best = best.min(start.elapsed().as_nanos() as f64);
+        value = engine.finish(table).unwrap().0;
+    }
+    (best, moves, value)
+}
+
+fn judge_tables() {
     let tables = [
         ("words and tags, accepted", samples::words()),
         ("refused late by 13", samples::refused_late(1, 0, 0)),
@@ -49,8 +79,57 @@ fn main() {
     println!("| table | bytes | plain Rust, ns | proved, ns | proved / plain |");
     println!("|---|---|---|---|---|");
     for (name, table) in &tables {
-        assert_eq!(proved(table), in_rust(table), "{name}");
-        let (a, b) = (time(in_rust, table), time(proved, table));
+        assert_eq!(Proved::check(table), Plain::check(table), "{name}");
+        let (a, b) = (judging::<Plain>(table), judging::<Proved>(table));
         println!("| {name} | {} | {a:.0} | {b:.0} | {:.2} |", table.len(), b / a);
     }
+}
+
+fn call_without_tokens() {
+    let words = samples::words();
+    let tables = [
+        ("words and tags", words.clone(), vec![]),
+        ("words and tags, 1,000 words on the stacks", words, vec![0; 1000]),
+        ("chain of 4", samples::chain(4, 2, 8), vec![]),
+        ("chain of 47", samples::chain(47, 33, 512), vec![]),
+    ];
+    println!("\n| call | bytes | plain Rust, ns | proved, ns | proved / plain |");
+    println!("|---|---|---|---|---|");
+    let row = |call: &str, bytes: usize, a: f64, b: f64| println!("| {call} | {bytes} | {a:.0} | {b:.0} | {:.2} |", b / a);
+    for (name, table, before) in &tables {
+        if before.is_empty() {
+            row(&format!("judging, {name}"), table.len(), judging::<Plain>(table), judging::<Proved>(table));
+            row(&format!("opening, {name}"), table.len(), opening::<Plain>(table), opening::<Proved>(table));
+        }
+        let (a, b) = (empty_feed::<Plain>(table, before), empty_feed::<Proved>(table, before));
+        row(&format!("feed without tokens, {name}"), table.len(), a, b);
+    }
+}
+
+fn run_segments() {
+    let mixed = [0, 1, 0, 1, 0, 2, 0, 2].repeat(110);
+    let segments = [
+        ("words and tags, 1,000 words", samples::words(), vec![0; 1000], usize::MAX),
+        ("words and tags, tags two deep", samples::words(), mixed, usize::MAX),
+        ("lines, the most tokens", samples::lines(), samples::lines_segment(), usize::MAX),
+        ("brackets, 1,000 deep", samples::brackets(), samples::brackets_segment(1000), usize::MAX),
+        ("chain of 47, many rules and conditions", samples::chain(47, 33, 512), samples::chain_segment(10), usize::MAX),
+        ("words and tags, 1,000 words, one token a feed", samples::words(), vec![0; 1000], 1),
+        ("chain of 47, one token a feed", samples::chain(47, 33, 512), samples::chain_segment(3), 1),
+    ];
+    println!("\n| segment | tokens | moves | plain Rust, ns a token | proved, ns a token | plain Rust, ns a move | proved, ns a move | proved / plain |");
+    println!("|---|---|---|---|---|---|---|---|");
+    for (name, table, tokens, piece) in &segments {
+        let (a, plain_moves, plain_value) = run::<Plain>(table, tokens, *piece);
+        let (b, moves, value) = run::<Proved>(table, tokens, *piece);
+        assert_eq!((moves, value), (plain_moves, plain_value), "{name}");
+        let (t, m) = (tokens.len() as f64, moves as f64);
+        println!("| {name} | {t} | {m} | {:.1} | {:.1} | {:.1} | {:.1} | {:.2} |", a / t, b / t, a / m, b / m, b / a);
+    }
+}
+
+fn main() {
+    judge_tables();
+    call_without_tokens();
+    run_segments();
 }

@@ -8,7 +8,8 @@ pub struct Sets {
     pub starts: [u64; 128],
 }
 
-struct Analysis<'a> {
+/// What the productions of a table without refusals 1 to 10 allow.
+pub struct Analysis<'a> {
     o: &'a Outline,
     nullable: u64,
     first: [u64; 48],
@@ -20,6 +21,11 @@ fn until_stable(mut step: impl FnMut() -> bool) {
 }
 
 impl<'a> Analysis<'a> {
+    /// Before anything is found.
+    pub fn new(o: &'a Outline) -> Analysis<'a> {
+        Analysis { o, nullable: 0, first: [0; 48], follow: [0; 48] }
+    }
+
     fn right(&self, p: usize) -> &'a [u8] {
         let row = &self.o.rows[p];
         &row[2..2 + row[1] as usize]
@@ -45,7 +51,17 @@ impl<'a> Analysis<'a> {
         set
     }
 
-    fn reachable(&self) -> u64 {
+    /// The nonterminals that derive a token string.
+    pub fn productive(&self) -> u64 {
+        self.closure(true)
+    }
+
+    pub fn find_nullable(&mut self) {
+        self.nullable = self.closure(false);
+    }
+
+    /// The nonterminals in some sentential form.
+    pub fn reachable(&self) -> u64 {
         let mut set = 1u64 << self.o.start;
         until_stable(|| {
             let before = set;
@@ -117,8 +133,8 @@ impl<'a> Analysis<'a> {
         }
     }
 
-    /// The lowest nonterminal that reaches itself leftmost without reading.
-    fn recursive(&self) -> Option<usize> {
+    /// For each nonterminal those that one of its productions can begin with, behind symbols that derive nothing.
+    pub fn leads(&self) -> [u64; 48] {
         let mut leads = [0u64; 48];
         for p in 0..self.o.productions {
             for &s in self.right(p) {
@@ -131,6 +147,12 @@ impl<'a> Analysis<'a> {
                 }
             }
         }
+        leads
+    }
+
+    /// The lowest nonterminal that reaches itself leftmost without reading.
+    fn recursive(&self) -> Option<usize> {
+        let mut leads = self.leads();
         let n = self.o.nonterminals as usize;
         for k in 0..n {
             for i in 0..n {
@@ -140,6 +162,18 @@ impl<'a> Analysis<'a> {
             }
         }
         (0..n).find(|&i| leads[i] >> i & 1 == 1)
+    }
+
+    /// FIRST-then-FOLLOW of each production, where `find_nullable` came before.
+    pub fn starts(&mut self) -> Sets {
+        self.find_first();
+        self.find_follow();
+        let mut sets = Sets { starts: [0; 128] };
+        for p in 0..self.o.productions {
+            let (first, empty) = self.first_of(self.right(p));
+            sets.starts[p] = if empty { first | self.follow[self.left(p)] } else { first };
+        }
+        sets
     }
 }
 
@@ -172,30 +206,33 @@ fn can_both(a: &Option<[(i32, i32); 8]>, b: &Option<[(i32, i32); 8]>) -> bool {
     }
 }
 
-pub fn judge(table: &[u8], o: &Outline) -> Result<Sets, Refusal> {
-    let mut a = Analysis { o, nullable: 0, first: [0; 48], follow: [0; 48] };
-    let useful = a.reachable() & a.closure(true);
-    if let Some(n) = (0..o.nonterminals as usize).find(|n| useful >> n & 1 == 0) {
-        return Err(Refusal { number: 11, offset: 7 + 5 * n as u32 });
-    }
-    a.nullable = a.closure(false);
-    if let Some(n) = a.recursive() {
-        return Err(Refusal { number: 12, offset: 7 + 5 * n as u32 });
-    }
-    a.find_first();
-    a.find_follow();
-    let mut sets = Sets { starts: [0; 128] };
-    for p in 0..o.productions {
-        let (first, empty) = a.first_of(a.right(p));
-        sets.starts[p] = if empty { first | a.follow[a.left(p)] } else { first };
-    }
+/// The lowest production that clashes with an earlier one, and the lowest of those.
+pub fn clash(table: &[u8], o: &Outline, sets: &Sets) -> Option<(usize, usize)> {
     let entries = entry_ranges(table, o);
     for p in 0..o.productions {
         for q in 0..p {
-            if a.left(p) == a.left(q) && sets.starts[p] & sets.starts[q] != 0 && can_both(&entries[p], &entries[q]) {
-                return Err(Refusal { number: 13, offset: o.offsets[p] });
+            let meet = o.rows[p][0] == o.rows[q][0] && sets.starts[p] & sets.starts[q] != 0;
+            if meet && can_both(&entries[p], &entries[q]) {
+                return Some((p, q));
             }
         }
     }
-    Ok(sets)
+    None
+}
+
+pub fn judge(table: &[u8], o: &Outline) -> Result<Sets, Refusal> {
+    let mut a = Analysis::new(o);
+    let useful = a.reachable() & a.productive();
+    if let Some(n) = (0..o.nonterminals as usize).find(|n| useful >> n & 1 == 0) {
+        return Err(Refusal { number: 11, offset: 7 + 5 * n as u32 });
+    }
+    a.find_nullable();
+    if let Some(n) = a.recursive() {
+        return Err(Refusal { number: 12, offset: 7 + 5 * n as u32 });
+    }
+    let sets = a.starts();
+    match clash(table, o, &sets) {
+        Some((p, _)) => Err(Refusal { number: 13, offset: o.offsets[p] }),
+        None => Ok(sets),
+    }
 }

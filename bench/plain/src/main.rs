@@ -58,7 +58,13 @@ fn main() {
                     registers: w[4].parse().unwrap(),
                     places: w[5].parse().unwrap(),
                 };
-                let list = |s: &str| -> Vec<String> { if s == "-" { vec![] } else { s.split(',').map(String::from).collect() } };
+                let list = |s: &str| -> Vec<String> {
+                    if s == "-" {
+                        vec![]
+                    } else {
+                        s.split(',').map(String::from).collect()
+                    }
+                };
                 registers = list(w[7]).iter().map(|v| if v == "m" { MARK } else { v.parse().unwrap() }).collect();
                 places = list(w[9]).iter().map(|v| v.parse().unwrap()).collect();
                 writeln!(out, "ok").unwrap();

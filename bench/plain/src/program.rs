@@ -91,7 +91,11 @@ fn fields<'t>(table: &'t [u8], o: &Outline, p: usize, tag: u8) -> impl Iterator<
 }
 
 fn position_of(b: &[u8]) -> u8 {
-    if b[0] == 0 { b[1] } else { b[1].max(b[3]) }
+    if b[0] == 0 {
+        b[1]
+    } else {
+        b[1].max(b[3])
+    }
 }
 
 fn write_body(table: &[u8], o: &Outline, p: usize, w: &mut Writer) -> (u32, u32) {

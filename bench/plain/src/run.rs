@@ -1,7 +1,6 @@
 //! Opening, feeding and finishing a run.
-use crate::judge::judge;
 use crate::program::{build, AREA};
-use crate::table::read;
+use crate::table::Outline;
 
 pub const MARK: i64 = i64::MIN;
 const MOVES: u64 = u32::MAX as u64;
@@ -221,9 +220,16 @@ impl Machine<'_> {
 }
 
 /// 34: whether record and stacks are such as a run leaves.
-fn fits(o: &crate::table::Outline, r: &Record, registers: &[i64], places: &[u32]) -> bool {
+fn fits(o: &Outline, r: &Record, registers: &[i64], places: &[u32]) -> bool {
     let (rh, ph) = (r.registers as usize, r.places as usize);
-    if r.tokens > TOKENS || r.moves > MOVES || r.registers > registers.len() as u64 || r.places > places.len() as u64 || rh > registers.len() || ph > places.len() || ph == 0 {
+    if r.tokens > TOKENS
+        || r.moves > MOVES
+        || r.registers > registers.len() as u64
+        || r.places > places.len() as u64
+        || rh > registers.len()
+        || ph > places.len()
+        || ph == 0
+    {
         return false;
     }
     if registers[rh..].iter().any(|&v| v != MARK) || places[ph..].iter().any(|&p| p != 0) {
@@ -269,21 +275,22 @@ fn lend<'a>(registers: &'a mut [i64], places: &'a mut [u32]) -> (&'a mut [i64], 
     (&mut registers[..r], &mut places[..p])
 }
 
+/// What each call begins with: 30, the table, and its program written.
+fn prepare(table: &[u8], program: &mut [u32]) -> Result<Outline, Answer> {
+    if program.len() < AREA {
+        return Err(Answer::Refused(30, 0));
+    }
+    let (o, sets) = crate::check(table).map_err(|r| Answer::Refused(r.number, r.offset as u64))?;
+    build(table, &o, &sets, program);
+    Ok(o)
+}
+
 pub fn open(table: &[u8], registers: &mut [i64], places: &mut [u32], program: &mut [u32]) -> (Record, Answer) {
     let none = Record::default();
-    if program.len() < AREA {
-        return (none, Answer::Refused(30, 0));
-    }
-    let refused = |r: crate::table::Refusal| (none, Answer::Refused(r.number, r.offset as u64));
-    let o = match read(table) {
+    let o = match prepare(table, program) {
         Ok(o) => o,
-        Err(r) => return refused(r),
+        Err(answer) => return (none, answer),
     };
-    let sets = match judge(table, &o) {
-        Ok(s) => s,
-        Err(r) => return refused(r),
-    };
-    build(table, &o, &sets, program);
     let (registers, places) = lend(registers, places);
     let n = o.syn(128 + o.start) as usize;
     if registers.len() < n {
@@ -306,19 +313,10 @@ fn call(
     program: &mut [u32],
     tokens: Option<&[u8]>,
 ) -> (Record, Answer) {
-    if program.len() < AREA {
-        return (record, Answer::Refused(30, 0));
-    }
-    let refused = |r: crate::table::Refusal| (record, Answer::Refused(r.number, r.offset as u64));
-    let o = match read(table) {
+    let o = match prepare(table, program) {
         Ok(o) => o,
-        Err(r) => return refused(r),
+        Err(answer) => return (record, answer),
     };
-    let sets = match judge(table, &o) {
-        Ok(s) => s,
-        Err(r) => return refused(r),
-    };
-    build(table, &o, &sets, program);
     if !record.open {
         return (record, Answer::Refused(33, 0));
     }
@@ -349,7 +347,14 @@ fn call(
     }
 }
 
-pub fn feed(table: &[u8], record: Record, registers: &mut [i64], places: &mut [u32], program: &mut [u32], tokens: &[u8]) -> (Record, Answer) {
+pub fn feed(
+    table: &[u8],
+    record: Record,
+    registers: &mut [i64],
+    places: &mut [u32],
+    program: &mut [u32],
+    tokens: &[u8],
+) -> (Record, Answer) {
     call(table, record, registers, places, program, Some(tokens))
 }
 

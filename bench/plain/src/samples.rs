@@ -1,4 +1,4 @@
-//! Tables to measure with.
+//! Tables and segments to measure with.
 
 fn field(table: &mut Vec<u8>, tag: u8, body: &[u8]) {
     table.extend([tag, (body.len() / 256) as u8, (body.len() % 256) as u8]);
@@ -89,4 +89,74 @@ pub fn longest_refused() -> Vec<u8> {
     body[2] = 9;
     field(&mut t, 4, &body);
     t
+}
+
+/// Lines of eleven rows of twelve tokens 0 each, or of one token 1; a place for each line, so that a segment may have 65,535 tokens.
+pub fn lines() -> Vec<u8> {
+    let mut t = Vec::new();
+    field(&mut t, 1, &[2, 3, 0, 1]);
+    field(&mut t, 2, &[0, 1]);
+    field(&mut t, 2, &[1, 1]);
+    field(&mut t, 2, &[0, 0]);
+    field(&mut t, 3, &[0, 1, 129]);
+    field(&mut t, 4, &[1, 1, 0, 0, 0, 0, 0]);
+    field(&mut t, 4, &[0, 1, 1, 1, 2]);
+    let mut line = vec![1, 12];
+    line.resize(13, 130);
+    line.push(129);
+    field(&mut t, 3, &line);
+    field(&mut t, 4, &[12, 1, 7, 0, 1, 0, 0, 0, 1]);
+    field(&mut t, 4, &[0, 2, 7, 12, 2, 0, 0, 0, 132]);
+    field(&mut t, 3, &[1, 2, 1, 129]);
+    field(&mut t, 4, &[2, 1, 7, 0, 1, 0, 0, 0, 1]);
+    field(&mut t, 4, &[0, 2, 7, 2, 2, 0, 0, 0, 1]);
+    field(&mut t, 3, &[1, 0]);
+    field(&mut t, 4, &[0, 2, 1, 0, 1]);
+    field(&mut t, 3, &[2, 12, 0, 0, 0, 0, 0, 0, 0, 0, 0, 0, 0, 0]);
+    t
+}
+
+/// 65,535 tokens of it.
+pub fn lines_segment() -> Vec<u8> {
+    let mut s = vec![0; 496 * 132];
+    s.resize(65535, 1);
+    s
+}
+
+/// Brackets around one token: 0 opens, 1 closes, 2 is inside; the value is the depth.
+pub fn brackets() -> Vec<u8> {
+    let mut t = Vec::new();
+    field(&mut t, 1, &[3, 2, 0, 1]);
+    field(&mut t, 2, &[0, 1]);
+    field(&mut t, 2, &[1, 1]);
+    field(&mut t, 3, &[0, 1, 129]);
+    field(&mut t, 4, &[1, 1, 0, 0, 0, 0, 0]);
+    field(&mut t, 4, &[0, 1, 1, 1, 2]);
+    field(&mut t, 3, &[1, 3, 0, 129, 1]);
+    field(&mut t, 4, &[2, 1, 7, 0, 1, 0, 0, 0, 1]);
+    field(&mut t, 4, &[0, 2, 1, 2, 2]);
+    field(&mut t, 3, &[1, 1, 2]);
+    field(&mut t, 4, &[0, 2, 1, 0, 1]);
+    t
+}
+
+/// A segment of it with so many brackets inside each other.
+pub fn brackets_segment(depth: usize) -> Vec<u8> {
+    [vec![0; depth], vec![2], vec![1; depth]].concat()
+}
+
+/// A segment of `chain`: each of the first `doubled` nonterminals goes on twice, each later one ends.
+pub fn chain_segment(doubled: usize) -> Vec<u8> {
+    fn part(s: &mut Vec<u8>, doubled: usize) {
+        let children = if doubled > 0 { 2 } else { 0 };
+        s.push(children);
+        for _ in 0..children {
+            part(s, doubled - 1);
+        }
+        s.extend(std::iter::repeat_n(9, 11 - children as usize));
+    }
+    let mut s = Vec::new();
+    part(&mut s, doubled);
+    s.extend([9; 11]);
+    s
 }

@@ -42,16 +42,28 @@ impl Outline {
     }
 
     pub fn inh(&self, symbol: u8) -> u8 {
-        if symbol < 128 { 0 } else { self.inherited[(symbol - 128) as usize] }
+        if symbol < 128 {
+            0
+        } else {
+            self.inherited[(symbol - 128) as usize]
+        }
     }
 
     pub fn syn(&self, symbol: u8) -> u8 {
-        if symbol < 128 { 0 } else { self.synthesized[(symbol - 128) as usize] }
+        if symbol < 128 {
+            0
+        } else {
+            self.synthesized[(symbol - 128) as usize]
+        }
     }
 
     /// The symbol at a position of production p, the left side at 0.
     pub fn symbol(&self, p: usize, position: u8) -> u8 {
-        if position == 0 { 128 + self.rows[p][0] } else { self.rows[p][1 + position as usize] }
+        if position == 0 {
+            128 + self.rows[p][0]
+        } else {
+            self.rows[p][1 + position as usize]
+        }
     }
 }
 

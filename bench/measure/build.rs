@@ -1,7 +1,0 @@
-// Links the proved engine: `rt staticlib host` writes it.
-fn main() {
-    let root = std::path::Path::new(env!("CARGO_MANIFEST_DIR")).join("../../target/staticlib");
-    println!("cargo:rustc-link-search=native={}", root.display());
-    println!("cargo:rustc-link-lib=static=host");
-    println!("cargo:rerun-if-changed={}", root.join("libhost.a").display());
-}

@@ -1,0 +1,189 @@
+//! The library's calls as they are: the caller lends the memory, and a call's answer is numbers.
+//!
+//! A call may be made with any bytes, records and stacks: the library judges them and turns back what does not fit.
+use crate::Refusal;
+
+/// How many registers a run uses at most; cells past them are neither read nor written.
+pub const REGISTERS: usize = 4096;
+/// How many places a run uses at most; cells past them are neither read nor written.
+pub const PLACES: usize = 1024;
+/// The words that a program area needs.
+pub const PROGRAM: usize = 16384;
+/// What a register without a value holds.
+pub const MARK: i64 = i64::MIN;
+
+/// The run record, as five numbers.
+#[repr(C)]
+#[derive(Clone, Copy, Debug, Default, PartialEq, Eq)]
+pub struct Record {
+    /// 0 for a closed run; a run that is open is handed back with 1.
+    pub open: u64,
+    /// The tokens read.
+    pub tokens: u64,
+    /// The moves made since opening.
+    pub moves: u64,
+    /// The height of the register stack.
+    pub registers: u64,
+    /// The height of the place stack.
+    pub places: u64,
+}
+
+/// The memory of a run, lent to each call.
+#[derive(Debug, PartialEq, Eq)]
+pub struct Memory<'a> {
+    pub registers: &'a mut [i64],
+    pub places: &'a mut [u32],
+    pub program: &'a mut [u32],
+}
+
+extern "C" {
+    fn segment_check(table: *const u8, table_length: usize, number: &mut u32, offset: &mut u32);
+
+    fn segment_stretch(
+        table: *const u8,
+        table_length: usize,
+        production: usize,
+        start: &mut usize,
+        length: &mut usize,
+        number: &mut u32,
+        offset: &mut u32,
+    );
+
+    fn segment_open(
+        table: *const u8,
+        table_length: usize,
+        record: &mut Record,
+        registers: *mut i64,
+        registers_length: usize,
+        places: *mut u32,
+        places_length: usize,
+        program: *mut u32,
+        program_length: usize,
+        number: &mut u32,
+        count: &mut u64,
+    );
+
+    fn segment_feed(
+        table: *const u8,
+        table_length: usize,
+        record: &mut Record,
+        registers: *mut i64,
+        registers_length: usize,
+        places: *mut u32,
+        places_length: usize,
+        program: *mut u32,
+        program_length: usize,
+        tokens: *const u8,
+        tokens_length: usize,
+        number: &mut u32,
+        count: &mut u64,
+    );
+
+    fn segment_finish(
+        table: *const u8,
+        table_length: usize,
+        record: &mut Record,
+        registers: *mut i64,
+        registers_length: usize,
+        places: *mut u32,
+        places_length: usize,
+        program: *mut u32,
+        program_length: usize,
+        number: &mut u32,
+        value: &mut i64,
+        count: &mut u64,
+    );
+}
+
+fn answered(number: u32, count: u64) -> Result<u64, Refusal> {
+    match number {
+        0 => Ok(count),
+        _ => Err(Refusal { number, count }),
+    }
+}
+
+/// The verdict on a table.
+pub fn check(table: &[u8]) -> Result<(), Refusal> {
+    let (mut number, mut offset) = (0, 0);
+    // SAFETY: the pointers are those of a slice and of two numbers, all alive during the call.
+    unsafe { segment_check(table.as_ptr(), table.len(), &mut number, &mut offset) };
+    answered(number, offset.into()).map(drop)
+}
+
+/// Start and length of a production's stretch of the table.
+pub fn stretch(table: &[u8], production: usize) -> Result<(usize, usize), Refusal> {
+    let (mut start, mut length, mut number, mut offset) = (0, 0, 0, 0);
+    // SAFETY: as in `check`.
+    unsafe { segment_stretch(table.as_ptr(), table.len(), production, &mut start, &mut length, &mut number, &mut offset) };
+    answered(number, offset.into()).map(|_| (start, length))
+}
+
+/// Opens a run; the record is handed back closed and all zero on a refusal.
+pub fn open(table: &[u8], record: &mut Record, m: &mut Memory) -> Result<u64, Refusal> {
+    let (mut number, mut count) = (0, 0);
+    // SAFETY: the pointers are those of slices, with their lengths, and of numbers; no two overlap, since all but the table's are lent
+    // exclusively.
+    unsafe {
+        segment_open(
+            table.as_ptr(),
+            table.len(),
+            record,
+            m.registers.as_mut_ptr(),
+            m.registers.len(),
+            m.places.as_mut_ptr(),
+            m.places.len(),
+            m.program.as_mut_ptr(),
+            m.program.len(),
+            &mut number,
+            &mut count,
+        )
+    };
+    answered(number, count)
+}
+
+/// Feeds tokens; answers the moves made since opening.
+pub fn feed(table: &[u8], record: &mut Record, m: &mut Memory, tokens: &[u8]) -> Result<u64, Refusal> {
+    let (mut number, mut count) = (0, 0);
+    // SAFETY: as in `open`.
+    unsafe {
+        segment_feed(
+            table.as_ptr(),
+            table.len(),
+            record,
+            m.registers.as_mut_ptr(),
+            m.registers.len(),
+            m.places.as_mut_ptr(),
+            m.places.len(),
+            m.program.as_mut_ptr(),
+            m.program.len(),
+            tokens.as_ptr(),
+            tokens.len(),
+            &mut number,
+            &mut count,
+        )
+    };
+    answered(number, count)
+}
+
+/// Finishes the segment; answers its value and the moves made since opening.
+pub fn finish(table: &[u8], record: &mut Record, m: &mut Memory) -> Result<(i64, u64), Refusal> {
+    let (mut number, mut value, mut count) = (0, 0, 0);
+    // SAFETY: as in `open`.
+    unsafe {
+        segment_finish(
+            table.as_ptr(),
+            table.len(),
+            record,
+            m.registers.as_mut_ptr(),
+            m.registers.len(),
+            m.places.as_mut_ptr(),
+            m.places.len(),
+            m.program.as_mut_ptr(),
+            m.program.len(),
+            &mut number,
+            &mut value,
+            &mut count,
+        )
+    };
+    answered(number, count).map(|moves| (value, moves))
+}

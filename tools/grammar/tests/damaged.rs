@@ -1,0 +1,89 @@
+//! Damaged texts and random segments: every answer is told in words, at a place that exists.
+mod common;
+use common::shipped;
+use grammar::{run, to_table, to_text, Built};
+use segment::Refusal;
+use std::collections::BTreeMap;
+
+const NAMES: [&str; 3] = ["words", "clause", "sheet"];
+
+const CHARS: [char; 20] = ['a', 'L', 'é', '0', '9', '_', ' ', '\t', '.', ':', '=', '<', '-', '+', '*', '/', '(', ',', '#', '\u{1f600}'];
+
+/// Numbers that look random and are the same in each run.
+struct Chance(u64);
+
+impl Chance {
+    fn below(&mut self, n: usize) -> usize {
+        self.0 = self.0.wrapping_mul(6_364_136_223_846_793_005).wrapping_add(1_442_695_040_888_963_407);
+        (self.0 >> 33) as usize % n
+    }
+}
+
+/// The text with a line dropped, doubled, moved, one of its words put in the place of another, or a character changed.
+fn damaged(text: &str, chance: &mut Chance) -> String {
+    let mut lines: Vec<String> = text.lines().filter(|l| !l.starts_with('#') && !l.is_empty()).map(String::from).collect();
+    let (from, to) = (chance.below(lines.len()), chance.below(lines.len()));
+    match chance.below(5) {
+        0 => drop(lines.remove(from)),
+        1 => lines.insert(to, lines[from].clone()),
+        2 => lines.swap(from, to),
+        3 => {
+            let mut chars: Vec<char> = lines[to].chars().collect();
+            let at = chance.below(chars.len());
+            chars[at] = CHARS[chance.below(CHARS.len())];
+            lines[to] = chars.into_iter().collect();
+        }
+        _ => {
+            let words: Vec<String> = lines[from].split_whitespace().map(String::from).collect();
+            let mut changed: Vec<&str> = lines[to].split_whitespace().collect();
+            let (i, j) = (chance.below(words.len()), chance.below(changed.len()));
+            changed[j] = &words[i];
+            lines[to] = changed.join(" ");
+        }
+    }
+    lines.join("\n")
+}
+
+#[test]
+fn damaged_texts_are_judged_in_words() {
+    let mut chance = Chance(1);
+    let mut refusals = BTreeMap::new();
+    for name in NAMES {
+        let text = shipped(name);
+        for _ in 0..2000 {
+            let text = damaged(&text, &mut chance);
+            let fault = match to_table(&text) {
+                Err(fault) => fault,
+                Ok(built) => {
+                    assert_eq!(to_table(&to_text(&built.table).expect("accepted")).expect(&text).table, built.table);
+                    continue;
+                }
+            };
+            let line = text.lines().nth(fault.span.line - 1).expect("the fault's line");
+            assert!((1..=line.chars().count() + 1).contains(&fault.span.column), "{}", fault.show(name, &text));
+            if let Some((number, words)) = fault.message.strip_prefix("refused ").and_then(|m| m.split_once(": ")) {
+                let number: u32 = number.parse().expect("a number");
+                assert_ne!(words, Refusal { number, count: 0 }.reason(), "{}", fault.show(name, &text));
+                *refusals.entry(number).or_insert(0) += 1;
+            }
+        }
+    }
+    assert!(refusals.len() >= 6, "{refusals:?}");
+}
+
+#[test]
+fn random_segments_are_told_in_words() {
+    let mut chance = Chance(2);
+    for name in NAMES {
+        let built: Built = to_table(&shipped(name)).expect(name);
+        for _ in 0..1000 {
+            let tokens: Vec<u8> = (0..chance.below(12)).map(|_| chance.below(built.grammar.tokens.len()) as u8).collect();
+            let outcome = run::run(&built.table, &tokens).expect("opened");
+            if let Err(refusal) = outcome.answer {
+                let told = run::told(&built, &tokens, &outcome, refusal);
+                assert!(told.starts_with(&format!("refused {} after {}, ", refusal.number, refusal.count)), "{told}");
+                assert!(!told.ends_with(": ") && !told.ends_with(refusal.reason()), "{tokens:?}: {told}");
+            }
+        }
+    }
+}

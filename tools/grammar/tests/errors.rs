@@ -1,0 +1,145 @@
+//! Every way in which a text is no grammar, with line and column.
+use grammar::to_table;
+
+/// A small grammar; a case replaces one of its lines.
+const LINES: [&str; 12] = [
+    "token word open close",
+    "part S -> n",
+    "part L(d) -> n",
+    "start S.n",
+    "S: L",
+    "  L.d = 0",
+    "  n = L.n",
+    "L: open L close L",
+    "  L1.d = d + 1",
+    "  L2.d = d",
+    "  n = L1.n + L2.n",
+    "L: nothing",
+];
+
+fn with(line: usize, text: &str) -> String {
+    let mut lines: Vec<&str> = LINES.to_vec();
+    lines[line - 1] = text;
+    lines.join("\n") + "\n  n = 0"
+}
+
+/// Line, new text of the line, column of the fault, the start of its message.
+const CASES: &[(usize, &str, usize, &str)] = &[
+    (6, "  L.d = 0 ; 1", 11, "the character `;` has no meaning here"),
+    (6, "  L.d = 99999999999999999999", 9, "the number 99999999999999999999 does not fit"),
+    (6, "  L.d = 2147483648", 9, "the number 2147483648 does not fit"),
+    (6, "  L.d = -2147483649", 9, "the number -2147483649 does not fit"),
+    (9, "  L1.d = d - -2147483648", 14, "the number 2147483648 does not fit"),
+    (9, "  L1.d = d + 2147483648", 14, "the number 2147483648 does not fit"),
+    (1, "token", 6, "expected the name of a token, but the line ends here"),
+    (1, "token word, open", 11, "expected the name of a token, found `,`"),
+    (1, "token word max", 12, "`max` is a word of the grammar language and cannot be a name"),
+    (1, "token word word", 12, "`word` is declared a second time; the first is on line 1"),
+    (1, "token word open2 close", 12, "`open2` ends in a digit"),
+    (2, "part S - n", 8, "expected the end of the line, found `-`"),
+    (2, "part S ->", 10, "expected the name of an attribute, but the line ends here"),
+    (2, "part S -> n m", 13, "expected the end of the line, found `m`"),
+    (2, "part word -> n", 6, "`word` is declared a second time; the first is on line 1"),
+    (3, "part L(d -> n", 10, "expected `)`, found `->`"),
+    (3, "part L() -> n", 8, "expected the name of an attribute, found `)`"),
+    (3, "part L(d, n) -> n", 17, "the attribute `n` is named twice"),
+    (4, "start S", 8, "expected `.`, but the line ends here"),
+    (4, "start S.m", 9, "`S` has no attribute `m`; its attributes: `n`"),
+    (4, "start word.n", 7, "`word` is a token; a part is expected here"),
+    (4, "start T.n", 7, "`T` is not declared as a token or a part"),
+    (4, "", 8, "the text has no line `start PART.ATTRIBUTE`"),
+    (5, "start S.n", 1, "a second start; the first is on line 4"),
+    (4, "start S.n\n  n = 0", 3, "a rule or condition stands after the production it belongs to"),
+    (5, "S:", 3, "expected a token, a part or `nothing`, but the line ends here"),
+    (5, "S: M", 4, "`M` is not declared as a token or a part"),
+    (5, "word: L", 1, "`word` is a token; a part is expected here"),
+    (5, "S: nothing L", 12, "expected the end of the line, found `L`"),
+    (5, "S: L nothing", 6, "`nothing` is a word of the grammar language and cannot be a name"),
+    (5, "S L", 3, "expected `=`, found `L`"),
+    (5, "S", 2, "expected `:`, `=` or `<=`, but the line ends here"),
+    (6, "  = 0", 3, "expected a declaration, a production, a rule or a condition, found `=`"),
+    (6, "  L. = 0", 6, "expected the name of an attribute, found `=`"),
+    (6, "  L.d =", 8, "expected an attribute, a number, `max` or `min`, but the line ends here"),
+    (6, "  L.x = 0", 5, "`L` has no attribute `x`; its attributes: `d`, `n`"),
+    (6, "  M.d = 0", 3, "`M` does not stand on the right side"),
+    (6, "  S.n = 0", 3, "`S` does not stand on the right side; the left side's attributes are written without it"),
+    (6, "  L2.d = 0", 3, "there is no `L2`: `L` stands once on the right side"),
+    (9, "  L.d = d + 1", 3, "`L` stands several times on the right side: write `L1`, `L2`"),
+    (9, "  L3.d = d + 1", 3, "there is no `L3`: `L` stands 2 times on the right side"),
+    (9, "  L0.d = d + 1", 3, "there is no `L0`: `L` stands 2 times on the right side"),
+    (9, "  L1.d = open.d", 10, "`open` is a token and has no attributes"),
+    (9, "  L1.d = d + 1 + 1", 16, "expected the end of the line, found `+`"),
+    (9, "  L1.d = d +", 13, "expected an attribute or a number, but the line ends here"),
+    (9, "  L1.d = d * 2", 14, "expected an attribute (a product is of two attributes), found `2`"),
+    (9, "  L1.d = 2 * d", 12, "expected the end of the line, found `*`"),
+    (9, "  L1.d = d / d", 14, "expected a number (a quotient is by a number from 1 to 1000000), found `d`"),
+    (9, "  L1.d = max(d, 1)", 17, "expected an attribute, found `1`"),
+    (9, "  L1.d = max d", 14, "expected `(`, found `d`"),
+    (9, "  0 <= d", 9, "expected `<=`, but the line ends here"),
+    (9, "  0 <= d <= n", 13, "expected a number (a range has two numbers, as in `0 <= d <= 2`), found `n`"),
+    (9, "  d <= 2", 8, "expected an attribute (a range has two numbers, as in `0 <= d <= 2`), found `2`"),
+    (9, "  0 <= 1 <= 2", 8, "expected an attribute, found `1`"),
+    (9, "  d <=", 7, "expected an attribute, but the line ends here"),
+];
+
+/// The line of a fault is that of the case, except where another is named here.
+fn line_of(case: &(usize, &str, usize, &str)) -> usize {
+    match case.3 {
+        m if m.starts_with("the text has no line") => 13,
+        m if m.starts_with("a rule or condition") => 5,
+        _ => case.0,
+    }
+}
+
+#[test]
+fn the_small_grammar_is_accepted() {
+    assert!(to_table(&with(1, LINES[0])).is_ok());
+}
+
+#[test]
+fn faults_name_line_and_column() {
+    for case in CASES {
+        let (line, new, column, message) = *case;
+        let fault = to_table(&with(line, new)).expect_err(new);
+        assert!(fault.message.starts_with(message), "{new}: {}", fault.message);
+        assert_eq!((fault.span.line, fault.span.column), (line_of(case), column), "{new}: {}", fault.message);
+    }
+}
+
+#[test]
+fn an_empty_text_has_no_start() {
+    for text in ["", "\n", "# nothing but a comment"] {
+        let fault = to_table(text).expect_err("no start");
+        assert_eq!((fault.span.line, fault.message.as_str()), (1, "the text has no line `start PART.ATTRIBUTE`"), "{text:?}");
+    }
+}
+
+#[test]
+fn what_no_byte_holds_is_a_fault() {
+    let tokens: Vec<String> = (0..256).map(|i| name("t", i)).collect();
+    let parts: String = (0..128).map(|i| format!("part {}\n", name("P", i))).collect();
+    let attributes: Vec<String> = (0..256).map(|i| format!("a{i}")).collect();
+    let cases = [
+        (with(1, &format!("token word open close\ntoken {}", tokens.join(" "))), 2, "more than 255 tokens"),
+        (with(3, &format!("part L(d) -> n\n{parts}")), 130, "more than 128 parts"),
+        (with(2, &format!("part S -> {}", attributes.join(", "))), 2, "more than 255 attributes"),
+        (with(8, &format!("L: {}", "word ".repeat(256))), 8, "more than 255 symbols"),
+    ];
+    for (text, line, message) in cases {
+        let fault = to_table(&text).expect_err(message);
+        assert!(fault.message.starts_with(message), "{}", fault.message);
+        assert_eq!(fault.span.line, line, "{message}");
+    }
+}
+
+fn name(first: &str, i: usize) -> String {
+    format!("{first}{}{}", (b'a' + (i / 26) as u8) as char, (b'a' + (i % 26) as u8) as char)
+}
+
+#[test]
+fn a_fault_is_shown_under_its_line() {
+    let text = with(9, "\tL1.d = d * 2   # twice");
+    let shown = to_table(&text).expect_err("product").show("x.grammar", &text);
+    let message = "x.grammar:9:13: expected an attribute (a product is of two attributes), found `2`";
+    assert_eq!(shown, format!("{message}\n  \tL1.d = d * 2   # twice\n  \t           ^"));
+}
