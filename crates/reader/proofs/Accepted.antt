@@ -67,6 +67,13 @@ still-to-come t {s} (more {o = o} k high low body {rest} e n p r) d =
 
 -- ---- a table that is well formed
 
+module _ (t : List ℕ) (s : State) (p : ℕ) where
+  end-by : (b : Bool) → ltb (suc p) (length (s .entries)) ≡ b → stretchEnd t s p ≡ (elim b [ true ↦ entryOffset s (suc p) | false ↦ length t ])
+  end-by b q = rw (stretchEnd, q) refl
+
+  pub last-end : length (s .entries) ≤ suc p → stretchEnd t s p ≡ length t
+  last-end l = end-by false (le-ltb (suc p) (length (s .entries)) l)
+
 module _ (t : List ℕ) (s : State) (e : readTable t ≡ wellFormed s) where
   productions-read : productionsFrom t 0 ≡ offsets (s .entries)
   productions-read = sym (still-to-come t (table-reads t s e .1) refl)
@@ -77,12 +84,9 @@ module _ (t : List ℕ) (s : State) (e : readTable t ≡ wellFormed s) where
   pub ends : (p : ℕ) → nthProduction t 0 (suc p) ≡ stretchEnd t s p
   ends p = go (decLt (suc p) (length (s .entries)))
     where
-      by : (b : Bool) → ltb (suc p) (length (s .entries)) ≡ b → stretchEnd t s p ≡ (elim b [ true ↦ entryOffset s (suc p) | false ↦ length t ])
-      by b q = rw (stretchEnd, q) refl
-
       go : Dec (suc p < length (s .entries)) → nthProduction t 0 (suc p) ≡ stretchEnd t s p
-      go (yes l) = begins (suc p) l ∙ sym (by true (lt-ltb (suc p) (length (s .entries)) l))
+      go (yes l) = begins (suc p) l ∙ sym (end-by t s p true (lt-ltb (suc p) (length (s .entries)) l))
       go (no l) =
           ap (λ xs. getD xs (suc p) (length t)) productions-read
           ∙ List·getD-eq-default (offsets (s .entries)) (length t) (omega (arith, length-map (reverse (s .entries)) (λ x. x .offset), length-reverse (s .entries)))
-          ∙ sym (by false (le-ltb (suc p) (length (s .entries)) (omega arith)))
+          ∙ sym (last-end t s p (omega arith))
