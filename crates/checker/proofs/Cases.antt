@@ -1,24 +1,25 @@
 -- The cases of a table judged, and what each means for the public calls.
-use Prim.Native.Nat.{ℕ, suc, _+_, _≤_, _<_}
+use Prim.Native.Nat.{ℕ, suc, _≤_, _<_}
 use native.Mathlib.Omega.{arith}
 use native.Mathlib.Decide.{decLt}
 use mathlib.Core.Path.{_≡_, refl, sym, ap, ap₂, _∙_, subst}
 use mathlib.Core.Bool.{Bool, true, false}
-use mathlib.Core.List.{List, [], reverse}
+use mathlib.Core.List.{List, []}
 use borrow.Author.Tests.{lt-ltb, le-ltb}
 use lib.Dec.{ltb}
-use lib.ListN.{getD, length, length-map, length-reverse}
-use Rattle.meaning.specs.Table.{State, Read, wellFormed, malformed, readTable, productionOf}
+use lib.ListN.{length}
+use Rattle.meaning.specs.Table.{State, Read, wellFormed, malformed, readTable}
 use Rattle.meaning.specs.Judgement as Judgement
 use Rattle.meaning.specs.Judgement.{accepted, rejected, entryOffset}
 use Rattle.meaning.specs.Decide.{judge, verdictOf}
-use Rattle.meaning.specs.PublicCalls.{Checked, usable, unusable, checkedAs, check, Stretch, cut, stretchEnd, stretchOf}
-use Rattle.theory_table.specs.ReadWellFormed.{read-well-formed}
+use Rattle.meaning.specs.PublicCalls.{Checked, usable, unusable, checkedAs, check, cut, stretchEnd, stretchOf}
 use Rattle.theory_table.specs.Places.{Places, read-places}
 use Rattle.theory_table.specs.Reading.{table-reads}
 use Rattle.table.specs.declared.Sizes.{Sizes}
+use Rattle.reader.specs.Fields.{nthProduction}
+use Rattle.reader.proofs.Accepted.{begins, ends, last-end}
 use Rattle.checker.specs.Judging.{Brought, Answered, Judges}
-use Rattle.checker.specs.Verdicts.{stretchBy, stretchIs, spanWhere, spanAs, spanOf, Inside, endIn, Below, spanIn}
+use Rattle.checker.specs.Verdicts.{stretchBy, stretchIs, spanWhere, spanAs, spanOf, Inside, spanIn}
 use Rattle.checker.specs.declared.judging.Judged.{Judged}
 use Rattle.checker.specs.declared.judging.Judged.the-variants.{Usable, Unusable}
 use Rattle.checker.specs.declared.spans.Span.{Span}
@@ -86,22 +87,14 @@ module _ (t inh syn rows offsets sets : List ℕ) (q : Judged) (j : Judges t inh
 
 -- ---- the stretch
 
-module _ (long n : ℕ) (offsets : List ℕ) (p : ℕ) where
-  pub end-next : p + 1 < n → getD offsets (p + 1) 0 ≡ endIn long n offsets p
-  unfolding endIn
-  end-next l = rw (endIn, lt-ltb (p + 1) n l) refl
+module _ (t : List ℕ) (n p : ℕ) where
+  pub span-missing : n ≤ p → Nowhere 14 0 ≡ spanIn t n p
+  unfolding spanIn
+  span-missing l = rw (spanIn, le-ltb p n l) refl
 
-  pub end-last : n ≤ p + 1 → long ≡ endIn long n offsets p
-  unfolding endIn
-  end-last l = rw (endIn, le-ltb (p + 1) n l) refl
-
-pub span-missing : (long n : ℕ) (offsets : List ℕ) (p : ℕ) → n ≤ p → Nowhere 14 0 ≡ spanIn long n offsets p
-unfolding spanIn
-span-missing long n offsets p l = rw (spanIn, le-ltb p n l) refl
-
-pub span-found : (long n : ℕ) (offsets : List ℕ) (p to : ℕ) → p < n → to ≡ endIn long n offsets p → Within (getD offsets p 0) to ≡ spanIn long n offsets p
-unfolding spanIn
-span-found long n offsets p to l e = rw (spanIn, lt-ltb p n l) (ap (Within (getD offsets p 0)) e)
+  pub span-found : p < n → (from to : ℕ) → from ≡ nthProduction t 0 p → to ≡ nthProduction t 0 (suc p) → Within from to ≡ spanIn t n p
+  unfolding spanIn
+  span-found l from to d e = rw (spanIn, lt-ltb p n l) (ap₂ Within d e)
 
 pub span-refused : (t : List ℕ) (p m f : ℕ) → check t ≡ unusable m f → Nowhere m f ≡ spanOf t p
 unfolding spanOf
@@ -130,63 +123,43 @@ module _ (t : List ℕ) (sizes : Sizes) (inh syn rows offsets sets : List ℕ) (
   counted : n ≡ length (s .entries)
   counted = x .brought .outline .productions
 
-  offset : (p : ℕ) → p < n → getD offsets p 0 ≡ entryOffset s p
-  offset p l = x .brought .outline .each p l .offset
+  begin : (p : ℕ) → p < n → nthProduction t 0 p ≡ entryOffset s p
+  begin p l = begins t s (x .brought .isRead) p (omega (arith, counted))
 
   places : Places t s
   places = read-places t s (x .brought .isRead)
 
-  below : Below (length t) n offsets
-  below q l = omega (arith, offset q l, places .below q (omega (arith, counted)))
-
-  few : n ≤ 128
-  few = omega (arith, counted, read-well-formed t s (x .brought .isRead) .productions .1, length-map (reverse (s .entries)) productionOf, length-reverse (s .entries))
-
-  pub span-asks : (n ≤ 128) × (length offsets ≡ 128) × Below (length t) n offsets
-  span-asks = (few, x .brought .outline .lengths .3, below)
-
   module _ (p : ℕ) where
-    end-is : p < n → endIn (length t) n offsets p ≡ stretchEnd t s p
-    end-is l = go (decLt (p + 1) n)
-      where
-        by : (b : Bool) → ltb (suc p) (length (s .entries)) ≡ b → stretchEnd t s p ≡ (elim b [ true ↦ entryOffset s (suc p) | false ↦ length t ])
-        by b e = rw (stretchEnd, e) refl
-
-        go : Dec (p + 1 < n) → endIn (length t) n offsets p ≡ stretchEnd t s p
-        go (yes m) =
-            let e : p + 1 ≡ suc p = omega arith in
-            sym (end-next (length t) n offsets p m) ∙ offset (p + 1) m ∙ ap (entryOffset s) e ∙ sym (by true (lt-ltb (suc p) (length (s .entries)) (omega (arith, counted))))
-        go (no m) = sym (end-last (length t) n offsets p (omega arith)) ∙ sym (by false (le-ltb (suc p) (length (s .entries)) (omega (arith, counted))))
-
-    pub span-said : (r : Span) → r ≡ spanIn (length t) n offsets p → r ≡ spanOf t p
+    pub span-said : (r : Span) → r ≡ spanIn t n p → r ≡ spanOf t p
     unfolding spanOf
     span-said r e = e ∙ go (decLt p n) ∙ sym (ap (spanAs t p) (x .isUsable))
       where
-        go : Dec (p < n) → spanIn (length t) n offsets p ≡ spanWhere t s p (ltb p (length (s .entries)))
+        go : Dec (p < n) → spanIn t n p ≡ spanWhere t s p (ltb p (length (s .entries)))
         go (yes l) =
-            sym (span-found (length t) n offsets p (endIn (length t) n offsets p) l refl)
-            ∙ ap₂ Within (offset p l) (end-is l)
+            sym (span-found t n p l _ _ (sym (begin p l)) (sym (ends t s (x .brought .isRead) p)))
             ∙ sym (ap (spanWhere t s p) (lt-ltb p (length (s .entries)) (omega (arith, counted))))
         go (no l) =
-            sym (span-missing (length t) n offsets p (omega arith))
+            sym (span-missing t n p (omega arith))
             ∙ sym (ap (spanWhere t s p) (le-ltb p (length (s .entries)) (omega (arith, counted))))
 
-    pub span-inside : (r : Span) → r ≡ spanIn (length t) n offsets p → Inside t r
+    pub span-inside : (r : Span) → r ≡ spanIn t n p → Inside t r
     span-inside r e = subst (Inside t) (sym e) (go (decLt p n))
       where
-        ends : p < n → Dec (p + 1 < n) → (getD offsets p 0 < endIn (length t) n offsets p) × (endIn (length t) n offsets p ≤ length t)
-        ends l (yes m) =
-            let a = offset p l in
-            let b = offset (p + 1) m in
-            let u = places .rising p (p + 1) (omega arith) (omega (arith, counted)) in
-            let v = places .below (p + 1) (omega (arith, counted)) in
-            let w = end-next (length t) n offsets p m in
-            (omega (arith, a, b, u, w), omega (arith, b, v, w))
-        ends l (no m) = let w = end-last (length t) n offsets p (omega arith) in (omega (arith, below p l, w), omega (arith, w))
+        bounds : p < n → Dec (suc p < n) → (entryOffset s p < stretchEnd t s p) × (stretchEnd t s p ≤ length t)
+        bounds l (yes m) =
+            let w = sym (ends t s (x .brought .isRead) p) ∙ begin (suc p) m in
+            let u = places .rising p (suc p) (omega arith) (omega (arith, counted)) in
+            let v = places .below (suc p) (omega (arith, counted)) in
+            (omega (arith, u, w), omega (arith, v, w))
+        bounds l (no m) =
+            let w = last-end t s p (omega (arith, counted)) in
+            (omega (arith, places .below p (omega (arith, counted)), w), omega (arith, w))
 
-        go : Dec (p < n) → Inside t (spanIn (length t) n offsets p)
-        go (yes l) = subst (Inside t) (span-found (length t) n offsets p (endIn (length t) n offsets p) l refl) (let e = ends l (decLt (p + 1) n) in (e .0, e .1, omega (arith, e .1, table-reads t s (x .brought .isRead) .0)))
-        go (no l) = subst (Inside t) (span-missing (length t) n offsets p (omega arith)) tt
+        go : Dec (p < n) → Inside t (spanIn t n p)
+        go (yes l) =
+            subst (Inside t) (span-found t n p l _ _ (sym (begin p l)) (sym (ends t s (x .brought .isRead) p)))
+            (let e = bounds l (decLt (suc p) n) in (e .0, e .1, omega (arith, e .1, table-reads t s (x .brought .isRead) .0)))
+        go (no l) = subst (Inside t) (span-missing t n p (omega arith)) tt
 
 -- ---- by the span's cases
 

@@ -1,13 +1,14 @@
 -- 01's numbers and values for the answers of the public calls.
-use Prim.Native.Nat.{ℕ, _+_, _≤_, _<_}
+use Prim.Native.Nat.{ℕ, suc, _≤_, _<_}
 use mathlib.Core.Bool.{Bool, true, false}
 use mathlib.Core.List.{List, []}
 use lib.Dec.{ltb}
-use lib.ListN.{getD, length}
+use lib.ListN.{length}
 use Rattle.meaning.specs.Judgement as Judgement
 use Rattle.meaning.specs.Table.{State}
 use Rattle.meaning.specs.Judgement.{accepted, rejected, entryOffset}
 use Rattle.meaning.specs.PublicCalls.{Checked, usable, unusable, check, Stretch, cut, stretchEnd}
+use Rattle.reader.specs.Fields.{nthProduction}
 use Rattle.checker.specs.declared.Verdict.{Verdict}
 use Rattle.checker.specs.declared.Verdict.the-variants.{Accepted, Refused}
 use Rattle.checker.specs.declared.spans.Span.{Span}
@@ -44,14 +45,6 @@ abbrev pub Inside : List ℕ → Span → Type 0
 Inside t (Within from to) = (from < to) × (to ≤ length t) × (to ≤ 32768)
 Inside t (Nowhere number offset) = Unit {0}
 
--- where the stretch of production p of n ends
-unfoldable pub endIn : ℕ → ℕ → List ℕ → ℕ → ℕ
-endIn long n offsets p = elim (ltb (p + 1) n) [ true ↦ getD offsets (p + 1) 0 | false ↦ long ]
-
--- the offsets of n productions are below an end
-abbrev pub Below : ℕ → ℕ → List ℕ → Type 0
-Below long n offsets = (q : ℕ) → q < n → getD offsets q 0 < long
-
--- the span of production p of n with these offsets
-unfoldable pub spanIn : ℕ → ℕ → List ℕ → ℕ → Span
-spanIn long n offsets p = elim (ltb p n) [ true ↦ Within (getD offsets p 0) (endIn long n offsets p) | false ↦ Nowhere 14 0 ]
+-- the span of production p of n, by the tag 3 fields
+unfoldable pub spanIn : List ℕ → ℕ → ℕ → Span
+spanIn t n p = elim (ltb p n) [ true ↦ Within (nthProduction t 0 p) (nthProduction t 0 (suc p)) | false ↦ Nowhere 14 0 ]

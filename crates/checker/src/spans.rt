@@ -1,8 +1,6 @@
 // Where in the table a production's stretch lies.
 ghost use mathlib.Core.Path.{_≡_};
-ghost use Prim.Native.Nat.{ℕ, _≤_, _<_};
-ghost use lib.ListN.{length};
-ghost use Rattle.checker.specs.Verdicts.{Below, endIn, spanIn, spanOf, Inside};
+ghost use Rattle.checker.specs.Verdicts.{spanIn, spanOf, Inside};
 use crate::judging::Judged;
 use crate::judging::judge_table;
 
@@ -12,21 +10,9 @@ pub enum Span {
     Nowhere { number: u32, offset: u32 },
 }
 
-// Where the stretch of production p ends: at the next production, or at the table's end.
-fn end_of(long: usize, productions: usize, offsets: &[u32; 128], p: usize) -> usize
-    requires { ⌜ (p < productions) × (productions ≤ 128) × (length (now offsets) ≡ 128) × Below long productions (now offsets) ⌝ }
-    ensures { λ r. ⌜ r ≡ endIn long productions (now (offsets .entry)) p ⌝ }
-{
-    if p + 1 < productions {
-        return offsets[p + 1] as usize;
-    }
-    long
-}
-
-// The span of production p of an accepted table.
-fn span_in(long: usize, productions: usize, offsets: &[u32; 128], p: usize) -> Span
-    requires { ⌜ (productions ≤ 128) × (length (now offsets) ≡ 128) × Below long productions (now offsets) ⌝ }
-    ensures { λ r. ⌜ r ≡ spanIn long productions (now (offsets .entry)) p ⌝ }
+// The span of production p of an accepted table with so many productions, by a walk of its fields.
+fn span_in(table: &[u8], productions: usize, p: usize) -> Span
+    ensures { λ r. ⌜ r ≡ spanIn (now (table .entry)) productions p ⌝ }
 {
     if productions <= p {
         return Span::Nowhere {
@@ -34,9 +20,11 @@ fn span_in(long: usize, productions: usize, offsets: &[u32; 128], p: usize) -> S
             offset: 0,
         };
     }
-    let from = offsets[p] as usize;
-    let to = end_of(long, productions, offsets, p);
-    Span::Within { from, to }
+    let found = reader::stretch_of(table, p);
+    Span::Within {
+        from: found.from,
+        to: found.to,
+    }
 }
 
 // The span of production p of any bytes as a table.
@@ -58,6 +46,6 @@ pub fn span_of(table: &[u8], p: usize) -> Span
         &mut sets,
     ) {
         Judged::Unusable { number, offset } => Span::Nowhere { number, offset },
-        Judged::Usable(sizes) => span_in(table.len(), sizes.productions, &offsets, p),
+        Judged::Usable(sizes) => span_in(table, sizes.productions, p),
     }
 }

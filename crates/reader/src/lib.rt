@@ -78,7 +78,8 @@ impl<'a> Reader<'a> {
     }
 }
 
-// Where production p stands, from its tag 3 to the next or the end.
+// Where production p stands, 01: "from its tag 3 to the next or the end". Without such a production both are the table's end.
+// Its parameters are plain, so that a caller's proof meets no reader.
 pub fn stretch_of(table: &[u8], p: usize) -> Stretch
     ensures { λ r. ⌜ (r .from ≡ nthProduction (now (table .entry)) 0 p) × (r .to ≡ nthProduction (now (table .entry)) 0 (suc p)) ⌝ }
 {
