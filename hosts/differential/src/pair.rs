@@ -178,6 +178,12 @@ impl Pair {
     fn forge_all(&mut self, r: &mut Random) {
         let mut number = || r.number() >> (8 * (r.number() % 8));
         self.record = lent::Record { open: number(), tokens: number(), moves: number(), registers: number(), places: number() };
+        for v in self.cells.registers.iter_mut().take(8) {
+            *v = number() as i64;
+        }
+        for p in self.cells.places.iter_mut().take(8) {
+            *p = number() as u32;
+        }
     }
 
     fn forge_place(&mut self, r: &mut Random) {

@@ -53,7 +53,8 @@ impl Segments<'_> {
         self.derive(r, 128 + self.outline.start, depth, &mut tokens);
         if r.chance(35) {
             for _ in 0..1 + r.below(2) {
-                let (i, t) = (r.below(tokens.len() + 1), r.below(self.outline.terminals as usize + 1) as u8);
+                let any = if r.chance(5) { 256 } else { self.outline.terminals as usize + 1 };
+                let (i, t) = (r.below(tokens.len() + 1), r.below(any) as u8);
                 match r.below(3) {
                     0 => tokens.insert(i, t),
                     1 if i < tokens.len() => tokens[i] = t,
