@@ -1,0 +1,206 @@
+//! Compares the proved engine, through the host library, with the plain one on random calls: valid and damaged tables, segments in any
+//! pieces, forged records and stacks, short memory. After each call the answer, the record and every register, place and program word
+//! are compared, with some cells past those lent.
+//!
+//!     differential [SEED [CALLS]]
+mod pair;
+mod random;
+mod segments;
+mod tables;
+
+use pair::{Call, Lengths, Pair};
+use plain::samples;
+use plain::table::Outline;
+use random::Random;
+use segments::Segments;
+use std::collections::BTreeMap;
+
+const CALLS: u64 = 150_000;
+
+/// A table, with what the plain engine read where it accepts it.
+struct Table {
+    bytes: Vec<u8>,
+    outline: Option<Outline>,
+}
+
+impl Table {
+    fn new(bytes: Vec<u8>) -> Table {
+        let outline = plain::check(&bytes).ok().map(|(o, _)| o);
+        Table { bytes, outline }
+    }
+}
+
+struct Comparison {
+    r: Random,
+    made: u64,
+    /// The answers: call and number of the refusal, 0 for none.
+    answers: BTreeMap<(&'static str, u32), u64>,
+    samples: Vec<Vec<u8>>,
+}
+
+impl Comparison {
+    fn count(&mut self, call: &'static str, number: u32) {
+        self.made += 1;
+        *self.answers.entry((call, number)).or_default() += 1;
+    }
+
+    fn sound_table(&mut self) -> Table {
+        let r = &mut self.r;
+        match r.below(100) {
+            0 => Table::new(samples::chain(47, 33, 512)),
+            1..=20 => Table::new(r.pick(&self.samples).clone()),
+            _ => loop {
+                let table = Table::new(tables::random(r));
+                if table.outline.is_some() || r.chance(8) {
+                    return table;
+                }
+            },
+        }
+    }
+
+    fn table(&mut self) -> Table {
+        let table = self.sound_table();
+        if self.r.chance(12) {
+            return Table::new(tables::damaged(&mut self.r, &table.bytes));
+        }
+        table
+    }
+
+    fn lengths(&mut self) -> Lengths {
+        let r = &mut self.r;
+        let (registers, places) = match r.below(10) {
+            0 => (4096 + r.below(3), 1024 + r.below(3)),
+            1 | 2 => (r.below(12), r.below(8)),
+            _ => (20 + r.below(100), 10 + r.below(60)),
+        };
+        Lengths { registers, places, program: 16384 + r.below(3) }
+    }
+
+    fn judge(&mut self, table: &[u8]) -> Result<(), String> {
+        let plain = plain::check(table).map(drop).map_err(|r| (r.number, r.offset as u64));
+        let proved = segment::check(table).map_err(|r| (r.number, r.count));
+        self.count("check", proved.err().map_or(0, |e| e.0));
+        if plain != proved {
+            return Err(format!("check: proved {proved:?}, plain {plain:?}\ntable {}", hex(table)));
+        }
+        let production = if self.r.chance(5) { self.r.number() as usize } else { self.r.below(12) };
+        let plain = plain::stretch(table, production).map_err(|r| (r.number, r.offset as u64));
+        let proved = segment::lent::stretch(table, production).map(|(s, n)| (s, s + n)).map_err(|r| (r.number, r.count));
+        self.count("stretch", proved.err().map_or(0, |e| e.0));
+        if plain != proved {
+            return Err(format!("stretch of {production}: proved {proved:?}, plain {plain:?}\ntable {}", hex(table)));
+        }
+        Ok(())
+    }
+
+    fn call(&mut self, pair: &mut Pair, table: &[u8], call: Call) -> Result<u32, String> {
+        let brought = (pair.record, pair.lengths);
+        let (number, _, _) = pair.call(table, call).map_err(|e| format!("{e}\ncall {call:?} on {brought:?}\ntable {}", hex(table)))?;
+        self.count(call.name(), number);
+        Ok(number)
+    }
+
+    /// Sometimes a call on forged state, of another table, or with other lengths; mostly the run then goes on as it was.
+    fn disturb(&mut self, pair: &mut Pair, table: &[u8]) -> Result<(), String> {
+        if !self.r.chance(25) {
+            return Ok(());
+        }
+        let mut tried = pair.clone();
+        let another = self.table().bytes;
+        let mut of = table;
+        match self.r.below(8) {
+            0 => of = &another,
+            1 | 2 => tried.lend(&mut self.r),
+            _ => tried.forge(&mut self.r),
+        }
+        let tokens: Vec<u8> = (0..self.r.below(4)).map(|_| self.r.below(4) as u8).collect();
+        let call = match self.r.below(9) {
+            0 => Call::Open,
+            1..=3 => Call::Finish,
+            _ => Call::Feed(&tokens),
+        };
+        self.call(&mut tried, of, call)?;
+        if self.r.chance(20) {
+            *pair = tried;
+        }
+        Ok(())
+    }
+
+    fn run(&mut self, table: &Table) -> Result<(), String> {
+        let lengths = self.lengths();
+        let mut pair = Pair::new(&mut self.r, lengths);
+        self.disturb(&mut pair, &table.bytes)?;
+        self.call(&mut pair, &table.bytes, Call::Open)?;
+        let segment = match &table.outline {
+            Some(outline) => Segments::new(outline).random(&mut self.r),
+            None => vec![0, 1],
+        };
+        let mut at = 0;
+        while at < segment.len() {
+            self.disturb(&mut pair, &table.bytes)?;
+            let longest = if self.r.chance(70) { segment.len() - at } else { 3 };
+            let end = segment.len().min(at + self.r.below(longest + 1));
+            if self.call(&mut pair, &table.bytes, Call::Feed(&segment[at..end]))? != 0 && self.r.chance(80) {
+                break;
+            }
+            at = end;
+        }
+        self.disturb(&mut pair, &table.bytes)?;
+        self.call(&mut pair, &table.bytes, Call::Finish)?;
+        Ok(())
+    }
+
+    fn report(&self) {
+        let mut line = "";
+        for ((call, number), times) in &self.answers {
+            if *call != line {
+                print!("{}{call}:", if line.is_empty() { "" } else { "\n" });
+                line = call;
+            }
+            match number {
+                0 => print!(" answered {times}"),
+                _ => print!(", {number} {times}"),
+            }
+        }
+        println!();
+    }
+
+    /// The numbers of 01 that no call was refused with.
+    fn missing(&self) -> Vec<u32> {
+        let seen = |n: &u32| self.answers.keys().any(|(_, number)| number == n);
+        (1..=14).chain(20..=24).chain(30..=35).filter(|n| !seen(n)).collect()
+    }
+}
+
+fn hex(bytes: &[u8]) -> String {
+    bytes.iter().map(|b| format!("{b:02x}")).collect()
+}
+
+fn number(argument: Option<String>) -> Option<u64> {
+    argument.map(|a| a.parse().expect("differential [SEED [CALLS]]"))
+}
+
+fn main() {
+    let mut arguments = std::env::args().skip(1);
+    let now = std::time::SystemTime::now().duration_since(std::time::UNIX_EPOCH).unwrap();
+    let seed = number(arguments.next()).unwrap_or(now.as_nanos() as u64);
+    let calls = number(arguments.next()).unwrap_or(CALLS);
+    println!("seed {seed}");
+    let samples = vec![samples::words(), samples::lines(), samples::brackets(), samples::chain(1, 0, 0), samples::chain(3, 2, 8)];
+    let mut c = Comparison { r: Random::new(seed), made: 0, answers: BTreeMap::new(), samples };
+    while c.made < calls {
+        let table = c.table();
+        let outcome = c.judge(&table.bytes).and_then(|()| c.run(&table));
+        if let Err(difference) = outcome {
+            println!("call {} differs: {difference}", c.made + 1);
+            std::process::exit(1);
+        }
+    }
+    c.report();
+    println!("{} calls, all alike", c.made);
+    let missing = c.missing();
+    if calls >= CALLS && !missing.is_empty() {
+        println!("but no call was refused with {missing:?}");
+        std::process::exit(1);
+    }
+}

@@ -1,0 +1,41 @@
+//! Random numbers from a seed.
+
+pub struct Random(u64);
+
+impl Random {
+    pub fn new(seed: u64) -> Random {
+        Random(seed)
+    }
+
+    pub fn number(&mut self) -> u64 {
+        self.0 = self.0.wrapping_add(0x9e37_79b9_7f4a_7c15);
+        let mut z = self.0;
+        z = (z ^ (z >> 30)).wrapping_mul(0xbf58_476d_1ce4_e5b9);
+        z = (z ^ (z >> 27)).wrapping_mul(0x94d0_49bb_1331_11eb);
+        z ^ (z >> 31)
+    }
+
+    /// A number below n, which is at least 1.
+    pub fn below(&mut self, n: usize) -> usize {
+        (self.number() % n as u64) as usize
+    }
+
+    pub fn chance(&mut self, percent: usize) -> bool {
+        self.below(100) < percent
+    }
+
+    pub fn pick<'a, T>(&mut self, items: &'a [T]) -> &'a T {
+        &items[self.below(items.len())]
+    }
+
+    /// A value of a run: mostly small, sometimes at the limits.
+    pub fn value(&mut self) -> i32 {
+        match self.below(10) {
+            0 => i32::MAX - self.below(3) as i32,
+            1 => i32::MIN + self.below(3) as i32,
+            2 => self.number() as i32,
+            3..=5 => self.below(200) as i32 - 100,
+            _ => self.below(6) as i32 - 1,
+        }
+    }
+}
