@@ -22,7 +22,7 @@ impl Buffers {
 pub type Answer<T> = Result<T, (u32, u64)>;
 
 /// One run at a time.
-pub trait Engine {
+pub trait Engine: 'static {
     fn new() -> Self;
     /// Number and offset of a table's refusal, 0 and 0 where it is accepted.
     fn check(table: &[u8]) -> (u32, u32);

@@ -3,66 +3,70 @@ mod engines;
 
 use engines::{Engine, Plain, Proved};
 use plain::samples;
+use std::cell::Cell;
 use std::hint::black_box;
 use std::time::Instant;
 
-const ROUNDS: usize = 20;
+const ROUNDS: usize = 50;
 
-/// The best of several rounds of so many calls, in nanoseconds a call.
-fn time(calls: usize, mut call: impl FnMut()) -> f64 {
-    let mut best = f64::MAX;
+/// The best of several rounds of each, in turn, so that both meet the same machine.
+fn beside(mut plain: impl FnMut() -> f64, mut proved: impl FnMut() -> f64) -> (f64, f64) {
+    let mut best = (f64::MAX, f64::MAX);
     for _ in 0..ROUNDS {
-        let start = Instant::now();
-        for _ in 0..calls {
-            call();
-        }
-        best = best.min(start.elapsed().as_nanos() as f64 / calls as f64);
+        best = (best.0.min(plain()), best.1.min(proved()));
     }
     best
 }
 
-fn calls_for(table: &[u8]) -> usize {
-    (1_000_000 / (table.len() + 100)).max(10)
+/// A round of calls under a table, in nanoseconds a call.
+fn round(table: &[u8], mut call: impl FnMut()) -> f64 {
+    let calls = (200_000 / (table.len() + 100)).max(4);
+    let start = Instant::now();
+    for _ in 0..calls {
+        call();
+    }
+    start.elapsed().as_nanos() as f64 / calls as f64
 }
 
-fn judging<E: Engine>(table: &[u8]) -> f64 {
-    time(calls_for(table), || {
-        black_box(E::check(black_box(table)));
-    })
+fn judging<E: Engine>(table: &[u8]) -> impl FnMut() -> f64 + '_ {
+    move || {
+        round(table, || {
+            black_box(E::check(black_box(table)));
+        })
+    }
 }
 
-fn opening<E: Engine>(table: &[u8]) -> f64 {
+fn opening<E: Engine>(table: &[u8]) -> impl FnMut() -> f64 + '_ {
     let mut engine = E::new();
-    time(calls_for(table), || {
-        black_box(engine.open(black_box(table))).unwrap();
-    })
+    move || round(table, || black_box(engine.open(black_box(table))).unwrap())
 }
 
 /// A feed without tokens, after `before` has been fed.
-fn empty_feed<E: Engine>(table: &[u8], before: &[u8]) -> f64 {
+fn empty_feed<'a, E: Engine>(table: &'a [u8], before: &[u8]) -> impl FnMut() -> f64 + 'a + use<'a, E> {
     let mut engine = E::new();
     engine.open(table).unwrap();
     engine.feed(table, before).unwrap();
-    time(calls_for(table), || {
-        black_box(engine.feed(black_box(table), &[])).unwrap();
-    })
+    move || {
+        round(table, || {
+            black_box(engine.feed(black_box(table), &[])).unwrap();
+        })
+    }
 }
 
-/// The feeds of a run, in pieces of so many tokens, on buffers made anew: the best of several rounds in nanoseconds, with the
-/// moves of the feeds and the segment's value.
-fn run<E: Engine>(table: &[u8], tokens: &[u8], piece: usize) -> (f64, u64, i64) {
-    let (mut best, mut moves, mut value) = (f64::MAX, 0, 0);
-    for _ in 0..ROUNDS {
-        let mut engine = E::new();
+/// The feeds of a run, in pieces of so many tokens, on buffers made anew and opened before the clock starts: in nanoseconds. What
+/// `made` holds then is the moves of the feeds and the segment's value.
+fn feeds<'a, E: Engine>(table: &'a [u8], tokens: &'a [u8], piece: usize, made: &'a Cell<(u64, i64)>) -> impl FnMut() -> f64 + 'a {
+    move || {
+        let (mut engine, mut moves) = (E::new(), 0);
         engine.open(table).unwrap();
         let start = Instant::now();
         for part in tokens.chunks(piece) {
             moves = black_box(engine.feed(black_box(table), black_box(part))).unwrap();
         }
-        best = best.min(start.elapsed().as_nanos() as f64);
-        value = engine.finish(table).unwrap().0;
+        let time = start.elapsed().as_nanos() as f64;
+        made.set((moves, engine.finish(table).unwrap().0));
+        time
     }
-    (best, moves, value)
 }
 
 fn judge_tables() {
@@ -80,7 +84,7 @@ fn judge_tables() {
     println!("|---|---|---|---|---|");
     for (name, table) in &tables {
         assert_eq!(Proved::check(table), Plain::check(table), "{name}");
-        let (a, b) = (judging::<Plain>(table), judging::<Proved>(table));
+        let (a, b) = beside(judging::<Plain>(table), judging::<Proved>(table));
         println!("| {name} | {} | {a:.0} | {b:.0} | {:.2} |", table.len(), b / a);
     }
 }
@@ -95,14 +99,14 @@ fn call_without_tokens() {
     ];
     println!("\n| call | bytes | plain Rust, ns | proved, ns | proved / plain |");
     println!("|---|---|---|---|---|");
-    let row = |call: &str, bytes: usize, a: f64, b: f64| println!("| {call} | {bytes} | {a:.0} | {b:.0} | {:.2} |", b / a);
+    let row = |call: &str, bytes: usize, (a, b): (f64, f64)| println!("| {call} | {bytes} | {a:.0} | {b:.0} | {:.2} |", b / a);
     for (name, table, before) in &tables {
         if before.is_empty() {
-            row(&format!("judging, {name}"), table.len(), judging::<Plain>(table), judging::<Proved>(table));
-            row(&format!("opening, {name}"), table.len(), opening::<Plain>(table), opening::<Proved>(table));
+            row(&format!("judging, {name}"), table.len(), beside(judging::<Plain>(table), judging::<Proved>(table)));
+            row(&format!("opening, {name}"), table.len(), beside(opening::<Plain>(table), opening::<Proved>(table)));
         }
-        let (a, b) = (empty_feed::<Plain>(table, before), empty_feed::<Proved>(table, before));
-        row(&format!("feed without tokens, {name}"), table.len(), a, b);
+        let times = beside(empty_feed::<Plain>(table, before), empty_feed::<Proved>(table, before));
+        row(&format!("feed without tokens, {name}"), table.len(), times);
     }
 }
 
@@ -120,9 +124,10 @@ fn run_segments() {
     println!("\n| segment | tokens | moves | plain Rust, ns a token | proved, ns a token | plain Rust, ns a move | proved, ns a move | proved / plain |");
     println!("|---|---|---|---|---|---|---|---|");
     for (name, table, tokens, piece) in &segments {
-        let (a, plain_moves, plain_value) = run::<Plain>(table, tokens, *piece);
-        let (b, moves, value) = run::<Proved>(table, tokens, *piece);
-        assert_eq!((moves, value), (plain_moves, plain_value), "{name}");
+        let made = (Cell::new((0, 0)), Cell::new((0, 0)));
+        let (a, b) = beside(feeds::<Plain>(table, tokens, *piece, &made.0), feeds::<Proved>(table, tokens, *piece, &made.1));
+        assert_eq!(made.0, made.1, "{name}");
+        let moves = made.1.get().0;
         let (t, m) = (tokens.len() as f64, moves as f64);
         println!("| {name} | {t} | {m} | {:.1} | {:.1} | {:.1} | {:.1} | {:.2} |", a / t, b / t, a / m, b / m, b / a);
     }
