@@ -14,13 +14,17 @@ use Rattle.checker.specs.Judging.{Brought, Judges}
 use Rattle.checker.proofs.Cases.{accepted-case}
 use Rattle.checker.specs.declared.judging.Judged.{Judged}
 use Rattle.checker.specs.declared.judging.Judged.the-variants.{Usable, Unusable}
+use Rattle.theory_program.specs.Addresses.{Begins, written-begins}
 use Rattle.program.proofs.Outlined.{formed, many, counted, inherited-of, synthesized-of, left-of, size-of, symbols-of}
 use Rattle.fit.specs.Shown.{Shown}
 use Rattle.prepare.specs.declared.Prepared as Code
 use Rattle.prepare.specs.declared.Prepared.the-variants as Variant
 use Rattle.prepare.specs.declared.Prepared.the-variants.{Short, Ready}
+use Rattle.prepare.specs.declared.Made as MadeCode
+use Rattle.prepare.specs.declared.Made.the-variants as MadeVariant
 use Rattle.prepare.specs.Preparing.{Accepting, Case, PreparedAs}
-use Rattle.prepare.specs.Making.{Made, turned, programmed, made, madeOf}
+use Rattle.prepare.specs.Making as Making
+use Rattle.prepare.specs.Making.{Made, turned, programmed, made, madeOf, MadeAs}
 
 -- ---- the table's verdict
 
@@ -80,3 +84,26 @@ module _ {t area area′ rows inherited synthesized : List ℕ} {p : Code.Prepar
   made-written sizes size e =
       let z = prepared-ready q sizes size e in
       ap₂ (λ k a. made (programmed k) a) (z .isSize) (z .isWritten) ∙ sym (ap (byArea t area) (le-ltb (length area) areaLength (z .long)) ∙ ap (byTable t area) (z .isUsable))
+
+  pub as-short : p ≡ Short → MadeAs t area area′ MadeVariant.Short
+  as-short e = record { case = prepared-short q e .0 }
+
+  pub as-refused : (n o : ℕ) → p ≡ Variant.Unusable n o → MadeAs t area area′ (MadeVariant.Refused n o)
+  as-refused n o e = record { case = prepared-unusable q n o e .1 }
+
+  pub as-written : (sizes : Sizes) (size : ℕ) → p ≡ Ready sizes size → MadeAs t area area′ (MadeVariant.Written size)
+  as-written sizes size e =
+      let z = prepared-ready q sizes size e in
+      record { case = record { state = z .state; isUsable = z .isUsable; formed = z .shown .formed; begins = subst (Begins (grammarOf (z .state))) (sym (z .isWritten)) (written-begins (grammarOf (z .state)) area) } }
+
+-- ---- the cases of the answer
+
+module _ {t area area′ : List ℕ} {m : MadeCode.Made} (q : MadeAs t area area′ m) where
+  pub not-short : areaLength ≤ length area → m ≡ MadeVariant.Short → ⊥
+  not-short l e = let z : length area < areaLength = subst (Making.Case t area area′) e (q .case) in omega arith
+
+  pub refused-unusable : (n o : ℕ) → m ≡ MadeVariant.Refused n o → check t ≡ unusable n o
+  refused-unusable n o e = subst (Making.Case t area area′) e (q .case)
+
+  pub written-stands : (size : ℕ) → m ≡ MadeVariant.Written size → Making.Standing t area′
+  written-stands size e = subst (Making.Case t area area′) e (q .case)

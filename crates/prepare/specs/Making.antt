@@ -1,12 +1,15 @@
 -- The program of a table, for a caller that only wants it.
-use Prim.Native.Nat.{ℕ}
+use Prim.Native.Nat.{ℕ, _<_}
+use mathlib.Core.Path.{_≡_}
 use mathlib.Core.Bool.{true, false}
 use mathlib.Core.List.{List}
 use lib.ListN.{length}
 use lib.Dec.{ltb}
-use Rattle.meaning.specs.Table.{grammarOf}
+use Rattle.meaning.specs.Rules.{WellFormed}
+use Rattle.meaning.specs.Table.{State, grammarOf}
 use Rattle.meaning.specs.Program.{programOf}
 use Rattle.meaning.specs.PublicCalls.{usable, unusable, check, areaLength, written}
+use Rattle.theory_program.specs.Addresses.{Begins}
 use Rattle.prepare.specs.declared.Made as Code
 use Rattle.prepare.specs.declared.Made.the-variants.{Short, Refused, Written}
 
@@ -38,3 +41,20 @@ madeOf t area = elim (ltb (length area) areaLength) [
     | usable s ↦ made (programmed (length (programOf (grammarOf s)))) (written (programOf (grammarOf s)) area)
   ]
 ]
+
+-- ---- by cases, for a caller that goes by the answer
+
+-- the program of an accepted table stands at the area's start
+pub record Standing (t area : List ℕ) : Type 0 where
+  pub state : State
+  pub isUsable : check t ≡ usable state
+  pub formed : WellFormed (grammarOf state)
+  pub begins : Begins (grammarOf state) area
+
+abbrev pub Case : List ℕ → List ℕ → List ℕ → Code.Made → Type 0
+Case t area area′ Short = length area < areaLength
+Case t area area′ (Refused number offset) = check t ≡ unusable number offset
+Case t area area′ (Written size) = Standing t area′
+
+pub record MadeAs (t area area′ : List ℕ) (m : Code.Made) : Type 0 where
+  pub case : Case t area area′ m

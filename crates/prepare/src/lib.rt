@@ -2,7 +2,7 @@
 ghost use mathlib.Core.Path.{_≡_};
 ghost use lib.ListN.{length};
 ghost use Rattle.prepare.specs.Preparing.{PreparedAs};
-ghost use Rattle.prepare.specs.Making.{madeIs, made, madeOf};
+ghost use Rattle.prepare.specs.Making.{madeIs, made, madeOf, MadeAs};
 use checker::judging::Judged;
 use table::Sizes;
 
@@ -66,7 +66,8 @@ pub fn prepare(
 
 // Writes the program of a table; answers its length. Words beyond it stay as they are, and all of them where there is no program.
 pub fn program_of(table: &[u8], program: &mut [u32]) -> Made
-    ensures { λ r. ⌜ made (madeIs r) (now (program .exit)) ≡ madeOf (now (table .entry)) (now (program .entry)) ⌝ }
+    ensures said { λ r. ⌜ made (madeIs r) (now (program .exit)) ≡ madeOf (now (table .entry)) (now (program .entry)) ⌝ }
+    ensures cases { λ r. ⌜ MadeAs (now (table .entry)) (now (program .entry)) (now (program .exit)) r ⌝ }
 {
     let mut rows = [0u8; 2048];
     let mut inherited = [0u8; 48];

@@ -1,4 +1,4 @@
-use Rattle.prepare.proofs.Cases.{made-short, made-refused, made-written}
+use Rattle.prepare.proofs.Cases.{made-short, made-refused, made-written, as-short, as-refused, as-written}
 use borrow.Author.Needs.{needs}
 use Rattle.prepare.proofs.program_of.Statement.{statement}
 use Rattle.prepare.proofs.program_of.Tie as tie
@@ -19,19 +19,19 @@ same-length : tie.Need-same-length
 same-length c = search needs
 
 returns : tie.Need-returns
-returns c = made-short (c .before .before .before .before .prepare .ensures) (c .enum-told .given .1)
+returns c = let p = c .before .before .before .before .prepare .ensures in let e = c .enum-told .given .1 in (made-short p e, as-short p e)
 
 same-length-2 : tie.Need-same-length-2
 same-length-2 c = search needs
 
 returns-2 : tie.Need-returns-2
-returns-2 c = made-refused (c .before .before .before .before .before .prepare .ensures) _ _ (c .before .number .given .1)
+returns-2 c = let p = c .before .before .before .before .before .prepare .ensures in let e = c .before .number .given .1 in (made-refused p _ _ e, as-refused p _ _ e)
 
 same-length-3 : tie.Need-same-length-3
 same-length-3 c = search needs
 
 returns-3 : tie.Need-returns-3
-returns-3 c = made-written (c .before .before .before .before .before .prepare .ensures) _ _ (c .before .sizes .given .1)
+returns-3 c = let p = c .before .before .before .before .before .prepare .ensures in let e = c .before .sizes .given .1 in (made-written p _ _ e, as-written p _ _ e)
 
 pub program-of-spec : {M : Type 1} → statement M
 program-of-spec =
