@@ -3,7 +3,7 @@ ghost use mathlib.Core.Path.{_≡_};
 ghost use Prim.Native.Nat.{_+_, _<_, _≤_};
 ghost use lib.ListN.{length};
 ghost use Rattle.fields.specs.Field.{Whole, Short};
-ghost use Rattle.fields.specs.Judge.{headerFault, countsFault, symbolKnown, symbolsKnown, productionFault};
+ghost use Rattle.fields.specs.Judge.{headerFault, countsFault, symbolsKnown, productionFault};
 
 pub fn wide(x: u8) -> usize
     ensures { λ r. ⌜ (r ≡ x) × (r < 256) ⌝ }
@@ -83,15 +83,6 @@ pub fn counts_fault(n: usize, start: usize, result: usize, body: &[u8]) -> u8
     0
 }
 
-pub fn symbol_known(terminals: usize, nonterminals: usize, n: usize) -> bool
-    ensures { λ r. ⌜ r ≡ symbolKnown terminals nonterminals n ⌝ }
-{
-    if n < 128 {
-        return n < terminals;
-    }
-    n - 128 < nonterminals
-}
-
 // Whether every symbol from the byte 2 of a production's body on is known.
 pub fn symbols_known(terminals: usize, nonterminals: usize, body: &[u8]) -> bool
     requires { ⌜ 2 ≤ length (now body) ⌝ }
@@ -100,10 +91,16 @@ pub fn symbols_known(terminals: usize, nonterminals: usize, body: &[u8]) -> bool
     let mut k: usize = 2;
     while k < body.len() {
         let n = wide(body[k]);
-        if !symbol_known(terminals, nonterminals, n) {
+        k += 1;
+        if n < 128 {
+            if terminals <= n {
+                return false;
+            }
+            continue;
+        }
+        if nonterminals <= n - 128 {
             return false;
         }
-        k += 1;
     }
     true
 }

@@ -32,23 +32,6 @@ pub length-eight : (f : ℕ) → f ≡ 8 → 9 ≡ lengthOf f
 unfolding lengthOf
 length-eight f e = equal-no _ _ _ _ (λ q. omega arith) (equal-no _ _ _ _ (λ q. omega arith) (below-no _ _ _ _ (omega arith) refl))
 
-module _ (f : ℕ) where
-  pub count-law0 : f ≡ 0 → 0 ≡ operandCount f
-  unfolding operandCount
-  count-law0 e = equal-yes _ _ _ _ e refl
-
-  pub count-law1 : (f ≡ 0 → ⊥) → f ≡ 1 → 1 ≡ operandCount f
-  unfolding operandCount
-  count-law1 n e = equal-no _ _ _ _ n (equal-yes _ _ _ _ e refl)
-
-  pub count-law2 : (f ≡ 0 → ⊥) → (f ≡ 1 → ⊥) → f < 7 → 2 ≡ operandCount f
-  unfolding operandCount
-  count-law2 n m l = equal-no _ _ _ _ n (equal-no _ _ _ _ m (below-yes _ _ _ _ l refl))
-
-  pub count-law3 : (f ≡ 0 → ⊥) → (f ≡ 1 → ⊥) → 7 ≤ f → 1 ≡ operandCount f
-  unfolding operandCount
-  count-law3 n m l = equal-no _ _ _ _ n (equal-no _ _ _ _ m (below-no _ _ _ _ l refl))
-
 pub divisor-at : (b : List ℕ) {f g : ℕ} {r : Bool} → r ≡ divisorFits f b → f ≡ g → r ≡ divisorFits g b
 divisor-at b e q = e ∙ ap (λ (x : ℕ). divisorFits x b) q
 

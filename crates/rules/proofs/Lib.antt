@@ -5,3 +5,4 @@ pub mod Uses
 pub mod RuleJudged
 pub mod ConditionJudged
 pub mod Complete
+pub mod Sound

@@ -1,6 +1,7 @@
 -- The faults of the fields of tags 4 and 5, as lists of demands on their bytes and on the counts at each position of their production.
 -- `inh` and `syn` list the counts of the symbols at positions 0 to `width`; `note` the occurrences that have a rule.
-use Prim.Native.Nat.{ℕ, zero, suc, _+_, _-_, _*_, _/_, _%_, _^_, _≤_}
+use Prim.Native.Nat.{ℕ, zero, suc, _+_, _-_, _*_, _/_, _%_, _^_, _≤_, _<_}
+use mathlib.Core.Path.{_≡_}
 use mathlib.Core.Bool.{Bool, true, false, _&&_}
 use mathlib.Core.List.{List}
 use lib.ListN.{getD, length}
@@ -78,6 +79,13 @@ operandClass width inh syn b n k = ifBelow k n (classIn width inh syn b (3 + 2 *
 
 unfoldable pub operandPlace : List ℕ → ℕ → ℕ → ℕ
 operandPlace b n k = ifBelow k n (byte b (3 + 2 * k)) 0
+
+-- n operands are inputs at positions below a limit
+pub record OperandsFit (limit width : ℕ) (inh syn b : List ℕ) (n : ℕ) : Type 0 where
+  pub first : 1 ≡ operandClass width inh syn b n 0
+  pub second : 1 ≡ operandClass width inh syn b n 1
+  pub firstPlace : operandPlace b n 0 < limit
+  pub secondPlace : operandPlace b n 1 < limit
 
 unfoldable pub divisorFits : ℕ → List ℕ → Bool
 divisorFits f b = ifEqual f 8 (ifBelow (fourAt b 5) 1 false (leb (fourAt b 5) 1000000)) true

@@ -36,6 +36,9 @@ pub fn is_filled(position: usize, inherited: usize, synthesized: usize, byte: us
     if position == 0 {
         return all_ones(byte >> inherited, synthesized);
     }
+    if inherited == 0 {
+        return true;
+    }
     all_ones(byte, inherited)
 }
 

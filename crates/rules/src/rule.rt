@@ -1,9 +1,10 @@
 // The faults of a rule.
 ghost use mathlib.Core.Path.{_≡_};
-ghost use Prim.Native.Nat.{_+_, _*_, _-_, _<_, _≤_};
+ghost use mathlib.Core.Bool.{true};
+ghost use Prim.Native.Nat.{ℕ, _+_, _*_, _-_, _<_, _≤_};
 ghost use lib.ListN.{length, getD};
 ghost use Rattle.meaning.specs.Table.{byte};
-ghost use Rattle.rules.specs.Rule.{Small, fourAt, lengthOf, operandCount, operandClass, operandPlace, divisorFits, classFault, ruleOrder, ruleUses, ruleFault};
+ghost use Rattle.rules.specs.Rule.{Small, classAt, classIn, fourAt, lengthOf, operandCount, OperandsFit, operandClass, operandPlace, divisorFits, classFault, ruleOrder, ruleUses, ruleFault};
 
 // The big-endian number in four bytes.
 pub fn four_at(body: &[u8], at: usize) -> usize
@@ -17,34 +18,20 @@ pub fn four_at(body: &[u8], at: usize) -> usize
     ((a * 256 + b) * 256 + c) * 256 + d
 }
 
+// The length of a rule's body by its function: a digit of 16 for each, the lowest for 0.
 pub fn length_of(f: usize) -> usize
+    requires { ⌜ f ≤ 8 ⌝ }
     ensures { λ r. ⌜ (r ≡ lengthOf f) × (3 + 2 * operandCount f ≤ r) ⌝ }
 {
-    if f == 0 {
-        return 7;
-    }
-    if f == 1 {
-        return 5;
-    }
-    if f < 7 {
-        return 7;
-    }
-    9
+    (0x9_9777_7757usize >> (4 * f)) % 16
 }
 
+// How many operands a function has, in the same way.
 pub fn operand_count(f: usize) -> usize
+    requires { ⌜ f ≤ 8 ⌝ }
     ensures { λ r. ⌜ r ≡ operandCount f ⌝ }
 {
-    if f == 0 {
-        return 0;
-    }
-    if f == 1 {
-        return 1;
-    }
-    if f < 7 {
-        return 2;
-    }
-    1
+    (0x1_1222_2210usize >> (4 * f)) % 16
 }
 
 // The class of the k-th of n operands; one past them counts as an input.
@@ -137,6 +124,100 @@ pub fn rule_order(note: &[u8; 13], n: usize, body: &[u8]) -> u8
     0
 }
 
+// True only of an output.
+fn is_output(
+    width: usize,
+    inh: &[u8; 13],
+    syn: &[u8; 13],
+    position: usize,
+    attribute: usize,
+) -> bool
+    requires { ⌜ width ≤ 12 ⌝ }
+    ensures { λ r. ⌜ (r ≡ true → 2 ≡ classAt width (now (inh .entry)) (now (syn .entry)) position attribute) ⌝ }
+{
+    if width < position {
+        return false;
+    }
+    let inherited = fields::wide(inh[position]);
+    if position == 0 {
+        if attribute <= inherited {
+            return false;
+        }
+        return attribute <= inherited + fields::wide(syn[position]);
+    }
+    if attribute < 1 {
+        return false;
+    }
+    attribute <= inherited
+}
+
+// True only of an input, in two bytes of a body, at a position below a limit.
+fn is_operand(limit: usize, inh: &[u8; 13], syn: &[u8; 13], body: &[u8], at: usize) -> bool
+    requires { ⌜ (limit ≤ 13) × (at + 2 ≤ length (now body)) ⌝ }
+    ensures { λ r. ⌜ ((width : ℕ) → limit ≤ width + 1 → r ≡ true → (1 ≡ classIn width (now (inh .entry)) (now (syn .entry)) (now (body .entry)) at) × (byte (now (body .entry)) at < limit)) ⌝ }
+{
+    let position = fields::wide(body[at]);
+    let attribute = fields::wide(body[at + 1]);
+    if limit <= position {
+        return false;
+    }
+    let inherited = fields::wide(inh[position]);
+    if position == 0 {
+        if attribute < 1 {
+            return false;
+        }
+        return attribute <= inherited;
+    }
+    if attribute <= inherited {
+        return false;
+    }
+    attribute <= inherited + fields::wide(syn[position])
+}
+
+// True only where all n operands are inputs at positions below a limit.
+fn are_operands(limit: usize, inh: &[u8; 13], syn: &[u8; 13], body: &[u8], n: usize) -> bool
+    requires { ⌜ (1 ≤ limit) × (limit ≤ 13) × (3 + 2 * n ≤ length (now body)) ⌝ }
+    ensures { λ r. ⌜ ((width : ℕ) → limit ≤ width + 1 → r ≡ true → OperandsFit limit width (now (inh .entry)) (now (syn .entry)) (now (body .entry)) n) ⌝ }
+{
+    if n == 0 {
+        return true;
+    }
+    if !is_operand(limit, inh, syn, body, 3) {
+        return false;
+    }
+    if n == 1 {
+        return true;
+    }
+    is_operand(limit, inh, syn, body, 5)
+}
+
+// True only of a rule that none of 5 to 9 applies to.
+fn is_sound(
+    width: usize,
+    inh: &[u8; 13],
+    syn: &[u8; 13],
+    note: &[u8; 13],
+    body: &[u8],
+    n: usize,
+) -> bool
+    requires { ⌜ Small width (now inh) (now syn) × (3 + 2 * n ≤ length (now body)) ⌝ }
+    ensures { λ r. ⌜ (r ≡ true → 0 ≡ ruleUses width (now (inh .entry)) (now (syn .entry)) (now (note .entry)) (now (body .entry)) n) ⌝ }
+{
+    let position = fields::wide(body[0]);
+    let attribute = fields::wide(body[1]);
+    if !is_output(width, inh, syn, position, attribute) {
+        return false;
+    }
+    if crate::note::is_noted(note, position, attribute) {
+        return false;
+    }
+    if position == 0 {
+        return are_operands(width + 1, inh, syn, body, n);
+    }
+    are_operands(position, inh, syn, body, n)
+}
+
+// The lowest of 5 to 9 that applies to a rule with n operands, or 0. Most rules are sound, so that is asked first.
 pub fn rule_uses(
     width: usize,
     inh: &[u8; 13],
@@ -148,6 +229,9 @@ pub fn rule_uses(
     requires { ⌜ Small width (now inh) (now syn) × (3 + 2 * n ≤ length (now body)) ⌝ }
     ensures { λ r. ⌜ r ≡ ruleUses width (now (inh .entry)) (now (syn .entry)) (now (note .entry)) (now (body .entry)) n ⌝ }
 {
+    if is_sound(width, inh, syn, note, body, n) {
+        return 0;
+    }
     let target = crate::class_in(width, inh, syn, body, 0);
     let first = operand_class(width, inh, syn, body, n, 0);
     let second = operand_class(width, inh, syn, body, n, 1);

@@ -155,7 +155,7 @@ pub record Walking (t : List ℕ) (from offset width : ℕ) (inh syn : List ℕ)
   pub walked : Walked (settingOf t offset width inh syn) from r₀ c₀ note v p at r c
   pub same : Kept v₀ v p
 
-zeros : (n k : ℕ) → _≡_ {A = ℕ} (getD (replicate n 0) k 0) 0
+pub zeros : (n k : ℕ) → _≡_ {A = ℕ} (getD (replicate n 0) k 0) 0
 zeros zero k = refl
 zeros (suc n) zero = refl
 zeros (suc n) (suc k) = zeros n k

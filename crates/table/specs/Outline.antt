@@ -43,6 +43,11 @@ abbrev pub symbolByte : List ℕ → ℕ → ℕ
 symbolByte b zero = 128 + byte b 0
 symbolByte b (suc k) = byte b (k + 2)
 
+-- 13 zeros
+pub record Blank (places : List ℕ) : Type 0 where
+  pub kept : length places ≡ 13
+  pub zero : (k : ℕ) → getD places k 0 ≡ 0
+
 -- the counts at the positions of a production, written from its body
 pub record Written (b counts places : List ℕ) : Type 0 where
   pub each : (k : ℕ) → k + 1 < length b → getD places k 0 ≡ countOf counts (symbolByte b k)

@@ -4,7 +4,7 @@ ghost use Prim.Native.Nat.{_+_, _*_, _<_, _≤_};
 ghost use lib.ListN.{length};
 ghost use Rattle.meaning.specs.Table.{byte};
 ghost use Rattle.entries.specs.Span.{spansOf, Long, Kept};
-ghost use Rattle.table.specs.Outline.{countOf, Written, Copied, SmallCounts, counted};
+ghost use Rattle.table.specs.Outline.{countOf, Blank, Written, Copied, SmallCounts, counted};
 ghost use Rattle.table.specs.Progress.{Next, Over};
 ghost use Rattle.table.specs.Productions.{widthIn, ProductionJudged, SmallBody, BodyRead, ProductionRead, Ready};
 ghost use Rattle.table.specs.Answer.{Answers};
@@ -28,16 +28,30 @@ pub fn count_of(counts: &[u8; 48], symbol: usize) -> u8
     counts[n]
 }
 
-// The counts at the positions of a production, by its body.
-pub fn place_counts(body: &[u8], counts: &[u8; 48], places: &mut [u8; 13])
-    requires { ⌜ (2 ≤ length (now body)) × (length (now body) ≤ 14) × (length (now counts) ≡ 48) × (length (now places) ≡ 13) ⌝ }
-    ensures { λ r. ⌜ Written (now (body .entry)) (now (counts .entry)) (now (places .exit)) ⌝ }
+// The counts at the positions of a production, by its body. Tokens have none, and the lent arrays hold 0.
+pub fn place_counts(
+    body: &[u8],
+    inherited: &[u8; 48],
+    synthesized: &[u8; 48],
+    inh: &mut [u8; 13],
+    syn: &mut [u8; 13],
+)
+    requires { ⌜ (2 ≤ length (now body)) × (length (now body) ≤ 14) × (length (now inherited) ≡ 48) × (length (now synthesized) ≡ 48) × Blank (now inh) × Blank (now syn) ⌝ }
+    ensures inherits { λ r. ⌜ Written (now (body .entry)) (now (inherited .entry)) (now (inh .exit)) ⌝ }
+    ensures synthesizes { λ r. ⌜ Written (now (body .entry)) (now (synthesized .entry)) (now (syn .exit)) ⌝ }
 {
-    places[0] = count_of(counts, 128 + fields::wide(body[0]));
+    let left = 128 + fields::wide(body[0]);
+    inh[0] = count_of(inherited, left);
+    syn[0] = count_of(synthesized, left);
     let mut k: usize = 1;
     while k + 1 < body.len() {
-        let count = count_of(counts, fields::wide(body[k + 1]));
-        places[k] = count;
+        let symbol = fields::wide(body[k + 1]);
+        if symbol < 128 {
+            k += 1;
+            continue;
+        }
+        inh[k] = count_of(inherited, symbol);
+        syn[k] = count_of(synthesized, symbol);
         k += 1;
     }
 }
@@ -102,8 +116,13 @@ pub fn read_body(
     let end = at + 5 + width;
     let mut inh = [0u8; 13];
     let mut syn = [0u8; 13];
-    place_counts(&table[from..end], inherited, &mut inh);
-    place_counts(&table[from..end], synthesized, &mut syn);
+    place_counts(
+        &table[from..end],
+        inherited,
+        synthesized,
+        &mut inh,
+        &mut syn,
+    );
     entries::begin(p, lows, highs, flags);
     crate::walk::read_uses(
         table,
