@@ -6,6 +6,7 @@ ghost use lib.IntN.{ℤ};
 ghost use lib.ListN.{length, replicate, getD};
 ghost use Rattle.meaning.specs.Value.{mark};
 ghost use Rattle.machine.specs.Advancing.{Running};
+ghost use Rattle.machine.specs.Feeding.{Feeds};
 ghost use Rattle.meaning.specs.Rules.{WellFormed};
 ghost use Rattle.meaning.specs.Grammar.{Grammar};
 ghost use Rattle.meaning.specs.Fit.{Fit};
@@ -19,7 +20,6 @@ ghost use Rattle.theory_program.specs.Resuming.{placeAddress};
 ghost use Rattle.machine.specs.Held.{Held};
 ghost use Rattle.fit.specs.Shown.{Shown};
 ghost use Rattle.fit.specs.Cut.{stacksOf};
-ghost use Rattle.engine.specs.Feeding.{FeedsToken, Feeds};
 ghost use Rattle.engine.specs.Records.{recordIs, calledIs, effectIs};
 ghost use Rattle.engine.specs.Starting.{Stood, Standing, Fitting};
 ghost use Rattle.engine.specs.Leaving.{recordFrom, broughtFrom, closedFrom, fedFrom, finishedFrom, Ending};
@@ -60,8 +60,6 @@ enum Prepared {
     Ready { productions: usize, start: usize },
 }
 
-const TOKENS_LIMIT: u64 = 65535;
-
 // ---- clearing
 
 fn clear_registers(registers: &mut [i64])
@@ -86,20 +84,6 @@ fn clear_places(places: &mut [u32])
 
 // ---- tokens
 
-// 01: "35 a token after 65,535", "20 token not below T, judged before its moves".
-fn feed_token(registers: &mut [i64], places: &mut [u32], program: &[u32], run: Run, t: u8) -> Ended
-    requires { ⌜ Running (now program) (now registers) (now places) run ⌝ }
-    ensures { λ r. ⌜ FeedsToken (now (program .entry)) t (now (registers .entry)) (now (places .entry)) run (now (registers .exit)) (now (places .exit)) r ⌝ }
-{
-    if TOKENS_LIMIT <= run.tokens {
-        return Ended::Failed(run, 35);
-    }
-    if machine::word_at(program, 3) <= t as usize {
-        return Ended::Failed(run, 20);
-    }
-    machine::advance(registers, places, program, run, t)
-}
-
 fn feed_tokens(
     registers: &mut [i64],
     places: &mut [u32],
@@ -110,20 +94,7 @@ fn feed_tokens(
     requires { ⌜ Running (now program) (now registers) (now places) run ⌝ }
     ensures { λ r. ⌜ Feeds (now (program .entry)) (now (tokens .entry)) (now (registers .entry)) (now (places .entry)) run (now (registers .exit)) (now (places .exit)) r ⌝ }
 {
-    let mut state = run;
-    let mut i = 0;
-    while i < tokens.len() {
-        match feed_token(registers, places, program, state, tokens[i]) {
-            Ended::Stopped(next) => {
-                state = next;
-            }
-            Ended::Failed(last, k) => {
-                return Ended::Failed(last, k);
-            }
-        }
-        i += 1;
-    }
-    Ended::Stopped(state)
+    machine::feed(registers, places, program, run, tokens)
 }
 
 // ---- from a record to a run
