@@ -1,4 +1,3 @@
-pub mod Feeding
 pub mod Records
 pub mod Starting
 pub mod Leaving

@@ -16,10 +16,10 @@ use Rattle.machine.specs.declared.Ended as Ended
 use Rattle.machine.specs.declared.Ended.the-variants.{Stopped, Failed}
 use Rattle.machine.specs.Held.{Held}
 use Rattle.machine.specs.Advancing.{Running, Settles, Advances}
+use Rattle.machine.specs.Feeding.{Feeds}
 use Rattle.fit.specs.Cut.{stacksOf}
 use Rattle.fit.specs.Shown.{Shown}
 use Rattle.engine.specs.declared.Called.{Called}
-use Rattle.engine.specs.Feeding.{Feeds}
 use Rattle.engine.specs.Records.{calledIs}
 use Rattle.engine.specs.Starting.{Fitting}
 use Rattle.engine.specs.Leaving.{fedFrom, finishedFrom, feed-leaves, finish-leaves, Ending, ended-by}

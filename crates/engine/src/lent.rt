@@ -16,7 +16,6 @@ use crate::Record;
 use crate::running::as_brought;
 use crate::running::closed;
 use crate::running::fed;
-use crate::running::feed_tokens;
 use crate::running::finished;
 use crate::running::run_of;
 
@@ -145,7 +144,7 @@ fn feed_lent(
         return as_brought(brought, Answer::Refused { number, tokens: 0 });
     }
     let run = run_of(places, program, brought);
-    fed(feed_tokens(registers, places, program, run, tokens))
+    fed(machine::feed(registers, places, program, run, tokens))
 }
 
 // A finish: the moves that the end of the segment brings about.

@@ -4,7 +4,6 @@ ghost use mathlib.Core.Path.{_≡_};
 ghost use mathlib.Core.List.{List};
 ghost use lib.IntN.{ℤ};
 ghost use lib.ListN.{length, getD};
-ghost use Rattle.machine.specs.Advancing.{Running};
 ghost use Rattle.meaning.specs.Rules.{WellFormed};
 ghost use Rattle.meaning.specs.Grammar.{Grammar};
 ghost use Rattle.meaning.specs.Fit.{Fit};
@@ -13,7 +12,6 @@ ghost use Rattle.theory_program.specs.Addresses.{Begins};
 ghost use Rattle.theory_program.specs.Resuming.{placeAddress};
 ghost use Rattle.machine.specs.Held.{Held};
 ghost use Rattle.fit.specs.Cut.{stacksOf};
-ghost use Rattle.engine.specs.Feeding.{FeedsToken, Feeds};
 ghost use Rattle.engine.specs.Records.{recordIs};
 ghost use Rattle.engine.specs.Starting.{Stood, Standing, Fitting};
 ghost use Rattle.engine.specs.Leaving.{recordFrom, broughtFrom, closedFrom, fedFrom, finishedFrom, Ending};
@@ -22,50 +20,6 @@ use crate::Called;
 use crate::Record;
 use machine::Ended;
 use machine::Run;
-
-const TOKENS_LIMIT: u64 = 65535;
-
-// ---- tokens
-
-// 01: "35 a token after 65,535", "20 token not below T, judged before its moves".
-fn feed_token(registers: &mut [i64], places: &mut [u32], program: &[u32], run: Run, t: u8) -> Ended
-    requires { ⌜ Running (now program) (now registers) (now places) run ⌝ }
-    ensures { λ r. ⌜ FeedsToken (now (program .entry)) t (now (registers .entry)) (now (places .entry)) run (now (registers .exit)) (now (places .exit)) r ⌝ }
-{
-    if TOKENS_LIMIT <= run.tokens {
-        return Ended::Failed(run, 35);
-    }
-    if machine::word_at(program, 3) <= t as usize {
-        return Ended::Failed(run, 20);
-    }
-    machine::advance(registers, places, program, run, t)
-}
-
-pub fn feed_tokens(
-    registers: &mut [i64],
-    places: &mut [u32],
-    program: &[u32],
-    run: Run,
-    tokens: &[u8],
-) -> Ended
-    requires { ⌜ Running (now program) (now registers) (now places) run ⌝ }
-    ensures { λ r. ⌜ Feeds (now (program .entry)) (now (tokens .entry)) (now (registers .entry)) (now (places .entry)) run (now (registers .exit)) (now (places .exit)) r ⌝ }
-{
-    let mut state = run;
-    let mut i = 0;
-    while i < tokens.len() {
-        match feed_token(registers, places, program, state, tokens[i]) {
-            Ended::Stopped(next) => {
-                state = next;
-            }
-            Ended::Failed(last, k) => {
-                return Ended::Failed(last, k);
-            }
-        }
-        i += 1;
-    }
-    Ended::Stopped(state)
-}
 
 // ---- from a record to a run
 

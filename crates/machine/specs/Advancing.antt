@@ -45,24 +45,22 @@ abbrev pub eitherWay : Bool → Bool → Bool → Bool
 eitherWay true a b = a
 eitherWay false a b = b
 
--- at the end the start symbol is left; else the token is read, and what follows needs the next
+-- the operation needs what comes next, and at the end the start symbol is left; else the token is read
 abbrev pub stopsAt : ℕ → ℕ → ℕ → ℕ → Bool
-stopsAt k u before tokens = eitherWay (eqb u 63) (eqb k 6) (ltb before tokens && looks k)
+stopsAt k u before tokens = looks k && eitherWay (eqb u 63) (eqb k 6) (ltb before tokens)
 
-and-swap : (a b : Bool) → a && b ≡ b && a
-and-swap true true = refl
-and-swap true false = refl
-and-swap false true = refl
-and-swap false false = refl
+and-twice : (a b : Bool) → a && (a && b) ≡ a && b
+and-twice true b = refl
+and-twice false b = refl
 
 and-none : (a : Bool) → a && false ≡ false
 and-none true = refl
 and-none false = refl
 
 -- w says whether the machine waits, f whether the start symbol is left
-stops-by : (b : Bool) (k n u : ℕ) (c : Config) (w f : Bool) → looks k ≡ w → eqb k 6 ≡ w && f → waits (c .frames) ≡ w → isFinished c ≡ f → eitherWay b (eqb k 6) (ltb n (c .tokens) && looks k) ≡ waits (c .frames) && isDone (lookIf b u) n c
-stops-by true k n u c w f l e x y = e ∙ sym (ap₂ _&&_ x y)
-stops-by false k n u c w f l e x y = ap (λ z. ltb n (c .tokens) && z) (l ∙ sym x) ∙ and-swap (ltb n (c .tokens)) (waits (c .frames))
+stops-by : (b : Bool) (k n u : ℕ) (c : Config) (w f : Bool) → looks k ≡ w → eqb k 6 ≡ w && f → waits (c .frames) ≡ w → isFinished c ≡ f → looks k && eitherWay b (eqb k 6) (ltb n (c .tokens)) ≡ waits (c .frames) && isDone (lookIf b u) n c
+stops-by true k n u c w f l e x y = ap₂ _&&_ l e ∙ (and-twice w f ∙ sym (ap₂ _&&_ x y))
+stops-by false k n u c w f l e x y = ap (λ z. z && ltb n (c .tokens)) (l ∙ sym x)
 
 looks-right : (i : Instruction) (is : List Instruction) → looks (operation i) ≡ needsLook (i ∷ is)
 looks-right (add n) is = refl

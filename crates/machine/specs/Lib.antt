@@ -6,5 +6,6 @@ pub mod Passing
 pub mod Predicting
 pub mod Entering
 pub mod Advancing
+pub mod Feeding
 pub mod Calling
 pub mod Rows

@@ -17,6 +17,7 @@ ghost use Rattle.machine.specs.Moves.{countIf, passed};
 ghost use Rattle.machine.specs.Passing.{lookOf, Waiting, Resumes};
 ghost use Rattle.machine.specs.Advancing as Advancing;
 ghost use Rattle.machine.specs.Advancing.{Running, Advances, stopsAt};
+ghost use Rattle.machine.specs.Feeding.{Takes, TakesAll, Feeds};
 ghost use Rattle.machine.specs.Predicting.{recordOf, holdsAt, entersAt, Entry, Leads, Led};
 
 // What comes next, where it is the end of the segment.
@@ -27,6 +28,9 @@ const WHOLE: usize = 128;
 
 // 01: "35 .. a move after 4,294,967,295".
 const MOVES_LIMIT: u64 = 4294967295;
+
+// 01: "35 a token after 65,535".
+const TOKENS_LIMIT: u64 = 65535;
 
 // The operation's number in a word that says that nothing is left; the others are in docs/PROGRAM.md.
 const NOTHING: usize = 6;
@@ -323,27 +327,21 @@ fn looks(operation: usize) -> bool
     operation == NOTHING
 }
 
-// Whether the token at hand is read, or at the end the start symbol is left, and the operation needs what comes then.
+// Whether the operation needs what comes next, and the token at hand is read, or at the end the start symbol is left.
 fn stops(operation: usize, look: usize, before: u64, tokens: u64) -> bool
     ensures { λ r. ⌜ r ≡ stopsAt operation look before tokens ⌝ }
 {
-    if look == END {
-        return operation == NOTHING;
-    }
-    if before < tokens {
-        return looks(operation);
+    if looks(operation) {
+        if look == END {
+            return operation == NOTHING;
+        }
+        return before < tokens;
     }
     false
 }
 
 // 01: "Everything that needs no next token is done before a stop."
-pub fn advance(
-    registers: &mut [i64],
-    places: &mut [u32],
-    program: &[u32],
-    run: Run,
-    look: u8,
-) -> Ended
+fn go_on(registers: &mut [i64], places: &mut [u32], program: &[u32], run: Run, look: u8) -> Ended
     requires { ⌜ Running (now program) (now registers) (now places) run × (look < 64) ⌝ }
     ensures { λ r. ⌜ Advances (now (program .entry)) look (now (registers .entry)) (now (places .entry)) run (now (registers .exit)) (now (places .exit)) r ⌝ }
 {
@@ -369,4 +367,95 @@ pub fn advance(
             }
         }
     }
+}
+
+// ---- one look after the other
+
+// The moves for what comes next, unless more than `most` tokens were read before it, or it is not below `bound`. 01: "35 a token after 65,535", "20 token not below T, judged before its moves".
+fn take(
+    registers: &mut [i64],
+    places: &mut [u32],
+    program: &[u32],
+    run: Run,
+    look: u8,
+    bound: usize,
+    most: u64,
+) -> Ended
+    requires { ⌜ Running (now program) (now registers) (now places) run × (bound ≤ 64) ⌝ }
+    ensures { λ r. ⌜ Takes bound most (now (program .entry)) look (now (registers .entry)) (now (places .entry)) run (now (registers .exit)) (now (places .exit)) r ⌝ }
+{
+    if most < run.tokens {
+        return Ended::Failed(run, 35);
+    }
+    if bound <= look as usize {
+        return Ended::Failed(run, 20);
+    }
+    go_on(registers, places, program, run, look)
+}
+
+// The same for each of a list. The end of the segment goes this way too, so that the moves are compiled into this loop alone and the run stays in the processor's registers.
+fn take_all(
+    registers: &mut [i64],
+    places: &mut [u32],
+    program: &[u32],
+    run: Run,
+    looks: &[u8],
+    bound: usize,
+    most: u64,
+) -> Ended
+    requires { ⌜ Running (now program) (now registers) (now places) run × (bound ≤ 64) ⌝ }
+    ensures { λ r. ⌜ TakesAll bound most (now (program .entry)) (now (looks .entry)) (now (registers .entry)) (now (places .entry)) run (now (registers .exit)) (now (places .exit)) r ⌝ }
+{
+    let mut state = run;
+    let mut i = 0;
+    while i < looks.len() {
+        match take(registers, places, program, state, looks[i], bound, most) {
+            Ended::Stopped(next) => {
+                state = next;
+            }
+            Ended::Failed(last, k) => {
+                return Ended::Failed(last, k);
+            }
+        }
+        i += 1;
+    }
+    Ended::Stopped(state)
+}
+
+// Tokens that are fed.
+pub fn feed(
+    registers: &mut [i64],
+    places: &mut [u32],
+    program: &[u32],
+    run: Run,
+    tokens: &[u8],
+) -> Ended
+    requires { ⌜ Running (now program) (now registers) (now places) run ⌝ }
+    ensures { λ r. ⌜ Feeds (now (program .entry)) (now (tokens .entry)) (now (registers .entry)) (now (places .entry)) run (now (registers .exit)) (now (places .exit)) r ⌝ }
+{
+    let terminals = word_at(program, 3);
+    take_all(
+        registers,
+        places,
+        program,
+        run,
+        tokens,
+        terminals,
+        TOKENS_LIMIT - 1,
+    )
+}
+
+// What comes next, a token or the end of the segment, with no limit on the tokens read before it.
+pub fn advance(
+    registers: &mut [i64],
+    places: &mut [u32],
+    program: &[u32],
+    run: Run,
+    look: u8,
+) -> Ended
+    requires { ⌜ Running (now program) (now registers) (now places) run × (look < 64) ⌝ }
+    ensures { λ r. ⌜ Advances (now (program .entry)) look (now (registers .entry)) (now (places .entry)) run (now (registers .exit)) (now (places .exit)) r ⌝ }
+{
+    let looks = [look; 1];
+    take_all(registers, places, program, run, &looks, 64, u64::MAX)
 }

@@ -30,8 +30,8 @@ returns c = λ g s t. ap (λ z. calledIs z (now (c .before .before .before .befo
 run-of-requires : tie.Need-run-of-requires
 run-of-requires c κs = (now (c .before .before .before .before .before .before .before .before .args .registers), judged-fitting (judged (c .before)))
 
-feed-tokens-requires : tie.Need-feed-tokens-requires
-feed-tokens-requires c κs = judged-running (judged (c .before .before .before .before)) (c .before .before .run-of .result) (c .before .before .run-of .ensures)
+feed-requires : tie.Need-feed-requires
+feed-requires c κs = judged-running (judged (c .before .before .before .before)) (c .before .before .run-of .result) (c .before .before .run-of .ensures)
 
 fed-requires : tie.Need-fed-requires
 fed-requires c κs = search needs
@@ -43,7 +43,7 @@ same-length-4 : tie.Need-same-length-4
 same-length-4 c = search needs
 
 returns-2 : tie.Need-returns-2
-returns-2 c = feed-made (judged (c .before .before .before .before .before .before .before .before .before)) (c .before .before .before .before .before .before .before .run-of .result) (c .before .before .before .before .before .before .before .run-of .ensures) (now (c .before .before .before .before .before .before .before .before .before .before .before .before .before .before .before .before .args .tokens)) (c .before .before .before .before .feed-tokens .last .0) (c .before .before .before .before .feed-tokens .last .1 .0) (c .before .before .before .before .feed-tokens .result) (c .fed .result) (c .before .before .before .before .feed-tokens .ensures) (c .fed .ensures)
+returns-2 c = feed-made (judged (c .before .before .before .before .before .before .before .before .before)) (c .before .before .before .before .before .before .before .run-of .result) (c .before .before .before .before .before .before .before .run-of .ensures) (now (c .before .before .before .before .before .before .before .before .before .before .before .before .before .before .before .before .args .tokens)) (c .before .before .before .before .feed .last .0) (c .before .before .before .before .feed .last .1 .0) (c .before .before .before .before .feed .result) (c .fed .result) (c .before .before .before .before .feed .ensures) (c .fed .ensures)
 
 pub feed-lent-spec : {M : Type 1} → statement M
 feed-lent-spec =
@@ -55,7 +55,7 @@ feed-lent-spec =
     same-length-2
     returns
     run-of-requires
-    feed-tokens-requires
+    feed-requires
     fed-requires
     same-length-3
     same-length-4
