@@ -1,5 +1,5 @@
 /* A first run of the grammar of words and tags: tokens 0 word, 1 open, 2 close; the value is the number of words.
- * Its table is read from the file that is named on the command line (hosts/words.table). */
+ * Its table is read from the file that is named on the command line (grammars/words.table). */
 #include "segment.h"
 
 #include <inttypes.h>

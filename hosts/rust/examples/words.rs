@@ -6,7 +6,7 @@ const OPEN: u8 = 1;
 const CLOSE: u8 = 2;
 
 fn main() -> Result<(), Refusal> {
-    let table = include_bytes!("../../words.table");
+    let table = include_bytes!("../../../grammars/words.table");
     println!("table of {} bytes: {:?}", table.len(), segment::check(table));
     println!("production 2: {} bytes", segment::stretch(table, 2)?.len());
 

@@ -5,7 +5,7 @@
 //! lent and turns its numbers into ordinary Rust.
 //!
 //! ```
-//! # let table = include_bytes!(concat!(env!("CARGO_MANIFEST_DIR"), "/../words.table"));
+//! # let table = include_bytes!(concat!(env!("CARGO_MANIFEST_DIR"), "/../../grammars/words.table"));
 //! let mut engine = segment::Engine::new(*table)?;
 //! engine.feed(&[0, 1])?;
 //! engine.feed(&[0, 2])?;

@@ -2,7 +2,7 @@
 use segment::lent::{self, Memory, Record, MARK};
 use segment::{Engine, Refusal};
 
-const WORDS: &[u8] = include_bytes!("../../words.table");
+const WORDS: &[u8] = include_bytes!("../../../grammars/words.table");
 
 fn engine() -> Engine {
     Engine::new(WORDS).unwrap()
