@@ -58,6 +58,7 @@ fn words_is_the_table_of_the_specification() {
     let (_, built) = read("words");
     assert_eq!(built.table.len(), 136);
     assert_eq!(built.table, plain::samples::words());
+    assert_eq!(built.table, include_bytes!("../../../grammars/words.table"));
 }
 
 #[test]
