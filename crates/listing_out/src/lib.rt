@@ -7,6 +7,7 @@ ghost use Rattle.meaning.specs.PublicCalls.{areaLength, joined, printed};
 ghost use Rattle.prepare.specs.Making.{madeOf};
 ghost use Rattle.listing_text.specs.Cursors.{linesLeft};
 ghost use Rattle.listing_out.specs.Pages.{Shows, Onward};
+use libc::STDIN_FILENO;
 use libc::STDOUT_FILENO;
 use listing_text::Cursor;
 use prepare::Made;
@@ -107,7 +108,7 @@ fn print_rest(program: &[u32], from: Cursor, out: &mut [u8])
     }
 }
 
-// 01: "The listing program reads a table from standard input and prints"; a table's refusal is one line.
+// Prints the listing of a table, or the line of its refusal.
 pub fn print(table: &[u8]) {
     let mut program = [0u32; 16384];
     let mut out = io::buffer();
@@ -118,4 +119,14 @@ pub fn print(table: &[u8]) {
     if !page.over {
         print_rest(&program, page.next, &mut out);
     }
+}
+
+// One byte more than a table may have: a longer one is refused by its length, whatever follows.
+const ROOM: usize = 32769;
+
+// 01: "The listing program reads a table from standard input and prints".
+pub fn run() {
+    let mut table = [0u8; ROOM];
+    let n = io::read_full(STDIN_FILENO, &mut table);
+    print(&table[..n]);
 }
