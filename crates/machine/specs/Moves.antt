@@ -27,7 +27,7 @@ use Rattle.machine.specs.declared.Run.{Run}
 use Rattle.machine.specs.declared.Step.the-variants.{Moved, Blocked}
 use Rattle.machine.specs.Laid.{LaidIn, laid-size, laid-read}
 use Rattle.machine.specs.Ahead.{Ahead, ahead-code, ahead-next, ahead-over, place-same, place-tested, place-passed, place-pending, pending-word, no-pending-word}
-use Rattle.machine.specs.Held.{Held, Made, Hand, hand-add, hand-test, hand-evaluate, hand-proper, bounds, next-is}
+use Rattle.machine.specs.Held.{Held, Made, afterMove, Hand, hand-add, hand-test, hand-evaluate, hand-proper, bounds, next-is}
 
 -- ---- places
 
@@ -172,6 +172,22 @@ module _ {g : Grammar} {ws : List ℕ} {lent : Lent} {m : List ℤ} {ps : List �
       let x = r .hand in
       let rs : List ℤ = writeAll (r .rules) (c .registers) (c .registers) in
       (next-is h look x limit ∙ ap (λ b. chooseOutcome b (step c (frame (x .production) (x .rest) ∷ x .below) rs) (blocked 23)) (sym (r .done v .0)), v .memory ∙ stack-laid mark (run .registers) m (bounds h .registers), refl)
+
+  -- one rule, and what follows its words
+  module _ (look : Look) (limit : run .moves < movesLimit) (o : getD ws (run .at) 0 % 8 ≡ 1) (one : operandHere ≡ 1) (m′ : List ℤ) where
+    abbrev EvaluatedOne : Bool → Type 0
+    EvaluatedOne b = Evaluated (rulesFrom ws (run .at + 1) 1) (run .registers) m b m′
+
+    here : (b : Bool) → EvaluatedOne b → Evaluated rulesHere (run .registers) m b m′
+    here b v = subst (λ n. Evaluated (rulesFrom ws (run .at + 1) n) (run .registers) m b m′) (sym one) v
+
+    pub made-single : EvaluatedOne true → Made g ws lent (next g lent look c) m ps m′ ps (Moved (afterMove run (run .at + 3)))
+    made-single v =
+        let a : run .at + 1 + 2 * operandHere ≡ run .at + 3 = omega arith in
+        subst (λ k. Made g ws lent (next g lent look c) m ps m′ ps (Moved (afterMove run k))) a (made-evaluate look limit o m′ (here true v))
+
+    pub blocked-single : EvaluatedOne false → Made g ws lent (next g lent look c) m ps m′ ps (Blocked 23)
+    blocked-single v = blocked-evaluate look limit o m′ (here false v)
 
   -- ---- test
 

@@ -141,12 +141,26 @@ fn add(registers: &[i64], program: &[u32], run: Run) -> Step
 
 // ---- evaluate
 
+// One rule alone: where the next instruction stands does not wait for the head word.
+fn evaluate_single(registers: &mut [i64], program: &[u32], run: Run) -> Step
+    requires { ⌜ ((ps : List ℕ) × Ready (now program) (now registers) ps run 1) × (getD (now program) (run .at) 0 / 8 ≡ 1) ⌝ }
+    ensures { λ r. ⌜ ((ps : List ℕ) (look : Look) → Answers (now (program .entry)) (now (registers .entry)) ps run look (now (registers .exit)) ps r) ⌝ }
+{
+    if registers::evaluate_one(registers, run.registers, program, run.at + 1) {
+        return Step::Moved(counted(run, run.at + 3));
+    }
+    Step::Blocked(23)
+}
+
 // 01: "all or none".
 fn evaluate(registers: &mut [i64], program: &[u32], run: Run) -> Step
     requires { ⌜ ((ps : List ℕ) × Ready (now program) (now registers) ps run 1) ⌝ }
     ensures { λ r. ⌜ ((ps : List ℕ) (look : Look) → Answers (now (program .entry)) (now (registers .entry)) ps run look (now (registers .exit)) ps r) ⌝ }
 {
     let n = word_at(program, run.at) / 8;
+    if n == 1 {
+        return evaluate_single(registers, program, run);
+    }
     if registers::evaluate(registers, run.registers, program, run.at + 1, n) {
         return Step::Moved(counted(run, run.at + 1 + 2 * n));
     }

@@ -1,11 +1,11 @@
 -- The operands of a rule by its words: where a selector is 0, the constant stands for the operand.
 use Prim.Native.Nat.{ℕ, zero, suc, _/_, _%_, _≤_, _<_}
 use native.Mathlib.Omega.{arith}
-use mathlib.Core.Path.{_≡_, refl, sym, ap₂, _∙_}
+use mathlib.Core.Path.{_≡_, refl, sym, ap, ap₂, _∙_, subst}
 use mathlib.Core.Bool.{Bool, true, false, _&&_}
 use lib.ListN.{getD}
 use mathlib.Core.List.{List}
-use lib.IntN.{ℤ}
+use lib.IntN.{ℤ, _+ℤ_}
 use lib.Signed.{leZ}
 use Rattle.meaning.specs.Rules.{Operands, Reads}
 use Rattle.meaning.specs.Value.{apply, holds}
@@ -103,3 +103,24 @@ pub operation : {rs : List ℤ} {w k : ℕ} → Applies rs w k → Operation rs 
 operation {rs} {w} {k} q =
     let m = meant rs (signed k) (w % 128) (w / 2048 % 128) (w / 262144) w (omega arith) refl refl (w / 128 % 16) refl (q .written) (q .operands) in
     record { first = m .0; second = m .1; result = m .2 }
+
+-- ---- a rule by its function's number
+
+module _ {rs : List ℤ} {w k : ℕ} (q : Applies rs w k) where
+  abbrev by : ℕ → ℤ
+  by f = apply (readRegister rs) (functionFrom f (w / 2048 % 128) (w / 262144) (signed k))
+
+  asked : {f : ℕ} → w / 128 % 16 ≡ f → Operands (Valued rs) (functionFrom f (w / 2048 % 128) (w / 262144) (signed k))
+  asked e = subst (λ (f : ℕ). Operands (Valued rs) (functionFrom f (w / 2048 % 128) (w / 262144) (signed k))) e (q .operands)
+
+  pub is-const : w / 128 % 16 ≡ 0 → apply (readRegister rs) (ruleFrom w k .function) ≡ signed k
+  is-const e = ap by e
+
+  pub is-copy : w / 128 % 16 ≡ 1 → Valued rs (w / 2048 % 128) × (apply (readRegister rs) (ruleFrom w k .function) ≡ readRegister rs (w / 2048 % 128))
+  is-copy e = (asked e, ap by e)
+
+  pub is-sum : w / 128 % 16 ≡ 2 → Valued rs (w / 2048 % 128) × Valued rs (w / 262144) × (apply (readRegister rs) (ruleFrom w k .function) ≡ readRegister rs (w / 2048 % 128) +ℤ readRegister rs (w / 262144))
+  is-sum e = (asked e .0, asked e .1, ap by e)
+
+  pub is-addc : w / 128 % 16 ≡ 7 → Valued rs (w / 2048 % 128) × (apply (readRegister rs) (ruleFrom w k .function) ≡ readRegister rs (w / 2048 % 128) +ℤ signed k)
+  is-addc e = (asked e, ap by e)

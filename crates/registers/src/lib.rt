@@ -149,15 +149,35 @@ fn write_all(
     }
 }
 
-// One rule alone: its value is written at once.
-fn evaluate_one(registers: &mut [i64], height: usize, program: &[u32], at: usize) -> bool
+// The same, where the functions met most often go straight to their operands.
+fn direct(registers: &[i64], height: usize, word: u32, constant: u32) -> i64
+    requires { ⌜ (height ≤ length (now registers)) × Applies (stack height (now registers)) word constant ⌝ }
+    ensures { λ r. ⌜ r ≡ ranged (apply (readRegister (stack height (now (registers .entry)))) (ruleFrom word constant .function)) ⌝ }
+{
+    match word / 128 % 16 {
+        0 => value::constant(constant),
+        1 => read(registers, height, word / 2048 % 128),
+        2 => value::sum(
+            read(registers, height, word / 2048 % 128),
+            read(registers, height, word / 262144),
+        ),
+        7 => value::sum(
+            read(registers, height, word / 2048 % 128),
+            value::constant(constant),
+        ),
+        _ => result(registers, height, word, constant),
+    }
+}
+
+// Evaluates one rule, whose words stand at `at`: its value is written at once.
+pub fn evaluate_one(registers: &mut [i64], height: usize, program: &[u32], at: usize) -> bool
     requires { ⌜ (height ≤ length (now registers)) × Evaluates (now program) at 1 (stack height (now registers)) ⌝ }
     ensures { λ r. ⌜ Evaluated (rulesFrom (now (program .entry)) at 1) height (now (registers .entry)) r (now (registers .exit)) ⌝ }
 {
     let word = program[at];
     let constant = program[at + 1];
     let below = (word % 128) as usize;
-    let v = result(registers, height, word, constant);
+    let v = direct(registers, height, word, constant);
     if value::is_mark(v) {
         return false;
     }
@@ -176,9 +196,6 @@ pub fn evaluate(
     requires { ⌜ (height ≤ length (now registers)) × (count ≤ 8) × Evaluates (now program) at count (stack height (now registers)) ⌝ }
     ensures { λ r. ⌜ Evaluated (rulesFrom (now (program .entry)) at count) height (now (registers .entry)) r (now (registers .exit)) ⌝ }
 {
-    if count == 1 {
-        return evaluate_one(registers, height, program, at);
-    }
     let mut values = [0i64; 8];
     if compute_all(registers, height, program, at, count, &mut values) {
         write_all(registers, height, program, at, count, &values);

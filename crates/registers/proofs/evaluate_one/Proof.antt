@@ -24,10 +24,10 @@ target c =
     (s .0, omega (arith, s .1, stack-length (c .args .height) (now (c .args .registers)) (c .pre .0)))
 
 -- the value, read back from the local
-back : (c : tie.After-result) → toZ w64 (ofZ w64 (c .result .result)) ≡ c .result .result
-back c = held (sfits-of (c .result .ok)) refl
+back : (c : tie.After-direct) → toZ w64 (ofZ w64 (c .direct .result)) ≡ c .direct .result
+back c = held (sfits-of (c .direct .ok)) refl
 
-tested : (c : tie.After-is-mark) → isMark (c .before .result .result) ≡ c .is-mark .result
+tested : (c : tie.After-is-mark) → isMark (c .before .direct .result) ≡ c .is-mark .result
 tested c = sym (c .is-mark .ensures ∙ ap isMark (back (c .before)))
 
 mul-word : tie.Need-mul-word
@@ -48,8 +48,8 @@ shared-slice-read-constant c = omega (arith, inside (c .before .before .before))
 cast-below : tie.Need-cast-below
 cast-below c = search needs
 
-result-requires : tie.Need-result-requires
-result-requires c κs =
+direct-requires : tie.Need-direct-requires
+direct-requires c κs =
     let s = c .before .before .before .before in
     (s .pre .0, applies-turn (now (s .args .program)) (s .args .at) 1 0 (stack (s .args .height) (now (s .args .registers))) (omega arith) (s .pre .1))
 
@@ -63,7 +63,7 @@ returns : tie.Need-returns
 returns c =
     let r = c .before .before in
     let s = r .before .before .before .before .before in
-    one-kept (now (s .args .program)) (s .args .at) (s .args .height) (now (s .args .registers)) (s .pre .0) (s .pre .1) (r .result .result) (r .result .ensures) (tested (c .before) ∙ c .if1 .taken)
+    one-kept (now (s .args .program)) (s .args .at) (s .args .height) (now (s .args .registers)) (s .pre .0) (s .pre .1) (r .direct .result) (r .direct .ensures) (tested (c .before) ∙ c .if1 .taken)
 
 sub-v : tie.Need-sub-v
 sub-v c = target (c .before .before .before .before .before .before .before) .1
@@ -83,7 +83,7 @@ returns-2 : tie.Need-returns-2
 returns-2 c =
     let r = c .before .before in
     let s = r .before .before .before .before .before in
-    rw (back r) (one-written (now (s .args .program)) (s .args .at) (s .args .height) (now (s .args .registers)) (s .pre .0) (s .pre .1) (r .result .result) (r .result .ensures) (tested (c .before) ∙ c .if1 .left))
+    rw (back r) (one-written (now (s .args .program)) (s .args .at) (s .args .height) (now (s .args .registers)) (s .pre .0) (s .pre .1) (r .direct .result) (r .direct .ensures) (tested (c .before) ∙ c .if1 .left))
 
 pub evaluate-one-spec : {M : Type 1} → statement M
 evaluate-one-spec =
@@ -95,7 +95,7 @@ evaluate-one-spec =
     mul-constant
     shared-slice-read-constant
     cast-below
-    result-requires
+    direct-requires
     is-mark-requires
     same-length
     returns
