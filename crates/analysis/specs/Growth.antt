@@ -7,7 +7,7 @@ use mathlib.Core.Logic.{_⊎_, ⊎-elim}
 use mathlib.Core.Bool.{Bool, true, false, _||_}
 use mathlib.Core.List.{List}
 use native.Mathlib.Decide.{ℕ-discrete}
-use lib.ListN.{getD, length, replicate, set, length-set}
+use lib.ListN.{getD, length, set, length-set}
 use lib.Seq.{getD-set-same, getD-set-other}
 use lib.Bits.{bitOr}
 use lib.Dec.{T, eqb, eqb→eq, eqb-refl}
@@ -100,8 +100,8 @@ pub record SetsTo (f : ℕ → ℕ → Bool) (k : ℕ) (sets : List ℕ) : Type 
   pub is : (p : ℕ) → p < k → (n : ℕ) → members (getD sets p 0) n ≡ f p n
 
 module _ (f : ℕ → ℕ → Bool) where
-  pub sets-none : SetsTo f 0 (replicate 128 0)
-  sets-none = record { size = refl; is = λ p l. absurd (omega arith) }
+  pub sets-none : (sets : List ℕ) → length sets ≡ 128 → SetsTo f 0 sets
+  sets-none sets e = record { size = e; is = λ p l. absurd (omega arith) }
 
   pub sets-next : (k x : ℕ) (sets : List ℕ) → k < 128 → SetsTo f k sets → ((n : ℕ) → members x n ≡ f k n) → SetsTo f (k + 1) (set sets k x)
   sets-next k x sets l s e = record { size = length-set sets k x ∙ s .size; is = λ p m n. go p m n (ℕ-discrete p k) }

@@ -20,18 +20,17 @@ pub fn all_starts(
     null: u64,
     first: &[u64; 48],
     follow: &[u64; 48],
-) -> [u64; 128]
-    requires { ⌜ Image (now rows) count ⌝ }
-    ensures { λ r. ⌜ SetsTo (startsBy (members null) (now (first .entry)) (now (follow .entry)) (now (rows .entry))) count r ⌝ }
+    sets: &mut [u64; 128],
+)
+    requires { ⌜ Image (now rows) count × (length (now sets) ≡ 128) ⌝ }
+    ensures { λ r. ⌜ SetsTo (startsBy (members null) (now (first .entry)) (now (follow .entry)) (now (rows .entry))) count (now (sets .exit)) ⌝ }
 {
-    let mut sets = [0u64; 128];
     let mut k: usize = 0;
     while k < count {
         let left = rows[k * 16] as usize;
         sets[k] = begins(rows, count, k, null, first, follow[left], true);
         k += 1;
     }
-    sets
 }
 
 // Whether the intervals l to h and m to i have a point in common.

@@ -36,15 +36,23 @@ ghost use Rattle.analysis.specs.Agreeing.{Marks};
 ghost use Rattle.analysis.specs.Finding.{isUseless, Analysed};
 
 // 11: the lowest nonterminal that is unreachable or derives no token string; `nonterminals` where there is none.
-pub fn useless(rows: &[u8; 2048], count: usize, nonterminals: usize, start: u8) -> usize
-    requires { ⌜ Image (now rows) count × (nonterminals ≤ 48) ⌝ }
-    ensures { λ r. ⌜ ((g : Grammar) → Rows (now (rows .entry)) count g → nonterminals ≡ nonterminalCount g → start ≡ g .start
+// The lent array is scratch.
+pub fn useless(
+    rows: &[u8; 2048],
+    count: usize,
+    nonterminals: usize,
+    start: u8,
+    rights: &mut [u64; 128],
+) -> usize
+    requires { ⌜ Image (now rows) count × (nonterminals ≤ 48) × (length (now rights) ≡ 128) ⌝ }
+    ensures kept { λ r. ⌜ length (now (rights .exit)) ≡ 128 ⌝ }
+    ensures found { λ r. ⌜ ((g : Grammar) → Rows (now (rows .entry)) count g → nonterminals ≡ nonterminalCount g → start ≡ g .start
         → Found (isUseless g) (nonterminalCount g) r) ⌝ }
 {
     let productive = closure(rows, count, true);
     let first = TokenSet::of_token(start).0;
-    let rights = right_sets(rows, count);
-    let reached = reach(rows, count, &rights, first);
+    right_sets(rows, count, rights);
+    let reached = reach(rows, count, rights, first);
     lowest_useless(reached, productive, nonterminals)
 }
 
@@ -76,23 +84,23 @@ fn follow_where(
 }
 
 // FIRST-then-FOLLOW of each production, from the set of the nonterminals that derive nothing.
-pub fn starting(rows: &[u8; 2048], count: usize, start: u8, null: u64) -> [u64; 128]
-    requires { ⌜ Image (now rows) count × (start < 48) ⌝ }
+pub fn starting(rows: &[u8; 2048], count: usize, start: u8, null: u64, sets: &mut [u64; 128])
+    requires { ⌜ Image (now rows) count × (start < 48) × (length (now sets) ≡ 128) ⌝ }
     ensures { λ r. ⌜ ((g : Grammar) → Rows (now (rows .entry)) count g → start ≡ g .start → Marks null (nullable g)
-        → (p : ℕ) → Listed g p → setOf (getD r p 0) ≡ starts g (productionAt g p)) ⌝ }
+        → (p : ℕ) → Listed g p → setOf (getD (now (sets .exit)) p 0) ≡ starts g (productionAt g p)) ⌝ }
 {
     let first = fronts(rows, count, null, true, [0u64; 48]);
     let after = follow_where(rows, count, start, null, &first);
-    all_starts(rows, count, null, &first, &after)
+    all_starts(rows, count, null, &first, &after, sets);
 }
 
-// The number of the refusal, or 0; its nonterminal or production; for an accepted table FIRST-then-FOLLOW of each production.
+// The number of the refusal, or 0; its nonterminal or production.
 pub struct Analysis {
     pub number: u32,
     pub index: usize,
-    pub sets: [u64; 128],
 }
 
+// The lent array holds, of an accepted table, FIRST-then-FOLLOW of each production.
 pub fn analyse(
     rows: &[u8; 2048],
     count: usize,
@@ -101,17 +109,17 @@ pub fn analyse(
     lows: &[u32; 1024],
     highs: &[u32; 1024],
     flags: &[u8; 128],
+    sets: &mut [u64; 128],
 ) -> Analysis
-    requires { ⌜ Image (now rows) count × (nonterminals ≤ 48) × (start < 48) ⌝ }
+    requires { ⌜ Image (now rows) count × (nonterminals ≤ 48) × (start < 48) × (length (now sets) ≡ 128) ⌝ }
     ensures { λ r. ⌜ ((g : Grammar) → Rows (now (rows .entry)) count g → Entries (now (lows .entry)) (now (highs .entry)) (now (flags .entry)) g
-        → nonterminals ≡ nonterminalCount g → start ≡ g .start → Analysed g (r .number) (r .index) (r .sets)) ⌝ }
+        → nonterminals ≡ nonterminalCount g → start ≡ g .start → Analysed g (r .number) (r .index) (now (sets .exit))) ⌝ }
 {
-    let useless_at = useless(rows, count, nonterminals, start);
+    let useless_at = useless(rows, count, nonterminals, start, sets);
     if useless_at < nonterminals {
         return Analysis {
             number: 11,
             index: useless_at,
-            sets: [0u64; 128],
         };
     }
     let null = closure(rows, count, false);
@@ -120,21 +128,18 @@ pub fn analyse(
         return Analysis {
             number: 12,
             index: recursive_at,
-            sets: [0u64; 128],
         };
     }
-    let sets = starting(rows, count, start, null);
-    let clash_at = lowest_clash(rows, count, &sets, lows, highs, flags);
+    starting(rows, count, start, null, sets);
+    let clash_at = lowest_clash(rows, count, sets, lows, highs, flags);
     if clash_at < count {
         return Analysis {
             number: 13,
             index: clash_at,
-            sets,
         };
     }
     Analysis {
         number: 0,
         index: 0,
-        sets,
     }
 }

@@ -3,6 +3,7 @@ use token_set::TokenSet;
 ghost use mathlib.Core.Path.{_≡_};
 ghost use mathlib.Core.Bool.{true, false};
 ghost use Prim.Native.Nat.{ℕ, _+_, _*_, _<_, _≤_};
+ghost use lib.ListN.{length};
 ghost use Rattle.meaning.specs.Base.{any};
 ghost use Rattle.meaning.specs.Grammar.{isNonterminal};
 ghost use Rattle.meaning.specs.Table.{symbolOf};
@@ -38,17 +39,15 @@ fn right_set(rows: &[u8; 2048], count: usize, k: usize) -> u64
 }
 
 // The same for all productions.
-pub fn right_sets(rows: &[u8; 2048], count: usize) -> [u64; 128]
-    requires { ⌜ Image (now rows) count ⌝ }
-    ensures { λ r. ⌜ SetsTo (rightBy (now (rows .entry))) count r ⌝ }
+pub fn right_sets(rows: &[u8; 2048], count: usize, sets: &mut [u64; 128])
+    requires { ⌜ Image (now rows) count × (length (now sets) ≡ 128) ⌝ }
+    ensures { λ r. ⌜ SetsTo (rightBy (now (rows .entry))) count (now (sets .exit)) ⌝ }
 {
-    let mut sets = [0u64; 128];
     let mut k: usize = 0;
     while k < count {
         sets[k] = right_set(rows, count, k);
         k += 1;
     }
-    sets
 }
 
 // The set, with the nonterminals on the right of production k where its left side is in.

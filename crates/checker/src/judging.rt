@@ -40,15 +40,22 @@ fn judge_grammar(
     flags: &[u8; 128],
     sets: &mut [u64; 128],
 ) -> Judged
-    requires { ⌜ Outlined sizes (now rows) (now offsets) (spansOf (now lows) (now highs) (now flags)) ⌝ }
+    requires { ⌜ Outlined sizes (now rows) (now offsets) (spansOf (now lows) (now highs) (now flags)) × (length (now sets) ≡ 128) ⌝ }
     ensures { λ r. ⌜ ((x : Outlined sizes (now (rows .entry)) (now (offsets .entry)) (spansOf (now (lows .entry)) (now (highs .entry)) (now (flags .entry)))) → Concludes (x .state) sizes (now (sets .exit)) r (judge (x .state))) ⌝ }
 {
     let productions = sizes.productions;
     let nonterminals = sizes.nonterminals;
     let start = sizes.start as u8;
-    let a = analysis::analyse(rows, productions, nonterminals, start, lows, highs, flags);
-    let found = a.sets;
-    *sets = found;
+    let a = analysis::analyse(
+        rows,
+        productions,
+        nonterminals,
+        start,
+        lows,
+        highs,
+        flags,
+        sets,
+    );
     conclude(sizes, a.number, a.index, offsets)
 }
 
@@ -62,7 +69,7 @@ pub fn judge_table(
     offsets: &mut [u32; 128],
     sets: &mut [u64; 128],
 ) -> Judged
-    requires { ⌜ (length (now inherited) ≡ 48) × (length (now synthesized) ≡ 48) × (length (now rows) ≡ 2048) × (length (now offsets) ≡ 128) ⌝ }
+    requires { ⌜ (length (now inherited) ≡ 48) × (length (now synthesized) ≡ 48) × (length (now rows) ≡ 2048) × (length (now offsets) ≡ 128) × (length (now sets) ≡ 128) ⌝ }
     ensures { λ r. ⌜ Judges (now (table .entry)) (now (inherited .exit)) (now (synthesized .exit)) (now (rows .exit)) (now (offsets .exit)) (now (sets .exit)) r ⌝ }
 {
     let mut lows = [0u32; 1024];

@@ -9,7 +9,7 @@ useless-requires : tie.Need-useless-requires
 useless-requires c κs = search needs
 
 returns : tie.Need-returns
-returns c = λ g r e n s. found-useless g _ _ (c .before .useless .ensures g r n s) (rw n at (c .if1 .taken))
+returns c = λ g r e n s. found-useless g _ _ (c .before .useless .ensures .1 g r n s) (rw n at (c .if1 .taken))
 
 closure-requires : tie.Need-closure-requires
 closure-requires c κs = search needs
@@ -18,10 +18,7 @@ left-recursive-requires : tie.Need-left-recursive-requires
 left-recursive-requires c κs = search needs
 
 returns-2 : tie.Need-returns-2
-returns-2 c =
-    let cl = c .before .before in
-    let el = cl .before in
-    λ g r e n s. found-recursive g _ _ (el .before .useless .ensures g r n s) (rw n at (el .if1 .left)) _ (c .before .left-recursive .ensures g r n (nullable-marks r _ (cl .closure .ensures))) (rw n at (c .if2 .taken))
+returns-2 c = λ g r e n s. found-recursive g _ _ (c .before .before .before .before .useless .ensures .1 g r n s) (rw n at (c .before .before .before .if1 .left)) _ (c .before .left-recursive .ensures g r n (nullable-marks r _ (c .before .before .closure .ensures))) (rw n at (c .if2 .taken))
 
 starting-requires : tie.Need-starting-requires
 starting-requires c κs = search needs
@@ -30,24 +27,10 @@ lowest-clash-requires : tie.Need-lowest-clash-requires
 lowest-clash-requires c κs = search needs
 
 returns-3 : tie.Need-returns-3
-returns-3 c =
-    let st = c .before .before .before in
-    let l2 = st .before in
-    let cl = l2 .before .before in
-    let el = cl .before in
-    λ g r e n s.
-    let m = nullable-marks r _ (cl .closure .ensures) in
-    found-clash g _ _ (el .before .useless .ensures g r n s) (rw n at (el .if1 .left)) _ (l2 .before .left-recursive .ensures g r n m) (rw n at (l2 .if2 .left)) _ (clash-found r _ _ _ _ e (st .starting .ensures g r s m) _ (c .before .lowest-clash .ensures)) (rw (r .counted) (c .if3 .taken))
+returns-3 c = λ g r e n s. let m = nullable-marks r _ (c .before .before .before .before .before .before .before .closure .ensures) in found-clash g _ _ (c .before .before .before .before .before .before .before .before .before .useless .ensures .1 g r n s) (rw n at (c .before .before .before .before .before .before .before .before .if1 .left)) _ (c .before .before .before .before .before .before .left-recursive .ensures g r n m) (rw n at (c .before .before .before .before .before .if2 .left)) _ (clash-found r _ _ _ _ e (c .before .before .before .starting .ensures g r s m) _ (c .before .lowest-clash .ensures)) (rw (r .counted) (c .if3 .taken))
 
 returns-4 : tie.Need-returns-4
-returns-4 c =
-    let st = c .before .before .before in
-    let l2 = st .before in
-    let cl = l2 .before .before in
-    let el = cl .before in
-    λ g r e n s.
-    let m = nullable-marks r _ (cl .closure .ensures) in
-    found-nothing g _ _ (el .before .useless .ensures g r n s) (rw n at (el .if1 .left)) _ (l2 .before .left-recursive .ensures g r n m) (rw n at (l2 .if2 .left)) _ (clash-found r _ _ _ _ e (st .starting .ensures g r s m) _ (c .before .lowest-clash .ensures)) (rw (r .counted) (c .if3 .left)) (st .starting .ensures g r s m)
+returns-4 c = λ g r e n s. let m = nullable-marks r _ (c .before .before .before .before .before .before .before .closure .ensures) in found-nothing g _ _ (c .before .before .before .before .before .before .before .before .before .useless .ensures .1 g r n s) (rw n at (c .before .before .before .before .before .before .before .before .if1 .left)) _ (c .before .before .before .before .before .before .left-recursive .ensures g r n m) (rw n at (c .before .before .before .before .before .if2 .left)) _ (clash-found r _ _ _ _ e (c .before .before .before .starting .ensures g r s m) _ (c .before .lowest-clash .ensures)) (rw (r .counted) (c .if3 .left)) (c .before .before .before .starting .ensures g r s m)
 
 pub analyse-spec : {M : Type 1} → statement M
 analyse-spec =

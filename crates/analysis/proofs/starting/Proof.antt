@@ -14,9 +14,7 @@ all-starts-requires : tie.Need-all-starts-requires
 all-starts-requires c κs = search needs
 
 returns : tie.Need-returns
-returns c =
-    let fw = c .before .before .before in
-    λ g r s m. starts-found r _ _ _ _ m (fw .before .before .fronts .ensures) (λ k. rw s at (fw .follow-where .ensures k)) (c .all-starts .ensures)
+returns c = λ g r s m. starts-found r _ _ _ _ m (c .before .before .before .before .before .before .fronts .ensures) (λ k. rw s at (c .before .before .before .before .follow-where .ensures k)) (c .all-starts .ensures)
 
 pub starting-spec : {M : Type 1} → statement M
 starting-spec =

@@ -21,10 +21,7 @@ lowest-useless-requires : tie.Need-lowest-useless-requires
 lowest-useless-requires c κs = search needs
 
 returns : tie.Need-returns
-returns c =
-    let re = c .before in
-    let ot = re .before .before .before in
-    λ g r n s. useless-found r _ _ _ _ (ot .of-token .ensures ∙ ap singleton s) (re .reach .ensures) (ot .before .closure .ensures) (rw n at (c .lowest-useless .ensures))
+returns c = (c .before .before .before .right-sets .ensures .size, λ g r n s. useless-found r _ _ _ _ (c .before .before .before .before .before .of-token .ensures ∙ ap singleton s) (c .before .reach .ensures) (c .before .before .before .before .before .before .closure .ensures) (rw n at (c .lowest-useless .ensures)))
 
 pub useless-spec : {M : Type 1} → statement M
 useless-spec =

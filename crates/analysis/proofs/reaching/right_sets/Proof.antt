@@ -14,16 +14,16 @@ abbrev μ-loop : tie.MeasureT-loop
 μ-loop rows count sets₀ k₀ sets k = count - k
 
 loop-holds : tie.Need-loop-holds Inv-loop μ-loop
-loop-holds c = (omega arith, sets-none _)
+loop-holds c = (omega arith, sets-none _ _ (c .pre .1))
 
 right-set-requires : tie.Need-right-set-requires Inv-loop μ-loop
-right-set-requires c κs = (c .before .before .pre, c .loop-test .taken)
+right-set-requires c κs = (c .before .before .pre .0, c .loop-test .taken)
 
 mul-sets : tie.Need-mul-sets Inv-loop μ-loop
 mul-sets c = omega arith
 
-array-write-sets : tie.Need-array-write-sets Inv-loop μ-loop
-array-write-sets c = search needs
+element-write-sets : tie.Need-element-write-sets Inv-loop μ-loop
+element-write-sets c = omega (arith, c .before .before .loop .inv .1 .size, c .before .before .before .pre .0 .few)
 
 add-k : tie.Need-add-k Inv-loop μ-loop
 add-k c = omega arith
@@ -34,7 +34,7 @@ loop-less c = omega arith
 loop-again : tie.Need-loop-again Inv-loop μ-loop
 loop-again c =
     let lp = c .before in
-    (omega arith, sets-next _ _ _ _ (omega (arith, lp .before .before .pre .few)) (lp .before .loop .inv .1) (c .right-set .ensures))
+    (omega arith, sets-next _ _ _ _ (omega (arith, lp .before .before .pre .0 .few)) (lp .before .loop .inv .1) (c .right-set .ensures))
 
 returns : tie.Need-returns Inv-loop μ-loop
 returns c = let e : c .before .loop .k ≡ c .before .before .args .count = omega arith in rw e at (c .before .loop .inv .1)
@@ -48,7 +48,7 @@ right-sets-spec =
     loop-holds
     right-set-requires
     mul-sets
-    array-write-sets
+    element-write-sets
     add-k
     loop-less
     loop-again

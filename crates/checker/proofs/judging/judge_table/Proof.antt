@@ -17,7 +17,7 @@ enum-known-sizes : tie.Need-enum-known-sizes
 enum-known-sizes c = search needs
 
 judge-grammar-requires : tie.Need-judge-grammar-requires
-judge-grammar-requires c κs = read-outlined (c .before .before .before .before .before .before .before .before .before .before .before .before .before .before .before .before .before .before .args .table .now) (c .before .before .before .before .before .before .before .before .before .read-table .last .1 .0) (c .before .before .before .before .before .before .before .before .before .read-table .last .1 .1 .0) _ _ _ _ (c .before .before .before .before .before .before .before .before .before .read-table .ensures) _ (c .before .before .before .before .before .before .before .sizes .given .1)
+judge-grammar-requires c κs = (read-outlined (c .before .before .before .before .before .before .before .before .before .before .before .before .before .before .before .before .before .before .args .table .now) (c .before .before .before .before .before .before .before .before .before .read-table .last .1 .0) (c .before .before .before .before .before .before .before .before .before .read-table .last .1 .1 .0) _ _ _ _ (c .before .before .before .before .before .before .before .before .before .read-table .ensures) _ (c .before .before .before .before .before .before .before .sizes .given .1), c .before .before .before .before .before .before .before .before .before .before .before .before .before .before .before .before .before .before .pre .4)
 
 returns : tie.Need-returns
 returns c = read-refused _ _ _ _ _ (spansOf (c .before .before .before .read-table .last .1 .1 .1 .1 .1 .0) (c .before .before .before .read-table .last .1 .1 .1 .1 .1 .1 .0) (c .before .before .before .read-table .last .1 .1 .1 .1 .1 .1 .1 .0)) _ (c .before .before .before .read-table .ensures) _ _ _ (c .before .number .given .1)
