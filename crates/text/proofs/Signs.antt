@@ -1,5 +1,5 @@
 -- A signed local holds bits: the size of the number that is read back from them.
-use Prim.Native.Nat.{ℕ, suc, _-_, _<_}
+use Prim.Native.Nat.{ℕ, suc, _<_}
 use mathlib.Core.Path.{_≡_, refl, sym, ap, subst, _∙_}
 use lib.Dec.{T}
 use mathlib.Core.Bool.{true, false}
