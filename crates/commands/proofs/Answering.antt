@@ -20,6 +20,9 @@ use Rattle.commands.specs.declared.hex.Decoded.{Decoded}
 use Rattle.commands.specs.declared.hex.Decoded.the-variants.{Bytes, Malformed}
 use Rattle.commands.specs.declared.number.Parsed.{Parsed}
 use Rattle.commands.specs.declared.number.Parsed.the-variants.{Number, NoNumber}
+use Rattle.commands.specs.declared.stacks.Stack.{Stack}
+use Rattle.commands.specs.declared.stacks.Stack.the-variants.{Cells}
+use Rattle.commands.specs.Stacks.{Fits}
 use Rattle.commands.specs.Words.{firstWord, afterWord}
 use Rattle.commands.specs.Hex.{bytesOf, Gives}
 use Rattle.commands.specs.Number.{numberOf, parsedAs}
@@ -136,13 +139,16 @@ same-equal (a ∷ s) (b ∷ t) e = by (eqb a b) refl e (same-equal s t)
     by false h k f = cc
 
 -- a comparison's answer
-pub same-is : (l s t : List ℕ) {r : Bool} → s ≡ firstWord l → (r ≡ true → s ≡ t) × (s ≡ t → r ≡ true) → sameBytes (firstWord l) t ≡ r
-same-is l s t {r} e h = ap (λ (w : List ℕ). sameBytes w t) (sym e) ∙ by r (h .0) (h .1) (sameBytes s t) refl
+pub same-bytes : (s t : List ℕ) {r : Bool} → (r ≡ true → s ≡ t) × (s ≡ t → r ≡ true) → sameBytes s t ≡ r
+same-bytes s t {r} h = by r (h .0) (h .1) (sameBytes s t) refl
   where
     by : (r : Bool) → (r ≡ true → s ≡ t) → (s ≡ t → r ≡ true) → (b : Bool) → sameBytes s t ≡ b → sameBytes s t ≡ r
     by true f g b k = ap (sameBytes s) (sym (f refl)) ∙ same-all s
     by false f g true k = k ∙ sym (g (same-equal s t k))
     by false f g false k = k
+
+pub same-is : (l s t : List ℕ) {r : Bool} → s ≡ firstWord l → (r ≡ true → s ≡ t) × (s ≡ t → r ≡ true) → sameBytes (firstWord l) t ≡ r
+same-is l s t e h = ap (λ (w : List ℕ). sameBytes w t) (sym e) ∙ same-bytes s t h
 
 module _ (l : List ℕ) {a : Text} where
   pub to-check : sameBytes (firstWord l) check ≡ true → a ≡ checkAnswer (afterWord l) → a ≡ answerTo l
@@ -156,3 +162,8 @@ module _ (l : List ℕ) {a : Text} where
   pub to-none : sameBytes (firstWord l) check ≡ false → sameBytes (firstWord l) stretch ≡ false → a ≡ line badCommand → a ≡ answerTo l
   unfolding answerTo
   to-none e f h = rw (e, f) h
+
+-- ---- cells that were read
+
+pub given-cells : (r : Stack) (most : ℕ) → Fits r most → {n : ℕ} → r ≡ Cells n → n ≤ most
+given-cells r most h told = subst (λ (q : Stack). Fits q most) told h

@@ -2,3 +2,4 @@ pub mod Spelling
 pub mod Numbers
 pub mod Cut
 pub mod Answering
+pub mod Spoken

@@ -1,6 +1,6 @@
 -- Decimal digits, read one after the other.
 use Prim.Native.Nat.{ℕ, _+_, _<_, _≤_}
-use mathlib.Core.Path.{_≡_, refl}
+use mathlib.Core.Path.{_≡_, refl, sym, ap, subst, _∙_}
 use mathlib.Core.List.{List, [], _∷_}
 use mathlib.Core.Option.{Option, none, some}
 use native.Mathlib.Numerals.{add-one}
@@ -8,7 +8,9 @@ use native.Mathlib.Omega.{arith}
 use lib.ListN.{length, drop, getD, drop-of-length-le}
 use lib.Seq.{drop-cons}
 use borrow.Author.Tests.{lt-ltb, le-ltb}
-use Rattle.commands.specs.Number.{limit, appended, numberFrom, numberOf}
+use Rattle.commands.specs.declared.number.Parsed.{Parsed}
+use Rattle.commands.specs.declared.number.Parsed.the-variants.{Number, NoNumber}
+use Rattle.commands.specs.Number.{limit, appended, numberFrom, numberOf, parsedAs, upTo, sizeOf, Sized}
 
 -- the number that the digits from i on spell after those of n
 unfoldable pub left : List ℕ → ℕ → ℕ → Option ℕ
@@ -36,3 +38,26 @@ pub left-start : (word : List ℕ) → 0 < length word → numberOf word ≡ lef
 unfolding left numberOf
 left-start [] h = absurd (omega arith)
 left-start (b ∷ s) h = refl
+
+-- ---- numbers up to a limit
+
+module _ (most : ℕ) (word : List ℕ) {r : Parsed} (e : parsedAs r ≡ numberOf word) where
+  spelt : {q : Parsed} → r ≡ q → sizeOf most word ≡ upTo most (parsedAs q)
+  unfolding sizeOf
+  spelt told = ap (upTo most) (sym e ∙ ap (λ (p : Parsed). parsedAs p) told)
+
+  pub size-none : r ≡ NoNumber → sizeOf most word ≡ none
+  size-none told = spelt told
+
+  pub size-above : {n : ℕ} → r ≡ Number n → most < n → sizeOf most word ≡ none
+  size-above {n} told l = spelt told ∙ rw (lt-ltb most n l) refl
+
+  pub size-within : {n : ℕ} → r ≡ Number n → n ≤ most → (n ≤ most) × (sizeOf most word ≡ some n)
+  size-within {n} told l = (l, spelt told ∙ rw (le-ltb most n l) refl)
+
+module _ (r : Parsed) (most : ℕ) (spelt : Option ℕ) (g : Sized r most spelt) where
+  pub sized-number : {n : ℕ} → r ≡ Number n → (n ≤ most) × (spelt ≡ some n)
+  sized-number told = subst (λ (q : Parsed). Sized q most spelt) told g
+
+  pub sized-none : r ≡ NoNumber → spelt ≡ none
+  sized-none told = subst (λ (q : Parsed). Sized q most spelt) told g

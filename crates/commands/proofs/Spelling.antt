@@ -1,13 +1,18 @@
 -- Pairs of hex digits, read one after the other.
-use Prim.Native.Nat.{ℕ, suc, _+_, _*_, _<_, _≤_}
+use Prim.Native.Nat.{ℕ, suc, _+_, _-_, _*_, _<_, _≤_}
 use mathlib.Core.Path.{_≡_, refl, sym, ap, _∙_}
+use mathlib.Core.Bool.{Bool, true, false, cond}
 use mathlib.Core.List.{List, [], _∷_, _++_, append-assoc, append-nil}
 use mathlib.Core.Option.{Option, none, some}
 use native.Mathlib.Numerals.{add-one}
 use native.Mathlib.Omega.{arith}
-use lib.ListN.{length, take, drop, getD, set, drop-of-length-le}
+use lib.ListN.{length, take, drop, getD, set, length-take, length-drop, drop-of-length-le}
 use lib.Seq.{drop-cons, take-suc-set}
 use borrow.Author.Tests.{lt-ltb, le-ltb, eq-eqb, ne-eqb}
+use lib.Dec.{ltb, eqb}
+use Rattle.bytes.specs.Bytes.{indexOf}
+use Rattle.commands.specs.Words.{afterWord, afterWords, wordAt}
+use Rattle.commands.proofs.Cut.{word-short}
 use Rattle.commands.specs.Hex.{hexPair, before, pairsOf, bytesOf}
 
 before-none : (o : Option (List ℕ)) → before [] o ≡ o
@@ -81,3 +86,40 @@ unfolding bytesOf
 long-word [] h = absurd (omega arith)
 long-word (a ∷ []) h = absurd (omega arith)
 long-word (a ∷ b ∷ s) h = refl
+
+-- ---- how long a spelling is
+
+abbrev pub bytesIn : Option (List ℕ) → ℕ
+bytesIn none = 0
+bytesIn (some v) = length v
+
+before-one : (b : ℕ) (o : Option (List ℕ)) → bytesIn (before (b ∷ []) o) ≤ suc (bytesIn o)
+before-one b none = omega arith
+before-one b (some v) = omega arith
+
+pub pairs-short : (word : List ℕ) → 2 * bytesIn (pairsOf word) ≤ length word
+unfolding pairsOf
+pairs-short [] = omega arith
+pairs-short (a ∷ []) = omega arith
+pairs-short (a ∷ b ∷ s) = by (ltb (hexPair a b) 256) (pairs-short s)
+  where
+    by : (t : Bool) → 2 * bytesIn (pairsOf s) ≤ length s → 2 * bytesIn (cond t (before (hexPair a b ∷ []) (pairsOf s)) none) ≤ suc (suc (length s))
+    by true h = omega (arith, before-one (hexPair a b) (pairsOf s))
+    by false h = omega arith
+
+pub bytes-short : (word : List ℕ) → 2 * bytesIn (bytesOf word) ≤ length word
+unfolding bytesOf
+bytes-short [] = omega arith
+bytes-short (a ∷ []) = by (eqb a 45)
+  where
+    by : (t : Bool) → 2 * bytesIn (cond t (some []) none) ≤ 1
+    by true = omega arith
+    by false = omega arith
+bytes-short (a ∷ b ∷ s) = pairs-short (a ∷ b ∷ s)
+
+-- the second word fits behind the bytes of the first
+pub fits-behind : (words table : List ℕ) (room : ℕ) → bytesOf (wordAt 0 words) ≡ some table → length words ≤ 2 * room + 1 → length (wordAt 1 words) ≤ 2 * (room - length table) + 1
+unfolding afterWords
+fits-behind words table room e l =
+    let b : bytesIn (bytesOf (wordAt 0 words)) ≡ length table = ap (λ (o : Option (List ℕ)). bytesIn o) e in
+    omega (arith, b, bytes-short (wordAt 0 words), length-take (indexOf 32 words) words, length-drop (indexOf 32 words + 1) words, word-short (afterWord words))

@@ -1,5 +1,5 @@
 -- Numbers as words of decimal digits.
-use Prim.Native.Nat.{ℕ, _+_, _*_, _-_}
+use Prim.Native.Nat.{ℕ, _+_, _*_, _-_, _≤_}
 use mathlib.Core.Path.{_≡_, refl}
 use mathlib.Core.Bool.{cond}
 use mathlib.Core.List.{List, [], _∷_}
@@ -10,11 +10,14 @@ use Rattle.commands.specs.declared.number.Parsed.the-variants.{Number, N
 
 -- a number of this size or more is refused
 abbrev pub limit : ℕ
-limit = 1000000000000000000
+limit = 10000000000000000000
 
--- the number n with one more digit; the limit where the byte is no digit
+abbrev pub tenth : ℕ
+tenth = 1000000000000000000
+
+-- the number n with one more digit; the limit where the byte is no digit or the number too large
 unfoldable pub appended : ℕ → ℕ → ℕ
-appended n b = cond (ltb b 48) limit (cond (ltb 57 b) limit (10 * n + (b - 48)))
+appended n b = cond (ltb b 48) limit (cond (ltb 57 b) limit (cond (ltb n tenth) (10 * n + (b - 48)) limit))
 
 -- the number that digits spell after those of n
 unfoldable pub numberFrom : ℕ → List ℕ → Option ℕ
@@ -29,3 +32,16 @@ numberOf (b ∷ s) = numberFrom 0 (b ∷ s)
 abbrev pub parsedAs : Parsed → Option ℕ
 parsedAs (Number n) = some n
 parsedAs NoNumber = none
+
+abbrev pub upTo : ℕ → Option ℕ → Option ℕ
+upTo most none = none
+upTo most (some n) = cond (ltb most n) none (some n)
+
+-- the number that a word spells, if it is not above `most`
+unfoldable pub sizeOf : ℕ → List ℕ → Option ℕ
+sizeOf most word = upTo most (numberOf word)
+
+-- what a reading up to `most` says of the number that is spelt
+abbrev pub Sized : Parsed → ℕ → Option ℕ → Type 0
+Sized (Number n) most spelt = (n ≤ most) × (spelt ≡ some n)
+Sized NoNumber most spelt = spelt ≡ none

@@ -1,7 +1,6 @@
 // Numbers as words of decimal digits.
 ghost use mathlib.Core.Path.{_≡_};
-ghost use Prim.Native.Nat.{_<_, _≤_};
-ghost use Rattle.commands.specs.Number.{limit, appended, numberOf, parsedAs};
+ghost use Rattle.commands.specs.Number.{appended, numberOf, parsedAs, sizeOf, Sized};
 
 pub enum Parsed {
     Number(usize),
@@ -9,11 +8,12 @@ pub enum Parsed {
 }
 
 // A number of this size or more is refused.
-const LIMIT: usize = 1000000000000000000;
+const LIMIT: usize = 10000000000000000000;
 
-// The number n with one more digit; the limit where the byte is no digit.
+const TENTH: usize = 1000000000000000000;
+
+// The number n with one more digit; the limit where the byte is no digit or the number too large.
 fn append(n: usize, b: u8) -> usize
-    requires { ⌜ n < limit ⌝ }
     ensures { λ r. ⌜ r ≡ appended n b ⌝ }
 {
     let d = b as usize;
@@ -21,6 +21,9 @@ fn append(n: usize, b: u8) -> usize
         return LIMIT;
     }
     if 57 < d {
+        return LIMIT;
+    }
+    if TENTH <= n {
         return LIMIT;
     }
     10 * n + (d - 48)
@@ -42,6 +45,19 @@ pub fn parse(word: &[u8]) -> Parsed
         }
         n = next;
         i += 1;
+    }
+    Parsed::Number(n)
+}
+
+// A number of at most `most`.
+pub fn size(word: &[u8], most: usize) -> Parsed
+    ensures { λ r. ⌜ Sized r most (sizeOf most (now (word .entry))) ⌝ }
+{
+    let Parsed::Number(n) = parse(word) else {
+        return Parsed::NoNumber;
+    };
+    if most < n {
+        return Parsed::NoNumber;
     }
     Parsed::Number(n)
 }

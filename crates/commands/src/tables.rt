@@ -3,7 +3,7 @@ ghost use Prim.Native.Nat.{_+_, _*_, _≤_};
 ghost use mathlib.Core.List.{List};
 ghost use lib.ListN.{length};
 ghost use Rattle.commands.specs.Hex.{bytesOf};
-ghost use Rattle.commands.specs.Answers.{Answered, checked, stretched, ofTable, checkAnswer, stretchAnswer};
+ghost use Rattle.commands.specs.Answers.{Answered, answerTo, checked, stretched, ofTable, checkAnswer, stretchAnswer};
 use crate::answers::say;
 use crate::answers::say_numbers;
 use crate::hex::Decoded;
@@ -81,4 +81,23 @@ pub fn stretch(words: &[u8], room: &mut [u8], out: &mut [u8], filled: usize) -> 
         Parsed::Number(p) => stretch_of(first_word(words), p, room, out, filled),
         Parsed::NoNumber => say(out, filled, b"bad number"),
     }
+}
+
+// ---- the line
+
+// Puts the answer to a line after the first `filled` bytes of `out`, and gives how many bytes `out` then has.
+// The bytes that its words spell come into `room`.
+pub fn answer(line: &[u8], room: &mut [u8], out: &mut [u8], filled: usize) -> usize
+    requires { ⌜ (filled + 32 ≤ length (now out)) × (length (now line) ≤ 2 * length (now room) + 1) ⌝ }
+    ensures { λ r. ⌜ Answered (now (out .entry)) filled (answerTo (now (line .entry))) (now (out .exit)) r ⌝ }
+{
+    let command = first_word(line);
+    let rest = after_word(line);
+    if check::same(command, b"check") {
+        return check(rest, room, out, filled);
+    }
+    if check::same(command, b"stretch") {
+        return stretch(rest, room, out, filled);
+    }
+    say(out, filled, b"bad command")
 }

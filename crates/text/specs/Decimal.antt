@@ -1,4 +1,4 @@
--- Decimal digits: the last digit stands behind those of a tenth, and a 32-bit number has at most ten.
+-- Decimal digits: the last digit stands behind those of a tenth, a 32-bit number has at most ten, and a 64-bit number twenty.
 use Prim.Native.Nat.{ℕ, zero, suc, _+_, _-_, _*_, _/_, _%_, _≤_, _<_}
 use native.Mathlib.Omega.{arith}
 use mathlib.Core.Path.{_≡_, refl, sym, ap, _∙_}
@@ -7,6 +7,7 @@ use mathlib.Core.Bool.{Bool, true, false}
 use borrow.Author.Tests.{lt-ltb, le-ltb, ltb-false}
 use lib.ListN.{length}
 use lib.Dec.{ltb}
+use lib.IntN.{ℤ, pos, negsuc}
 use Rattle.meaning.specs.Listing.{Text, digits, number, integer}
 use Rattle.meaning.specs.Table.{signed}
 use Rattle.value.specs.Constants.{signed-low, signed-high}
@@ -17,6 +18,9 @@ decimal n = number n
 
 unfoldable pub integral : ℕ → Text
 integral w = integer (signed w)
+
+unfoldable pub whole : ℤ → Text
+whole v = integer v
 
 -- one turn of `digits`, by its test
 abbrev turn : Bool → ℕ → ℕ → Text → Text
@@ -60,13 +64,13 @@ digits-few (suc f) k n rest l = go k l (ltb n 10) refl (λ j h. digits-few f j (
     go zero l false e h = absurd (omega (arith, ltb-false n 10 e))
     go (suc k) l false e h = rw (turned false f n rest e) (omega (arith, h k (omega arith)))
 
--- ---- 32-bit numbers
+-- ---- numbers
 
 pub decimal-one : (n : ℕ) → n < 10 → decimal n ≡ (48 + n) ∷ []
 unfolding decimal
 decimal-one n l = turned true 19 n [] (lt-ltb n 10 l)
 
-pub decimal-more : (n : ℕ) → 10 ≤ n → n < 4294967296 → decimal n ≡ decimal (n / 10) ++ ((48 + n % 10) ∷ [])
+pub decimal-more : (n : ℕ) → 10 ≤ n → n < 18446744073709551616 → decimal n ≡ decimal (n / 10) ++ ((48 + n % 10) ∷ [])
 unfolding decimal
 decimal-more n l m =
     turned false 19 n [] (le-ltb n 10 l)
@@ -77,6 +81,10 @@ pub decimal-few : (n : ℕ) → n < 4294967296 → length (decimal n) ≤ 10
 unfolding decimal
 decimal-few n l = omega (arith, digits-few 20 9 n [] (omega arith))
 
+pub decimal-long : (n : ℕ) → n < 18446744073709551616 → length (decimal n) ≤ 20
+unfolding decimal
+decimal-long n l = omega (arith, digits-few 20 19 n [] (omega arith))
+
 -- ---- signed ones
 
 pub integral-low : (w : ℕ) → w < 2147483648 → integral w ≡ decimal w
@@ -86,3 +94,11 @@ integral-low w l = ap integer (signed-low w l)
 pub integral-high : (w : ℕ) → 2147483648 ≤ w → integral w ≡ 45 ∷ decimal (suc (4294967295 - w))
 unfolding integral decimal
 integral-high w l = ap integer (signed-high w l)
+
+pub whole-pos : (n : ℕ) → whole (pos n) ≡ decimal n
+unfolding whole decimal
+whole-pos n = refl
+
+pub whole-neg : (n : ℕ) → whole (negsuc n) ≡ 45 ∷ decimal (suc n)
+unfolding whole decimal
+whole-neg n = refl

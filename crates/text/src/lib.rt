@@ -2,10 +2,13 @@
 ghost use Prim.Native.Nat.{_+_, _<_, _≤_};
 ghost use mathlib.Core.Path.{_≡_};
 ghost use mathlib.Core.List.{[], _∷_};
+ghost use mathlib.Core.Bool.{false};
 ghost use lib.ListN.{length};
+ghost use lib.IntN.{pos, negsuc};
+ghost use lib.Signed.{leZ};
 ghost use Rattle.meaning.specs.Listing.{word};
 ghost use Rattle.text.specs.Written.{Wrote};
-ghost use Rattle.text.specs.Decimal.{decimal, integral};
+ghost use Rattle.text.specs.Decimal.{decimal, integral, whole};
 
 pub fn put(out: &mut [u8], at: usize, byte: u8) -> usize
     requires { ⌜ at < length (now out) ⌝ }
@@ -27,14 +30,14 @@ pub fn copy(out: &mut [u8], at: usize, text: &[u8]) -> usize
     at + i
 }
 
-fn digit(n: u32) -> u8
+fn digit(n: u64) -> u8
     requires { ⌜ n < 10 ⌝ }
     ensures { λ r. ⌜ r ≡ 48 + n ⌝ }
 {
     n as u8 + 48
 }
 
-fn digits(out: &mut [u8], at: usize, n: u32) -> usize
+fn digits(out: &mut [u8], at: usize, n: u64) -> usize
     requires { ⌜ at + length (decimal n) ≤ length (now out) ⌝ }
     ensures { λ r. ⌜ Wrote (now (out .entry)) at (decimal n) (now (out .exit)) r ⌝ }
 {
@@ -50,7 +53,33 @@ pub fn number(out: &mut [u8], at: usize, n: u32) -> usize
     requires { ⌜ at + 10 ≤ length (now out) ⌝ }
     ensures { λ r. ⌜ Wrote (now (out .entry)) at (decimal n) (now (out .exit)) r × (r ≤ at + 10) ⌝ }
 {
+    digits(out, at, n as u64)
+}
+
+pub fn long_number(out: &mut [u8], at: usize, n: u64) -> usize
+    requires { ⌜ at + 20 ≤ length (now out) ⌝ }
+    ensures { λ r. ⌜ Wrote (now (out .entry)) at (decimal n) (now (out .exit)) r × (r ≤ at + 20) ⌝ }
+{
     digits(out, at, n)
+}
+
+// How far a negative number lies below -1.
+fn below(v: i64) -> u64
+    requires { ⌜ leZ (pos 0) v ≡ false ⌝ }
+    ensures { λ r. ⌜ (v ≡ negsuc r) × (r < 9223372036854775808) ⌝ }
+{
+    (-1 - v) as u64
+}
+
+pub fn long_integer(out: &mut [u8], at: usize, v: i64) -> usize
+    requires { ⌜ at + 21 ≤ length (now out) ⌝ }
+    ensures { λ r. ⌜ Wrote (now (out .entry)) at (whole v) (now (out .exit)) r × (r ≤ at + 21) ⌝ }
+{
+    if 0 <= v {
+        return long_number(out, at, v as u64);
+    }
+    let p = put(out, at, b'-');
+    long_number(out, p, below(v) + 1)
 }
 
 // A word as a two's complement number.

@@ -1,3 +1,4 @@
+use Rattle.commands.proofs.Cut.{short-part}
 use mathlib.Core.Path.{sym}
 use lib.Seq.{length-take-le}
 use native.Mathlib.Omega.{arith}
@@ -8,11 +9,14 @@ use Rattle.commands.proofs.console.answer_held.Tie as tie
 make-room-requires : tie.Need-make-room-requires
 make-room-requires c κs = search needs
 
-slice-aggregate-say : tie.Need-slice-aggregate-say
-slice-aggregate-say c = search needs
+said-requires : tie.Need-said-requires
+said-requires c κs = search needs
 
-say-requires : tie.Need-say-requires
-say-requires c κs = search needs
+slice-aggregate-complain : tie.Need-slice-aggregate-complain
+slice-aggregate-complain c = search needs
+
+complain-requires : tie.Need-complain-requires
+complain-requires c κs = search needs
 
 same-length : tie.Need-same-length
 same-length c = search needs
@@ -20,17 +24,26 @@ same-length c = search needs
 returns : tie.Need-returns
 returns c = search needs
 
-slice-aggregate-answer : tie.Need-slice-aggregate-answer
-slice-aggregate-answer c = sym (length-take-le _ _ (omega arith))
+slice-aggregate-respond : tie.Need-slice-aggregate-respond
+slice-aggregate-respond c = sym (length-take-le _ _ (omega arith))
 
-answer-requires : tie.Need-answer-requires
-answer-requires c κs = (omega arith, omega (arith, length-take-le (c .before .before .before .before .before .before .before .before .before .args .held) (c .before .before .before .before .before .before .before .before .before .args .line .now) (omega arith)))
+respond-requires : tie.Need-respond-requires
+respond-requires c κs = ((omega arith, omega arith, omega arith), short-part (c .before .before .before .before .before .before .before .before .before .before .before .before .before .before .before .args .held) (c .before .before .before .before .before .before .before .before .before .before .before .before .before .before .before .args .line .now) (omega arith), omega arith, omega arith)
 
 same-length-2 : tie.Need-same-length-2
 same-length-2 c = search needs
 
 same-length-3 : tie.Need-same-length-3
 same-length-3 c = search needs
+
+same-length-4 : tie.Need-same-length-4
+same-length-4 c = search needs
+
+same-length-5 : tie.Need-same-length-5
+same-length-5 c = search needs
+
+same-length-6 : tie.Need-same-length-6
+same-length-6 c = search needs
 
 returns-2 : tie.Need-returns-2
 returns-2 c = search needs
@@ -40,12 +53,16 @@ answer-held-spec =
     tie.close
     (tie.spec
     make-room-requires
-    slice-aggregate-say
-    say-requires
+    said-requires
+    slice-aggregate-complain
+    complain-requires
     same-length
     returns
-    slice-aggregate-answer
-    answer-requires
+    slice-aggregate-respond
+    respond-requires
     same-length-2
     same-length-3
+    same-length-4
+    same-length-5
+    same-length-6
     returns-2)

@@ -4,14 +4,15 @@ use mathlib.Core.Path.{_≡_, sym}
 use lib.Seq.{length-take-le}
 use native.Mathlib.Omega.{arith}
 use borrow.Author.Needs.{needs}
+use Rattle.commands.specs.States.{Stands}
 use Rattle.commands.proofs.console.take_piece.Statement.{statement}
 use Rattle.commands.proofs.console.take_piece.Tie as tie
 
 abbrev Inv-loop : tie.InvT-loop
-Inv-loop piece line₀ held room₀ out₀ from₀ kept₀ filled₀ end₀ line room out from kept filled end = (from ≤ end) × (end ≤ length piece) × (kept ≤ length line) × (filled ≤ length out) × (length line ≡ length line₀) × (length room ≡ length room₀) × (length out ≡ length out₀)
+Inv-loop piece line₀ held room₀ registers₀ places₀ area₀ out₀ from₀ kept₀ now₀ end₀ line room registers places area out from kept now end = (from ≤ end) × (end ≤ length piece) × (kept ≤ length line) × Stands 0 now (length registers) (length places) (length out) × (length line ≡ length line₀) × (length room ≡ length room₀) × (length registers ≡ length registers₀) × (length places ≡ length places₀) × (length area ≡ length area₀) × (length out ≡ length out₀)
 
 abbrev μ-loop : tie.MeasureT-loop
-μ-loop piece line₀ held room₀ out₀ from₀ kept₀ filled₀ end₀ line room out from kept filled end = length piece - end
+μ-loop piece line₀ held room₀ registers₀ places₀ area₀ out₀ from₀ kept₀ now₀ end₀ line room registers places area out from kept now end = length piece - end
 
 find-requires : tie.Need-find-requires Inv-loop μ-loop
 find-requires c κs = search needs
@@ -31,11 +32,11 @@ part-hold-end c = search needs
 hold-requires : tie.Need-hold-requires Inv-loop μ-loop
 hold-requires c κs = search needs
 
-answer-held-requires : tie.Need-answer-held-requires Inv-loop μ-loop
-answer-held-requires c κs = search needs
-
 add-from : tie.Need-add-from Inv-loop μ-loop
 add-from c = search needs
+
+answer-held-requires : tie.Need-answer-held-requires Inv-loop μ-loop
+answer-held-requires c κs = search needs
 
 find-requires-2 : tie.Need-find-requires-2 Inv-loop μ-loop
 find-requires-2 c κs = search needs
@@ -67,6 +68,9 @@ part-hold-end-2 c = search needs
 hold-requires-2 : tie.Need-hold-requires-2 Inv-loop μ-loop
 hold-requires-2 c κs = search needs
 
+said-requires : tie.Need-said-requires Inv-loop μ-loop
+said-requires c κs = search needs
+
 same-length : tie.Need-same-length Inv-loop μ-loop
 same-length c = search needs
 
@@ -75,6 +79,15 @@ same-length-2 c = search needs
 
 same-length-3 : tie.Need-same-length-3 Inv-loop μ-loop
 same-length-3 c = search needs
+
+same-length-4 : tie.Need-same-length-4 Inv-loop μ-loop
+same-length-4 c = search needs
+
+same-length-5 : tie.Need-same-length-5 Inv-loop μ-loop
+same-length-5 c = search needs
+
+same-length-6 : tie.Need-same-length-6 Inv-loop μ-loop
+same-length-6 c = search needs
 
 returns : tie.Need-returns Inv-loop μ-loop
 returns c = search needs
@@ -91,8 +104,8 @@ take-piece-spec =
     part-hold-start
     part-hold-end
     hold-requires
-    answer-held-requires
     add-from
+    answer-held-requires
     find-requires-2
     loop-less
     loop-again
@@ -103,7 +116,11 @@ take-piece-spec =
     part-hold-start-2
     part-hold-end-2
     hold-requires-2
+    said-requires
     same-length
     same-length-2
     same-length-3
+    same-length-4
+    same-length-5
+    same-length-6
     returns)

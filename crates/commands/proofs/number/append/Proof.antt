@@ -12,15 +12,19 @@ returns-2 : tie.Need-returns-2
 unfolding appended
 returns-2 c = simp (le-ltb _ _ (c .before .if1 .left), lt-ltb _ _ (c .if2 .taken))
 
+returns-3 : tie.Need-returns-3
+unfolding appended
+returns-3 c = simp (le-ltb _ _ (c .before .before .if1 .left), le-ltb _ _ (c .before .if2 .left), le-ltb _ _ (c .if3 .taken))
+
 mul-result : tie.Need-mul-result
 mul-result c = search needs
 
 add-result : tie.Need-add-result
 add-result c = search needs
 
-returns-3 : tie.Need-returns-3
+returns-4 : tie.Need-returns-4
 unfolding appended
-returns-3 c = simp (le-ltb _ _ (c .before .if1 .left), le-ltb _ _ (c .if2 .left))
+returns-4 c = simp (le-ltb _ _ (c .before .before .if1 .left), le-ltb _ _ (c .before .if2 .left), lt-ltb _ _ (c .if3 .left))
 
 pub append-spec : {M : Type 1} → statement M
-append-spec = tie.close (tie.spec returns returns-2 mul-result add-result returns-3)
+append-spec = tie.close (tie.spec returns returns-2 returns-3 mul-result add-result returns-4)

@@ -5,8 +5,8 @@ use lib.ListN.{length}
 use mathlib.Core.Path.{ap, refl, _∙_}
 use native.Mathlib.Omega.{arith}
 use borrow.Author.Needs.{needs}
-use Rattle.commands.proofs.answer.Statement.{statement}
-use Rattle.commands.proofs.answer.Tie as tie
+use Rattle.commands.proofs.tables.answer.Statement.{statement}
+use Rattle.commands.proofs.tables.answer.Tie as tie
 
 first-word-requires : tie.Need-first-word-requires
 first-word-requires c κs = search needs

@@ -2,8 +2,8 @@ use mathlib.Core.Path.{sym}
 use lib.Seq.{length-take-le}
 use native.Mathlib.Omega.{arith}
 use borrow.Author.Needs.{needs}
-use Rattle.commands.proofs.console.make_room.Statement.{statement}
-use Rattle.commands.proofs.console.make_room.Tie as tie
+use Rattle.commands.proofs.output.make_room.Statement.{statement}
+use Rattle.commands.proofs.output.make_room.Tie as tie
 
 sub-if1 : tie.Need-sub-if1
 sub-if1 c = search needs

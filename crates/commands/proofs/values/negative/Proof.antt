@@ -1,0 +1,33 @@
+use mathlib.Core.Path.{sym, ap, _∙_}
+use mathlib.Core.Option.{some}
+use Rattle.commands.specs.Values.{negativeOf}
+use Rattle.commands.proofs.Numbers.{sized-number, sized-none}
+use Rattle.commands.proofs.Spoken.{positive-fits, negative-fits, negative-back}
+use borrow.Author.Needs.{needs}
+use Rattle.commands.proofs.values.negative.Statement.{statement}
+use Rattle.commands.proofs.values.negative.Tie as tie
+
+size-requires : tie.Need-size-requires
+size-requires c κs = search needs
+
+enum-known-n : tie.Need-enum-known-n
+enum-known-n c = search needs
+
+cast-t5 : tie.Need-cast-t5
+cast-t5 c = positive-fits _ (sized-number _ _ _ (c .before .before .before .size .ensures) (c .before .n .given .1) .0)
+
+sub-t6 : tie.Need-sub-t6
+sub-t6 c = negative-fits _ (sized-number _ _ _ (c .before .before .before .size .ensures) (c .before .n .given .1) .0)
+
+enum-told : tie.Need-enum-told
+enum-told c = search needs
+
+returns : tie.Need-returns
+returns c = ap some (negative-back _ (sized-number _ _ _ (c .before .before .before .size .ensures) (c .before .n .given .1) .0)) ∙ sym (ap (λ o. negativeOf o) (sized-number _ _ _ (c .before .before .before .size .ensures) (c .before .n .given .1) .1))
+
+returns-2 : tie.Need-returns-2
+returns-2 c = sym (ap (λ o. negativeOf o) (sized-none _ _ _ (c .before .before .size .ensures) (c .enum-told .given .1)))
+
+pub negative-spec : {M : Type 1} → statement M
+negative-spec =
+    tie.close (tie.spec size-requires enum-known-n cast-t5 sub-t6 enum-told returns returns-2)
