@@ -23,7 +23,7 @@ const MOVES_LIMIT: u64 = 4294967295;
 
 // ---- stretches of cells
 
-// The bits in which cells differ from the mark are gathered with no way out of the loop, so that it takes several cells at once.
+// Many cells: the bits in which they differ from the mark are gathered with no way out of the loop, so that it takes several cells at once.
 fn all_marked(cells: &[i64]) -> bool
     ensures { λ r. ⌜ r ≡ all isMark (now (cells .entry)) ⌝ }
 {
@@ -34,6 +34,22 @@ fn all_marked(cells: &[i64]) -> bool
         i += 1;
     }
     differing == 0
+}
+
+// Few cells, as a symbol has: what follows need not wait for them.
+fn few_marked(cells: &[i64]) -> bool
+    ensures { λ r. ⌜ r ≡ all isMark (now (cells .entry)) ⌝ }
+{
+    let mut i = 0;
+    while i < cells.len() {
+        let v = cells[i];
+        if value::is_mark(v) {
+            i += 1;
+        } else {
+            return false;
+        }
+    }
+    true
 }
 
 fn all_valued(cells: &[i64]) -> bool
@@ -68,7 +84,7 @@ fn all_fit(cells: &[i64], marked: bool) -> bool
     ensures { λ r. ⌜ r ≡ all (cellFits (kind marked)) (now (cells .entry)) ⌝ }
 {
     if marked {
-        return all_marked(cells);
+        return few_marked(cells);
     }
     all_valued(cells)
 }
