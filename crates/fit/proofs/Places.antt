@@ -14,13 +14,13 @@ use Rattle.meaning.specs.Grammar.{Symbol, nonterminal, Grammar, productionAt, s
 use Rattle.meaning.specs.Table.{symbolOf}
 use Rattle.meaning.specs.Calls.{valued, marked, cellsFit, awaited}
 use Rattle.theory_base.specs.Members.{true→T, both}
-use Rattle.fit.specs.Upward.{Passes, passes-then, fitsFrom, from-start, from-end, standsFit, placesAbove, cellsOf, cellsAbove}
+use Rattle.fit.specs.Upward.{Passes, stretches, fitsFrom, from-start, from-end, standsFit, placesAbove, cellsOf, cellsAbove}
 use Rattle.fit.specs.Shown.{Shown, Readable, RowTo, countOf, countsFrom, rowOn, cellsAt, row-on, start-count, symbol-awaited, cells-of}
 
--- the registers of a place, stretch by stretch
-pub place-passes : (vs : List ℤ) (rows inherited synthesized : List ℕ) (p k at : ℕ) {x a b c u v r : ℕ} → x ≡ getD rows (16 * p + (k + 2)) 0 → a ≡ countsFrom rows synthesized (16 * p + 2) k → b ≡ countOf synthesized x → c ≡ countOf inherited x
-    → Passes vs (replicate a valued) at u → Passes vs (replicate b marked) u v → Passes vs (replicate c valued) v r → Passes vs (cellsAt rows inherited synthesized p k) at r
-place-passes vs rows inherited synthesized p k at ex ea eb ec l m n = rw (← ex, ← ea, ← eb, ← ec) (passes-then vs l (passes-then vs m n))
+-- the registers of a place, by their counts
+pub place-passes : (vs : List ℤ) (rows inherited synthesized : List ℕ) (p k at : ℕ) {x a b c r : ℕ} → x ≡ getD rows (16 * p + (k + 2)) 0 → a ≡ countsFrom rows synthesized (16 * p + 2) k → b ≡ countOf synthesized x → c ≡ countOf inherited x
+    → Passes vs (stretches a b c) at r → Passes vs (cellsAt rows inherited synthesized p k) at r
+place-passes vs rows inherited synthesized p k at ex ea eb ec l = rw (← ex, ← ea, ← eb, ← ec) l
 
 -- a place that passed its test has a row, and a symbol left
 module _ (rows : List ℕ) (productions x p : ℕ) (e : rowOn rows productions x p ≡ true) where

@@ -46,8 +46,8 @@ fit-stretch c zero ds vs l = refl
 fit-stretch c (suc n) ds [] l = absurd (omega arith)
 fit-stretch c (suc n) ds (v ∷ vs) l = ap (λ b. cellFits c v && b) (fit-stretch c n ds vs (omega arith)) ∙ sym (and-assoc (cellFits c v) (all (cellFits c) (take n vs)) (cellsFit ds (drop n vs)))
 
-fit-short : (c : Cell) (n : ℕ) (ds : List Cell) (vs : List ℤ) → length vs < n → cellsFit (replicate n c ++ ds) vs ≡ false
-fit-short c n ds vs l = unfit (replicate n c ++ ds) vs (λ e. omega (arith, length-append (replicate n c) ds, length-replicate n c))
+fit-short : (cs ds : List Cell) (vs : List ℤ) → length vs < length cs → cellsFit (cs ++ ds) vs ≡ false
+fit-short cs ds vs l = unfit (cs ++ ds) vs (λ e. omega (arith, length-append cs ds))
 
 -- the registers from `at` on are those of the cells; past the end none are
 unfoldable pub fitsFrom : List ℤ → ℕ → List Cell → Bool
@@ -81,15 +81,20 @@ module _ (vs : List ℤ) where
   unfolding fitsFrom
   from-start cs = rw (le-leb 0 (length vs) (omega arith)) refl
 
-  module _ (c : Cell) (at n : ℕ) where
-    out : length vs < at + n → (ds : List Cell) → fitsFrom vs at (replicate n c ++ ds) ≡ false
+  -- more cells than registers
+  module _ (cs : List Cell) (at : ℕ) (l : length vs < at + length cs) where
+    out : (ds : List Cell) → fitsFrom vs at (cs ++ ds) ≡ false
     unfolding fitsFrom
-    out l ds = by (leb at (length vs)) refl
+    out ds = by (leb at (length vs)) refl
       where
-        by : (b : Bool) → leb at (length vs) ≡ b → b && cellsFit (replicate n c ++ ds) (drop at vs) ≡ false
-        by true e = fit-short c n ds (drop at vs) (omega (arith, length-drop at vs, leb-true at (length vs) e))
+        by : (b : Bool) → leb at (length vs) ≡ b → b && cellsFit (cs ++ ds) (drop at vs) ≡ false
+        by true e = fit-short cs ds (drop at vs) (omega (arith, length-drop at vs, leb-true at (length vs) e))
         by false e = refl
 
+    pub passes-out : Passes vs cs at (length vs + 1)
+    passes-out = record { inside = omega arith; same = λ ds. out ds ∙ sym (past-end (length vs + 1) ds (omega arith)) }
+
+  module _ (c : Cell) (at n : ℕ) where
     pub passes-met : at + n ≤ length vs → all (cellFits c) (take n (drop at vs)) ≡ true → Passes vs (replicate n c) at (at + n)
     unfolding fitsFrom
     passes-met l e =
@@ -107,10 +112,17 @@ module _ (vs : List ℤ) where
         }
 
     pub passes-short : length vs < at + n → Passes vs (replicate n c) at (length vs + 1)
-    passes-short l = record { inside = omega arith; same = λ ds. out l ds ∙ sym (past-end (length vs + 1) ds (omega arith)) }
+    passes-short l = passes-out (replicate n c) at (omega (arith, length-replicate n c))
 
   pub passes-then : {cs ds : List Cell} {at r s : ℕ} → Passes vs cs at r → Passes vs ds r s → Passes vs (cs ++ ds) at s
   passes-then {cs} {ds} p q = record { inside = q .inside; same = λ es. ap (fitsFrom vs _) (append-assoc cs ds es) ∙ (p .same (ds ++ es) ∙ q .same es) }
+
+-- registers with values, marked ones, and registers with values again
+abbrev pub stretches : ℕ → ℕ → ℕ → List Cell
+stretches a b c = replicate a valued ++ (replicate b marked ++ replicate c valued)
+
+pub stretches-length : (a b c : ℕ) → length (stretches a b c) ≡ a + (b + c)
+stretches-length a b c = omega (arith, length-append (replicate a valued) (replicate b marked ++ replicate c valued), length-append (replicate b marked) (replicate c valued), length-replicate a valued, length-replicate b marked, length-replicate c valued)
 
 -- ---- places from the bottom up
 

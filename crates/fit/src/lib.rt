@@ -8,7 +8,7 @@ ghost use Rattle.meaning.specs.Base.{all};
 ghost use Rattle.meaning.specs.Grammar.{Grammar, nonterminal};
 ghost use Rattle.meaning.specs.Value.{inRange};
 ghost use Rattle.meaning.specs.Calls.{isMark, cellFits, stacksFit};
-ghost use Rattle.fit.specs.Upward.{kind, Passes, fitsFrom, placesAbove, cellsAbove, standsFit};
+ghost use Rattle.fit.specs.Upward.{kind, Passes, stretches, fitsFrom, placesAbove, cellsAbove, standsFit};
 ghost use Rattle.fit.specs.Shown.{Shown, Readable, RowTo, countOf, countsFrom, rowOn, cellsAt};
 ghost use Rattle.fit.specs.Cut.{numbers, stacksOf};
 
@@ -23,7 +23,7 @@ const MOVES_LIMIT: u64 = 4294967295;
 
 // ---- stretches of cells
 
-// The bits in which cells differ from the mark are gathered with no way out of the loop, so that it takes several cells at once.
+// Many cells: the bits in which they differ from the mark are gathered with no way out of the loop, so that it takes several cells at once.
 fn all_marked(cells: &[i64]) -> bool
     ensures { λ r. ⌜ r ≡ all isMark (now (cells .entry)) ⌝ }
 {
@@ -34,6 +34,22 @@ fn all_marked(cells: &[i64]) -> bool
         i += 1;
     }
     differing == 0
+}
+
+// Few cells, as a symbol has: what follows need not wait for them.
+fn few_marked(cells: &[i64]) -> bool
+    ensures { λ r. ⌜ r ≡ all isMark (now (cells .entry)) ⌝ }
+{
+    let mut i = 0;
+    while i < cells.len() {
+        let v = cells[i];
+        if value::is_mark(v) {
+            i += 1;
+        } else {
+            return false;
+        }
+    }
+    true
 }
 
 fn all_valued(cells: &[i64]) -> bool
@@ -68,7 +84,7 @@ fn all_fit(cells: &[i64], marked: bool) -> bool
     ensures { λ r. ⌜ r ≡ all (cellFits (kind marked)) (now (cells .entry)) ⌝ }
 {
     if marked {
-        return all_marked(cells);
+        return few_marked(cells);
     }
     all_valued(cells)
 }
@@ -83,6 +99,35 @@ fn past(registers: &[i64], at: usize, count: usize, marked: bool) -> usize
         return registers.len() + 1;
     }
     if all_fit(&registers[at..end], marked) {
+        return end;
+    }
+    registers.len() + 1
+}
+
+// The same for registers with values, marked ones, and registers with values again.
+fn past_stretches(
+    registers: &[i64],
+    at: usize,
+    passed: usize,
+    marked: usize,
+    valued: usize,
+) -> usize
+    requires { ⌜ (at ≤ length (now registers) + 1) × (passed ≤ 4096) × (marked ≤ 4096) × (valued ≤ 4096) ⌝ }
+    ensures { λ r. ⌜ Passes (now (registers .entry)) (stretches passed marked valued) at r ⌝ }
+{
+    let from = at + passed;
+    let to = from + marked;
+    let end = to + valued;
+    if registers.len() < end {
+        return registers.len() + 1;
+    }
+    if !all_valued(&registers[at..from]) {
+        return registers.len() + 1;
+    }
+    if !few_marked(&registers[from..to]) {
+        return registers.len() + 1;
+    }
+    if all_valued(&registers[to..end]) {
         return end;
     }
     registers.len() + 1
@@ -155,14 +200,13 @@ fn past_place(
     ensures { λ r. ⌜ Passes (now (registers .entry)) (cellsAt (now (rows .entry)) (now (inherited .entry)) (now (synthesized .entry)) production passed) at r ⌝ }
 {
     let symbol = wide(rows[16 * production + (passed + 2)]);
-    let below = past(
+    past_stretches(
         registers,
         at,
         counts_passed(rows, synthesized, production, passed),
-        false,
-    );
-    let middle = past(registers, below, count_of(synthesized, symbol), true);
-    past(registers, middle, count_of(inherited, symbol), false)
+        count_of(synthesized, symbol),
+        count_of(inherited, symbol),
+    )
 }
 
 // Whether the places above the bottom one stand on each other, and the registers from `at` up are theirs.

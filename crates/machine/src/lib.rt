@@ -29,8 +29,8 @@ const WHOLE: usize = 128;
 // 01: "35 .. a move after 4,294,967,295".
 const MOVES_LIMIT: u64 = 4294967295;
 
-// 01: "35 a token after 65,535".
-const TOKENS_LIMIT: u64 = 65535;
+// 01: "35 a token after 65,535": so many are read before the last one.
+const TOKENS_BEFORE: u64 = 65534;
 
 // The operation's number in a word that says that nothing is left; the others are in docs/PROGRAM.md.
 const NOTHING: usize = 6;
@@ -455,7 +455,7 @@ pub fn feed(
         run,
         tokens,
         terminals,
-        TOKENS_LIMIT - 1,
+        TOKENS_BEFORE,
     )
 }
 

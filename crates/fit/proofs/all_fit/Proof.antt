@@ -2,11 +2,11 @@ use borrow.Author.Needs.{needs}
 use Rattle.fit.proofs.all_fit.Statement.{statement}
 use Rattle.fit.proofs.all_fit.Tie as tie
 
-all-marked-requires : tie.Need-all-marked-requires
-all-marked-requires c κs = search needs
+few-marked-requires : tie.Need-few-marked-requires
+few-marked-requires c κs = search needs
 
 returns : tie.Need-returns
-returns c = rw (c .before .if1 .taken) (c .all-marked .ensures)
+returns c = rw (c .before .if1 .taken) (c .few-marked .ensures)
 
 all-valued-requires : tie.Need-all-valued-requires
 all-valued-requires c κs = search needs
@@ -15,4 +15,4 @@ returns-2 : tie.Need-returns-2
 returns-2 c = rw (c .before .if1 .left) (c .all-valued .ensures)
 
 pub all-fit-spec : {M : Type 1} → statement M
-all-fit-spec = tie.close (tie.spec all-marked-requires returns all-valued-requires returns-2)
+all-fit-spec = tie.close (tie.spec few-marked-requires returns all-valued-requires returns-2)

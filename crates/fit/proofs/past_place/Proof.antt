@@ -23,31 +23,24 @@ wide-requires c κs = search needs
 counts-passed-requires : tie.Need-counts-passed-requires
 counts-passed-requires c κs = search needs
 
-past-requires : tie.Need-past-requires
-past-requires c κs = search needs
-
 count-of-requires : tie.Need-count-of-requires
 count-of-requires c κs =
-    let s = c .before .before .before .before in
-    omega (arith, c .before .before .wide .ensures .0, s .pre .1 .symbols (s .args .passed) (omega arith))
-
-past-requires-2 : tie.Need-past-requires-2
-past-requires-2 c κs = search needs
+    let s = c .before .before .before in
+    omega (arith, c .before .wide .ensures .0, s .pre .1 .symbols (s .args .passed) (omega arith))
 
 count-of-requires-2 : tie.Need-count-of-requires-2
 count-of-requires-2 c κs =
-    let s = c .before .before .before .before .before .before in
-    omega (arith, c .before .before .before .before .wide .ensures .0, s .pre .1 .symbols (s .args .passed) (omega arith))
+    let s = c .before .before .before .before in
+    omega (arith, c .before .before .wide .ensures .0, s .pre .1 .symbols (s .args .passed) (omega arith))
 
-past-requires-3 : tie.Need-past-requires-3
-past-requires-3 c κs = search needs
+past-stretches-requires : tie.Need-past-stretches-requires
+past-stretches-requires c κs = (c .before .before .before .before .before .pre .0, c .before .before .counts-passed .ensures .1, omega (arith, c .before .count-of .ensures .1), omega (arith, c .count-of2 .ensures .1))
 
 returns : tie.Need-returns
 returns c =
-    let s = c .before .before .before .before .before .before .before .before in
+    let s = c .before .before .before .before .before .before in
     place-passes (now (s .args .registers)) (now (s .args .rows)) (now (s .args .inherited)) (now (s .args .synthesized)) (s .args .production) (s .args .passed) (s .args .at)
-    (c .before .before .before .before .before .before .wide .ensures .0) (c .before .before .before .before .before .counts-passed .ensures .0) (c .before .before .before .count-of .ensures .0) (c .before .count-of2 .ensures .0)
-    (c .before .before .before .before .past .ensures) (c .before .before .past2 .ensures) (c .past3 .ensures)
+    (c .before .before .before .before .wide .ensures .0) (c .before .before .before .counts-passed .ensures .0) (c .before .before .count-of .ensures .0) (c .before .count-of2 .ensures .0) (c .past-stretches .ensures)
 
 pub past-place-spec : {M : Type 1} → statement M
 past-place-spec =
@@ -59,9 +52,7 @@ past-place-spec =
     element-copy-out-wide
     wide-requires
     counts-passed-requires
-    past-requires
     count-of-requires
-    past-requires-2
     count-of-requires-2
-    past-requires-3
+    past-stretches-requires
     returns)
