@@ -7,8 +7,9 @@ use mathlib.Core.Path.{_≡_, refl, sym, ap, ap₂, _∙_, subst}
 use mathlib.Core.Logic.{inl, inr}
 use mathlib.Core.List.{List, [], _∷_, _++_}
 use lib.ListN.{length, set, getD}
-use lib.Dec.{eqb}
-use borrow.Author.Tests.{lt-ltb, le-ltb, eq-eqb, ne-eqb}
+use lib.Count.{trailingZeros}
+use lib.Pow.{shr-shr, shr-le}
+use borrow.Author.Tests.{lt-ltb, le-ltb}
 use Rattle.meaning.specs.Grammar.{Grammar, nonterminal, syn, nonterminalCount}
 use Rattle.meaning.specs.Layout.{Bytes}
 use Rattle.meaning.specs.Program.{segmentWords}
@@ -16,7 +17,7 @@ use Rattle.meaning.specs.Table.{byte}
 use Rattle.theory_program.specs.Proper.{att-most}
 use Rattle.blocks.specs.Patch.{patch, Wrote, Onward, onward-as, onward-then, onward-end, wrote-one, wrote-as, wrote-then}
 use Rattle.program.specs.Brought.{Brought, grammarIn, well-formed, count-is, stretchEnd}
-use Rattle.program.specs.Directory.{zeros, markIf, Marked, marked-start, marked-turn, marked-end, bits-end, next-bit}
+use Rattle.program.specs.Directory.{zeros, Marked, marked-start, marked-skip, marked-set, marked-end, bits-end, zero-run, bit-there}
 
 pub four-written : (area : List ℕ) (at a b c d : ℕ) → Wrote area (set (set (set (set area at a) (at + 1) b) (at + 2) c) (at + 3) d) at (at + 4) (a ∷ b ∷ c ∷ d ∷ [])
 unfolding patch
@@ -56,14 +57,6 @@ clear-end {old} {area} {from} {to} {at} l o = onward-end (onward-as (zeros-end t
 
 -- ---- marks
 
-pub mark-yes : (n : ℕ) (area : List ℕ) (at number : ℕ) → n ≡ 1 → set area at number ≡ markIf (eqb n 1) area at number
-unfolding markIf
-mark-yes n area at number e = rw (eq-eqb n 1 e)
-
-pub mark-no : (n : ℕ) (area : List ℕ) (at number : ℕ) → (n ≡ 1 → ⊥) → area ≡ markIf (eqb n 1) area at number
-unfolding markIf
-mark-no n area at number e = rw (ne-eqb n 1 e)
-
 pub record MarkGo (old area : List ℕ) (from set number rest u : ℕ) : Type 0 where
   pub few : u ≤ 64
   pub bits : rest ≡ set / 2 ^ u
@@ -72,22 +65,42 @@ pub record MarkGo (old area : List ℕ) (from set number rest u : ℕ) : Type 0 
 pub mark-start : (area : List ℕ) (from set number : ℕ) → MarkGo area area from set number set 0
 mark-start area from set number = record { few = omega arith; bits = sym (div-one set); marked = marked-start area from set number }
 
-module _ {old area : List ℕ} {from set number rest u : ℕ} (m : MarkGo old area from set number rest u) where
-  pub mark-few : set < 2 ^ 64 → (rest ≡ 0 → ⊥) → u < 64
-  mark-few l n = go (decLt u 64)
+module _ {old area : List ℕ} {from bits number rest u : ℕ} (m : MarkGo old area from bits number rest u) (wide : bits < 2 ^ 64) (some : rest ≡ 0 → ⊥) where
+  abbrev gap : ℕ
+  gap = trailingZeros 64 rest
+
+  there : rest / 2 ^ gap % 2 ≡ 1
+  there = bit-there 64 rest some (omega (arith, m .bits, shr-le bits u))
+
+  at-bit : rest / 2 ^ gap ≡ bits / 2 ^ (u + gap)
+  at-bit = ap (λ n. n / 2 ^ gap) (m .bits) ∙ shr-shr bits u gap
+
+  pub mark-few : u + gap < 64
+  mark-few = go (decLt (u + gap) 64)
     where
-      go : Dec (u < 64) → u < 64
+      go : Dec (u + gap < 64) → u + gap < 64
       go (yes h) = h
-      go (no h) = absurd (n (m .bits ∙ bits-end set u l (omega arith)))
+      go (no h) = absurd (let z : rest / 2 ^ gap ≡ 0 = at-bit ∙ bits-end bits (u + gap) wide (omega arith) in omega (arith, there))
 
-  pub mark-room : set < 2 ^ 64 → (rest ≡ 0 → ⊥) → from + 64 ≤ length old → from + u < length area
-  mark-room l n h = omega (arith, mark-few l n, m .marked .size)
+  pub mark-room : from + 64 ≤ length old → from + u + gap < length area
+  mark-room h = omega (arith, mark-few, m .marked .size)
 
-  pub mark-turn : {new : List ℕ} → set < 2 ^ 64 → (rest ≡ 0 → ⊥) → from + 64 ≤ length old → new ≡ markIf (eqb (rest % 2) 1) area (from + u) number → MarkGo old new from set number (rest / 2) (u + 1)
-  mark-turn l n h e = record { few = omega (arith, mark-few l n); bits = next-bit set u rest (m .bits); marked = subst (λ z. Marked old z from set number (u + 1)) (sym e) (marked-turn (m .marked) rest (m .bits) (mark-few l n) (mark-room l n h)) }
+  pub mark-turn : from + 64 ≤ length old → MarkGo old (set area (from + u + gap) number) from bits number (rest / 2 ^ gap / 2) (u + gap + 1)
+  mark-turn h =
+      let place : from + (u + gap) ≡ from + u + gap = omega arith in
+      record {
+        few = omega (arith, mark-few);
+        bits = ap (λ n. n / 2) at-bit ∙ shr-shr bits (u + gap) 1;
+        marked = subst (λ z. Marked old (set area z number) from bits number (u + gap + 1)) place
+            (marked-set (marked-skip (m .marked) gap (λ v l. ap (λ n. n / 2 ^ v % 2) (sym (m .bits)) ∙ zero-run 64 rest v l)) (ap (λ n. n % 2) (sym at-bit) ∙ there) mark-few (omega (arith, mark-few, m .marked .size)));
+      }
 
-  pub mark-end : rest ≡ 0 → Marked old area from set number 64
-  mark-end e = marked-end (m .marked) (sym (m .bits) ∙ e) (m .few)
+-- half of what is left is less
+pub mark-less : {old area : List ℕ} {from bits number rest u : ℕ} → MarkGo old area from bits number rest u → (rest ≡ 0 → ⊥) → rest / 2 ^ trailingZeros 64 rest / 2 < rest
+mark-less {rest = rest} m some = let h : rest / 2 ^ trailingZeros 64 rest ≤ rest = shr-le rest (trailingZeros 64 rest) in omega arith
+
+pub mark-end : {old area : List ℕ} {from bits number rest u : ℕ} → MarkGo old area from bits number rest u → rest ≡ 0 → Marked old area from bits number 64
+mark-end m e = marked-end (m .marked) (sym (m .bits) ∙ e) (m .few)
 
 -- ---- the whole segment
 

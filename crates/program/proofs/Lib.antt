@@ -1,3 +1,4 @@
 pub mod Laws
 pub mod Sections
 pub mod Outlined
+pub mod Nexts

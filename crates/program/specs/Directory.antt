@@ -1,6 +1,8 @@
 -- The directory: zeros, then each production's number plus 1 at the tokens of its set, the last production first, so that the first one stays.
 use Prim.Native.Nat.{ℕ, zero, suc, _+_, _-_, _*_, _/_, _%_, _^_, _≤_, _<_}
-use native.Mathlib.Nat.{div-eq-of-lt, zero-div, lt-of-lt-of-le}
+use native.Mathlib.Nat.{div-eq-of-lt, div-one, zero-div, lt-of-lt-of-le, not-suc-le-zero, pow-suc}
+use native.Mathlib.Numerals.{one-add}
+use lib.Count.{trailingZeros, under}
 use native.Mathlib.Omega.{arith}
 use native.Mathlib.Decide.{decLt, ℕ-discrete}
 use mathlib.Core.Path.{_≡_, refl, sym, ap, ap₂, _∙_, subst}
@@ -39,10 +41,6 @@ zeros n = replicate n 0
 
 -- ---- the words of one set
 
-unfoldable pub markIf : Bool → List ℕ → ℕ → ℕ → List ℕ
-markIf true area at number = set area at number
-markIf false area at number = area
-
 -- the first u places of a row of 64 words hold the number where the set has a bit
 pub record Marked (old new : List ℕ) (from set number u : ℕ) : Type 0 where
   pub size : length new ≡ length old
@@ -52,31 +50,27 @@ pub record Marked (old new : List ℕ) (from set number u : ℕ) : Type 0 where
 pub marked-start : (area : List ℕ) (from set number : ℕ) → Marked area area from set number 0
 marked-start area from set number = record { size = refl; inside = λ v l. rw (le-ltb v 0 (omega arith)); outside = λ i h. refl }
 
-mark-length : (b : Bool) (area : List ℕ) (at number : ℕ) → length (markIf b area at number) ≡ length area
-unfolding markIf
-mark-length true area at number = length-set area at number
-mark-length false area at number = refl
+module _ {old area : List ℕ} {from bits number u : ℕ} (m : Marked old area from bits number u) where
+  -- a place where the set has no bit stays
+  none-at : (v : ℕ) → v < 64 → u ≤ v → getD area (from + v) 0 ≡ getD old (from + v) 0
+  none-at v k h = rw (le-ltb v u h) at (m .inside v k)
 
-mark-other : (b : Bool) (area : List ℕ) (at number i : ℕ) → (i ≡ at → ⊥) → getD (markIf b area at number) i 0 ≡ getD area i 0
-unfolding markIf
-mark-other true area at number i n = getD-set-other area at i number 0 n
-mark-other false area at number i n = refl
-
-mark-here : (b : Bool) (area : List ℕ) (at number : ℕ) → at < length area → getD (markIf b area at number) at 0 ≡ choose b number (getD area at 0)
-unfolding markIf
-mark-here true area at number l = getD-set-same area at number 0 l
-mark-here false area at number l = refl
-
-module _ {old area : List ℕ} {from set number u : ℕ} (m : Marked old area from set number u) where
-  pub marked-turn : (rest : ℕ) → rest ≡ set / 2 ^ u → u < 64 → from + u < length area → Marked old (markIf (eqb (rest % 2) 1) area (from + u) number) from set number (u + 1)
-  marked-turn rest e l h = record { size = mark-length b area (from + u) number ∙ m .size; inside = λ v k. go v k (ℕ-discrete v u); outside = λ i k. mark-other b area (from + u) number i (apart i k) ∙ m .outside i k }
+  -- a run of places without a bit
+  pub marked-skip : (j : ℕ) → ((v : ℕ) → v < j → bits / 2 ^ u / 2 ^ v % 2 ≡ 0) → Marked old area from bits number (u + j)
+  marked-skip j none = record { size = m .size; inside = λ v k. go v k (decLt v u) (decLt v (u + j)); outside = m .outside }
     where
-      b : Bool
-      b = eqb (rest % 2) 1
+      go : (v : ℕ) → v < 64 → Dec (v < u) → Dec (v < u + j) → getD area (from + v) 0 ≡ choose (ltb v (u + j) && eqb (bits / 2 ^ v % 2) 1) number (getD old (from + v) 0)
+      go v k (yes h) e = m .inside v k ∙ ap (λ c. choose (c && eqb (bits / 2 ^ v % 2) 1) number (getD old (from + v) 0)) (lt-ltb v u h ∙ sym (lt-ltb v (u + j) (omega arith)))
+      go v k (no h) (no e) = rw (le-ltb v (u + j) (omega arith)) (none-at v k (omega arith))
+      go v k (no h) (yes e) =
+          let s : u + (v - u) ≡ v = omega arith in
+          let z : bits / 2 ^ v % 2 ≡ 0 = subst (λ w. bits / 2 ^ w % 2 ≡ 0) s (ap (λ n. n % 2) (sym (shr-shr bits u (v - u))) ∙ none (v - u) (omega arith)) in
+          rw (lt-ltb v (u + j) e, z) (none-at v k (omega arith))
 
-      same : b ≡ eqb (set / 2 ^ u % 2) 1
-      same = ap (λ n. eqb (n % 2) 1) e
-
+  -- a place with one
+  pub marked-set : bits / 2 ^ u % 2 ≡ 1 → u < 64 → from + u < length area → Marked old (set area (from + u) number) from bits number (u + 1)
+  marked-set one l h = record { size = length-set area (from + u) number ∙ m .size; inside = λ v k. go v k (ℕ-discrete v u); outside = λ i k. getD-set-other area (from + u) i number 0 (apart i k) ∙ m .outside i k }
+    where
       apart : (i : ℕ) → (i < from) ⊎ (from + 64 ≤ i) → i ≡ from + u → ⊥
       apart i (inl k) q = omega arith
       apart i (inr k) q = omega arith
@@ -85,28 +79,48 @@ module _ {old area : List ℕ} {from set number u : ℕ} (m : Marked old area fr
       below v n (yes k) = lt-ltb v (u + 1) (omega arith) ∙ sym (lt-ltb v u k)
       below v n (no k) = le-ltb v (u + 1) (omega arith) ∙ sym (le-ltb v u (omega arith))
 
-      go : (v : ℕ) → v < 64 → Dec (v ≡ u) → getD (markIf b area (from + u) number) (from + v) 0 ≡ choose (ltb v (u + 1) && eqb (set / 2 ^ v % 2) 1) number (getD old (from + v) 0)
-      go v k (yes q) =
-          let before : getD area (from + u) 0 ≡ getD old (from + u) 0 = rw (le-ltb u u (omega arith)) at (m .inside u l) in
-          rw (q, lt-ltb u (u + 1) (omega arith), sym same) (mark-here b area (from + u) number h ∙ ap (choose b number) before)
-      go v k (no n) = mark-other b area (from + u) number (from + v) (λ q. n (omega arith)) ∙ (m .inside v k ∙ ap (λ c. choose (c && eqb (set / 2 ^ v % 2) 1) number (getD old (from + v) 0)) (sym (below v n (decLt v u))))
+      go : (v : ℕ) → v < 64 → Dec (v ≡ u) → getD (set area (from + u) number) (from + v) 0 ≡ choose (ltb v (u + 1) && eqb (bits / 2 ^ v % 2) 1) number (getD old (from + v) 0)
+      go v k (yes q) = rw (q, lt-ltb u (u + 1) (omega arith), one) (getD-set-same area (from + u) number 0 h)
+      go v k (no n) = getD-set-other area (from + u) (from + v) number 0 (λ q. n (omega arith)) ∙ (m .inside v k ∙ ap (λ c. choose (c && eqb (bits / 2 ^ v % 2) 1) number (getD old (from + v) 0)) (sym (below v n (decLt v u))))
 
-  pub marked-end : set / 2 ^ u ≡ 0 → u ≤ 64 → Marked old area from set number 64
+  pub marked-end : bits / 2 ^ u ≡ 0 → u ≤ 64 → Marked old area from bits number 64
   marked-end e l = record { size = m .size; inside = λ v k. m .inside v k ∙ ap (λ c. choose c number (getD old (from + v) 0)) (go v k (decLt v u)); outside = m .outside }
     where
-      go : (v : ℕ) → v < 64 → Dec (v < u) → (ltb v u && eqb (set / 2 ^ v % 2) 1) ≡ (ltb v 64 && eqb (set / 2 ^ v % 2) 1)
+      go : (v : ℕ) → v < 64 → Dec (v < u) → (ltb v u && eqb (bits / 2 ^ v % 2) 1) ≡ (ltb v 64 && eqb (bits / 2 ^ v % 2) 1)
       go v k (yes h) = rw (lt-ltb v u h, lt-ltb v 64 k)
       go v k (no h) =
           let s : u + (v - u) ≡ v = omega arith in
-          let z : set / 2 ^ v ≡ 0 = subst (λ w. set / 2 ^ w ≡ 0) s (sym (shr-shr set u (v - u)) ∙ (ap (λ n. n / 2 ^ (v - u)) e ∙ zero-div (2 ^ (v - u)))) in
+          let z : bits / 2 ^ v ≡ 0 = subst (λ w. bits / 2 ^ w ≡ 0) s (sym (shr-shr bits u (v - u)) ∙ (ap (λ n. n / 2 ^ (v - u)) e ∙ zero-div (2 ^ (v - u)))) in
           rw (le-ltb v u (omega arith), lt-ltb v 64 k, z) refl
 
 -- bits above 63 are none
 pub bits-end : (set u : ℕ) → set < 2 ^ 64 → 64 ≤ u → set / 2 ^ u ≡ 0
 bits-end set u l h = div-eq-of-lt (lt-of-lt-of-le l (pow-mono {i = 64} {j = u} h))
 
-pub next-bit : (set u rest : ℕ) → rest ≡ set / 2 ^ u → rest / 2 ≡ set / 2 ^ (u + 1)
-next-bit set u rest e = ap (λ n. n / 2) e ∙ shr-shr set u 1
+-- ---- the lowest bit of a number
+
+halved : (n w : ℕ) → n / 2 ^ suc w ≡ n / 2 / 2 ^ w
+halved n w = ap (λ x. n / 2 ^ x) (sym (one-add w)) ∙ sym (shr-shr n 1 w)
+
+-- no bit stands below it
+pub zero-run : (d n v : ℕ) → v < trailingZeros d n → n / 2 ^ v % 2 ≡ 0
+unfolding trailingZeros
+zero-run zero n v l = absurd (not-suc-le-zero l)
+zero-run (suc d) n v l = go (n % 2) refl v l (zero-run d (n / 2))
+  where
+    go : (r : ℕ) → n % 2 ≡ r → (v : ℕ) → v < under r (trailingZeros d (n / 2)) → ((w : ℕ) → w < trailingZeros d (n / 2) → n / 2 / 2 ^ w % 2 ≡ 0) → n / 2 ^ v % 2 ≡ 0
+    go zero e zero h ih = ap (λ x. x % 2) (div-one n) ∙ e
+    go zero e (suc w) h ih = ap (λ x. x % 2) (halved n w) ∙ ih w (omega arith)
+    go (suc r) e v h ih = absurd (not-suc-le-zero h)
+
+pub bit-there : (d n : ℕ) → (n ≡ 0 → ⊥) → n < 2 ^ d → n / 2 ^ trailingZeros d n % 2 ≡ 1
+unfolding trailingZeros
+bit-there zero n h l = absurd (h (omega arith))
+bit-there (suc d) n h l = go (n % 2) refl (λ (e : n % 2 ≡ 0). bit-there d (n / 2) (λ q. h (omega arith)) (omega (arith, pow-suc 2 d)))
+  where
+    go : (r : ℕ) → n % 2 ≡ r → (n % 2 ≡ 0 → n / 2 / 2 ^ trailingZeros d (n / 2) % 2 ≡ 1) → n / 2 ^ under r (trailingZeros d (n / 2)) % 2 ≡ 1
+    go zero e ih = ap (λ x. x % 2) (halved n (trailingZeros d (n / 2))) ∙ ih e
+    go (suc r) e ih = ap (λ x. x % 2) (div-one n) ∙ omega arith
 
 from-none : (n : ℕ) → 0 + n ≡ n
 from-none n = omega arith

@@ -89,6 +89,14 @@ module _ {rows sets : List ℕ} {nonterminals count : ℕ} (x : Alternatives row
   pub next-none : count ≤ i → 0 ≡ firstOf (sameLeft n) i (drop i ps)
   next-none l = sym (ap (firstOf (sameLeft n) i) (drop-of-length-le ps {i = i} (omega (arith, x .isCount))))
 
+-- the number plus 1 of the production that follows p among those of its left side, or 0
+abbrev pub NextOf : List ℕ → List ℕ → ℕ → ℕ → ℕ → ℕ → Type 0
+NextOf rows sets nonterminals count p next = (x : Alternatives rows sets nonterminals count) → next ≡ firstOf (sameLeft (getD rows (16 * p) 0)) (p + 1) (drop (p + 1) (x .grammar .productions))
+
+-- that of each production
+abbrev pub Nexts : List ℕ → List ℕ → ℕ → ℕ → List ℕ → Type 0
+Nexts rows sets nonterminals count nexts = (x : Alternatives rows sets nonterminals count) (p : ℕ) → p < count → getD nexts p 0 ≡ firstOf (sameLeft (getD rows (16 * p) 0)) (p + 1) (drop (p + 1) (x .grammar .productions))
+
 -- ---- two regions that grow: records from r on, bodies from a on
 
 pub record Growing (old : List ℕ) (r₀ : ℕ) (all area : List ℕ) (r a : ℕ) (records bodies : List ℕ) : Type 0 where

@@ -1,11 +1,10 @@
 // The directory: 64 words for each nonterminal.
-ghost use Prim.Native.Nat.{_+_, _-_, _*_, _%_, _≤_, _<_};
+ghost use Prim.Native.Nat.{_+_, _-_, _*_, _≤_, _<_};
 ghost use mathlib.Core.Path.{_≡_};
-ghost use lib.Dec.{eqb};
 ghost use lib.ListN.{length, getD};
 ghost use Rattle.meaning.specs.Program.{directory};
 ghost use Rattle.blocks.specs.Patch.{patch, Wrote};
-ghost use Rattle.program.specs.Directory.{Alternatives, zeros, markIf, Marked};
+ghost use Rattle.program.specs.Directory.{Alternatives, zeros, Marked};
 
 // 0 past the end.
 pub fn set_at(sets: &[u64], at: usize) -> u64
@@ -29,16 +28,6 @@ fn clear(area: &mut [u32], from: usize, to: usize)
     }
 }
 
-// The number is written where a set's lowest bit is 1.
-fn mark_lowest(set: u64, number: u32, area: &mut [u32], at: usize)
-    requires { ⌜ at < length (now area) ⌝ }
-    ensures { λ r. ⌜ now (area .exit) ≡ markIf (eqb (set % 2) 1) (now (area .entry)) at number ⌝ }
-{
-    if set % 2 == 1 {
-        area[at] = number;
-    }
-}
-
 // The number is written at each bit of a set, in a row of 64 words.
 fn mark(set: u64, number: u32, area: &mut [u32], from: usize)
     requires { ⌜ from + 64 ≤ length (now area) ⌝ }
@@ -47,9 +36,10 @@ fn mark(set: u64, number: u32, area: &mut [u32], from: usize)
     let mut rest = set;
     let mut u: usize = 0;
     while rest != 0 {
-        mark_lowest(rest, number, area, from + u);
-        rest = rest / 2;
-        u += 1;
+        let zeros = u64::trailing_zeros(rest) as usize;
+        area[from + u + zeros] = number;
+        rest = (rest >> zeros) / 2;
+        u = u + zeros + 1;
     }
 }
 

@@ -1,35 +1,31 @@
 // The records and the bodies of the productions.
 ghost use Prim.Native.Nat.{_+_, _≤_, _<_};
 ghost use mathlib.Core.Path.{_≡_};
-ghost use lib.ListN.{length, drop};
-ghost use Rattle.meaning.specs.Program.{firstOf, recordsAddress};
+ghost use lib.ListN.{length};
+ghost use Rattle.meaning.specs.Program.{recordsAddress};
 ghost use Rattle.blocks.specs.Patch.{Wrote};
 ghost use Rattle.program.specs.Brought.{grammarIn, fieldsFrom, stretchEnd};
 ghost use Rattle.program.specs.Directory.{Alternatives};
-ghost use Rattle.program.specs.Records.{sameLeft, recordAt};
+ghost use Rattle.program.specs.Records.{NextOf, Nexts, recordAt};
 ghost use Rattle.program.specs.Built.{Outlined, RecordFits, ProductionFits, ProductionWrote, allProductions};
 use table::Sizes;
 
-// The number plus 1 of the next production with the same left side, or 0.
-fn find_next(
-    rows: &[u8],
-    sets: &[u64],
-    nonterminals: usize,
-    count: usize,
-    p: usize,
-    left: u32,
-) -> u32
-    requires { ⌜ (p < count) × (count ≤ 128) ⌝ }
-    ensures { λ r. ⌜ ((x : Alternatives (now (rows .entry)) (now (sets .entry)) nonterminals count) → r ≡ firstOf (sameLeft left) (p + 1) (drop (p + 1) (x .grammar .productions))) ⌝ }
+// For each production the number plus 1 of the next one with the same left side, or 0: the last production first, with the first
+// one so far of each nonterminal.
+fn find_nexts(rows: &[u8], sets: &[u64], nonterminals: usize, count: usize) -> [u8; 128]
+    requires { ⌜ Alternatives (now rows) (now sets) nonterminals count ⌝ }
+    ensures { λ r. ⌜ Nexts (now (rows .entry)) (now (sets .entry)) nonterminals count r ⌝ }
 {
-    let mut i = p + 1;
-    while i < count {
-        if value::byte_at(rows, 16 * i) == left {
-            return (i + 1) as u32;
-        }
-        i += 1;
+    let mut nexts = [0u8; 128];
+    let mut firsts = [0u8; 48];
+    let mut p = count;
+    while 0 < p {
+        p -= 1;
+        let left = value::byte_at(rows, 16 * p) as usize;
+        nexts[p] = firsts[left];
+        firsts[left] = (p + 1) as u8;
     }
-    0
+    nexts
 }
 
 // The record of production p, whose body begins at an address.
@@ -41,16 +37,16 @@ fn write_record(
     p: usize,
     body: usize,
     entries: u32,
+    next: u32,
     area: &mut [u32],
     at: usize,
 ) -> usize
-    requires { ⌜ RecordFits (now rows) (now sets) nonterminals count p body entries (now area) at ⌝ }
+    requires { ⌜ RecordFits (now rows) (now sets) nonterminals count p body entries (now area) at × NextOf (now rows) (now sets) nonterminals count p next ⌝ }
     ensures { λ r. ⌜ ((x : RecordFits (now (rows .entry)) (now (sets .entry)) nonterminals count p body entries (now (area .entry)) at) → Wrote (now (area .entry)) (now (area .exit)) at r (recordAt (x .alternatives .grammar) p body)) ⌝ }
 {
     let left = value::byte_at(rows, 16 * p);
     let size = value::byte_at(rows, 16 * p + 1);
     let set = crate::directory::set_at(sets, p);
-    let next = find_next(rows, sets, nonterminals, count, p, left);
     let low = (set % 4294967296) as u32;
     let high = (set / 4294967296) as u32;
     let from = body as u32;
@@ -87,12 +83,13 @@ fn write_production(
     offsets: &[u32],
     sets: &[u64],
     sizes: Sizes,
+    nexts: &[u8],
     p: usize,
     area: &mut [u32],
     at: usize,
     body: usize,
 ) -> usize
-    requires { ⌜ ProductionFits (now table) (now rows) (now inherited) (now synthesized) (now offsets) (now sets) sizes p (now area) at body ⌝ }
+    requires { ⌜ ProductionFits (now table) (now rows) (now inherited) (now synthesized) (now offsets) (now sets) sizes p (now area) at body × Nexts (now rows) (now sets) (sizes .nonterminals) (sizes .productions) (now nexts) ⌝ }
     ensures { λ r. ⌜ ((x : ProductionFits (now (table .entry)) (now (rows .entry)) (now (inherited .entry)) (now (synthesized .entry)) (now (offsets .entry)) (now (sets .entry)) sizes p (now (area .entry)) at body) → ProductionWrote (grammarIn (x .brought)) p (now (area .entry)) (now (area .exit)) at body r) ⌝ }
 {
     let count = sizes.productions;
@@ -104,6 +101,7 @@ fn write_production(
     let row = &rows[first..last];
     let tests = blocks::count_items(fields, false);
     let entries = tests[0];
+    let next = value::byte_at(nexts, p);
     write_record(
         rows,
         sets,
@@ -112,6 +110,7 @@ fn write_production(
         p,
         body,
         entries,
+        next,
         area,
         at,
     );
@@ -135,6 +134,7 @@ pub fn write_productions(
     let count = sizes.productions;
     let mut at = 8 + 64 * sizes.nonterminals;
     let mut body = at + 8 * count;
+    let nexts = find_nexts(rows, sets, sizes.nonterminals, count);
     let mut p: usize = 0;
     while p < count {
         body = write_production(
@@ -145,6 +145,7 @@ pub fn write_productions(
             offsets,
             sets,
             sizes,
+            &nexts,
             p,
             area,
             at,

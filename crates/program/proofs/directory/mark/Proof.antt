@@ -1,4 +1,5 @@
 use native.Mathlib.Omega.{arith}
+use lib.Count.{trailing-le}
 use Rattle.program.proofs.Laws as L
 use Rattle.program.proofs.directory.mark.Statement.{statement}
 use Rattle.program.proofs.directory.mark.Tie as tie
@@ -12,20 +13,35 @@ abbrev μ-loop : tie.MeasureT-loop
 loop-holds : tie.Need-loop-holds Inv-loop μ-loop
 loop-holds c = L.mark-start _ _ _ _
 
-add-mark-lowest : tie.Need-add-mark-lowest Inv-loop μ-loop
-add-mark-lowest c = omega (arith, L.mark-room (c .before .before .loop .inv) (omega (arith, c .before .before .before .before .fits .set)) (omega arith) (c .before .before .before .before .pre))
+cast-zeros : tie.Need-cast-zeros Inv-loop μ-loop
+cast-zeros c = omega (arith, trailing-le 64 (c .before .loop .rest))
 
-mark-lowest-requires : tie.Need-mark-lowest-requires Inv-loop μ-loop
-mark-lowest-requires c κs = L.mark-room (c .before .before .loop .inv) (omega (arith, c .before .before .before .before .fits .set)) (omega arith) (c .before .before .before .before .pre)
+add-area : tie.Need-add-area Inv-loop μ-loop
+add-area c = omega (arith, L.mark-few (c .before .loop .inv) (omega (arith, c .before .before .fits .set)) (omega arith), L.mark-room (c .before .loop .inv) (omega (arith, c .before .before .fits .set)) (omega arith) (c .before .before .pre))
+
+add-area-2 : tie.Need-add-area-2 Inv-loop μ-loop
+add-area-2 c = omega (arith, L.mark-few (c .before .loop .inv) (omega (arith, c .before .before .fits .set)) (omega arith), L.mark-room (c .before .loop .inv) (omega (arith, c .before .before .fits .set)) (omega arith) (c .before .before .pre))
+
+mul-area : tie.Need-mul-area Inv-loop μ-loop
+mul-area c = omega (arith, L.mark-few (c .before .loop .inv) (omega (arith, c .before .before .fits .set)) (omega arith), L.mark-room (c .before .loop .inv) (omega (arith, c .before .before .fits .set)) (omega arith) (c .before .before .pre))
+
+slice-write-area : tie.Need-slice-write-area Inv-loop μ-loop
+slice-write-area c = L.mark-room (c .before .loop .inv) (omega (arith, c .before .before .fits .set)) (omega arith) (c .before .before .pre)
+
+shr-rest : tie.Need-shr-rest Inv-loop μ-loop
+shr-rest c = omega (arith, L.mark-few (c .before .loop .inv) (omega (arith, c .before .before .fits .set)) (omega arith), L.mark-room (c .before .loop .inv) (omega (arith, c .before .before .fits .set)) (omega arith) (c .before .before .pre))
 
 add-u : tie.Need-add-u Inv-loop μ-loop
-add-u c = omega (arith, c .before .before .before .before .before .loop .inv .few)
+add-u c = omega (arith, L.mark-few (c .before .loop .inv) (omega (arith, c .before .before .fits .set)) (omega arith), L.mark-room (c .before .loop .inv) (omega (arith, c .before .before .fits .set)) (omega arith) (c .before .before .pre))
+
+add-u-2 : tie.Need-add-u-2 Inv-loop μ-loop
+add-u-2 c = omega (arith, L.mark-few (c .before .loop .inv) (omega (arith, c .before .before .fits .set)) (omega arith), L.mark-room (c .before .loop .inv) (omega (arith, c .before .before .fits .set)) (omega arith) (c .before .before .pre))
 
 loop-less : tie.Need-loop-less Inv-loop μ-loop
-loop-less c = omega arith
+loop-less c = L.mark-less (c .before .loop .inv) (omega arith)
 
 loop-again : tie.Need-loop-again Inv-loop μ-loop
-loop-again c = L.mark-turn (c .before .before .before .before .before .loop .inv) (omega (arith, c .before .before .before .before .before .before .before .fits .set)) (omega arith) (c .before .before .before .before .before .before .before .pre) (c .before .before .mark-lowest .ensures)
+loop-again c = L.mark-turn (c .before .loop .inv) (omega (arith, c .before .before .fits .set)) (omega arith) (c .before .before .pre)
 
 same-length : tie.Need-same-length Inv-loop μ-loop
 same-length c = c .before .loop .inv .marked .size
@@ -40,9 +56,14 @@ mark-spec =
     Inv-loop
     μ-loop
     loop-holds
-    add-mark-lowest
-    mark-lowest-requires
+    cast-zeros
+    add-area
+    add-area-2
+    mul-area
+    slice-write-area
+    shr-rest
     add-u
+    add-u-2
     loop-less
     loop-again
     same-length
