@@ -45,18 +45,12 @@ fn hold(line: &mut [u8], held: usize, part: &[u8]) -> usize
 }
 
 // Answers a line about a table alone.
-fn respond_table(
-    line: &[u8],
-    room: &mut [u8],
-    area: &mut [u32],
-    state: State,
-    out: &mut [u8],
-) -> State
+fn respond_table(line: &[u8], room: &mut [u8], state: State, out: &mut [u8]) -> State
     requires { ⌜ (state .filled + 256 ≤ length (now out)) × (length (now line) ≤ 2 * length (now room) + 1) ⌝ }
     ensures { λ r. ⌜ (r .record ≡ state .record) × (r .registers ≡ state .registers) × (r .places ≡ state .places) × (r .filled ≤ length (now (out .entry))) ⌝ }
 {
     if check::same(first_word(line), b"list") {
-        let listed = crate::listing::list(after_word(line), room, area, out, state.filled);
+        let listed = crate::listing::list(after_word(line), room, out, state.filled);
         return said(state, listed);
     }
     let answered = crate::tables::answer(line, room, out, state.filled);
@@ -90,7 +84,7 @@ fn respond(
     if check::same(command, b"set") {
         return crate::state::set(rest, registers, places, state, out);
     }
-    respond_table(line, room, area, state, out)
+    respond_table(line, room, state, out)
 }
 
 // Answers the first `held` bytes of `line`.

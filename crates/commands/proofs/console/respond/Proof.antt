@@ -121,11 +121,8 @@ same-length-19 c = search needs
 same-length-20 : tie.Need-same-length-20
 same-length-20 c = search needs
 
-same-length-21 : tie.Need-same-length-21
-same-length-21 c = search needs
-
 returns-5 : tie.Need-returns-5
-returns-5 c = let e = c .before .before .before .before .before .before .respond-table .ensures in let p = c .before .before .before .before .before .before .before .before .before .before .before .before .before .before .before .before .before .before .before .before .before .before .before .before .before .before .before .before .before .pre in (omega (arith, e .1, p .0 .0), omega (arith, e .2, p .0 .1), omega (arith, e .3))
+returns-5 c = let e = c .before .before .before .before .respond-table .ensures in let p = c .before .before .before .before .before .before .before .before .before .before .before .before .before .before .before .before .before .before .before .before .before .before .before .before .before .before .pre in (omega (arith, e .1, p .0 .0), omega (arith, e .2, p .0 .1), omega (arith, e .3))
 
 pub respond-spec : {M : Type 1} → statement M
 respond-spec =
@@ -170,5 +167,4 @@ respond-spec =
     respond-table-requires
     same-length-19
     same-length-20
-    same-length-21
     returns-5)

@@ -17,7 +17,7 @@ after-word-requires : tie.Need-after-word-requires
 after-word-requires c κs = search needs
 
 list-requires : tie.Need-list-requires
-list-requires c κs = (omega arith, omega (arith, short-after _ (c .before .before .before .after-word .ensures)))
+list-requires c κs = (omega arith, omega (arith, short-after _ (c .before .before .after-word .ensures)))
 
 said-requires : tie.Need-said-requires
 said-requires c κs = search needs
@@ -43,9 +43,6 @@ said-requires-2 c κs = search needs
 same-length-4 : tie.Need-same-length-4
 same-length-4 c = search needs
 
-same-length-5 : tie.Need-same-length-5
-same-length-5 c = search needs
-
 returns-2 : tie.Need-returns-2
 returns-2 c = search needs
 
@@ -61,10 +58,9 @@ respond-table-spec =
     said-requires
     same-length
     same-length-2
-    same-length-3
     returns
     answer-requires
     said-requires-2
+    same-length-3
     same-length-4
-    same-length-5
     returns-2)

@@ -31,17 +31,14 @@ decode-requires c κs = omega (arith, short-word 0 _ (c .before .word-at .ensure
 enum-known-n : tie.Need-enum-known-n
 enum-known-n c = search needs
 
-slice-reshare-prefix-list-table : tie.Need-slice-reshare-prefix-list-table
-slice-reshare-prefix-list-table c = given-bytes _ _ _ (c .before .before .before .before .before .decode .ensures) (c .before .n .given .1) .0
+slice-reshare-prefix-print : tie.Need-slice-reshare-prefix-print
+slice-reshare-prefix-print c = given-bytes _ _ _ (c .before .before .before .before .before .decode .ensures) (c .before .n .given .1) .0
 
-slice-aggregate-list-table : tie.Need-slice-aggregate-list-table
-slice-aggregate-list-table c = sym (length-take-le _ _ (given-bytes _ _ _ (c .before .before .before .before .before .before .decode .ensures) (c .before .before .n .given .1) .0))
+slice-aggregate-print : tie.Need-slice-aggregate-print
+slice-aggregate-print c = sym (length-take-le _ _ (given-bytes _ _ _ (c .before .before .before .before .before .before .decode .ensures) (c .before .before .n .given .1) .0))
 
-list-table-requires : tie.Need-list-table-requires
-list-table-requires c κs = search needs
-
-make-room-requires : tie.Need-make-room-requires
-make-room-requires c κs = search needs
+print-requires : tie.Need-print-requires
+print-requires c κs = search needs
 
 slice-aggregate-say-2 : tie.Need-slice-aggregate-say-2
 slice-aggregate-say-2 c = search needs
@@ -73,9 +70,6 @@ returns-2 c = search needs
 same-length-5 : tie.Need-same-length-5
 same-length-5 c = search needs
 
-same-length-6 : tie.Need-same-length-6
-same-length-6 c = search needs
-
 returns-3 : tie.Need-returns-3
 returns-3 c = search needs
 
@@ -91,10 +85,9 @@ list-spec =
     word-at-requires
     decode-requires
     enum-known-n
-    slice-reshare-prefix-list-table
-    slice-aggregate-list-table
-    list-table-requires
-    make-room-requires
+    slice-reshare-prefix-print
+    slice-aggregate-print
+    print-requires
     slice-aggregate-say-2
     say-requires-2
     enum-told
@@ -102,8 +95,7 @@ list-spec =
     say-requires-3
     same-length-2
     same-length-3
-    same-length-4
     returns-2
+    same-length-4
     same-length-5
-    same-length-6
     returns-3)
