@@ -1,5 +1,5 @@
 -- Four bytes as one number, and the constant that it stands for.
-use Prim.Native.Nat.{ℕ, _+_, _*_, _-_, _≤_, _<_}
+use Prim.Native.Nat.{ℕ, _+_, _*_, _-_, _%_, _≤_, _<_}
 use native.Mathlib.Decide.{decLt}
 use native.Mathlib.Omega.{arith}
 use mathlib.Core.Path.{_≡_, refl, ap}
@@ -27,9 +27,16 @@ signed-low n l = rw (lt-ltb n 2147483648 l, signed)
 pub signed-high : (n : ℕ) → 2147483648 ≤ n → signed n ≡ negsuc (4294967295 - n)
 signed-high n l = rw (le-ltb n 2147483648 l, signed)
 
--- the number less 2 ^ 32
-pub wrapped : (n : ℕ) → 2147483648 ≤ n → n < 4294967296 → pos n -ℤ pos 4294967296 ≡ signed n
-wrapped n l h = rw (lt-ltb n 4294967296 h, signed-high n l) (ap negsuc (omega arith))
+-- 2 ^ 31 added within 32 bits, and taken away
+pub unbiased : (n : ℕ) → n < 4294967296 → pos ((n + 2147483648) % 4294967296) -ℤ pos 2147483648 ≡ signed n
+unbiased n h = by-case (decLt n 2147483648)
+  where
+    not-below : (n < 2147483648 → ⊥) → 2147483648 ≤ n
+    not-below f = omega arith
+
+    by-case : Dec (n < 2147483648) → pos ((n + 2147483648) % 4294967296) -ℤ pos 2147483648 ≡ signed n
+    by-case (yes l) = let e : (n + 2147483648) % 4294967296 ≡ n + 2147483648 = omega arith in rw (e, le-ltb (n + 2147483648) 2147483648 (omega arith), signed-low n l) (ap pos (omega arith))
+    by-case (no l) = let e : (n + 2147483648) % 4294967296 ≡ n - 2147483648 = omega (arith, not-below l) in rw (e, lt-ltb (n - 2147483648) 2147483648 (omega arith), signed-high n (not-below l)) (ap negsuc (omega (arith, not-below l)))
 
 -- every constant is a value
 pub signed-in : (n : ℕ) → n < 4294967296 → inRange (signed n) ≡ true

@@ -145,15 +145,12 @@ pub fn compute(function: u32, a: i64, b: i64) -> i64
 
 // ---- constants
 
-// The constant that a word stands for.
+// The constant that a word stands for. With 2 ^ 31 added and taken away it is one instruction of the processor.
 pub fn constant(word: u32) -> i64
     ensures { λ r. ⌜ (r ≡ signed word) × (inRange r ≡ true) ⌝ }
 {
-    let z = word as i64;
-    if word < 2147483648 {
-        return z;
-    }
-    z - 4294967296
+    let biased = std::num::wrapping_add_u32(word, 2147483648);
+    biased as i64 - 2147483648
 }
 
 pub fn wide(x: u8) -> u32

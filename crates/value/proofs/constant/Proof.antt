@@ -1,4 +1,5 @@
-use mathlib.Core.Path.{_≡_, refl, sym, _∙_}
+use Prim.Native.Nat.{ℕ, _+_, _%_, _<_}
+use mathlib.Core.Path.{_≡_, refl, ap, _∙_}
 use mathlib.Core.Bool.{true}
 use native.Mathlib.Omega.{arith}
 use borrow.Author.Needs.{needs}
@@ -8,7 +9,7 @@ use mir.Facts.{toZ-ofZ}
 use mir.Val.{SFits, toZ}
 use Rattle.meaning.specs.Value.{inRange}
 use Rattle.meaning.specs.Table.{signed}
-use Rattle.value.specs.Constants.{signed-low, signed-in, wrapped}
+use Rattle.value.specs.Constants.{signed-in, unbiased}
 use Rattle.value.proofs.Bits.{in-range-fits}
 use Rattle.value.proofs.constant.Statement.{statement}
 use Rattle.value.proofs.constant.Tie as tie
@@ -19,26 +20,25 @@ value c = signed-in (c .args .word) (omega (arith, c .fits .word))
 fits : (c : tie.Start) → SFits w64 (signed (c .args .word))
 fits c = in-range-fits (signed (c .args .word)) (value c)
 
-word-back : (c : tie.Start) → toZ w64 (c .args .word) ≡ pos (c .args .word)
-word-back c = toZ-ofZ {w = w64} {z = pos (c .args .word)} (record { sfits = omega (arith, c .fits .word) })
+small-back : (n : ℕ) → n < 4294967296 → toZ w64 n ≡ pos n
+small-back n l = toZ-ofZ {w = w64} {z = pos n} (record { sfits = omega arith })
 
-low : (c : tie.Then1) → toZ w64 (c .before .args .word) ≡ signed (c .before .args .word)
-low c = word-back (c .before) ∙ sym (signed-low (c .before .args .word) (c .if1 .taken))
+difference : (c : tie.After-wrapping-add-u32) → toZ w64 (c .wrapping-add-u32 .result) -ℤ pos 2147483648 ≡ signed (c .before .args .word)
+difference c =
+    let e : c .wrapping-add-u32 .result ≡ (c .before .args .word + 2147483648) % 4294967296 = c .wrapping-add-u32 .ensures in
+    ap (λ z. z -ℤ pos 2147483648) (small-back (c .wrapping-add-u32 .result) (omega arith) ∙ ap pos e) ∙ unbiased (c .before .args .word) (omega (arith, c .before .fits .word))
 
-high : (c : tie.Else1) → toZ w64 (c .before .args .word) -ℤ pos 4294967296 ≡ signed (c .before .args .word)
-high c = rw (word-back (c .before)) (wrapped (c .before .args .word) (c .if1 .left) (omega (arith, c .before .fits .word)))
+wrapping-add-u32-requires : tie.Need-wrapping-add-u32-requires
+wrapping-add-u32-requires c κs = search needs
 
-cast-z : tie.Need-cast-z
-cast-z c = search needs
-
-returns : tie.Need-returns
-returns c = rw (low c) (refl, value (c .before))
+cast-result : tie.Need-cast-result
+cast-result c = search needs
 
 sub-result : tie.Need-sub-result
-sub-result c = rw (high c) (fits (c .before))
+sub-result c = rw (difference c) (fits (c .before))
 
-returns-2 : tie.Need-returns-2
-returns-2 c = rw (high c, toZ-ofZ (fits (c .before))) (refl, value (c .before))
+returns : tie.Need-returns
+returns c = rw (difference c, toZ-ofZ (fits (c .before))) (refl, value (c .before))
 
 pub constant-spec : {M : Type 1} → statement M
-constant-spec = tie.close (tie.spec cast-z returns sub-result returns-2)
+constant-spec = tie.close (tie.spec wrapping-add-u32-requires cast-result sub-result returns)
