@@ -101,20 +101,13 @@ fn front_pass(
 }
 
 // Passes until nothing is new.
-pub fn fronts(
-    rows: &[u8; 2048],
-    count: usize,
-    null: u64,
-    tokens: bool,
-    table: [u64; 48],
-) -> [u64; 48]
-    requires { ⌜ Image (now rows) count × Words table ⌝ }
-    ensures { λ r. ⌜ SettledTable (WithinAll (FrontAt tokens (members null) (now (rows .entry))) 0 count) table r ⌝ }
+pub fn fronts(rows: &[u8; 2048], count: usize, null: u64, tokens: bool, table: &mut [u64; 48])
+    requires { ⌜ Image (now rows) count × Words (now table) × (length (now table) ≡ 48) ⌝ }
+    ensures { λ r. ⌜ SettledTable (WithinAll (FrontAt tokens (members null) (now (rows .entry))) 0 count) (now (table .entry)) (now (table .exit)) ⌝ }
 {
-    let mut out = table;
     loop {
-        if !front_pass(rows, count, null, tokens, &mut out) {
-            return out;
+        if !front_pass(rows, count, null, tokens, table) {
+            return;
         }
     }
 }

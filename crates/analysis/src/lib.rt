@@ -89,7 +89,8 @@ pub fn starting(rows: &[u8; 2048], count: usize, start: u8, null: u64, sets: &mu
     ensures { λ r. ⌜ ((g : Grammar) → Rows (now (rows .entry)) count g → start ≡ g .start → Marks null (nullable g)
         → (p : ℕ) → Listed g p → setOf (getD (now (sets .exit)) p 0) ≡ starts g (productionAt g p)) ⌝ }
 {
-    let first = fronts(rows, count, null, true, [0u64; 48]);
+    let mut first = [0u64; 48];
+    fronts(rows, count, null, true, &mut first);
     let after = follow_where(rows, count, start, null, &first);
     all_starts(rows, count, null, &first, &after, sets);
 }

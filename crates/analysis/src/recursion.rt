@@ -56,7 +56,7 @@ pub fn recursive(rows: &[u8; 2048], count: usize, null: u64) -> u64
     requires { ⌜ Image (now rows) count ⌝ }
     ensures { λ r. ⌜ Recursive (members null) (now (rows .entry)) count r ⌝ }
 {
-    let own = own_fronts();
-    let table = fronts(rows, count, null, false, own);
+    let mut table = own_fronts();
+    fronts(rows, count, null, false, &mut table);
     recursive_in(rows, count, null, &table)
 }

@@ -62,10 +62,10 @@ module _ {row fields inherited synthesized tests area : List ℕ} {a : ℕ} (x :
       pub items-fit : ItemsFit fields false 0 m1 entry
       items-fit = record { listed = listedOf (x .given); room = rw (sym (tests-count g p 0)) (omega (arith, x .room, x .long, body-size g p, entry-is, wrote-length w1)) }
 
-      module _ {m2 : List ℕ} {first : ℕ} (f2 : (y : ItemsFit fields false 0 m1 entry) → Wrote m1 m2 entry first (itemWords false 0 levels 0 (y .listed))) where
+      module _ {m2 : List ℕ} {first : ℕ} (f2 : (y : ItemsFit fields false 0 m1 entry) → t ≡ itemCount false 0 (y .listed) → Wrote m1 m2 entry first (itemWords false 0 levels 0 (y .listed))) where
         w2 : Wrote area m2 a first (restExpects g p 0 (a + schemeOffset g p) ++ entryWords g p)
         unfolding items-fit
-        w2 = wrote-then w1 (wrote-as (ap (λ z. wordsOf false z levels 0 (p .rules) (p .conditions)) (sym (syn-none g p 0)) ∙ tests-words g p (x .given .ofGrammar) levels (el (x .given)) 0 (omega arith)) (f2 items-fit))
+        w2 = wrote-then w1 (wrote-as (ap (λ z. wordsOf false z levels 0 (p .rules) (p .conditions)) (sym (syn-none g p 0)) ∙ tests-words g p (x .given .ofGrammar) levels (el (x .given)) 0 (omega arith)) (f2 items-fit (et ∙ x .testCounts 0 (omega arith))))
 
         first-is : first ≡ a + length (p .right) + 3 * length (entryTests g p)
         first-is = omega (arith, w2 .address, length-append (restExpects g p 0 (a + schemeOffset g p)) (entryWords g p), expects-count (a + schemeOffset g p), conditions-length (entryTests g p))

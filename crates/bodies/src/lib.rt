@@ -270,7 +270,8 @@ pub fn write_body(
     let rules = blocks::count_items(fields, true);
     let levels = find_levels(row, fields, inherited, synthesized);
     let size = value::byte_at(row, 1) as usize;
-    let scheme = address + size + 3 * number_at(tests, 0) as usize;
+    let entries = number_at(tests, 0);
+    let scheme = address + size + 3 * entries as usize;
     let entry = write_expects(
         row,
         fields,
@@ -283,7 +284,7 @@ pub fn write_body(
         address,
         scheme,
     );
-    let first = blocks::write_items(fields, false, 0, 0, &levels, area, entry);
+    let first = blocks::write_counted(fields, false, 0, entries, 0, &levels, area, entry);
     let end = write_symbols(
         row,
         fields,

@@ -1,11 +1,12 @@
 use borrow.Author.Needs.{needs}
+use mathlib.Core.Path.{refl}
 use Rattle.analysis.specs.Tables.{zeros-words}
 use Rattle.analysis.specs.Judged.{starts-found}
 use Rattle.analysis.proofs.starting.Statement.{statement}
 use Rattle.analysis.proofs.starting.Tie as tie
 
 fronts-requires : tie.Need-fronts-requires
-fronts-requires c κs = (c .pre .0, zeros-words 48)
+fronts-requires c κs = (c .before .pre .0, zeros-words 48, refl)
 
 follow-where-requires : tie.Need-follow-where-requires
 follow-where-requires c κs = search needs

@@ -1,5 +1,4 @@
 use Prim.Native.Nat.{_-_, _*_, _^_}
-use borrow.Author.Needs.{needs}
 use borrow.Author.Tests.{not-true, not-false}
 use lib.ListN.{length}
 use mathlib.Core.Path.{_≡_, _∙_}
@@ -10,13 +9,13 @@ use Rattle.analysis.proofs.fronts.fronts.Statement.{statement}
 use Rattle.analysis.proofs.fronts.fronts.Tie as tie
 
 abbrev Inv-loop : tie.InvT-loop
-Inv-loop rows count null tokens out₀ out = (length out ≡ 48) × RisingTable (WithinAll (FrontAt tokens (members null) rows) 0 count) out₀ out
+Inv-loop rows count null tokens table₀ table = (length table ≡ 48) × RisingTable (WithinAll (FrontAt tokens (members null) rows) 0 count) table₀ table
 
 abbrev μ-loop : tie.MeasureT-loop
-μ-loop rows count null tokens out₀ out = 48 * 2 ^ 64 - total out
+μ-loop rows count null tokens table₀ table = 48 * 2 ^ 64 - total table
 
 loop-holds : tie.Need-loop-holds Inv-loop μ-loop
-loop-holds c = (search needs, table-start _ (c .pre .1))
+loop-holds c = (c .pre .2, table-start _ (c .pre .1))
 
 front-pass-requires : tie.Need-front-pass-requires Inv-loop μ-loop
 front-pass-requires c κs = (c .before .before .pre .0, c .before .loop .inv .0)
@@ -30,7 +29,7 @@ loop-less : tie.Need-loop-less Inv-loop μ-loop
 loop-less c =
     let at = c .before .before .before in
     let q = c .before .front-pass .ensures in
-    room-falls (at .loop .out) _ (q .size ∙ at .loop .inv .0) (q .words (at .loop .inv .1 .words)) (q .rises (not-false _ (c .if1 .left)))
+    room-falls (at .loop .table) _ (q .size ∙ at .loop .inv .0) (q .words (at .loop .inv .1 .words)) (q .rises (not-false _ (c .if1 .left)))
 
 loop-again : tie.Need-loop-again Inv-loop μ-loop
 loop-again c =
