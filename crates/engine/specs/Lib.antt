@@ -6,4 +6,4 @@ pub mod Judging
 pub mod Performing
 pub mod Opening
 pub mod Cutting
-pub mod Preparing
+pub mod Beginning

@@ -1,22 +1,20 @@
 -- What the builder's functions write, by the definitions of specs/.
-use Prim.Native.Nat.{ℕ, zero, suc, _+_, _-_, _*_, _/_, _%_, _^_, _≤_, _<_}
+use Prim.Native.Nat.{ℕ, suc, _+_, _-_, _*_, _/_, _%_, _^_, _≤_, _<_}
 use native.Mathlib.Nat.{div-one}
 use native.Mathlib.Decide.{decLt}
 use native.Mathlib.Omega.{arith}
 use mathlib.Core.Path.{_≡_, refl, sym, ap, ap₂, _∙_, subst}
 use mathlib.Core.Logic.{inl, inr}
-use mathlib.Core.Bool.{Bool, true, false}
 use mathlib.Core.List.{List, [], _∷_, _++_}
 use lib.ListN.{length, set, getD}
 use lib.Dec.{eqb}
 use borrow.Author.Tests.{lt-ltb, le-ltb, eq-eqb, ne-eqb}
-use Rattle.meaning.specs.Base.{In}
 use Rattle.meaning.specs.Grammar.{Grammar, nonterminal, syn, nonterminalCount}
 use Rattle.meaning.specs.Layout.{Bytes}
 use Rattle.meaning.specs.Program.{segmentWords}
 use Rattle.meaning.specs.Table.{byte}
 use Rattle.theory_program.specs.Proper.{att-most}
-use Rattle.blocks.specs.Patch.{patch, Wrote, Onward, onward-start, onward-as, onward-then, onward-end, wrote-one, wrote-as, wrote-then}
+use Rattle.blocks.specs.Patch.{patch, Wrote, Onward, onward-as, onward-then, onward-end, wrote-one, wrote-as, wrote-then}
 use Rattle.program.specs.Brought.{Brought, grammarIn, well-formed, count-is, stretchEnd}
 use Rattle.program.specs.Directory.{zeros, markIf, Marked, marked-start, marked-turn, marked-end, bits-end, next-bit}
 

@@ -1,30 +1,28 @@
 -- The loops over the productions: the directory, then the records and bodies.
-use Prim.Native.Nat.{ℕ, zero, suc, _+_, _-_, _*_, _/_, _%_, _^_, _≤_, _<_}
+use Prim.Native.Nat.{ℕ, suc, _+_, _-_, _*_, _/_, _%_, _^_, _≤_, _<_}
 use native.Mathlib.Omega.{arith}
 use mathlib.Core.Path.{_≡_, refl, sym, ap, ap₂, _∙_, subst}
-use mathlib.Core.Bool.{Bool, true, false}
+use mathlib.Core.Bool.{Bool, false}
 use mathlib.Core.List.{List, [], _∷_, _++_}
 use lib.ListN.{length, getD, drop, length-append}
-use Rattle.meaning.specs.Base.{total}
 use Rattle.meaning.specs.Grammar.{Production, Grammar, nonterminalCount, productionAt}
 use Rattle.meaning.specs.Layout.{Bytes}
 use Rattle.meaning.specs.PublicCalls.{written}
-use Rattle.meaning.specs.Rules.{WellFormed}
 use Rattle.meaning.specs.Scheme.{entryTests}
 use Rattle.meaning.specs.Sets.{has, starts}
 use lib.Dec.{eqb}
-use Rattle.meaning.specs.Program.{firstOf, setBits, schemeOffset, recordWords, bodyWords, recordsFrom, bodiesFrom, bodySize, directory, directoryAddress, recordsAddress, bodiesAddress, segmentWords, programOf}
+use Rattle.meaning.specs.Program.{firstOf, setBits, schemeOffset, bodyWords, recordsFrom, bodiesFrom, bodySize, directory, recordsAddress, bodiesAddress, segmentWords, programOf}
 use Rattle.meaning.specs.Table.{byte}
 use Rattle.theory_base.specs.WellFormed.{well-formed-at}
-use Rattle.theory_program.specs.Addresses.{records-length, bodies-length, body-length, directory-length}
+use Rattle.theory_program.specs.Addresses.{records-length, body-length, directory-length}
 use Rattle.theory_program.specs.Code.{conditions-length}
 use Rattle.theory_program.specs.Sizes.{program-fits}
 use Rattle.blocks.specs.Patch.{patch, Wrote, wrote-as, wrote-then, wrote-length, patch-written}
 use Rattle.blocks.specs.Walk.{Counted, itemCount}
 use Rattle.bodies.specs.Given.{Given, listedOf, BodyFits}
 use Rattle.bodies.proofs.Symbols.{tests-count}
-use Rattle.program.specs.declared.Sizes.{Sizes}
-use Rattle.program.specs.Brought.{Brought, grammarIn, well-formed, count-is, rowAt, stretchEnd, fieldsFrom, fieldsAt, fields-place, given-at}
+use Rattle.table.specs.declared.Sizes.{Sizes}
+use Rattle.program.specs.Brought.{grammarIn, well-formed, count-is, rowAt, stretchEnd, fieldsFrom, fieldsAt, fields-place, given-at}
 use Rattle.program.specs.Directory.{Alternatives, alternatives, zeros, Marked, Filled, filled-start, filled-turn, filled-end}
 use Rattle.program.specs.Records.{two-words, sameLeft, Growing, growing-start, growing-as, growing-turn, growing-end, restRecords, restBodies, recordAt, bodyAt, records-turn, bodies-turn, records-end, bodies-end}
 use Rattle.program.specs.Built.{Outlined, RecordFits, ProductionFits, ProductionWrote, allProductions}

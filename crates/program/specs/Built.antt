@@ -1,5 +1,5 @@
 -- What the builder's functions ask and leave.
-use Prim.Native.Nat.{ℕ, suc, _+_, _*_, _≤_, _<_}
+use Prim.Native.Nat.{ℕ, _+_, _*_, _≤_, _<_}
 use mathlib.Core.Path.{_≡_}
 use mathlib.Core.List.{List, _++_}
 use lib.ListN.{length, getD}
@@ -7,7 +7,7 @@ use Rattle.meaning.specs.Grammar.{Grammar, productionAt}
 use Rattle.meaning.specs.Scheme.{entryTests}
 use Rattle.meaning.specs.Program.{recordsFrom, bodiesFrom, bodiesAddress, schemeOffset, bodySize}
 use Rattle.blocks.specs.Patch.{Wrote}
-use Rattle.program.specs.declared.Sizes.{Sizes}
+use Rattle.table.specs.declared.Sizes.{Sizes}
 use Rattle.program.specs.Brought.{Brought, grammarIn}
 use Rattle.program.specs.Directory.{Alternatives}
 use Rattle.program.specs.Records.{recordAt, bodyAt}

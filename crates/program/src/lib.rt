@@ -4,22 +4,16 @@ ghost use mathlib.Core.Path.{_≡_};
 ghost use mathlib.Core.List.{[], _∷_};
 ghost use lib.ListN.{length};
 ghost use Rattle.meaning.specs.PublicCalls.{written};
+ghost use Rattle.meaning.specs.Table.{State, grammarOf};
+ghost use Rattle.checker.specs.Judging.{Brought};
 ghost use Rattle.meaning.specs.Program.{segmentWords, programOf};
 ghost use Rattle.blocks.specs.Patch.{Wrote};
 ghost use Rattle.program.specs.Brought.{grammarIn};
 ghost use Rattle.program.specs.Built.{Outlined};
+use table::Sizes;
 
 pub mod directory;
 pub mod records;
-
-// The numbers of an accepted table.
-pub struct Sizes {
-    pub terminals: usize,
-    pub nonterminals: usize,
-    pub start: usize,
-    pub result: usize,
-    pub productions: usize,
-}
 
 // Four words; answers the address behind them.
 pub fn put_four(area: &mut [u32], at: usize, a: u32, b: u32, c: u32, d: u32) -> usize
@@ -60,16 +54,16 @@ fn write_segment(
 // Writes the program; answers its length. Words beyond it stay as they are.
 pub fn build(
     table: &[u8],
-    rows: &[u8],
-    inherited: &[u8],
-    synthesized: &[u8],
-    offsets: &[u32],
-    sets: &[u64],
+    rows: &[u8; 2048],
+    inherited: &[u8; 48],
+    synthesized: &[u8; 48],
+    offsets: &[u32; 128],
+    sets: &[u64; 128],
     sizes: Sizes,
     area: &mut [u32],
 ) -> usize
-    requires { ⌜ Outlined (now table) (now rows) (now inherited) (now synthesized) (now offsets) (now sets) sizes × (16384 ≤ length (now area)) ⌝ }
-    ensures { λ r. ⌜ ((x : Outlined (now (table .entry)) (now (rows .entry)) (now (inherited .entry)) (now (synthesized .entry)) (now (offsets .entry)) (now (sets .entry)) sizes) → (now (area .exit) ≡ written (programOf (grammarIn x)) (now (area .entry))) × (r ≡ length (programOf (grammarIn x)))) ⌝ }
+    requires { ⌜ ((s : State) × Brought (now table) s sizes (now inherited) (now synthesized) (now rows) (now offsets) (now sets)) × (16384 ≤ length (now area)) ⌝ }
+    ensures { λ r. ⌜ ((s : State) → Brought (now (table .entry)) s sizes (now (inherited .entry)) (now (synthesized .entry)) (now (rows .entry)) (now (offsets .entry)) (now (sets .entry)) → (now (area .exit) ≡ written (programOf (grammarOf s)) (now (area .entry))) × (r ≡ length (programOf (grammarOf s)))) ⌝ }
 {
     write_segment(
         table,

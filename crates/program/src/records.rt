@@ -8,7 +8,7 @@ ghost use Rattle.program.specs.Brought.{grammarIn, fieldsFrom, stretchEn
 ghost use Rattle.program.specs.Directory.{Alternatives};
 ghost use Rattle.program.specs.Records.{sameLeft, recordAt};
 ghost use Rattle.program.specs.Built.{Outlined, RecordFits, ProductionFits, ProductionWrote, allProductions};
-use crate::Sizes;
+use table::Sizes;
 
 // The number plus 1 of the next production with the same left side, or 0.
 fn find_next(

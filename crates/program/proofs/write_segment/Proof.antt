@@ -4,64 +4,46 @@ use Rattle.program.proofs.Laws as L
 use Rattle.blocks.specs.Patch.{wrote-length}
 use Rattle.program.proofs.write_segment.Statement.{statement}
 use Rattle.program.proofs.write_segment.Tie as tie
-use Rattle.program.proofs.write_segment.Reads as reads
-use Rattle.program.proofs.write_segment.Lts as lts
-use Rattle.program.proofs.put_four.Reads as put-four-reads
-use Rattle.value.proofs.byte_at.Reads as byte-at-reads
 
--- src/lib.rt:50:17
 cast-start : tie.Need-cast-start
 cast-start c = omega (arith, L.numbers-small (c .before .before .before .before .before .before .before .before .pre .0) .0, L.numbers-small (c .before .before .before .before .before .before .before .before .pre .0) .1, L.numbers-small (c .before .before .before .before .before .before .before .before .pre .0) .2, L.numbers-small (c .before .before .before .before .before .before .before .before .pre .0) .3, L.start-small (c .before .before .before .before .before .before .before .before .pre .0))
 
--- src/lib.rt:51:24
 mul-records : tie.Need-mul-records
 mul-records c = omega (arith, L.numbers-small (c .before .before .before .before .before .before .before .before .before .pre .0) .0, L.numbers-small (c .before .before .before .before .before .before .before .before .before .pre .0) .1, L.numbers-small (c .before .before .before .before .before .before .before .before .before .pre .0) .2, L.numbers-small (c .before .before .before .before .before .before .before .before .before .pre .0) .3, L.start-small (c .before .before .before .before .before .before .before .before .before .pre .0))
 
--- src/lib.rt:51:20
 add-records : tie.Need-add-records
 add-records c = omega (arith, L.numbers-small (c .before .before .before .before .before .before .before .before .before .pre .0) .0, L.numbers-small (c .before .before .before .before .before .before .before .before .before .pre .0) .1, L.numbers-small (c .before .before .before .before .before .before .before .before .before .pre .0) .2, L.numbers-small (c .before .before .before .before .before .before .before .before .before .pre .0) .3, L.start-small (c .before .before .before .before .before .before .before .before .before .pre .0))
 
--- src/lib.rt:51:19
 cast-records : tie.Need-cast-records
 cast-records c = omega (arith, L.numbers-small (c .before .before .before .before .before .before .before .before .before .pre .0) .0, L.numbers-small (c .before .before .before .before .before .before .before .before .before .pre .0) .1, L.numbers-small (c .before .before .before .before .before .before .before .before .before .pre .0) .2, L.numbers-small (c .before .before .before .before .before .before .before .before .before .pre .0) .3, L.start-small (c .before .before .before .before .before .before .before .before .before .pre .0))
 
--- src/lib.rt:52:21
 cast-terminals : tie.Need-cast-terminals
 cast-terminals c = omega (arith, L.numbers-small (c .before .before .before .before .before .before .before .before .before .before .pre .0) .0, L.numbers-small (c .before .before .before .before .before .before .before .before .before .before .pre .0) .1, L.numbers-small (c .before .before .before .before .before .before .before .before .before .before .pre .0) .2, L.numbers-small (c .before .before .before .before .before .before .before .before .before .before .pre .0) .3, L.start-small (c .before .before .before .before .before .before .before .before .before .before .pre .0))
 
--- src/lib.rt:53:9
 byte-at-requires : tie.Need-byte-at-requires
 byte-at-requires c κs = search needs
 
--- src/lib.rt:54:18
 cast-result : tie.Need-cast-result
 cast-result c = omega (arith, L.numbers-small (c .before .before .before .before .before .before .before .before .before .before .before .before .pre .0) .0, L.numbers-small (c .before .before .before .before .before .before .before .before .before .before .before .before .pre .0) .1, L.numbers-small (c .before .before .before .before .before .before .before .before .before .before .before .before .pre .0) .2, L.numbers-small (c .before .before .before .before .before .before .before .before .before .before .before .before .pre .0) .3, L.start-small (c .before .before .before .before .before .before .before .before .before .before .before .before .pre .0))
 
--- src/lib.rt:55:23
 cast-productions : tie.Need-cast-productions
 cast-productions c = omega (arith, L.numbers-small (c .before .before .before .before .before .before .before .before .before .before .before .before .before .pre .0) .0, L.numbers-small (c .before .before .before .before .before .before .before .before .before .before .before .before .before .pre .0) .1, L.numbers-small (c .before .before .before .before .before .before .before .before .before .before .before .before .before .pre .0) .2, L.numbers-small (c .before .before .before .before .before .before .before .before .before .before .before .before .before .pre .0) .3, L.start-small (c .before .before .before .before .before .before .before .before .before .before .before .before .before .pre .0))
 
--- src/lib.rt:56:38
 mul-put-four : tie.Need-mul-put-four
 mul-put-four c = omega (arith, L.numbers-small (c .before .before .before .before .before .before .before .before .before .before .before .before .before .before .pre .0) .0, L.numbers-small (c .before .before .before .before .before .before .before .before .before .before .before .before .before .before .pre .0) .1, L.numbers-small (c .before .before .before .before .before .before .before .before .before .before .before .before .before .before .pre .0) .2, L.numbers-small (c .before .before .before .before .before .before .before .before .before .before .before .before .before .before .pre .0) .3, L.start-small (c .before .before .before .before .before .before .before .before .before .before .before .before .before .before .pre .0))
 
--- src/lib.rt:56:34
 add-put-four : tie.Need-add-put-four
 add-put-four c = omega (arith, L.numbers-small (c .before .before .before .before .before .before .before .before .before .before .before .before .before .before .pre .0) .0, L.numbers-small (c .before .before .before .before .before .before .before .before .before .before .before .before .before .before .pre .0) .1, L.numbers-small (c .before .before .before .before .before .before .before .before .before .before .before .before .before .before .pre .0) .2, L.numbers-small (c .before .before .before .before .before .before .before .before .before .before .before .before .before .before .pre .0) .3, L.start-small (c .before .before .before .before .before .before .before .before .before .before .before .before .before .before .pre .0))
 
--- src/lib.rt:56:9
 put-four-requires : tie.Need-put-four-requires
 put-four-requires c κs = omega (arith, c .before .before .before .before .before .before .before .before .before .before .before .before .before .before .pre .1)
 
--- src/lib.rt:57:5
 put-four-requires-2 : tie.Need-put-four-requires-2
 put-four-requires-2 c κs = omega (arith, c .before .before .before .before .before .before .before .before .before .before .before .before .before .before .before .before .before .before .pre .1, c .before .before .before .put-four .ensures .address, wrote-length (c .before .before .before .put-four .ensures))
 
--- src/lib.rt:37:1
 same-length : tie.Need-same-length
 same-length c = wrote-length (L.segment-written (c .before .before .before .before .before .before .before .before .before .before .before .before .before .before .before .before .before .before .before .before .before .pre .0) (c .before .before .before .before .before .before .before .before .before .before .byte-at .ensures .0) (c .before .before .before .before .before .before .put-four .ensures) (c .before .before .put-four2 .ensures))
 
--- src/lib.rt:37:1
 returns : tie.Need-returns
 returns c = λ x. L.segment-written x (c .before .before .before .before .before .before .before .before .before .before .byte-at .ensures .0) (c .before .before .before .before .before .before .put-four .ensures) (c .before .before .put-four2 .ensures)
 

@@ -1,13 +1,10 @@
 use native.Mathlib.Omega.{arith}
-use borrow.Author.Needs.{needs}
 use Rattle.program.proofs.Laws as L
 use Prim.Native.Nat.{_≤_, _-_}
 use Rattle.blocks.specs.Patch.{Onward, onward-start}
 use Rattle.program.specs.Directory.{zeros}
 use Rattle.program.proofs.directory.clear.Statement.{statement}
 use Rattle.program.proofs.directory.clear.Tie as tie
-use Rattle.program.proofs.directory.clear.Reads as reads
-use Rattle.program.proofs.directory.clear.Lts as lts
 
 abbrev Inv-loop : tie.InvT-loop
 Inv-loop area₀ from to at₀ area at = (from ≤ at) × (at ≤ to) × Onward area₀ from (zeros (to - from)) area at (zeros (to - at))
@@ -15,35 +12,27 @@ Inv-loop area₀ from to at₀ area at = (from ≤ at) × (at ≤ to) × Onward 
 abbrev μ-loop : tie.MeasureT-loop
 μ-loop area₀ from to at₀ area at = to - at
 
--- src/directory.rt:26:5
 loop-holds : tie.Need-loop-holds Inv-loop μ-loop
 loop-holds c = (omega arith, omega arith, onward-start _ _ _)
 
--- src/directory.rt:27:9
 mul-area : tie.Need-mul-area Inv-loop μ-loop
 mul-area c = omega (arith, c .before .loop .inv .2 .size)
 
--- src/directory.rt:27:9
 slice-write-area : tie.Need-slice-write-area Inv-loop μ-loop
 slice-write-area c = omega (arith, c .before .loop .inv .2 .size)
 
--- src/directory.rt:28:9
 add-at : tie.Need-add-at Inv-loop μ-loop
 add-at c = omega (arith, c .before .loop .inv .2 .size)
 
--- src/directory.rt:26:5
 loop-less : tie.Need-loop-less Inv-loop μ-loop
 loop-less c = omega arith
 
--- src/directory.rt:26:5
 loop-again : tie.Need-loop-again Inv-loop μ-loop
 loop-again c = (omega arith, omega arith, L.clear-turn (omega arith) (c .before .loop .inv .2))
 
--- src/directory.rt:21:1
 same-length : tie.Need-same-length Inv-loop μ-loop
 same-length c = c .before .loop .inv .2 .size
 
--- src/directory.rt:21:1
 returns : tie.Need-returns Inv-loop μ-loop
 returns c = L.clear-end (omega arith) (c .before .loop .inv .2)
 

@@ -4,26 +4,19 @@ use borrow.Author.Needs.{needs}
 use Rattle.program.proofs.Laws as L
 use Rattle.program.proofs.directory.mark_lowest.Statement.{statement}
 use Rattle.program.proofs.directory.mark_lowest.Tie as tie
-use Rattle.program.proofs.directory.mark_lowest.Reads as reads
-use Rattle.program.proofs.directory.mark_lowest.Lts as lts
 
--- src/directory.rt:38:9
 mul-area : tie.Need-mul-area
 mul-area c = search needs
 
--- src/directory.rt:38:9
 slice-write-area : tie.Need-slice-write-area
 slice-write-area c = search needs
 
--- src/directory.rt:33:1
 same-length : tie.Need-same-length
 same-length c = search needs
 
--- src/directory.rt:33:1
 returns : tie.Need-returns
 returns c = L.mark-yes (c .before .args .set % 2) _ _ _ (omega arith)
 
--- src/directory.rt:33:1
 returns-2 : tie.Need-returns-2
 returns-2 c = L.mark-no (c .before .args .set % 2) _ _ _ (omega arith)
 

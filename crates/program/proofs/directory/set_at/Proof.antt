@@ -1,27 +1,20 @@
 use mathlib.Core.Path.{refl}
 use native.Mathlib.Omega.{arith}
 use borrow.Author.Needs.{needs}
-use Rattle.program.proofs.Laws as L
 use denote.Ref.{now}
 use Rattle.bodies.proofs.Laws as B
 use Rattle.program.proofs.directory.set_at.Statement.{statement}
 use Rattle.program.proofs.directory.set_at.Tie as tie
-use Rattle.program.proofs.directory.set_at.Reads as reads
-use Rattle.program.proofs.directory.set_at.Lts as lts
 
--- src/directory.rt:15:9
 returns : tie.Need-returns
 returns c = (B.past-end (now (c .before .args .sets)) (c .before .args .at) (omega arith), omega arith)
 
--- src/directory.rt:17:5
 mul-result : tie.Need-mul-result
 mul-result c = search needs
 
--- src/directory.rt:17:5
 shared-slice-read-result : tie.Need-shared-slice-read-result
 shared-slice-read-result c = search needs
 
--- src/directory.rt:11:1
 returns-2 : tie.Need-returns-2
 returns-2 c = (refl, omega (arith, c .shared-slice-known .given (c .before .before .args .at)))
 

@@ -1,6 +1,5 @@
 use native.Mathlib.Omega.{arith}
 use borrow.Author.Needs.{needs}
-use Rattle.program.proofs.Laws as L
 use Prim.Native.Nat.{_≤_, _-_, _+_}
 use mathlib.Core.Path.{_≡_, refl, sym, _∙_}
 use lib.ListN.{drop}
@@ -9,9 +8,6 @@ use Rattle.program.specs.Directory.{Alternatives}
 use Rattle.program.specs.Records as R
 use Rattle.program.proofs.records.find_next.Statement.{statement}
 use Rattle.program.proofs.records.find_next.Tie as tie
-use Rattle.program.proofs.records.find_next.Reads as reads
-use Rattle.program.proofs.records.find_next.Lts as lts
-use Rattle.value.proofs.byte_at.Reads as byte-at-reads
 
 abbrev Inv-loop : tie.InvT-loop
 Inv-loop rows sets nonterminals count p left i₀ i = (p + 1 ≤ i) × (i ≤ count) × ((x : Alternatives rows sets nonterminals count) → firstOf (R.sameLeft left) (p + 1) (drop (p + 1) (x .grammar .productions)) ≡ firstOf (R.sameLeft left) i (drop i (x .grammar .productions)))
@@ -19,47 +15,36 @@ Inv-loop rows sets nonterminals count p left i₀ i = (p + 1 ≤ i) × (i ≤ co
 abbrev μ-loop : tie.MeasureT-loop
 μ-loop rows sets nonterminals count p left i₀ i = count - i
 
--- src/records.rt:25:17
 add-i : tie.Need-add-i Inv-loop μ-loop
 add-i c = search needs
 
--- src/records.rt:26:5
 loop-holds : tie.Need-loop-holds Inv-loop μ-loop
 loop-holds c = (omega arith, omega arith, λ x. refl)
 
--- src/records.rt:27:33
 mul-byte-at : tie.Need-mul-byte-at Inv-loop μ-loop
 mul-byte-at c = omega arith
 
--- src/records.rt:27:12
 byte-at-requires : tie.Need-byte-at-requires Inv-loop μ-loop
 byte-at-requires c κs = search needs
 
--- src/records.rt:28:21
 add-result : tie.Need-add-result Inv-loop μ-loop
 add-result c = omega arith
 
--- src/records.rt:28:20
 cast-result : tie.Need-cast-result Inv-loop μ-loop
 cast-result c = omega arith
 
--- src/records.rt:28:13
 returns : tie.Need-returns Inv-loop μ-loop
 returns c = λ x. R.next-found x _ _ (omega arith) _ (c .before .byte-at .ensures .0) (omega arith) ∙ sym (c .before .before .before .loop .inv .2 x)
 
--- src/records.rt:30:9
 add-i-2 : tie.Need-add-i-2 Inv-loop μ-loop
 add-i-2 c = omega arith
 
--- src/records.rt:26:5
 loop-less : tie.Need-loop-less Inv-loop μ-loop
 loop-less c = omega arith
 
--- src/records.rt:26:5
 loop-again : tie.Need-loop-again Inv-loop μ-loop
 loop-again c = (omega arith, omega arith, λ x. c .before .before .before .loop .inv .2 x ∙ R.next-passed x _ _ (omega arith) _ (c .before .byte-at .ensures .0) (omega arith))
 
--- src/records.rt:14:1
 returns-2 : tie.Need-returns-2 Inv-loop μ-loop
 returns-2 c = λ x. R.next-none x (c .before .before .before .before .args .left) (c .before .loop .i) (omega arith) ∙ sym (c .before .loop .inv .2 x)
 

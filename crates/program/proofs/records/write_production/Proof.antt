@@ -5,83 +5,58 @@ use Rattle.program.proofs.Laws as L
 use Rattle.program.proofs.Sections as S
 use Rattle.program.proofs.records.write_production.Statement.{statement}
 use Rattle.program.proofs.records.write_production.Tie as tie
-use Rattle.program.proofs.records.write_production.Reads as reads
-use Rattle.program.proofs.records.write_production.Lts as lts
-use Rattle.blocks.proofs.count_items.Reads as count-items-reads
-use Rattle.bodies.proofs.write_body.Reads as write-body-reads
-use Rattle.program.proofs.records.fields_from.Reads as fields-from-reads
-use Rattle.program.proofs.records.stretch_end.Reads as stretch-end-reads
-use Rattle.program.proofs.records.write_record.Reads as write-record-reads
 
--- src/records.rt:99:9
 fields-from-requires : tie.Need-fields-from-requires
 fields-from-requires c κs = omega (arith, c .before .before .before .before .before .before .before .pre .here, S.productions-few (c .before .before .before .before .before .before .before .pre .brought))
 
--- src/records.rt:100:9
 stretch-end-requires : tie.Need-stretch-end-requires
 stretch-end-requires c κs = omega (arith, c .before .before .before .before .before .before .before .before .pre .here, S.productions-few (c .before .before .before .before .before .before .before .before .pre .brought))
 
--- src/records.rt:101:18
 sub-fields : tie.Need-sub-fields
 sub-fields c = S.place (c .before .before .before .before .before .before .before .before .before .pre) (L.bytes-of (now (c .before .before .before .before .before .before .before .before .before .args .table)) (λ i. omega (arith, c .before .before .before .before .before .before .before .before .shared-slice-known .given i))) (c .before .fields-from .ensures) (c .stretch-end .ensures) .0
 
--- src/records.rt:101:18
 part-fields-start : tie.Need-part-fields-start
 part-fields-start c = S.place (c .before .before .before .before .before .before .before .before .before .pre) (L.bytes-of (now (c .before .before .before .before .before .before .before .before .before .args .table)) (λ i. omega (arith, c .before .before .before .before .before .before .before .before .shared-slice-known .given i))) (c .before .fields-from .ensures) (c .stretch-end .ensures) .0
 
--- src/records.rt:101:18
 part-fields-end : tie.Need-part-fields-end
 part-fields-end c = S.place (c .before .before .before .before .before .before .before .before .before .pre) (L.bytes-of (now (c .before .before .before .before .before .before .before .before .before .args .table)) (λ i. omega (arith, c .before .before .before .before .before .before .before .before .shared-slice-known .given i))) (c .before .fields-from .ensures) (c .stretch-end .ensures) .1
 
--- src/records.rt:102:17
 mul-first : tie.Need-mul-first
 mul-first c = omega (arith, c .before .before .before .before .before .before .before .before .before .before .pre .here, S.productions-few (c .before .before .before .before .before .before .before .before .before .before .pre .brought))
 
--- src/records.rt:103:16
 mul-last : tie.Need-mul-last
 mul-last c = omega (arith, c .before .before .before .before .before .before .before .before .before .before .pre .here, S.productions-few (c .before .before .before .before .before .before .before .before .before .before .pre .brought))
 
--- src/records.rt:103:16
 add-last : tie.Need-add-last
 add-last c = omega (arith, c .before .before .before .before .before .before .before .before .before .before .pre .here, S.productions-few (c .before .before .before .before .before .before .before .before .before .before .pre .brought))
 
--- src/records.rt:104:15
 sub-row : tie.Need-sub-row
 sub-row c = omega arith
 
--- src/records.rt:104:15
 part-row-start : tie.Need-part-row-start
 part-row-start c = omega arith
 
--- src/records.rt:104:15
 part-row-end : tie.Need-part-row-end
 part-row-end c = omega (arith, S.row-inside (c .before .before .before .before .before .before .before .before .before .before .pre) (L.bytes-of (now (c .before .before .before .before .before .before .before .before .before .before .args .table)) (λ i. omega (arith, c .before .before .before .before .before .before .before .before .before .shared-slice-known .given i))))
 
--- src/records.rt:105:17
 count-items-requires : tie.Need-count-items-requires
 count-items-requires c κs = S.fields-counted (c .before .before .before .before .before .before .before .before .before .before .before .pre) (L.bytes-of (now (c .before .before .before .before .before .before .before .before .before .before .before .args .table)) (λ i. omega (arith, c .before .before .before .before .before .before .before .before .before .before .shared-slice-known .given i))) (c .before .before .before .fields-from .ensures) (c .before .before .stretch-end .ensures)
 
--- src/records.rt:106:19
 array-read-entries : tie.Need-array-read-entries
 array-read-entries c = search needs
 
--- src/records.rt:107:5
 write-record-requires : tie.Need-write-record-requires
 write-record-requires c κs = S.record-fits (c .before .before .before .before .before .before .before .before .before .before .before .before .before .pre) (L.bytes-of (now (c .before .before .before .before .before .before .before .before .before .before .before .before .before .args .table)) (λ i. omega (arith, c .before .before .before .before .before .before .before .before .before .before .before .before .shared-slice-known .given i))) (c .before .before .before .before .before .fields-from .ensures) (c .before .before .before .before .stretch-end .ensures) (c .before .count-items .result) (c .before .count-items .ensures .1)
 
--- src/records.rt:118:61
 slice-aggregate-write-body : tie.Need-slice-aggregate-write-body
 slice-aggregate-write-body c = search needs
 
--- src/records.rt:118:5
 write-body-requires : tie.Need-write-body-requires
 write-body-requires c κs = S.body-fits (c .before .before .before .before .before .before .before .before .before .before .before .before .before .before .before .before .before .before .pre) (L.bytes-of (now (c .before .before .before .before .before .before .before .before .before .before .before .before .before .before .before .before .before .before .args .table)) (λ i. omega (arith, c .before .before .before .before .before .before .before .before .before .before .before .before .before .before .before .before .before .shared-slice-known .given i))) (c .before .before .before .before .before .before .before .before .before .before .fields-from .ensures) (c .before .before .before .before .before .before .before .before .before .stretch-end .ensures) (c .before .before .before .before .before .before .count-items .result) (c .before .before .before .before .before .before .count-items .ensures .1) (c .before .before .before .before .write-record .ensures)
 
--- src/records.rt:82:1
 same-length : tie.Need-same-length
 same-length c = search needs
 
--- src/records.rt:82:1
 returns : tie.Need-returns
 returns c = λ x. S.production-written x (L.bytes-of (now (c .before .before .before .before .before .before .before .before .before .before .before .before .before .before .before .before .before .before .before .before .before .args .table)) (λ i. omega (arith, c .before .before .before .before .before .before .before .before .before .before .before .before .before .before .before .before .before .before .before .before .shared-slice-known .given i))) (c .before .before .before .before .before .before .before .before .before .before .before .before .before .fields-from .ensures) (c .before .before .before .before .before .before .before .before .before .before .before .before .stretch-end .ensures) (c .before .before .before .before .before .before .before .before .before .count-items .result) (c .before .before .before .before .before .before .before .before .before .count-items .ensures .1) (c .before .before .before .before .before .before .before .write-record .ensures) (c .before .before .write-body .ensures)
 

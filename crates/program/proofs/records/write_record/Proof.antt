@@ -1,82 +1,58 @@
 use native.Mathlib.Omega.{arith}
 use borrow.Author.Needs.{needs}
-use Rattle.program.proofs.Laws as L
 use Rattle.program.proofs.Sections as S
 use Rattle.blocks.specs.Patch.{wrote-length}
 use Rattle.program.proofs.records.write_record.Statement.{statement}
 use Rattle.program.proofs.records.write_record.Tie as tie
-use Rattle.program.proofs.records.write_record.Reads as reads
-use Rattle.program.proofs.records.write_record.Lts as lts
-use Rattle.program.proofs.directory.set_at.Reads as set-at-reads
-use Rattle.program.proofs.put_four.Reads as put-four-reads
-use Rattle.program.proofs.records.find_next.Reads as find-next-reads
-use Rattle.value.proofs.byte_at.Reads as byte-at-reads
 
--- src/records.rt:50:37
 mul-byte-at : tie.Need-mul-byte-at
 mul-byte-at c = omega (arith, c .before .before .before .pre .here, S.count-few (c .before .before .before .pre .alternatives))
 
--- src/records.rt:50:9
 byte-at-requires : tie.Need-byte-at-requires
 byte-at-requires c κs = search needs
 
--- src/records.rt:51:37
 mul-byte-at-2 : tie.Need-mul-byte-at-2
 mul-byte-at-2 c = omega (arith, c .before .before .before .before .pre .here, S.count-few (c .before .before .before .before .pre .alternatives))
 
--- src/records.rt:51:37
 add-byte-at : tie.Need-add-byte-at
 add-byte-at c = omega (arith, c .before .before .before .before .pre .here, S.count-few (c .before .before .before .before .pre .alternatives))
 
--- src/records.rt:51:9
 byte-at-requires-2 : tie.Need-byte-at-requires-2
 byte-at-requires-2 c κs = search needs
 
--- src/records.rt:52:9
 set-at-requires : tie.Need-set-at-requires
 set-at-requires c κs = search needs
 
--- src/records.rt:53:9
 find-next-requires : tie.Need-find-next-requires
 find-next-requires c κs = (c .before .before .before .before .before .before .pre .here, S.count-few (c .before .before .before .before .before .before .pre .alternatives))
 
--- src/records.rt:54:15
 cast-low : tie.Need-cast-low
 cast-low c = omega arith
 
--- src/records.rt:55:16
 cast-high : tie.Need-cast-high
 cast-high c = omega (arith, c .before .set-at .ensures .1)
 
--- src/records.rt:56:16
 cast-from : tie.Need-cast-from
 cast-from c = omega (arith, c .before .before .before .before .before .before .before .pre .behind)
 
--- src/records.rt:57:9
 put-four-requires : tie.Need-put-four-requires
 put-four-requires c κs = omega (arith, c .before .before .before .before .before .before .before .before .pre .room)
 
--- src/records.rt:58:48
 add-put-four : tie.Need-add-put-four
 add-put-four c = omega (arith, S.scheme-small (c .before .before .before .before .before .before .before .before .before .before .before .before .pre) _ (c .before .before .before .before .before .before .before .byte-at2 .ensures .0))
 
--- src/records.rt:58:62
 mul-put-four : tie.Need-mul-put-four
 mul-put-four c = omega (arith, S.scheme-small (c .before .before .before .before .before .before .before .before .before .before .before .before .pre) _ (c .before .before .before .before .before .before .before .byte-at2 .ensures .0))
 
--- src/records.rt:58:48
 add-put-four-2 : tie.Need-add-put-four-2
 add-put-four-2 c = omega (arith, S.scheme-small (c .before .before .before .before .before .before .before .before .before .before .before .before .pre) _ (c .before .before .before .before .before .before .before .byte-at2 .ensures .0))
 
--- src/records.rt:58:5
 put-four-requires-2 : tie.Need-put-four-requires-2
 put-four-requires-2 c κs = omega (arith, c .before .before .before .before .before .before .before .before .before .before .before .before .pre .room, c .before .before .before .put-four .ensures .address, wrote-length (c .before .before .before .put-four .ensures))
 
--- src/records.rt:36:1
 same-length : tie.Need-same-length
 same-length c = wrote-length (S.record-written (c .before .before .before .before .before .before .before .before .before .before .before .before .before .before .before .pre) (c .before .before .before .before .before .before .before .before .before .before .before .byte-at .ensures .0) (c .before .before .before .before .before .before .before .before .before .before .byte-at2 .ensures .0) (c .before .before .before .before .before .before .before .before .before .set-at .ensures .0) (c .before .before .before .before .before .before .before .before .before .set-at .ensures .1) (c .before .before .before .before .before .before .before .before .find-next .ensures) (c .before .before .before .before .before .before .put-four .ensures) (c .before .before .put-four2 .ensures))
 
--- src/records.rt:36:1
 returns : tie.Need-returns
 returns c = λ x. S.record-written x (c .before .before .before .before .before .before .before .before .before .before .before .byte-at .ensures .0) (c .before .before .before .before .before .before .before .before .before .before .byte-at2 .ensures .0) (c .before .before .before .before .before .before .before .before .before .set-at .ensures .0) (c .before .before .before .before .before .before .before .before .before .set-at .ensures .1) (c .before .before .before .before .before .before .before .before .find-next .ensures) (c .before .before .before .before .before .before .put-four .ensures) (c .before .before .put-four2 .ensures)
 

@@ -1,0 +1,267 @@
+// The calls on the lent cells, under a grammar whose program and rows are at hand.
+ghost use Prim.Native.Nat.{_≤_, _<_, min};
+ghost use mathlib.Core.Path.{_≡_};
+ghost use lib.ListN.{length, replicate};
+ghost use Rattle.meaning.specs.Value.{mark};
+ghost use Rattle.meaning.specs.Grammar.{Grammar};
+ghost use Rattle.meaning.specs.Calls.{openOf, feedOf, finishOf};
+ghost use Rattle.theory_program.specs.Addresses.{Begins};
+ghost use Rattle.fit.specs.Shown.{Shown};
+ghost use Rattle.fit.specs.Cut.{stacksOf};
+ghost use Rattle.engine.specs.Records.{recordIs, calledIs};
+ghost use Rattle.engine.specs.Judging.{Brought, turnedBack};
+use crate::Answer;
+use crate::Called;
+use crate::Record;
+use crate::running::as_brought;
+use crate::running::closed;
+use crate::running::fed;
+use crate::running::feed_tokens;
+use crate::running::finished;
+use crate::running::run_of;
+
+// ---- clearing
+
+fn clear_registers(registers: &mut [i64])
+    ensures { λ r. ⌜ now (registers .exit) ≡ replicate (length (now (registers .entry))) mark ⌝ }
+{
+    let mut i = 0;
+    while i < registers.len() {
+        registers[i] = value::MARK;
+        i += 1;
+    }
+}
+
+fn clear_places(places: &mut [u32])
+    ensures { λ r. ⌜ now (places .exit) ≡ replicate (length (now (places .entry))) 0 ⌝ }
+{
+    let mut i = 0;
+    while i < places.len() {
+        places[i] = 0;
+        i += 1;
+    }
+}
+
+// ---- the calls on exactly the lent cells
+
+// 01: the whole segment's place while the start symbol is waited at.
+const SEGMENT: u32 = 32768;
+
+// 01: "At opening 31 precedes 32, no stack is written".
+fn open_lent(registers: &mut [i64], places: &mut [u32], program: &[u32]) -> Called
+    requires { ⌜ (length (now registers) ≤ 4096) × (length (now places) ≤ 1024) × (4 < length (now program)) ⌝ }
+    ensures { λ r. ⌜ ((g : Grammar) → Begins g (now (program .entry)) → calledIs r (now (registers .exit)) (now (places .exit)) ≡ openOf g (stacksOf (now (registers .entry)) (now (places .entry)))) ⌝ }
+{
+    let count = machine::word_at(program, 4);
+    if registers.len() < count {
+        return closed(Answer::Refused {
+            number: 31,
+            tokens: 0,
+        });
+    }
+    if places.len() == 0 {
+        return closed(Answer::Refused {
+            number: 32,
+            tokens: 0,
+        });
+    }
+    clear_registers(registers);
+    clear_places(places);
+    places[0] = SEGMENT;
+    Called {
+        record: Record {
+            open: true,
+            tokens: 0,
+            moves: 0,
+            registers: count as u64,
+            places: 1,
+        },
+        answer: Answer::More(0),
+    }
+}
+
+// 33 or 34; 0 where the call goes on to its moves.
+fn turned_back(
+    registers: &[i64],
+    places: &[u32],
+    rows: &[u8; 2048],
+    inherited: &[u8; 48],
+    synthesized: &[u8; 48],
+    productions: usize,
+    start: usize,
+    brought: Record,
+) -> u32
+    requires { ⌜ (length (now registers) ≤ 4096) × (length (now places) ≤ 1024) × ((g : Grammar) × Shown g (now rows) (now inherited) (now synthesized) productions start) ⌝ }
+    ensures { λ r. ⌜ ((g : Grammar) → Shown g (now (rows .entry)) (now (inherited .entry)) (now (synthesized .entry)) productions start → r ≡ turnedBack g (recordIs brought) (stacksOf (now (registers .entry)) (now (places .entry)))) ⌝ }
+{
+    if !brought.open {
+        return 33;
+    }
+    if fit::fits(
+        registers,
+        places,
+        brought.tokens,
+        brought.moves,
+        brought.registers,
+        brought.places,
+        rows,
+        inherited,
+        synthesized,
+        productions,
+        start,
+    ) {
+        return 0;
+    }
+    34
+}
+
+// A feed: the tokens of the list, one after the other.
+fn feed_lent(
+    registers: &mut [i64],
+    places: &mut [u32],
+    program: &[u32],
+    rows: &[u8; 2048],
+    inherited: &[u8; 48],
+    synthesized: &[u8; 48],
+    productions: usize,
+    start: usize,
+    brought: Record,
+    tokens: &[u8],
+) -> Called
+    requires { ⌜ (length (now registers) ≤ 4096) × (length (now places) ≤ 1024) × Brought (now program) (now rows) (now inherited) (now synthesized) productions start ⌝ }
+    ensures { λ r. ⌜ ((g : Grammar) → Begins g (now (program .entry)) → Shown g (now (rows .entry)) (now (inherited .entry)) (now (synthesized .entry)) productions start → calledIs r (now (registers .exit)) (now (places .exit)) ≡ feedOf g (recordIs brought) (stacksOf (now (registers .entry)) (now (places .entry))) (now (tokens .entry))) ⌝ }
+{
+    let number = turned_back(
+        registers,
+        places,
+        rows,
+        inherited,
+        synthesized,
+        productions,
+        start,
+        brought,
+    );
+    if number != 0 {
+        return as_brought(brought, Answer::Refused { number, tokens: 0 });
+    }
+    let run = run_of(places, program, brought);
+    fed(feed_tokens(registers, places, program, run, tokens))
+}
+
+// A finish: the moves that the end of the segment brings about.
+fn finish_lent(
+    registers: &mut [i64],
+    places: &mut [u32],
+    program: &[u32],
+    rows: &[u8; 2048],
+    inherited: &[u8; 48],
+    synthesized: &[u8; 48],
+    productions: usize,
+    start: usize,
+    brought: Record,
+) -> Called
+    requires { ⌜ (length (now registers) ≤ 4096) × (length (now places) ≤ 1024) × Brought (now program) (now rows) (now inherited) (now synthesized) productions start ⌝ }
+    ensures { λ r. ⌜ ((g : Grammar) → Begins g (now (program .entry)) → Shown g (now (rows .entry)) (now (inherited .entry)) (now (synthesized .entry)) productions start → calledIs r (now (registers .exit)) (now (places .exit)) ≡ finishOf g (recordIs brought) (stacksOf (now (registers .entry)) (now (places .entry)))) ⌝ }
+{
+    let number = turned_back(
+        registers,
+        places,
+        rows,
+        inherited,
+        synthesized,
+        productions,
+        start,
+        brought,
+    );
+    if number != 0 {
+        return as_brought(brought, Answer::Refused { number, tokens: 0 });
+    }
+    let run = run_of(places, program, brought);
+    let ended = machine::advance(registers, places, program, run, 63);
+    finished(registers, program, ended)
+}
+
+// ---- the lent cells
+
+fn smaller(a: usize, b: usize) -> usize
+    ensures { λ r. ⌜ r ≡ min a b ⌝ }
+{
+    if a < b {
+        return a;
+    }
+    b
+}
+
+// 01: "cells past these are neither read nor written and don't count as lent".
+const REGISTERS: usize = 4096;
+
+const PLACES: usize = 1024;
+
+pub fn open_cells(registers: &mut [i64], places: &mut [u32], program: &[u32]) -> Called
+    requires { ⌜ 4 < length (now program) ⌝ }
+    ensures { λ r. ⌜ ((g : Grammar) → Begins g (now (program .entry)) → calledIs r (now (registers .exit)) (now (places .exit)) ≡ openOf g (stacksOf (now (registers .entry)) (now (places .entry)))) ⌝ }
+{
+    let n = smaller(registers.len(), REGISTERS);
+    let k = smaller(places.len(), PLACES);
+    open_lent(&mut registers[..n], &mut places[..k], program)
+}
+
+pub fn feed_cells(
+    registers: &mut [i64],
+    places: &mut [u32],
+    program: &[u32],
+    rows: &[u8; 2048],
+    inherited: &[u8; 48],
+    synthesized: &[u8; 48],
+    productions: usize,
+    start: usize,
+    brought: Record,
+    tokens: &[u8],
+) -> Called
+    requires { ⌜ Brought (now program) (now rows) (now inherited) (now synthesized) productions start ⌝ }
+    ensures { λ r. ⌜ ((g : Grammar) → Begins g (now (program .entry)) → Shown g (now (rows .entry)) (now (inherited .entry)) (now (synthesized .entry)) productions start → calledIs r (now (registers .exit)) (now (places .exit)) ≡ feedOf g (recordIs brought) (stacksOf (now (registers .entry)) (now (places .entry))) (now (tokens .entry))) ⌝ }
+{
+    let n = smaller(registers.len(), REGISTERS);
+    let k = smaller(places.len(), PLACES);
+    feed_lent(
+        &mut registers[..n],
+        &mut places[..k],
+        program,
+        rows,
+        inherited,
+        synthesized,
+        productions,
+        start,
+        brought,
+        tokens,
+    )
+}
+
+pub fn finish_cells(
+    registers: &mut [i64],
+    places: &mut [u32],
+    program: &[u32],
+    rows: &[u8; 2048],
+    inherited: &[u8; 48],
+    synthesized: &[u8; 48],
+    productions: usize,
+    start: usize,
+    brought: Record,
+) -> Called
+    requires { ⌜ Brought (now program) (now rows) (now inherited) (now synthesized) productions start ⌝ }
+    ensures { λ r. ⌜ ((g : Grammar) → Begins g (now (program .entry)) → Shown g (now (rows .entry)) (now (inherited .entry)) (now (synthesized .entry)) productions start → calledIs r (now (registers .exit)) (now (places .exit)) ≡ finishOf g (recordIs brought) (stacksOf (now (registers .entry)) (now (places .entry)))) ⌝ }
+{
+    let n = smaller(registers.len(), REGISTERS);
+    let k = smaller(places.len(), PLACES);
+    finish_lent(
+        &mut registers[..n],
+        &mut places[..k],
+        program,
+        rows,
+        inherited,
+        synthesized,
+        productions,
+        start,
+        brought,
+    )
+}

@@ -1,0 +1,180 @@
+// A run on lent slices: from a record to the machine, its tokens, and what is handed back.
+ghost use Prim.Native.Nat.{_≤_};
+ghost use mathlib.Core.Path.{_≡_};
+ghost use mathlib.Core.List.{List};
+ghost use lib.IntN.{ℤ};
+ghost use lib.ListN.{length, getD};
+ghost use Rattle.machine.specs.Advancing.{Running};
+ghost use Rattle.meaning.specs.Rules.{WellFormed};
+ghost use Rattle.meaning.specs.Grammar.{Grammar};
+ghost use Rattle.meaning.specs.Fit.{Fit};
+ghost use Rattle.meaning.specs.Calls.{lentOf, configOf};
+ghost use Rattle.theory_program.specs.Addresses.{Begins};
+ghost use Rattle.theory_program.specs.Resuming.{placeAddress};
+ghost use Rattle.machine.specs.Held.{Held};
+ghost use Rattle.fit.specs.Cut.{stacksOf};
+ghost use Rattle.engine.specs.Feeding.{FeedsToken, Feeds};
+ghost use Rattle.engine.specs.Records.{recordIs};
+ghost use Rattle.engine.specs.Starting.{Stood, Standing, Fitting};
+ghost use Rattle.engine.specs.Leaving.{recordFrom, broughtFrom, closedFrom, fedFrom, finishedFrom, Ending};
+use crate::Answer;
+use crate::Called;
+use crate::Record;
+use machine::Ended;
+use machine::Run;
+
+const TOKENS_LIMIT: u64 = 65535;
+
+// ---- tokens
+
+// 01: "35 a token after 65,535", "20 token not below T, judged before its moves".
+fn feed_token(registers: &mut [i64], places: &mut [u32], program: &[u32], run: Run, t: u8) -> Ended
+    requires { ⌜ Running (now program) (now registers) (now places) run ⌝ }
+    ensures { λ r. ⌜ FeedsToken (now (program .entry)) t (now (registers .entry)) (now (places .entry)) run (now (registers .exit)) (now (places .exit)) r ⌝ }
+{
+    if TOKENS_LIMIT <= run.tokens {
+        return Ended::Failed(run, 35);
+    }
+    if machine::word_at(program, 3) <= t as usize {
+        return Ended::Failed(run, 20);
+    }
+    machine::advance(registers, places, program, run, t)
+}
+
+pub fn feed_tokens(
+    registers: &mut [i64],
+    places: &mut [u32],
+    program: &[u32],
+    run: Run,
+    tokens: &[u8],
+) -> Ended
+    requires { ⌜ Running (now program) (now registers) (now places) run ⌝ }
+    ensures { λ r. ⌜ Feeds (now (program .entry)) (now (tokens .entry)) (now (registers .entry)) (now (places .entry)) run (now (registers .exit)) (now (places .exit)) r ⌝ }
+{
+    let mut state = run;
+    let mut i = 0;
+    while i < tokens.len() {
+        match feed_token(registers, places, program, state, tokens[i]) {
+            Ended::Stopped(next) => {
+                state = next;
+            }
+            Ended::Failed(last, k) => {
+                return Ended::Failed(last, k);
+            }
+        }
+        i += 1;
+    }
+    Ended::Stopped(state)
+}
+
+// ---- from a record to a run
+
+// 01: the whole segment's place once the start symbol is left.
+const LEFT: usize = 32769;
+
+// The address at which a place goes on.
+fn address_of(program: &[u32], place: usize) -> usize
+    requires { ⌜ Standing (now program) place ⌝ }
+    ensures { λ r. ⌜ ((g : Grammar) → Begins g (now (program .entry)) → WellFormed g → Stood g place → r ≡ placeAddress g place) ⌝ }
+{
+    if place == LEFT {
+        return 1;
+    }
+    machine::resume(program, place)
+}
+
+pub fn run_of(places: &[u32], program: &[u32], brought: Record) -> Run
+    requires { ⌜ ((vs : List ℤ) × Fitting (now program) vs (now places) (recordIs brought)) ⌝ }
+    ensures { λ r. ⌜ ((g : Grammar) (vs : List ℤ) → Begins g (now (program .entry)) → WellFormed g → length vs ≤ 4096 → length (now (places .entry)) ≤ 1024 → Fit g (recordIs brought) (stacksOf vs (now (places .entry))) → Held g (now (program .entry)) (lentOf (stacksOf vs (now (places .entry)))) vs (now (places .entry)) r (configOf g (recordIs brought) (stacksOf vs (now (places .entry))))) ⌝ }
+{
+    let height = brought.places as usize;
+    let place = machine::word_at(places, height - 1);
+    Run {
+        tokens: brought.tokens,
+        moves: brought.moves,
+        registers: brought.registers as usize,
+        places: height,
+        at: address_of(program, place),
+    }
+}
+
+// ---- from a run to what is handed back
+
+fn record_of(open: bool, run: Run) -> Record
+    ensures { λ r. ⌜ r ≡ recordFrom «open» run ⌝ }
+{
+    Record {
+        open,
+        tokens: run.tokens,
+        moves: run.moves,
+        registers: run.registers as u64,
+        places: run.places as u64,
+    }
+}
+
+pub fn fed(ended: Ended) -> Called
+    ensures { λ r. ⌜ r ≡ fedFrom ended ⌝ }
+{
+    match ended {
+        Ended::Stopped(run) => Called {
+            record: record_of(true, run),
+            answer: Answer::More(run.moves),
+        },
+        Ended::Failed(run, number) => Called {
+            record: record_of(false, run),
+            answer: Answer::Refused {
+                number,
+                tokens: run.tokens,
+            },
+        },
+    }
+}
+
+// The value is the result register of the start symbol.
+pub fn finished(registers: &[i64], program: &[u32], ended: Ended) -> Called
+    requires { ⌜ Ending (now program) (now registers) ended ⌝ }
+    ensures { λ r. ⌜ r ≡ finishedFrom (getD (now (program .entry)) 5 0) (now (registers .entry)) ended ⌝ }
+{
+    match ended {
+        Ended::Stopped(run) => Called {
+            record: record_of(false, run),
+            answer: Answer::Value(
+                registers::read(registers, run.registers, program[5]),
+                run.moves,
+            ),
+        },
+        Ended::Failed(run, number) => Called {
+            record: record_of(false, run),
+            answer: Answer::Refused {
+                number,
+                tokens: run.tokens,
+            },
+        },
+    }
+}
+
+// 01: "the record comes back as brought".
+pub fn as_brought(brought: Record, answer: Answer) -> Called
+    ensures { λ r. ⌜ r ≡ broughtFrom brought answer ⌝ }
+{
+    Called {
+        record: brought,
+        answer,
+    }
+}
+
+// 01: "the record is closed and all zero".
+pub fn closed(answer: Answer) -> Called
+    ensures { λ r. ⌜ r ≡ closedFrom answer ⌝ }
+{
+    Called {
+        record: Record {
+            open: false,
+            tokens: 0,
+            moves: 0,
+            registers: 0,
+            places: 0,
+        },
+        answer,
+    }
+}

@@ -1,0 +1,2 @@
+pub mod Preparing
+pub mod Making
