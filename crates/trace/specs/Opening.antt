@@ -1,7 +1,7 @@
 -- A run from its opening: the whole segment's place, and marked registers for the start symbol.
 use Prim.Native.Nat.{ℕ, _+_, _≤_, _<_}
 use native.Mathlib.Omega.{arith}
-use mathlib.Core.Path.{_≡_, refl, sym, ap, _∙_, subst}
+use mathlib.Core.Path.{_≡_, refl, sym, subst}
 use mathlib.Core.Logic.{inl}
 use mathlib.Core.Bool.{Bool, true, false, _&&_, _||_}
 use mathlib.Core.List.{List, [], _∷_, _++_, append-nil}
@@ -65,10 +65,11 @@ opening-shaped g w =
 abbrev pub openingRun : ℕ → Run
 openingRun k = record { tokens = 0; moves = 0; registers = k; places = 1; at = 0 }
 
-pub opening-running : {ws : List ℕ} (o : Opens ws) (k : ℕ) → k ≡ getD ws 4 0 → Running ws (replicate 4096 mark) (set (replicate 1024 0) 0 32768) (openingRun k)
-opening-running {ws} o k e =
+pub opening-running : {ws : List ℕ} → Opens ws → Running ws (replicate 4096 mark) (set (replicate 1024 0) 0 32768) (openingRun (getD ws 4 0))
+opening-running {ws} o =
     let g : Grammar = o .grammar in
-    let n : k ≡ syn g (nonterminal (g .start)) = e ∙ segment-words (o .begins) .registers in
+    let k : ℕ = getD ws 4 0 in
+    let n : k ≡ syn g (nonterminal (g .start)) = segment-words (o .begins) .registers in
     record {
       grammar = g;
       lent = record { maxRegisters = 4096; maxPlaces = 1024 };

@@ -8,8 +8,6 @@ mod words;
 
 ghost use Prim.Native.Nat.{_<_};
 ghost use Rattle.trace.specs.Opening.{Opens};
-use machine::Run;
-use moving::Tale;
 use prepare::Prepared;
 
 // 01: "At most 4,096 registers and 1,024 places are used", "A program area of at least 16,384 32-bit words".
@@ -40,15 +38,7 @@ fn opened(
     let mut places = [0u32; PLACES];
     let mut out = [0u8; OUT];
     places[0] = SEGMENT;
-    let run = Run {
-        tokens: 0,
-        moves: 0,
-        registers: machine::word_at(program, 4),
-        places: 1,
-        at: 0,
-    };
-    let at = output::say(&mut out, 0, b"opened\n");
-    let filled = moving::stacks_lines(
+    let begun = moving::begin(
         &registers,
         &places,
         program,
@@ -57,16 +47,7 @@ fn opened(
         synthesized,
         start,
         &mut out,
-        at,
-        run,
     );
-    let begun = Tale {
-        run,
-        made: 0,
-        index: 0,
-        read: false,
-        filled,
-    };
     let traced = moving::tell(
         &mut registers,
         &mut places,

@@ -3,6 +3,7 @@ ghost use Prim.Native.Nat.{_+_, _%_, _<_, _≤_};
 ghost use mathlib.Core.Path.{_≡_};
 ghost use lib.ListN.{length, getD};
 ghost use Rattle.machine.specs.Advancing.{Running};
+ghost use Rattle.trace.specs.Opening.{openingRun};
 ghost use Rattle.trace.specs.Stepping.{Steps};
 ghost use Rattle.trace.specs.Tracing.{Tracing, ToldMove, Told, Took, ToldAll, done};
 use crate::telling::coming_line;
@@ -62,7 +63,7 @@ fn one_move(registers: &mut [i64], places: &mut [u32], program: &[u32], run: Run
 }
 
 // The lines of both stacks.
-pub fn stacks_lines(
+fn stacks_lines(
     registers: &[i64],
     places: &[u32],
     program: &[u32],
@@ -252,6 +253,51 @@ fn follow(
                 return Traced::Refused(last, number);
             }
         }
+    }
+}
+
+// ---- the opening
+
+// Tells the opening. 01: "marked registers for the start symbol", as many as the program's word 4 says.
+pub fn begin(
+    registers: &[i64],
+    places: &[u32],
+    program: &[u32],
+    rows: &[u8],
+    inherited: &[u8],
+    synthesized: &[u8],
+    start: usize,
+    out: &mut [u8],
+) -> Tale
+    requires { ⌜ Running (now program) (now registers) (now places) (openingRun (getD (now program) 4 0)) × (start < 256) ⌝ }
+    ensures { λ r. ⌜ Tracing (now (program .entry)) (now (registers .entry)) (now (places .entry)) (length (now (out .entry))) r ⌝ }
+{
+    let run = Run {
+        tokens: 0,
+        moves: 0,
+        registers: machine::word_at(program, 4),
+        places: 1,
+        at: 0,
+    };
+    let at = crate::output::say(out, 0, b"opened\n");
+    let filled = stacks_lines(
+        registers,
+        places,
+        program,
+        rows,
+        inherited,
+        synthesized,
+        start,
+        out,
+        at,
+        run,
+    );
+    Tale {
+        run,
+        made: 0,
+        index: 0,
+        read: false,
+        filled,
     }
 }
 

@@ -1,10 +1,7 @@
-use native.Mathlib.Omega.{arith}
 use mathlib.Core.Path.{sym}
 use denote.Ref.{now}
-use Rattle.theory_program.specs.Addresses.{segment-at}
-use Rattle.theory_program.specs.Stands.{stands-within}
 use Rattle.trace.specs.Opening.{opening-running}
-use Rattle.trace.specs.Tracing.{all-in}
+use Rattle.trace.specs.Tracing.{tracing-in, all-in}
 use borrow.Author.Needs.{needs}
 use Rattle.trace.proofs.opened.Statement.{statement}
 use Rattle.trace.proofs.opened.Tie as tie
@@ -12,29 +9,17 @@ use Rattle.trace.proofs.opened.Tie as tie
 array-write-places : tie.Need-array-write-places
 array-write-places c = search needs
 
-word-at-requires : tie.Need-word-at-requires
-word-at-requires c κs = omega (arith, stands-within (segment-at (c .before .before .pre .0 .begins)))
+slice-aggregate-begin : tie.Need-slice-aggregate-begin
+slice-aggregate-begin c = search needs
 
-slice-aggregate-say : tie.Need-slice-aggregate-say
-slice-aggregate-say c = search needs
+slice-aggregate-begin-2 : tie.Need-slice-aggregate-begin-2
+slice-aggregate-begin-2 c = search needs
 
-slice-aggregate-say-2 : tie.Need-slice-aggregate-say-2
-slice-aggregate-say-2 c = search needs
+slice-aggregate-begin-3 : tie.Need-slice-aggregate-begin-3
+slice-aggregate-begin-3 c = search needs
 
-say-requires : tie.Need-say-requires
-say-requires c κs = search needs
-
-slice-aggregate-stacks-lines : tie.Need-slice-aggregate-stacks-lines
-slice-aggregate-stacks-lines c = search needs
-
-slice-aggregate-stacks-lines-2 : tie.Need-slice-aggregate-stacks-lines-2
-slice-aggregate-stacks-lines-2 c = search needs
-
-slice-aggregate-stacks-lines-3 : tie.Need-slice-aggregate-stacks-lines-3
-slice-aggregate-stacks-lines-3 c = search needs
-
-stacks-lines-requires : tie.Need-stacks-lines-requires
-stacks-lines-requires c κs = (opening-running (c .before .before .before .before .before .before .before .before .before .before .before .before .before .pre .0) (c .before .before .before .before .before .before .before .before .before .before .word-at .result) (c .before .before .before .before .before .before .before .before .before .before .word-at .ensures .0), omega (arith, c .before .before .before .before .before .before .before .say .ensures, c .before .before .before .before .before .before .before .say .kept .0), c .before .before .before .before .before .before .before .before .before .before .before .before .before .pre .1)
+begin-requires : tie.Need-begin-requires
+begin-requires c κs = (opening-running (c .before .before .before .before .before .before .before .before .pre .0), c .before .before .before .before .before .before .before .before .pre .1)
 
 slice-aggregate-tell : tie.Need-slice-aggregate-tell
 slice-aggregate-tell c = search needs
@@ -46,7 +31,7 @@ slice-aggregate-tell-3 : tie.Need-slice-aggregate-tell-3
 slice-aggregate-tell-3 c = search needs
 
 tell-requires : tie.Need-tell-requires
-tell-requires c κs = (record { running = opening-running (c .before .before .before .before .before .before .before .before .before .before .before .before .before .before .before .before .before .before .before .before .before .pre .0) (c .before .before .before .before .before .before .before .before .before .before .before .before .before .before .before .before .before .before .word-at .result) (c .before .before .before .before .before .before .before .before .before .before .before .before .before .before .before .before .before .before .word-at .ensures .0); few = omega arith; kept = record { room = omega (arith, c .before .before .before .before .before .before .before .stacks-lines .ensures, c .before .before .before .before .before .before .before .stacks-lines .kept .1 .1 .1 .1 .1 .1 .1 .0); small = omega arith } }, c .before .before .before .before .before .before .before .before .before .before .before .before .before .before .before .before .before .before .before .before .before .pre .1)
+tell-requires c κs = (tracing-in (sym (c .before .before .before .before .before .before .before .begin .kept .1 .1 .1 .1 .1 .1 .1 .0)) (c .before .before .before .before .before .before .before .begin .ensures), c .before .before .before .before .before .before .before .before .before .before .before .before .before .before .before .before .pre .1)
 
 slice-aggregate-last-line : tie.Need-slice-aggregate-last-line
 slice-aggregate-last-line c = search needs
@@ -55,7 +40,7 @@ slice-aggregate-last-line-2 : tie.Need-slice-aggregate-last-line-2
 slice-aggregate-last-line-2 c = search needs
 
 last-line-requires : tie.Need-last-line-requires
-last-line-requires c κs = (c .before .before .before .before .before .tell .last .1 .0, all-in (now (c .before .before .before .before .before .before .before .before .before .before .before .before .before .before .before .before .before .before .before .before .before .before .before .before .before .before .before .args .program)) (c .before .before .before .before .before .tell .last .0) (c .before .before .before .before .before .tell .last .1 .0) (sym (c .before .before .before .before .before .tell .kept .1 .1 .1 .1 .1 .1 .1 .0)) (c .before .before .before .before .before .tell .result) (c .before .before .before .before .before .tell .ensures))
+last-line-requires c κs = (c .before .before .before .before .before .tell .last .1 .0, all-in (now (c .before .before .before .before .before .before .before .before .before .before .before .before .before .before .before .before .before .before .before .before .before .before .args .program)) (c .before .before .before .before .before .tell .last .0) (c .before .before .before .before .before .tell .last .1 .0) (sym (c .before .before .before .before .before .tell .kept .1 .1 .1 .1 .1 .1 .1 .0)) (c .before .before .before .before .before .tell .result) (c .before .before .before .before .before .tell .ensures))
 
 slice-aggregate-flush : tie.Need-slice-aggregate-flush
 slice-aggregate-flush c = search needs
@@ -71,14 +56,10 @@ opened-spec =
     tie.close
     (tie.spec
     array-write-places
-    word-at-requires
-    slice-aggregate-say
-    slice-aggregate-say-2
-    say-requires
-    slice-aggregate-stacks-lines
-    slice-aggregate-stacks-lines-2
-    slice-aggregate-stacks-lines-3
-    stacks-lines-requires
+    slice-aggregate-begin
+    slice-aggregate-begin-2
+    slice-aggregate-begin-3
+    begin-requires
     slice-aggregate-tell
     slice-aggregate-tell-2
     slice-aggregate-tell-3
