@@ -3,8 +3,8 @@ ghost use Prim.Native.Nat.{_≤_};
 ghost use lib.ListN.{length};
 use crate::output::say;
 
-// 1 to 14: a table is turned back.
-fn table_words(out: &mut [u8], filled: usize, number: u32) -> usize
+// 1 to 5: a table is turned back because of a field's form.
+fn field_words(out: &mut [u8], filled: usize, number: u32) -> usize
     requires { ⌜ filled ≤ length (now out) ⌝ }
     ensures { λ r. ⌜ r ≤ length (now (out .entry)) ⌝ }
 {
@@ -21,11 +21,20 @@ fn table_words(out: &mut [u8], filled: usize, number: u32) -> usize
             filled,
             b"a length, count or constant is outside its limits",
         ),
-        5 => say(
+        _ => say(
             out,
             filled,
             b"a symbol, attribute, occurrence, function or kind is unknown",
         ),
+    }
+}
+
+// 6 to 14: because of the grammar that its fields say.
+fn grammar_words(out: &mut [u8], filled: usize, number: u32) -> usize
+    requires { ⌜ filled ≤ length (now out) ⌝ }
+    ensures { λ r. ⌜ r ≤ length (now (out .entry)) ⌝ }
+{
+    match number {
         6 => say(
             out,
             filled,
@@ -116,8 +125,11 @@ pub fn meaning(out: &mut [u8], filled: usize, number: u32) -> usize
     requires { ⌜ filled ≤ length (now out) ⌝ }
     ensures { λ r. ⌜ r ≤ length (now (out .entry)) ⌝ }
 {
+    if number < 6 {
+        return field_words(out, filled, number);
+    }
     if number < 20 {
-        return table_words(out, filled, number);
+        return grammar_words(out, filled, number);
     }
     if number < 30 {
         return segment_words(out, filled, number);
