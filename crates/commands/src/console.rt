@@ -44,7 +44,7 @@ fn hold(line: &mut [u8], held: usize, part: &[u8]) -> usize
     text::copy(line, held, part)
 }
 
-// Answers a line about a table alone.
+// Answers a line whose answer is printed as it is made, or one about a table alone.
 fn respond_table(line: &[u8], room: &mut [u8], state: State, out: &mut [u8]) -> State
     requires { ⌜ (state .filled + 256 ≤ length (now out)) × (length (now line) ≤ 2 * length (now room) + 1) ⌝ }
     ensures { λ r. ⌜ (r .record ≡ state .record) × (r .registers ≡ state .registers) × (r .places ≡ state .places) × (r .filled ≤ length (now (out .entry))) ⌝ }
@@ -52,6 +52,10 @@ fn respond_table(line: &[u8], room: &mut [u8], state: State, out: &mut [u8]) -> 
     if check::same(first_word(line), b"list") {
         let listed = crate::listing::list(after_word(line), room, out, state.filled);
         return said(state, listed);
+    }
+    if check::same(first_word(line), b"trace") {
+        let traced = crate::traces::trace(after_word(line), room, out, state.filled);
+        return said(state, traced);
     }
     let answered = crate::tables::answer(line, room, out, state.filled);
     said(state, answered)

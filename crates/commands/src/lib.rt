@@ -9,6 +9,7 @@ mod runs;
 mod stacks;
 mod state;
 mod tables;
+mod traces;
 mod values;
 mod words;
 
