@@ -65,13 +65,14 @@ stays true o d = refl
 stays false (blocked k) d = refl
 stays false (moved e) d = refl
 
-not-yet : (b : Bool) (k : ℕ) → (k ≡ 6 → ⊥) → eitherWay b (eqb k 6) false ≡ false
-not-yet true k n = ne-eqb k 6 n
-not-yet false k n = refl
+not-yet : (a b : Bool) (k : ℕ) → (k ≡ 6 → ⊥) → a && eitherWay b (eqb k 6) false ≡ false
+not-yet false b k n = refl
+not-yet true true k n = ne-eqb k 6 n
+not-yet true false k n = refl
 
 module _ {g : Grammar} {ws : List ℕ} {lent : Lent} {m : List ℤ} {ps : List ℕ} {run : Run} {c : Config} (h : Held g ws lent m ps run c) (u : ℕ) (n : getD ws (run .at) 0 % 8 ≡ 6 → ⊥) where
   goes-on : waits (c .frames) && isDone (lookOf u) 0 (lastMove c) ≡ false
-  goes-on = sym (stops-is (held-last h) u 0) ∙ not-yet (eqb u 63) (getD ws (run .at) 0 % 8) n
+  goes-on = sym (stops-is (held-last h) u 0) ∙ not-yet (looks (getD ws (run .at) 0 % 8)) (eqb u 63) (getD ws (run .at) 0 % 8) n
 
   after-blocked : (k : ℕ) → next g lent (lookOf u) (lastMove c) ≡ blocked k → advanceFrom g lent (lookOf u) (lastMove c) ≡ failed (lastMove c) k
   after-blocked k e = advance-failed g lent (lookOf u) 0 1 (lastMove c) k goes-on e
