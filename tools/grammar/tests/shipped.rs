@@ -68,3 +68,20 @@ fn the_documented_grammar_is_words() {
     let (text, _) = rest.split_once("```").expect("the end of the example");
     assert_eq!(to_table(text).expect("accepted").table, read("words").1.table);
 }
+
+#[test]
+fn the_classroom_runs_the_grammars_it_shows() {
+    let root = concat!(env!("CARGO_MANIFEST_DIR"), "/../..");
+    let page = std::fs::read_to_string(format!("{root}/docs/CLASSROOM.md")).expect("the page");
+    let commands = std::fs::read_to_string(format!("{root}/crates/segment_classroom/stdin")).expect("the commands");
+    let mut tables = vec![read("words").1.table];
+    for rest in page.split("```grammar\n").skip(1) {
+        let (text, _) = rest.split_once("```").expect("the end of a grammar");
+        tables.push(to_table(text).unwrap_or_else(|fault| panic!("{}", fault.show("docs/CLASSROOM.md", text))).table);
+    }
+    assert_eq!(tables.len(), 4);
+    for table in tables {
+        let hex: String = table.iter().map(|byte| format!("{byte:02x}")).collect();
+        assert!(commands.lines().any(|line| line.split(' ').nth(1) == Some(&hex)), "no command has the table {hex}");
+    }
+}
