@@ -18,13 +18,7 @@ fn print(room: &[u8], table: usize, end: usize, out: &[u8], filled: usize)
 }
 
 // The tokens come into `room` behind the table.
-fn trace_tokens(
-    words: &[u8],
-    table: usize,
-    room: &mut [u8],
-    out: &mut [u8],
-    filled: usize,
-) -> usize
+fn trace_tokens(words: &[u8], table: usize, room: &mut [u8], out: &mut [u8], filled: usize) -> usize
     requires { ⌜ (filled + 256 ≤ length (now out)) × (table ≤ length (now room)) × (length (wordAt 1 (now words)) ≤ 2 * (length (now room) - table) + 1) ⌝ }
     ensures { λ r. ⌜ r ≤ length (now (out .entry)) ⌝ }
 {
