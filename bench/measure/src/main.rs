@@ -133,7 +133,19 @@ fn run_segments() {
     }
 }
 
+/// The commands that `bench/listing` gives to both programs: `COMMAND TABLE`, so many times, for the chain of 47.
+fn commands(command: &str, times: usize) {
+    let hex: String = samples::chain(47, 33, 512).iter().map(|b| format!("{b:02x}")).collect();
+    for _ in 0..times {
+        println!("{command} {hex}");
+    }
+}
+
 fn main() {
+    let words: Vec<String> = std::env::args().skip(1).collect();
+    if let [command, times] = &words[..] {
+        return commands(command, times.parse().expect("a number of times"));
+    }
     judge_tables();
     call_without_tokens();
     run_segments();
