@@ -5,8 +5,8 @@ fn field(table: &mut Vec<u8>, tag: u8, body: &[u8]) {
     table.extend(body);
 }
 
-/// Document 01's grammar of words and tags.
-pub fn words() -> Vec<u8> {
+/// How a table with three tokens begins: S to L, to which 0 is handed down, and whose result is that of S.
+fn start() -> Vec<u8> {
     let mut t = Vec::new();
     field(&mut t, 1, &[3, 2, 0, 1]);
     field(&mut t, 2, &[0, 1]);
@@ -14,6 +14,12 @@ pub fn words() -> Vec<u8> {
     field(&mut t, 3, &[0, 1, 129]);
     field(&mut t, 4, &[1, 1, 0, 0, 0, 0, 0]);
     field(&mut t, 4, &[0, 1, 1, 1, 2]);
+    t
+}
+
+/// Document 01's grammar of words and tags.
+pub fn words() -> Vec<u8> {
+    let mut t = start();
     field(&mut t, 3, &[1, 2, 0, 129]);
     field(&mut t, 4, &[2, 1, 1, 0, 1]);
     field(&mut t, 4, &[0, 2, 7, 2, 2, 0, 0, 0, 1]);
@@ -125,13 +131,7 @@ pub fn lines_segment() -> Vec<u8> {
 
 /// Brackets around one token: 0 opens, 1 closes, 2 is inside; the value is the depth.
 pub fn brackets() -> Vec<u8> {
-    let mut t = Vec::new();
-    field(&mut t, 1, &[3, 2, 0, 1]);
-    field(&mut t, 2, &[0, 1]);
-    field(&mut t, 2, &[1, 1]);
-    field(&mut t, 3, &[0, 1, 129]);
-    field(&mut t, 4, &[1, 1, 0, 0, 0, 0, 0]);
-    field(&mut t, 4, &[0, 1, 1, 1, 2]);
+    let mut t = start();
     field(&mut t, 3, &[1, 3, 0, 129, 1]);
     field(&mut t, 4, &[2, 1, 7, 0, 1, 0, 0, 0, 1]);
     field(&mut t, 4, &[0, 2, 1, 2, 2]);
