@@ -118,72 +118,47 @@ pub fn stretch(table: &[u8], production: usize) -> Result<(usize, usize), Refusa
     answered(number, offset.into()).map(|_| (start, length))
 }
 
+/// Calls a function on a run: the table, the record and the lent memory, which all of them take, then what it takes beside.
+///
+/// The pointers are those of slices, with their lengths, and of numbers; no two overlap, since all but the table's and the tokens' are
+/// lent exclusively. So the call is safe.
+macro_rules! call {
+    ($function:ident, $table:expr, $record:expr, $m:expr, $($more:expr),+) => {
+        // SAFETY: see above.
+        unsafe {
+            $function(
+                $table.as_ptr(),
+                $table.len(),
+                $record,
+                $m.registers.as_mut_ptr(),
+                $m.registers.len(),
+                $m.places.as_mut_ptr(),
+                $m.places.len(),
+                $m.program.as_mut_ptr(),
+                $m.program.len(),
+                $($more),+
+            )
+        }
+    };
+}
+
 /// Opens a run; the record is handed back closed and all zero on a refusal.
 pub fn open(table: &[u8], record: &mut Record, m: &mut Memory) -> Result<u64, Refusal> {
     let (mut number, mut count) = (0, 0);
-    // SAFETY: the pointers are those of slices, with their lengths, and of numbers; no two overlap, since all but the table's are lent
-    // exclusively.
-    unsafe {
-        segment_open(
-            table.as_ptr(),
-            table.len(),
-            record,
-            m.registers.as_mut_ptr(),
-            m.registers.len(),
-            m.places.as_mut_ptr(),
-            m.places.len(),
-            m.program.as_mut_ptr(),
-            m.program.len(),
-            &mut number,
-            &mut count,
-        )
-    };
+    call!(segment_open, table, record, m, &mut number, &mut count);
     answered(number, count)
 }
 
 /// Feeds tokens; answers the moves made since opening.
 pub fn feed(table: &[u8], record: &mut Record, m: &mut Memory, tokens: &[u8]) -> Result<u64, Refusal> {
     let (mut number, mut count) = (0, 0);
-    // SAFETY: as in `open`.
-    unsafe {
-        segment_feed(
-            table.as_ptr(),
-            table.len(),
-            record,
-            m.registers.as_mut_ptr(),
-            m.registers.len(),
-            m.places.as_mut_ptr(),
-            m.places.len(),
-            m.program.as_mut_ptr(),
-            m.program.len(),
-            tokens.as_ptr(),
-            tokens.len(),
-            &mut number,
-            &mut count,
-        )
-    };
+    call!(segment_feed, table, record, m, tokens.as_ptr(), tokens.len(), &mut number, &mut count);
     answered(number, count)
 }
 
 /// Finishes the segment; answers its value and the moves made since opening.
 pub fn finish(table: &[u8], record: &mut Record, m: &mut Memory) -> Result<(i64, u64), Refusal> {
     let (mut number, mut value, mut count) = (0, 0, 0);
-    // SAFETY: as in `open`.
-    unsafe {
-        segment_finish(
-            table.as_ptr(),
-            table.len(),
-            record,
-            m.registers.as_mut_ptr(),
-            m.registers.len(),
-            m.places.as_mut_ptr(),
-            m.places.len(),
-            m.program.as_mut_ptr(),
-            m.program.len(),
-            &mut number,
-            &mut value,
-            &mut count,
-        )
-    };
+    call!(segment_finish, table, record, m, &mut number, &mut value, &mut count);
     answered(number, count).map(|moves| (value, moves))
 }
