@@ -1,0 +1,68 @@
+//! The commands about a table: `check`, `stretch`, `list` and `table`.
+use crate::answers::Answer;
+use crate::session::{Command, Session};
+use crate::words::{bytes, Bad, Fault, Words};
+use engine::lent;
+use std::fs::File;
+use std::io::{self, Read, Write};
+
+pub const COMMANDS: &[(&str, Command)] = &[("check", check), ("stretch", stretch), ("list", list), ("table", table)];
+
+/// One byte more than a table may have: whatever is longer is refused by its length like any other.
+const TABLE: u64 = 32769;
+
+/// `check TABLE`
+fn check(session: &mut Session, words: Words, out: &mut dyn Write) -> Result<(), Fault> {
+    words.at_most(1)?;
+    match lent::check(&session.table(words, 1)?) {
+        Ok(()) => writeln!(out, "ok")?,
+        Err(refusal) => writeln!(out, "{}", Answer::Refused(refusal))?,
+    }
+    Ok(())
+}
+
+/// `stretch TABLE P`
+fn stretch(session: &mut Session, words: Words, out: &mut dyn Write) -> Result<(), Fault> {
+    words.at_most(2)?;
+    let production = words.number(2)?;
+    let table = session.table(words, 1)?;
+    match lent::stretch(&table, production as usize) {
+        Ok((start, length)) => writeln!(out, "ok {start} {}", start + length)?,
+        Err(refusal) => writeln!(out, "{}", Answer::Refused(refusal))?,
+    }
+    Ok(())
+}
+
+/// `list TABLE`
+fn list(session: &mut Session, words: Words, out: &mut dyn Write) -> Result<(), Fault> {
+    words.at_most(1)?;
+    out.write_all(&listing(&session.table(words, 1)?)?)?;
+    Ok(writeln!(out, ".")?)
+}
+
+/// The lines of the listing, or the line of its refusal.
+fn listing(table: &[u8]) -> io::Result<Vec<u8>> {
+    use std::process::{Command, Stdio};
+    let program = concat!(env!("CARGO_MANIFEST_DIR"), "/../../target/bin/listing");
+    let mut child = Command::new(program).stdin(Stdio::piped()).stdout(Stdio::piped()).spawn()?;
+    let _ = child.stdin.take().unwrap().write_all(table);
+    Ok(child.wait_with_output()?.stdout)
+}
+
+/// `table NAME FILE`: from now on NAME stands for the bytes of the file. FILE is the rest of the line.
+fn table(session: &mut Session, words: Words, out: &mut dyn Write) -> Result<(), Fault> {
+    let name = words.at(1);
+    if name.is_empty() || bytes(name).is_some() {
+        return Err(words.bad(1, "bad name").into());
+    }
+    let file = std::str::from_utf8(words.after(2)).map_err(|_| words.bad(2, "bad file"))?;
+    let table = read(file).map_err(|error| Bad { reason: Some(error.to_string()), ..words.bad(2, "bad file") })?;
+    session.tables.insert(name.to_vec(), table);
+    Ok(writeln!(out, "ok")?)
+}
+
+fn read(file: &str) -> io::Result<Vec<u8>> {
+    let mut table = vec![];
+    File::open(file)?.take(TABLE).read_to_end(&mut table)?;
+    Ok(table)
+}
