@@ -3,8 +3,10 @@ use crate::answers::Answer;
 use crate::session::{Command, Session};
 use crate::words::{bytes, Bad, Fault, Words};
 use engine::lent;
+use std::ffi::OsStr;
 use std::fs::File;
 use std::io::{self, Read, Write};
+use std::os::unix::ffi::OsStrExt;
 
 pub const COMMANDS: &[(&str, Command)] = &[("check", check), ("stretch", stretch), ("list", list), ("table", table)];
 
@@ -55,14 +57,17 @@ fn table(session: &mut Session, words: Words, out: &mut dyn Write) -> Result<(),
     if name.is_empty() || bytes(name).is_some() {
         return Err(words.bad(1, "bad name").into());
     }
-    let file = std::str::from_utf8(words.after(2)).map_err(|_| words.bad(2, "bad file"))?;
-    let table = read(file).map_err(|error| Bad { reason: Some(error.to_string()), ..words.bad(2, "bad file") })?;
+    let table = read(words.after(2)).map_err(|error| Bad { reason: error.map(|e| e.to_string()), ..words.bad(2, "bad file") })?;
     session.tables.insert(name.to_vec(), table);
     Ok(writeln!(out, "ok")?)
 }
 
-fn read(file: &str) -> io::Result<Vec<u8>> {
+/// The bytes of a file; what went wrong, where it has a name.
+fn read(name: &[u8]) -> Result<Vec<u8>, Option<io::Error>> {
+    if name.is_empty() {
+        return Err(None);
+    }
     let mut table = vec![];
-    File::open(file)?.take(TABLE).read_to_end(&mut table)?;
+    File::open(OsStr::from_bytes(name))?.take(TABLE).read_to_end(&mut table)?;
     Ok(table)
 }

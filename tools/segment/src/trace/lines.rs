@@ -11,17 +11,13 @@ fn counted(n: u64, noun: &str) -> String {
     format!("{n} {noun}{ending}")
 }
 
-/// The tokens read and the moves made.
-fn so_far(state: &State) -> String {
-    format!("after {} and {}", counted(state.record.tokens, "token"), counted(state.record.moves, "move"))
-}
-
-/// Where the trace begins.
+/// Where the trace begins: at the opening, or later.
 pub fn begun(out: &mut dyn Write, state: &State) -> io::Result<()> {
-    if state.record.moves == 0 {
+    if state.record.tokens == 0 {
         return writeln!(out, "opened");
     }
-    writeln!(out, "opened, and {}", so_far(state))
+    let (tokens, moves) = (counted(state.record.tokens, "token"), counted(state.record.moves, "move"));
+    writeln!(out, "opened, {tokens} read, {moves} made")
 }
 
 /// The token with this index, or the end.
@@ -81,7 +77,8 @@ pub fn value(out: &mut dyn Write, value: i64, state: &State) -> io::Result<()> {
 
 /// The segment is refused, at the token with this index or at the end.
 pub fn refused(out: &mut dyn Write, number: u32, state: &State, tokens: &[u8], index: usize) -> io::Result<()> {
-    writeln!(out, "refused {number} {}, at {}", so_far(state), next(tokens, index))?;
+    let (read, made) = (counted(state.record.tokens, "token"), counted(state.record.moves, "move"));
+    writeln!(out, "refused {number} after {read} and {made}, at {}", next(tokens, index))?;
     writeln!(out, "        {}", meaning(number))
 }
 

@@ -25,6 +25,9 @@ fn trace(session: &mut Session, words: Words, out: &mut dyn Write) -> Result<(),
     }
     if !words.after(5).is_empty() {
         from = words.size(5, tokens.len() + 1)?;
+        if from == 0 {
+            return Err(words.bad(5, "bad number").into());
+        }
     }
     Ok(tell(&table, &tokens, registers, places, from, out)?)
 }
@@ -36,7 +39,7 @@ fn tell(table: &[u8], tokens: &[u8], registers: usize, places: usize, from: usiz
         Err(refusal) => return lines::not_opened(out, refusal),
     };
     let grammar = Grammar::of(table);
-    let first = run.skip(&tokens[..from.max(1) - 1]);
+    let first = run.skip(&tokens[..from - 1]);
     lines::begun(out, &run.now)?;
     stacks::lines(out, &grammar, &run.now)?;
     for index in first..=tokens.len() {
