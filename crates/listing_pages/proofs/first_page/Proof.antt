@@ -1,10 +1,10 @@
 use mathlib.Core.Path.{ap}
 use denote.Ref.{now}
 use Rattle.prepare.proofs.Cases.{not-short, refused-unusable, written-stands}
-use Rattle.listing_out.proofs.Paging.{shows-as, printed-refused, printed-listing}
+use Rattle.listing_pages.proofs.Paging.{shows-as, lines-refused, lines-listing}
 use borrow.Author.Needs.{needs}
-use Rattle.listing_out.proofs.first_page.Statement.{statement}
-use Rattle.listing_out.proofs.first_page.Tie as tie
+use Rattle.listing_pages.proofs.first_page.Statement.{statement}
+use Rattle.listing_pages.proofs.first_page.Tie as tie
 
 program-of-requires : tie.Need-program-of-requires
 program-of-requires c κs = search needs
@@ -46,7 +46,7 @@ same-length-4 : tie.Need-same-length-4
 same-length-4 c = search needs
 
 returns-2 : tie.Need-returns-2
-returns-2 c = (shows-as (printed-refused (now (c .before .before .before .before .before .before .before .before .before .before .before .before .before .before .before .args .table)) _ _ (refused-unusable (c .before .before .before .before .before .before .before .before .before .before .program-of .ensures .1) _ _ (c .before .before .before .before .before .before .number .given .1))) (c .before .before .refusal2 .ensures), ap (λ m. m .area) (c .before .before .before .before .before .before .before .before .before .before .program-of .ensures .0))
+returns-2 c = (shows-as (lines-refused (now (c .before .before .before .before .before .before .before .before .before .before .before .before .before .before .before .args .table)) _ _ (refused-unusable (c .before .before .before .before .before .before .before .before .before .before .program-of .ensures .1) _ _ (c .before .before .before .before .before .before .number .given .1))) (c .before .before .refusal2 .ensures), ap (λ m. m .area) (c .before .before .before .before .before .before .before .before .before .before .program-of .ensures .0))
 
 same-length-5 : tie.Need-same-length-5
 same-length-5 c = search needs
@@ -55,7 +55,7 @@ same-length-6 : tie.Need-same-length-6
 same-length-6 c = search needs
 
 returns-3 : tie.Need-returns-3
-returns-3 c = (shows-as (printed-listing _ _ _ (written-stands (c .before .before .before .before .before .before .before .before .before .before .program-of .ensures .1) _ (c .before .before .before .before .before .before .enum-told2 .given .1)) (c .before .before .before .before .first .ensures)) (c .before .before .next-page .ensures .0), ap (λ m. m .area) (c .before .before .before .before .before .before .before .before .before .before .program-of .ensures .0))
+returns-3 c = (shows-as (lines-listing _ _ _ (written-stands (c .before .before .before .before .before .before .before .before .before .before .program-of .ensures .1) _ (c .before .before .before .before .before .before .enum-told2 .given .1)) (c .before .before .before .before .first .ensures)) (c .before .before .next-page .ensures .0), ap (λ m. m .area) (c .before .before .before .before .before .before .before .before .before .before .program-of .ensures .0))
 
 pub first-page-spec : {M : Type 1} → statement M
 first-page-spec =
