@@ -2,7 +2,7 @@
 use crate::answers::Answer;
 use crate::session::{Command, Session};
 use crate::words::{bytes, Bad, Fault, Words};
-use engine::lent;
+use engine::lent::{self, PROGRAM};
 use std::ffi::OsStr;
 use std::fs::File;
 use std::io::{self, Read, Write};
@@ -12,6 +12,9 @@ pub const COMMANDS: &[(&str, Command)] = &[("check", check), ("stretch", stretch
 
 /// One byte more than a table may have: whatever is longer is refused by its length like any other.
 const TABLE: u64 = 32769;
+
+/// Room for every listing: at most 3,200 lines (1,536 adds, 1,024 rules, 512 conditions and 128 removes) of at most 64 bytes.
+const LISTING: usize = 262_144;
 
 /// `check TABLE`
 fn check(session: &mut Session, words: Words, out: &mut dyn Write) -> Result<(), Fault> {
@@ -38,17 +41,12 @@ fn stretch(session: &mut Session, words: Words, out: &mut dyn Write) -> Result<(
 /// `list TABLE`
 fn list(session: &mut Session, words: Words, out: &mut dyn Write) -> Result<(), Fault> {
     words.at_most(1)?;
-    out.write_all(&listing(&session.table(words, 1)?)?)?;
+    let table = session.table(words, 1)?;
+    let mut listing = vec![0; LISTING];
+    let (length, over) = lent::list(&table, session.lend(PROGRAM).1.program, &mut listing);
+    assert!(over, "a listing has at most {LISTING} bytes");
+    out.write_all(&listing[..length])?;
     Ok(writeln!(out, ".")?)
-}
-
-/// The lines of the listing, or the line of its refusal.
-fn listing(table: &[u8]) -> io::Result<Vec<u8>> {
-    use std::process::{Command, Stdio};
-    let program = concat!(env!("CARGO_MANIFEST_DIR"), "/../../target/bin/listing");
-    let mut child = Command::new(program).stdin(Stdio::piped()).stdout(Stdio::piped()).spawn()?;
-    let _ = child.stdin.take().unwrap().write_all(table);
-    Ok(child.wait_with_output()?.stdout)
 }
 
 /// `table NAME FILE`: from now on NAME stands for the bytes of the file. FILE is the rest of the line.
