@@ -1,5 +1,5 @@
 //! The lines of an input.
-use std::io::{self, BufRead, BufReader, Read, Write};
+use std::io::{self, BufRead, BufReader, Read};
 
 /// A line has fewer bytes.
 const LONGEST: usize = 1_048_576;
@@ -23,10 +23,15 @@ impl<R: Read> Lines<R> {
         Lines { input: BufReader::with_capacity(1 << 16, input), held: vec![], number: 0 }
     }
 
-    /// The next line; the last needs no line end. What `out` holds back is written before input is waited for.
-    pub fn next(&mut self, out: &mut impl Write) -> io::Result<Option<Line<'_>>> {
+    /// Whether the next line may have to be waited for.
+    pub fn waits(&self) -> bool {
+        !self.input.buffer().contains(&b'\n')
+    }
+
+    /// The next line; the last needs no line end.
+    pub fn next(&mut self) -> io::Result<Option<Line<'_>>> {
         self.held.clear();
-        while !self.take_part(out)? {}
+        while !self.take_part()? {}
         if self.held.is_empty() {
             return Ok(None);
         }
@@ -37,10 +42,7 @@ impl<R: Read> Lines<R> {
     }
 
     /// Takes what waits of the line, with its end, but no more of a line that is too long than shows it; whether the line is over.
-    fn take_part(&mut self, out: &mut impl Write) -> io::Result<bool> {
-        if self.input.buffer().is_empty() {
-            out.flush()?;
-        }
+    fn take_part(&mut self) -> io::Result<bool> {
         let part = match self.input.fill_buf() {
             Err(error) if error.kind() == io::ErrorKind::Interrupted => return Ok(false),
             filled => filled?,
@@ -62,7 +64,7 @@ mod tests {
     fn lines(text: &[u8]) -> Vec<Option<Vec<u8>>> {
         let mut lines = Lines::new(text);
         let mut all = vec![];
-        while let Some(line) = lines.next(&mut io::sink()).unwrap() {
+        while let Some(line) = lines.next().unwrap() {
             all.push(match line {
                 Line::Text(text) => Some(text.to_vec()),
                 Line::TooLong => None,

@@ -12,7 +12,7 @@ use session::Session;
 use std::fs::File;
 use std::io::{self, BufWriter, Read, Write};
 use std::process::ExitCode;
-use words::{Bad, Fault};
+use words::Fault;
 
 const HELP: &str = "\
 segment [FILE | -c COMMAND]..
@@ -75,74 +75,85 @@ fn arguments(mut words: impl Iterator<Item = String>) -> Result<Asked, String> {
     Ok(Asked::Answer(sources))
 }
 
-/// Says on standard error which word of which line is wrong.
-fn tell(name: Option<&str>, line: usize, bad: &Bad) {
-    let name = name.map(|name| format!("{name}, ")).unwrap_or_default();
-    eprintln!("segment: {name}line {line}: {bad}");
+/// Why no more lines are answered: what reads the answers has closed its end, or something cannot be read or written.
+enum Stop {
+    Closed,
+    Failed(String),
 }
 
-/// Answers each line of a source; gives whether each was a command.
-fn answer(session: &mut Session, out: &mut impl Write, source: impl Read, name: Option<&str>) -> io::Result<bool> {
+impl From<io::Error> for Stop {
+    fn from(error: io::Error) -> Stop {
+        match error.kind() {
+            io::ErrorKind::BrokenPipe => Stop::Closed,
+            _ => Stop::Failed(format!("standard output: {error}")),
+        }
+    }
+}
+
+/// Says something on standard error, which may be closed.
+fn complain(text: &str) {
+    let _ = writeln!(io::stderr(), "segment: {text}");
+}
+
+/// Answers each line of a source that may have a name; gives whether each was a command.
+fn answer(session: &mut Session, out: &mut impl Write, source: impl Read, name: Option<&str>) -> Result<bool, Stop> {
     let mut lines = Lines::new(source);
     let mut all = true;
-    while let Some(line) = lines.next(out)? {
+    loop {
+        if lines.waits() {
+            out.flush()?;
+        }
+        let next = lines.next().map_err(|error| Stop::Failed(format!("{}: {error}", name.unwrap_or("standard input"))))?;
+        let Some(line) = next else { break };
         match session.answer(line, out) {
             Ok(()) => {}
-            Err(Fault::Io(error)) => return Err(error),
+            Err(Fault::Io(error)) => return Err(error.into()),
             Err(Fault::Bad(bad)) => {
                 all = false;
                 writeln!(out, "{}", bad.answer)?;
-                tell(name, lines.number, &bad);
+                let name = name.map_or(String::new(), |name| format!("{name}, "));
+                complain(&format!("{name}line {}: {bad}", lines.number));
             }
         }
+    }
+    Ok(all)
+}
+
+/// Answers the lines of all sources; gives whether each was a command.
+fn answer_all(sources: &[Source]) -> Result<bool, Stop> {
+    let mut session = Session::new();
+    let mut out = BufWriter::with_capacity(1 << 16, io::stdout().lock());
+    let mut all = true;
+    for source in sources {
+        all &= match source {
+            Source::Standard => answer(&mut session, &mut out, io::stdin().lock(), None)?,
+            Source::Line(line) => answer(&mut session, &mut out, line.as_bytes(), None)?,
+            Source::File(name) => {
+                let file = File::open(name).map_err(|error| Stop::Failed(format!("{name}: {error}")))?;
+                answer(&mut session, &mut out, file, Some(name))?
+            }
+        };
     }
     out.flush()?;
     Ok(all)
 }
 
-/// Answers the lines of all sources; gives whether each was a command, or what could not be read or written.
-fn answer_all(sources: &[Source]) -> Result<bool, String> {
-    let mut session = Session::new();
-    let mut out = BufWriter::with_capacity(1 << 16, io::stdout().lock());
-    let mut all = true;
-    for source in sources {
-        let answered = match source {
-            Source::Standard => answer(&mut session, &mut out, io::stdin().lock(), None),
-            Source::Line(line) => answer(&mut session, &mut out, line.as_bytes(), None),
-            Source::File(name) => {
-                let file = File::open(name).map_err(|error| format!("{name}: {error}"))?;
-                answer(&mut session, &mut out, file, Some(name))
-            }
-        };
-        match answered {
-            Ok(commands) => all &= commands,
-            Err(error) if error.kind() == io::ErrorKind::BrokenPipe => break,
-            Err(error) => return Err(error.to_string()),
-        }
-    }
-    // What a closed pipe did not take is not written again.
-    drop(out.into_parts());
-    Ok(all)
-}
-
-fn print(text: &str) -> Result<bool, String> {
-    match io::stdout().write_all(text.as_bytes()) {
-        Err(error) if error.kind() != io::ErrorKind::BrokenPipe => Err(error.to_string()),
-        _ => Ok(true),
-    }
+fn print(text: &str) -> Result<bool, Stop> {
+    io::stdout().write_all(text.as_bytes())?;
+    Ok(true)
 }
 
 fn main() -> ExitCode {
     let done = match arguments(std::env::args().skip(1)) {
         Ok(Asked::Print(text)) => print(&text),
         Ok(Asked::Answer(sources)) => answer_all(&sources),
-        Err(message) => Err(format!("{message}; `segment --help` says what is")),
+        Err(message) => Err(Stop::Failed(format!("{message}; `segment --help` says what is"))),
     };
     match done {
-        Ok(true) => ExitCode::SUCCESS,
+        Ok(true) | Err(Stop::Closed) => ExitCode::SUCCESS,
         Ok(false) => ExitCode::from(1),
-        Err(message) => {
-            eprintln!("segment: {message}");
+        Err(Stop::Failed(message)) => {
+            complain(&message);
             ExitCode::from(2)
         }
     }
