@@ -56,7 +56,8 @@ enum Asked {
     Answer(Vec<Source>),
 }
 
-fn arguments(mut words: impl Iterator<Item = String>) -> Result<Asked, String> {
+fn arguments(words: Vec<String>) -> Result<Asked, String> {
+    let mut words = words.into_iter();
     let mut sources = vec![];
     while let Some(word) = words.next() {
         match word.as_str() {
@@ -144,7 +145,9 @@ fn print(text: &str) -> Result<bool, Stop> {
 }
 
 fn main() -> ExitCode {
-    let done = match arguments(std::env::args().skip(1)) {
+    let words: Result<Vec<String>, _> = std::env::args_os().skip(1).map(|word| word.into_string()).collect();
+    let asked = words.map_err(|word| format!("{}: not in UTF-8", word.to_string_lossy())).and_then(arguments);
+    let done = match asked {
         Ok(Asked::Print(text)) => print(&text),
         Ok(Asked::Answer(sources)) => answer_all(&sources),
         Err(message) => Err(Stop::Failed(format!("{message}; `segment --help` says what is"))),
