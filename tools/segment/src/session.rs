@@ -9,7 +9,7 @@ use std::io::Write;
 /// Answers a line.
 pub type Command = fn(&mut Session, Words, &mut dyn Write) -> Result<(), Fault>;
 
-/// The commands, a list for each module.
+/// The commands, a list for each module: a new group of commands is a module whose list is named here.
 const COMMANDS: &[&[(&str, Command)]] = &[tables::COMMANDS, runs::COMMANDS, trace::COMMANDS];
 
 /// The run as it stands, and the tables that have names.
