@@ -11,6 +11,7 @@ static segment_record record;
 static int64_t registers[SEGMENT_REGISTERS];
 static uint32_t places[SEGMENT_PLACES];
 static uint32_t program[SEGMENT_PROGRAM];
+static uint8_t listing[100];
 
 static void open_run(void) {
     uint32_t number;
@@ -78,6 +79,10 @@ int main(int argc, char **argv) {
     size_t start, length;
     segment_stretch(table, table_length, 2, &start, &length, &number, &offset);
     printf("production 2: %zu bytes from byte %zu\n", length, start);
+    uint32_t over;
+    segment_list(table, table_length, program, SEGMENT_PROGRAM, listing, sizeof listing, &length, &over);
+    printf("%.*s", (int)length, (const char *)listing);
+    printf("%s\n", over ? "that is all" : "and more");
 
     open_run();
     feed("word open", (const uint8_t[]){0, 1}, 2);

@@ -28,6 +28,8 @@ extern "C" {
 #define SEGMENT_PLACES 1024
 /* A program area has at least so many words; a shorter one is turned back with 30. */
 #define SEGMENT_PROGRAM 16384
+/* A line of a listing has at most so many bytes. */
+#define SEGMENT_LINE 64
 /* What a register without a value holds. */
 #define SEGMENT_MARK INT64_MIN
 
@@ -48,6 +50,13 @@ void segment_check(const uint8_t *table, size_t table_length, uint32_t *number, 
  * refusal's, and *start and *length are 0. */
 void segment_stretch(const uint8_t *table, size_t table_length, size_t production, size_t *start, size_t *length, uint32_t *number,
                      uint32_t *offset);
+
+/* The listing of a table, or the one line of its refusal, as the listing program prints it: as many whole lines as there is room for into
+ * the first *length bytes of `out` (a line is begun while SEGMENT_LINE bytes are left), with *over 1 where that is all and else 0. The
+ * program of an accepted table is written into the program area. Where the area has fewer than SEGMENT_PROGRAM words, or `out` fewer than
+ * SEGMENT_LINE bytes, nothing is written and *length and *over are 0. */
+void segment_list(const uint8_t *table, size_t table_length, uint32_t *program, size_t program_length, uint8_t *out, size_t out_length,
+                  size_t *length, uint32_t *over);
 
 /* Opens a run: writes the table's program into the program area, clears the registers to the mark and the places to 0, and hands the
  * record of an open run back. The content of the record before the call is not looked at.

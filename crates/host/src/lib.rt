@@ -6,6 +6,7 @@ ghost use Rattle.meaning.specs.PublicCalls.{opens, performs, feed, finish};
 ghost use Rattle.fit.specs.Cut.{stacksOf};
 ghost use Rattle.engine.specs.Records.{recordIs, answerIs};
 ghost use Rattle.host.specs.Passed.{checked, Stretched};
+ghost use Rattle.host.specs.Listed.{listed, listedOf};
 ghost use Rattle.host.specs.Lent.{broughtIn, flagOf, numbersOf, numberOf, countOf, valueOf, PassedOn};
 use checker::Verdict;
 use checker::spans::Span;
@@ -64,6 +65,39 @@ pub extern "C" fn segment_stretch(
             *number = n;
             *offset = o;
         }
+    }
+}
+
+// 01: "A program area of at least 16,384 32-bit words is lent".
+const AREA: usize = 16384;
+
+// A line has at most 64 bytes.
+const LINE: usize = 64;
+
+// The first page of what the listing program prints for a table, as many whole lines as there is room for: its length, and 1 where that is
+// all. The table's program comes into the area. With a shorter area, or without room for a line, nothing is written and both are 0.
+#[no_mangle]
+pub extern "C" fn segment_list(
+    table: &[u8],
+    program: &mut [u32],
+    out: &mut [u8],
+    length: &mut usize,
+    over: &mut u32,
+)
+    ensures { λ r. ⌜ listed (now (out .exit)) (now (length .exit)) (now (over .exit)) (now (program .exit)) ≡ listedOf (now (table .entry)) (now (program .entry)) (now (out .entry)) ⌝ }
+{
+    *length = 0;
+    *over = 0;
+    if program.len() < AREA {
+        return;
+    }
+    if out.len() < LINE {
+        return;
+    }
+    let page = listing_pages::first_page(table, program, out);
+    *length = page.length;
+    if page.over {
+        *over = 1;
     }
 }
 

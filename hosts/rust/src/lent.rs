@@ -9,6 +9,8 @@ pub const REGISTERS: usize = 4096;
 pub const PLACES: usize = 1024;
 /// The words that a program area needs.
 pub const PROGRAM: usize = 16384;
+/// A line of a listing has at most so many bytes.
+pub const LINE: usize = 64;
 /// What a register without a value holds.
 pub const MARK: i64 = i64::MIN;
 
@@ -47,6 +49,17 @@ extern "C" {
         length: &mut usize,
         number: &mut u32,
         offset: &mut u32,
+    );
+
+    fn segment_list(
+        table: *const u8,
+        table_length: usize,
+        program: *mut u32,
+        program_length: usize,
+        out: *mut u8,
+        out_length: usize,
+        length: &mut usize,
+        over: &mut u32,
     );
 
     fn segment_open(
@@ -116,6 +129,16 @@ pub fn stretch(table: &[u8], production: usize) -> Result<(usize, usize), Refusa
     // SAFETY: as in `check`.
     unsafe { segment_stretch(table.as_ptr(), table.len(), production, &mut start, &mut length, &mut number, &mut offset) };
     answered(number, offset.into()).map(|_| (start, length))
+}
+
+/// As many lines of a table's listing as there is room for, into the first bytes of `out`: how many bytes, and whether that is all.
+/// With a shorter area than [`PROGRAM`], or less room than [`LINE`], 0 and false.
+pub fn list(table: &[u8], program: &mut [u32], out: &mut [u8]) -> (usize, bool) {
+    let (mut length, mut over) = (0, 0);
+    let (p, o) = (program.as_mut_ptr(), out.as_mut_ptr());
+    // SAFETY: as in `check`; the area and the bytes are lent exclusively.
+    unsafe { segment_list(table.as_ptr(), table.len(), p, program.len(), o, out.len(), &mut length, &mut over) };
+    (length, over == 1)
 }
 
 /// Calls a function on a run: the table, the record and the lent memory, which all of them take, then what it takes beside.

@@ -25,6 +25,20 @@ pub fn stretch(table: &[u8], production: usize) -> Result<&[u8], Refusal> {
     lent::stretch(table, production).map(|(start, length)| &table[start..start + length])
 }
 
+/// What the listing program prints for a table: its listing, or the line of its refusal.
+pub fn listing(table: &[u8]) -> String {
+    let mut program = vec![0; lent::PROGRAM];
+    let mut out = vec![0; 64 * lent::LINE];
+    loop {
+        let (length, over) = lent::list(table, &mut program, &mut out);
+        if over {
+            out.truncate(length);
+            return String::from_utf8(out).expect("a listing is ASCII");
+        }
+        out.resize(2 * out.len(), 0);
+    }
+}
+
 /// A run over one segment, with its table and the memory that it needs.
 #[derive(Clone, Debug)]
 pub struct Engine {

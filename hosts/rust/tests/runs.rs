@@ -85,6 +85,19 @@ fn tables() {
 }
 
 #[test]
+fn listings() {
+    let whole = include_str!("../../../crates/listing/stdout");
+    assert_eq!(segment::listing(WORDS), whole);
+    assert_eq!(segment::listing(&WORDS[..100]), "refused 2 97\n");
+    let (mut program, mut out) = ([5; 16384], [7; 100]);
+    assert_eq!((lent::list(WORDS, &mut program[..16383], &mut out), out == [7; 100], program == [5; 16384]), ((0, false), true, true));
+    assert_eq!((lent::list(WORDS, &mut program, &mut out[..63]), out == [7; 100], program == [5; 16384]), ((0, false), true, true));
+    let (length, over) = lent::list(WORDS, &mut program, &mut out);
+    assert!(!over && length + lent::LINE > 100 && out[..length] == whole.as_bytes()[..length] && out[length - 1] == b'\n');
+    assert!(out[length..].iter().all(|&b| b == 7) && program[1] == 6 && program[16383] == 5);
+}
+
+#[test]
 fn words_for_refusals() {
     assert_eq!(run(&[0, 2]).unwrap_err().to_string(), "refused with 21, token not expected, after 1 token");
     assert_eq!(segment::check(&WORDS[..100]).unwrap_err().to_string(), "refused with 2, field cut short, at byte 97");

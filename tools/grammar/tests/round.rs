@@ -12,10 +12,10 @@ fn bytes(hex: &str) -> Option<Vec<u8>> {
 
 /// The tables of the vectors' commands.
 fn vectors() -> BTreeSet<Vec<u8>> {
-    let root = concat!(env!("CARGO_MANIFEST_DIR"), "/../../crates");
+    let root = concat!(env!("CARGO_MANIFEST_DIR"), "/../../vectors");
     let mut found = BTreeSet::new();
-    for name in ["segment_fixed", "segment_edits", "segment_random"] {
-        let text = std::fs::read_to_string(format!("{root}/{name}/stdin")).expect(name);
+    for name in ["fixed", "edits", "random"] {
+        let text = std::fs::read_to_string(format!("{root}/{name}.in")).expect(name);
         let checks = text.lines().filter_map(|line| line.strip_prefix("check "));
         found.extend(checks.filter_map(bytes));
     }

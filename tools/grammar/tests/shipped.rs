@@ -73,7 +73,7 @@ fn the_documented_grammar_is_words() {
 fn the_classroom_runs_the_grammars_it_shows() {
     let root = concat!(env!("CARGO_MANIFEST_DIR"), "/../..");
     let page = std::fs::read_to_string(format!("{root}/docs/CLASSROOM.md")).expect("the page");
-    let commands = std::fs::read_to_string(format!("{root}/crates/segment_classroom/stdin")).expect("the commands");
+    let commands = std::fs::read_to_string(format!("{root}/vectors/classroom.in")).expect("the commands");
     let mut tables = vec![read("words").1.table];
     for rest in page.split("```grammar\n").skip(1) {
         let (text, _) = rest.split_once("```").expect("the end of a grammar");

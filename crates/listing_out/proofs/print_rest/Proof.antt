@@ -3,7 +3,7 @@ use mathlib.Core.Path.{_≡_, refl, _∙_}
 use lib.ListN.{length}
 use borrow.Author.Needs.{needs}
 use Rattle.listing_text.specs.Cursors.{linesLeft}
-use Rattle.listing_out.proofs.Paging.{onward-on}
+use Rattle.listing_pages.proofs.Paging.{onward-on}
 use Rattle.listing_out.proofs.print_rest.Statement.{statement}
 use Rattle.listing_out.proofs.print_rest.Tie as tie
 

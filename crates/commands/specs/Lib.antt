@@ -1,9 +1,0 @@
-pub mod Words
-pub mod Hex
-pub mod Number
-pub mod Answers
-pub mod Values
-pub mod Stacks
-pub mod States
-pub mod Calls
-pub mod Rows

@@ -1,4 +1,0 @@
-// Answers commands, a line each: vectors/README.md.
-fn main() {
-    commands::run();
-}
