@@ -20,11 +20,11 @@ use Rattle.theory_answers.specs.ShapeMemory.{result-ranged}
 use Rattle.theory_program.specs.Records.{segment-words}
 use Rattle.theory_program.specs.Addresses.{Begins, segment-at}
 use Rattle.theory_program.specs.Stands.{stands-within}
-use Rattle.machine.specs.declared.Run.{Run}
+use Rattle.moves.specs.declared.Run.{Run}
 use Rattle.machine.specs.declared.Ended as Ended
 use Rattle.machine.specs.declared.Ended.the-variants.{Stopped, Failed}
-use Rattle.machine.specs.Held.{Held}
-use Rattle.machine.specs.Laid.{LaidIn}
+use Rattle.moves.specs.Held.{Held}
+use Rattle.moves.specs.Laid.{LaidIn}
 use Rattle.registers.specs.Laid.{laid-stack, laid-inside}
 use Rattle.registers.specs.Stack.{stack}
 use Rattle.machine.specs.Advancing.{Settles}

@@ -10,6 +10,8 @@ use Rattle.meaning.specs.Table.{State, grammarOf}
 use Rattle.meaning.specs.Program.{programOf}
 use Rattle.meaning.specs.PublicCalls.{usable, unusable, check, areaLength, written}
 use Rattle.theory_program.specs.Addresses.{Begins}
+use Rattle.prepare.specs.declared.Prepared as Begun
+use Rattle.prepare.specs.declared.Prepared.the-variants as Variant
 use Rattle.prepare.specs.declared.Made as Code
 use Rattle.prepare.specs.declared.Made.the-variants.{Short, Refused, Written}
 
@@ -31,6 +33,11 @@ abbrev pub madeIs : Code.Made → Answer
 madeIs Short = turned 30 0
 madeIs (Refused number offset) = turned number offset
 madeIs (Written size) = programmed size
+
+abbrev pub preparedIs : Begun.Prepared → Answer
+preparedIs Variant.Short = turned 30 0
+preparedIs (Variant.Unusable number offset) = turned number offset
+preparedIs (Variant.Ready sizes size) = programmed size
 
 -- 01: "Its content depends on the table alone .. and words beyond the program are not touched"
 abbrev pub madeOf : List ℕ → List ℕ → Made
