@@ -44,16 +44,16 @@ check-reads bs s h = go (readTable bs) refl h
     go (malformed n o) e h = absurd (let z : _≡_ {A = ℕ} 0 1 = cc in omega arith)
     go (wellFormed u) e h = e ∙ ap wellFormed (by u (judge u) h)
 
-checked-formed : (bs : List ℕ) (s : State) → check bs ≡ usable s → WellFormed (grammarOf s)
+pub checked-formed : (bs : List ℕ) (s : State) → check bs ≡ usable s → WellFormed (grammarOf s)
 checked-formed bs s h = read-well-formed bs s (check-reads bs s h)
 
 -- ---- the moves of a call on what fits
 
-abbrev made : Grammar → Record → Stacks → Call → Called
+abbrev pub made : Grammar → Record → Stacks → Call → Called
 made g r m (feed ts) = afterFeed g m (feedAll g (lentOf m) ts (configOf g r m))
 made g r m finish = afterFinish g m (finishAll g (lentOf m) (configOf g r m))
 
-call-is : (g : Grammar) (r : Record) (m : Stacks) (c : Call) → callOf g r m c ≡ whenFit g r m (made g r m c)
+pub call-is : (g : Grammar) (r : Record) (m : Stacks) (c : Call) → callOf g r m c ≡ whenFit g r m (made g r m c)
 call-is g r m (feed ts) = refl
 call-is g r m finish = refl
 
@@ -73,7 +73,7 @@ module _ (Q : Answer → Record → Stacks → Type 0) (program : Grammar → Li
   abbrev Leaves : Effect → Type 0
   Leaves e = Q (e .answer) (e .state) (e .stacks)
 
-  by-cases : Q (refused 30 0) r m → ((n o : ℕ) → T (isTableNumber n) → Q (tableRefused n o) r m) → Q (refused 33 0) r m → Q (refused 34 0) r m
+  pub by-cases : Q (refused 30 0) r m → ((n o : ℕ) → T (isTableNumber n) → Q (tableRefused n o) r m) → Q (refused 33 0) r m → Q (refused 34 0) r m
       → ((s : State) → check bs ≡ usable s → Fit (grammarOf s) r m → Holds (made (grammarOf s) r m c))
       → Leaves (performs program bs area r m c)
   by-cases short turned closed unfit h = go (ltb (length area) areaLength) (check bs) refl (check-number bs)
