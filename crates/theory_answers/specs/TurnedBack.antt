@@ -13,8 +13,8 @@ use Rattle.meaning.specs.Decide.{judge, verdictOf}
 use Rattle.meaning.specs.Machine.{opening}
 use Rattle.meaning.specs.Calls.{Record, Stacks, Called, refused, closedRecord, asBrought, lentOf, stacksFit, openOf, whenFit}
 use Rattle.meaning.specs.Fit.{Fit}
-use Rattle.meaning.specs.PublicCalls.{Checked, usable, unusable, checkedAs, check, Call, feed, finish, callOf, areaLength, written, effect, called}
-use Rattle.meaning.specs.CallStatements.{ShortArea, BadTable, BadState, Opening, Met, Case, short, badTable, closed, unfit, met, whichCase, AllCases}
+use Rattle.meaning.specs.PublicCalls.{Checked, unusable, checkedAs, check, Call, feed, finish, callOf, areaLength, written, effect, called}
+use Rattle.meaning.specs.CallStatements.{ShortArea, BadTable, BadState, Opening, Case, short, badTable, closed, unfit, met, whichCase, AllCases}
 use Rattle.theory_sets.specs.Accepted.{judged-is, verdict→accepted, accepted→verdict}
 use Rattle.theory_answers.specs.Called.{called-is, long-enough}
 use Rattle.theory_answers.specs.FitTest.{fit-exactly}
