@@ -128,9 +128,10 @@ open-past g m = go (ltb (lentOf m .maxRegisters) (length (opening g .registers))
     go false x false y = laid-past g (opening g) m (opening-within g m x y)
 
 pub never-written : NeverWritten
-never-written program bs area r m c =
-    (opens-cases (λ e. pastLent (e .stacks) ≡ pastLent m) program bs area m refl (λ n o e. refl) (λ s e. open-past (grammarOf s) m)
-    , by-cases (λ a u v. pastLent v ≡ pastLent m) program bs area r m c refl (λ n o t. refl) refl refl (λ s e f. made-past (grammarOf s) (checked-formed bs s e) r m f c))
+never-written program bs area r m c = (
+  opens-cases (λ e. pastLent (e .stacks) ≡ pastLent m) program bs area m refl (λ n o e. refl) (λ s e. open-past (grammarOf s) m),
+  by-cases (λ a u v. pastLent v ≡ pastLent m) program bs area r m c refl (λ n o t. refl) refl refl (λ s e f. made-past (grammarOf s) (checked-formed bs s e) r m f c),
+)
 
 -- ---- not read
 
@@ -255,6 +256,7 @@ module _ (program : Grammar → List ℕ) (bs area : List ℕ) (r : Record) (m n
   effect-same false (usable t) e = ap (λ z. effect z (written (program (grammarOf t)) area)) (alike t e)
 
 pub never-read : NeverRead
-never-read program bs area r m n c same =
-    (effect-same program bs area closedRecord m n same (λ g. openOf g m) (λ g. openOf g n) (λ s e. open-same m n same (grammarOf s)) (ltb (length area) areaLength) (check bs) refl
-    , effect-same program bs area r m n same (λ g. callOf g r m c) (λ g. callOf g r n c) (λ s e. call-same m n same (grammarOf s) r (checked-formed bs s e) c) (ltb (length area) areaLength) (check bs) refl)
+never-read program bs area r m n c same = (
+  effect-same program bs area closedRecord m n same (λ g. openOf g m) (λ g. openOf g n) (λ s e. open-same m n same (grammarOf s)) (ltb (length area) areaLength) (check bs) refl,
+  effect-same program bs area r m n same (λ g. callOf g r m c) (λ g. callOf g r n c) (λ s e. call-same m n same (grammarOf s) r (checked-formed bs s e) c) (ltb (length area) areaLength) (check bs) refl,
+)

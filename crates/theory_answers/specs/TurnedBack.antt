@@ -90,10 +90,11 @@ bad-state program bs area g r m c l a =
 pub opening-is : Opening
 opening-is program bs area g m l a =
     let p = called-is program bs g a area l closedRecord m (λ h. openOf h m) in
-    let z : length (opening g .registers) ≡ syn g (nonterminal (g .start)) = length-replicate _ _ in
-    ((λ e. p ∙ ap (λ k. effect k (written (program g) area)) (let h = below (lentOf m .maxRegisters) (length (opening g .registers)) (omega (arith, z)) in rw (h, openOf)))
-    , (λ e f. p ∙ ap (λ k. effect k (written (program g) area)) (let h = above (lentOf m .maxRegisters) (length (opening g .registers)) (omega (arith, z)) in let i = below (lentOf m .maxPlaces) 1 f in rw (h, i, openOf)))
-    , (λ e f. p ∙ ap (λ k. effect k (written (program g) area)) (let h = above (lentOf m .maxRegisters) (length (opening g .registers)) (omega (arith, z)) in let i = above (lentOf m .maxPlaces) 1 f in rw (h, i, openOf))))
+    let z : length (opening g .registers) ≡ syn g (nonterminal (g .start)) = length-replicate _ _ in (
+      (λ e. p ∙ ap (λ k. effect k (written (program g) area)) (let h = below (lentOf m .maxRegisters) (length (opening g .registers)) (omega (arith, z)) in rw (h, openOf))),
+      (λ e f. p ∙ ap (λ k. effect k (written (program g) area)) (let h = above (lentOf m .maxRegisters) (length (opening g .registers)) (omega (arith, z)) in let i = below (lentOf m .maxPlaces) 1 f in rw (h, i, openOf))),
+      (λ e f. p ∙ ap (λ k. effect k (written (program g) area)) (let h = above (lentOf m .maxRegisters) (length (opening g .registers)) (omega (arith, z)) in let i = above (lentOf m .maxPlaces) 1 f in rw (h, i, openOf))),
+    )
 
 -- ---- all the cases
 
