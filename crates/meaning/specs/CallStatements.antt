@@ -124,9 +124,9 @@ pub data Refuses (g : Grammar) (lent : Lent) (Behind : List ℕ → Type 0) (tok
   tooMany : k ≡ 35 → (t : ℕ) (us : List ℕ) → left ≡ t ∷ us → d .tokens ≡ tokensLimit → T (waits (d .frames)) → Unseen g lent tokens c moves left d → Refuses g lent Behind tokens c moves left d k
   -- 01: "20 token not below T, judged before its moves"
   notToken : k ≡ 20 → (t : ℕ) (us : List ℕ) → left ≡ t ∷ us → d .tokens < tokensLimit → g .terminals ≤ t → T (waits (d .frames)) → Unseen g lent tokens c moves left d → Refuses g lent Behind tokens c moves left d k
-  -- the move at hand is blocked by k: for the next token, which was let through; for the end; or one that needs neither
+  -- the move at hand is blocked by k: for the next token, which was let through; for the end, the start symbol not being left; or one that needs neither
   atToken : (t : ℕ) (us : List ℕ) → left ≡ t ∷ us → d .tokens < tokensLimit → t < g .terminals → next g lent (token t) d ≡ blocked k → Refuses g lent Behind tokens c moves left d k
-  atEnd : left ≡ [] → ((us : List ℕ) → Behind us → us ≡ []) → next g lent over d ≡ blocked k → Refuses g lent Behind tokens c moves left d k
+  atEnd : left ≡ [] → isFinished d ≡ false → ((us : List ℕ) → Behind us → us ≡ []) → next g lent over d ≡ blocked k → Refuses g lent Behind tokens c moves left d k
   between : waits (d .frames) ≡ false → Unseen g lent tokens c moves left d → ((l : Look) → next g lent l d ≡ blocked k) → Refuses g lent Behind tokens c moves left d k
 
 -- what each answer says of the moves from c to d.

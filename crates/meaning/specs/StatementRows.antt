@@ -106,7 +106,7 @@ not-by c t j k o w b many unknown other r s ws x = by (x .says .1) (stuck words 
     by (atToken u us l n f h) e =
         let here = first l (e .1) in
         other (number-is j k (sym (ap₂ (λ p q. next words lent (token p) q) here (e .2) ∙ b) ∙ h)) (subst (λ d. d .tokens < tokensLimit) (e .2) n) (subst (λ v. v < 3) here f)
-    by (atEnd l f h) e = absurd (omega (arith, ap length (sym (ap (λ z. z ++ []) l) ∙ e .1)))
+    by (atEnd l d f h) e = absurd (omega (arith, ap length (sym (ap (λ z. z ++ []) l) ∙ e .1)))
     by (between v y h) e = absurd (subst T (sym w ∙ (sym (ap (λ d. waits (d .frames)) (e .2)) ∙ v)) tt)
 
 -- it is not refused by 22, by 35, or by the 21 of the move, before which it is judged
@@ -133,18 +133,18 @@ moves-missing r s ws x =
     let e = stuck words lent (3 ∷ []) (fresh 0 9) 21 refl (x .made (3 ∷ []) tt) in
     absurd (omega (arith, x .says .2, ap (λ z. z .moves) (e .2)))
 
+none : {left us : List ℕ} {u : ℕ} → left ≡ u ∷ us → left ++ [] ≡ [] → ⊥
+none l e = absurd (omega (arith, ap length (sym (ap (λ z. z ++ []) l) ∙ e)))
+
 -- with all tokens read, at the limit of moves, the feed stops: no 35 before a next token
 early-35 : Answered (fresh 5 4294967295) (feed []) (refused 35 5)
 early-35 r s ws x = by (x .says .1) (stuck words lent [] (fresh 5 4294967295) 35 refl (x .made [] tt))
   where
-    none : {left us : List ℕ} {u : ℕ} → left ≡ u ∷ us → left ++ [] ≡ [] → ⊥
-    none l e = absurd (omega (arith, ap length (sym (ap (λ z. z ++ []) l) ∙ e)))
-
     by : {ts left : List ℕ} {c d : Config} {moves : List Act} → Refuses words lent (λ us. Unit {0}) ts c moves left d 35 → (moves ≡ []) × (left ++ [] ≡ []) × (d ≡ fresh 5 4294967295) → ⊥
     by (tooMany q u us l n v y) e = none l (e .1)
     by (notToken q u us l n f v y) e = none l (e .1)
     by (atToken u us l n f h) e = none l (e .1)
-    by (atEnd l f h) e = absurd (omega (arith, ap length (f (3 ∷ []) tt)))
+    by (atEnd l d f h) e = absurd (omega (arith, ap length (f (3 ∷ []) tt)))
     by (between v y h) e = subst T (sym (ap (λ d. waits (d .frames)) (e .2)) ∙ v) tt
 
 -- no more than 65,535 tokens are read
@@ -159,6 +159,17 @@ other-value r s ws x =
   where
     same : (a b : ℕ) → pos a ≡ pos b → a ≡ b
     same a b e = cc
+
+-- and it is given: no 24 where the start symbol is left
+not-24 : Answered (left4 9) finish (refused 24 2)
+not-24 r s ws x = by (x .says .1) (stuck words lent [] (left4 9) 24 refl (x .made [] refl))
+  where
+    by : {ts left : List ℕ} {c d : Config} {moves : List Act} → Refuses words lent (λ us. us ≡ []) ts c moves left d 24 → (moves ≡ []) × (left ++ [] ≡ []) × (d ≡ left4 9) → ⊥
+    by (tooMany q u us l n v y) e = none l (e .1)
+    by (notToken q u us l n f v y) e = none l (e .1)
+    by (atToken u us l n f h) e = none l (e .1)
+    by (atEnd l d f h) e = subst T (sym (ap isFinished (e .2)) ∙ d) tt
+    by (between v y h) e = subst T (sym (ap (λ d. waits (d .frames)) (e .2)) ∙ v) tt
 
 -- what needs no next token is done before a stop, and a value is given where the start symbol is left: an add is still to make
 abbrev atAdd : Config

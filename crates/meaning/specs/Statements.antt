@@ -60,7 +60,7 @@ abbrev pub ends : Call → Bool
 ends (feed ts) = false
 ends finish = true
 
--- any list of calls goes on with any call: with the opening's table on an open record it adds its tokens or the end; a call, with any table and area, that is turned back before its moves counts for nothing
+-- any list of calls goes on with any call: with the opening's table on an open record it adds its tokens or the end; a call, with any table and area, that is turned back before its moves counts for nothing. (Left out is only a call that moves under another table)
 abbrev pub GoesOn : Type 0
 GoesOn =
     (program : Grammar → List ℕ) (bs : List ℕ) (g : Grammar) (m₀ : Stacks) (ts : List ℕ) (isOver : Bool) (r : Record) (m : Stacks) → Accepted bs g → History program bs m₀ ts isOver r m

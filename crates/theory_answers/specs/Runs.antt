@@ -6,9 +6,11 @@ use mathlib.Core.Logic.{_⊎_, inl, inr}
 use mathlib.Core.Bool.{Bool, true, false, _&&_}
 use mathlib.Core.List.{List, [], _∷_, _++_, append-nil, append-assoc}
 use lib.ListN.{drop}
-use lib.Dec.{T, ltb, leb, ltb→lt, lt→ltb, nltb→le, leb→le, nleb→lt}
-use Rattle.meaning.specs.Grammar.{Grammar, Look, token, over}
-use Rattle.meaning.specs.Machine.{Config, Lent, Outcome, moved, blocked, Settled, stopped, failed, waits, next, lookAt, unread, isDone, isFinished, advance, advanceFrom, feedToken, feedAll, finishAll, tokensLimit, movesLimit}
+use lib.Dec.{T, eqb, ltb, leb, ltb→lt, lt→ltb, nltb→le, leb→le, nleb→lt}
+use Rattle.meaning.specs.Grammar.{Grammar, whole, Look, token, over}
+use Rattle.meaning.specs.Base.{isEmpty}
+use Rattle.meaning.specs.Scheme.{Instruction}
+use Rattle.meaning.specs.Machine.{Frame, Config, Lent, Outcome, moved, blocked, Settled, stopped, failed, needsLook, waits, next, lookAt, unread, isDone, isFinished, advance, advanceFrom, feedToken, feedAll, finishAll, tokensLimit, movesLimit}
 use Rattle.meaning.specs.Walk.{Act, actBy, Makes, nothing, andThen}
 use Rattle.meaning.specs.PublicCalls.{feed, finish}
 use Rattle.meaning.specs.CallStatements.{Follows, Unseen, Refuses, tooMany, notToken, atToken, atEnd, between}
@@ -56,6 +58,22 @@ idle t n c e w = not-both (waits (c .frames)) (ltb n (c .tokens)) (T→true (ltb
     not-both : (a b : Bool) → b ≡ true → a && b ≡ false → a ≡ false
     not-both true b e f = absurd (subst T (sym e ∙ f) tt)
     not-both false b e f = refl
+
+-- a start symbol that is left waits
+unfinished : (c : Config) → waits (c .frames) && isFinished c ≡ false → isFinished c ≡ false
+unfinished c w = go (c .frames) w
+  where
+    rests : (p : ℕ) (is : List Instruction) → needsLook is && (eqb p whole && isEmpty is) ≡ false → eqb p whole && isEmpty is ≡ false
+    rests p [] w = w
+    rests p (i ∷ is) w = neither (eqb p whole)
+      where
+        neither : (b : Bool) → b && false ≡ false
+        neither true = refl
+        neither false = refl
+
+    go : (fs : List Frame) → waits fs && (elim fs as (λ z. Bool) [ [] ↦ false | f ∷ fs ↦ eqb (f .production) whole && isEmpty (f .rest) ]) ≡ false → (elim fs as (λ z. Bool) [ [] ↦ false | f ∷ fs ↦ eqb (f .production) whole && isEmpty (f .rest) ]) ≡ false
+    go [] w = refl
+    go (f ∷ fs) w = rests (f .production) (f .rest) w
 
 -- what one move leaves of the tokens to come, whatever comes behind
 record Passed (l : Look) (n : ℕ) (us : List ℕ) (c d : Config) : Type 0 where
@@ -256,5 +274,5 @@ module _ (g : Grammar) (lent : Lent) (c₀ : Config) where
       go (stopped e) v = (subst (λ z. Leads g lent Nothing read c₀ z e) (v .0 .coming .0) (v .0 .leads), v .2, v .0 .coming .1)
       go (failed e k) v =
           let r = v .0 in
-          let by : Refuses g lent Nothing read c₀ (r .leads .moves) (r .left) e k = atEnd (r .coming .0) (λ us b. b) (v .1) in
+          let by : Refuses g lent Nothing read c₀ (r .leads .moves) (r .left) e k = atEnd (r .coming .0) (unfinished e (v .2)) (λ us b. b) (v .1) in
           subst (λ z. (a : Leads g lent Nothing read c₀ z e) × Blocks over e k × Refuses g lent Nothing read c₀ (a .moves) z e k × (e .tokens ≡ c .tokens)) (r .coming .0) (r .leads, blocks g lent over e k (v .1), by, r .coming .1)
