@@ -161,6 +161,12 @@ CallsMoveOf engine =
 abbrev pub CallsMove : Type 0
 CallsMove = CallsMoveOf performs
 
+-- "exactly one": whatever answers as a call may and does what is said of its moves is the call's own effect
+abbrev pub MovesOnce : Type 0
+MovesOnce =
+    (program : Grammar → List ℕ) (bs area : List ℕ) (g : Grammar) (r : Record) (m : Stacks) (c : Call) → Met bs g area r m
+    → (e : Effect) → T (callAnswer c (e .answer)) → MovesTo program area g m (configOf g r m) c e → e ≡ performs program bs area r m c
+
 -- ==== these are all: "each call gives what it is for, or exactly one numbered refusal"
 
 pub data Case (bs area : List ℕ) (r : Record) (m : Stacks) : Type 0 where

@@ -89,7 +89,7 @@ module _ (Q : Answer → Record → Stacks → Type 0) (program : Grammar → Li
 -- ---- every configuration that the moves of a call lead to
 
 module _ (g : Grammar) (wf : WellFormed g) (r : Record) (m : Stacks) (f : Fit g r m) where
-  fits-shaped : ShapedAt g (configOf g r m)
+  pub fits-shaped : ShapedAt g (configOf g r m)
   fits-shaped = fit-shaped g wf (reverse (take (r .placeHeight) (m .places))) (reverse (take (r .registerHeight) (m .registers))) (f .stands)
 
   fits-wait : T (waits (configOf g r m .frames))

@@ -12,3 +12,4 @@ pub mod Called
 pub mod TurnedBack
 pub mod Answers
 pub mod LentOnly
+pub mod Once
