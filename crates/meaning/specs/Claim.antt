@@ -29,6 +29,13 @@ pub record Passed (g : Grammar) (lent : Lent) (tokens : List ℕ) (first : List 
   -- a part entered here and left leaves the registers below its results as they are here
   pub returns : (p : ℕ) (x : Symbol) (is : List Instruction) (fs : List Frame) (z : Config) → config .frames ≡ frame p (expect x ∷ is) ∷ fs → PartWalked g lent toCome config z → Returned g x config z
 
+-- a list of calls that fed ts, beside the tree of a segment that begins with them
+pub record Pictured (g : Grammar) (m₀ : Stacks) (t : Tree) (ts us : List ℕ) (isOver : Bool) (r : Record) (m : Stacks) (moves : List Act) (unread : List ℕ) : Type 0 where
+  pub isRecord : r ≡ drawnRecord g t (length ts) isOver
+  pub isStacks : m ≡ drawnStacks g t (length ts) isOver m₀
+  pub isWalk : moves ≡ drawnMoves g t (length ts) isOver
+  pub isRead : unread ≡ us
+
 -- what holds after a list of calls that fed the tokens ts, whatever tokens us are still to come
 pub record ListOfCalls (g : Grammar) (m₀ : Stacks) (ts us : List ℕ) (isOver : Bool) (r : Record) (m : Stacks) : Type 0 where
   -- the moves that its calls made: record and stacks are those of the configuration that they lead to
@@ -41,8 +48,8 @@ pub record ListOfCalls (g : Grammar) (m₀ : Stacks) (ts us : List ℕ) (isOver 
   pub isStacks : m ≡ layAll g config m₀
   -- while the record is open, all tokens fed are read and everything that needs no next token is done
   pub allRead : r .isOpen ≡ true → (unread ≡ us) × T (waits (config .frames))
-  -- "registers, places and record are exactly the picture that 01 draws from the tree"; the moves are its walk's
-  pub pictured : (t : Tree) → TreeOf g (ts ++ us) t → WalkFits g (lentOf m₀) t → (r ≡ drawnRecord g t (length ts) isOver) × (m ≡ drawnStacks g t (length ts) isOver m₀) × (moves ≡ drawnMoves g t (length ts) isOver)
+  -- "registers, places and record are exactly the picture that 01 draws from the tree"; the moves are its walk's, and have read the tokens fed
+  pub pictured : (t : Tree) → TreeOf g (ts ++ us) t → WalkFits g (lentOf m₀) t → Pictured g m₀ t ts us isOver r m moves unread
   -- "at each move, whatever the tokens, every selector finds the attribute it names; when a part is left, the registers below its results are those it was entered with"
   pub each : (first later : List Act) → moves ≡ first ++ later → Passed g (lentOf m₀) (ts ++ us) first
 

@@ -6,8 +6,8 @@ use mathlib.Core.Path.{_≡_, refl, sym, ap, ap₂, _∙_, subst}
 use mathlib.Core.Logic.{inl, inr}
 use mathlib.Core.Bool.{Bool, true, false}
 use mathlib.Core.List.{List, [], _∷_, _++_, append-assoc, append-nil}
-use lib.ListN.{length, take, length-append}
-use lib.Seq.{take-at, take-append-le, take-all}
+use lib.ListN.{length, take, drop, length-append}
+use lib.Seq.{take-at, take-append-le, take-all, drop-at}
 use lib.Dec.{T}
 use Rattle.meaning.specs.Grammar.{Grammar}
 use Rattle.meaning.specs.Rules.{WellFormed}
@@ -16,8 +16,9 @@ use Rattle.meaning.specs.Machine.{Config, Lent, Settled, stopped, failed, openi
 use Rattle.meaning.specs.Tree.{Tree, TreeOf}
 use Rattle.meaning.specs.Walk.{Act, actBy, Makes, nothing, andThen}
 use Rattle.meaning.specs.Calls.{Record, Stacks, lentOf, recordOf, layAll, afterFeed, feedOf}
-use Rattle.meaning.specs.Drawn.{WalkFits, drawnMoves}
-use Rattle.meaning.specs.Claim.{Passed, ListOfCalls, EveryListOfCalls}
+use Rattle.meaning.specs.Drawn.{drawnRecord, drawnStacks, drawnMoves}
+use Rattle.meaning.specs.Statements.{PictureAlways, WalkAlways}
+use Rattle.meaning.specs.Claim.{Passed, Pictured, EveryListOfCalls}
 use Rattle.theory_base.specs.Counted as ByGrammar
 use Rattle.theory_table.specs.AcceptedTable.{accepted-well-formed}
 use Rattle.theory_answers.specs.Memory.{lay-over}
@@ -128,19 +129,44 @@ module _ (bs : List ℕ) (g : Grammar) (a : Accepted bs g) (lent : Lent) (stream
 
 pub every-list-of-calls : EveryListOfCalls
 every-list-of-calls program bs g m₀ ts us isOver r m a h over =
-    let o = ran g (accepted-well-formed bs g a) m₀ ts us isOver r m (by-grammar program bs g a h) over in
-    let moves : o .config .moves ≡ r .moves = sym (ap (λ z. z .moves) (o .isRecord)) in
     record {
       moves = o .led .moves;
       unread = o .unread;
       config = o .config;
       made = o .led .made;
-      counted = omega (arith, moves, counted g (lentOf m₀) (o .led .made));
+      counted = omega (arith, ap (λ z. z .moves) (o .isRecord), counted g (lentOf m₀) (o .led .made));
       isRecord = o .isRecord;
       isStacks = o .isStacks;
       allRead = o .allRead;
-      pictured = λ t k f.
-          let d = picture-always program bs g m₀ ts us isOver r m t a h k f over in
-          (d .0, d .1, moves-drawn bs g a (lentOf m₀) (ts ++ us) t k (length ts) isOver (o .led .made) (moves ∙ ap (λ z. z .moves) (d .0)));
+      pictured = λ t k f. pictured t (picture-always program bs g m₀ ts us isOver r m t a h k f over) k;
       each = passed bs g a (lentOf m₀) (ts ++ us) (o .led .made);
     }
+  where
+    o : Ran g m₀ ts us r m
+    o = ran g (accepted-well-formed bs g a) m₀ ts us isOver r m (by-grammar program bs g a h) over
+
+    -- as many tokens are read as were fed
+    behind : (read : List ℕ) → ts ++ us ≡ read ++ o .unread → length read ≡ length ts → o .unread ≡ us
+    behind read e n = sym (drop-at read (o .unread) (length ts) n) ∙ (ap (drop (length ts)) (sym e) ∙ drop-at ts us (length ts) refl)
+
+    pictured : (t : Tree) → (r ≡ drawnRecord g t (length ts) isOver) × (m ≡ drawnStacks g t (length ts) isOver m₀) → TreeOf g (ts ++ us) t → Pictured g m₀ t ts us isOver r m (o .led .moves) (o .unread)
+    pictured t d k =
+        let here : recordOf (r .isOpen) (o .config) ≡ drawnRecord g t (length ts) isOver = sym (o .isRecord) ∙ d .0 in
+        let made = accepted-made bs g a (lentOf m₀) (ts ++ us) (o .led .made) in
+        record {
+          isRecord = d .0;
+          isStacks = d .1;
+          isWalk = moves-drawn bs g a (lentOf m₀) (ts ++ us) t k (length ts) isOver (o .led .made) (ap (λ z. z .moves) here);
+          isRead = behind (made .read) (made .split) (made .shows .tokens ∙ ap (λ z. z .tokens) here);
+        }
+
+-- ---- the claim gives its parts back
+
+picture-again : EveryListOfCalls → PictureAlways
+picture-again claim program bs g m₀ ts us isOver r m t a h k f over = let p = claim program bs g m₀ ts us isOver r m a h over .pictured t k f in (p .isRecord, p .isStacks)
+
+walk-again : EveryListOfCalls → WalkAlways
+walk-again claim program bs g m₀ ts us isOver r m t a h k f over =
+    let l = claim program bs g m₀ ts us isOver r m a h over in
+    let p = l .pictured t k f in
+    (l .config, subst (λ z. Makes g (lentOf m₀) (ts ++ us) (opening g) (drawnMoves g t (length ts) isOver) z (l .config)) (p .isRead) (subst (λ z. Makes g (lentOf m₀) (ts ++ us) (opening g) z (l .unread) (l .config)) (p .isWalk) (l .made)), l .isRecord, l .isStacks)
