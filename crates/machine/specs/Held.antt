@@ -14,7 +14,7 @@ use Rattle.meaning.specs.Rules.{WellFormed}
 use Rattle.meaning.specs.Machine.{Frame, Config, Lent, Look, Outcome, moved, blocked, chooseOutcome, next, nextOf, move, placeOf, movesLimit, tokensLimit}
 use Rattle.meaning.specs.Part.{frame, config}
 use Rattle.meaning.specs.Program.{schemeWords}
-use Rattle.meaning.specs.Statements.{Handles}
+use Rattle.meaning.specs.CallStatements.{Handles}
 use Rattle.theory_answers.specs.Shape.{Due, adds, hands, waits, tests, closes, removes, ends}
 use Rattle.theory_answers.specs.ShapeMoves.{ShapedAt}
 use Rattle.theory_answers.specs.Handling.{handles}

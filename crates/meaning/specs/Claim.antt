@@ -29,33 +29,36 @@ pub record Passed (g : Grammar) (lent : Lent) (tokens : List ℕ) (first : List 
   -- a part entered here and left leaves the registers below its results as they are here
   pub returns : (p : ℕ) (x : Symbol) (is : List Instruction) (fs : List Frame) (z : Config) → config .frames ≡ frame p (expect x ∷ is) ∷ fs → PartWalked g lent toCome config z → Returned g x config z
 
+-- the tokens that may still come: none after a finish
+abbrev pub MayCome : Bool → List ℕ → Type 0
+MayCome isOver us = isOver ≡ true → us ≡ []
+
 -- a list of calls that fed ts, beside the tree of a segment that begins with them
-pub record Pictured (g : Grammar) (m₀ : Stacks) (t : Tree) (ts us : List ℕ) (isOver : Bool) (r : Record) (m : Stacks) (moves : List Act) (unread : List ℕ) : Type 0 where
+pub record Pictured (g : Grammar) (m₀ : Stacks) (t : Tree) (ts : List ℕ) (isOver : Bool) (r : Record) (m : Stacks) (moves : List Act) (unread : List ℕ) : Type 0 where
   pub isRecord : r ≡ drawnRecord g t (length ts) isOver
   pub isStacks : m ≡ drawnStacks g t (length ts) isOver m₀
   pub isWalk : moves ≡ drawnMoves g t (length ts) isOver
-  pub isRead : unread ≡ us
+  pub isRead : unread ≡ []
 
--- what holds after a list of calls that fed the tokens ts, whatever tokens us are still to come
-pub record ListOfCalls (g : Grammar) (m₀ : Stacks) (ts us : List ℕ) (isOver : Bool) (r : Record) (m : Stacks) : Type 0 where
-  -- the moves that its calls made: record and stacks are those of the configuration that they lead to
+-- what holds after a list of calls that fed the tokens ts
+pub record ListOfCalls (g : Grammar) (m₀ : Stacks) (ts : List ℕ) (isOver : Bool) (r : Record) (m : Stacks) : Type 0 where
+  -- the moves that its calls made, whatever is still to come: record and stacks are those of the configuration that they lead to
   pub moves : List Act
   pub unread : List ℕ
   pub config : Config
-  pub made : Makes g (lentOf m₀) (ts ++ us) (opening g) moves unread config
+  pub made : (us : List ℕ) → MayCome isOver us → Makes g (lentOf m₀) (ts ++ us) (opening g) moves (unread ++ us) config
   pub counted : length moves ≡ r .moves
   pub isRecord : r ≡ recordOf (r .isOpen) config
   pub isStacks : m ≡ layAll g config m₀
   -- while the record is open, all tokens fed are read and everything that needs no next token is done
-  pub allRead : r .isOpen ≡ true → (unread ≡ us) × T (waits (config .frames))
-  -- "registers, places and record are exactly the picture that 01 draws from the tree"; the moves are its walk's, and have read the tokens fed
-  pub pictured : (t : Tree) → TreeOf g (ts ++ us) t → WalkFits g (lentOf m₀) t → Pictured g m₀ t ts us isOver r m moves unread
+  pub allRead : r .isOpen ≡ true → (unread ≡ []) × T (waits (config .frames))
+  -- "registers, places and record are exactly the picture that 01 draws from the tree"; the moves are its walk's
+  pub pictured : (us : List ℕ) → MayCome isOver us → (t : Tree) → TreeOf g (ts ++ us) t → WalkFits g (lentOf m₀) t → Pictured g m₀ t ts isOver r m moves unread
   -- "at each move, whatever the tokens, every selector finds the attribute it names; when a part is left, the registers below its results are those it was entered with"
-  pub each : (first later : List Act) → moves ≡ first ++ later → Passed g (lentOf m₀) (ts ++ us) first
+  pub each : (us : List ℕ) → MayCome isOver us → (first later : List Act) → moves ≡ first ++ later → Passed g (lentOf m₀) (ts ++ us) first
 
 -- 01, demand 3: "For every list of calls from an opening, registers, places and record are exactly the picture that 01 draws from the tree; at each move, whatever the tokens, every selector finds the attribute it names; when a part is left, the registers below its results are those it was entered with."
--- (After a finish no tokens are to come.)
 abbrev pub EveryListOfCalls : Type 0
 EveryListOfCalls =
-    (program : Grammar → List ℕ) (bs : List ℕ) (g : Grammar) (m₀ : Stacks) (ts us : List ℕ) (isOver : Bool) (r : Record) (m : Stacks)
-    → Accepted bs g → History program bs m₀ ts isOver r m → (isOver ≡ true → us ≡ []) → ListOfCalls g m₀ ts us isOver r m
+    (program : Grammar → List ℕ) (bs : List ℕ) (g : Grammar) (m₀ : Stacks) (ts : List ℕ) (isOver : Bool) (r : Record) (m : Stacks)
+    → Accepted bs g → History program bs m₀ ts isOver r m → ListOfCalls g m₀ ts isOver r m

@@ -13,7 +13,8 @@ use Rattle.meaning.specs.Machine.{Config}
 use Rattle.meaning.specs.Tree.{Tree, leaf, node, noTrees, treeAnd, values, child}
 use Rattle.meaning.specs.Part.{Point, fresh, added, valued, left, closing, Ancestor, Part, config, childrenOf, Handed, Results, Tested, Stands, Front, Good, Begins, Reaches, PartOf}
 use Rattle.meaning.specs.Selectors.{partAt, Finds, Found, SelectorsFind}
-use Rattle.meaning.specs.Statements.{Handles, Returned}
+use Rattle.meaning.specs.CallStatements.{Handles}
+use Rattle.meaning.specs.Statements.{Returned}
 use Rattle.meaning.specs.Words.{occ, rule}
 use Rattle.meaning.specs.SchemeRows.{wide, wide1}
 use Rattle.meaning.specs.WalkRows.{wideTree, wideSegment, wide-tree}

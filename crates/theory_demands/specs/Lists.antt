@@ -2,12 +2,12 @@
 use Prim.Native.Nat.{ℕ, _+_, _≤_}
 use native.Mathlib.Omega.{arith}
 use native.Mathlib.Decide.{decLe}
-use mathlib.Core.Path.{_≡_, refl, sym, ap, ap₂, _∙_, subst}
+use mathlib.Core.Path.{_≡_, refl, sym, ap, ap₂, _∙_, subst, subst₂}
 use mathlib.Core.Logic.{inl, inr}
 use mathlib.Core.Bool.{Bool, true, false}
-use mathlib.Core.List.{List, [], _∷_, _++_, append-assoc, append-nil}
-use lib.ListN.{length, take, drop, length-append}
-use lib.Seq.{take-at, take-append-le, take-all, drop-at}
+use mathlib.Core.List.{List, [], _∷_, _++_, append-nil}
+use lib.ListN.{length, take, length-append}
+use lib.Seq.{take-at, take-append-le, take-all}
 use lib.Dec.{T}
 use Rattle.meaning.specs.Grammar.{Grammar}
 use Rattle.meaning.specs.Rules.{WellFormed}
@@ -18,43 +18,46 @@ use Rattle.meaning.specs.Walk.{Act, actBy, Makes, nothing, andThen}
 use Rattle.meaning.specs.Calls.{Record, Stacks, lentOf, recordOf, layAll, afterFeed, feedOf}
 use Rattle.meaning.specs.Drawn.{drawnRecord, drawnStacks, drawnMoves}
 use Rattle.meaning.specs.Statements.{PictureAlways, WalkAlways}
-use Rattle.meaning.specs.Claim.{Passed, Pictured, EveryListOfCalls}
+use Rattle.meaning.specs.Claim.{Passed, MayCome, Pictured, EveryListOfCalls}
+use Rattle.theory_base.specs.Members.{no-elements}
 use Rattle.theory_base.specs.Counted as ByGrammar
 use Rattle.theory_table.specs.AcceptedTable.{accepted-well-formed}
 use Rattle.theory_answers.specs.Memory.{lay-over}
-use Rattle.theory_answers.specs.Runs.{Led, FedBefore, fed-before}
+use Rattle.theory_answers.specs.Runs.{Leads, Anything, Fed, fed}
 use Rattle.theory_sound.specs.CallSound.{feed-is}
-use Rattle.theory_sound.specs.Histories.{OpenRun, ClosedRun, Run, runs, open-run}
+use Rattle.theory_sound.specs.Histories.{OpenRun, Run, runs, open-run}
 use Rattle.theory_moves.specs.Always.{accepted-made, selectors-always, returns-always}
 use Rattle.theory_demands.specs.ByGrammar.{by-grammar}
 use Rattle.theory_demands.specs.Pictures.{picture-always}
 use Rattle.theory_demands.specs.Reaching.{counted}
 use Rattle.theory_demands.specs.Walking.{moves-drawn}
 
--- ---- the run of a list, on the tokens fed and any behind them
+-- ---- the run of a list, whatever comes behind the tokens fed
 
-record Ran (g : Grammar) (m₀ : Stacks) (ts us : List ℕ) (r : Record) (m : Stacks) : Type 0 where
+record Ran (g : Grammar) (m₀ : Stacks) (ts : List ℕ) (isOver : Bool) (r : Record) (m : Stacks) : Type 0 where
   unread : List ℕ
   config : Config
-  led : Led g (lentOf m₀) (ts ++ us) (opening g) unread config
+  leads : Leads g (lentOf m₀) (MayCome isOver) ts (opening g) unread config
   isRecord : r ≡ recordOf (r .isOpen) config
   isStacks : m ≡ layAll g config m₀
-  allRead : r .isOpen ≡ true → (unread ≡ us) × T (waits (config .frames))
+  allRead : r .isOpen ≡ true → (unread ≡ []) × T (waits (config .frames))
 
 module _ (g : Grammar) (w : WellFormed g) (m₀ : Stacks) where
-  while-open : (ts us : List ℕ) (r : Record) (m : Stacks) → OpenRun g m₀ ts r m → Ran g m₀ ts us r m
-  while-open ts us r m o = record {
-    unread = us;
+  any : (isOver : Bool) {ts us : List ℕ} {c : Config} → Leads g (lentOf m₀) Anything ts (opening g) us c → Leads g (lentOf m₀) (MayCome isOver) ts (opening g) us c
+  any isOver l = record { moves = l .moves; made = λ us b. l .made us tt; few = l .few }
+
+  while-open : (ts : List ℕ) (isOver : Bool) (r : Record) (m : Stacks) → OpenRun g m₀ ts r m → Ran g m₀ ts isOver r m
+  while-open ts isOver r m o = record {
+    unread = [];
     config = o .config;
-    led = o .leads us;
+    leads = any isOver (o .leads);
     isRecord = o .isRecord ∙ ap (λ b. recordOf b (o .config)) (sym (ap (λ z. z .isOpen) (o .isRecord)));
     isStacks = o .isStacks;
     allRead = λ e. (refl, o .stop .1);
   }
 
-  -- a feed of vs, with us behind them
-  after-feed : (ts vs us : List ℕ) (r : Record) (m : Stacks) → OpenRun g m₀ ts r m → Ran g m₀ (ts ++ vs) us (feedOf g r m vs .state) (feedOf g r m vs .stacks)
-  after-feed ts vs us r m o = subst (λ z. Ran g m₀ (ts ++ vs) us (z .state) (z .stacks)) (sym e) (go (feedAll g (lentOf m₀) vs c) fed)
+  after-feed : (ts vs : List ℕ) (isOver : Bool) (r : Record) (m : Stacks) → OpenRun g m₀ ts r m → Ran g m₀ (ts ++ vs) isOver (feedOf g r m vs .state) (feedOf g r m vs .stacks)
+  after-feed ts vs isOver r m o = subst (λ z. Ran g m₀ (ts ++ vs) isOver (z .state) (z .stacks)) (sym e) (go (feedAll g (lentOf m₀) vs c) fed-from)
     where
       c : Config
       c = o .config
@@ -62,36 +65,35 @@ module _ (g : Grammar) (w : WellFormed g) (m₀ : Stacks) where
       e : feedOf g r m vs ≡ afterFeed g (layAll g c m₀) (feedAll g (lentOf m₀) vs c)
       e = ap₂ (λ a b. feedOf g a b vs) (o .isRecord) (o .isStacks) ∙ feed-is g w m₀ ts c (o .stop) vs
 
-      fed : FedBefore g (lentOf m₀) ((ts ++ vs) ++ us) (opening g) us (feedAll g (lentOf m₀) vs c)
-      fed =
-          let l = subst (λ z. Led g (lentOf m₀) z (opening g) (vs ++ us) c) (sym (append-assoc ts vs us)) (o .leads (vs ++ us)) in
-          fed-before g (lentOf m₀) ((ts ++ vs) ++ us) (opening g) vs us c l (o .stop .1) (subst (λ n. n ≤ tokensLimit) (o .stop .0 .shows .tokens) (o .stop .2))
+      fed-from : Fed g (lentOf m₀) (opening g) (ts ++ vs) (feedAll g (lentOf m₀) vs c)
+      fed-from = fed g (lentOf m₀) (opening g) vs ts c (o .leads) (o .stop .1) (subst (λ n. n ≤ tokensLimit) (o .stop .0 .shows .tokens) (o .stop .2))
 
-      go : (k : Settled) → FedBefore g (lentOf m₀) ((ts ++ vs) ++ us) (opening g) us k → Ran g m₀ (ts ++ vs) us (afterFeed g (layAll g c m₀) k .state) (afterFeed g (layAll g c m₀) k .stacks)
-      go (stopped d) f = record { unread = us; config = d; led = f .0; isRecord = refl; isStacks = lay-over g c d m₀ (o .stop .0 .within); allRead = λ q. (refl, f .1) }
-      go (failed d j) f = record { unread = f .0; config = d; led = f .1; isRecord = refl; isStacks = lay-over g c d m₀ (o .stop .0 .within); allRead = λ q. absurd (subst T (sym q) tt) }
+      go : (k : Settled) → Fed g (lentOf m₀) (opening g) (ts ++ vs) k → Ran g m₀ (ts ++ vs) isOver (afterFeed g (layAll g c m₀) k .state) (afterFeed g (layAll g c m₀) k .stacks)
+      go (stopped d) f = record { unread = []; config = d; leads = any isOver (f .0); isRecord = refl; isStacks = lay-over g c d m₀ (o .stop .0 .within); allRead = λ q. (refl, f .1) }
+      go (failed d j) f = record { unread = f .0; config = d; leads = any isOver (f .1); isRecord = refl; isStacks = lay-over g c d m₀ (o .stop .0 .within); allRead = λ q. absurd (subst T (sym q) tt) }
 
-  after-finish : (ts us : List ℕ) (r : Record) (m : Stacks) → us ≡ [] → Run g m₀ ts r m → Ran g m₀ ts us r m
-  after-finish ts us r m e (inl o) = while-open ts us r m o
-  after-finish ts us r m e (inr o) =
+  after-finish : (ts : List ℕ) (r : Record) (m : Stacks) → Run g m₀ ts r m → Ran g m₀ ts true r m
+  after-finish ts r m (inl o) = while-open ts true r m o
+  after-finish ts r m (inr o) =
       let isClosed : r .isOpen ≡ false = ap (λ z. z .isOpen) (o .isRecord) in
+      let behind : (xs us : List ℕ) → us ≡ [] → xs ≡ xs ++ us = λ xs us e. sym (append-nil xs) ∙ ap (λ z. xs ++ z) (sym e) in
       record {
         unread = o .unread;
         config = o .config;
-        led = subst (λ z. Led g (lentOf m₀) z (opening g) (o .unread) (o .config)) (sym (append-nil ts) ∙ ap (λ z. ts ++ z) (sym e)) (o .led);
+        leads = record { moves = o .led .moves; made = λ us b. subst₂ (λ x y. Makes g (lentOf m₀) x (opening g) (o .led .moves) y (o .config)) (behind ts us (b refl)) (behind (o .unread) us (b refl)) (o .led .made); few = o .led .few };
         isRecord = o .isRecord ∙ ap (λ b. recordOf b (o .config)) (sym isClosed);
         isStacks = o .isStacks;
         allRead = λ q. absurd (subst T (sym q ∙ isClosed) tt);
       }
 
-  ran : (ts us : List ℕ) (isOver : Bool) (r : Record) (m : Stacks) → ByGrammar.History g m₀ ts isOver r m → (isOver ≡ true → us ≡ []) → Ran g m₀ ts us r m
-  ran ts us isOver r m (ByGrammar.opened e) over = while-open [] us _ _ (open-run g w m₀ e)
-  ran ts us isOver r m (ByGrammar.fed {ts = ts′} {r = r′} {m = m′} vs h o) over = go (runs g w m₀ ts′ false r′ m′ h)
+  ran : (ts : List ℕ) (isOver : Bool) (r : Record) (m : Stacks) → ByGrammar.History g m₀ ts isOver r m → Ran g m₀ ts isOver r m
+  ran ts isOver r m (ByGrammar.opened e) = while-open [] false _ _ (open-run g w m₀ e)
+  ran ts isOver r m (ByGrammar.fed {ts = ts′} {r = r′} {m = m′} vs h o) = go (runs g w m₀ ts′ false r′ m′ h)
     where
-      go : Run g m₀ ts′ r′ m′ → Ran g m₀ (ts′ ++ vs) us (feedOf g r′ m′ vs .state) (feedOf g r′ m′ vs .stacks)
-      go (inl b) = after-feed ts′ vs us r′ m′ b
+      go : Run g m₀ ts′ r′ m′ → Ran g m₀ (ts′ ++ vs) false (feedOf g r′ m′ vs .state) (feedOf g r′ m′ vs .stacks)
+      go (inl b) = after-feed ts′ vs false r′ m′ b
       go (inr b) = absurd (subst T (sym o ∙ ap (λ z. z .isOpen) (b .isRecord)) tt)
-  ran ts us isOver r m (ByGrammar.finished h o) over = after-finish ts us r m (over refl) (runs g w m₀ ts true r m (ByGrammar.finished h o))
+  ran ts isOver r m (ByGrammar.finished h o) = after-finish ts r m (runs g w m₀ ts true r m (ByGrammar.finished h o))
 
 -- ---- the first of its moves
 
@@ -128,45 +130,45 @@ module _ (bs : List ℕ) (g : Grammar) (a : Accepted bs g) (lent : Lent) (stream
 -- ---- the claim
 
 pub every-list-of-calls : EveryListOfCalls
-every-list-of-calls program bs g m₀ ts us isOver r m a h over =
+every-list-of-calls program bs g m₀ ts isOver r m a h =
     record {
-      moves = o .led .moves;
+      moves = o .leads .moves;
       unread = o .unread;
       config = o .config;
-      made = o .led .made;
-      counted = omega (arith, ap (λ z. z .moves) (o .isRecord), counted g (lentOf m₀) (o .led .made));
+      made = o .leads .made;
+      counted = omega (arith, ap (λ z. z .moves) (o .isRecord), counted g (lentOf m₀) (o .leads .made [] (λ e. refl)));
       isRecord = o .isRecord;
       isStacks = o .isStacks;
       allRead = o .allRead;
-      pictured = λ t k f. pictured t (picture-always program bs g m₀ ts us isOver r m t a h k f over) k;
-      each = passed bs g a (lentOf m₀) (ts ++ us) (o .led .made);
+      pictured = λ us b t k f. pictured us b t (picture-always program bs g m₀ ts us isOver r m t a h k f b) k;
+      each = λ us b. passed bs g a (lentOf m₀) (ts ++ us) (o .leads .made us b);
     }
   where
-    o : Ran g m₀ ts us r m
-    o = ran g (accepted-well-formed bs g a) m₀ ts us isOver r m (by-grammar program bs g a h) over
+    o : Ran g m₀ ts isOver r m
+    o = ran g (accepted-well-formed bs g a) m₀ ts isOver r m (by-grammar program bs g a h)
 
     -- as many tokens are read as were fed
-    behind : (read : List ℕ) → ts ++ us ≡ read ++ o .unread → length read ≡ length ts → o .unread ≡ us
-    behind read e n = sym (drop-at read (o .unread) (length ts) n) ∙ (ap (drop (length ts)) (sym e) ∙ drop-at ts us (length ts) refl)
+    none : (us read : List ℕ) → ts ++ us ≡ read ++ (o .unread ++ us) → length read ≡ length ts → o .unread ≡ []
+    none us read e n = no-elements (o .unread) (omega (arith, n, ap length e, length-append ts us, length-append read (o .unread ++ us), length-append (o .unread) us))
 
-    pictured : (t : Tree) → (r ≡ drawnRecord g t (length ts) isOver) × (m ≡ drawnStacks g t (length ts) isOver m₀) → TreeOf g (ts ++ us) t → Pictured g m₀ t ts us isOver r m (o .led .moves) (o .unread)
-    pictured t d k =
+    pictured : (us : List ℕ) → MayCome isOver us → (t : Tree) → (r ≡ drawnRecord g t (length ts) isOver) × (m ≡ drawnStacks g t (length ts) isOver m₀) → TreeOf g (ts ++ us) t → Pictured g m₀ t ts isOver r m (o .leads .moves) (o .unread)
+    pictured us b t d k =
         let here : recordOf (r .isOpen) (o .config) ≡ drawnRecord g t (length ts) isOver = sym (o .isRecord) ∙ d .0 in
-        let made = accepted-made bs g a (lentOf m₀) (ts ++ us) (o .led .made) in
+        let made = accepted-made bs g a (lentOf m₀) (ts ++ us) (o .leads .made us b) in
         record {
           isRecord = d .0;
           isStacks = d .1;
-          isWalk = moves-drawn bs g a (lentOf m₀) (ts ++ us) t k (length ts) isOver (o .led .made) (ap (λ z. z .moves) here);
-          isRead = behind (made .read) (made .split) (made .shows .tokens ∙ ap (λ z. z .tokens) here);
+          isWalk = moves-drawn bs g a (lentOf m₀) (ts ++ us) t k (length ts) isOver (o .leads .made us b) (ap (λ z. z .moves) here);
+          isRead = none us (made .read) (made .split) (made .shows .tokens ∙ ap (λ z. z .tokens) here);
         }
 
 -- ---- the claim gives its parts back
 
 picture-again : EveryListOfCalls → PictureAlways
-picture-again claim program bs g m₀ ts us isOver r m t a h k f over = let p = claim program bs g m₀ ts us isOver r m a h over .pictured t k f in (p .isRecord, p .isStacks)
+picture-again claim program bs g m₀ ts us isOver r m t a h k f over = let p = claim program bs g m₀ ts isOver r m a h .pictured us over t k f in (p .isRecord, p .isStacks)
 
 walk-again : EveryListOfCalls → WalkAlways
 walk-again claim program bs g m₀ ts us isOver r m t a h k f over =
-    let l = claim program bs g m₀ ts us isOver r m a h over in
-    let p = l .pictured t k f in
-    (l .config, subst (λ z. Makes g (lentOf m₀) (ts ++ us) (opening g) (drawnMoves g t (length ts) isOver) z (l .config)) (p .isRead) (subst (λ z. Makes g (lentOf m₀) (ts ++ us) (opening g) z (l .unread) (l .config)) (p .isWalk) (l .made)), l .isRecord, l .isStacks)
+    let l = claim program bs g m₀ ts isOver r m a h in
+    let p = l .pictured us over t k f in
+    (l .config, subst₂ (λ x y. Makes g (lentOf m₀) (ts ++ us) (opening g) x (y ++ us) (l .config)) (p .isWalk) (p .isRead) (l .made us over), l .isRecord, l .isStacks)

@@ -15,7 +15,6 @@ use Rattle.meaning.specs.Statements.{Reached, ReachedAlways}
 use Rattle.theory_table.specs.AcceptedTable.{accepted-well-formed}
 use Rattle.theory_answers.specs.Bounds.{counts}
 use Rattle.theory_sound.specs.Histories.{Run, runs}
-use Rattle.theory_answers.specs.Runs.{Led}
 use Rattle.theory_demands.specs.ByGrammar.{by-grammar}
 
 -- ---- the counter counts the moves
@@ -36,8 +35,9 @@ reached-always program bs g m₀ ts isOver r m a h = go (runs g (accepted-well-f
 
     go : Run g m₀ ts r m → Reached g m₀ ts r m
     go (inl o) =
-        let l = subst (λ z. Led g (lentOf m₀) z (opening g) [] (o .config)) (append-nil ts) (o .leads []) in
-        record { moves = l .moves; unread = []; config = o .config; made = l .made; counted = count (l .made) ∙ sym (ap (λ z. z .moves) (o .isRecord)); isRecord = o .isRecord ∙ ap (λ b. recordOf b (o .config)) (sym (ap (λ z. z .isOpen) (o .isRecord))); isStacks = o .isStacks; allRead = λ e. refl }
+        let ws : List Act = o .leads .moves in
+        let one : Makes g (lentOf m₀) ts (opening g) ws [] (o .config) = subst (λ z. Makes g (lentOf m₀) z (opening g) ws [] (o .config)) (append-nil ts) (o .leads .made [] tt) in
+        record { moves = ws; unread = []; config = o .config; made = one; counted = count one ∙ sym (ap (λ z. z .moves) (o .isRecord)); isRecord = o .isRecord ∙ ap (λ b. recordOf b (o .config)) (sym (ap (λ z. z .isOpen) (o .isRecord))); isStacks = o .isStacks; openRun = λ e. ((λ us. o .leads .made us tt), o .stop .1) }
     go (inr o) =
         let isClosed : r .isOpen ≡ false = ap (λ z. z .isOpen) (o .isRecord) in
-        record { moves = o .led .moves; unread = o .unread; config = o .config; made = o .led .made; counted = count (o .led .made) ∙ sym (ap (λ z. z .moves) (o .isRecord)); isRecord = o .isRecord ∙ ap (λ b. recordOf b (o .config)) (sym isClosed); isStacks = o .isStacks; allRead = λ e. absurd (subst T (sym e ∙ isClosed) tt) }
+        record { moves = o .led .moves; unread = o .unread; config = o .config; made = o .led .made; counted = count (o .led .made) ∙ sym (ap (λ z. z .moves) (o .isRecord)); isRecord = o .isRecord ∙ ap (λ b. recordOf b (o .config)) (sym isClosed); isStacks = o .isStacks; openRun = λ e. absurd (subst T (sym e ∙ isClosed) tt) }
