@@ -74,14 +74,17 @@ BadState =
     → (r .isOpen ≡ false → performs program bs area r m c ≡ leaves (refused 33 0) r m (written (program g) area))
     × (r .isOpen ≡ true → (Fit g r m → ⊥) → performs program bs area r m c ≡ leaves (refused 34 0) r m (written (program g) area))
 
--- an opening under an accepted table: 31 where the start symbol's results have no room, then 32 where no place is lent; otherwise "it gives what it is for"
-abbrev pub Opening : Type 0
-Opening =
+-- an opening under an accepted table: 31 where the start symbol's results have no room, then 32 where no place is lent; otherwise it "gives what it is for". (Said of any engine, as the moves below: so it can be shown which engines it excludes)
+abbrev pub OpeningOf : ((Grammar → List ℕ) → List ℕ → List ℕ → Stacks → Effect) → Type 0
+OpeningOf engine =
     (program : Grammar → List ℕ) (bs area : List ℕ) (g : Grammar) (m : Stacks) → areaLength ≤ length area → Accepted bs g
-    → (lentOf m .maxRegisters < syn g (nonterminal (g .start)) → opens program bs area m ≡ leaves (refused 31 0) closedRecord m (written (program g) area))
-    × (syn g (nonterminal (g .start)) ≤ lentOf m .maxRegisters → lentOf m .maxPlaces < 1 → opens program bs area m ≡ leaves (refused 32 0) closedRecord m (written (program g) area))
+    → (lentOf m .maxRegisters < syn g (nonterminal (g .start)) → engine program bs area m ≡ leaves (refused 31 0) closedRecord m (written (program g) area))
+    × (syn g (nonterminal (g .start)) ≤ lentOf m .maxRegisters → lentOf m .maxPlaces < 1 → engine program bs area m ≡ leaves (refused 32 0) closedRecord m (written (program g) area))
     × (syn g (nonterminal (g .start)) ≤ lentOf m .maxRegisters → 1 ≤ lentOf m .maxPlaces
-        → opens program bs area m ≡ leaves (more 0) (recordOf true (opening g)) (layAll g (opening g) m) (written (program g) area))
+        → engine program bs area m ≡ leaves (more 0) (recordOf true (opening g)) (layAll g (opening g) m) (written (program g) area))
+
+abbrev pub Opening : Type 0
+Opening = OpeningOf opens
 
 -- 34 is the declarative one
 abbrev pub FitExactly : Type 0
@@ -151,10 +154,13 @@ pub record MovesTo (program : Grammar → List ℕ) (area : List ℕ) (g : Gramm
   -- what a call leaves open, the next call reads back
   pub readBack : staysOpen (e .answer) ≡ true → Fit g (e .state) (e .stacks) × (configOf g (e .state) (e .stacks) ≡ to)
 
-abbrev pub CallsMove : Type 0
-CallsMove =
+abbrev pub CallsMoveOf : ((Grammar → List ℕ) → List ℕ → List ℕ → Record → Stacks → Call → Effect) → Type 0
+CallsMoveOf engine =
     (program : Grammar → List ℕ) (bs area : List ℕ) (g : Grammar) (r : Record) (m : Stacks) (c : Call) → Met bs g area r m
-    → MovesTo program area g m (configOf g r m) c (performs program bs area r m c)
+    → MovesTo program area g m (configOf g r m) c (engine program bs area r m c)
+
+abbrev pub CallsMove : Type 0
+CallsMove = CallsMoveOf performs
 
 -- ==== these are all: "each call gives what it is for, or exactly one numbered refusal"
 

@@ -20,7 +20,7 @@ use Rattle.meaning.specs.Drawn.{drawnRecord, drawnStacks, drawnMoves}
 use Rattle.meaning.specs.Statements.{PictureAlways, WalkAlways}
 use Rattle.meaning.specs.Claim.{Passed, MayCome, Pictured, EveryListOfCalls}
 use Rattle.theory_base.specs.Members.{no-elements}
-use Rattle.theory_base.specs.Counted as ByGrammar
+use Rattle.theory_base.specs.CallsUnder as Under
 use Rattle.theory_table.specs.AcceptedTable.{accepted-well-formed}
 use Rattle.theory_answers.specs.Memory.{lay-over}
 use Rattle.theory_answers.specs.Runs.{Leads, Anything, Fed, fed}
@@ -86,14 +86,14 @@ module _ (g : Grammar) (w : WellFormed g) (m₀ : Stacks) where
         allRead = λ q. absurd (subst T (sym q ∙ isClosed) tt);
       }
 
-  ran : (ts : List ℕ) (isOver : Bool) (r : Record) (m : Stacks) → ByGrammar.History g m₀ ts isOver r m → Ran g m₀ ts isOver r m
-  ran ts isOver r m (ByGrammar.opened e) = while-open [] false _ _ (open-run g w m₀ e)
-  ran ts isOver r m (ByGrammar.fed {ts = ts′} {r = r′} {m = m′} vs h o) = go (runs g w m₀ ts′ false r′ m′ h)
+  ran : (ts : List ℕ) (isOver : Bool) (r : Record) (m : Stacks) → Under.CallsUnder g m₀ ts isOver r m → Ran g m₀ ts isOver r m
+  ran ts isOver r m (Under.opened e) = while-open [] false _ _ (open-run g w m₀ e)
+  ran ts isOver r m (Under.fed {ts = ts′} {r = r′} {m = m′} vs h o) = go (runs g w m₀ ts′ false r′ m′ h)
     where
       go : Run g m₀ ts′ r′ m′ → Ran g m₀ (ts′ ++ vs) false (feedOf g r′ m′ vs .state) (feedOf g r′ m′ vs .stacks)
       go (inl b) = after-feed ts′ vs false r′ m′ b
       go (inr b) = absurd (subst T (sym o ∙ ap (λ z. z .isOpen) (b .isRecord)) tt)
-  ran ts isOver r m (ByGrammar.finished h o) = after-finish ts r m (runs g w m₀ ts true r m (ByGrammar.finished h o))
+  ran ts isOver r m (Under.finished h o) = after-finish ts r m (runs g w m₀ ts true r m (Under.finished h o))
 
 -- ---- the first of its moves
 
