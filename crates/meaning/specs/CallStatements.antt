@@ -147,6 +147,8 @@ pub record MovesTo (program : Grammar → List ℕ) (area : List ℕ) (g : Gramm
   pub to : Config
   -- no move of a feed looks past its tokens
   pub made : (us : List ℕ) → Follows call us → Makes g (lentOf m) (tokensOf call ++ us) c moves (left ++ us) to
+  -- 01: "35 a token after 65,535"
+  pub few : to .tokens ≤ tokensLimit
   pub says : Says g (lentOf m) call c moves left to (e .answer)
   pub isRecord : e .state ≡ recordOf (staysOpen (e .answer)) to
   pub isStacks : e .stacks ≡ layAll g to m

@@ -112,7 +112,7 @@ module _ (g : Grammar) (wf : WellFormed g) (r : Record) (m : Stacks) (f : Fit g 
   feed-leads ts = fed g (lentOf m) (configOf g r m) ts [] (configOf g r m) start fits-wait (f .tokens)
 
   pub finish-leads : Finished g (lentOf m) (configOf g r m) [] (finishAll g (lentOf m) (configOf g r m))
-  finish-leads = finished g (lentOf m) (configOf g r m) [] (configOf g r m) start
+  finish-leads = finished g (lentOf m) (configOf g r m) [] (configOf g r m) start (f .tokens)
 
 -- ---- 01's numbers
 
@@ -250,12 +250,12 @@ module _ (program : Grammar → List ℕ) (bs area : List ℕ) (g : Grammar) (r 
       let l = fed-led g wf r m (met .fits) ts [] e (v .0) in
       let s = at-stop g wf (e .frames) (e .registers) (led-shaped g wf r m (met .fits) ts [] e l) (v .1) in
       let w = led-within g wf r m (met .fits) ts [] e l in
-      record { moves = v .0 .moves; left = []; to = e; made = v .0 .made; says = (refl, v .1, refl); isRecord = refl; isStacks = refl; isArea = refl; readBack = λ z. (laid-fits g true e m s w (v .2), read-back g true e m s w) }
-  fed-to ts (failed e k) v = record { moves = v .1 .moves; left = v .0; to = e; made = v .1 .made; says = (refl, v .4); isRecord = refl; isStacks = refl; isArea = refl; readBack = λ z. absurd (subst T (sym z) tt) }
+      record { moves = v .0 .moves; left = []; to = e; made = v .0 .made; few = v .2; says = (refl, v .1, refl); isRecord = refl; isStacks = refl; isArea = refl; readBack = λ z. (laid-fits g true e m s w (v .2), read-back g true e m s w) }
+  fed-to ts (failed e k) v = record { moves = v .1 .moves; left = v .0; to = e; made = v .1 .made; few = v .2; says = (refl, v .4); isRecord = refl; isStacks = refl; isArea = refl; readBack = λ z. absurd (subst T (sym z) tt) }
 
   finished-to : (o : Settled) → Finished g (lentOf m) (configOf g r m) [] o → To finish (effect (afterFinish g m o) (written (program g) area))
-  finished-to (stopped e) v = record { moves = v .0 .moves; left = []; to = e; made = v .0 .made; says = (v .1, refl, refl); isRecord = refl; isStacks = refl; isArea = refl; readBack = λ z. absurd (subst T (sym z) tt) }
-  finished-to (failed e k) v = record { moves = v .0 .moves; left = []; to = e; made = v .0 .made; says = (refl, v .2); isRecord = refl; isStacks = refl; isArea = refl; readBack = λ z. absurd (subst T (sym z) tt) }
+  finished-to (stopped e) v = record { moves = v .0 .moves; left = []; to = e; made = v .0 .made; few = v .2; says = (v .1, refl, refl); isRecord = refl; isStacks = refl; isArea = refl; readBack = λ z. absurd (subst T (sym z) tt) }
+  finished-to (failed e k) v = record { moves = v .0 .moves; left = []; to = e; made = v .0 .made; few = v .3; says = (refl, v .2); isRecord = refl; isStacks = refl; isArea = refl; readBack = λ z. absurd (subst T (sym z) tt) }
 
   made-to : (c : Call) → To c (effect (made g r m c) (written (program g) area))
   made-to (feed ts) = fed-to ts (feedAll g (lentOf m) ts (configOf g r m)) (feed-leads g wf r m (met .fits) ts)

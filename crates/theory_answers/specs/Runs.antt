@@ -241,16 +241,17 @@ module _ (g : Grammar) (lent : Lent) (c₀ : Config) where
   -- ---- a finish
 
   abbrev pub Finished : List ℕ → Settled → Type 0
-  Finished us (stopped e) = Leads g lent Nothing us c₀ [] e × T (isFinished e)
-  Finished us (failed e k) = (s : Leads g lent Nothing us c₀ [] e) × Blocks over e k × Refuses g lent Nothing us c₀ (s .moves) [] e k
+  Finished us (stopped e) = Leads g lent Nothing us c₀ [] e × T (isFinished e) × (e .tokens ≤ tokensLimit)
+  Finished us (failed e k) = (s : Leads g lent Nothing us c₀ [] e) × Blocks over e k × Refuses g lent Nothing us c₀ (s .moves) [] e k × (e .tokens ≤ tokensLimit)
 
-  pub finished : (read : List ℕ) (c : Config) → Leads g lent Anything read c₀ [] c → Finished read (finishAll g lent c)
-  finished read c s = go (finishAll g lent c) (advanced-from g lent Nothing read c₀ over (λ us b. b) c (record { left = []; leads = with-end g lent read c₀ [] c s; coming = (refl, refl) }))
+  pub finished : (read : List ℕ) (c : Config) → Leads g lent Anything read c₀ [] c → c .tokens ≤ tokensLimit → Finished read (finishAll g lent c)
+  finished read c s m = go (finishAll g lent c) (advanced-from g lent Nothing read c₀ over (λ us b. b) c (record { left = []; leads = with-end g lent read c₀ [] c s; coming = (refl, refl) }))
     where
       go : (o : Settled) → Advanced g lent Nothing read c₀ over (c .tokens) o → Finished read o
-      go (stopped e) v = (subst (λ z. Leads g lent Nothing read c₀ z e) (v .0 .coming .0) (v .0 .leads), v .2)
+      go (stopped e) v = (subst (λ z. Leads g lent Nothing read c₀ z e) (v .0 .coming .0) (v .0 .leads), v .2, omega (arith, v .0 .coming .1))
       go (failed e k) v =
           let r = v .0 in
           let none : LetThrough g (r .left) e = λ t us q. absurd (omega (arith, ap length (sym (r .coming .0) ∙ q))) in
           let by : Refuses g lent Nothing read c₀ (r .leads .moves) (r .left) e k = atMove (λ us b. same-look g lent Nothing over (c .tokens) (r .left) e (λ x y. y) (r .coming) (v .2) us b ∙ v .1) (inl none) in
-          subst (λ z. (a : Leads g lent Nothing read c₀ z e) × Blocks over e k × Refuses g lent Nothing read c₀ (a .moves) z e k) (r .coming .0) (r .leads, blocks g lent over e k (v .1), by)
+          let few : e .tokens ≤ tokensLimit = omega (arith, r .coming .1) in
+          subst (λ z. (a : Leads g lent Nothing read c₀ z e) × Blocks over e k × Refuses g lent Nothing read c₀ (a .moves) z e k × (e .tokens ≤ tokensLimit)) (r .coming .0) (r .leads, blocks g lent over e k (v .1), by, few)
