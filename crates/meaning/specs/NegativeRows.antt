@@ -1,23 +1,23 @@
 -- What is not so: parts, selectors, returns, stretches and schemes that are wrong in one thing. The theorems say that every run has these; the rows keep what is said from saying less.
 use Prim.Native.Nat.{ℕ, _+_}
 use native.Mathlib.Omega.{arith}
-use mathlib.Core.Path.{_≡_, refl, sym, ap, _∙_}
+use mathlib.Core.Path.{_≡_, refl, sym, ap}
 use mathlib.Core.Logic.{inl, inr}
 use mathlib.Core.List.{List, [], _∷_, _++_}
 use lib.ListN.{getD, length, length-append}
 use lib.IntN.{ℤ, pos, negsuc}
 use lib.Dec.{lit<, lit≤}
-use Rattle.meaning.specs.Grammar.{Grammar, Symbol, terminal, nonterminal, const, copy, sum, diff, Rule, range, atmost, Condition, whole}
+use Rattle.meaning.specs.Grammar.{Symbol, terminal, nonterminal, const, copy, sum, range, atmost, whole}
 use Rattle.meaning.specs.Scheme.{Instruction, evaluate, remove, test}
 use Rattle.meaning.specs.Machine.{Config}
 use Rattle.meaning.specs.Tree.{Tree, leaf, node, noTrees, treeAnd, values, child}
-use Rattle.meaning.specs.Part.{Point, fresh, added, valued, left, closing, Ancestor, Part, config, childrenOf, Handed, Results, Tested, Stands, Front, Good, Begins, Reaches, PartOf}
+use Rattle.meaning.specs.Part.{fresh, added, valued, left, closing, Ancestor, config, childrenOf, Handed, Results, Tested, Stands, Good, PartOf}
 use Rattle.meaning.specs.Selectors.{partAt, Finds, Found, SelectorsFind}
 use Rattle.meaning.specs.CallStatements.{Handles}
 use Rattle.meaning.specs.Statements.{Returned}
 use Rattle.meaning.specs.Words.{occ, rule}
 use Rattle.meaning.specs.SchemeRows.{wide, wide1}
-use Rattle.meaning.specs.WalkRows.{wideTree, wideSegment, wide-tree}
+use Rattle.meaning.specs.WalkRows.{wideTree, wide-tree}
 use Rattle.meaning.specs.CallRows.{m}
 use Rattle.meaning.specs.PartRows.{open-node, waits-at, X, Y, y1, x3, y4, in-X, last-added}
 
@@ -95,15 +95,15 @@ good-not-rule q = omega (arith, ap number (q .node .0 .rules (rule (occ 1 1) (su
 stands-other-value : Stands wide 1 (pos 3 ∷ pos 5 ∷ []) under-X → ⊥
 stands-other-value s = omega (arith, ap number (s .2 .1 .2 .rules (rule (occ 1 2) (const (pos 4))) (inr (inl refl)) refl))
 
-stands-other-symbol : Stands wide 1 (pos 3 ∷ pos 4 ∷ []) (waits-at (open-node 0 [] []) Y [] ∷ waits-at (open-node whole [] []) (nonterminal 0) [] ∷ []) → ⊥
+stands-other-symbol : Stands wide 3 (pos 3 ∷ pos 4 ∷ []) under-X → ⊥
 stands-other-symbol s = omega (arith, ap symbolNumber (s .1))
 
 stands-on-nothing : Stands wide 0 [] [] → ⊥
 stands-on-nothing s = omega (arith, s .0)
 
 -- an ancestor farther down is held in the same way
-stands-deeper : Stands wide 1 (pos 3 ∷ pos 4 ∷ []) (waits-at (open-node 0 [] []) X [] ∷ waits-at (open-node whole [] []) X [] ∷ []) → ⊥
-stands-deeper s = omega (arith, ap symbolNumber (s .3 .1))
+stands-deeper : Stands wide 1 (pos 3 ∷ pos 4 ∷ []) (waits-at (open-node 0 [] []) X [] ∷ []) → ⊥
+stands-deeper s = stands-on-nothing (s .3)
 
 good-not-value : Good wide (partAt (open-node 1 (pos 3 ∷ pos 5 ∷ []) []) (fresh (Y ∷ terminal 0 ∷ X ∷ Y ∷ [])) under-X) → ⊥
 good-not-value q = stands-other-value (q .stands)

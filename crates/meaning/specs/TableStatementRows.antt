@@ -1,13 +1,13 @@
 -- A stretch in its place, and what is not a production's stretch; grammars that do not have the same scheme.
 use Prim.Native.Nat.{ℕ, _≤_}
 use native.Mathlib.Omega.{arith}
-use mathlib.Core.Path.{_≡_, refl, ap}
+use mathlib.Core.Path.{refl, ap}
 use mathlib.Core.List.{List, [], _∷_, _++_}
 use mathlib.Core.Bool.{Bool, true, false}
 use lib.ListN.{getD, length, length-append}
 use lib.IntN.{ℤ, pos, negsuc}
 use lib.Dec.{lit<}
-use Rattle.meaning.specs.Grammar.{Grammar, Production, Occurrence, Function, terminal, nonterminal, const, copy, sum, diff, prod, maxi, mini, addc, quot, Rule, Condition, range, atmost}
+use Rattle.meaning.specs.Grammar.{Grammar, Symbol, Production, Occurrence, Function, terminal, nonterminal, const, copy, sum, diff, prod, maxi, mini, addc, quot, Rule, Condition, range, atmost}
 use Rattle.meaning.specs.Layout as Layout
 use Rattle.meaning.specs.Layout.{field, ruleBytes, conditionBytes, RulesAndConditions, nothing, condition, production}
 use Rattle.meaning.specs.Scheme.{Instruction, add, evaluate, expect, test, remove}
@@ -110,14 +110,17 @@ other-tests s = omega (arith, ap bound (s .tests))
 other-instructions : SameProduction words others 2 → ⊥
 other-instructions s = omega (arith, ap constantIn (s .instructions))
 
--- list to nothing in the place of list to word list: another left side, other symbols, other sets
-abbrev emptyFirst : Grammar
-emptyFirst = record { terminals = 3; counts = words .counts; start = 0; result = 1; productions = p0 ∷ p3 ∷ [] }
+-- another left side; list to nothing in the place of list to word list; list to open list in its place
+abbrev with-two : Production → Production → Grammar
+with-two p q = record { terminals = 3; counts = words .counts; start = 0; result = 1; productions = p ∷ q ∷ [] }
 
-other-left : SameProduction words (record { terminals = 3; counts = words .counts; start = 0; result = 1; productions = p1 ∷ [] }) 0 → ⊥
+abbrev bare : ℕ → List Symbol → Production
+bare n xs = record { left = n; right = xs; rules = []; conditions = [] }
+
+other-left : SameProduction words (with-two (bare 1 (nonterminal 1 ∷ [])) p1) 0 → ⊥
 other-left s = omega (arith, s .left)
 
-other-symbols : SameProduction words emptyFirst 1 → ⊥
+other-symbols : SameProduction words (with-two p0 p3) 1 → ⊥
 other-symbols s = omega (arith, s .symbols)
 
 abbrev told : Bool → ℕ
@@ -125,5 +128,5 @@ told true = 1
 told false = 0
 
 -- where a word comes next
-other-sets : SameProduction words emptyFirst 1 → ⊥
+other-sets : SameProduction words (with-two p0 (bare 1 (terminal 1 ∷ nonterminal 1 ∷ []))) 1 → ⊥
 other-sets s = omega (arith, ap told (s .entered 0 (lit< tt)))

@@ -1,5 +1,5 @@
 -- Demand 3 as one claim: what holds after a list of calls, whatever tokens are still to come.
-use Prim.Native.Nat.{ℕ, _+_, _≤_}
+use Prim.Native.Nat.{ℕ, _≤_}
 use native.Mathlib.Omega.{arith}
 use native.Mathlib.Decide.{decLe}
 use mathlib.Core.Path.{_≡_, refl, sym, ap, ap₂, _∙_, subst, subst₂}
@@ -16,7 +16,7 @@ use Rattle.meaning.specs.Machine.{Config, Lent, Settled, stopped, failed, openi
 use Rattle.meaning.specs.Tree.{Tree, TreeOf}
 use Rattle.meaning.specs.Walk.{Act, actBy, Makes, nothing, andThen}
 use Rattle.meaning.specs.Calls.{Record, Stacks, lentOf, recordOf, layAll, afterFeed, feedOf}
-use Rattle.meaning.specs.Drawn.{drawnRecord, drawnStacks, drawnMoves}
+use Rattle.meaning.specs.Drawn.{drawnRecord, drawnStacks}
 use Rattle.meaning.specs.Statements.{PictureAlways, WalkAlways}
 use Rattle.meaning.specs.Claim.{Passed, MayCome, Pictured, EveryListOfCalls}
 use Rattle.theory_base.specs.Members.{no-elements}

@@ -1,10 +1,9 @@
 -- The stretch of a production, for every list of bytes and every number.
 use Prim.Native.Nat.{ℕ, zero, suc, _+_, _-_, _*_, _≤_, _<_}
 use native.Mathlib.Omega.{arith}
-use native.Mathlib.Decide.{decLt}
 use mathlib.Core.Path.{_≡_, refl, sym, ap, _∙_, subst}
 use mathlib.Core.Bool.{Bool, true, false}
-use mathlib.Core.List.{List, [], _∷_, _++_, map, reverse, append-assoc, append-nil}
+use mathlib.Core.List.{List, [], _++_, map, reverse, append-assoc}
 use lib.ListN.{length, getD, take, drop, length-append, length-map, length-reverse, List·getD-eq-default}
 use lib.Seq.{drop-drop, drop-append-seam, take-append-seam}
 use lib.Dec.{ltb, ltb→lt, lt→ltb, nltb→le}
@@ -13,8 +12,8 @@ use Rattle.meaning.specs.Layout as Layout
 use Rattle.meaning.specs.Layout.{field, headerBytes, countsFields, productionBytes, RulesAndConditions, Productions, Bytes}
 use Rattle.meaning.specs.Table.{State, Entry, Read, noEntry, wellFormed, malformed, readTable, productionOf, grammarOf}
 use Rattle.meaning.specs.Judgement.{Verdict, Accepted, Judged, rejected, entryOffset}
-use Rattle.meaning.specs.Decide.{judge, verdictOf}
-use Rattle.meaning.specs.PublicCalls.{Checked, usable, unusable, checkedAs, check, Stretch, cut, stretchEnd, stretchOf}
+use Rattle.meaning.specs.Decide.{judge}
+use Rattle.meaning.specs.PublicCalls.{Checked, usable, unusable, checkedAs, Stretch, cut, stretchEnd, stretchOf}
 use Rattle.meaning.specs.TableStatements.{StretchIn, stretch, StretchExactly}
 use Rattle.theory_table.specs.Stretches.{Stretches, nothing, stretch as stretched, first-offset, stretched-productions}
 use Rattle.theory_table.specs.ReadLaidOut.{read-stretches, read-front, read-length}
