@@ -25,7 +25,7 @@ use Rattle.machine.specs.declared.Run.{Run}
 use Rattle.machine.specs.Laid.{LaidIn}
 use Rattle.machine.specs.Ahead.{Ahead, ahead-next, ahead-place}
 use Rattle.machine.specs.Held.{Held, topFrame}
-use Rattle.fit.specs.Cut.{stacksOf}
+use Rattle.meaning.specs.PublicCalls.{stacksOf}
 
 -- ---- the top place
 

@@ -4,7 +4,7 @@ ghost use mathlib.Core.Path.{_≡_};
 ghost use lib.ListN.{length};
 ghost use Rattle.meaning.specs.Listing.{refusalLine};
 ghost use Rattle.meaning.specs.PublicCalls.{areaLength, joined, printed};
-ghost use Rattle.prepare.specs.Making.{madeOf};
+ghost use Rattle.meaning.specs.PublicCalls.{madeOf};
 ghost use Rattle.listing_text.specs.Cursors.{linesLeft};
 ghost use Rattle.listing_out.specs.Pages.{Shows, Onward};
 use libc::STDIN_FILENO;
