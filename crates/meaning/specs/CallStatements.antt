@@ -80,8 +80,7 @@ OpeningOf engine =
     (program : Grammar → List ℕ) (bs area : List ℕ) (g : Grammar) (m : Stacks) → areaLength ≤ length area → Accepted bs g
     → (lentOf m .maxRegisters < syn g (nonterminal (g .start)) → engine program bs area m ≡ leaves (refused 31 0) closedRecord m (written (program g) area))
     × (syn g (nonterminal (g .start)) ≤ lentOf m .maxRegisters → lentOf m .maxPlaces < 1 → engine program bs area m ≡ leaves (refused 32 0) closedRecord m (written (program g) area))
-    × (syn g (nonterminal (g .start)) ≤ lentOf m .maxRegisters → 1 ≤ lentOf m .maxPlaces
-        → engine program bs area m ≡ leaves (more 0) (recordOf true (opening g)) (layAll g (opening g) m) (written (program g) area))
+    × (syn g (nonterminal (g .start)) ≤ lentOf m .maxRegisters → 1 ≤ lentOf m .maxPlaces → engine program bs area m ≡ leaves (more 0) (recordOf true (opening g)) (layAll g (opening g) m) (written (program g) area))
 
 abbrev pub Opening : Type 0
 Opening = OpeningOf opens

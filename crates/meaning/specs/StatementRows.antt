@@ -6,7 +6,7 @@ use mathlib.Core.Bool.{true, false}
 use mathlib.Core.Logic.{inl, inr}
 use mathlib.Core.List.{List, [], _∷_, _++_, append-nil}
 use lib.ListN.{length, replicate, length-replicate}
-use lib.IntN.{ℤ, pos}
+use lib.IntN.{pos}
 use lib.Dec.{T, lit≤}
 use Rattle.meaning.specs.Grammar.{Grammar, token}
 use Rattle.meaning.specs.Judgement.{Accepted}
@@ -16,7 +16,7 @@ use Rattle.meaning.specs.Walk.{Act, Makes, nothing, andThen}
 use Rattle.meaning.specs.Calls.{Record, Stacks, Answer, more, value, refused, tableRefused, closedRecord, lentOf, configOf, result}
 use Rattle.meaning.specs.Fit.{Fit, segment}
 use Rattle.meaning.specs.PublicCalls.{Call, feed, finish, areaLength, Effect, performs}
-use Rattle.meaning.specs.CallStatements.{leaves, OpeningOf, Met, Refuses, tooMany, notToken, atMove, MovesTo, CallsMoveOf}
+use Rattle.meaning.specs.CallStatements.{leaves, OpeningOf, Refuses, tooMany, notToken, atMove, MovesTo, CallsMoveOf}
 use Rattle.meaning.specs.Statements.{History, opened, countsForNothing, fed, finished, Reached}
 use Rattle.meaning.specs.Words.{words}
 use Rattle.meaning.specs.TableRows.{bytes}
@@ -134,6 +134,10 @@ moves-missing : Answered (fresh 0 9) (feed []) (more 8)
 moves-missing r s ws x =
     let e = stuck words lent (3 ∷ []) (fresh 0 9) 21 refl (x .made (3 ∷ []) tt) in
     absurd (omega (arith, x .says .2, ap (λ z. z .moves) (e .2)))
+
+-- no more than 65,535 tokens are read
+one-too-many : Answered (fresh 65536 9) (feed []) (more 9)
+one-too-many r s ws x = absurd (omega (arith, x .few, ap (λ z. z .tokens) (stuck words lent (3 ∷ []) (fresh 65536 9) 21 refl (x .made (3 ∷ []) tt) .2)))
 
 -- the value is the result register's
 other-value : Answered (left4 9) finish (value (pos 5) 9)

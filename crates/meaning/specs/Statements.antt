@@ -67,12 +67,14 @@ GoesOn =
     → ((area : List ℕ) (c : Call) → areaLength ≤ length area → r .isOpen ≡ true → History program bs m₀ (ts ++ tokensOf c) (ends c) (performs program bs area r m c .state) (performs program bs area r m c .stacks))
     × ((other area : List ℕ) (c : Call) → ((h : Grammar) → Met other h area r m → ⊥) → History program bs m₀ ts isOver (performs program other area r m c .state) (performs program other area r m c .stacks))
 
--- ==== demand 2: "Under it a segment gets a value exactly when it has a well evaluated derivation tree with that value, its walk fits the lent stacks and it keeps to the limits. That tree is its only one."
+-- ==== demand 2: values
 
+-- "That tree is its only one."
 abbrev pub OnlyTree : Type 0
 OnlyTree = (bs : List ℕ) (g : Grammar) → Accepted bs g → (ts : List ℕ) (t u : Tree) → TreeOf g ts t → TreeOf g ts u → t ≡ u
 
--- a finish after any list of calls answers v with n moves exactly where the tokens fed have a well evaluated tree with value v whose walk, of n moves, fits
+-- "Under it a segment gets a value exactly when it has a well evaluated derivation tree with that value, its walk fits the lent stacks and it keeps to the limits."
+-- After any list of calls: a finish answers v with n moves exactly where the tokens fed have such a tree, with value v and a walk of n moves
 abbrev pub ValueAlways : Type 0
 ValueAlways =
     (program : Grammar → List ℕ) (bs area : List ℕ) (g : Grammar) (m₀ : Stacks) (ts : List ℕ) (r : Record) (m : Stacks) → Accepted bs g → areaLength ≤ length area
@@ -89,9 +91,9 @@ ValueWhole =
     (program : Grammar → List ℕ) (bs area : List ℕ) (g : Grammar) (m : Stacks) (ts : List ℕ) → Accepted bs g → areaLength ≤ length area → (v : ℤ) (n : ℕ)
     → (fedAndFinished program bs area ts (opens program bs area m) .answer ≡ value v n) ↔ ((t : Tree) × TreeOf g ts t × WalkFits g (lentOf m) t × (valueOf g t ≡ v) × (length (walk g t) ≡ n))
 
--- ==== demand 3: "For every list of calls from an opening, registers, places and record are exactly the picture that 01 draws from the tree; at each move, whatever the tokens, every selector finds the attribute it names; when a part is left, the registers below its results are those it was entered with."
+-- ==== demand 3
 
--- registers, places and record are the picture that 01 draws from the tree
+-- "For every list of calls from an opening, registers, places and record are exactly the picture that 01 draws from the tree"
 abbrev pub PictureAlways : Type 0
 PictureAlways =
     (program : Grammar → List ℕ) (bs : List ℕ) (g : Grammar) (m₀ : Stacks) (ts us : List ℕ) (isOver : Bool) (r : Record) (m : Stacks) (t : Tree)
@@ -122,7 +124,7 @@ WalkAlways =
     → TreeOf g (ts ++ us) t → WalkFits g (lentOf m₀) t → (isOver ≡ true → us ≡ [])
     → (c : Config) × Makes g (lentOf m₀) (ts ++ us) (opening g) (drawnMoves g t (length ts) isOver) us c × (r ≡ recordOf (r .isOpen) c) × (m ≡ layAll g c m₀)
 
--- at each move that the opening leads to, whatever the tokens, every selector finds the attribute it names
+-- "at each move, whatever the tokens, every selector finds the attribute it names": each move that the opening leads to
 abbrev pub SelectorsAlways : Type 0
 SelectorsAlways =
     (bs : List ℕ) (g : Grammar) → Accepted bs g → (lent : Lent) (ws : List Act) (ts us : List ℕ) (c : Config) → Makes g lent (ts ++ us) (opening g) ws us c
@@ -150,7 +152,7 @@ pub record Returned (g : Grammar) (x : Symbol) (c z : Config) : Type 0 where
   pub leaves : z .registers ≡ results ++ below
   pub resultsSize : length results ≡ syn g x
 
--- when a part is left, the registers below its results are those it was entered with
+-- "when a part is left, the registers below its results are those it was entered with"
 abbrev pub ReturnsAlways : Type 0
 ReturnsAlways =
     (bs : List ℕ) (g : Grammar) → Accepted bs g → (lent : Lent) (ws : List Act) (ts us : List ℕ) (c z : Config) → Makes g lent (ts ++ us) (opening g) ws us c

@@ -111,8 +111,8 @@ module _ (g : Grammar) (wf : WellFormed g) (r : Record) (m : Stacks) (f : Fit g 
   pub feed-leads : (ts : List ℕ) → Fed g (lentOf m) (configOf g r m) ts (feedAll g (lentOf m) ts (configOf g r m))
   feed-leads ts = fed g (lentOf m) (configOf g r m) ts [] (configOf g r m) start fits-wait (f .tokens)
 
-  pub finish-leads : Finished g (lentOf m) (configOf g r m) [] (finishAll g (lentOf m) (configOf g r m))
-  finish-leads = finished g (lentOf m) (configOf g r m) [] (configOf g r m) start (f .tokens)
+  pub finish-leads : Finished g (lentOf m) (configOf g r m) [] (r .tokens) (finishAll g (lentOf m) (configOf g r m))
+  finish-leads = finished g (lentOf m) (configOf g r m) [] (configOf g r m) start
 
 -- ---- 01's numbers
 
@@ -154,7 +154,7 @@ fit-answers g wf r m f (feed ts) = go (feedAll g (lentOf m) ts (configOf g r m))
     go (failed e k) v = feed-number e (v .3) ts (e .tokens)
 fit-answers g wf r m f finish = go (finishAll g (lentOf m) (configOf g r m)) (finish-leads g wf r m f)
   where
-    go : (o : Settled) → Finished g (lentOf m) (configOf g r m) [] o → T (callAnswer finish (afterFinish g m o .answer))
+    go : (o : Settled) → Finished g (lentOf m) (configOf g r m) [] (r .tokens) o → T (callAnswer finish (afterFinish g m o .answer))
     go (stopped e) v = result-ranged g wf e (led-shaped g wf r m f [] [] e (with-nothing g (lentOf m) [] (configOf g r m) [] e (v .0))) (v .1)
     go (failed e k) v = end-number e (v .1) (e .tokens)
 
@@ -213,7 +213,7 @@ fit-limits g wf r m f (feed ts) n = go (feedAll g (lentOf m) ts (configOf g r m)
     go (failed e k) v q = feed-limit e (v .3) (v .1 .few) (refused-is k (e .tokens) 35 n q)
 fit-limits g wf r m f finish n = go (finishAll g (lentOf m) (configOf g r m)) (finish-leads g wf r m f)
   where
-    go : (o : Settled) → Finished g (lentOf m) (configOf g r m) [] o → AtLimit n (afterFinish g m o .answer) (afterFinish g m o .state)
+    go : (o : Settled) → Finished g (lentOf m) (configOf g r m) [] (r .tokens) o → AtLimit n (afterFinish g m o .answer) (afterFinish g m o .state)
     go (stopped e) v q = absurd (let z : _≡_ {A = ℕ} 0 1 = cc in omega arith)
     go (failed e k) v q = inr (omega (arith, v .0 .few, move-limit over e (v .1) (refused-is k (e .tokens) 35 n q)))
 
@@ -253,9 +253,9 @@ module _ (program : Grammar → List ℕ) (bs area : List ℕ) (g : Grammar) (r 
       record { moves = v .0 .moves; left = []; to = e; made = v .0 .made; few = v .2; says = (refl, v .1, refl); isRecord = refl; isStacks = refl; isArea = refl; readBack = λ z. (laid-fits g true e m s w (v .2), read-back g true e m s w) }
   fed-to ts (failed e k) v = record { moves = v .1 .moves; left = v .0; to = e; made = v .1 .made; few = v .2; says = (refl, v .4); isRecord = refl; isStacks = refl; isArea = refl; readBack = λ z. absurd (subst T (sym z) tt) }
 
-  finished-to : (o : Settled) → Finished g (lentOf m) (configOf g r m) [] o → To finish (effect (afterFinish g m o) (written (program g) area))
-  finished-to (stopped e) v = record { moves = v .0 .moves; left = []; to = e; made = v .0 .made; few = v .2; says = (v .1, refl, refl); isRecord = refl; isStacks = refl; isArea = refl; readBack = λ z. absurd (subst T (sym z) tt) }
-  finished-to (failed e k) v = record { moves = v .0 .moves; left = []; to = e; made = v .0 .made; few = v .3; says = (refl, v .2); isRecord = refl; isStacks = refl; isArea = refl; readBack = λ z. absurd (subst T (sym z) tt) }
+  finished-to : (o : Settled) → Finished g (lentOf m) (configOf g r m) [] (r .tokens) o → To finish (effect (afterFinish g m o) (written (program g) area))
+  finished-to (stopped e) v = record { moves = v .0 .moves; left = []; to = e; made = v .0 .made; few = omega (arith, v .2, met .fits .tokens); says = (v .1, refl, refl); isRecord = refl; isStacks = refl; isArea = refl; readBack = λ z. absurd (subst T (sym z) tt) }
+  finished-to (failed e k) v = record { moves = v .0 .moves; left = []; to = e; made = v .0 .made; few = omega (arith, v .3, met .fits .tokens); says = (refl, v .2); isRecord = refl; isStacks = refl; isArea = refl; readBack = λ z. absurd (subst T (sym z) tt) }
 
   made-to : (c : Call) → To c (effect (made g r m c) (written (program g) area))
   made-to (feed ts) = fed-to ts (feedAll g (lentOf m) ts (configOf g r m)) (feed-leads g wf r m (met .fits) ts)

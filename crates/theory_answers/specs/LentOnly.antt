@@ -16,7 +16,7 @@ use Rattle.meaning.specs.Machine.{Config, Lent, Settled, stopped, failed, openi
 use Rattle.meaning.specs.Part.{config}
 use Rattle.meaning.specs.Calls.{Record, Stacks, Called, more, refused, tableRefused, closedRecord, asBrought, lentOf, lay, layAll, frameOf, configOf, recordOf, stacksFit, afterFeed, afterFinish, whenFit, openOf}
 use Rattle.meaning.specs.Fit.{WaitsAt, Left, Fit}
-use Rattle.meaning.specs.PublicCalls.{Checked, usable, unusable, check, Call, feed, finish, callOf, areaLength, written, Effect, effect, opens, performs}
+use Rattle.meaning.specs.PublicCalls.{Checked, usable, unusable, check, Call, feed, finish, callOf, areaLength, written, Effect, effect, opens}
 use Rattle.meaning.specs.CallStatements.{lentPart, pastLent, onLent, NeverRead, NeverWritten}
 use Rattle.theory_base.specs.Members.{T→true, no-elements}
 use Rattle.theory_answers.specs.FitTest.{fit-exactly}
@@ -82,7 +82,7 @@ module _ (g : Grammar) (wf : WellFormed g) (r : Record) (m : Stacks) (f : Fit g 
   finish-ends : Ends (lentOf m) (finishAll g (lentOf m) from)
   finish-ends = go (finishAll g (lentOf m) from) (finish-leads g wf r m f)
     where
-      go : (o : Settled) → Finished g (lentOf m) from [] o → Ends (lentOf m) o
+      go : (o : Settled) → Finished g (lentOf m) from [] (r .tokens) o → Ends (lentOf m) o
       go (stopped e) v = led-within g wf r m f [] [] e (with-nothing g (lentOf m) [] from [] e (v .0))
       go (failed e k) v = led-within g wf r m f [] [] e (with-nothing g (lentOf m) [] from [] e (v .0))
 
@@ -107,7 +107,8 @@ openWay g m a b = elim a as (λ z. Called) [
 
 -- whatever holds of each way an opening may go holds of the opening
 module _ (P : Effect → Type 0) (program : Grammar → List ℕ) (bs area : List ℕ) (m : Stacks) where
-  opens-cases : P (effect (asBrought (refused 30 0) closedRecord m) area) → ((n o : ℕ) → check bs ≡ unusable n o → P (effect (asBrought (tableRefused n o) closedRecord m) area)) → ((s : State) → check bs ≡ usable s → P (effect (openOf (grammarOf s) m) (written (program (grammarOf s)) area))) → P (opens program bs area m)
+  opens-cases : P (effect (asBrought (refused 30 0) closedRecord m) area) → ((n o : ℕ) → check bs ≡ unusable n o → P (effect (asBrought (tableRefused n o) closedRecord m) area))
+      → ((s : State) → check bs ≡ usable s → P (effect (openOf (grammarOf s) m) (written (program (grammarOf s)) area))) → P (opens program bs area m)
   opens-cases a b c = go (ltb (length area) areaLength) (check bs) refl
     where
       go : (x : Bool) (k : Checked) → check bs ≡ k → P (elim x as (λ z. Effect) [
@@ -127,9 +128,10 @@ open-past g m = go (ltb (lentOf m .maxRegisters) (length (opening g .registers))
     go false x false y = laid-past g (opening g) m (opening-within g m x y)
 
 pub never-written : NeverWritten
-never-written program bs area r m c =
-    (opens-cases (λ e. pastLent (e .stacks) ≡ pastLent m) program bs area m refl (λ n o e. refl) (λ s e. open-past (grammarOf s) m)
-    , by-cases (λ a u v. pastLent v ≡ pastLent m) program bs area r m c refl (λ n o t. refl) refl refl (λ s e f. made-past (grammarOf s) (checked-formed bs s e) r m f c))
+never-written program bs area r m c = (
+  opens-cases (λ e. pastLent (e .stacks) ≡ pastLent m) program bs area m refl (λ n o e. refl) (λ s e. open-past (grammarOf s) m),
+  by-cases (λ a u v. pastLent v ≡ pastLent m) program bs area r m c refl (λ n o t. refl) refl refl (λ s e f. made-past (grammarOf s) (checked-formed bs s e) r m f c),
+)
 
 -- ---- not read
 
@@ -254,6 +256,7 @@ module _ (program : Grammar → List ℕ) (bs area : List ℕ) (r : Record) (m n
   effect-same false (usable t) e = ap (λ z. effect z (written (program (grammarOf t)) area)) (alike t e)
 
 pub never-read : NeverRead
-never-read program bs area r m n c same =
-    (effect-same program bs area closedRecord m n same (λ g. openOf g m) (λ g. openOf g n) (λ s e. open-same m n same (grammarOf s)) (ltb (length area) areaLength) (check bs) refl
-    , effect-same program bs area r m n same (λ g. callOf g r m c) (λ g. callOf g r n c) (λ s e. call-same m n same (grammarOf s) r (checked-formed bs s e) c) (ltb (length area) areaLength) (check bs) refl)
+never-read program bs area r m n c same = (
+  effect-same program bs area closedRecord m n same (λ g. openOf g m) (λ g. openOf g n) (λ s e. open-same m n same (grammarOf s)) (ltb (length area) areaLength) (check bs) refl,
+  effect-same program bs area r m n same (λ g. callOf g r m c) (λ g. callOf g r n c) (λ s e. call-same m n same (grammarOf s) r (checked-formed bs s e) c) (ltb (length area) areaLength) (check bs) refl,
+)

@@ -161,7 +161,9 @@ module _ (g : Grammar) (lent : Lent) (Behind : List ℕ → Type 0) (us₀ : Lis
         ready false w (moved d) h = absurd (omega (arith, at-hand g lent l c d h .limit))
     advanced (suc left) c m s = ready (waits (c .frames) && isDone l n c) refl (next g lent l c) refl (λ d e t. advanced left d e t)
       where
-        ready : (b : Bool) → waits (c .frames) && isDone l n c ≡ b → (o : Outcome) → next g lent l c ≡ o → ((d : Config) → left + d .moves ≡ movesLimit → Going l n d → Advanced l n (advance left g lent l n d)) → Advanced l n (elim b [ true ↦ stopped c | false ↦ elim o [ blocked k ↦ failed c k | moved d ↦ advance left g lent l n d ] ])
+        ready : (b : Bool) → waits (c .frames) && isDone l n c ≡ b → (o : Outcome) → next g lent l c ≡ o
+            → ((d : Config) → left + d .moves ≡ movesLimit → Going l n d → Advanced l n (advance left g lent l n d))
+            → Advanced l n (elim b [ true ↦ stopped c | false ↦ elim o [ blocked k ↦ failed c k | moved d ↦ advance left g lent l n d ] ])
         ready true w o h ih = stops c s w
         ready false w (blocked k) h ih = (s, h, w)
         ready false w (moved d) h ih = ih d (omega (arith, counts g lent l c d h .moves)) (going-on c d s w h)
@@ -207,7 +209,10 @@ module _ (g : Grammar) (lent : Lent) (c₀ : Config) where
         where
           first : (u : ℕ) (us : List ℕ) → t ∷ ts ≡ u ∷ us → t ≡ u
           first u us q = cc
-      through e r x (inr v) = inr (idle t (c .tokens) e (v .1) x, record { read = read ++ (t ∷ []); split = sym (append-assoc read (t ∷ []) ts) ∙ ap (λ z. (read ++ (t ∷ [])) ++ (z ++ ts)) (sym (v .0)); made = λ us. subst (λ z. Makes g lent ((read ++ (t ∷ [])) ++ us) c₀ (r .leads .moves) (z ++ us) e) (v .0) (r .leads .made us tt) })
+      through e r x (inr v) =
+          let split : read ++ (t ∷ ts) ≡ (read ++ (t ∷ [])) ++ (r .left ++ ts) = sym (append-assoc read (t ∷ []) ts) ∙ ap (λ z. (read ++ (t ∷ [])) ++ (z ++ ts)) (sym (v .0)) in
+          let made : (us : List ℕ) → Makes g lent ((read ++ (t ∷ [])) ++ us) c₀ (r .leads .moves) us e = λ us. subst (λ z. Makes g lent ((read ++ (t ∷ [])) ++ us) c₀ (r .leads .moves) (z ++ us) e) (v .0) (r .leads .made us tt) in
+          inr (idle t (c .tokens) e (v .1) x, record { read = read ++ (t ∷ []); split = split; made = made })
 
       advances : (o : Settled) → Advanced g lent Anything (read ++ (t ∷ [])) c₀ (token t) (c .tokens) o → FedToken o
       advances (stopped e) v = (behind (v .0 .left) e (v .0 .leads) (v .0 .coming) (ltb→lt (c .tokens) (e .tokens) (v .2)), v .1, count (v .0 .left) (e .tokens) (v .0 .coming))
@@ -234,24 +239,25 @@ module _ (g : Grammar) (lent : Lent) (c₀ : Config) where
   fed [] read c s w m = (subst (λ z. Leads g lent Anything z c₀ [] c) (sym (append-nil read)) s, w, m)
   fed (t ∷ ts) read c s w m = then (λ d r v k. fed ts (read ++ (t ∷ [])) d r v k) (feedToken g lent t c) (fed-token read t ts c s w m)
     where
-      then : ((d : Config) → Leads g lent Anything (read ++ (t ∷ [])) c₀ [] d → T (waits (d .frames)) → d .tokens ≤ tokensLimit → Fed ((read ++ (t ∷ [])) ++ ts) (feedAll g lent ts d)) → (o : Settled) → FedToken read t ts c s w m o → Fed (read ++ (t ∷ ts)) (elim o [ failed d k ↦ failed d k | stopped d ↦ feedAll g lent ts d ])
+      then : ((d : Config) → Leads g lent Anything (read ++ (t ∷ [])) c₀ [] d → T (waits (d .frames)) → d .tokens ≤ tokensLimit → Fed ((read ++ (t ∷ [])) ++ ts) (feedAll g lent ts d))
+          → (o : Settled) → FedToken read t ts c s w m o → Fed (read ++ (t ∷ ts)) (elim o [ failed d k ↦ failed d k | stopped d ↦ feedAll g lent ts d ])
       then ih (failed d k) v = v
       then ih (stopped d) v = subst (λ z. Fed z (feedAll g lent ts d)) (append-assoc read (t ∷ []) ts) (ih d (v .0) (v .1) (v .2))
 
   -- ---- a finish
 
-  abbrev pub Finished : List ℕ → Settled → Type 0
-  Finished us (stopped e) = Leads g lent Nothing us c₀ [] e × T (isFinished e) × (e .tokens ≤ tokensLimit)
-  Finished us (failed e k) = (s : Leads g lent Nothing us c₀ [] e) × Blocks over e k × Refuses g lent Nothing us c₀ (s .moves) [] e k × (e .tokens ≤ tokensLimit)
+  -- after n tokens
+  abbrev pub Finished : List ℕ → ℕ → Settled → Type 0
+  Finished us n (stopped e) = Leads g lent Nothing us c₀ [] e × T (isFinished e) × (e .tokens ≡ n)
+  Finished us n (failed e k) = (s : Leads g lent Nothing us c₀ [] e) × Blocks over e k × Refuses g lent Nothing us c₀ (s .moves) [] e k × (e .tokens ≡ n)
 
-  pub finished : (read : List ℕ) (c : Config) → Leads g lent Anything read c₀ [] c → c .tokens ≤ tokensLimit → Finished read (finishAll g lent c)
-  finished read c s m = go (finishAll g lent c) (advanced-from g lent Nothing read c₀ over (λ us b. b) c (record { left = []; leads = with-end g lent read c₀ [] c s; coming = (refl, refl) }))
+  pub finished : (read : List ℕ) (c : Config) → Leads g lent Anything read c₀ [] c → Finished read (c .tokens) (finishAll g lent c)
+  finished read c s = go (finishAll g lent c) (advanced-from g lent Nothing read c₀ over (λ us b. b) c (record { left = []; leads = with-end g lent read c₀ [] c s; coming = (refl, refl) }))
     where
-      go : (o : Settled) → Advanced g lent Nothing read c₀ over (c .tokens) o → Finished read o
-      go (stopped e) v = (subst (λ z. Leads g lent Nothing read c₀ z e) (v .0 .coming .0) (v .0 .leads), v .2, omega (arith, v .0 .coming .1))
+      go : (o : Settled) → Advanced g lent Nothing read c₀ over (c .tokens) o → Finished read (c .tokens) o
+      go (stopped e) v = (subst (λ z. Leads g lent Nothing read c₀ z e) (v .0 .coming .0) (v .0 .leads), v .2, v .0 .coming .1)
       go (failed e k) v =
           let r = v .0 in
           let none : LetThrough g (r .left) e = λ t us q. absurd (omega (arith, ap length (sym (r .coming .0) ∙ q))) in
           let by : Refuses g lent Nothing read c₀ (r .leads .moves) (r .left) e k = atMove (λ us b. same-look g lent Nothing over (c .tokens) (r .left) e (λ x y. y) (r .coming) (v .2) us b ∙ v .1) (inl none) in
-          let few : e .tokens ≤ tokensLimit = omega (arith, r .coming .1) in
-          subst (λ z. (a : Leads g lent Nothing read c₀ z e) × Blocks over e k × Refuses g lent Nothing read c₀ (a .moves) z e k × (e .tokens ≤ tokensLimit)) (r .coming .0) (r .leads, blocks g lent over e k (v .1), by, few)
+          subst (λ z. (a : Leads g lent Nothing read c₀ z e) × Blocks over e k × Refuses g lent Nothing read c₀ (a .moves) z e k × (e .tokens ≡ c .tokens)) (r .coming .0) (r .leads, blocks g lent over e k (v .1), by, r .coming .1)

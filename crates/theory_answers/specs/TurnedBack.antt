@@ -13,8 +13,8 @@ use Rattle.meaning.specs.Decide.{judge, verdictOf}
 use Rattle.meaning.specs.Machine.{opening}
 use Rattle.meaning.specs.Calls.{Record, Stacks, Called, refused, closedRecord, asBrought, lentOf, stacksFit, openOf, whenFit}
 use Rattle.meaning.specs.Fit.{Fit}
-use Rattle.meaning.specs.PublicCalls.{Checked, usable, unusable, checkedAs, check, Call, feed, finish, callOf, areaLength, written, effect, called}
-use Rattle.meaning.specs.CallStatements.{ShortArea, BadTable, BadState, Opening, Met, Case, short, badTable, closed, unfit, met, whichCase, AllCases}
+use Rattle.meaning.specs.PublicCalls.{Checked, unusable, checkedAs, check, Call, feed, finish, callOf, areaLength, written, effect, called}
+use Rattle.meaning.specs.CallStatements.{ShortArea, BadTable, BadState, Opening, Case, short, badTable, closed, unfit, met, whichCase, AllCases}
 use Rattle.theory_sets.specs.Accepted.{judged-is, verdict→accepted, accepted→verdict}
 use Rattle.theory_answers.specs.Called.{called-is, long-enough}
 use Rattle.theory_answers.specs.FitTest.{fit-exactly}
@@ -90,10 +90,11 @@ bad-state program bs area g r m c l a =
 pub opening-is : Opening
 opening-is program bs area g m l a =
     let p = called-is program bs g a area l closedRecord m (λ h. openOf h m) in
-    let z : length (opening g .registers) ≡ syn g (nonterminal (g .start)) = length-replicate _ _ in
-    ((λ e. p ∙ ap (λ k. effect k (written (program g) area)) (let h = below (lentOf m .maxRegisters) (length (opening g .registers)) (omega (arith, z)) in rw (h, openOf)))
-    , (λ e f. p ∙ ap (λ k. effect k (written (program g) area)) (let h = above (lentOf m .maxRegisters) (length (opening g .registers)) (omega (arith, z)) in let i = below (lentOf m .maxPlaces) 1 f in rw (h, i, openOf)))
-    , (λ e f. p ∙ ap (λ k. effect k (written (program g) area)) (let h = above (lentOf m .maxRegisters) (length (opening g .registers)) (omega (arith, z)) in let i = above (lentOf m .maxPlaces) 1 f in rw (h, i, openOf))))
+    let z : length (opening g .registers) ≡ syn g (nonterminal (g .start)) = length-replicate _ _ in (
+      (λ e. p ∙ ap (λ k. effect k (written (program g) area)) (let h = below (lentOf m .maxRegisters) (length (opening g .registers)) (omega (arith, z)) in rw (h, openOf))),
+      (λ e f. p ∙ ap (λ k. effect k (written (program g) area)) (let h = above (lentOf m .maxRegisters) (length (opening g .registers)) (omega (arith, z)) in let i = below (lentOf m .maxPlaces) 1 f in rw (h, i, openOf))),
+      (λ e f. p ∙ ap (λ k. effect k (written (program g) area)) (let h = above (lentOf m .maxRegisters) (length (opening g .registers)) (omega (arith, z)) in let i = above (lentOf m .maxPlaces) 1 f in rw (h, i, openOf))),
+    )
 
 -- ---- all the cases
 
