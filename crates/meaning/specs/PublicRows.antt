@@ -129,8 +129,8 @@ program-short : madeOf [] (5 ∷ []) ≡ made (turned 30 0) (5 ∷ [])
 program-short = refl
 
 program-refused : (area : List ℕ) → Long area → madeOf (1 ∷ 0 ∷ []) area ≡ made (turned 2 0) area
-program-refused area h = rw h
+program-refused area h = rw (h, madeOf)
 
 program-written : (area : List ℕ) → Long area → madeOf bytes area ≡ made (programmed (length (programOf words))) (written (programOf words) area)
 unfolding bytes
-program-written area h = rw h
+program-written area h = rw (h, madeOf)
