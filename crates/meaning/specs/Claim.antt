@@ -57,7 +57,8 @@ pub record ListOfCalls (g : Grammar) (m₀ : Stacks) (ts : List ℕ) (isOver : B
   -- "at each move, whatever the tokens, every selector finds the attribute it names; when a part is left, the registers below its results are those it was entered with"
   pub each : (us : List ℕ) → MayCome isOver us → (first later : List Act) → moves ≡ first ++ later → Passed g (lentOf m₀) (ts ++ us) first
 
--- 01, demand 3: "For every list of calls from an opening, registers, places and record are exactly the picture that 01 draws from the tree; at each move, whatever the tokens, every selector finds the attribute it names; when a part is left, the registers below its results are those it was entered with."
+-- 01, demand 3: "For every list of calls from an opening, registers, places and record are exactly the picture that 01 draws from the tree;
+-- at each move, whatever the tokens, every selector finds the attribute it names; when a part is left, the registers below its results are those it was entered with."
 abbrev pub EveryListOfCalls : Type 0
 EveryListOfCalls =
     (program : Grammar → List ℕ) (bs : List ℕ) (g : Grammar) (m₀ : Stacks) (ts : List ℕ) (isOver : Bool) (r : Record) (m : Stacks)

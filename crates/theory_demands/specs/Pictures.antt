@@ -48,8 +48,7 @@ module _ (bs : List ℕ) (g : Grammar) (a : Accepted bs g) (m₀ : Stacks) (ts :
 pub value-always : ValueAlways
 value-always program bs area g m₀ ts r m a l h v n =
     let e = ap (λ z. z .answer) (performs-is program bs g a area r m finish l) in
-    let c = by-grammar program bs g a h in
-    (
+    let c = by-grammar program bs g a h in (
       (λ x. forth bs g a m₀ ts r m v n (runs g (accepted-well-formed bs g a) m₀ ts false r m c) (sym e ∙ x)),
       (λ x. e ∙ (valued bs g a m₀ ts r m (x .0) (x .2) c (x .1) ∙ ap₂ value (x .3) (x .4))),
     )

@@ -121,24 +121,37 @@ module _ {g h : Grammar} {ws : List ℕ} (b : Begins g ws) (c : Begins h ws) (w 
     same-word : (k x y : ℕ) → getD ws (recordAddress g p + k) 0 ≡ x → getD ws (recordAddress h p + k) 0 ≡ y → x ≡ y
     same-word k x y e f = sym e ∙ (ap (λ a. getD ws (a + 8 * p + k) 0) same-records ∙ f)
 
+    abbrev inG : Production
+    inG = productionAt g p
+
+    abbrev inH : Production
+    inH = productionAt h p
+
+    same-tests : length (entryTests g inG) ≡ length (entryTests h inH) → entryAddress g p ≡ entryAddress h p → entryTests g inG ≡ entryTests h inH
+    same-tests n e =
+        let there = subst (λ a. ConditionsAt ws a (entryTests h inH)) (sym e) (entry-at c v p listed) in
+        conditions-same (entryTests g inG) (entryTests h inH) n (entry-proper g w inG (production-in g w p l)) (entry-proper h v inH (production-in h v p listed)) (entry-at b w p l) there
+
+    same-instructions : schemeAddress g p ≡ schemeAddress h p → scheme g inG ≡ scheme h inH
+    same-instructions e =
+        let there = subst (λ a. CodeAt ws a (scheme h inH)) (sym e) (scheme-at c v p listed) in
+        code-same g h (scheme-ended g inG) (scheme-ended h inH) (scheme-proper g w inG (production-in g w p l)) (scheme-proper h v inH (production-in h v p listed)) (scheme-at b w p l) there
+
+    same-set : (u : ℕ) → u < 64 → has (starts g inG) u ≡ has (starts h inH) u
+    same-set u m =
+        let e = ap (λ a. getD ws (a + 8 * p + 2 + u / 32) 0 / 2 ^ (u % 32) % 2) same-records in
+        let x = set-word b w p l u m in
+        let y = set-word c v p listed u m in
+        same-truth (has (starts g inG) u) (has (starts h inH) u) (λ t. y .0 (sym e ∙ x .1 t)) (λ t. x .0 (e ∙ y .1 t))
+
     same-production : SameProduction g h p
     same-production =
         let r = record-words b w p l in
         let s = record-words c v p listed in
-        let tests : length (entryTests g (productionAt g p)) ≡ length (entryTests h (productionAt h p)) = same-word 5 _ _ (r .tests) (s .tests) in
+        let tests : length (entryTests g inG) ≡ length (entryTests h inH) = same-word 5 _ _ (r .tests) (s .tests) in
         let address : schemeAddress g p ≡ schemeAddress h p = same-word 6 _ _ (r .scheme) (s .scheme) in
         let entry : entryAddress g p ≡ entryAddress h p = entry-before g p ∙ (ap₂ (λ x y. x - 3 * y) address tests ∙ sym (entry-before h p)) in
-        record {
-          left = same-word 0 _ _ (r .left) (s .left);
-          symbols = same-word 7 _ _ (r .symbols) (s .symbols);
-          entered = λ u m.
-              let e = ap (λ a. getD ws (a + 8 * p + 2 + u / 32) 0 / 2 ^ (u % 32) % 2) same-records in
-              let x = set-word b w p l u m in
-              let y = set-word c v p listed u m in
-              same-truth (has (starts g (productionAt g p)) u) (has (starts h (productionAt h p)) u) (λ t. y .0 (sym e ∙ x .1 t)) (λ t. x .0 (e ∙ y .1 t));
-          tests = conditions-same (entryTests g (productionAt g p)) (entryTests h (productionAt h p)) tests (entry-proper g w (productionAt g p) (production-in g w p l)) (entry-proper h v (productionAt h p) (production-in h v p listed)) (entry-at b w p l) (subst (λ a. ConditionsAt ws a (entryTests h (productionAt h p))) (sym entry) (entry-at c v p listed));
-          instructions = code-same g h (scheme-ended g (productionAt g p)) (scheme-ended h (productionAt h p)) (scheme-proper g w (productionAt g p) (production-in g w p l)) (scheme-proper h v (productionAt h p) (production-in h v p listed)) (scheme-at b w p l) (subst (λ a. CodeAt ws a (scheme h (productionAt h p))) (sym address) (scheme-at c v p listed));
-        }
+        record { left = same-word 0 _ _ (r .left) (s .left); symbols = same-word 7 _ _ (r .symbols) (s .symbols); entered = same-set; tests = same-tests tests entry; instructions = same-instructions address }
 
   same-scheme : SameScheme g h
   same-scheme =
