@@ -8,12 +8,12 @@ use mathlib.Core.List.{List, [], _∷_, _++_}
 use lib.ListN.{length, take, drop}
 use lib.Dec.{T, eqb}
 use Rattle.meaning.specs.Base.{any, In}
-use Rattle.meaning.specs.Grammar.{Grammar, nonterminal, Rule, Condition, syn, productionAt}
+use Rattle.meaning.specs.Grammar.{Grammar, Look, token, over, nonterminal, Rule, Condition, syn, productionAt}
 use Rattle.meaning.specs.Rules.{Operands, Reads}
 use Rattle.meaning.specs.Judgement.{Accepted, Judged, rejected}
 use Rattle.meaning.specs.Value.{inRange}
 use Rattle.meaning.specs.Scheme.{Instruction, add, evaluate, expect, test, remove, entryTests}
-use Rattle.meaning.specs.Machine.{Frame, Config, Lent, blocked, opening, next, lookAt, waits, isFinished, readRegister, movesLimit, tokensLimit}
+use Rattle.meaning.specs.Machine.{Frame, Config, Lent, blocked, opening, next, waits, isFinished, readRegister, movesLimit, tokensLimit}
 use Rattle.meaning.specs.Walk.{Act, Makes}
 use Rattle.meaning.specs.Calls.{Record, Stacks, Answer, more, value, refused, tableRefused, closedRecord, lentOf, recordOf, layAll, configOf, stacksFit, result}
 use Rattle.meaning.specs.Fit.{Fit}
@@ -118,18 +118,16 @@ pub record Unseen (g : Grammar) (lent : Lent) (tokens : List ℕ) (c : Config) (
   pub split : tokens ≡ read ++ left
   pub made : (us : List ℕ) → Makes g lent (read ++ us) c moves us d
 
--- 01: "35 a token after 65,535", "20 token not below T, judged before its moves": the next token was let through
-abbrev pub LetThrough : Grammar → List ℕ → Config → Type 0
-LetThrough g left d = (t : ℕ) (us : List ℕ) → left ≡ t ∷ us → (d .tokens < tokensLimit) × (t < g .terminals)
-
--- why a call whose moves lead from c to d, with `left` still to come, is refused by k: its next token is one too many, or none; or the move at hand is blocked by k
+-- why a call whose moves lead from c to d, with `left` still to come, is refused by k. Behind is what may come behind its tokens
 pub data Refuses (g : Grammar) (lent : Lent) (Behind : List ℕ → Type 0) (tokens : List ℕ) (c : Config) (moves : List Act) (left : List ℕ) (d : Config) (k : ℕ) : Type 0 where
+  -- 01: "35 a token after 65,535"
   tooMany : k ≡ 35 → (t : ℕ) (us : List ℕ) → left ≡ t ∷ us → d .tokens ≡ tokensLimit → T (waits (d .frames)) → Unseen g lent tokens c moves left d → Refuses g lent Behind tokens c moves left d k
+  -- 01: "20 token not below T, judged before its moves"
   notToken : k ≡ 20 → (t : ℕ) (us : List ℕ) → left ≡ t ∷ us → d .tokens < tokensLimit → g .terminals ≤ t → T (waits (d .frames)) → Unseen g lent tokens c moves left d → Refuses g lent Behind tokens c moves left d k
-  -- whatever comes behind. The next token was let through, or the move at hand is one that needs none
-  atMove : ((us : List ℕ) → Behind us → next g lent (lookAt (left ++ us)) d ≡ blocked k)
-      → LetThrough g left d ⊎ ((waits (d .frames) ≡ false) × Unseen g lent tokens c moves left d)
-      → Refuses g lent Behind tokens c moves left d k
+  -- the move at hand is blocked by k: for the next token, which was let through; for the end; or one that needs neither
+  atToken : (t : ℕ) (us : List ℕ) → left ≡ t ∷ us → d .tokens < tokensLimit → t < g .terminals → next g lent (token t) d ≡ blocked k → Refuses g lent Behind tokens c moves left d k
+  atEnd : left ≡ [] → ((us : List ℕ) → Behind us → us ≡ []) → next g lent over d ≡ blocked k → Refuses g lent Behind tokens c moves left d k
+  between : waits (d .frames) ≡ false → Unseen g lent tokens c moves left d → ((l : Look) → next g lent l d ≡ blocked k) → Refuses g lent Behind tokens c moves left d k
 
 -- what each answer says of the moves from c to d.
 -- 01: "The answer carries the moves made since opening"; "Everything that needs no next token is done before a stop"; a refusal of the segment carries the tokens read

@@ -3,8 +3,8 @@ use Prim.Native.Nat.{ℕ, _≤_, _<_}
 use native.Mathlib.Omega.{arith}
 use mathlib.Core.Path.{_≡_, refl, sym, ap, ap₂, _∙_, subst}
 use mathlib.Core.Bool.{true, false}
-use mathlib.Core.Logic.{inl, inr}
-use mathlib.Core.List.{List, [], _∷_, _++_, append-nil}
+use mathlib.Core.Logic.{inl}
+use mathlib.Core.List.{List, [], _∷_, _++_}
 use lib.ListN.{length, replicate, length-replicate}
 use lib.IntN.{pos}
 use lib.Dec.{T, lit≤}
@@ -16,7 +16,7 @@ use Rattle.meaning.specs.Walk.{Act, Makes, nothing, andThen}
 use Rattle.meaning.specs.Calls.{Record, Stacks, Answer, more, value, refused, tableRefused, closedRecord, lentOf, configOf, result}
 use Rattle.meaning.specs.Fit.{Fit, segment}
 use Rattle.meaning.specs.PublicCalls.{Call, feed, finish, areaLength, Effect, performs}
-use Rattle.meaning.specs.CallStatements.{leaves, OpeningOf, Refuses, tooMany, notToken, atMove, MovesTo, CallsMoveOf}
+use Rattle.meaning.specs.CallStatements.{leaves, OpeningOf, Refuses, tooMany, notToken, atToken, atEnd, between, MovesTo, CallsMoveOf}
 use Rattle.meaning.specs.Statements.{History, opened, countsForNothing, fed, finished, Reached}
 use Rattle.meaning.specs.Words.{words}
 use Rattle.meaning.specs.TableRows.{bytes}
@@ -95,21 +95,19 @@ tokens-missing r s ws x =
 not-by : (c : Config) (t j k o : ℕ) → waits (c .frames) ≡ true → next words lent (token t) c ≡ blocked j
     → (k ≡ 35 → c .tokens ≡ tokensLimit → ⊥) → (k ≡ 20 → c .tokens < tokensLimit → 3 ≤ t → ⊥) → (j ≡ k → c .tokens < tokensLimit → t < 3 → ⊥)
     → Answered c (feed (t ∷ [])) (refused k o)
-not-by c t j k o w b many unknown other r s ws x = by (x .says .1) tt (stuck words lent (t ∷ []) c j b (x .made [] tt))
+not-by c t j k o w b many unknown other r s ws x = by (x .says .1) (stuck words lent (t ∷ []) c j b (x .made [] tt))
   where
     first : {left us : List ℕ} {u : ℕ} → left ≡ u ∷ us → left ++ [] ≡ t ∷ [] → u ≡ t
     first l e = let q = sym (ap (λ z. z ++ []) l) ∙ e in cc
 
-    at : {left : List ℕ} → left ++ [] ≡ t ∷ [] → left ≡ t ∷ []
-    at {left} e = sym (append-nil left) ∙ e
-
-    by : {Behind : List ℕ → Type 0} {ts left : List ℕ} {d : Config} {moves : List Act} → Refuses words lent Behind ts c moves left d k → Behind [] → (moves ≡ []) × (left ++ [] ≡ t ∷ []) × (d ≡ c) → ⊥
-    by (tooMany q u us l n v y) z e = many q (sym (ap (λ d. d .tokens) (e .2)) ∙ n)
-    by (notToken q u us l n f v y) z e = unknown q (subst (λ d. d .tokens < tokensLimit) (e .2) n) (subst (λ v. 3 ≤ v) (first l (e .1)) f)
-    by (atMove h (inl y)) z e =
-        let y = y t [] (at (e .1)) in
-        other (number-is j k (sym (ap₂ (λ p q. next words lent (lookAt p) q) (e .1) (e .2) ∙ b) ∙ h [] z)) (subst (λ d. d .tokens < tokensLimit) (e .2) (y .0)) (y .1)
-    by (atMove h (inr y)) z e = absurd (subst T (sym w ∙ (sym (ap (λ d. waits (d .frames)) (e .2)) ∙ y .0)) tt)
+    by : {Behind : List ℕ → Type 0} {ts left : List ℕ} {d : Config} {moves : List Act} → Refuses words lent Behind ts c moves left d k → (moves ≡ []) × (left ++ [] ≡ t ∷ []) × (d ≡ c) → ⊥
+    by (tooMany q u us l n v y) e = many q (sym (ap (λ d. d .tokens) (e .2)) ∙ n)
+    by (notToken q u us l n f v y) e = unknown q (subst (λ d. d .tokens < tokensLimit) (e .2) n) (subst (λ v. 3 ≤ v) (first l (e .1)) f)
+    by (atToken u us l n f h) e =
+        let here = first l (e .1) in
+        other (number-is j k (sym (ap₂ (λ p q. next words lent (token p) q) here (e .2) ∙ b) ∙ h)) (subst (λ d. d .tokens < tokensLimit) (e .2) n) (subst (λ v. v < 3) here f)
+    by (atEnd l f h) e = absurd (omega (arith, ap length (sym (ap (λ z. z ++ []) l) ∙ e .1)))
+    by (between v y h) e = absurd (subst T (sym w ∙ (sym (ap (λ d. waits (d .frames)) (e .2)) ∙ v)) tt)
 
 -- it is not refused by 22, by 35, or by the 21 of the move, before which it is judged
 not-22 : Answered (fresh 5 9) (feed (3 ∷ [])) (refused 22 5)
@@ -134,6 +132,20 @@ moves-missing : Answered (fresh 0 9) (feed []) (more 8)
 moves-missing r s ws x =
     let e = stuck words lent (3 ∷ []) (fresh 0 9) 21 refl (x .made (3 ∷ []) tt) in
     absurd (omega (arith, x .says .2, ap (λ z. z .moves) (e .2)))
+
+-- with all tokens read, at the limit of moves, the feed stops: no 35 before a next token
+early-35 : Answered (fresh 5 4294967295) (feed []) (refused 35 5)
+early-35 r s ws x = by (x .says .1) (stuck words lent [] (fresh 5 4294967295) 35 refl (x .made [] tt))
+  where
+    none : {left us : List ℕ} {u : ℕ} → left ≡ u ∷ us → left ++ [] ≡ [] → ⊥
+    none l e = absurd (omega (arith, ap length (sym (ap (λ z. z ++ []) l) ∙ e)))
+
+    by : {ts left : List ℕ} {c d : Config} {moves : List Act} → Refuses words lent (λ us. Unit {0}) ts c moves left d 35 → (moves ≡ []) × (left ++ [] ≡ []) × (d ≡ fresh 5 4294967295) → ⊥
+    by (tooMany q u us l n v y) e = none l (e .1)
+    by (notToken q u us l n f v y) e = none l (e .1)
+    by (atToken u us l n f h) e = none l (e .1)
+    by (atEnd l f h) e = absurd (omega (arith, ap length (f (3 ∷ []) tt)))
+    by (between v y h) e = subst T (sym (ap (λ d. waits (d .frames)) (e .2)) ∙ v) tt
 
 -- no more than 65,535 tokens are read
 one-too-many : Answered (fresh 65536 9) (feed []) (more 9)

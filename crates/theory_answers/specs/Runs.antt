@@ -5,13 +5,13 @@ use mathlib.Core.Path.{_≡_, refl, sym, ap, ap₂, _∙_, subst, subst₂}
 use mathlib.Core.Logic.{_⊎_, inl, inr}
 use mathlib.Core.Bool.{Bool, true, false, _&&_}
 use mathlib.Core.List.{List, [], _∷_, _++_, append-nil, append-assoc}
-use lib.ListN.{length, drop}
+use lib.ListN.{drop}
 use lib.Dec.{T, ltb, leb, ltb→lt, lt→ltb, nltb→le, leb→le, nleb→lt}
 use Rattle.meaning.specs.Grammar.{Grammar, Look, token, over}
 use Rattle.meaning.specs.Machine.{Config, Lent, Outcome, moved, blocked, Settled, stopped, failed, waits, next, lookAt, unread, isDone, isFinished, advance, advanceFrom, feedToken, feedAll, finishAll, tokensLimit, movesLimit}
 use Rattle.meaning.specs.Walk.{Act, actBy, Makes, nothing, andThen}
 use Rattle.meaning.specs.PublicCalls.{feed, finish}
-use Rattle.meaning.specs.CallStatements.{Follows, Unseen, LetThrough, Refuses, tooMany, notToken, atMove}
+use Rattle.meaning.specs.CallStatements.{Follows, Unseen, Refuses, tooMany, notToken, atToken, atEnd, between}
 use Rattle.theory_base.specs.Members.{T→true, both}
 use Rattle.theory_base.specs.Steps.{at-hand}
 use Rattle.theory_answers.specs.Bounds.{counts, look-free, no-read, Blocks, blocks}
@@ -203,24 +203,22 @@ module _ (g : Grammar) (lent : Lent) (c₀ : Config) where
       behind us e r (inl v) d = absurd (omega (arith, v .1))
       behind us e r (inr v) d = subst (λ z. Leads g lent Anything (read ++ (t ∷ [])) c₀ z e) (v .0) r
 
-      -- t was let through; once it is read, the move at hand needs no next one
-      through : (e : Config) (r : Gone e) → waits (e .frames) && isDone (token t) (c .tokens) e ≡ false → Coming (token t) (c .tokens) (r .left) (e .tokens) → LetThrough g (r .left ++ ts) e ⊎ ((waits (e .frames) ≡ false) × Unseen g lent (read ++ (t ∷ ts)) c₀ (r .leads .moves) (r .left ++ ts) e)
-      through e r x (inl v) = inl (λ u us q. (omega (arith, v .1), subst (λ z. z < g .terminals) (first u us (sym (ap (λ z. z ++ ts) (v .0)) ∙ q)) below))
-        where
-          first : (u : ℕ) (us : List ℕ) → t ∷ ts ≡ u ∷ us → t ≡ u
-          first u us q = cc
-      through e r x (inr v) =
+      -- blocked at t, or, once it is read, at a move that needs no next one
+      refuses : (e : Config) (k : ℕ) (r : Gone e) → next g lent (token t) e ≡ blocked k → waits (e .frames) && isDone (token t) (c .tokens) e ≡ false → Coming (token t) (c .tokens) (r .left) (e .tokens)
+          → Refuses g lent Anything (read ++ (t ∷ ts)) c₀ (r .leads .moves) (r .left ++ ts) e k
+      refuses e k r h x (inl v) = atToken t ts (ap (λ z. z ++ ts) (v .0)) (omega (arith, v .1)) below h
+      refuses e k r h x (inr v) =
           let split : read ++ (t ∷ ts) ≡ (read ++ (t ∷ [])) ++ (r .left ++ ts) = sym (append-assoc read (t ∷ []) ts) ∙ ap (λ z. (read ++ (t ∷ [])) ++ (z ++ ts)) (sym (v .0)) in
           let made : (us : List ℕ) → Makes g lent ((read ++ (t ∷ [])) ++ us) c₀ (r .leads .moves) us e = λ us. subst (λ z. Makes g lent ((read ++ (t ∷ [])) ++ us) c₀ (r .leads .moves) (z ++ us) e) (v .0) (r .leads .made us tt) in
-          inr (idle t (c .tokens) e (v .1) x, record { read = read ++ (t ∷ []); split = split; made = made })
+          let quiet = idle t (c .tokens) e (v .1) x in
+          between quiet (record { read = read ++ (t ∷ []); split = split; made = made }) (λ l. look-free g lent l (token t) e quiet ∙ h)
 
       advances : (o : Settled) → Advanced g lent Anything (read ++ (t ∷ [])) c₀ (token t) (c .tokens) o → FedToken o
       advances (stopped e) v = (behind (v .0 .left) e (v .0 .leads) (v .0 .coming) (ltb→lt (c .tokens) (e .tokens) (v .2)), v .1, count (v .0 .left) (e .tokens) (v .0 .coming))
       advances (failed e k) v =
           let r : Gone e = v .0 in
-          let blocked-by : (us : List ℕ) → Anything us → next g lent (lookAt ((r .left ++ ts) ++ us)) e ≡ blocked k =
-          λ us b. ap (λ z. next g lent (lookAt z) e) (append-assoc (r .left) ts us) ∙ (same-look g lent Anything (token t) (c .tokens) (r .left) e tt (r .coming) (v .2) (ts ++ us) tt ∙ v .1) in
-          (r .left ++ ts, with-more g lent (read ++ (t ∷ [])) c₀ (r .left) e ts (read ++ (t ∷ ts)) (append-assoc read (t ∷ []) ts) (r .leads), count (r .left) (e .tokens) (r .coming), blockedMove t (blocks g lent (token t) e k (v .1)), atMove blocked-by (through e r (v .2) (r .coming)))
+          let whole = with-more g lent (read ++ (t ∷ [])) c₀ (r .left) e ts (read ++ (t ∷ ts)) (append-assoc read (t ∷ []) ts) (r .leads) in
+          (r .left ++ ts, whole, count (r .left) (e .tokens) (r .coming), blockedMove t (blocks g lent (token t) e k (v .1)), refuses e k r (v .1) (v .2) (r .coming))
 
     fed-token : FedToken (feedToken g lent t c)
     fed-token = limited (leb tokensLimit (c .tokens)) refl (ltb t (g .terminals)) refl
@@ -258,6 +256,5 @@ module _ (g : Grammar) (lent : Lent) (c₀ : Config) where
       go (stopped e) v = (subst (λ z. Leads g lent Nothing read c₀ z e) (v .0 .coming .0) (v .0 .leads), v .2, v .0 .coming .1)
       go (failed e k) v =
           let r = v .0 in
-          let none : LetThrough g (r .left) e = λ t us q. absurd (omega (arith, ap length (sym (r .coming .0) ∙ q))) in
-          let by : Refuses g lent Nothing read c₀ (r .leads .moves) (r .left) e k = atMove (λ us b. same-look g lent Nothing over (c .tokens) (r .left) e (λ x y. y) (r .coming) (v .2) us b ∙ v .1) (inl none) in
+          let by : Refuses g lent Nothing read c₀ (r .leads .moves) (r .left) e k = atEnd (r .coming .0) (λ us b. b) (v .1) in
           subst (λ z. (a : Leads g lent Nothing read c₀ z e) × Blocks over e k × Refuses g lent Nothing read c₀ (a .moves) z e k × (e .tokens ≡ c .tokens)) (r .coming .0) (r .leads, blocks g lent over e k (v .1), by, r .coming .1)
