@@ -17,7 +17,7 @@ use Rattle.meaning.specs.Calls.{Record, Stacks, lentOf, recordOf, layAll
 use Rattle.meaning.specs.Drawn.{WalkFits, drawnRecord, drawnStacks, drawnMoves}
 use Rattle.meaning.specs.Statements.{History, PartWalked, Returned}
 
--- the moves `first` from the opening lead to a configuration that has read a first part of these tokens; there
+-- the moves `first` from the opening lead to a configuration that has read a first part of these tokens; what holds there
 pub record Passed (g : Grammar) (lent : Lent) (tokens : List ℕ) (first : List Act) : Type 0 where
   pub config : Config
   pub read : List ℕ
@@ -57,7 +57,7 @@ pub record ListOfCalls (g : Grammar) (m₀ : Stacks) (ts : List ℕ) (isOver : B
   -- "at each move, whatever the tokens, every selector finds the attribute it names; when a part is left, the registers below its results are those it was entered with"
   pub each : (us : List ℕ) → MayCome isOver us → (first later : List Act) → moves ≡ first ++ later → Passed g (lentOf m₀) (ts ++ us) first
 
--- 01, demand 3: "For every list of calls from an opening, registers, places and record are exactly the picture that 01 draws from the tree;
+-- Demand 3: "For every list of calls from an opening, registers, places and record are exactly the picture that 01 draws from the tree;
 -- at each move, whatever the tokens, every selector finds the attribute it names; when a part is left, the registers below its results are those it was entered with."
 abbrev pub EveryListOfCalls : Type 0
 EveryListOfCalls =
