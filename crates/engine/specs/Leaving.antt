@@ -28,7 +28,7 @@ use Rattle.moves.specs.Laid.{LaidIn}
 use Rattle.registers.specs.Laid.{laid-stack, laid-inside}
 use Rattle.registers.specs.Stack.{stack}
 use Rattle.machine.specs.Advancing.{Settles}
-use Rattle.fit.specs.Cut.{stacksOf}
+use Rattle.meaning.specs.PublicCalls.{stacksOf}
 use Rattle.engine.specs.declared.Record.{Record}
 use Rattle.engine.specs.declared.Answer.{Answer}
 use Rattle.engine.specs.declared.Answer.the-variants.{More, Value, Refused}

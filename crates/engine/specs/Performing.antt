@@ -17,7 +17,7 @@ use Rattle.machine.specs.declared.Ended.the-variants.{Stopped, Failed}
 use Rattle.moves.specs.Held.{Held}
 use Rattle.machine.specs.Advancing.{Running, Settles, Advances}
 use Rattle.machine.specs.Feeding.{Feeds}
-use Rattle.fit.specs.Cut.{stacksOf}
+use Rattle.meaning.specs.PublicCalls.{stacksOf}
 use Rattle.fit.specs.Shown.{Shown}
 use Rattle.engine.specs.declared.Called.{Called}
 use Rattle.engine.specs.Records.{calledIs}

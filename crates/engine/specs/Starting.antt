@@ -25,7 +25,7 @@ use Rattle.moves.specs.declared.Run.{Run}
 use Rattle.moves.specs.Laid.{LaidIn}
 use Rattle.moves.specs.Ahead.{Ahead, ahead-next, ahead-place}
 use Rattle.moves.specs.Held.{Held, topFrame}
-use Rattle.fit.specs.Cut.{stacksOf}
+use Rattle.meaning.specs.PublicCalls.{stacksOf}
 
 -- ---- the top place
 

@@ -7,7 +7,7 @@ ghost use Rattle.meaning.specs.Grammar.{Grammar};
 ghost use Rattle.meaning.specs.Calls.{openOf, feedOf, finishOf};
 ghost use Rattle.theory_program.specs.Addresses.{Begins};
 ghost use Rattle.fit.specs.Shown.{Shown};
-ghost use Rattle.fit.specs.Cut.{stacksOf};
+ghost use Rattle.meaning.specs.PublicCalls.{stacksOf};
 ghost use Rattle.engine.specs.Records.{recordIs, calledIs};
 ghost use Rattle.engine.specs.Judging.{Brought, turnedBack};
 use crate::Answer;

@@ -11,7 +11,7 @@ ghost use Rattle.meaning.specs.Calls.{lentOf, configOf};
 ghost use Rattle.theory_program.specs.Addresses.{Begins};
 ghost use Rattle.theory_program.specs.Resuming.{placeAddress};
 ghost use Rattle.moves.specs.Held.{Held};
-ghost use Rattle.fit.specs.Cut.{stacksOf};
+ghost use Rattle.meaning.specs.PublicCalls.{stacksOf};
 ghost use Rattle.engine.specs.Records.{recordIs};
 ghost use Rattle.engine.specs.Starting.{Stood, Standing, Fitting};
 ghost use Rattle.engine.specs.Leaving.{recordFrom, broughtFrom, closedFrom, fedFrom, finishedFrom, Ending};

@@ -24,7 +24,8 @@ use Rattle.prepare.specs.declared.Made as MadeCode
 use Rattle.prepare.specs.declared.Made.the-variants as MadeVariant
 use Rattle.prepare.specs.Preparing.{Accepting, Case, PreparedAs}
 use Rattle.prepare.specs.Making as Making
-use Rattle.prepare.specs.Making.{Made, turned, programmed, made, preparedIs, madeOf, MadeAs}
+use Rattle.meaning.specs.PublicCalls.{Made, turned, programmed, made, madeOf}
+use Rattle.prepare.specs.Making.{preparedIs, MadeAs}
 
 -- ---- the table's verdict
 

@@ -42,7 +42,7 @@ drawn-first g t j false = walk-first j (walk g t)
 
 module _ (bs : List ℕ) (g : Grammar) (a : Accepted bs g) (lent : Lent) (stream : List ℕ) where
   -- so many moves as are drawn are the moves drawn
-  moves-drawn : (t : Tree) → TreeOf g stream t → (j : ℕ) (isOver : Bool) {ws : List Act} {us : List ℕ} {c : Config} → Makes g lent stream (opening g) ws us c → c .moves ≡ length (drawnMoves g t j isOver) → ws ≡ drawnMoves g t j isOver
+  pub moves-drawn : (t : Tree) → TreeOf g stream t → (j : ℕ) (isOver : Bool) {ws : List Act} {us : List ℕ} {c : Config} → Makes g lent stream (opening g) ws us c → c .moves ≡ length (drawnMoves g t j isOver) → ws ≡ drawnMoves g t j isOver
   moves-drawn t w j isOver {ws} {us} {c} m n =
       let k = accepted-made bs g a lent stream m .walked t w in
       let size : length ws ≡ length (drawnMoves g t j isOver) = omega (arith, counted g lent m, n) in
