@@ -83,7 +83,7 @@ notes-none note l z =
       holds = λ o. ⊎-elim (λ n. noted-near note o n ∙ ap (λ (x : ℕ). bit x (o .attribute - 1)) (z (o .position)) ∙ bit-zero (o .attribute - 1)) (noted-far note o) (near-or-not o);
     }
 
-zeros : (n k : ℕ) → _≡_ {A = ℕ} (getD (replicate n 0) k 0) 0
+pub zeros : (n k : ℕ) → _≡_ {A = ℕ} (getD (replicate n 0) k 0) 0
 zeros zero k = refl
 zeros (suc n) zero = refl
 zeros (suc n) (suc k) = zeros n k
@@ -158,3 +158,8 @@ module _ (r width : ℕ) (inh syn note b : List ℕ) (small : Small width inh sy
       (λ (m : List ℕ). Notes m (ruleOf b ∷ rs))
       (sym (e ∙ ap₂ (λ (u v : ℕ). set note u (bitOr (getD note u 0) (2 ^ (v - 1)))) x y))
       (notes-more note rs (ruleOf b) nt (record { place = t .1; first = t .2; last = t .3 }))
+
+-- the rules after a field that is not refused
+pub notes-fine : (note b : List ℕ) (number : ℕ) (rs : List (Rule Occurrence)) → number ≡ 0 → Notes note (rulesAfter number b rs) → Notes note (ruleOf b ∷ rs)
+unfolding rulesAfter ifEqual
+notes-fine note b number rs z nt = subst (λ (n : ℕ). Notes note (rulesAfter n b rs)) z nt
