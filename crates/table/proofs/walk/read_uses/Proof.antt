@@ -122,7 +122,8 @@ loop-again-2 c =
     let taken = fine .before in
     let at = taken .before .before .before .before .before in
     let start = at .before .before .before in
-    walk-condition _ _ _ _ _ _ _ _ _ _ _ _ _ _ _ (at .loop .inv) _ _ _ (taken .take-use .ensures) (fine .if2 .left) _ _ (λ e. other .if3 .left (other .before .wide .ensures .0 ∙ e)) (part-body (start .args .table .now) (at .loop .at) (taken .before .before .size-at .result)) (c .narrow .ensures .0) (c .narrow .ensures .1)
+    let part = part-body (start .args .table .now) (at .loop .at) (taken .before .before .size-at .result) in
+    walk-condition _ _ _ _ _ _ _ _ _ _ _ _ _ _ _ (at .loop .inv) _ _ _ (taken .take-use .ensures) (fine .if2 .left) _ _ (λ e. other .if3 .left (other .before .wide .ensures .0 ∙ e)) part (c .narrow .ensures .0) (c .narrow .ensures .1)
 
 pub read-uses-spec : {M : Type 1} → statement M
 read-uses-spec =
