@@ -10,7 +10,8 @@ use lib.ListN.{length, drop, take}
 use borrow.Author.Tests.{eqb-true}
 use Rattle.meaning.specs.Base.{all, any, countFrom}
 use Rattle.meaning.specs.Grammar.{Occurrence, Rule, Counts}
-use Rattle.meaning.specs.Table.{byte, Header, headerOf, Field, Entry, State, nothingRead, current, isSome, Stage, atHeader, atCounts, atFirst, atAny, stage, tagStands, Kind, header, counts, production, rule, condition, kindOf, limitsHold, known, startRight, directionsRight, ruleOf, isInput, sameOccurrence, hasRule, setOnce, occurrencesAt, complete, lastComplete, leftToRight, boundsRight, lowestOf, judgeField, readField, Read, wellFormed, malformed, atEnd, readAll, readTable}
+use Rattle.meaning.specs.Table.{byte, Header, headerOf, Field, Entry, State, nothingRead, current, isSome, Stage, atHeader, atCounts, atFirst, atAny, stage, tagStands, Kind, header, counts, production, rule, condition, kindOf}
+use Rattle.meaning.specs.Table.{limitsHold, known, startRight, directionsRight, ruleOf, isInput, sameOccurrence, hasRule, setOnce, occurrencesAt, complete, lastComplete, leftToRight, boundsRight, lowestOf, judgeField, readField, Read, wellFormed, malformed, atEnd, readAll, readTable}
 use Rattle.rules.specs.Note.{isNoted, Notes}
 use Rattle.entries.specs.Span.{Spans}
 use Rattle.table.specs.declared.Reading.{Reading}
