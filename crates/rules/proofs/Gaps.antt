@@ -13,7 +13,7 @@ use Rattle.meaning.specs.Grammar.{Occurrence}
 use Rattle.meaning.specs.Table.{State, Entry, noHeader, isInput, hasRule, complete, entrySymbol, countsAt, occurrencesAt}
 use Rattle.fields.proofs.Cases.{lt-or-le}
 use Rattle.rules.specs.Rule.{Small, completeNote}
-use Rattle.rules.specs.Note.{Placed, Notes, occurrence, Gap, GapAnswered, GapsAnswered}
+use Rattle.rules.specs.Note.{occurrence, Gap, GapAnswered, GapsAnswered}
 use Rattle.rules.proofs.Laws.{ap3}
 use Rattle.rules.proofs.Complete.{all-mapped, complete-judged}
 

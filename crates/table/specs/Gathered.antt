@@ -1,8 +1,8 @@
 -- The reader with a note of the occurrences set: 8 is asked of the note, the symbols and the counts, never of the rules read before. For every table it says what `readTable` says, which knows no note.
 use Prim.Native.Nat.{ℕ, zero, suc, _+_, _-_, _*_}
 use mathlib.Core.Path.{_≡_, refl, sym, _∙_, ap, ap₂, subst}
-use mathlib.Core.Bool.{Bool, true, false, _&&_, _||_, not, true≢false}
-use mathlib.Core.Option.{Option, none, some}
+use mathlib.Core.Bool.{Bool, true, false, _&&_, _||_, not}
+use mathlib.Core.Option.{Option}
 use mathlib.Core.List.{List, [], _∷_, map}
 use native.Mathlib.Omega.{arith}
 use lib.Dec.{eqb, ltb, leb}
@@ -10,8 +10,8 @@ use lib.ListN.{length, drop, take}
 use borrow.Author.Tests.{eqb-true}
 use Rattle.meaning.specs.Base.{all, any, countFrom}
 use Rattle.meaning.specs.Grammar.{Occurrence, Rule, Counts}
-use Rattle.meaning.specs.Table.{byte, Header, headerOf, Field, Entry, State, nothingRead, current, isSome, Stage, atHeader, atCounts, atFirst, atAny, stage, tagStands, Kind, header, counts, production, rule, condition, kindOf}
-use Rattle.meaning.specs.Table.{limitsHold, known, startRight, directionsRight, ruleOf, isInput, sameOccurrence, hasRule, setOnce, occurrencesAt, complete, lastComplete, leftToRight, boundsRight, lowestOf, judgeField, readField, Read, wellFormed, malformed, atEnd, readAll, readTable}
+use Rattle.meaning.specs.Table.{byte, Header, headerOf, Field, Entry, State, nothingRead, current, isSome, atHeader, atCounts, atFirst, atAny, stage, tagStands, Kind, header, counts, production, rule, condition, kindOf}
+use Rattle.meaning.specs.Table.{limitsHold, known, startRight, directionsRight, ruleOf, isInput, sameOccurrence, setOnce, occurrencesAt, complete, lastComplete, leftToRight, boundsRight, lowestOf, judgeField, readField, Read, wellFormed, malformed, readAll, readTable}
 use Rattle.rules.specs.Note.{isNoted, Notes}
 use Rattle.entries.specs.Span.{Spans}
 use Rattle.table.specs.declared.Reading.{Reading}
