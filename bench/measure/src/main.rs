@@ -89,6 +89,33 @@ fn judge_tables() {
     }
 }
 
+/// What a field costs in `check`: tables of rising length, and the most rules that a production can have, in order and against it.
+fn judge_fields() {
+    let mut tables = vec![
+        ("brackets".to_string(), samples::brackets()),
+        ("words and tags".to_string(), samples::words()),
+        ("chain of 1".to_string(), samples::chain(1, 0, 4)),
+        ("chain of 4".to_string(), samples::chain(4, 2, 8)),
+        ("chain of 10".to_string(), samples::chain(10, 7, 100)),
+        ("chain of 22".to_string(), samples::chain(22, 16, 240)),
+        ("chain of 47".to_string(), samples::chain(47, 33, 512)),
+        ("the largest".to_string(), samples::largest()),
+    ];
+    for symbols in [1, 3, 7, 12] {
+        for (order, reversed) in [("in order", false), ("reversed", true)] {
+            tables.push((format!("{} rules a production, {order}", 8 * (symbols + 1)), samples::many_rules(symbols, reversed)));
+        }
+    }
+    println!("\n| table | bytes | fields | plain Rust, ns | proved, ns | plain Rust, ns a field | proved, ns a field |");
+    println!("|---|---|---|---|---|---|---|");
+    for (name, table) in &tables {
+        assert_eq!((Proved::check(table), Plain::check(table)), ((0, 0), (0, 0)), "{name}");
+        let (a, b) = beside(judging::<Plain>(table), judging::<Proved>(table));
+        let fields = samples::fields(table);
+        println!("| {name} | {} | {fields} | {a:.0} | {b:.0} | {:.1} | {:.1} |", table.len(), a / fields as f64, b / fields as f64);
+    }
+}
+
 fn call_without_tokens() {
     let words = samples::words();
     let tables = [
@@ -147,6 +174,7 @@ fn main() {
         return commands(command, times.parse().expect("a number of times"));
     }
     judge_tables();
+    judge_fields();
     call_without_tokens();
     run_segments();
 }
