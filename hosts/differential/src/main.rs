@@ -138,6 +138,9 @@ impl Comparison {
         let mut at = 0;
         while at < segment.len() {
             self.disturb(&mut pair, &table.bytes)?;
+            if self.r.chance(20) {
+                pair.forge_values(&mut self.r);
+            }
             let longest = if self.r.chance(70) { segment.len() - at } else { 3 };
             let end = segment.len().min(at + self.r.below(longest + 1));
             if self.call(&mut pair, &table.bytes, Call::Feed(&segment[at..end]))? != 0 && self.r.chance(80) {

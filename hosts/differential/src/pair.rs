@@ -171,7 +171,7 @@ impl Pair {
         let height = (self.record.registers as usize).min(self.lengths.registers);
         self.cells.registers[..self.lengths.registers].fill(MARK);
         for v in &mut self.cells.registers[..height] {
-            *v = r.value() as i64;
+            *v = r.held();
         }
     }
 
@@ -204,9 +204,17 @@ impl Pair {
             *register = match r.below(4) {
                 0 => MARK,
                 1 => r.number() as i64,
-                2 => i32::MAX as i64 + r.below(2) as i64,
-                _ => r.value() as i64,
+                2 => r.pick(&[1, -1]) * (1_000_000_000_000 + r.below(2) as i64),
+                _ => r.held(),
             };
+        }
+    }
+
+    /// Other values where there are values: the run goes on with them.
+    pub fn forge_values(&mut self, r: &mut Random) {
+        let height = (self.record.registers as usize).min(self.lengths.registers);
+        for v in self.cells.registers[..height].iter_mut().filter(|v| **v != MARK) {
+            *v = r.held();
         }
     }
 }
