@@ -18,7 +18,7 @@ pub fn meaning(number: u32) -> &'static str {
         20 => "the token is not below the number of terminals",
         21 => "the token is not the expected one, is in no alternative's set, or follows a start symbol already left",
         22 => "a condition is false, or no alternative has its entry conditions met",
-        23 => "a value is outside the limits",
+        23 => "a value is outside -1,000,000,000,000 to 1,000,000,000,000",
         24 => "the segment is over where a token is expected or no alternative's set holds the end",
         30 => "the program area is short",
         31 => "an addition would pass the lent registers",
