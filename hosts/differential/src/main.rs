@@ -1,12 +1,13 @@
 //! Compares the proved engine, through the host library, with the plain one on random calls: valid and damaged tables, segments in any
 //! pieces, forged records and stacks, short memory. After each call the answer, the record and every register, place and program word
-//! are compared, with some cells past those lent.
+//! are compared, with some cells past those lent. So are the calls on windows (`windows`).
 //!
 //!     differential [SEED [CALLS]]
 mod pair;
 mod random;
 mod segments;
 mod tables;
+mod windows;
 
 use pair::{Call, Lengths, Pair};
 use plain::samples;
@@ -153,6 +154,18 @@ impl Comparison {
         Ok(())
     }
 
+    /// A window after some of the runs.
+    fn window(&mut self) -> Result<(), String> {
+        if !self.r.chance(10) {
+            return Ok(());
+        }
+        let Comparison { r, made, answers, .. } = self;
+        windows::run(r, |call, number| {
+            *made += 1;
+            *answers.entry((call, number)).or_default() += 1;
+        })
+    }
+
     fn report(&self) {
         let mut line = "";
         for ((call, number), times) in &self.answers {
@@ -168,10 +181,10 @@ impl Comparison {
         println!();
     }
 
-    /// The numbers of 01 that no call was refused with.
+    /// The numbers of 01 and 02 that no call was refused with.
     fn missing(&self) -> Vec<u32> {
         let seen = |n: &u32| self.answers.keys().any(|(_, number)| number == n);
-        (1..=14).chain(20..=24).chain(30..=35).filter(|n| !seen(n)).collect()
+        (1..=14).chain(20..=24).chain(30..=35).chain([42]).filter(|n| !seen(n)).collect()
     }
 }
 
@@ -193,7 +206,7 @@ fn main() {
     let mut c = Comparison { r: Random::new(seed), made: 0, answers: BTreeMap::new(), samples };
     while c.made < calls {
         let table = c.table();
-        let outcome = c.judge(&table.bytes).and_then(|()| c.run(&table));
+        let outcome = c.judge(&table.bytes).and_then(|()| c.run(&table)).and_then(|()| c.window());
         if let Err(difference) = outcome {
             println!("call {} differs: {difference}", c.made + 1);
             std::process::exit(1);
