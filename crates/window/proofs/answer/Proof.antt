@@ -34,7 +34,8 @@ cell-requires-2 c κs = search needs
 returns-2 : tie.Need-returns-2
 returns-2 c =
     let b = now (c .before .before .before .before .before .before .args .buffer) in
-    answer-some b (c .before .before .before .before .before .number-at .result) (c .before .before .before .before .before .number-at .ensures .0) (λ z. omega arith) (c .before .before .before .number-at2 .result) (c .before .before .number-at3 .result) _ _ (c .before .before .before .number-at2 .ensures .0) (c .before .before .number-at3 .ensures .0) (back (c .before .cell .result) (sfits-of (c .before .cell .ok)) ∙ c .before .cell .ensures) (back (c .cell2 .result) (sfits-of (c .cell2 .ok)) ∙ c .cell2 .ensures)
+    answer-some b (c .before .before .before .before .before .number-at .result) (c .before .before .before .before .before .number-at .ensures .0) (λ z. omega arith) (c .before .before .before .number-at2 .result) (c .before .before .number-at3 .result) _ _
+    (c .before .before .before .number-at2 .ensures .0) (c .before .before .number-at3 .ensures .0) (back (c .before .cell .result) (sfits-of (c .before .cell .ok)) ∙ c .before .cell .ensures) (back (c .cell2 .result) (sfits-of (c .cell2 .ok)) ∙ c .cell2 .ensures)
 
 pub answer-spec : {M : Type 1} → statement M
 answer-spec =

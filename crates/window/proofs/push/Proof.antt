@@ -26,7 +26,8 @@ renew-requires : tie.Need-renew-requires
 renew-requires c κs =
     let s = c .before .before .before .before .before .before .before in
     let v = s .args .value in
-    brought (now (s .args .buffer)) (c .before .before .before .before .before .number-at .result) (c .before .before .before .number-at2 .result) (c .before .number-at3 .result) (toZ w64 (ofZ w64 v)) (s .pre .0) (ap inRange (back v (s .fits .value)) ∙ s .pre .1) (c .before .before .before .before .before .number-at .ensures .0) (c .before .before .before .number-at2 .ensures .0) (c .before .number-at3 .ensures .0)
+    brought (now (s .args .buffer)) (c .before .before .before .before .before .number-at .result) (c .before .before .before .number-at2 .result) (c .before .number-at3 .result) (toZ w64 (ofZ w64 v)) (s .pre .0)
+    (ap inRange (back v (s .fits .value)) ∙ s .pre .1) (c .before .before .before .before .before .number-at .ensures .0) (c .before .before .before .number-at2 .ensures .0) (c .before .number-at3 .ensures .0)
 
 answer-requires : tie.Need-answer-requires
 answer-requires c κs = search needs

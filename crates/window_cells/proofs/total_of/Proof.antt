@@ -38,7 +38,8 @@ size : (c : tie.After-v Inv-loop μ-loop) → natAbs (getD (now (c .before .befo
 size c = in-range-size (getD (now (c .before .before .before .args .cells)) (c .before .before .loop .i) (pos 0)) (all-getD inRange (now (c .before .before .before .args .cells)) (c .before .before .loop .i) (pos 0) refl (c .before .before .before .pre .1))
 
 added : (c : tie.After-v Inv-loop μ-loop) → SFits w64 (toZ w64 (c .before .before .loop .sum) +ℤ toZ w64 (ofZ w64 (getD (now (c .before .before .before .args .cells)) (c .before .before .loop .i) (pos 0))))
-    × (toZ w64 (ofZ w64 (toZ w64 (c .before .before .loop .sum) +ℤ toZ w64 (ofZ w64 (getD (now (c .before .before .before .args .cells)) (c .before .before .loop .i) (pos 0))))) ≡ toZ w64 (c .before .before .loop .sum) +ℤ getD (now (c .before .before .before .args .cells)) (c .before .before .loop .i) (pos 0))
+    × (toZ w64 (ofZ w64 (toZ w64 (c .before .before .loop .sum) +ℤ toZ w64 (ofZ w64 (getD (now (c .before .before .before .args .cells)) (c .before .before .loop .i) (pos 0)))))
+    ≡ toZ w64 (c .before .before .loop .sum) +ℤ getD (now (c .before .before .before .args .cells)) (c .before .before .loop .i) (pos 0))
 added c =
     let l = c .before .before .loop in
     let s = c .before .before .before in

@@ -22,7 +22,8 @@ use Rattle.window_kept.proofs.leaders_match.Statement.{statement}
 use Rattle.window_kept.proofs.leaders_match.Tie as tie
 
 abbrev Inv-loop : tie.InvT-loop
-Inv-loop slots area held next count size top₀ slot₀ unmatched₀ left₀ top slot unmatched left = (slot < length slots) × (unmatched ≤ count) × (left ≤ held) × (eqNumbers (map small (take count area)) (leadersOf (length slots) held next slots) ≡ eqNumbers (reverse (take unmatched (map small (take count area)))) (leadsBack (valueAt slots) (toZ w64 top) (downFrom (length slots) left slot)))
+Inv-loop slots area held next count size top₀ slot₀ unmatched₀ left₀ top slot unmatched left =
+    (slot < length slots) × (unmatched ≤ count) × (left ≤ held) × (eqNumbers (map small (take count area)) (leadersOf (length slots) held next slots) ≡ eqNumbers (reverse (take unmatched (map small (take count area)))) (leadsBack (valueAt slots) (toZ w64 top) (downFrom (length slots) left slot)))
 
 abbrev μ-loop : tie.MeasureT-loop
 μ-loop slots area held next count size top₀ slot₀ unmatched₀ left₀ top slot unmatched left = left
@@ -43,7 +44,8 @@ shared-slice-copy-out-v : tie.Need-shared-slice-copy-out-v Inv-loop μ-loop
 shared-slice-copy-out-v c = omega arith
 
 -- whether the value at hand is greater than those walked
-tested : (c : tie.After-v Inv-loop μ-loop) → leZ (toZ w64 (ofZ w64 (getD (now (c .before .before .before .before .args .slots)) (c .before .before2 .result) (pos 0)))) (toZ w64 (c .before .before .before .loop .top)) ≡ not (ltZ (toZ w64 (c .before .before .before .loop .top)) (valueAt (now (c .before .before .before .before .args .slots)) (c .before .before2 .result)))
+tested : (c : tie.After-v Inv-loop μ-loop) → leZ (toZ w64 (ofZ w64 (getD (now (c .before .before .before .before .args .slots)) (c .before .before2 .result) (pos 0))))
+    (toZ w64 (c .before .before .before .loop .top)) ≡ not (ltZ (toZ w64 (c .before .before .before .loop .top)) (valueAt (now (c .before .before .before .before .args .slots)) (c .before .before2 .result)))
 tested c =
     let v : ℤ = valueAt (now (c .before .before .before .before .args .slots)) (c .before .before2 .result) in
     let top : ℤ = toZ w64 (c .before .before .before .loop .top) in
@@ -56,15 +58,21 @@ loop-again : tie.Need-loop-again Inv-loop μ-loop
 loop-again c =
     let s = c .before .before .before .before .before in
     let l = c .before .before .before .before .loop in
-    let r = c .before .before .before2 in
-    (r .ensures .1, omega arith, omega arith, match-skip (now (s .args .slots)) (now (s .args .area)) (s .args .held) (s .args .next) (s .args .count) (s .pre) (toZ w64 (l .top)) (l .slot) (l .unmatched) (l .left) (r .result) (omega arith) (r .ensures .0) (l .inv .3) (not-true _ (sym (tested (c .before)) ∙ c .if1 .taken)))
+    let r = c .before .before .before2 in (
+      r .ensures .1,
+      omega arith,
+      omega arith,
+      match-skip (now (s .args .slots)) (now (s .args .area)) (s .args .held) (s .args .next) (s .args .count) (s .pre)
+          (toZ w64 (l .top)) (l .slot) (l .unmatched) (l .left) (r .result) (omega arith) (r .ensures .0) (l .inv .3) (not-true _ (sym (tested (c .before)) ∙ c .if1 .taken)),
+    )
 
 returns : tie.Need-returns Inv-loop μ-loop
 returns c =
     let s = c .before .before .before .before .before .before in
     let l = c .before .before .before .before .before .loop in
     let r = c .before .before .before .before2 in
-    match-none (now (s .args .slots)) (now (s .args .area)) (s .args .held) (s .args .next) (s .args .count) (s .pre) (toZ w64 (l .top)) (l .slot) (l .unmatched) (l .left) (r .result) (omega arith) (r .ensures .0) (l .inv .3) (not-false _ (sym (tested (c .before .before)) ∙ c .before .if1 .left)) (omega arith)
+    match-none (now (s .args .slots)) (now (s .args .area)) (s .args .held) (s .args .next) (s .args .count) (s .pre) (toZ w64 (l .top)) (l .slot) (l .unmatched)
+    (l .left) (r .result) (omega arith) (r .ensures .0) (l .inv .3) (not-false _ (sym (tested (c .before .before)) ∙ c .before .if1 .left)) (omega arith)
 
 sub-unmatched : tie.Need-sub-unmatched Inv-loop μ-loop
 sub-unmatched c = omega arith
@@ -77,7 +85,8 @@ returns-2 c =
     let s = c .before .before .before .before .before .before .before .before in
     let l = c .before .before .before .before .before .before .before .loop in
     let r = c .before .before .before .before .before .before2 in
-    match-other (now (s .args .slots)) (now (s .args .area)) (s .args .held) (s .args .next) (s .args .count) (s .pre) (toZ w64 (l .top)) (l .slot) (l .unmatched) (l .left) (r .result) (omega arith) (r .ensures .0) (l .inv .3) (not-false _ (sym (tested (c .before .before .before .before)) ∙ c .before .before .before .if1 .left)) (c .before .number-at .result) (omega arith) (omega arith) (c .before .number-at .ensures .0) (λ z. omega arith)
+    match-other (now (s .args .slots)) (now (s .args .area)) (s .args .held) (s .args .next) (s .args .count) (s .pre) (toZ w64 (l .top)) (l .slot) (l .unmatched) (l .left) (r .result) (omega arith) (r .ensures .0) (l .inv .3)
+    (not-false _ (sym (tested (c .before .before .before .before)) ∙ c .before .before .before .if1 .left)) (c .before .number-at .result) (omega arith) (omega arith) (c .before .number-at .ensures .0) (λ z. omega arith)
 
 loop-less-2 : tie.Need-loop-less-2 Inv-loop μ-loop
 loop-less-2 c = omega arith
@@ -88,8 +97,14 @@ loop-again-2 c =
     let l = c .before .before .before .before .before .before .before .loop in
     let r = c .before .before .before .before .before .before2 in
     let v : ℤ = valueAt (now (s .args .slots)) (r .result) in
-    let e : toZ w64 (ofZ w64 v) ≡ v = toZ-ofZ (sfits-of (c .before .before .before .before .v .given)) in
-    (r .ensures .1, omega arith, omega arith, rw e (match-next (now (s .args .slots)) (now (s .args .area)) (s .args .held) (s .args .next) (s .args .count) (s .pre) (toZ w64 (l .top)) (l .slot) (l .unmatched) (l .left) (r .result) (omega arith) (r .ensures .0) (l .inv .3) (not-false _ (sym (tested (c .before .before .before .before)) ∙ c .before .before .before .if1 .left)) (c .before .number-at .result) (omega arith) (omega arith) (c .before .number-at .ensures .0) (omega arith)))
+    let e : toZ w64 (ofZ w64 v) ≡ v = toZ-ofZ (sfits-of (c .before .before .before .before .v .given)) in (
+      r .ensures .1,
+      omega arith,
+      omega arith,
+      rw e
+          (match-next (now (s .args .slots)) (now (s .args .area)) (s .args .held) (s .args .next) (s .args .count) (s .pre) (toZ w64 (l .top)) (l .slot) (l .unmatched) (l .left) (r .result) (omega arith) (r .ensures .0)
+          (l .inv .3) (not-false _ (sym (tested (c .before .before .before .before)) ∙ c .before .before .before .if1 .left)) (c .before .number-at .result) (omega arith) (omega arith) (c .before .number-at .ensures .0) (omega arith)),
+    )
 
 returns-3 : tie.Need-returns-3 Inv-loop μ-loop
 returns-3 c =

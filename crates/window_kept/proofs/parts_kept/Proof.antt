@@ -40,7 +40,9 @@ placed : (c : tie.Else1) → placeFits (c .before .before .before .before .args 
 placed c = sym (c .before .place-fits .ensures) ∙ not-false (c .before .place-fits .result) (c .if1 .left)
 
 -- the values passed theirs
-valued : (c : tie.Else2) → valuesFit (c .before .before .before .before .before .before .before .number-at .result) (take (5 + c .before .before .before .before .before .before .before .before .args .size - 5) (drop 5 (now (c .before .before .before .before .before .before .before .before .args .buffer)))) (toZ w64 (ofZ w64 (getD (now (c .before .before .before .before .before .before .before .before .args .buffer)) 3 (pos 0)))) ≡ true
+valued : (c : tie.Else2) → valuesFit (c .before .before .before .before .before .before .before .number-at .result)
+    (take (5 + c .before .before .before .before .before .before .before .before .args .size - 5) (drop 5 (now (c .before .before .before .before .before .before .before .before .args .buffer))))
+    (toZ w64 (ofZ w64 (getD (now (c .before .before .before .before .before .before .before .before .args .buffer)) 3 (pos 0)))) ≡ true
 valued c = sym (c .before .values-fit .ensures) ∙ not-false (c .before .values-fit .result) (c .if2 .left)
 
 add-slots : tie.Need-add-slots
@@ -71,7 +73,8 @@ returns-2 c =
     let h = c .before .before .before .before .before .before .before .number-at in
     let k = c .before .before .before .before .before .before .number-at2 in
     let b = now (s .args .buffer) in
-    values-not b (s .args .size) (s .pre .0) (s .pre .1) (h .result) (k .result) (h .ensures .0) (k .ensures .0) (placed (c .before .before .before .before)) _ (back (getD b 3 (pos 0)) (sfits-of (c .before .before .values-fit-arg .given))) (sym (c .before .values-fit .ensures) ∙ not-true (c .before .values-fit .result) (c .if2 .taken))
+    values-not b (s .args .size) (s .pre .0) (s .pre .1) (h .result) (k .result) (h .ensures .0) (k .ensures .0) (placed (c .before .before .before .before)) _
+    (back (getD b 3 (pos 0)) (sfits-of (c .before .before .values-fit-arg .given))) (sym (c .before .values-fit .ensures) ∙ not-true (c .before .values-fit .result) (c .if2 .taken))
 
 number-at-requires-3 : tie.Need-number-at-requires-3
 number-at-requires-3 c κs = search needs
@@ -82,7 +85,8 @@ returns-3 c =
     let h = c .before .before .before .before .before .before .before .before .before .number-at in
     let k = c .before .before .before .before .before .before .before .before .number-at2 in
     let b = now (s .args .buffer) in
-    count-not b (s .args .size) (s .pre .0) (s .pre .1) (h .result) (k .result) (h .ensures .0) (k .ensures .0) (placed (c .before .before .before .before .before .before)) _ (back (getD b 3 (pos 0)) (sfits-of (c .before .before .before .before .values-fit-arg .given))) (valued (c .before .before)) (c .before .number-at3 .result) (c .before .number-at3 .ensures .0) (omega arith)
+    count-not b (s .args .size) (s .pre .0) (s .pre .1) (h .result) (k .result) (h .ensures .0) (k .ensures .0) (placed (c .before .before .before .before .before .before)) _
+    (back (getD b 3 (pos 0)) (sfits-of (c .before .before .before .before .values-fit-arg .given))) (valued (c .before .before)) (c .before .number-at3 .result) (c .before .number-at3 .ensures .0) (omega arith)
 
 add-area : tie.Need-add-area
 add-area c = search needs
@@ -111,7 +115,8 @@ leaders-fit-requires c κs =
     let h = c .before .before .before .before .before .before .before .before .before .before .number-at in
     let k = c .before .before .before .before .before .before .before .before .before .number-at2 in
     let b = now (s .args .buffer) in
-    window-part b (s .args .size) (s .pre .0) (s .pre .1) (h .result) (k .result) (h .ensures .0) (k .ensures .0) (placed (c .before .before .before .before .before .before .before)) _ (back (getD b 3 (pos 0)) (sfits-of (c .before .before .before .before .before .values-fit-arg .given))) (valued (c .before .before .before)) (c .before .before .number-at3 .result) (c .before .before .number-at3 .ensures .0) (omega arith)
+    window-part b (s .args .size) (s .pre .0) (s .pre .1) (h .result) (k .result) (h .ensures .0) (k .ensures .0) (placed (c .before .before .before .before .before .before .before)) _
+    (back (getD b 3 (pos 0)) (sfits-of (c .before .before .before .before .before .values-fit-arg .given))) (valued (c .before .before .before)) (c .before .before .number-at3 .result) (c .before .before .number-at3 .ensures .0) (omega arith)
 
 returns-4 : tie.Need-returns-4
 returns-4 c =
@@ -119,7 +124,8 @@ returns-4 c =
     let h = c .before .before .before .before .before .before .before .before .before .before .before .number-at in
     let k = c .before .before .before .before .before .before .before .before .before .before .number-at2 in
     let b = now (s .args .buffer) in
-    leaders-by b (s .args .size) (s .pre .0) (s .pre .1) (h .result) (k .result) (h .ensures .0) (k .ensures .0) (placed (c .before .before .before .before .before .before .before .before)) _ (back (getD b 3 (pos 0)) (sfits-of (c .before .before .before .before .before .before .values-fit-arg .given))) (valued (c .before .before .before .before)) (c .before .before .before .number-at3 .result) (c .before .before .before .number-at3 .ensures .0) (omega arith) (c .leaders-fit .ensures)
+    leaders-by b (s .args .size) (s .pre .0) (s .pre .1) (h .result) (k .result) (h .ensures .0) (k .ensures .0) (placed (c .before .before .before .before .before .before .before .before)) _
+    (back (getD b 3 (pos 0)) (sfits-of (c .before .before .before .before .before .before .values-fit-arg .given))) (valued (c .before .before .before .before)) (c .before .before .before .number-at3 .result) (c .before .before .before .number-at3 .ensures .0) (omega arith) (c .leaders-fit .ensures)
 
 pub parts-kept-spec : {M : Type 1} → statement M
 parts-kept-spec =

@@ -39,11 +39,17 @@ loop-again : tie.Need-loop-again Inv-loop μ-loop
 loop-again c =
     let s = c .before .before .before .before in
     let l = c .before .before .before .loop in
-    let x = c .before .number-at in
-    (omega arith, omega arith, l .inv .2, λ m. laid-skip (now (s .args .slots)) (now (s .args .area)) (s .args .count) (s .args .next) (toZ w64 (ofZ w64 (s .args .value))) m (l .i) (x .result) (c .before .before .loop-test .taken) (x .ensures .0) (rw (eq-eqb (x .result) (s .args .next) (omega arith)) refl) (l .inv .3 m))
+    let x = c .before .number-at in (
+      omega arith,
+      omega arith,
+      l .inv .2,
+      λ m. laid-skip (now (s .args .slots)) (now (s .args .area)) (s .args .count) (s .args .next) (toZ w64 (ofZ w64 (s .args .value)))
+          m (l .i) (x .result) (c .before .before .loop-test .taken) (x .ensures .0) (rw (eq-eqb (x .result) (s .args .next) (omega arith)) refl) (l .inv .3 m),
+    )
 
 -- whether the leader at hand is greater than the value
-compared : (c : tie.After-cell Inv-loop μ-loop) → leZ (toZ w64 (ofZ w64 (c .cell .result))) (toZ w64 (ofZ w64 (c .before .before .before .before .before .args .value))) ≡ not (ltZ (toZ w64 (ofZ w64 (c .before .before .before .before .before .args .value))) (valueAt (now (c .before .before .before .before .before .args .slots)) (c .before .before .number-at .result)))
+compared : (c : tie.After-cell Inv-loop μ-loop) → leZ (toZ w64 (ofZ w64 (c .cell .result))) (toZ w64 (ofZ w64 (c .before .before .before .before .before .args .value))) ≡ not
+    (ltZ (toZ w64 (ofZ w64 (c .before .before .before .before .before .args .value))) (valueAt (now (c .before .before .before .before .before .args .slots)) (c .before .before .number-at .result)))
 compared c =
     let s = c .before .before .before .before .before in
     let v : ℤ = toZ w64 (ofZ w64 (s .args .value)) in
@@ -61,8 +67,13 @@ loop-again-2 c =
     let s = c .before .before .before .before .before .before in
     let l = c .before .before .before .before .before .loop in
     let x = c .before .before .before .number-at in
-    let t : ltZ (toZ w64 (ofZ w64 (s .args .value))) (valueAt (now (s .args .slots)) (x .result)) ≡ false = not-true _ (sym (compared (c .before)) ∙ c .if2 .taken) in
-    (omega arith, omega arith, l .inv .2, λ m. laid-skip (now (s .args .slots)) (now (s .args .area)) (s .args .count) (s .args .next) (toZ w64 (ofZ w64 (s .args .value))) m (l .i) (x .result) (c .before .before .before .before .loop-test .taken) (x .ensures .0) (rw (t, ne-eqb (x .result) (s .args .next) (λ z. omega arith)) refl) (l .inv .3 m))
+    let t : ltZ (toZ w64 (ofZ w64 (s .args .value))) (valueAt (now (s .args .slots)) (x .result)) ≡ false = not-true _ (sym (compared (c .before)) ∙ c .if2 .taken) in (
+      omega arith,
+      omega arith,
+      l .inv .2,
+      λ m. laid-skip (now (s .args .slots)) (now (s .args .area)) (s .args .count) (s .args .next) (toZ w64 (ofZ w64 (s .args .value))) m
+          (l .i) (x .result) (c .before .before .before .before .loop-test .taken) (x .ensures .0) (rw (t, ne-eqb (x .result) (s .args .next) (λ z. omega arith)) refl) (l .inv .3 m),
+    )
 
 cast-out : tie.Need-cast-out Inv-loop μ-loop
 cast-out c = omega arith
@@ -85,8 +96,14 @@ loop-again-3 c =
     let l = c .before .before .before .before .before .loop in
     let x = c .before .before .before .number-at in
     let t : ltZ (toZ w64 (ofZ w64 (s .args .value))) (valueAt (now (s .args .slots)) (x .result)) ≡ true = not-false _ (sym (compared (c .before)) ∙ c .if2 .left) in
-    let e : toZ w64 (x .result) ≡ pos (x .result) = back (pos (x .result)) (record { sfits = omega arith }) in
-    (omega arith, omega arith, simp length-set (l .inv .2), λ m. rw e (laid-add (now (s .args .slots)) (now (s .args .area)) (s .args .count) (s .args .next) (toZ w64 (ofZ w64 (s .args .value))) m (l .i) (x .result) (c .before .before .before .before .loop-test .taken) (x .ensures .0) (omega arith) (rw (t, ne-eqb (x .result) (s .args .next) (λ z. omega arith)) refl) (l .inv .3 m)))
+    let e : toZ w64 (x .result) ≡ pos (x .result) = back (pos (x .result)) (record { sfits = omega arith }) in (
+      omega arith,
+      omega arith,
+      simp length-set (l .inv .2),
+      λ m. rw e
+          (laid-add (now (s .args .slots)) (now (s .args .area)) (s .args .count) (s .args .next) (toZ w64 (ofZ w64 (s .args .value))) m (l .i) (x .result)
+          (c .before .before .before .before .loop-test .taken) (x .ensures .0) (omega arith) (rw (t, ne-eqb (x .result) (s .args .next) (λ z. omega arith)) refl) (l .inv .3 m)),
+    )
 
 cast-out-2 : tie.Need-cast-out-2 Inv-loop μ-loop
 cast-out-2 c = record { sfits = omega arith }

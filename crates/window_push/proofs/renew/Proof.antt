@@ -76,11 +76,13 @@ returns c =
     let v : toZ w64 (ofZ w64 (s .args .value)) ≡ s .args .value = back (s .args .value) (s .fits .value) in
     let lead = leading-same (λ i. leadersWith (slotsIn b) (leaderAreaIn b) (countIn b) (p .next i) (v i)) (c .before .before .before .before .before .before .before .before .before .before .lead-in .ensures) in
     let x : ℤ = c .before .before .before .before .before .before .before .before .before .before .before .before .before .sum-with .result in
-    let t : toZ w64 (ofZ w64 x) ≡ totalIn b -ℤ getD b (5 + nextIn b) (pos 0) +ℤ s .args .value = back x (sfits-of (c .before .before .before .before .before .before .before .before .before .before .before .before .before .sum-with .ok)) ∙ (c .before .before .before .before .before .before .before .before .before .before .before .before .before .sum-with .ensures ∙ (λ i. totalIn b -ℤ getD b (5 + p .next i) (pos 0) +ℤ v i)) in
+    let t : toZ w64 (ofZ w64 x) ≡ totalIn b -ℤ getD b (5 + nextIn b) (pos 0) +ℤ s .args .value = back x (sfits-of (c .before .before .before .before .before .before .before .before .before .before .before .before .before .sum-with .ok))
+    ∙ (c .before .before .before .before .before .before .before .before .before .before .before .before .before .sum-with .ensures ∙ (λ i. totalIn b -ℤ getD b (5 + p .next i) (pos 0) +ℤ v i)) in
     let h : c .before .before .before .before .before .before .before .before .grown .result ≡ Ring.grown (sizeIn b) (heldIn b) = c .before .before .before .before .before .before .before .before .grown .ensures .0 ∙ (λ i. Ring.grown (p .size i) (p .held i)) in
     let k : c .before .before .before .before .before .before .before .after .result ≡ Window.after (sizeIn b) (nextIn b) = c .before .before .before .before .before .before .before .after .ensures .0 ∙ (λ i. Window.after (p .size i) (p .next i)) in
     let y : List ℤ = c .before .before .before .before .before .store .last .0 in
-    let e : y ≡ stored b (Ring.grown (sizeIn b) (heldIn b)) (Window.after (sizeIn b) (nextIn b)) (toZ w64 (ofZ w64 x)) (c .before .before .before .before .before .before .before .before .before .before .lead-in .result) (nextIn b) (s .args .value) = c .before .before .before .before .before .store .ensures ∙ (λ i. stored b (h i) (k i) (toZ w64 (ofZ w64 x)) (c .before .before .before .before .before .before .before .before .before .before .lead-in .result) (p .next i) (v i)) in
+    let e : y ≡ stored b (Ring.grown (sizeIn b) (heldIn b)) (Window.after (sizeIn b) (nextIn b)) (toZ w64 (ofZ w64 x)) (c .before .before .before .before .before .before .before .before .before .before .lead-in .result) (nextIn b)
+    (s .args .value) = c .before .before .before .before .before .store .ensures ∙ (λ i. stored b (h i) (k i) (toZ w64 (ofZ w64 x)) (c .before .before .before .before .before .before .before .before .before .before .lead-in .result) (p .next i) (v i)) in
     let l : length y ≡ length b = c .before .before .before .before .before .store .kept .0 in
     let m : length (take (5 + 2 * n - (5 + n)) (drop (5 + n) y)) ≡ sizeIn b = omega (arith, length-take (5 + 2 * n - (5 + n)) (drop (5 + n) y), length-drop (5 + n) y, p .size, p .long) in
     let j : 5 + 2 * n - (5 + n) ≡ sizeIn b = omega (arith, p .size) in

@@ -31,7 +31,9 @@ cast-buffer-3 : tie.Need-cast-buffer-3
 cast-buffer-3 c = search needs
 
 slice-set-from-buffer-3 : tie.Need-slice-set-from-buffer-3
-slice-set-from-buffer-3 c = lt-length-set (set (set (now (c .args .buffer)) 1 (toZ w64 (c .args .held))) 2 (toZ w64 (c .args .next))) 3 (toZ w64 (ofZ w64 (c .args .sum))) (lt-length-set (set (now (c .args .buffer)) 1 (toZ w64 (c .args .held))) 2 (toZ w64 (c .args .next)) (lt-length-set (now (c .args .buffer)) 1 (toZ w64 (c .args .held)) (omega arith)))
+slice-set-from-buffer-3 c =
+    lt-length-set (set (set (now (c .args .buffer)) 1 (toZ w64 (c .args .held))) 2 (toZ w64 (c .args .next))) 3 (toZ w64 (ofZ w64 (c .args .sum)))
+    (lt-length-set (set (now (c .args .buffer)) 1 (toZ w64 (c .args .held))) 2 (toZ w64 (c .args .next)) (lt-length-set (now (c .args .buffer)) 1 (toZ w64 (c .args .held)) (omega arith)))
 
 add-value : tie.Need-add-value
 add-value c = search needs

@@ -39,7 +39,8 @@ less c =
     let z : natAbs (getD b (5 + s .args .next) (pos 0)) ≤ reach = rw (s .pre .2) (slot-size b (s .pre .0)) in
     omega (arith, natAbs-sub (totalIn b) (getD b (5 + s .args .next) (pos 0)), sum-size b (s .pre .0))
 
-middle : (c : tie.After-cell2) → toZ w64 (ofZ w64 (totalIn (now (c .before .before .args .buffer)) -ℤ getD (now (c .before .before .args .buffer)) (5 + c .before .before .args .next) (pos 0))) ≡ totalIn (now (c .before .before .args .buffer)) -ℤ getD (now (c .before .before .args .buffer)) (5 + c .before .before .args .next) (pos 0)
+middle : (c : tie.After-cell2) → toZ w64 (ofZ w64 (totalIn (now (c .before .before .args .buffer)) -ℤ getD (now (c .before .before .args .buffer)) (5 + c .before .before .args .next) (pos 0)))
+    ≡ totalIn (now (c .before .before .args .buffer)) -ℤ getD (now (c .before .before .args .buffer)) (5 + c .before .before .args .next) (pos 0)
 middle c = toZ-ofZ (fits64 (totalIn (now (c .before .before .args .buffer)) -ℤ getD (now (c .before .before .args .buffer)) (5 + c .before .before .args .next) (pos 0)) (omega (arith, less c)))
 
 fits : (c : tie.After-cell2) → SFits w64 (totalIn (now (c .before .before .args .buffer)) -ℤ getD (now (c .before .before .args .buffer)) (5 + c .before .before .args .next) (pos 0) +ℤ c .before .before .args .value)
