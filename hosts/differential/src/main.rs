@@ -34,6 +34,8 @@ impl Table {
 struct Comparison {
     r: Random,
     made: u64,
+    /// The calls on windows, which `made` does not count.
+    windows: u64,
     /// The answers: call and number of the refusal, 0 for none.
     answers: BTreeMap<(&'static str, u32), u64>,
     samples: Vec<Vec<u8>>,
@@ -156,12 +158,12 @@ impl Comparison {
 
     /// A window after some of the runs.
     fn window(&mut self) -> Result<(), String> {
-        if !self.r.chance(10) {
+        if !self.r.chance(5) {
             return Ok(());
         }
-        let Comparison { r, made, answers, .. } = self;
+        let Comparison { r, windows, answers, .. } = self;
         windows::run(r, |call, number| {
-            *made += 1;
+            *windows += 1;
             *answers.entry((call, number)).or_default() += 1;
         })
     }
@@ -203,7 +205,7 @@ fn main() {
     let calls = number(arguments.next()).unwrap_or(CALLS);
     println!("seed {seed}");
     let samples = vec![samples::words(), samples::lines(), samples::brackets(), samples::chain(1, 0, 0), samples::chain(3, 2, 8)];
-    let mut c = Comparison { r: Random::new(seed), made: 0, answers: BTreeMap::new(), samples };
+    let mut c = Comparison { r: Random::new(seed), made: 0, windows: 0, answers: BTreeMap::new(), samples };
     while c.made < calls {
         let table = c.table();
         let outcome = c.judge(&table.bytes).and_then(|()| c.run(&table)).and_then(|()| c.window());
@@ -213,7 +215,7 @@ fn main() {
         }
     }
     c.report();
-    println!("{} calls, all alike", c.made);
+    println!("{} calls and {} on windows, all alike", c.made, c.windows);
     let missing = c.missing();
     if calls >= CALLS && !missing.is_empty() {
         println!("but no call was refused with {missing:?}");
