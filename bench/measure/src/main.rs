@@ -160,6 +160,33 @@ fn run_segments() {
     }
 }
 
+/// A later call on a window, in nanoseconds: values brought to a window that is full.
+fn values(size: usize, mut bring: impl FnMut(i64)) -> impl FnMut() -> f64 {
+    let values: Vec<i64> = (0..4096u64).map(|i| (i.wrapping_mul(0x9e37_79b9_7f4a_7c15) >> 40) as i64).collect();
+    values[..size].iter().for_each(|&v| bring(v));
+    move || {
+        let start = Instant::now();
+        values.iter().for_each(|&v| bring(black_box(v)));
+        start.elapsed().as_nanos() as f64 / values.len() as f64
+    }
+}
+
+fn windows() {
+    println!("\n| window | cells | plain Rust, ns a value | proved, ns a value | proved / plain |");
+    println!("|---|---|---|---|---|");
+    for size in [1, 8, 64] {
+        let cells = segment::window::length(size);
+        let (mut a, mut b) = (vec![0; cells], vec![0; cells]);
+        plain::window::open(size as u64, &mut a).unwrap();
+        segment::window::open(size as u64, &mut b).unwrap();
+        let plain = values(size, |v| assert!(black_box(plain::window::value(v, &mut a)).is_some()));
+        let proved = values(size, |v| assert!(black_box(segment::window::bring(Ok((v, 0)), &mut b)).is_ok()));
+        let (x, y) = beside(plain, proved);
+        assert_eq!(a, b, "size {size}");
+        println!("| of the last {size} | {cells} | {x:.0} | {y:.0} | {:.2} |", y / x);
+    }
+}
+
 /// The commands that `bench/listing` gives to both programs: `COMMAND TABLE`, so many times, for the chain of 47.
 fn commands(command: &str, times: usize) {
     let hex: String = samples::chain(47, 33, 512).iter().map(|b| format!("{b:02x}")).collect();
@@ -177,4 +204,5 @@ fn main() {
     judge_fields();
     call_without_tokens();
     run_segments();
+    windows();
 }

@@ -14,6 +14,8 @@ use engine::Answer;
 use engine::Called;
 use engine::Record;
 
+pub mod windows;
+
 // ---- calls on a table
 
 // The verdict on a table: number and offset of its refusal, or 0 and 0.

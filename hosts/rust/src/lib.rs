@@ -14,9 +14,11 @@
 //! ```
 pub mod lent;
 mod refusal;
+pub mod window;
 
 pub use lent::check;
 pub use refusal::Refusal;
+pub use window::{Standing, Window};
 
 use lent::{Memory, Record};
 

@@ -4,7 +4,7 @@ use std::fmt;
 /// Why a call was turned back: a number, and what it comes with.
 #[derive(Clone, Copy, Debug, PartialEq, Eq)]
 pub struct Refusal {
-    /// 1 to 14 for a table, 20 to 24 for a segment, 30 to 35 for the state of a run.
+    /// 1 to 14 for a table, 20 to 24 for a segment, 30 to 35 for the state of a run, 42 for a window.
     pub number: u32,
     /// The offset of a table's field, or the tokens read.
     pub count: u64,
@@ -49,6 +49,7 @@ impl Refusal {
             33 => "run closed",
             34 => "stacks do not fit",
             35 => "too many tokens or moves",
+            42 => "window size, buffer or value does not fit",
             _ => "unknown refusal",
         }
     }
@@ -56,11 +57,12 @@ impl Refusal {
 
 impl fmt::Display for Refusal {
     fn fmt(&self, f: &mut fmt::Formatter) -> fmt::Result {
-        write!(f, "refused with {}, {}, ", self.number, self.reason())?;
+        write!(f, "refused with {}, {}", self.number, self.reason())?;
         match self.offset() {
-            Some(offset) => write!(f, "at byte {offset}"),
-            None if self.count == 1 => write!(f, "after 1 token"),
-            None => write!(f, "after {} tokens", self.count),
+            _ if self.number == 42 => Ok(()),
+            Some(offset) => write!(f, ", at byte {offset}"),
+            None if self.count == 1 => write!(f, ", after 1 token"),
+            None => write!(f, ", after {} tokens", self.count),
         }
     }
 }
