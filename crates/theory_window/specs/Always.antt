@@ -1,5 +1,5 @@
 -- After an opening and any list of calls the buffer holds the last values that entered, and the next call is answered by a scan of them.
-use Prim.Native.Nat.{ℕ, _+_, _-_, _≤_}
+use Prim.Native.Nat.{ℕ, _+_, _≤_}
 use native.Mathlib.Omega.{arith}
 use mathlib.Core.Path.{_≡_, refl, sym, ap, _∙_}
 use mathlib.Core.Bool.{Bool, true, false, _&&_, not, cond}
@@ -9,7 +9,7 @@ use lib.ListN.{length, drop, length-append, length-drop}
 use lib.Dec.{T, leb}
 use lib.IntN.{ℤ}
 use Rattle.meaning.specs.Value.{inRange}
-use Rattle.meaning.specs.Calls.{Answer, more, value, refused, tableRefused}
+use Rattle.meaning.specs.Calls.{more, value, refused, tableRefused}
 use Rattle.meaning.specs.Window.{lastOf, turnedBack, shown, formOf, formLength, valuesIn, sizeFits, wellKept, opensWindow, bringsValue, bringsRefusal}
 use Rattle.meaning.specs.WindowStatements.{WindowCall, opening, later, callsWindow, afterCalls, Entered, entered, entering, enteredBy, outside, scanned, ScanAlways, KeptAlways}
 use Rattle.theory_base.specs.Members.{T→true, true→T}

@@ -9,9 +9,9 @@ use lib.ListN.{length, getD, take, drop, set, length-drop, length-set, length-ma
 use lib.Seq.{drop-drop, take-append-le, length-take-le, take-nil, getD-append-add}
 use lib.Dec.{eqb, leb, ltb}
 use lib.IntN.{ℤ, pos, _+ℤ_, _-ℤ_}
-use Rattle.meaning.specs.Base.{all, keep, consIf}
+use Rattle.meaning.specs.Base.{all, keep}
 use Rattle.meaning.specs.Value.{inRange}
-use Rattle.meaning.specs.Window.{total, largest, WindowAnswer, stands, empty, shown, turned, order, zeros, slotsOf, after, valueAt, leads, leadersOf, leaderCells, cells}
+use Rattle.meaning.specs.Window.{total, largest, stands, empty, shown, turned, order, zeros, slotsOf, after, valueAt, leads, leadersOf, leaderCells, cells}
 use Rattle.meaning.specs.Window.{formOf, formLength, small, numberAt, sizeIn, heldIn, nextIn, totalIn, slotsIn, valuesIn, sameNumber, sizeFits, placeFits, sameCells, wellKept, written, valuesWith}
 use Rattle.meaning.specs.WindowStatements.{answerIn}
 use Rattle.theory_window.specs.Parts.{countIn, leaderAreaIn, isZero, eqNumbers, valuesFit, leadersFit, keptAs, keptParts}

@@ -9,7 +9,7 @@ use lib.ListN.{length, take, drop, length-append, length-drop, length-replicate,
 use lib.Seq.{take-at, drop-at}
 use lib.Dec.{eqb, leb, ltb}
 use lib.IntN.{ℤ, pos, negsuc}
-use Rattle.meaning.specs.Base.{all, consIf}
+use Rattle.meaning.specs.Base.{all}
 use Rattle.meaning.specs.Value.{inRange}
 use Rattle.meaning.specs.Window.{total, turned, order, zeros, slotsOf, after, valueAt, leadersOf, leaderCells, cells, formOf, formLength, small, sizeIn, heldIn, nextIn, slotsIn, valuesIn, sameNumber, placeFits, sizeFits, written, sameCells, wellKept}
 use Rattle.theory_window.specs.Parts.{countIn, leaderAreaIn, isZero, eqNumbers, leadersFit, keptAs, keptParts}

@@ -9,7 +9,7 @@ use lib.ListN.{length, drop, length-append, length-drop, length-replicate}
 use lib.Seq.{drop-nil, drop-at, drop-drop, drop-append-le}
 use lib.Dec.{leb}
 use lib.IntN.{ℤ, pos}
-use Rattle.meaning.specs.Base.{all, consIf}
+use Rattle.meaning.specs.Base.{all}
 use Rattle.meaning.specs.Value.{inRange}
 use Rattle.meaning.specs.Window.{lastOf, empty, turnedBack, shown, zeros, after, formOf, formLength, sizeIn, nextIn, valuesIn, sizeFits, wellKept, Outcome, outcome, written, opensWindow, valuesWith, bringsValue}
 use Rattle.meaning.specs.WindowStatements.{afterValues, Reached}

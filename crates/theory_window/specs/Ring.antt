@@ -9,7 +9,7 @@ use lib.ListN.{length, getD, take, drop, set, length-append, length-take, length
 use lib.Seq.{take-at, drop-at, drop-cons, drop-drop, set-split, append-snoc, drop-append-le, length-take-le}
 use lib.Dec.{eqb, ltb}
 use lib.IntN.{ℤ, pos}
-use Rattle.meaning.specs.Base.{all, countFrom, consIf}
+use Rattle.meaning.specs.Base.{all, countFrom}
 use Rattle.meaning.specs.Window.{turned, order, zeros, slotsOf, after, lastOf, valueAt}
 use Rattle.theory_window.specs.Lists.{all-append, all-take, all-drop, all-up, length-up, drop-up, take-up, set-up, map-turned, map-drop, values-up}
 
