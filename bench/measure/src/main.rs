@@ -118,10 +118,8 @@ fn judge_fields() {
 
 /// The clash test at its worst: every alternative against every earlier one.
 fn judge_alternatives() {
-    let tables = [
-        ("127 alternatives, ranges only", samples::alternatives(false)),
-        ("127 alternatives, comparisons", samples::alternatives(true)),
-    ];
+    let tables =
+        [("127 alternatives, ranges only", samples::alternatives(false)), ("127 alternatives, comparisons", samples::alternatives(true))];
     println!("\n| table | bytes | pairs | plain Rust, µs | proved, µs | proved / plain |");
     println!("|---|---|---|---|---|---|");
     for (name, table) in &tables {

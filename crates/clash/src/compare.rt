@@ -73,12 +73,7 @@ fn constrain_by(stretch: &[u8], m: &mut [i64])
 }
 
 // Whether some values meet all entry conditions of both.
-pub fn leaves_differences(
-    table: &[u8],
-    offsets: &[u32; 128],
-    later: usize,
-    earlier: usize,
-) -> bool
+pub fn leaves_differences(table: &[u8], offsets: &[u32; 128], later: usize, earlier: usize) -> bool
     requires { ⌜ (later < 128) × (earlier < 128) × Placed (now table) (now offsets) later × Placed (now table) (now offsets) earlier ⌝ }
     ensures { λ r. ⌜ r ≡ solvable 8 (atEntry (productionAt (grammarIn (now (table .entry))) later .conditions) ++ atEntry (productionAt (grammarIn (now (table .entry))) earlier .conditions)) ⌝ }
 {

@@ -35,13 +35,7 @@ pub fn range_fault(width: usize, inh: &[u8; 13], syn: &[u8; 13], body: &[u8]) ->
 }
 
 // A comparison, whose body has the length `size`.
-pub fn at_most_fault(
-    size: usize,
-    width: usize,
-    inh: &[u8; 13],
-    syn: &[u8; 13],
-    body: &[u8],
-) -> u8
+pub fn at_most_fault(size: usize, width: usize, inh: &[u8; 13], syn: &[u8; 13], body: &[u8]) -> u8
     requires { ⌜ (5 ≤ size) × (width ≤ 12) ⌝ }
     ensures { λ r. ⌜ r ≡ atMostFault size width (now (inh .entry)) (now (syn .entry)) (now (body .entry)) ⌝ }
 {

@@ -94,8 +94,7 @@ settled c =
     let b = w1 .before .before in
     let e2 = b .before in
     let h = here (entryOf e2) in
-    let k = e2 .before .byte-at .ensures .0 in
-    (
+    let k = e2 .before .byte-at .ensures .0 in (
       L.field-taken rankBy _ _ h _ (is-range e2),
       L.raise-here _ _ h _ k (omega arith) _ _ (b .byte-at2 .ensures .0) refl _ _ (rs .before .biased-word .ensures ∙ ap (λ z. biased (signed z)) (w1 .word-at .ensures)) (rs .raise .ensures),
       L.lower-here _ _ h _ k (omega arith) _ _ (b .byte-at2 .ensures .0) refl _ _ (c .before .biased-word2 .ensures ∙ ap (λ z. biased (signed z)) (w2 .word-at2 .ensures)) (c .lower .ensures),
