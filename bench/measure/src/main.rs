@@ -116,6 +116,19 @@ fn judge_fields() {
     }
 }
 
+/// The clash test at its worst: every alternative against every earlier one.
+fn judge_alternatives() {
+    let tables =
+        [("127 alternatives, ranges only", samples::alternatives(false)), ("127 alternatives, comparisons", samples::alternatives(true))];
+    println!("\n| table | bytes | pairs | plain Rust, µs | proved, µs | proved / plain |");
+    println!("|---|---|---|---|---|---|");
+    for (name, table) in &tables {
+        assert_eq!((Proved::check(table), Plain::check(table)), ((0, 0), (0, 0)), "{name}");
+        let (a, b) = beside(judging::<Plain>(table), judging::<Proved>(table));
+        println!("| {name} | {} | {} | {:.0} | {:.0} | {:.2} |", table.len(), 127 * 126 / 2, a / 1000.0, b / 1000.0, b / a);
+    }
+}
+
 fn call_without_tokens() {
     let words = samples::words();
     let tables = [
@@ -202,6 +215,7 @@ fn main() {
     }
     judge_tables();
     judge_fields();
+    judge_alternatives();
     call_without_tokens();
     run_segments();
     windows();

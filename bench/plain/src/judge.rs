@@ -177,38 +177,81 @@ impl<'a> Analysis<'a> {
     }
 }
 
-/// The intersection of a production's entry ranges, attribute by attribute; none without entry conditions.
-fn entry_ranges(table: &[u8], o: &Outline) -> Vec<Option<[(i32, i32); 8]>> {
-    (0..o.productions)
-        .map(|p| {
-            let end = if p + 1 < o.productions { o.offsets[p + 1] as usize } else { table.len() };
-            let mut at = o.offsets[p] as usize;
-            let mut found = None;
-            while at < end {
-                let size = table[at + 1] as usize * 256 + table[at + 2] as usize;
-                let b = &table[at + 3..at + 3 + size];
-                if table[at] == 5 && b[0] == 0 && b[1] == 0 {
-                    let ranges = found.get_or_insert([(i32::MIN, i32::MAX); 8]);
-                    let r = &mut ranges[b[2] as usize - 1];
-                    *r = (r.0.max(constant(b, 3)), r.1.min(constant(b, 7)));
-                }
-                at += 3 + size;
-            }
-            found
-        })
-        .collect()
+/// Values are from minus this to this.
+const LIMIT: i64 = 1_000_000_000_000;
+
+/// The entry conditions of a production: the intersection of its ranges, attribute by attribute, and its comparisons.
+pub struct Entry {
+    ranges: [(i64, i64); 8],
+    /// Attribute a is at most attribute b plus c.
+    compared: Vec<(usize, usize, i32)>,
 }
 
-fn can_both(a: &Option<[(i32, i32); 8]>, b: &Option<[(i32, i32); 8]>) -> bool {
+/// None without entry conditions.
+fn entry(table: &[u8], o: &Outline, p: usize) -> Option<Entry> {
+    let end = if p + 1 < o.productions { o.offsets[p + 1] as usize } else { table.len() };
+    let mut at = o.offsets[p] as usize;
+    let mut found: Option<Entry> = None;
+    while at < end {
+        let size = table[at + 1] as usize * 256 + table[at + 2] as usize;
+        let b = &table[at + 3..at + 3 + size];
+        if table[at] == 5 && b[1] == 0 && (b[0] == 0 || b[3] == 0) {
+            let e = found.get_or_insert_with(|| Entry { ranges: [(-LIMIT, LIMIT); 8], compared: vec![] });
+            let r = &mut e.ranges[b[2] as usize - 1];
+            match b[0] {
+                0 => *r = (r.0.max(constant(b, 3).into()), r.1.min(constant(b, 7).into())),
+                1 => e.compared.push((b[2] as usize, b[4] as usize, 0)),
+                _ => e.compared.push((b[2] as usize, b[4] as usize, constant(b, 5))),
+            }
+        }
+        at += 3 + size;
+    }
+    found
+}
+
+/// Values at which the entry conditions of both hold, by Bellman and Ford: node 0 is zero, node a the attribute a.
+fn values(a: &Entry, b: &Entry) -> Option<[i64; 8]> {
+    let mut edges: Vec<(usize, usize, i64)> = Vec::new();
+    for e in [a, b] {
+        for (k, &(low, high)) in e.ranges.iter().enumerate() {
+            edges.extend([(k + 1, 0, high), (0, k + 1, -low)]);
+        }
+        edges.extend(e.compared.iter().map(|&(x, y, c)| (x, y, i64::from(c))));
+    }
+    let mut at = [0i64; 9];
+    for round in 0.. {
+        let before = at;
+        for &(x, y, c) in &edges {
+            at[x] = at[x].min(at[y] + c);
+        }
+        if at == before {
+            break;
+        }
+        if round == 9 {
+            return None;
+        }
+    }
+    Some(std::array::from_fn(|k| at[k + 1] - at[0]))
+}
+
+fn can_both(a: &Option<Entry>, b: &Option<Entry>) -> bool {
     match (a, b) {
-        (Some(a), Some(b)) => a.iter().zip(b).all(|(x, y)| x.0.max(y.0) <= x.1.min(y.1)),
+        (Some(a), Some(b)) if a.compared.is_empty() && b.compared.is_empty() => {
+            a.ranges.iter().zip(&b.ranges).all(|(x, y)| x.0.max(y.0) <= x.1.min(y.1))
+        }
+        (Some(a), Some(b)) => values(a, b).is_some(),
         _ => true,
     }
 }
 
+/// Values at which productions p and q can both be entered; none where one of them has no entry condition.
+pub fn entered_with(table: &[u8], o: &Outline, p: usize, q: usize) -> Option<[i64; 8]> {
+    values(&entry(table, o, p)?, &entry(table, o, q)?)
+}
+
 /// The lowest production that clashes with an earlier one, and the lowest of those.
 pub fn clash(table: &[u8], o: &Outline, sets: &Sets) -> Option<(usize, usize)> {
-    let entries = entry_ranges(table, o);
+    let entries: Vec<Option<Entry>> = (0..o.productions).map(|p| entry(table, o, p)).collect();
     for p in 0..o.productions {
         for q in 0..p {
             let meet = o.rows[p][0] == o.rows[q][0] && sets.starts[p] & sets.starts[q] != 0;

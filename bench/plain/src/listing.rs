@@ -8,11 +8,13 @@ const FUNCTIONS: [&str; 9] = ["const", "copy", "sum", "diff", "prod", "max", "mi
 
 fn condition(out: &mut String, p: usize, k: usize, w: &[u32]) {
     let a = w[0] & 127;
-    if w[0] >> 7 & 15 == 0 {
-        writeln!(out, "{p} P{k} range {a} {} {}", w[1] as i32, w[2] as i32).unwrap();
-    } else {
-        writeln!(out, "{p} P{k} atmost {a} {}", w[0] >> 11 & 127).unwrap();
+    let b = w[0] >> 11 & 127;
+    match w[0] >> 7 & 15 {
+        0 => writeln!(out, "{p} P{k} range {a} {} {}", w[1] as i32, w[2] as i32),
+        1 => writeln!(out, "{p} P{k} atmost {a} {b}"),
+        _ => writeln!(out, "{p} P{k} atmost {a} {b} {}", w[1] as i32),
     }
+    .unwrap();
 }
 
 fn rule(out: &mut String, p: usize, k: usize, w: &[u32]) {

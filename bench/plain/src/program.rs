@@ -67,8 +67,8 @@ fn write_condition(w: &mut Writer, b: &[u8], select: impl Fn(u8, u8) -> u32) {
         w.put(constant(b, 3) as u32);
         w.put(constant(b, 7) as u32);
     } else {
-        w.put(select(b[1], b[2]) + 128 + 2048 * select(b[3], b[4]));
-        w.put(0);
+        w.put(select(b[1], b[2]) + 128 * b[0] as u32 + 2048 * select(b[3], b[4]));
+        w.put(if b[0] == 1 { 0 } else { constant(b, 5) as u32 });
         w.put(0);
     }
 }

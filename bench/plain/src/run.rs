@@ -73,7 +73,7 @@ impl Machine<'_> {
         if w >> 7 & 15 == 0 {
             signed(self.program[at + 1]) <= a && a <= signed(self.program[at + 2])
         } else {
-            a <= self.register(w >> 11 & 127)
+            a <= self.register(w >> 11 & 127) + signed(self.program[at + 1])
         }
     }
 

@@ -124,6 +124,31 @@ pub fn largest() -> Vec<u8> {
     t
 }
 
+/// 127 alternatives of one nonterminal for one token, the most there can be: told apart by the value of its first attribute, or by how
+/// far that is above the second.
+pub fn alternatives(comparing: bool) -> Vec<u8> {
+    let mut t = Vec::new();
+    field(&mut t, 1, &[1, 2, 0, 1]);
+    field(&mut t, 2, &[0, 1]);
+    field(&mut t, 2, &[2, 1]);
+    field(&mut t, 3, &[0, 1, 129]);
+    field(&mut t, 4, &[1, 1, 0, 0, 0, 0, 7]);
+    field(&mut t, 4, &[1, 2, 0, 0, 0, 0, 0]);
+    field(&mut t, 4, &[0, 1, 1, 1, 3]);
+    for i in 0..127u8 {
+        field(&mut t, 3, &[1, 1, 0]);
+        field(&mut t, 4, &[0, 3, 0, 0, 0, 0, i]);
+        if comparing {
+            field(&mut t, 5, &[2, 0, 1, 0, 2, 0, 0, 0, i]);
+            field(&mut t, 5, &[&[2, 0, 2, 0, 1], &(-i32::from(i)).to_be_bytes()[..]].concat());
+        } else {
+            field(&mut t, 5, &[0, 0, 1, 0, 0, 0, i, 0, 0, 0, i]);
+            field(&mut t, 5, &[0, 0, 2, 0, 0, 0, 0, 0, 0, 0, 9]);
+        }
+    }
+    t
+}
+
 /// Ten productions with a rule for each of 8 attributes of their left side and of each symbol on their right, in the order of their
 /// occurrences or against it. With 12 symbols, the most a production can have, a production has 104 rules and the table 1,024.
 pub fn many_rules(symbols: u8, reversed: bool) -> Vec<u8> {

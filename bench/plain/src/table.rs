@@ -208,19 +208,16 @@ impl Reader {
             return 4;
         }
         let kind = b[0];
-        if kind <= 1 && b.len() != [11, 5][kind as usize] {
+        if kind <= 2 && b.len() != [11, 5, 9][kind as usize] {
             return 4;
         }
-        if kind > 1 || !self.is_known(b[1], b[2]) || (kind == 1 && !self.is_known(b[3], b[4])) {
+        if kind > 2 || !self.is_known(b[1], b[2]) || (kind != 0 && !self.is_known(b[3], b[4])) {
             return 5;
         }
-        if !self.is_input(b[1], b[2]) || (kind == 1 && !self.is_input(b[3], b[4])) {
+        if !self.is_input(b[1], b[2]) || (kind != 0 && !self.is_input(b[3], b[4])) {
             return 7;
         }
         if kind == 0 && constant(b, 3) > constant(b, 7) {
-            return 10;
-        }
-        if kind == 1 && b[1] == 0 && b[3] == 0 {
             return 10;
         }
         self.outline.conditions += 1;

@@ -12,9 +12,7 @@ pub mod TokenAgreeing
 pub mod Recursion
 pub mod RecursionAgreeing
 pub mod Numbers
-pub mod Entries
-pub mod Clashing
+pub mod Starts
 pub mod Finding
 pub mod Judged
-pub mod EntryImage
 pub mod Cases

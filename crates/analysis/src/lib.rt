@@ -1,14 +1,12 @@
-// Refusals 11 to 13, judged on the image of a table's productions (specs/Rows) and entry conditions (specs/Entries).
-pub mod clash;
+// Refusals 11 and 12, and FIRST-then-FOLLOW of each production, on the image of a table's productions (specs/Rows).
 pub mod closing;
 pub mod follow;
 pub mod fronts;
 pub mod judging;
 pub mod reaching;
 pub mod recursion;
+pub mod starts;
 
-use crate::clash::all_starts;
-use crate::clash::lowest_clash;
 use crate::closing::closure;
 use crate::follow::follow;
 use crate::fronts::fronts;
@@ -17,6 +15,7 @@ use crate::judging::lowest_useless;
 use crate::reaching::reach;
 use crate::reaching::right_sets;
 use crate::recursion::recursive;
+use crate::starts::all_starts;
 use token_set::TokenSet;
 ghost use mathlib.Core.Path.{_≡_};
 ghost use mathlib.Core.List.{List};
@@ -30,7 +29,6 @@ ghost use Rattle.token_set.specs.Words.{setOf};
 ghost use Rattle.analysis.specs.Rows.{Image, Rows};
 ghost use Rattle.analysis.specs.Views.{members};
 ghost use Rattle.analysis.specs.Numbers.{Found};
-ghost use Rattle.analysis.specs.Entries.{Entries};
 ghost use Rattle.analysis.specs.Follows.{Followed};
 ghost use Rattle.analysis.specs.Agreeing.{Marks};
 ghost use Rattle.analysis.specs.Finding.{isUseless, Analysed};
@@ -95,26 +93,23 @@ pub fn starting(rows: &[u8; 2048], count: usize, start: u8, null: u64, sets: &mu
     all_starts(rows, count, null, &first, &after, sets);
 }
 
-// The number of the refusal, or 0; its nonterminal or production.
+// The number of the refusal, or 0; its nonterminal.
 pub struct Analysis {
     pub number: u32,
     pub index: usize,
 }
 
-// The lent array holds, of an accepted table, FIRST-then-FOLLOW of each production.
+// The lent array holds, where the number is 0, FIRST-then-FOLLOW of each production.
 pub fn analyse(
     rows: &[u8; 2048],
     count: usize,
     nonterminals: usize,
     start: u8,
-    lows: &[u32; 1024],
-    highs: &[u32; 1024],
-    flags: &[u8; 128],
     sets: &mut [u64; 128],
 ) -> Analysis
     requires { ⌜ Image (now rows) count × (nonterminals ≤ 48) × (start < 48) × (length (now sets) ≡ 128) ⌝ }
-    ensures { λ r. ⌜ ((g : Grammar) → Rows (now (rows .entry)) count g → Entries (now (lows .entry)) (now (highs .entry)) (now (flags .entry)) g
-        → nonterminals ≡ nonterminalCount g → start ≡ g .start → Analysed g (r .number) (r .index) (now (sets .exit))) ⌝ }
+    ensures { λ r. ⌜ ((g : Grammar) → Rows (now (rows .entry)) count g → nonterminals ≡ nonterminalCount g → start ≡ g .start
+        → Analysed g (r .number) (r .index) (now (sets .exit))) ⌝ }
 {
     let useless_at = useless(rows, count, nonterminals, start, sets);
     if useless_at < nonterminals {
@@ -132,13 +127,6 @@ pub fn analyse(
         };
     }
     starting(rows, count, start, null, sets);
-    let clash_at = lowest_clash(rows, count, sets, lows, highs, flags);
-    if clash_at < count {
-        return Analysis {
-            number: 13,
-            index: clash_at,
-        };
-    }
     Analysis {
         number: 0,
         index: 0,

@@ -3,6 +3,7 @@ use Prim.Native.Nat.{ℕ, zero, suc, _+_, _-_, _*_, _<_, max}
 use mathlib.Core.Path.{_≡_, refl, ap, ap₂}
 use mathlib.Core.Bool.{Bool, true, false}
 use mathlib.Core.List.{List, [], _∷_, _++_}
+use mathlib.Core.Option.{none, some}
 use lib.ListN.{getD, length}
 use lib.Dec.{eqb, ltb}
 use Rattle.meaning.specs.Grammar.{Occurrence, Function, const, copy, sum, diff, prod, maxi, mini, addc, quot, Rule, Condition, range, atmost, conditionPosition}
@@ -54,29 +55,34 @@ rule-item top below r rest h = go (r .target) (r .function) h
     go o (addc a c) k = ap (λ n. packed (selectorOf top below o) 7 (selectorOf top below a) 0 ∷ n ∷ []) (four-joined (unsigned c) (unsigned-small c k))
     go o (quot a c) k = ap (λ n. packed (selectorOf top below o) 8 (selectorOf top below a) 0 ∷ n ∷ []) (four-joined (unsigned c) (unsigned-small c (divisor-in c k)))
 
--- ---- conditions: kind at 3, occurrence at 4, then two bounds or another occurrence
+-- ---- conditions: kind at 3, occurrence at 4, then two bounds, or another occurrence and for kind 2 a constant
 
 abbrev pub chooseWords : Bool → List ℕ → List ℕ → List ℕ
 chooseWords true xs ys = xs
 chooseWords false xs ys = ys
 
+unfoldable pub comparedWith : List ℕ → ℕ
+comparedWith d = choose (eqb (byte d 3) 1) 0 (wordAt d 8)
+
 unfoldable pub conditionItem : ℕ → List ℕ → List ℕ → List ℕ
 conditionItem top below d = chooseWords (eqb (byte d 3) 0)
     (packed (selectorAt top below d 4) 0 0 0 ∷ wordAt d 6 ∷ wordAt d 10 ∷ [])
-    (packed (selectorAt top below d 4) 1 (selectorAt top below d 6) 0 ∷ 0 ∷ 0 ∷ [])
+    (packed (selectorAt top below d 4) (byte d 3) (selectorAt top below d 6) 0 ∷ comparedWith d ∷ 0 ∷ [])
 
 unfoldable pub conditionPlace : List ℕ → ℕ
 conditionPlace d = choose (eqb (byte d 3) 0) (byte d 4) (max (byte d 4) (byte d 6))
 
 pub condition-item : (top : ℕ) (below : List ℕ) (c : Condition Occurrence) (rest : List ℕ) → Proper c → conditionItem top below (field 5 (conditionBytes c) ++ rest) ≡ conditionWords (mapCondition (selectorOf top below) c)
-unfolding conditionItem selectorAt
+unfolding conditionItem selectorAt comparedWith
 condition-item top below (range o l h) rest k = ap₂ (λ x y. packed (selectorOf top below o) 0 0 0 ∷ x ∷ y ∷ []) (four-joined (unsigned l) (unsigned-small l (k .0))) (four-joined (unsigned h) (unsigned-small h (k .1)))
-condition-item top below (atmost o u) rest k = refl
+condition-item top below (atmost o u none) rest k = refl
+condition-item top below (atmost o u (some c)) rest k = ap (λ x. packed (selectorOf top below o) 2 (selectorOf top below u) 0 ∷ x ∷ 0 ∷ []) (four-joined (unsigned c) (unsigned-small c k))
 
 pub condition-place : (c : Condition Occurrence) (rest : List ℕ) → conditionPlace (field 5 (conditionBytes c) ++ rest) ≡ conditionPosition c
 unfolding conditionPlace
 condition-place (range o l h) rest = refl
-condition-place (atmost o u) rest = refl
+condition-place (atmost o u none) rest = refl
+condition-place (atmost o u (some c)) rest = refl
 
 -- ---- either
 
@@ -98,7 +104,7 @@ unfolding itemOf ruleItem conditionItem
 item-length true top below d = refl
 item-length false top below d = go (eqb (byte d 3) 0)
   where
-    go : (b : Bool) → length (chooseWords b (packed (selectorAt top below d 4) 0 0 0 ∷ wordAt d 6 ∷ wordAt d 10 ∷ []) (packed (selectorAt top below d 4) 1 (selectorAt top below d 6) 0 ∷ 0 ∷ 0 ∷ [])) ≡ 3
+    go : (b : Bool) → length (chooseWords b (packed (selectorAt top below d 4) 0 0 0 ∷ wordAt d 6 ∷ wordAt d 10 ∷ []) (packed (selectorAt top below d 4) (byte d 3) (selectorAt top below d 6) 0 ∷ comparedWith d ∷ 0 ∷ [])) ≡ 3
     go true = refl
     go false = refl
 

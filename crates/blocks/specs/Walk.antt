@@ -5,6 +5,7 @@ use mathlib.Core.Path.{_≡_, refl, sym, ap, ap₂, _∙_, subst}
 use mathlib.Core.Logic.{inl, inr}
 use mathlib.Core.Bool.{Bool, true, false}
 use mathlib.Core.List.{List, [], _∷_, _++_, map}
+use mathlib.Core.Option.{none, some}
 use lib.ListN.{length, drop, getD, length-append, length-map, length-drop}
 use lib.Seq.{drop-append-seam, drop-drop}
 use lib.Dec.{eqb}
@@ -91,7 +92,8 @@ rule-size r = go (r .target) (r .function)
 
 condition-size : (c : Condition Occurrence) → fieldSize (field 5 (conditionBytes c)) ≡ length (field 5 (conditionBytes c))
 condition-size (range o l h) = refl
-condition-size (atmost o u) = refl
+condition-size (atmost o u none) = refl
+condition-size (atmost o u (some c)) = refl
 
 module _ {A B : Type 0} (f : B → List ℕ) (h : A → B) where
   concat-if : (b : Bool) (x : A) (xs : List A) → concat (map f (map h (consIf b x xs))) ≡ chooseWords b (f (h x)) [] ++ concat (map f (map h xs))

@@ -92,7 +92,7 @@ rule-agree sel sel′ r e h = ap₂ (λ t f. record { target = t; function = f }
 
 condition-agree : (sel sel′ : Occurrence → ℕ) (c : Condition Occurrence) → Reads (λ o. sel o ≡ sel′ o) c → mapCondition sel c ≡ mapCondition sel′ c
 condition-agree sel sel′ (range a l u) h = ap (λ z. range z l u) h
-condition-agree sel sel′ (atmost a b) h = ap₂ atmost (h .0) (h .1)
+condition-agree sel sel′ (atmost a b c) h = ap₂ (λ x y. atmost x y c) (h .0) (h .1)
 
 map-agree : {A B : Type 0} (f h : A → B) (xs : List A) → ((x : A) → In x xs → f x ≡ h x) → map f xs ≡ map h xs
 map-agree f h [] e = refl

@@ -1,63 +1,38 @@
 -- From the outline of a table and the analysis of its grammar to the answer.
-use Prim.Native.Nat.{ℕ, zero, suc, _+_, _*_, _≤_, _<_}
+use Prim.Native.Nat.{ℕ, _+_, _*_, _≤_, _<_}
 use native.Mathlib.Omega.{arith}
 use mathlib.Core.Path.{_≡_, refl, sym, ap, ap₂, _∙_, subst}
-use mathlib.Core.Bool.{Bool, true, false}
+use mathlib.Core.Bool.{Bool}
 use mathlib.Core.Option.{Option, none, some}
 use mathlib.Core.List.{List, reverse}
-use borrow.Author.Tests.{ne-eqb}
-use lib.Dec.{eqb}
 use lib.ListN.{getD, length, length-map, length-reverse}
 use lib.Seq.{ext-getD}
 use Rattle.meaning.specs.Base.{countFrom}
-use Rattle.meaning.specs.Grammar.{Grammar, terminal, nonterminal, productionAt, nonterminalCount, inh, noCounts}
+use Rattle.meaning.specs.Grammar.{Grammar, terminal, productionAt, nonterminalCount}
+use Rattle.meaning.specs.Layout.{Bytes}
 use Rattle.meaning.specs.Rules.{WellFormed}
 use Rattle.meaning.specs.Derivation.{Listed}
 use Rattle.meaning.specs.Table.{State, noEntry, productionOf, grammarOf, symbolOf}
 use Rattle.meaning.specs.Sets.{starts}
 use Rattle.meaning.specs.Judgement.{countsOffset}
 use Rattle.meaning.specs.Decide.{isLeftRecursive, clashes, firstWhere, judge}
-use Rattle.theory_base.specs.Members.{getD-in}
-use Rattle.theory_base.specs.WellFormed.{well-formed-at}
 use Rattle.theory_table.specs.ReadWellFormed.{whole-table, all-counted, read-well-formed}
 use Rattle.theory_table.specs.Places.{Places, read-places}
 use Rattle.theory_sets.specs.Verdicts.{Result, searched}
 use Rattle.token_set.specs.Words.{setOf}
 use Rattle.table.specs.declared.Sizes.{Sizes}
-use Rattle.entries.specs.Span.{Spans, Spanned}
-use Rattle.table.proofs.Intervals.{low-told, high-told, flag-told}
 use Rattle.analysis.specs.Rows.{Rows, rightAt, right-length, right-at}
-use Rattle.analysis.specs.Entries.{Entries}
-use Rattle.analysis.specs.Finding.{Finding, fine, useless, recursive, clashing, orElse, isUseless, finding, numberOf, indexOf, verdictFrom, judge-is, Analysed}
-use Rattle.checker.specs.Judging.{Outlined, Concludes, concluded}
-use Rattle.checker.specs.declared.judging.Judged.{Judged}
+use Rattle.analysis.specs.Numbers.{Found}
+use Rattle.analysis.specs.Finding.{Finding, fine, useless, recursive, clashing, orElse, otherwise, isUseless, flaw, lowestClash, numberOf, indexOf, verdictFrom, judge-is, Analysed, found-clash, found-no-clash}
+use Rattle.clash.specs.Together.{grammarIn, grammar-read}
+use Rattle.clash.specs.Clashing.{Given}
+use Rattle.clash.specs.Placing.{placed-at}
+use Rattle.checker.specs.Judging.{Outlined, Concludes}
 use Rattle.checker.specs.declared.judging.Judged.the-variants.{Usable, Unusable}
-
--- ---- the answer's cases
-
-module _ (sizes : Sizes) (offsets : List ℕ) (n i : ℕ) where
-  pub conclude-usable : n ≡ 0 → Usable sizes ≡ concluded sizes offsets n i
-  unfolding concluded
-  conclude-usable e = rw e refl
-
-  pub conclude-production : n ≡ 13 → Unusable n (getD offsets i 0) ≡ concluded sizes offsets n i
-  unfolding concluded
-  conclude-production e = rw e refl
-
-pub conclude-nonterminal : (sizes : Sizes) (offsets : List ℕ) (n i : ℕ) → (n ≡ 0 → ⊥) → (n ≡ 13 → ⊥) → Unusable n (7 + 5 * i) ≡ concluded sizes offsets n i
-unfolding concluded
-conclude-nonterminal sizes offsets zero i z h = absurd (z refl)
-conclude-nonterminal sizes offsets (suc n) i z h = go (eqb (suc n) 13) (ne-eqb (suc n) 13 h)
-  where
-    go : (b : Bool) → b ≡ false → Unusable (suc n) (7 + 5 * i) ≡ Unusable (suc n) (elim b [ true ↦ getD offsets i 0 | false ↦ 7 + 5 * i ])
-    go b e = rw e refl
 
 -- ---- what the analysis takes
 
-module _ (sizes : Sizes) (rows offsets : List ℕ) (v : Spans) (x : Outlined sizes rows offsets v) where
-  abbrev t : List ℕ
-  t = x .table
-
+module _ (t : List ℕ) (sizes : Sizes) (rows offsets : List ℕ) (x : Outlined t sizes rows offsets) where
   abbrev s : State
   s = x .state
 
@@ -121,38 +96,25 @@ module _ (sizes : Sizes) (rows offsets : List ℕ) (v : Spans) (x : Outlined siz
               let e : p * 16 + 2 + i ≡ 16 * p + (i + 2) = omega arith in
               ap (λ k. getD rows k 0) e
 
-  left-few : (p : ℕ) → Listed g p → inh g (nonterminal (productionAt g p .left)) ≤ 8
-  left-few p m =
-      let l = well-formed-at g formed p m .left in
-      let k = formed .attributes (getD (g .counts) (productionAt g p .left) noCounts) (getD-in (g .counts) (productionAt g p .left) noCounts l) in
-      omega arith
+  -- ---- what the clash test takes
 
-  module _ (p : ℕ) (m : Listed g p) where
-    inside : p < length (s .entries)
-    inside = omega (arith, many, x .outline .productions)
+  grammar-is : grammarIn t ≡ g
+  grammar-is = grammar-read t s (x .isRead)
 
-    few : length (s .entries) ≤ 128
-    few = omega (arith, formed .productions .1, many, x .outline .productions)
-
-    spanned : Spanned v p (getD (reverse (s .entries)) p noEntry .conditions)
-    spanned = x .outline .spans p (omega (arith, many))
-
-  pub entries-of : Entries (v .lows) (v .highs) (v .flags) g
-  entries-of = record {
-    ranged = formed;
-    narrow = left-few;
-    low = λ p a m l. low-told s p (inside p m) (few p m) v (spanned p m) a l;
-    high = λ p a m l. high-told s p (inside p m) (few p m) v (spanned p m) a l;
-    flag = λ p m. flag-told s p (inside p m) (few p m) v (spanned p m);
+  pub given-of : Bytes t → (sets : List ℕ) → ((p : ℕ) → Listed g p → setOf (getD sets p 0) ≡ starts g (productionAt g p)) → Given t rows offsets sets (sizes .productions)
+  given-of bytes sets k = record {
+    rowsOf = subst (Rows rows (sizes .productions)) (sym grammar-is) rows-of;
+    placed = λ p l. placed-at t s bytes (x .isRead) offsets p (omega (arith, x .outline .productions)) (x .outline .each p l .offset);
+    starting = λ p l. k p (omega (arith, many)) ∙ sym (ap (λ h. starts h (productionAt h p)) grammar-is);
   }
 
-  -- ---- what it finds
+  -- ---- what they find
 
-  abbrev Found : Finding → Type 0
-  Found fine = Unit {0}
-  Found (useless n) = n < nonterminalCount g
-  Found (recursive n) = n < nonterminalCount g
-  Found (clashing p) = p < length (g .productions)
+  abbrev Known : Finding → Type 0
+  Known fine = Unit {0}
+  Known (useless n) = n < nonterminalCount g
+  Known (recursive n) = n < nonterminalCount g
+  Known (clashing p) = ⊥
 
   abbrev Bound : ℕ → Option ℕ → Type 0
   Bound n (some i) = i < n
@@ -165,35 +127,64 @@ module _ (sizes : Sizes) (rows offsets : List ℕ) (v : Spans) (x : Outlined siz
       go (some i) r = omega (arith, r .1)
       go none r = tt
 
-  found : Found (finding g)
-  unfolding finding
-  found = go (firstWhere (isUseless g) (countFrom 0 (nonterminalCount g))) (firstWhere (isLeftRecursive g) (countFrom 0 (nonterminalCount g))) (firstWhere (clashes g) (countFrom 0 (length (g .productions)))) (bound-of (isUseless g) (nonterminalCount g)) (bound-of (isLeftRecursive g) (nonterminalCount g)) (bound-of (clashes g) (length (g .productions)))
+  known : Known (flaw g)
+  unfolding flaw
+  known = go (firstWhere (isUseless g) (countFrom 0 (nonterminalCount g))) (firstWhere (isLeftRecursive g) (countFrom 0 (nonterminalCount g))) (bound-of (isUseless g) (nonterminalCount g)) (bound-of (isLeftRecursive g) (nonterminalCount g))
     where
-      go : (a b c : Option ℕ) → Bound (nonterminalCount g) a → Bound (nonterminalCount g) b → Bound (length (g .productions)) c → Found (orElse a useless (orElse b recursive (orElse c clashing fine)))
-      go (some n) b c u v w = u
-      go none (some n) c u v w = v
-      go none none (some p) u v w = w
-      go none none none u v w = tt
+      go : (a b : Option ℕ) → Bound (nonterminalCount g) a → Bound (nonterminalCount g) b → Known (orElse a useless (orElse b recursive fine))
+      go (some n) b u v = u
+      go none (some n) u v = v
+      go none none u v = tt
 
   counts-place : (n : ℕ) → n < nonterminalCount g → 7 + 5 * n ≡ countsOffset s n
   counts-place n l = sym (places .countsOffsets n (omega (arith, length-reverse (s .counts))))
 
+  -- the verdict by the two findings
+  judged-by : (f h : Finding) → flaw g ≡ f → lowestClash g ≡ h → judge s ≡ verdictFrom s (otherwise f h)
+  judged-by f h d e = judge-is s ∙ ap₂ (λ y z. verdictFrom s (otherwise y z)) d e
+
   module _ (n i : ℕ) (sets : List ℕ) (a : Analysed g n i sets) where
-    pub index-small : i < 128
-    index-small = go (finding g) found (a .index)
+    pub index-small : i < 48
+    index-small = go (flaw g) known (a .index)
       where
-        go : (f : Finding) → Found f → i ≡ indexOf f → i < 128
+        go : (f : Finding) → Known f → i ≡ indexOf f → i < 48
         go fine u e = omega arith
         go (useless m) u e = omega (arith, formed .nonterminals .1)
         go (recursive m) u e = omega (arith, formed .nonterminals .1)
-        go (clashing p) u e = omega (arith, formed .productions .1)
+        go (clashing p) u e = absurd u
 
-    pub concludes : (r : Judged) → r ≡ concluded sizes offsets n i → Concludes s sizes sets r (judge s)
-    unfolding concluded
-    concludes r e = subst (λ z. Concludes s sizes sets z (judge s)) (sym (e ∙ ap₂ (concluded sizes offsets) (a .number) (a .index))) (subst (Concludes s sizes sets (concluded sizes offsets (numberOf (finding g)) (indexOf (finding g)))) (sym (judge-is s)) (go (finding g) found (λ z. a .starting (a .number ∙ z))))
+    pub flaw-concludes : (n ≡ 0 → ⊥) → Concludes s sizes sets (Unusable n (7 + 5 * i)) (judge s)
+    flaw-concludes z = go (flaw g) refl known
       where
-        go : (f : Finding) → Found f → (numberOf f ≡ 0 → (p : ℕ) → Listed g p → setOf (getD sets p 0) ≡ starts g (productionAt g p)) → Concludes s sizes sets (concluded sizes offsets (numberOf f) (indexOf f)) (verdictFrom s f)
-        go fine u k = (refl, λ p l. k refl p (omega (arith, many)))
-        go (useless m) u k = ap (Unusable 11) (counts-place m u)
-        go (recursive m) u k = ap (Unusable 12) (counts-place m u)
-        go (clashing p) u k = ap (Unusable 13) (x .outline .each p (omega (arith, many)) .offset)
+        go : (f : Finding) → flaw g ≡ f → Known f → Concludes s sizes sets (Unusable n (7 + 5 * i)) (judge s)
+        go fine e u = absurd (z (a .number ∙ ap numberOf e))
+        go (useless m) e u =
+            subst (Concludes s sizes sets (Unusable n (7 + 5 * i))) (sym (judged-by (useless m) (lowestClash g) e refl))
+            (ap₂ Unusable (a .number ∙ ap numberOf e) (ap (λ k. 7 + 5 * k) (a .index ∙ ap indexOf e) ∙ counts-place m u))
+        go (recursive m) e u =
+            subst (Concludes s sizes sets (Unusable n (7 + 5 * i))) (sym (judged-by (recursive m) (lowestClash g) e refl))
+            (ap₂ Unusable (a .number ∙ ap numberOf e) (ap (λ k. 7 + 5 * k) (a .index ∙ ap indexOf e) ∙ counts-place m u))
+        go (clashing p) e u = absurd u
+
+    module _ (z : n ≡ 0) (p : ℕ) (d : Found (clashes (grammarIn t)) (sizes .productions) p) where
+      flawless : flaw g ≡ fine
+      flawless = go (flaw g) refl
+        where
+          go : (f : Finding) → flaw g ≡ f → f ≡ fine
+          go fine e = refl
+          go (useless m) e = let k : _≡_ {A = ℕ} 0 11 = sym z ∙ a .number ∙ ap numberOf e in absurd (omega arith)
+          go (recursive m) e = let k : _≡_ {A = ℕ} 0 12 = sym z ∙ a .number ∙ ap numberOf e in absurd (omega arith)
+          go (clashing m) e = let k : _≡_ {A = ℕ} 0 13 = sym z ∙ a .number ∙ ap numberOf e in absurd (omega arith)
+
+      found : Found (clashes g) (length (g .productions)) p
+      found = subst (λ m. Found (clashes g) m p) (sym many) (subst (λ h. Found (clashes h) (sizes .productions) p) grammar-is d)
+
+      pub clash-concludes : p < sizes .productions → Concludes s sizes sets (Unusable 13 (getD offsets p 0)) (judge s)
+      clash-concludes l =
+          subst (Concludes s sizes sets (Unusable 13 (getD offsets p 0))) (sym (judged-by fine (clashing p) flawless (found-clash g p found (omega (arith, many)))))
+          (ap (Unusable 13) (x .outline .each p l .offset))
+
+      pub none-concludes : sizes .productions ≤ p → Concludes s sizes sets (Usable sizes) (judge s)
+      none-concludes l =
+          subst (Concludes s sizes sets (Usable sizes)) (sym (judged-by fine fine flawless (found-no-clash g p found (omega (arith, many)))))
+          (refl, λ q m. a .starting z q (omega (arith, many)))

@@ -1,9 +1,7 @@
 -- A table judged: accepted, with what the calls on a run take from it, or refused.
-use Prim.Native.Nat.{ℕ, zero, suc, _+_, _*_, _<_}
+use Prim.Native.Nat.{ℕ, _<_}
 use mathlib.Core.Path.{_≡_}
-use mathlib.Core.Bool.{true, false}
 use mathlib.Core.List.{List}
-use lib.Dec.{eqb}
 use lib.ListN.{getD}
 use Rattle.meaning.specs.Grammar.{productionAt}
 use Rattle.meaning.specs.Table.{State, wellFormed, readTable, grammarOf}
@@ -13,20 +11,18 @@ use Rattle.meaning.specs.Judgement.{accepted, rejected}
 use Rattle.meaning.specs.Decide.{judge}
 use Rattle.meaning.specs.PublicCalls.{Checked, usable, unusable, check}
 use Rattle.token_set.specs.Words.{setOf}
-use Rattle.entries.specs.Span.{Spans}
 use Rattle.table.specs.declared.Sizes.{Sizes}
 use Rattle.table.specs.Outline.{Outline}
 use Rattle.checker.specs.declared.judging.Judged.{Judged}
 use Rattle.checker.specs.declared.judging.Judged.the-variants.{Usable, Unusable}
 
 -- the outline of a table that is read whole
-pub record Outlined (sizes : Sizes) (rows offsets : List ℕ) (v : Spans) : Type 0 where
-  pub table : List ℕ
+pub record Outlined (table : List ℕ) (sizes : Sizes) (rows offsets : List ℕ) : Type 0 where
   pub state : State
   pub inherited : List ℕ
   pub synthesized : List ℕ
   pub isRead : readTable table ≡ wellFormed state
-  pub outline : Outline state sizes inherited synthesized rows offsets v
+  pub outline : Outline state sizes inherited synthesized rows offsets
 
 -- each set is FIRST-then-FOLLOW of its production
 abbrev pub Starting : State → ℕ → List ℕ → Type 0
@@ -41,8 +37,7 @@ Concludes s sizes sets r (rejected n o) = r ≡ Unusable n o
 pub record Brought (t : List ℕ) (s : State) (sizes : Sizes) (inherited synthesized rows offsets sets : List ℕ) : Type 0 where
   pub isRead : readTable t ≡ wellFormed s
   pub isAccepted : judge s ≡ accepted
-  pub intervals : Spans
-  pub outline : Outline s sizes inherited synthesized rows offsets intervals
+  pub outline : Outline s sizes inherited synthesized rows offsets
   pub starting : Starting s (sizes .productions) sets
 
 -- the answer, with the lent lists, for what the table is
@@ -52,8 +47,3 @@ Answered t inherited synthesized rows offsets sets r (unusable n o) = r ≡ Unus
 
 unfoldable pub Judges : List ℕ → List ℕ → List ℕ → List ℕ → List ℕ → List ℕ → Judged → Type 0
 Judges t inherited synthesized rows offsets sets r = Answered t inherited synthesized rows offsets sets r (check t)
-
--- the answer by the number and the index that the analysis gives
-unfoldable pub concluded : Sizes → List ℕ → ℕ → ℕ → Judged
-concluded sizes offsets zero i = Usable sizes
-concluded sizes offsets (suc n) i = Unusable (suc n) (elim (eqb (suc n) 13) [ true ↦ getD offsets i 0 | false ↦ 7 + 5 * i ])

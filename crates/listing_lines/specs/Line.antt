@@ -1,6 +1,7 @@
 -- One line of the listing each, and its parts by the numbers that the program's words hold.
 use Prim.Native.Nat.{ℕ, zero, suc, _/_, _%_}
-use mathlib.Core.Path.{_≡_, refl, sym, ap}
+use mathlib.Core.Path.{_≡_, refl, sym, ap, ap₂}
+use lib.Dec.{eqb}
 use borrow.Author.Tests.{eq-eqb, ne-eqb}
 use mathlib.Core.List.{[], _∷_, _++_}
 use Rattle.meaning.specs.Grammar.{Rule, Condition}
@@ -49,8 +50,12 @@ no-function (suc (suc (suc (suc (suc (suc (suc (suc (suc f))))))))) a b c h1 h2 
 
 pub is-range : (w l h : ℕ) → w / 128 % 16 ≡ 0 → ((word (114 ∷ 97 ∷ 110 ∷ 103 ∷ 101 ∷ []) ++ word (decimal (w % 128))) ++ word (integral l)) ++ word (integral h) ≡ conditionAs w l h
 unfolding conditionAs decimal integral
-is-range w l h e = sym (ap (λ b. conditionText (conditionOfKind b (w % 128) (w / 2048 % 128) (signed l) (signed h))) (eq-eqb (w / 128 % 16) 0 e))
+is-range w l h e = sym (ap (λ b. conditionText (conditionOfKind b (eqb (w / 128 % 16) 1) (w % 128) (w / 2048 % 128) (signed l) (signed h))) (eq-eqb (w / 128 % 16) 0 e))
 
-pub is-atmost : (w l h : ℕ) → (w / 128 % 16 ≡ 0 → ⊥) → (word (97 ∷ 116 ∷ 109 ∷ 111 ∷ 115 ∷ 116 ∷ []) ++ word (decimal (w % 128))) ++ word (decimal (w / 2048 % 128)) ≡ conditionAs w l h
+pub is-atmost : (w l h : ℕ) → w / 128 % 16 ≡ 1 → (word (97 ∷ 116 ∷ 109 ∷ 111 ∷ 115 ∷ 116 ∷ []) ++ word (decimal (w % 128))) ++ word (decimal (w / 2048 % 128)) ≡ conditionAs w l h
 unfolding conditionAs decimal
-is-atmost w l h n = sym (ap (λ b. conditionText (conditionOfKind b (w % 128) (w / 2048 % 128) (signed l) (signed h))) (ne-eqb (w / 128 % 16) 0 n))
+is-atmost w l h e = sym (ap (λ k. conditionText (conditionOfKind (eqb k 0) (eqb k 1) (w % 128) (w / 2048 % 128) (signed l) (signed h))) e)
+
+pub is-atmost-plus : (w l h : ℕ) → (w / 128 % 16 ≡ 0 → ⊥) → (w / 128 % 16 ≡ 1 → ⊥) → ((word (97 ∷ 116 ∷ 109 ∷ 111 ∷ 115 ∷ 116 ∷ []) ++ word (decimal (w % 128))) ++ word (decimal (w / 2048 % 128))) ++ word (integral l) ≡ conditionAs w l h
+unfolding conditionAs decimal integral
+is-atmost-plus w l h n m = sym (ap₂ (λ b k. conditionText (conditionOfKind b k (w % 128) (w / 2048 % 128) (signed l) (signed h))) (ne-eqb (w / 128 % 16) 0 n) (ne-eqb (w / 128 % 16) 1 m))

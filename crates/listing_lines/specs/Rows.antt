@@ -35,6 +35,11 @@ at-most : conditionLine 5 3 (conditionFrom (packed 9 1 10 0) 0 0) ≡ 53 ∷ 32 
 unfolding conditionLine
 at-most = refl
 
+-- 5 P3 atmost 9 10 -3
+at-most-plus : conditionLine 5 3 (conditionFrom (packed 9 2 10 0) 4294967293 0) ≡ 53 ∷ 32 ∷ 80 ∷ 51 ∷ 32 ∷ 97 ∷ 116 ∷ 109 ∷ 111 ∷ 115 ∷ 116 ∷ 32 ∷ 57 ∷ 32 ∷ 49 ∷ 48 ∷ 32 ∷ 45 ∷ 51 ∷ 10 ∷ []
+unfolding conditionLine
+at-most-plus = refl
+
 -- 3 R 1
 removed : removeLine 3 1 ≡ 51 ∷ 32 ∷ 82 ∷ 32 ∷ 49 ∷ 10 ∷ []
 unfolding removeLine

@@ -70,7 +70,11 @@ fn condition(out: &mut [u8], at: usize, w: u32, low: u32, high: u32) -> usize
         let p = number_and_constant(out, at, b" range", w % 128, low);
         return spaced_integer(out, p, high);
     }
-    two_numbers(out, at, b" atmost", w % 128, w / 2048 % 128)
+    let p = two_numbers(out, at, b" atmost", w % 128, w / 2048 % 128);
+    if w / 128 % 16 == 1 {
+        return p;
+    }
+    spaced_integer(out, p, low)
 }
 
 // ---- lines

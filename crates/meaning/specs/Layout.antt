@@ -2,6 +2,7 @@
 use Prim.Native.Nat.{ℕ, _+_, _-_, _/_, _%_, _<_}
 use mathlib.Core.Path.{_≡_}
 use mathlib.Core.List.{List, [], _∷_, _++_, map}
+use mathlib.Core.Option.{none, some}
 use lib.ListN.{length}
 use lib.IntN.{ℤ, pos, negsuc}
 use Rattle.meaning.specs.Base.{In}
@@ -57,10 +58,11 @@ functionBytes (quot a c) = 8 ∷ occurrenceBytes a ++ constantBytes c
 abbrev pub ruleBytes : Rule Occurrence → List ℕ
 ruleBytes r = occurrenceBytes (r .target) ++ functionBytes (r .function)
 
--- 01: "kind 0, occurrence, low, high; kind 1, two occurrences"
+-- 01: "kind 0, occurrence, low, high; kind 1, two occurrences"; 02 (j): "kind 2, two occurrences and a constant"
 abbrev pub conditionBytes : Condition Occurrence → List ℕ
 conditionBytes (range o l h) = 0 ∷ occurrenceBytes o ++ (constantBytes l ++ constantBytes h)
-conditionBytes (atmost o u) = 1 ∷ occurrenceBytes o ++ occurrenceBytes u
+conditionBytes (atmost o u none) = 1 ∷ occurrenceBytes o ++ occurrenceBytes u
+conditionBytes (atmost o u (some c)) = 2 ∷ occurrenceBytes o ++ (occurrenceBytes u ++ constantBytes c)
 
 -- ---- the table
 

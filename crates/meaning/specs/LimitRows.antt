@@ -79,6 +79,6 @@ rules-left-unknown : map (λ n. judgeField (counted 1 n 512) (field-of 4 (0 ∷ 
 unfolding counted field-of
 rules-left-unknown = refl
 
-conditions-left-unknown : map (λ n. judgeField (counted 1 1024 n) (field-of 5 (2 ∷ []))) (511 ∷ 512 ∷ []) ≡ 5 ∷ 4 ∷ []
+conditions-left-unknown : map (λ n. judgeField (counted 1 1024 n) (field-of 5 (3 ∷ []))) (511 ∷ 512 ∷ []) ≡ 5 ∷ 4 ∷ []
 unfolding counted field-of
 conditions-left-unknown = refl

@@ -4,6 +4,7 @@ use native.Mathlib.Omega.{arith}
 use mathlib.Core.Path.{_≡_, refl, sym, ap}
 use mathlib.Core.Logic.{inl, inr}
 use mathlib.Core.List.{List, [], _∷_, _++_}
+use mathlib.Core.Option.{none}
 use lib.ListN.{getD, length, length-append}
 use lib.IntN.{ℤ, pos, negsuc}
 use lib.Dec.{lit<, lit≤}
@@ -49,7 +50,7 @@ short = node 3 (pos 7 ∷ []) (treeAnd (leaf 2) noTrees)
 
 -- at a test: register 3 is not the left side's first attribute
 found-not-at-test : Found wide (open-node 1 (pos 3 ∷ pos 4 ∷ []) (short ∷ [])) under-X (left (terminal 0 ∷ X ∷ Y ∷ [])) → ⊥
-found-not-at-test f = omega (arith, ap number (f (atmost (occ 0 1) (occ 1 2)) (inl refl) .0 .held))
+found-not-at-test f = omega (arith, ap number (f (atmost (occ 0 1) (occ 1 2) none) (inl refl) .0 .held))
 
 found-not-at-evaluation : Found wide (open-node 1 (pos 3 ∷ []) []) under-X (added Y (terminal 0 ∷ X ∷ Y ∷ [])) → ⊥
 found-not-at-evaluation f = omega (arith, ap number (f (rule (occ 1 1) (sum (occ 0 1) (occ 0 2))) (inl refl) .0 .1 .held))

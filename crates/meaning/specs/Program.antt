@@ -3,6 +3,7 @@
 use Prim.Native.Nat.{ℕ, zero, suc, _+_, _*_}
 use mathlib.Core.Bool.{Bool, true, false, _&&_}
 use mathlib.Core.List.{List, [], _∷_, _++_, map}
+use mathlib.Core.Option.{none, some}
 use lib.ListN.{length}
 use lib.Dec.{eqb}
 use Rattle.meaning.specs.Base.{countFrom}
@@ -36,10 +37,11 @@ functionWords t (quot a c) = packed t 8 a 0 ∷ unsigned c ∷ []
 abbrev pub ruleWords : Rule ℕ → List ℕ
 ruleWords r = functionWords (r .target) (r .function)
 
--- three words for a condition: kind and selectors; low; high
+-- three words for a condition: kind and selectors; low, or the constant of kind 2; high
 abbrev pub conditionWords : Condition ℕ → List ℕ
 conditionWords (range a l h) = packed a 0 0 0 ∷ unsigned l ∷ unsigned h ∷ []
-conditionWords (atmost a b) = packed a 1 b 0 ∷ 0 ∷ 0 ∷ []
+conditionWords (atmost a b none) = packed a 1 b 0 ∷ 0 ∷ 0 ∷ []
+conditionWords (atmost a b (some c)) = packed a 2 b 0 ∷ unsigned c ∷ 0 ∷ []
 
 -- ---- instructions: a head word, the operation's number plus 8 times its operand, and the items of an evaluate or a test
 

@@ -3,6 +3,7 @@ use Prim.Native.Nat.{ℕ, suc}
 use mathlib.Core.Path.{_≡_, refl}
 use mathlib.Core.Bool.{true, false}
 use mathlib.Core.List.{List, [], _∷_, _++_, map}
+use mathlib.Core.Option.{none, some}
 use lib.ListN.{replicate}
 use lib.IntN.{pos, negsuc}
 use Rattle.meaning.specs.Grammar.{const, copy, sum, diff, prod, maxi, mini, addc, quot, range, atmost, terminal, nonterminal}
@@ -27,7 +28,7 @@ functions-read : grammar (readTable functions) ≡ record {
     left = 0;
     right = nonterminal 1 ∷ [];
     rules = rule (occ 1 1) (const (negsuc 6)) ∷ rule (occ 0 1) (copy (occ 1 2)) ∷ rule (occ 0 2) (sum (occ 1 2) (occ 1 3)) ∷ rule (occ 0 3) (diff (occ 1 2) (occ 1 3)) ∷ rule (occ 0 4) (prod (occ 1 2) (occ 1 3)) ∷ rule (occ 0 5) (maxi (occ 1 2) (occ 1 3)) ∷ rule (occ 0 6) (mini (occ 1 2) (occ 1 3)) ∷ rule (occ 0 7) (addc (occ 1 2) (negsuc 499)) ∷ rule (occ 0 8) (quot (occ 1 2) (pos 1000000)) ∷ [];
-    conditions = range (occ 1 2) (negsuc 2147483647) (pos 2147483647) ∷ atmost (occ 1 2) (occ 1 3) ∷ [];
+    conditions = range (occ 1 2) (negsuc 2147483647) (pos 2147483647) ∷ atmost (occ 1 2) (occ 1 3) none ∷ [];
   } ∷ record { left = 1; right = terminal 0 ∷ []; rules = rule (occ 0 2) (copy (occ 0 1)) ∷ rule (occ 0 3) (const (pos 2)) ∷ []; conditions = [] } ∷ [];
 }
 unfolding functions grammar
@@ -162,7 +163,7 @@ condition-empty : inFirst (field 5 []) ≡ rejected 4 23
 condition-empty = refl
 
 -- an unknown kind has any length that holds it
-unknown-kind : map (λ bs. inFirst (field 5 bs)) ((2 ∷ []) ∷ (255 ∷ []) ∷ (2 ∷ 1 ∷ 2 ∷ 1 ∷ 2 ∷ []) ∷ (2 ∷ replicate 300 0) ∷ []) ≡ replicate 4 (rejected 5 23)
+unknown-kind : map (λ bs. inFirst (field 5 bs)) ((3 ∷ []) ∷ (255 ∷ []) ∷ (3 ∷ 1 ∷ 2 ∷ 1 ∷ 2 ∷ []) ∷ (3 ∷ replicate 300 0) ∷ []) ≡ replicate 4 (rejected 5 23)
 unknown-kind = refl
 
 range-of : List ℕ → List ℕ → List ℕ → Verdict
@@ -197,8 +198,8 @@ unknown-in-comparison = refl
 comparison-reads-output : map (λ f. inFirst (field 5 (1 ∷ f))) ((1 ∷ 1 ∷ 1 ∷ 2 ∷ []) ∷ (1 ∷ 2 ∷ 1 ∷ 1 ∷ []) ∷ (0 ∷ 1 ∷ 0 ∷ 1 ∷ []) ∷ []) ≡ replicate 3 (rejected 7 23)
 comparison-reads-output = refl
 
--- inside position 0: both occurrences there. A symbol's attribute may be compared with itself, and with the left side's
-comparison-in-0 : inLast (field 5 (1 ∷ 0 ∷ 1 ∷ 0 ∷ 1 ∷ [])) ≡ rejected 10 57
+-- inside position 0 since 02 (j). A symbol's attribute may be compared with itself, and with the left side's
+comparison-in-0 : inLast (field 5 (1 ∷ 0 ∷ 1 ∷ 0 ∷ 1 ∷ [])) ≡ accepted
 comparison-in-0 = refl
 
 comparison-elsewhere : inFirst (handDown ++ (handUp ++ (field 5 (1 ∷ 1 ∷ 2 ∷ 1 ∷ 2 ∷ []) ++ (aToToken ++ field 4 (0 ∷ 2 ∷ 0 ∷ 0 ∷ 0 ∷ 0 ∷ 0 ∷ []))))) ≡ accepted

@@ -7,6 +7,7 @@ use lib.Dec.{T}
 use lib.IntN.{ℤ, pos, negsuc}
 use lib.Signed.{leZ}
 use mathlib.Core.Bool.{Bool, _&&_}
+use mathlib.Core.Option.{none, some}
 use Rattle.meaning.specs.Base.{In, total}
 use Rattle.meaning.specs.Grammar.{Symbol, terminal, nonterminal, Occurrence, Function, const, copy, sum, diff, prod, maxi, mini, addc, quot, Rule, Condition, range, atmost, Production, Counts, Grammar, inh, syn, att, symbolAt, nonterminalCount}
 
@@ -25,7 +26,7 @@ Operands P (quot a c) = P a
 
 abbrev pub Reads : {O : Type 0} → (O → Type 0) → Condition O → Type 0
 Reads P (range a l h) = P a
-Reads P (atmost a b) = P a × P b
+Reads P (atmost a b c) = P a × P b
 
 -- ---- occurrences
 
@@ -80,10 +81,11 @@ Constant (mini a b) = Unit {0}
 Constant (addc a c) = InFourBytes c
 Constant (quot a c) = T (leZ (pos 1) c) × T (leZ c (pos 1000000))
 
--- 01: "those of position 0 are entry conditions, ranges only"; "10 low above high, or a comparison inside position 0"
+-- 10. 02 (j): "constants and range bounds remain four bytes" (d); "Number 10 keeps only low above high."
 abbrev pub Proper : Condition Occurrence → Type 0
 Proper (range o l h) = InFourBytes l × InFourBytes h × T (leZ l h)
-Proper (atmost o u) = 1 ≤ o .position + u .position
+Proper (atmost o u none) = Unit {0}
+Proper (atmost o u (some c)) = InFourBytes c
 
 -- ---- a production
 

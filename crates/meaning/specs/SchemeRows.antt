@@ -2,6 +2,7 @@
 use Prim.Native.Nat.{ℕ}
 use mathlib.Core.Path.{_≡_, refl}
 use mathlib.Core.List.{[], _∷_, map}
+use mathlib.Core.Option.{none}
 use lib.IntN.{pos, negsuc}
 use Rattle.meaning.specs.Grammar.{Symbol, terminal, nonterminal, Function, const, copy, sum, diff, addc, Rule, range, atmost, Production, Grammar, conditionPosition, productionAt, symbolAt, att}
 use Rattle.meaning.specs.Scheme.{add, evaluate, expect, test, remove, scheme, entryTests, selectInherited, selectAfter}
@@ -19,7 +20,7 @@ wide1 = record {
   left = 1;
   right = Y ∷ terminal 0 ∷ X ∷ Y ∷ [];
   rules = rule (occ 1 1) (sum (occ 0 1) (occ 0 2)) ∷ rule (occ 0 3) (sum (occ 4 2) (occ 1 3)) ∷ rule (occ 3 1) (copy (occ 1 2)) ∷ rule (occ 4 1) (diff (occ 3 3) (occ 1 3)) ∷ rule (occ 3 2) (copy (occ 0 1)) ∷ [];
-  conditions = atmost (occ 4 3) (occ 1 3) ∷ range (occ 0 2) (pos 0) (pos 5) ∷ atmost (occ 0 1) (occ 1 2) ∷ range (occ 3 3) (negsuc 0) (pos 9) ∷ range (occ 0 1) (negsuc 9) (pos 9) ∷ [];
+  conditions = atmost (occ 4 3) (occ 1 3) none ∷ range (occ 0 2) (pos 0) (pos 5) ∷ atmost (occ 0 1) (occ 1 2) none ∷ range (occ 3 3) (negsuc 0) (pos 9) ∷ range (occ 0 1) (negsuc 9) (pos 9) ∷ [];
 }
 
 -- S to X; X to 1; Y to 2
@@ -89,10 +90,10 @@ entry : entryTests wide wide1 ≡ range 2 (pos 0) (pos 5) ∷ range 1 (negsuc 9)
 entry = refl
 
 whole-scheme : scheme wide wide1 ≡
-    add 3 ∷ evaluate (r 1 (sum 4 5) ∷ []) ∷ expect Y ∷ test (atmost 3 1 ∷ [])
+    add 3 ∷ evaluate (r 1 (sum 4 5) ∷ []) ∷ expect Y ∷ test (atmost 3 1 none ∷ [])
     ∷ expect (terminal 0)
     ∷ add 3 ∷ evaluate (r 1 (copy 4) ∷ r 2 (copy 6) ∷ []) ∷ expect X ∷ test (range 1 (negsuc 0) (pos 9) ∷ [])
-    ∷ add 3 ∷ evaluate (r 1 (diff 4 6) ∷ []) ∷ expect Y ∷ test (atmost 2 5 ∷ [])
+    ∷ add 3 ∷ evaluate (r 1 (diff 4 6) ∷ []) ∷ expect Y ∷ test (atmost 2 5 none ∷ [])
     ∷ evaluate (r 8 (sum 1 5) ∷ []) ∷ remove 7 ∷ []
 whole-scheme = refl
 

@@ -140,11 +140,11 @@ other-symbols = refl
 
 -- ---- clashes and entry conditions. S to L, with d = 0 and e = 0; two productions of L to the one token, each with conditions
 
-abbrev low-high : ℕ → ℕ → ℕ → ℕ → List ℕ
+abbrev pub low-high : ℕ → ℕ → ℕ → ℕ → List ℕ
 low-high p k low high = field 5 (0 ∷ p ∷ k ∷ 0 ∷ 0 ∷ 0 ∷ low ∷ 0 ∷ 0 ∷ 0 ∷ high ∷ [])
 
 -- L has inherited d, e and synthesized n: the second production of L stands at 67 and the bytes of the first's conditions
-abbrev entries : List ℕ → List ℕ → Verdict
+abbrev pub entries : List ℕ → List ℕ → Verdict
 entries c d =
     verdictOf (header 1 2 0 1 ++ (counts 0 1 ++ (counts 2 1
     ++ (field 3 (0 ∷ 1 ∷ 129 ∷ []) ++ (field 4 (1 ∷ 1 ∷ 0 ∷ 0 ∷ 0 ∷ 0 ∷ 0 ∷ []) ++ (field 4 (1 ∷ 2 ∷ 0 ∷ 0 ∷ 0 ∷ 0 ∷ 0 ∷ []) ++ (field 4 (0 ∷ 1 ∷ 1 ∷ 1 ∷ 3 ∷ [])

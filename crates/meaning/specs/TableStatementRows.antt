@@ -81,7 +81,7 @@ number (negsuc n) = n
 abbrev bound : List (Condition ℕ) → ℕ
 bound [] = 0
 bound (range a l h ∷ cs) = number h
-bound (atmost a b ∷ cs) = 0
+bound (atmost a b c ∷ cs) = 0
 
 abbrev constantOf : Function ℕ → ℕ
 constantOf (const c) = number c

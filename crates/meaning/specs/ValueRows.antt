@@ -3,6 +3,7 @@ use Prim.Native.Nat.{ℕ, _-_, _*_}
 use mathlib.Core.Path.{_≡_, refl}
 use mathlib.Core.Bool.{true, false}
 use mathlib.Core.List.{[], _∷_, map}
+use mathlib.Core.Option.{none, some}
 use lib.ListN.{getD, replicate}
 use lib.IntN.{ℤ, pos, negsuc}
 use Rattle.meaning.specs.Grammar.{Function, const, copy, sum, diff, prod, maxi, mini, addc, quot, range, atmost}
@@ -114,6 +115,6 @@ unfolding vals
 ranges = refl
 
 -- the first at most the second
-comparisons : map (holds vals) (atmost 0 0 ∷ atmost 0 1 ∷ atmost 1 0 ∷ atmost 2 0 ∷ atmost 0 2 ∷ atmost 1 3 ∷ atmost 3 1 ∷ []) ≡ true ∷ false ∷ true ∷ true ∷ false ∷ true ∷ false ∷ []
+comparisons : map (holds vals) (atmost 0 0 none ∷ atmost 0 1 none ∷ atmost 1 0 none ∷ atmost 2 0 none ∷ atmost 0 2 none ∷ atmost 1 3 none ∷ atmost 3 1 none ∷ []) ≡ true ∷ false ∷ true ∷ true ∷ false ∷ true ∷ false ∷ []
 unfolding vals
 comparisons = refl

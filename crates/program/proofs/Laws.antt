@@ -4,14 +4,12 @@ use native.Mathlib.Nat.{div-one}
 use native.Mathlib.Decide.{decLt}
 use native.Mathlib.Omega.{arith}
 use mathlib.Core.Path.{_≡_, refl, sym, ap, ap₂, _∙_, subst}
-use mathlib.Core.Logic.{inl, inr}
 use mathlib.Core.List.{List, [], _∷_, _++_}
 use lib.ListN.{length, set, getD}
 use lib.Count.{trailingZeros}
 use lib.Pow.{shr-shr, shr-le}
 use borrow.Author.Tests.{lt-ltb, le-ltb}
 use Rattle.meaning.specs.Grammar.{Grammar, nonterminal, syn, nonterminalCount}
-use Rattle.meaning.specs.Layout.{Bytes}
 use Rattle.meaning.specs.Program.{segmentWords}
 use Rattle.meaning.specs.Table.{byte}
 use Rattle.theory_program.specs.Proper.{att-most}
@@ -34,12 +32,6 @@ end-next table offsets count p r l e = rw (lt-ltb (p + 1) count l) e
 pub end-last : (table offsets : List ℕ) (count p : ℕ) → count ≤ p + 1 → length table ≡ stretchEnd table offsets count p
 unfolding stretchEnd
 end-last table offsets count p l = rw (le-ltb (p + 1) count l)
-
--- a slice of bytes
-pub bytes-of : (l : List ℕ) → ((i : ℕ) → getD l i 0 < 256) → Bytes l
-bytes-of [] h b i = absurd i
-bytes-of (x ∷ xs) h b (inl e) = rw e (h 0)
-bytes-of (x ∷ xs) h b (inr i) = bytes-of xs (λ k. h (suc k)) b i
 
 -- ---- a range of zeros
 

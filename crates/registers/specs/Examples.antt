@@ -2,7 +2,8 @@
 use mathlib.Core.Path.{_≡_, refl}
 use mathlib.Core.Bool.{true, false}
 use mathlib.Core.List.{[], _∷_}
-use lib.IntN.{pos}
+use mathlib.Core.Option.{none, some}
+use lib.IntN.{pos, negsuc}
 use Rattle.meaning.specs.Base.{all}
 use Rattle.meaning.specs.Grammar.{copy, addc, range, atmost}
 use Rattle.meaning.specs.Value.{holds, highest, mark}
@@ -16,15 +17,15 @@ two-rules : rulesFrom (7041 ∷ 1 ∷ 2178 ∷ 0 ∷ []) 0 2 ≡ record { target
 unfolding rulesFrom
 two-rules = refl
 
--- "2 P0 range 1 0 2", and register 2 at most register 3
-two-conditions : conditionsFrom (1 ∷ 0 ∷ 2 ∷ 6274 ∷ 0 ∷ 0 ∷ []) 0 2 ≡ range 1 (pos 0) (pos 2) ∷ atmost 2 3 ∷ []
+-- "2 P0 range 1 0 2", register 2 at most register 3, and at most register 3 less 3
+three-conditions : conditionsFrom (1 ∷ 0 ∷ 2 ∷ 6274 ∷ 0 ∷ 0 ∷ 6402 ∷ 4294967293 ∷ 0 ∷ []) 0 3 ≡ range 1 (pos 0) (pos 2) ∷ atmost 2 3 none ∷ atmost 2 3 (some (negsuc 2)) ∷ []
 unfolding conditionsFrom
-two-conditions = refl
+three-conditions = refl
 
-hold : all (holds (readRegister (stack 3 (pos 9 ∷ pos 4 ∷ pos 2 ∷ mark ∷ [])))) (range 1 (pos 0) (pos 2) ∷ atmost 2 3 ∷ []) ≡ true
+hold : all (holds (readRegister (stack 3 (pos 9 ∷ pos 4 ∷ pos 2 ∷ mark ∷ [])))) (range 1 (pos 0) (pos 2) ∷ atmost 2 3 none ∷ []) ≡ true
 hold = refl
 
-fail : all (holds (readRegister (stack 3 (pos 3 ∷ pos 4 ∷ pos 2 ∷ mark ∷ [])))) (range 1 (pos 0) (pos 2) ∷ atmost 2 3 ∷ []) ≡ false
+fail : all (holds (readRegister (stack 3 (pos 3 ∷ pos 4 ∷ pos 2 ∷ mark ∷ [])))) (range 1 (pos 0) (pos 2) ∷ atmost 2 3 none ∷ []) ≡ false
 fail = refl
 
 -- operands are read before anything is written: two registers are exchanged

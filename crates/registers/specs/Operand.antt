@@ -5,7 +5,7 @@ use mathlib.Core.Path.{_≡_, refl, sym, ap, ap₂, _∙_, subst}
 use mathlib.Core.Bool.{Bool, true, false, _&&_}
 use lib.ListN.{getD}
 use mathlib.Core.List.{List}
-use lib.IntN.{ℤ, _+ℤ_}
+use lib.IntN.{ℤ, _+ℤ_, +ℤ-idr}
 use lib.Signed.{leZ}
 use Rattle.meaning.specs.Rules.{Operands, Reads}
 use Rattle.meaning.specs.Value.{apply, holds}
@@ -57,20 +57,23 @@ none-fetched rs s e = rw e tt
 
 -- ---- a condition by its kind
 
-module _ (rs : List ℤ) (a b : ℕ) (l h : ℤ) where
-  pub first-read : (k : Bool) → Reads (Valued rs) (conditionOfKind k a b l h) → Valued rs a
+module _ (rs : List ℤ) (a b : ℕ) (l h : ℤ) (one : Bool) where
+  pub first-read : (k : Bool) → Reads (Valued rs) (conditionOfKind k one a b l h) → Valued rs a
   first-read true v = v
   first-read false v = v .0
 
-  pub second-read : (k : Bool) → k ≡ false → Reads (Valued rs) (conditionOfKind k a b l h) → Valued rs b
+  pub second-read : (k : Bool) → k ≡ false → Reads (Valued rs) (conditionOfKind k one a b l h) → Valued rs b
   second-read true e v = absurd (let z : _≡_ {A = ℕ} 0 1 = cc in omega arith)
   second-read false e v = v .1
 
-  pub range-holds : (k : Bool) → k ≡ true → holds (readRegister rs) (conditionOfKind k a b l h) ≡ leZ l (readRegister rs a) && leZ (readRegister rs a) h
+  pub range-holds : (k : Bool) → k ≡ true → holds (readRegister rs) (conditionOfKind k one a b l h) ≡ leZ l (readRegister rs a) && leZ (readRegister rs a) h
   range-holds k e = rw e
 
-  pub atmost-holds : (k : Bool) → k ≡ false → holds (readRegister rs) (conditionOfKind k a b l h) ≡ leZ (readRegister rs a) (readRegister rs b)
-  atmost-holds k e = rw e
+  pub atmost-holds : (k : Bool) → k ≡ false → one ≡ true → holds (readRegister rs) (conditionOfKind k one a b l h) ≡ leZ (readRegister rs a) (readRegister rs b)
+  atmost-holds k e f = rw (e, f) (ap (leZ (readRegister rs a)) (+ℤ-idr (readRegister rs b)))
+
+  pub atmost-plus-holds : (k : Bool) → k ≡ false → one ≡ false → holds (readRegister rs) (conditionOfKind k one a b l h) ≡ leZ (readRegister rs a) (readRegister rs b +ℤ l)
+  atmost-plus-holds k e f = rw (e, f)
 
 -- ---- the words of a rule
 

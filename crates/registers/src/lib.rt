@@ -41,7 +41,7 @@ pub fn remove(registers: &mut [i64], height: usize, count: usize)
 
 // ---- test
 
-// One condition by its three words: kind 0 is a range.
+// One condition by its three words: kind 0 is a range; of kind 2 the second word is the constant.
 fn condition(registers: &[i64], height: usize, word: u32, low: u32, high: u32) -> bool
     requires { ⌜ (height ≤ length (now registers)) × Reads (Valued (stack height (now registers))) (conditionFrom word low high) ⌝ }
     ensures { λ r. ⌜ r ≡ holds (readRegister (stack height (now (registers .entry)))) (conditionFrom word low high) ⌝ }
@@ -50,7 +50,11 @@ fn condition(registers: &[i64], height: usize, word: u32, low: u32, high: u32) -
     if word / 128 % 16 == 0 {
         return value::in_bounds(a, value::constant(low), value::constant(high));
     }
-    value::at_most(a, read(registers, height, word / 2048 % 128))
+    let b = read(registers, height, word / 2048 % 128);
+    if word / 128 % 16 == 1 {
+        return value::at_most(a, b);
+    }
+    value::at_most_plus(a, b, value::constant(low))
 }
 
 // Whether `count` conditions, whose words stand from `at` on, hold.

@@ -1,5 +1,5 @@
 -- The fault of a condition is the one that 01's table gives.
-use Prim.Native.Nat.{ℕ, _+_}
+use Prim.Native.Nat.{ℕ, zero, suc, _+_, _*_, _≤_}
 use mathlib.Core.Path.{_≡_, refl, sym, _∙_, ap, ap₂}
 use mathlib.Core.Bool.{Bool, true, false, _&&_, _||_, not, cond}
 use mathlib.Core.List.{List, [], _∷_}
@@ -10,7 +10,7 @@ use lib.ListN.{length}
 use borrow.Author.Tests.{leb-true, leb-false, le-ltb, lt-ltb, eqb-true, eqb-false}
 use Rattle.meaning.specs.Base.{all}
 use Rattle.meaning.specs.Grammar.{Symbol, Occurrence, Rule, Condition, range, atmost, Counts}
-use Rattle.meaning.specs.Table.{byte, constantAt, State, Entry, Header, condition, occurrenceAt, occurrenceKnown, isInput, conditionLength, reads, lowestOf, judgeField, tagStands, stage, atAny}
+use Rattle.meaning.specs.Table.{byte, constantAt, State, Entry, Header, condition, occurrenceAt, offsetOf, occurrenceKnown, isInput, conditionLength, reads, lowestOf, judgeField, tagStands, stage, atAny}
 use Rattle.fields.specs.Demand.{ifEqual, differs, below, holds, equal, atMost}
 use Rattle.fields.proofs.Rest.{fieldOf}
 use Rattle.fields.proofs.Judged.{judge-stands}
@@ -29,19 +29,17 @@ range-by true false input = refl
 range-by true true input = refl
 
 at-most-by :
-    (v : Bool) {k i : Bool} {a : ℕ} {m g : Bool} {b : ℕ} (x y : Bool) → Classed k i a → Classed m g b
-    → lowestOf ((v, 4) ∷ (k && (m && true), 5) ∷ (true, 6) ∷ (i && (g && true), 7) ∷ (true, 8) ∷ (true, 9) ∷ (not (x && y), 10) ∷ [])
-    ≡ cond v (cond (eqb a 0) 5 (cond (eqb b 0) 5 (cond (eqb a 2) 7 (cond (eqb b 2) 7 (cond x (cond y 10 0) 0))))) 4
-at-most-by false x y p q = refl
-at-most-by true x y unknown q = refl
-at-most-by true x y input unknown = refl
-at-most-by true x y output unknown = refl
-at-most-by true x y input output = refl
-at-most-by true x y output input = refl
-at-most-by true x y output output = refl
-at-most-by true false y input input = refl
-at-most-by true true false input input = refl
-at-most-by true true true input input = refl
+    (v : Bool) {k i : Bool} {a : ℕ} {m g : Bool} {b : ℕ} → Classed k i a → Classed m g b
+    → lowestOf ((v, 4) ∷ (k && (m && true), 5) ∷ (true, 6) ∷ (i && (g && true), 7) ∷ (true, 8) ∷ (true, 9) ∷ (true, 10) ∷ [])
+    ≡ cond v (cond (eqb a 0) 5 (cond (eqb b 0) 5 (cond (eqb a 2) 7 (cond (eqb b 2) 7 0)))) 4
+at-most-by false p q = refl
+at-most-by true unknown q = refl
+at-most-by true input unknown = refl
+at-most-by true output unknown = refl
+at-most-by true input output = refl
+at-most-by true output input = refl
+at-most-by true output output = refl
+at-most-by true input input = refl
 
 -- p "long enough", q "few enough", v "of the right length"
 near-by :
@@ -81,49 +79,57 @@ module _ (h : Header) (cs : List Counts) (os : List ℕ) (es : List Entry) (r c 
   abbrev conditionBy : Bool → Condition Occurrence
   conditionBy x = elim x [
     | true ↦ range (occurrenceAt b 1) (constantAt b 3) (constantAt b 7)
-    | false ↦ atmost (occurrenceAt b 1) (occurrenceAt b 3)
+    | false ↦ atmost (occurrenceAt b 1) (occurrenceAt b 3) (offsetOf b)
   ]
 
   abbrev boundsBy : Condition Occurrence → Bool
-  boundsBy x = elim x [ range p m n ↦ leZ m n | atmost p q ↦ not (eqb (p .position) 0 && eqb (q .position) 0) ]
+  boundsBy x = elim x [ range p m n ↦ leZ m n | atmost p q n ↦ true ]
 
   abbrev rest : Bool → List (Bool × ℕ)
   rest x = (true, 6) ∷ (all I (reads (conditionBy x)), 7) ∷ (true, 8) ∷ (true, 9) ∷ (boundsBy (conditionBy x), 10) ∷ []
 
-  -- w is "the kind is above 1", u "it is at most 1", x "it is 0", v "the length is right"
+  -- w is "the kind is above 2", u "it is at most 2", x "it is 0", v "the length is right"
   abbrev whole : Bool → Bool → Bool → Bool → ℕ
   whole w u x v = lowestOf ((leb 1 (length b) && ltb c 512 && (w || v), 4) ∷ (u && all K (reads (conditionBy x)), 5) ∷ rest x)
 
   abbrev fault : Bool → Bool → ℕ
-  fault u x = cond (leb 1 (length b)) (cond (ltb c 512) (cond u (cond x (rangeFault width inh syn b) (atMostFault width inh syn b)) 5) 4) 4
+  fault u x = cond (leb 1 (length b)) (cond (ltb c 512) (cond u (cond x (rangeFault width inh syn b) (atMostFault (4 * kind + 1) width inh syn b)) 5) 4) 4
 
   range-judged : lowestOf ((eqb (length b) 11, 4) ∷ (all K (reads (conditionBy true)), 5) ∷ rest true) ≡ rangeFault width inh syn b
   unfolding rangeFault equal differs holds inOrder fourAt
   range-judged = range-by (eqb (length b) 11) (inOrder (fourAt b 3) (fourAt b 7)) (class-of 1)
 
-  at-most-judged : lowestOf ((eqb (length b) 5, 4) ∷ (all K (reads (conditionBy false)), 5) ∷ rest false) ≡ atMostFault width inh syn b
-  unfolding atMostFault equal differs ifEqual
-  at-most-judged = at-most-by (eqb (length b) 5) (eqb (byte b 1) 0) (eqb (byte b 3) 0) (class-of 1) (class-of 3)
+  at-most-judged : (n : ℕ) → lowestOf ((eqb (length b) n, 4) ∷ (all K (reads (conditionBy false)), 5) ∷ rest false) ≡ atMostFault n width inh syn b
+  unfolding atMostFault equal differs
+  at-most-judged n = at-most-by (eqb (length b) n) (class-of 1) (class-of 3)
+
+  -- the length of a comparison by its kind
+  compared-length : (k : ℕ) → 1 ≤ k → k ≤ 2 → conditionLength k ≡ 4 * k + 1
+  compared-length zero l m = absurd (omega arith)
+  compared-length (suc zero) l m = refl
+  compared-length (suc (suc zero)) l m = refl
+  compared-length (suc (suc (suc k))) l m = absurd (omega arith)
 
   whole-same : {w w′ u u′ x x′ v v′ : Bool} → w ≡ w′ → u ≡ u′ → x ≡ x′ → v ≡ v′ → whole w u x v ≡ whole w′ u′ x′ v′
   whole-same p q r t = cc
 
-  by-kind : (u x : Bool) → leb kind 1 ≡ u → eqb kind 0 ≡ x → whole (ltb 1 kind) (leb kind 1) (eqb kind 0) (eqb (length b) (conditionLength kind)) ≡ fault (leb kind 1) (eqb kind 0)
+  by-kind : (u x : Bool) → leb kind 2 ≡ u → eqb kind 0 ≡ x → whole (ltb 2 kind) (leb kind 2) (eqb kind 0) (eqb (length b) (conditionLength kind)) ≡ fault (leb kind 2) (eqb kind 0)
   by-kind true true w z =
       let k : kind ≡ 0 = eqb-true kind 0 z in
-      whole-same (le-ltb 1 kind (omega arith)) w z (ap (λ (n : ℕ). eqb (length b) (conditionLength n)) k)
+      whole-same (le-ltb 2 kind (omega arith)) w z (ap (λ (n : ℕ). eqb (length b) (conditionLength n)) k)
       ∙ near-by (leb 1 (length b)) (ltb c 512) (eqb (length b) 11) ((all K (reads (conditionBy true)), 5) ∷ rest true) (rangeFault width inh syn b) range-judged
       ∙ sym (ap₂ fault w z)
   by-kind true false w z =
-      let k : kind ≡ 1 = let n = eqb-false kind 0 z in let m = leb-true kind 1 w in omega arith in
-      whole-same (le-ltb 1 kind (omega arith)) w z (ap (λ (n : ℕ). eqb (length b) (conditionLength n)) k)
-      ∙ near-by (leb 1 (length b)) (ltb c 512) (eqb (length b) 5) ((all K (reads (conditionBy false)), 5) ∷ rest false) (atMostFault width inh syn b) at-most-judged
+      let few : kind ≤ 2 = leb-true kind 2 w in
+      let k = let n = eqb-false kind 0 z in compared-length kind (omega arith) few in
+      whole-same (le-ltb 2 kind (omega arith)) w z (ap (λ (n : ℕ). eqb (length b) n) k)
+      ∙ near-by (leb 1 (length b)) (ltb c 512) (eqb (length b) (4 * kind + 1)) ((all K (reads (conditionBy false)), 5) ∷ rest false) (atMostFault (4 * kind + 1) width inh syn b) (at-most-judged (4 * kind + 1))
       ∙ sym (ap₂ fault w z)
   by-kind false x w z =
-      ap₂ (λ p u. whole p u (eqb kind 0) (eqb (length b) (conditionLength kind))) (lt-ltb 1 kind (leb-false kind 1 w)) w
+      ap₂ (λ p u. whole p u (eqb kind 0) (eqb (length b) (conditionLength kind))) (lt-ltb 2 kind (leb-false kind 2 w)) w
       ∙ far-by (leb 1 (length b)) (ltb c 512) (eqb (length b) (conditionLength kind)) (all K (reads (conditionBy (eqb kind 0)))) (rest (eqb kind 0))
       ∙ sym (ap (λ u. fault u (eqb kind 0)) w)
 
   pub condition-judged : (at : ℕ) → stage s ≡ atAny → judgeField s (fieldOf at 5 b) ≡ conditionFault c width inh syn b
   unfolding conditionFault atMost below ifEqual
-  condition-judged at q = judge-stands s at 5 b (ap (λ x. tagStands x 5) q) ∙ by-kind (leb kind 1) (eqb kind 0) refl refl
+  condition-judged at q = judge-stands s at 5 b (ap (λ x. tagStands x 5) q) ∙ by-kind (leb kind 2) (eqb kind 0) refl refl

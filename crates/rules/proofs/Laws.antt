@@ -13,7 +13,7 @@ use Rattle.meaning.specs.Table.{byte}
 use Rattle.fields.specs.Demand.{ifEqual}
 use Rattle.fields.proofs.Fine.{equal-fine, differs-fine, atMost-fine, below-fine, holds-fine}
 use Rattle.fields.proofs.Demands.{differs-not, equal-yes, equal-no, below-yes, below-no}
-use Rattle.rules.specs.Rule.{Small, classAt, classIn, classFault, orElse, lengthOf, operandCount, operandClass, divisorFits, ruleOrder, ruleUses, ruleFault, rangeFault, atMostFault, conditionFault, allCount}
+use Rattle.rules.specs.Rule.{Small, classAt, classIn, classFault, orElse, lengthOf, operandCount, operandClass, divisorFits, ruleOrder, ruleUses, ruleFault, atMostFault, allCount}
 use Rattle.fields.proofs.Cases.{lt-or-le, nonzero}
 
 pub else-first : (x y : ℕ) {z : ℕ} → z ≡ x → (z ≡ 0 → ⊥) → z ≡ orElse x y
@@ -34,6 +34,9 @@ length-eight f e = equal-no _ _ _ _ (λ q. omega arith) (equal-no _ _ _ _ (λ q.
 
 pub divisor-at : (b : List ℕ) {f g : ℕ} {r : Bool} → r ≡ divisorFits f b → f ≡ g → r ≡ divisorFits g b
 divisor-at b e q = e ∙ ap (λ (x : ℕ). divisorFits x b) q
+
+pub compared-at : (width : ℕ) (inh syn b : List ℕ) {k l r : ℕ} → r ≡ atMostFault (4 * k + 1) width inh syn b → k ≡ l → r ≡ atMostFault (4 * l + 1) width inh syn b
+compared-at width inh syn b e q = e ∙ ap (λ (x : ℕ). atMostFault (4 * x + 1) width inh syn b) q
 
 pub uses-at :
     (width : ℕ) (inh syn note b : List ℕ) {n m r : ℕ} → r ≡ ruleUses width inh syn note b n → n ≡ m → r ≡ ruleUses width inh syn note b m
@@ -94,26 +97,6 @@ rule-fine r width inh syn note b small e =
     let y = else-fine (classFault (classIn width inh syn b 0) (operandClass width inh syn b n 0) (operandClass width inh syn b n 1)) (ruleOrder note n b) (x .1) in
     let k = uses-ready width inh syn b 0 (classIn width inh syn b 0) (operandClass width inh syn b n 0) (operandClass width inh syn b n 1) small (omega (arith, q .0)) refl refl y in
     (q .0, k .1, k .2, k .3)
-
--- a condition without a fault
-pub condition-fine :
-    (c width : ℕ) (inh syn b : List ℕ) → conditionFault c width inh syn b ≡ 0
-    → (1 ≤ length b) × (byte b 0 ≡ 0 → length b ≡ 11) × ((byte b 0 ≡ 0 → ⊥) → byte b 1 ≡ 0 → byte b 3 ≡ 0 → ⊥)
-unfolding conditionFault rangeFault atMostFault
-condition-fine c width inh syn b e =
-    let q = atMost-fine (nonzero 3) 1 (length b) e in
-    let u = below-fine (nonzero 3) c 512 (q .1) in
-    let v = atMost-fine (nonzero 4) (byte b 0) 1 (u .1) in (
-      q .0,
-      (λ z. equal-fine (nonzero 3) (length b) 11 (equal-yes (byte b 0) 0 _ _ z refl ∙ v .1) .0),
-      λ n x y.
-          let w = equal-fine (nonzero 3) (length b) 5 (equal-no (byte b 0) 0 _ _ n refl ∙ v .1) in
-          let k = differs-fine (nonzero 4) (classIn width inh syn b 1) 0 (w .1) in
-          let l = differs-fine (nonzero 4) (classIn width inh syn b 3) 0 (k .1) in
-          let m = differs-fine (nonzero 6) (classIn width inh syn b 1) 2 (l .1) in
-          let o = differs-fine (nonzero 6) (classIn width inh syn b 3) 2 (m .1) in
-          differs-fine (nonzero 9) (byte b 3) 0 (equal-yes (byte b 1) 0 _ _ x refl ∙ o .1) .0 y,
-    )
 
 pub ap3 : {A B : Type 0} (f : A → A → A → B) {x x′ y y′ z z′ : A} → x ≡ x′ → y ≡ y′ → z ≡ z′ → f x y z ≡ f x′ y′ z′
 ap3 f p q r = cc

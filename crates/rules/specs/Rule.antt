@@ -140,24 +140,22 @@ rangeFault width inh syn b =
     (holds (inOrder (fourAt b 3) (fourAt b 7)) 10
     0)))
 
-unfoldable pub atMostFault : ℕ → List ℕ → List ℕ → List ℕ → ℕ
-atMostFault width inh syn b =
-    equal (length b) 5 4
+-- a comparison whose length is n
+unfoldable pub atMostFault : ℕ → ℕ → List ℕ → List ℕ → List ℕ → ℕ
+atMostFault n width inh syn b =
+    equal (length b) n 4
     (differs (classIn width inh syn b 1) 0 5
     (differs (classIn width inh syn b 3) 0 5
     (differs (classIn width inh syn b 1) 2 7
     (differs (classIn width inh syn b 3) 2 7
-    (ifEqual (byte b 1) 0
-    (differs (byte b 3) 0 10
-    0)
-    0)))))
+    0))))
 
 -- a condition after c others
 unfoldable pub conditionFault : ℕ → ℕ → List ℕ → List ℕ → List ℕ → ℕ
 conditionFault c width inh syn b =
     atMost 1 (length b) 4
     (below c 512 4
-    (atMost (byte b 0) 1 5
+    (atMost (byte b 0) 2 5
     (ifEqual (byte b 0) 0
     (rangeFault width inh syn b)
-    (atMostFault width inh syn b))))
+    (atMostFault (4 * byte b 0 + 1) width inh syn b))))

@@ -34,11 +34,12 @@ pub fn range_fault(width: usize, inh: &[u8; 13], syn: &[u8; 13], body: &[u8]) ->
     0
 }
 
-pub fn at_most_fault(width: usize, inh: &[u8; 13], syn: &[u8; 13], body: &[u8]) -> u8
-    requires { ⌜ width ≤ 12 ⌝ }
-    ensures { λ r. ⌜ r ≡ atMostFault width (now (inh .entry)) (now (syn .entry)) (now (body .entry)) ⌝ }
+// A comparison, whose body has the length `size`.
+pub fn at_most_fault(size: usize, width: usize, inh: &[u8; 13], syn: &[u8; 13], body: &[u8]) -> u8
+    requires { ⌜ (5 ≤ size) × (width ≤ 12) ⌝ }
+    ensures { λ r. ⌜ r ≡ atMostFault size width (now (inh .entry)) (now (syn .entry)) (now (body .entry)) ⌝ }
 {
-    if body.len() != 5 {
+    if body.len() != size {
         return 4;
     }
     let class = crate::class_in(width, inh, syn, body, 1);
@@ -55,12 +56,6 @@ pub fn at_most_fault(width: usize, inh: &[u8; 13], syn: &[u8; 13], body: &[u8]) 
     if other == 2 {
         return 7;
     }
-    if fields::wide(body[1]) != 0 {
-        return 0;
-    }
-    if fields::wide(body[3]) == 0 {
-        return 10;
-    }
     0
 }
 
@@ -76,11 +71,11 @@ pub fn condition_fault(c: usize, width: usize, inh: &[u8; 13], syn: &[u8; 13], b
         return 4;
     }
     let kind = fields::wide(body[0]);
-    if 1 < kind {
+    if 2 < kind {
         return 5;
     }
     if kind == 0 {
         return range_fault(width, inh, syn, body);
     }
-    at_most_fault(width, inh, syn, body)
+    at_most_fault(4 * kind + 1, width, inh, syn, body)
 }

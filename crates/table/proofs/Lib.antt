@@ -5,4 +5,3 @@ pub mod Walking
 pub mod Producing
 pub mod Rows
 pub mod Tables
-pub mod Intervals

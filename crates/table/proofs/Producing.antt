@@ -23,7 +23,6 @@ use Rattle.fields.proofs.Fine.{ProductionFine, production-fine}
 use Rattle.fields.proofs.Walks.{all-each}
 use Rattle.rules.specs.Rule.{Small}
 use Rattle.rules.specs.Note.{symbolIn}
-use Rattle.entries.specs.Span.{Spans}
 use Rattle.table.specs.declared.Uses.{Uses}
 use Rattle.table.specs.Outline.{SmallCounts, Numbered, countOf, symbolByte, countsUpTo, Written}
 use Rattle.table.specs.Progress.{settingOf, Around, UsesRead, Next}
@@ -247,8 +246,8 @@ module _ (t : List ℕ) (at w : ℕ) (inherited synthesized inh syn part : List 
   right-long : length (rightIn t at) ≡ w
   right-long = length-map (drop 2 (bodyIn t at)) symbolOf ∙ length-drop 2 (bodyIn t at) ∙ omega (arith, body-long)
 
-  pub body-read : (r₀ c₀ : ℕ) (v : Spans) (n : ℕ) (u : Uses) → UsesRead (settingOf t at w inh syn) (at + 5 + w) r₀ c₀ v n u → BodyRead t at inherited synthesized r₀ c₀ v n u
-  body-read r₀ c₀ v n u f h cs os es all agree =
+  pub body-read : (r₀ c₀ : ℕ) (u : Uses) → UsesRead (settingOf t at w inh syn) (at + 5 + w) r₀ c₀ u → BodyRead t at inherited synthesized r₀ c₀ u
+  body-read r₀ c₀ u f h cs os es all agree =
       let a : Around (settingOf t at w inh syn) =
       record {
         header = h;
@@ -266,7 +265,7 @@ module _ (t : List ℕ) (at w : ℕ) (inherited synthesized inh syn part : List 
       }
       in
       let m = f a in
-      (m .0, m .1, ap (λ (i : ℕ). rest t (stateOf h cs os (entryOf at (leftIn t at) (rightIn t at) [] [] ∷ es) r₀ c₀) (at + 5 + i)) (sym is-width) ∙ m .2, m .3, m .4)
+      (m .0, m .1, ap (λ (i : ℕ). rest t (stateOf h cs os (entryOf at (leftIn t at) (rightIn t at) [] [] ∷ es) r₀ c₀) (at + 5 + i)) (sym is-width) ∙ m .2, m .3)
 
 pub next-sooner : (t : List ℕ) (a b : ℕ) (u : Uses) → a ≤ b → Next t b u → Next t a u
 next-sooner t a b u l n = record { after = omega (arith, n .after); inside = n .inside; over = n .over; rules = n .rules; conditions = n .conditions }

@@ -12,8 +12,6 @@ use Rattle.fields.specs.Field.{rest}
 use Rattle.fields.specs.Reads.{stateOf, entryOf}
 use Rattle.fields.proofs.Rest.{rest-end, judged-fine, judged-refused, body-byte}
 use Rattle.fields.proofs.Judged.{stage-later}
-use Rattle.entries.specs.Span.{Spans, Spanned, Long, Kept}
-use Rattle.entries.proofs.Narrowing.{spanned-kept}
 use Rattle.table.specs.declared.Sizes.{Sizes}
 use Rattle.table.specs.declared.Uses.{Uses}
 use Rattle.table.specs.declared.Reading.{Reading}
@@ -29,7 +27,7 @@ use Rattle.table.proofs.Producing.{counts-agree, right-symbol, left-byt
 
 -- ---- rows that stay
 
-module _ (rows rows′ offsets : List ℕ) (v w : Spans) (n o : ℕ) (same : (i : ℕ) → i < 16 * n → getD rows′ i 0 ≡ getD rows i 0) (stays : Kept v w n) where
+module _ (rows rows′ offsets : List ℕ) (n o : ℕ) (same : (i : ℕ) → i < 16 * n → getD rows′ i 0 ≡ getD rows i 0) where
   row-kept : (p : ℕ) (e : Entry) → p < n → RowOf rows offsets p e → RowOf rows′ (set offsets n o) p e
   row-kept p e l r =
       record {
@@ -40,20 +38,19 @@ module _ (rows rows′ offsets : List ℕ) (v w : Spans) (n o : ℕ) (same : (i 
         offset = getD-set-other offsets n p o 0 (λ q. omega arith) ∙ r .offset;
       }
 
-  pub laid-kept : (es : List Entry) → length es ≤ n → Laid rows offsets v es → Laid rows′ (set offsets n o) w es
+  pub laid-kept : (es : List Entry) → length es ≤ n → Laid rows offsets es → Laid rows′ (set offsets n o) es
   laid-kept [] l d = tt
-  laid-kept (e ∷ es) l d =
-      ((row-kept (length es) e (omega arith) (d .0 .0), spanned-kept v w n (length es) (e .conditions) (omega arith) stays (d .0 .1)), laid-kept es (omega arith) (d .1))
+  laid-kept (e ∷ es) l d = (row-kept (length es) e (omega arith) (d .0), laid-kept es (omega arith) (d .1))
 
 -- ---- one production
 
-module _ (t : List ℕ) (at p terminals nonterminals : ℕ) (inherited synthesized rows₀ offsets₀ : List ℕ) (v₀ : Spans) (r₀ c₀ : ℕ) (number : ℕ) (j : ProductionJudged t at p terminals nonterminals number) (long-offsets : length offsets₀ ≡ 128) (long-spans : Long v₀) where
+module _ (t : List ℕ) (at p terminals nonterminals : ℕ) (inherited synthesized rows₀ offsets₀ : List ℕ) (r₀ c₀ : ℕ) (number : ℕ) (j : ProductionJudged t at p terminals nonterminals number) (long-offsets : length offsets₀ ≡ 128) where
   abbrev cs : List Counts
   cs = countsUpTo inherited synthesized nonterminals
 
   pub production-refused :
       (number ≡ 0 → ⊥) → at ≤ length t → length rows₀ ≡ 2048
-      → ProductionRead t at p terminals nonterminals inherited synthesized rows₀ offsets₀ v₀ r₀ c₀ rows₀ offsets₀ v₀ (record { number = number; at = at; rules = r₀; conditions = c₀ })
+      → ProductionRead t at p terminals nonterminals inherited synthesized rows₀ offsets₀ r₀ c₀ rows₀ offsets₀ (record { number = number; at = at; rules = r₀; conditions = c₀ })
   production-refused n inside long =
       record {
         read = λ h os es tm nt len done laid. (
@@ -65,7 +62,7 @@ module _ (t : List ℕ) (at p terminals nonterminals : ℕ) (inherited synthesiz
         next = λ z. absurd (n z);
         few = λ z. absurd (n z);
         inside = inside;
-        kept = (long, long-offsets, long-spans);
+        kept = (long, long-offsets);
       }
 
   module _ (fine : number ≡ 0) (part rows : List ℕ) (is-part : part ≡ bodyIn t at) (copied : Copied rows₀ p part rows (length part)) where
@@ -97,9 +94,9 @@ module _ (t : List ℕ) (at p terminals nonterminals : ℕ) (inherited synthesiz
         }
 
     pub production-read :
-        (v : Spans) (u : Uses) → BodyRead t at inherited synthesized r₀ c₀ v p u → Kept v₀ v p → (u .number ≡ 0 → Next t (at + 5) u) → u .at ≤ length t
-        → ProductionRead t at p terminals nonterminals inherited synthesized rows₀ offsets₀ v₀ r₀ c₀ rows (set offsets₀ p at) v u
-    production-read v u body stays next inside =
+        (u : Uses) → BodyRead t at inherited synthesized r₀ c₀ u → (u .number ≡ 0 → Next t (at + 5) u) → u .at ≤ length t
+        → ProductionRead t at p terminals nonterminals inherited synthesized rows₀ offsets₀ r₀ c₀ rows (set offsets₀ p at) u
+    production-read u body next inside =
         record {
           read = λ h os es tm nt len done laid.
               let m = body h cs os es (omega (arith, nt, length-counts inherited synthesized nonterminals)) (counts-agree t at p terminals nonterminals inherited synthesized known) in (
@@ -107,22 +104,19 @@ module _ (t : List ℕ) (at p terminals nonterminals : ℕ) (inherited synthesiz
                 j .read h cs os es r₀ c₀ tm nt (omega (arith, length-counts inherited synthesized nonterminals)) len done ∙ judged-fine number at _ fine ∙ m .2,
                 m .3,
                 λ z. (
-                  (
-                    subst (λ (n : ℕ). RowOf rows (set offsets₀ p at) n (entryOf at (leftIn t at) (rightIn t at) (m .0) (m .1))) (sym len) (row-is (entryOf at (leftIn t at) (rightIn t at) (m .0) (m .1)) refl refl refl),
-                    subst (λ (n : ℕ). Spanned v n (m .1)) (sym len) (m .4 z),
-                  ),
-                  laid-kept rows₀ rows offsets₀ v₀ v p at (copied .before) stays es (omega (arith, len)) laid,
+                  subst (λ (n : ℕ). RowOf rows (set offsets₀ p at) n (entryOf at (leftIn t at) (rightIn t at) (m .0) (m .1))) (sym len) (row-is (entryOf at (leftIn t at) (rightIn t at) (m .0) (m .1)) refl refl refl),
+                  laid-kept rows₀ rows offsets₀ p at (copied .before) es (omega (arith, len)) laid,
                 ),
               );
           next = next;
           few = λ z. known .few;
           inside = inside;
-          kept = (copied .kept, length-set offsets₀ p at ∙ long-offsets, stays .long);
+          kept = (copied .kept, length-set offsets₀ p at ∙ long-offsets);
         }
 
 -- ---- all of them
 
-pub record Reached (t : List ℕ) (n : ℕ) (inherited synthesized rows offsets : List ℕ) (v : Spans) (p at r c : ℕ) : Type 0 where
+pub record Reached (t : List ℕ) (n : ℕ) (inherited synthesized rows offsets : List ℕ) (p at r c : ℕ) : Type 0 where
   pub inside : at ≤ length t
   pub over : 0 < p → Over t at
   pub rules : r ≤ at
@@ -130,16 +124,15 @@ pub record Reached (t : List ℕ) (n : ℕ) (inherited synthesized rows offsets 
   pub few : p ≤ 128
   pub kept : length rows ≡ 2048
   pub kept-offsets : length offsets ≡ 128
-  pub kept-spans : Long v
   pub entries : List Entry
   pub count : length entries ≡ p
   pub done : lastComplete (stateOf (headerIn t) (countsUpTo inherited synthesized n) (offsetsUpTo n) entries r c) ≡ true
-  pub laid : Laid rows offsets v entries
+  pub laid : Laid rows offsets entries
   pub read : rest t (counted t inherited synthesized n) (7 + 5 * n) ≡ rest t (stateOf (headerIn t) (countsUpTo inherited synthesized n) (offsetsUpTo n) entries r c) at
 
 module _ (t : List ℕ) (n : ℕ) (inherited synthesized : List ℕ) where
-  pub reached-start : (rows offsets : List ℕ) (v : Spans) → 7 + 5 * n ≤ length t → length rows ≡ 2048 → length offsets ≡ 128 → Long v → Reached t n inherited synthesized rows offsets v 0 (7 + 5 * n) 0 0
-  reached-start rows offsets v l k m s =
+  pub reached-start : (rows offsets : List ℕ) → 7 + 5 * n ≤ length t → length rows ≡ 2048 → length offsets ≡ 128 → Reached t n inherited synthesized rows offsets 0 (7 + 5 * n) 0 0
+  reached-start rows offsets l k m =
       record {
         inside = l;
         over = λ h. absurd (omega arith);
@@ -148,7 +141,6 @@ module _ (t : List ℕ) (n : ℕ) (inherited synthesized : List ℕ) where
         few = omega arith;
         kept = k;
         kept-offsets = m;
-        kept-spans = s;
         entries = [];
         count = refl;
         done = refl;
@@ -156,17 +148,17 @@ module _ (t : List ℕ) (n : ℕ) (inherited synthesized : List ℕ) where
         read = refl;
       }
 
-  module _ (rows offsets : List ℕ) (v : Spans) (p at r c : ℕ) (w : Reached t n inherited synthesized rows offsets v p at r c) where
+  module _ (rows offsets : List ℕ) (p at r c : ℕ) (w : Reached t n inherited synthesized rows offsets p at r c) where
     abbrev state : State
     state = stateOf (headerIn t) (countsUpTo inherited synthesized n) (offsetsUpTo n) (w .entries) r c
 
-    module _ (is-n : n ≡ byte t 4) (terminals : ℕ) (tm : terminals ≡ byte t 3) (rows′ offsets′ : List ℕ) (v′ : Spans) (u : Uses) (m : ProductionRead t at p terminals n inherited synthesized rows offsets v r c rows′ offsets′ v′ u) where
+    module _ (is-n : n ≡ byte t 4) (terminals : ℕ) (tm : terminals ≡ byte t 3) (rows′ offsets′ : List ℕ) (u : Uses) (m : ProductionRead t at p terminals n inherited synthesized rows offsets r c rows′ offsets′ u) where
       pub reached-refused : (u .number ≡ 0 → ⊥) → rest t (counted t inherited synthesized n) (7 + 5 * n) ≡ malformed (u .number) (u .at)
       reached-refused z =
           let q = m .read (headerIn t) (offsetsUpTo n) (w .entries) (sym tm) (sym is-n) (w .count) (w .done) (w .laid) in
           w .read ∙ q .1 ∙ judged-refused (u .number) (u .at) _ z
 
-      pub reached-more : u .number ≡ 0 → Reached t n inherited synthesized rows′ offsets′ v′ (p + 1) (u .at) (u .rules) (u .conditions)
+      pub reached-more : u .number ≡ 0 → Reached t n inherited synthesized rows′ offsets′ (p + 1) (u .at) (u .rules) (u .conditions)
       reached-more z =
           let q = m .read (headerIn t) (offsetsUpTo n) (w .entries) (sym tm) (sym is-n) (w .count) (w .done) (w .laid) in
           let k = m .next z in
@@ -178,7 +170,6 @@ module _ (t : List ℕ) (n : ℕ) (inherited synthesized : List ℕ) where
             few = omega (arith, m .few z);
             kept = m .kept .0;
             kept-offsets = m .kept .1;
-            kept-spans = m .kept .2;
             entries = q .0 ∷ w .entries;
             count = omega (arith, w .count);
             done = q .2 z;
@@ -210,20 +201,20 @@ module _ (t : List ℕ) (n : ℕ) (inherited synthesized : List ℕ) where
 -- ---- the answers
 
 pub answer-refused :
-    (r : Reading) (inherited synthesized rows offsets : List ℕ) (v : Spans) (x : Read) (number offset : ℕ) → x ≡ malformed number offset → r ≡ Malformed number offset
-    → Answers r inherited synthesized rows offsets v x
-answer-refused r inherited synthesized rows offsets v x number offset e q =
-    subst (Answers r inherited synthesized rows offsets v) (sym e) (ap numberOf q, ap offsetOf q, q)
+    (r : Reading) (inherited synthesized rows offsets : List ℕ) (x : Read) (number offset : ℕ) → x ≡ malformed number offset → r ≡ Malformed number offset
+    → Answers r inherited synthesized rows offsets x
+answer-refused r inherited synthesized rows offsets x number offset e q =
+    subst (Answers r inherited synthesized rows offsets) (sym e) (ap numberOf q, ap offsetOf q, q)
 
 pub answer-whole :
-    (t : List ℕ) (sizes : Sizes) (inherited synthesized rows offsets : List ℕ) (v : Spans) (p at r c : ℕ) → Ready t sizes inherited synthesized
-    → Reached t (sizes .nonterminals) inherited synthesized rows offsets v p at r c → length t ≤ at → (p ≡ 0 → ⊥)
+    (t : List ℕ) (sizes : Sizes) (inherited synthesized rows offsets : List ℕ) (p at r c : ℕ) → Ready t sizes inherited synthesized
+    → Reached t (sizes .nonterminals) inherited synthesized rows offsets p at r c → length t ≤ at → (p ≡ 0 → ⊥)
     → Answers
     (WellFormed (record { terminals = sizes .terminals; nonterminals = sizes .nonterminals; start = sizes .start; result = sizes .result; productions = p }))
-    inherited synthesized rows offsets v
+    inherited synthesized rows offsets
     (rest t (counted t inherited synthesized (sizes .nonterminals)) (7 + 5 * sizes .nonterminals))
-answer-whole t sizes inherited synthesized rows offsets v p at r c ready w ended some =
-    subst (Answers _ inherited synthesized rows offsets v) (sym (reached-end t (sizes .nonterminals) inherited synthesized rows offsets v p at r c w (ready .nonterminals) ended some)) (
+answer-whole t sizes inherited synthesized rows offsets p at r c ready w ended some =
+    subst (Answers _ inherited synthesized rows offsets) (sym (reached-end t (sizes .nonterminals) inherited synthesized rows offsets p at r c w (ready .nonterminals) ended some)) (
       _,
       refl,
       record {
@@ -233,8 +224,7 @@ answer-whole t sizes inherited synthesized rows offsets v p at r c ready w ended
         result = ready .result;
         productions = sym (w .count);
         counts = refl;
-        each = λ i l. numbered noEntry (λ p e. RowOf rows offsets p e × Spanned v p (e .conditions)) (w .entries) (w .laid) i (omega (arith, w .count)) .0;
-        spans = λ i l. numbered noEntry (λ p e. RowOf rows offsets p e × Spanned v p (e .conditions)) (w .entries) (w .laid) i (omega (arith, w .count)) .1;
+        each = λ i l. numbered noEntry (RowOf rows offsets) (w .entries) (w .laid) i (omega (arith, w .count));
         lengths = (ready .first, ready .second, w .kept, w .kept-offsets);
       },
     )

@@ -6,7 +6,6 @@ use lib.ListN.{length}
 use Rattle.meaning.specs.Table.{malformed, readTable}
 use Rattle.fields.specs.Field.{rest}
 use Rattle.fields.proofs.Rest.{rest-table, judged-fine, judged-refused}
-use Rattle.entries.specs.Span.{Spans}
 use Rattle.table.specs.declared.Refusal.{Refusal}
 use Rattle.table.specs.declared.Reading.{Reading}
 use Rattle.table.specs.Outline.{counted}
@@ -22,11 +21,11 @@ module _ (t : List ℕ) (short : length t ≤ 32768) (number : ℕ) (h : HeaderJ
     counts-answer m = rest-table t short ∙ h .read ∙ judged-fine number 0 _ fine ∙ c .read ∙ judged-refused (r .number) (r .offset) _ m
 
     pub productions-answer :
-        (q : Reading) (rows offsets : List ℕ) (v : Spans) → r .number ≡ 0
-        → Answers q inherited synthesized rows offsets v (rest t (counted t inherited synthesized n) (7 + 5 * n))
-        → Answers q inherited synthesized rows offsets v (readTable t)
-    productions-answer q rows offsets v m a =
+        (q : Reading) (rows offsets : List ℕ) → r .number ≡ 0
+        → Answers q inherited synthesized rows offsets (rest t (counted t inherited synthesized n) (7 + 5 * n))
+        → Answers q inherited synthesized rows offsets (readTable t)
+    productions-answer q rows offsets m a =
         subst
-        (Answers q inherited synthesized rows offsets v)
+        (Answers q inherited synthesized rows offsets)
         (sym (rest-table t short ∙ h .read ∙ judged-fine number 0 _ fine ∙ c .read ∙ judged-fine (r .number) (r .offset) _ m))
         a

@@ -1,5 +1,5 @@
 -- The rules and conditions of a production, one after the other.
-use Prim.Native.Nat.{ℕ, suc, _+_, _≤_, _<_, max}
+use Prim.Native.Nat.{ℕ, suc, _+_, _≤_, _<_}
 use mathlib.Core.Path.{_≡_, refl, sym, _∙_, ap, ap₂, subst}
 use mathlib.Core.Bool.{Bool, true, false, _&&_, _||_, not, true≢false}
 use mathlib.Core.List.{List, [], _∷_}
@@ -8,21 +8,17 @@ use native.Mathlib.Omega.{arith}
 use lib.Dec.{eqb}
 use lib.ListN.{length}
 use borrow.Author.Tests.{ne-eqb, eq-eqb, lt-ltb, not-true, not-false}
-use Rattle.meaning.specs.Grammar.{Counts, Rule, Condition, range, atmost, Occurrence}
-use Rattle.meaning.specs.Table.{byte, Header, Entry, atFirst, atAny, stage, tagStands, wellFormed, malformed, current, judgeField, readField, kindOf, ruleOf, conditionOf, constantAt, occurrenceAt, lastComplete}
+use Rattle.meaning.specs.Grammar.{Counts, Rule, Condition, Occurrence}
+use Rattle.meaning.specs.Table.{byte, Header, Entry, atFirst, atAny, stage, tagStands, wellFormed, malformed, current, judgeField, readField, kindOf, ruleOf, conditionOf, lastComplete}
 use Rattle.fields.specs.Field.{Whole, Short, rest, judged, bodyAt}
 use Rattle.fields.specs.Reads.{stateOf, entryOf}
 use Rattle.fields.proofs.Rest.{rest-end, rest-missing, judged-fine, judged-refused, step-short, step-field, calm-other, body-length, body-byte, fieldOf}
 use Rattle.fields.proofs.Judged.{judge-not, stage-later}
 use Rattle.rules.specs.Rule.{Small, ruleFault, conditionFault}
 use Rattle.rules.specs.Note.{Notes, rulesAfter, GapsAnswered}
-use Rattle.rules.proofs.Laws.{condition-fine}
 use Rattle.rules.proofs.RuleJudged.{rule-judged}
 use Rattle.rules.proofs.ConditionJudged.{condition-judged}
 use Rattle.rules.proofs.Noting.{notes-fine}
-use Rattle.analysis.specs.EntryImage.{isEntry}
-use Rattle.entries.specs.Span.{Spans, Spanned, Long, Kept}
-use Rattle.entries.proofs.Narrowing.{kept-same, kept-then}
 use Rattle.table.specs.declared.Uses.{Uses}
 use Rattle.table.specs.Progress.{Over, Setting, settingOf, Around, stateIn, UseTaken, Walked, UsesRead, Next, endOf}
 use Rattle.table.proofs.Steps.{endBy}
@@ -50,7 +46,6 @@ module _ (t : List ℕ) (at size r c width : ℕ) (inh syn note : List ℕ) (ins
         same = λ n. refl;
         whole = λ z. absurd (nonzero 1 z);
         kinds = λ z. absurd (nonzero 1 z);
-        form = λ z. absurd (nonzero 1 z);
       }
 
   module _ (w : Whole t at size) where
@@ -79,26 +74,12 @@ module _ (t : List ℕ) (at size r c width : ℕ) (inh syn note : List ℕ) (ins
           same = λ n. refl;
           whole = λ z. absurd (nonzero 2 z);
           kinds = λ z. absurd (nonzero 2 z);
-          form = λ z. absurd (nonzero 2 z);
         }
 
     module _ (small : Small width inh syn) (part : List ℕ) (is-part : part ≡ b) (number : ℕ) where
       -- the rules after the field, by its tag
       abbrev rulesBy : (o : ℕ) → Around (g o) → List (Rule Occurrence) → List (Condition Occurrence) → ℕ → List (Rule Occurrence)
       rulesBy o a rs cds tag = current (readField (stateIn (g o) a rs cds r c) at (kindOf tag) b) .rules
-
-      not-entry : (byte b 0 ≡ 0 → ⊥) → (byte b 1 ≡ 0 → byte b 3 ≡ 0 → ⊥) → isEntry (conditionOf b) ≡ false
-      not-entry n m =
-          ap isEntry (ap (λ x. elim x [ true ↦ range (occurrenceAt b 1) (constantAt b 3) (constantAt b 7) | false ↦ atmost (occurrenceAt b 1) (occurrenceAt b 3) ]) (ne-eqb (byte b 0) 0 n))
-          ∙ ne-eqb (max (byte b 1) (byte b 3)) 0 (λ e. m (omega arith) (omega arith))
-
-      form-in : conditionFault c width inh syn b ≡ 0 → (1 ≤ size) × (byte t (at + 3) ≡ 0 → size ≡ 11) × ((byte t (at + 3) ≡ 0 → ⊥) → isEntry (conditionOf b) ≡ false)
-      form-in e =
-          let q = condition-fine c width inh syn b e in
-          let l = body-length t at size (w .inside) in
-          let k : 1 ≤ size = omega (arith, q .0) in
-          let x : byte b 0 ≡ byte t (at + 3) = body-byte t at size 0 (omega arith) ∙ ap (byte t) {x = at + 3 + 0} {y = at + 3} (omega arith) in
-          (k, (λ z. sym l ∙ q .1 (x ∙ z)), λ n. not-entry (λ z. n (sym x ∙ z)) (q .2 (λ z. n (sym x ∙ z))))
 
       pub use-rule :
           (note′ : List ℕ) → byte t at ≡ 4 → number ≡ ruleFault r width inh syn note part
@@ -120,7 +101,6 @@ module _ (t : List ℕ) (at size r c width : ℕ) (inh syn note : List ℕ) (ins
             same = stays;
             whole = λ z. w;
             kinds = λ z n. absurd (n tag);
-            form = λ z f. absurd (omega (arith, tag, f));
           }
 
       pub use-condition : byte t at ≡ 5 → number ≡ conditionFault c width inh syn part → UseTaken t at size r c width inh syn note note number
@@ -136,53 +116,39 @@ module _ (t : List ℕ) (at size r c width : ℕ) (inh syn note : List ℕ) (ins
             same = λ n. refl;
             whole = λ z. w;
             kinds = λ z n. tag;
-            form = λ z f. form-in (sym q ∙ z);
           }
-
--- the part of the table that a condition's body is, ready to narrow the intervals
-pub part-ready :
-    (t : List ℕ) (at size : ℕ) (part : List ℕ) → Whole t at size → part ≡ bodyAt t at size
-    → (1 ≤ size) × (byte t (at + 3) ≡ 0 → size ≡ 11) × ((byte t (at + 3) ≡ 0 → ⊥) → isEntry (conditionOf (bodyAt t at size)) ≡ false)
-    → (1 ≤ length part) × (byte part 0 ≡ 0 → length part ≡ 11) × ((byte part 0 ≡ 0 → ⊥) → isEntry (conditionOf part) ≡ false)
-part-ready t at size part w e f =
-    let l : length part ≡ size = ap length e ∙ body-length t at size (w .inside) in
-    let x : byte part 0 ≡ byte t (at + 3) = ap (λ (b : List ℕ). byte b 0) e ∙ body-byte t at size 0 (omega (arith, f .0)) ∙ ap (byte t) {x = at + 3 + 0} {y = at + 3} (omega arith) in
-    (omega (arith, f .0), (λ z. l ∙ f .1 (sym x ∙ z)), λ n. ap (λ (b : List ℕ). isEntry (conditionOf b)) e ∙ f .2 (λ z. n (x ∙ z)))
 
 -- ---- the loop over the fields
 
-pub record Walking (t : List ℕ) (from offset width : ℕ) (inh syn : List ℕ) (r₀ c₀ : ℕ) (v₀ : Spans) (p : ℕ) (note : List ℕ) (v : Spans) (at r c : ℕ) : Type 0 where
+pub record Walking (t : List ℕ) (from offset width : ℕ) (inh syn : List ℕ) (r₀ c₀ : ℕ) (note : List ℕ) (at r c : ℕ) : Type 0 where
   pub after : from ≤ at
   pub inside : at ≤ length t
   pub rules : r ≤ at
   pub conditions : c ≤ at
-  pub walked : Walked (settingOf t offset width inh syn) from r₀ c₀ note v p at r c
-  pub same : Kept v₀ v p
+  pub walked : Walked (settingOf t offset width inh syn) from r₀ c₀ note at r c
 
-module _ (t : List ℕ) (from offset width : ℕ) (inh syn : List ℕ) (r₀ c₀ : ℕ) (v₀ : Spans) (p : ℕ) where
+module _ (t : List ℕ) (from offset width : ℕ) (inh syn : List ℕ) (r₀ c₀ : ℕ) where
   abbrev s : Setting
   s = settingOf t offset width inh syn
 
-  pub walk-start : (note : List ℕ) → Notes note [] → from ≤ length t → r₀ ≤ from → c₀ ≤ from → Spanned v₀ p [] → Long v₀ → Walking t from offset width inh syn r₀ c₀ v₀ p note v₀ from r₀ c₀
-  walk-start note nt l m q s k =
+  pub walk-start : (note : List ℕ) → Notes note [] → from ≤ length t → r₀ ≤ from → c₀ ≤ from → Walking t from offset width inh syn r₀ c₀ note from r₀ c₀
+  walk-start note nt l m q =
       record {
         after = omega arith;
         inside = l;
         rules = m;
         conditions = q;
-        walked = λ a. ([], [], nt, s, refl);
-        same = kept-same v₀ p k;
+        walked = λ a. ([], [], nt, refl);
       }
 
-  module _ (note : List ℕ) (v : Spans) (at r c : ℕ) (w : Walking t from offset width inh syn r₀ c₀ v₀ p note v at r c) where
+  module _ (note : List ℕ) (at r c : ℕ) (w : Walking t from offset width inh syn r₀ c₀ note at r c) where
     module _ (size : ℕ) (note′ : List ℕ) (number : ℕ) (j : UseTaken t at size r c width inh syn note note′ number) where
-      pub walk-refused : (number ≡ 0 → ⊥) → UsesRead s from r₀ c₀ v p (record { number = number; at = at; rules = r; conditions = c })
+      pub walk-refused : (number ≡ 0 → ⊥) → UsesRead s from r₀ c₀ (record { number = number; at = at; rules = r; conditions = c })
       walk-refused n a =
           let q = w .walked a in (
             q .0,
             q .1,
-            q .4 ∙ j .read offset a (q .0) (q .1) (q .2) ∙ judged-refused number at _ n ∙ sym (judged-refused number at _ n),
-            (λ z. absurd (n z)),
+            q .3 ∙ j .read offset a (q .0) (q .1) (q .2) ∙ judged-refused number at _ n ∙ sym (judged-refused number at _ n),
             λ z. absurd (n z),
           )
 
@@ -206,7 +172,7 @@ module _ (t : List ℕ) (from offset width : ℕ) (inh syn : List ℕ) (r₀ c�
             → Notes note′ (current (readField (stateIn s a rs cds r c) at (kindOf tag) b′) .rules)
         notes-on a rs cds nt tag e = subst (λ (x : ℕ). Notes note′ (current (readField (stateIn s a rs cds r c) at (kindOf x) b′) .rules)) e (j .notes offset a rs cds nt fine)
 
-        pub walk-rule : byte t at ≡ 4 → Walking t from offset width inh syn r₀ c₀ v₀ p note′ v next (r + 1) c
+        pub walk-rule : byte t at ≡ 4 → Walking t from offset width inh syn r₀ c₀ note′ next (r + 1) c
         walk-rule tag =
             let one : suc r ≡ r + 1 = omega arith in
             record {
@@ -219,16 +185,12 @@ module _ (t : List ℕ) (from offset width : ℕ) (inh syn : List ℕ) (r₀ c�
                     ruleOf b′ ∷ m .0,
                     m .1,
                     notes-on a (m .0) (m .1) (m .2) 4 tag,
-                    m .3,
-                    m .4 ∙ onward a (m .0) (m .1) (m .2) 4 tag ∙ ap (λ (n : ℕ). rest t (stateIn s a (ruleOf b′ ∷ m .0) (m .1) n c) next) one,
+                    m .3 ∙ onward a (m .0) (m .1) (m .2) 4 tag ∙ ap (λ (n : ℕ). rest t (stateIn s a (ruleOf b′ ∷ m .0) (m .1) n c) next) one,
                   );
-              same = w .same;
             }
 
-        pub walk-condition :
-            (v′ : Spans) (part : List ℕ) → (byte t at ≡ 4 → ⊥) → part ≡ b′ → ((cs : List (Condition Occurrence)) → Spanned v p cs → Spanned v′ p (conditionOf part ∷ cs)) → Kept v v′ p
-            → Walking t from offset width inh syn r₀ c₀ v₀ p note′ v′ next r (c + 1)
-        walk-condition v′ part n is-part narrowed stays =
+        pub walk-condition : (byte t at ≡ 4 → ⊥) → Walking t from offset width inh syn r₀ c₀ note′ next r (c + 1)
+        walk-condition n =
             let one : suc c ≡ c + 1 = omega arith in
             record {
               after = omega (arith, w .after);
@@ -240,10 +202,8 @@ module _ (t : List ℕ) (from offset width : ℕ) (inh syn : List ℕ) (r₀ c�
                     m .0,
                     conditionOf b′ ∷ m .1,
                     notes-on a (m .0) (m .1) (m .2) 5 (j .kinds fine n),
-                    subst (λ (x : List ℕ). Spanned v′ p (conditionOf x ∷ m .1)) is-part (narrowed (m .1) (m .3)),
-                    m .4 ∙ onward a (m .0) (m .1) (m .2) 5 (j .kinds fine n) ∙ ap (λ (k : ℕ). rest t (stateIn s a (m .0) (conditionOf b′ ∷ m .1) r k) next) one,
+                    m .3 ∙ onward a (m .0) (m .1) (m .2) 5 (j .kinds fine n) ∙ ap (λ (k : ℕ). rest t (stateIn s a (m .0) (conditionOf b′ ∷ m .1) r k) next) one,
                   );
-              same = kept-then v₀ v v′ p (w .same) stays;
             }
 
     -- ---- the production is over
@@ -267,7 +227,7 @@ module _ (t : List ℕ) (from offset width : ℕ) (inh syn : List ℕ) (r₀ c�
               ∙ ap (λ x. elim x [ true ↦ wellFormed (stateIn s a rs cds r c) | false ↦ malformed 8 offset ]) e
 
       pub record Ended (u : Uses) : Type 0 where
-        pub read : UsesRead s from r₀ c₀ v p u
+        pub read : UsesRead s from r₀ c₀ u
         pub next : u .number ≡ 0 → Next t from u
         pub inside : u .at ≤ length t
 
@@ -276,7 +236,7 @@ module _ (t : List ℕ) (from offset width : ℕ) (inh syn : List ℕ) (r₀ c�
           record {
             read = λ a.
                 let q = w .walked a in
-                (q .0, q .1, q .4 ∙ sym (judged-fine 0 at _ refl), (λ z. not-false (lastComplete (stateIn s a (q .0) (q .1) r c)) (sym (gap-in a (q .0) (q .1) (q .2)) ∙ e)), λ z. q .3);
+                (q .0, q .1, q .3 ∙ sym (judged-fine 0 at _ refl), λ z. not-false (lastComplete (stateIn s a (q .0) (q .1) r c)) (sym (gap-in a (q .0) (q .1) (q .2)) ∙ e));
             next = λ z. record { after = w .after; inside = w .inside; over = over; rules = w .rules; conditions = w .conditions };
             inside = w .inside;
           }
@@ -286,8 +246,7 @@ module _ (t : List ℕ) (from offset width : ℕ) (inh syn : List ℕ) (r₀ c�
                 let q = w .walked a in (
                   q .0,
                   q .1,
-                  q .4 ∙ missing a (q .0) (q .1) (not-true (lastComplete (stateIn s a (q .0) (q .1) r c)) (sym (gap-in a (q .0) (q .1) (q .2)) ∙ e)) ∙ sym (judged-refused 8 offset _ (nonzero 7)),
-                  (λ z. absurd (nonzero 7 z)),
+                  q .3 ∙ missing a (q .0) (q .1) (not-true (lastComplete (stateIn s a (q .0) (q .1) r c)) (sym (gap-in a (q .0) (q .1) (q .2)) ∙ e)) ∙ sym (judged-refused 8 offset _ (nonzero 7)),
                   λ z. absurd (nonzero 7 z),
                 );
             next = λ z. absurd (nonzero 7 z);

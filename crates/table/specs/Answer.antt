@@ -3,7 +3,6 @@ use Prim.Native.Nat.{ℕ}
 use mathlib.Core.Path.{_≡_}
 use mathlib.Core.List.{List}
 use Rattle.meaning.specs.Table.{Read, wellFormed, malformed}
-use Rattle.entries.specs.Span.{Spans}
 use Rattle.table.specs.declared.Sizes.{Sizes}
 use Rattle.table.specs.declared.Reading.{Reading}
 use Rattle.table.specs.declared.Reading.the-variants.{WellFormed, Malformed}
@@ -20,6 +19,6 @@ offsetOf (WellFormed sizes) = 0
 offsetOf (Malformed number offset) = offset
 
 -- the answer, with the lent lists, for what the table reads as
-abbrev pub Answers : Reading → List ℕ → List ℕ → List ℕ → List ℕ → Spans → Read → Type 0
-Answers r inherited synthesized rows offsets v (wellFormed s) = (sizes : Sizes) × (r ≡ WellFormed sizes) × Outline s sizes inherited synthesized rows offsets v
-Answers r inherited synthesized rows offsets v (malformed number offset) = (numberOf r ≡ number) × (offsetOf r ≡ offset) × (r ≡ Malformed number offset)
+abbrev pub Answers : Reading → List ℕ → List ℕ → List ℕ → List ℕ → Read → Type 0
+Answers r inherited synthesized rows offsets (wellFormed s) = (sizes : Sizes) × (r ≡ WellFormed sizes) × Outline s sizes inherited synthesized rows offsets
+Answers r inherited synthesized rows offsets (malformed number offset) = (numberOf r ≡ number) × (offsetOf r ≡ offset) × (r ≡ Malformed number offset)

@@ -13,7 +13,6 @@ use Rattle.meaning.specs.Grammar.{Occurrence, Rule, Counts}
 use Rattle.meaning.specs.Table.{byte, Header, headerOf, Field, Entry, State, nothingRead, current, isSome, atHeader, atCounts, atFirst, atAny, stage, tagStands, Kind, header, counts, production, rule, condition, kindOf}
 use Rattle.meaning.specs.Table.{limitsHold, known, startRight, directionsRight, ruleOf, isInput, sameOccurrence, setOnce, occurrencesAt, complete, lastComplete, leftToRight, boundsRight, lowestOf, judgeField, readField, Read, wellFormed, malformed, readAll, readTable}
 use Rattle.rules.specs.Note.{isNoted, Notes}
-use Rattle.entries.specs.Span.{Spans}
 use Rattle.table.specs.declared.Reading.{Reading}
 use Rattle.table.specs.Answer.{Answers}
 
@@ -228,6 +227,6 @@ note-same note rs n o = n .holds o ∙ sym (in-targets rs o)
 
 -- what `read_table` answers, by the reader with a note
 pub answers-gathered :
-    (r : Reading) (inherited synthesized rows offsets : List ℕ) (v : Spans) (bs : List ℕ)
-    → Answers r inherited synthesized rows offsets v (readTable bs) → Answers r inherited synthesized rows offsets v (readGathered bs)
-answers-gathered r inherited synthesized rows offsets v bs a = subst (Answers r inherited synthesized rows offsets v) (sym (gathered bs)) a
+    (r : Reading) (inherited synthesized rows offsets bs : List ℕ)
+    → Answers r inherited synthesized rows offsets (readTable bs) → Answers r inherited synthesized rows offsets (readGathered bs)
+answers-gathered r inherited synthesized rows offsets bs a = subst (Answers r inherited synthesized rows offsets) (sym (gathered bs)) a

@@ -7,7 +7,6 @@ use Rattle.meaning.specs.Grammar.{Counts, terminal}
 use Rattle.meaning.specs.Table.{byte, Header, State, Entry, noEntry, symbolOf, headerOf}
 use Rattle.fields.specs.Demand.{ifBelow}
 use Rattle.fields.specs.Reads.{stateOf}
-use Rattle.entries.specs.Span.{Spans, Spanned}
 use Rattle.table.specs.declared.Sizes.{Sizes}
 
 -- the header of a table that has one
@@ -71,12 +70,12 @@ abbrev pub Numbered : {A : Type 0} → (ℕ → A → Type 0) → List A → Typ
 Numbered P [] = Unit {0}
 Numbered P (x ∷ xs) = P (length xs) x × Numbered P xs
 
--- the rows and intervals of productions, the latest first
-abbrev pub Laid : List ℕ → List ℕ → Spans → List Entry → Type 0
-Laid rows offsets v es = Numbered (λ p e. RowOf rows offsets p e × Spanned v p (e .conditions)) es
+-- the rows of productions, the latest first
+abbrev pub Laid : List ℕ → List ℕ → List Entry → Type 0
+Laid rows offsets es = Numbered (RowOf rows offsets) es
 
 -- the outline of a table that was read whole
-pub record Outline (s : State) (sizes : Sizes) (inherited synthesized rows offsets : List ℕ) (v : Spans) : Type 0 where
+pub record Outline (s : State) (sizes : Sizes) (inherited synthesized rows offsets : List ℕ) : Type 0 where
   pub terminals : sizes .terminals ≡ headerOf s .terminals
   pub nonterminals : sizes .nonterminals ≡ headerOf s .nonterminals
   pub start : sizes .start ≡ headerOf s .start
@@ -84,5 +83,4 @@ pub record Outline (s : State) (sizes : Sizes) (inherited synthesized rows offse
   pub productions : sizes .productions ≡ length (s .entries)
   pub counts : s .counts ≡ countsUpTo inherited synthesized (sizes .nonterminals)
   pub each : (p : ℕ) → p < sizes .productions → RowOf rows offsets p (getD (reverse (s .entries)) p noEntry)
-  pub spans : (p : ℕ) → p < sizes .productions → Spanned v p (getD (reverse (s .entries)) p noEntry .conditions)
   pub lengths : (length inherited ≡ 48) × (length synthesized ≡ 48) × (length rows ≡ 2048) × (length offsets ≡ 128)

@@ -10,7 +10,6 @@ use Rattle.fields.specs.Field.{rest, judged, bodyAt}
 use Rattle.fields.specs.Judge.{symbolKnown}
 use Rattle.fields.specs.Reads.{stateOf, entryOf}
 use Rattle.rules.specs.Note.{symbolIn}
-use Rattle.entries.specs.Span.{Spans, Spanned, Long}
 use Rattle.table.specs.declared.Sizes.{Sizes}
 use Rattle.table.specs.declared.Uses.{Uses}
 use Rattle.table.specs.Outline.{SmallCounts, countOf, symbolByte, countsUpTo, Laid}
@@ -58,29 +57,28 @@ pub record CountsAgree (t : List ℕ) (at : ℕ) (inherited synthesized : List �
   pub synthesizes : (k : ℕ) → k ≤ widthIn t at → countOf synthesized (symbolByte (bodyIn t at) k) ≡ countsIn (reverse cs) (symbolIn (leftIn t at) (rightIn t at) k) .synthesized
 
 -- the rules and conditions of the production at an offset read, or a refusal
-abbrev pub BodyRead : List ℕ → ℕ → List ℕ → List ℕ → ℕ → ℕ → Spans → ℕ → Uses → Type 0
-BodyRead t at inherited synthesized r₀ c₀ v p u =
+abbrev pub BodyRead : List ℕ → ℕ → List ℕ → List ℕ → ℕ → ℕ → Uses → Type 0
+BodyRead t at inherited synthesized r₀ c₀ u =
     (h : Header) (cs : List Counts) (os : List ℕ) (es : List Entry) → h .nonterminals ≤ length cs → CountsAgree t at inherited synthesized cs
     → (rs : List (Rule Occurrence)) × (cds : List (Condition Occurrence))
     × (rest t (stateOf h cs os (entryOf at (leftIn t at) (rightIn t at) [] [] ∷ es) r₀ c₀) (at + 5 + widthIn t at)
     ≡ judged (u .number) (u .at) (rest t (stateOf h cs os (entryOf at (leftIn t at) (rightIn t at) rs cds ∷ es) (u .rules) (u .conditions)) (u .at)))
     × (u .number ≡ 0 → lastComplete (stateOf h cs os (entryOf at (leftIn t at) (rightIn t at) rs cds ∷ es) (u .rules) (u .conditions)) ≡ true)
-    × (u .number ≡ 0 → Spanned v p cds)
 
 -- production p with all its fields read, or a refusal; rows and offsets before and after
-pub record ProductionRead (t : List ℕ) (at p terminals nonterminals : ℕ) (inherited synthesized rows₀ offsets₀ : List ℕ) (v₀ : Spans) (r₀ c₀ : ℕ) (rows offsets : List ℕ) (v : Spans) (u : Uses) : Type 0 where
+pub record ProductionRead (t : List ℕ) (at p terminals nonterminals : ℕ) (inherited synthesized rows₀ offsets₀ : List ℕ) (r₀ c₀ : ℕ) (rows offsets : List ℕ) (u : Uses) : Type 0 where
   pub read :
       (h : Header) (os : List ℕ) (es : List Entry)
-      → h .terminals ≡ terminals → h .nonterminals ≡ nonterminals → length es ≡ p → lastComplete (stateOf h (countsUpTo inherited synthesized nonterminals) os es r₀ c₀) ≡ true → Laid rows₀ offsets₀ v₀ es
+      → h .terminals ≡ terminals → h .nonterminals ≡ nonterminals → length es ≡ p → lastComplete (stateOf h (countsUpTo inherited synthesized nonterminals) os es r₀ c₀) ≡ true → Laid rows₀ offsets₀ es
       → (e : Entry)
       × (rest t (stateOf h (countsUpTo inherited synthesized nonterminals) os es r₀ c₀) at
       ≡ judged (u .number) (u .at) (rest t (stateOf h (countsUpTo inherited synthesized nonterminals) os (e ∷ es) (u .rules) (u .conditions)) (u .at)))
       × (u .number ≡ 0 → lastComplete (stateOf h (countsUpTo inherited synthesized nonterminals) os (e ∷ es) (u .rules) (u .conditions)) ≡ true)
-      × (u .number ≡ 0 → Laid rows offsets v (e ∷ es))
+      × (u .number ≡ 0 → Laid rows offsets (e ∷ es))
   pub next : u .number ≡ 0 → Next t (at + 5) u
   pub few : u .number ≡ 0 → p < 128
   pub inside : u .at ≤ length t
-  pub kept : (length rows ≡ 2048) × (length offsets ≡ 128) × Long v
+  pub kept : (length rows ≡ 2048) × (length offsets ≡ 128)
 
 -- the table after its header and counts
 pub record Ready (t : List ℕ) (sizes : Sizes) (inherited synthesized : List ℕ) : Type 0 where

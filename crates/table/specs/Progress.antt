@@ -5,12 +5,10 @@ use mathlib.Core.Bool.{Bool, true, false}
 use mathlib.Core.List.{List, [], _∷_}
 use lib.ListN.{length}
 use Rattle.meaning.specs.Grammar.{Counts, Symbol, Rule, Condition, Occurrence}
-use Rattle.meaning.specs.Table.{conditionOf, byte, Header, Entry, State, nothingRead, current, lastComplete, readField, kindOf}
+use Rattle.meaning.specs.Table.{byte, Header, Entry, State, nothingRead, current, lastComplete, readField, kindOf}
 use Rattle.fields.specs.Field.{Whole, Short, rest, judged, bodyAt}
 use Rattle.fields.specs.Reads.{stateOf, entryOf}
 use Rattle.rules.specs.Note.{Placed, Notes}
-use Rattle.analysis.specs.EntryImage.{isEntry}
-use Rattle.entries.specs.Span.{Spans, Spanned}
 use Rattle.table.specs.declared.Uses.{Uses}
 use Rattle.table.specs.declared.Refusal.{Refusal}
 use Rattle.table.specs.Outline.{headed, counted, SmallCounts}
@@ -87,23 +85,21 @@ pub record UseTaken (t : List ℕ) (at size r c width : ℕ) (inh syn note note�
   pub same : (number ≡ 0 → ⊥) → note′ ≡ note
   pub whole : number ≡ 0 → Whole t at size
   pub kinds : number ≡ 0 → (byte t at ≡ 4 → ⊥) → byte t at ≡ 5
-  pub form : number ≡ 0 → byte t at ≡ 5 → (1 ≤ size) × (byte t (at + 3) ≡ 0 → size ≡ 11) × ((byte t (at + 3) ≡ 0 → ⊥) → isEntry (conditionOf (bodyAt t at size)) ≡ false)
 
--- the note after each field: exactly the occurrences that the production's rules have set so far; and the intervals of production p
-abbrev pub Walked : Setting → ℕ → ℕ → ℕ → List ℕ → Spans → ℕ → ℕ → ℕ → ℕ → Type 0
-Walked g from r₀ c₀ note v p at r c =
+-- the note after each field: exactly the occurrences that the production's rules have set so far
+abbrev pub Walked : Setting → ℕ → ℕ → ℕ → List ℕ → ℕ → ℕ → ℕ → Type 0
+Walked g from r₀ c₀ note at r c =
     (a : Around g)
-    → (rs : List (Rule Occurrence)) × (cds : List (Condition Occurrence)) × Notes note rs × Spanned v p cds
+    → (rs : List (Rule Occurrence)) × (cds : List (Condition Occurrence)) × Notes note rs
     × (rest (g .table) (stateIn g a [] [] r₀ c₀) from ≡ rest (g .table) (stateIn g a rs cds r c) at)
 
--- all rules and conditions of production p read, or a refusal
-abbrev pub UsesRead : Setting → ℕ → ℕ → ℕ → Spans → ℕ → Uses → Type 0
-UsesRead g from r₀ c₀ v p u =
+-- all rules and conditions of the production read, or a refusal
+abbrev pub UsesRead : Setting → ℕ → ℕ → ℕ → Uses → Type 0
+UsesRead g from r₀ c₀ u =
     (a : Around g)
     → (rs : List (Rule Occurrence)) × (cds : List (Condition Occurrence))
     × (rest (g .table) (stateIn g a [] [] r₀ c₀) from ≡ judged (u .number) (u .at) (rest (g .table) (stateIn g a rs cds (u .rules) (u .conditions)) (u .at)))
     × (u .number ≡ 0 → lastComplete (stateIn g a rs cds (u .rules) (u .conditions)) ≡ true)
-    × (u .number ≡ 0 → Spanned v p cds)
 
 -- where the next production starts
 pub record Next (t : List ℕ) (from : ℕ) (u : Uses) : Type 0 where

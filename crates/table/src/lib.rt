@@ -2,7 +2,6 @@
 ghost use mathlib.Core.Path.{_≡_};
 ghost use lib.ListN.{length};
 ghost use Rattle.meaning.specs.Table.{readTable};
-ghost use Rattle.entries.specs.Span.{spansOf, Long};
 ghost use Rattle.table.specs.Answer.{Answers};
 
 pub mod counts;
@@ -39,8 +38,7 @@ pub struct Refusal {
 }
 
 // Reads a table. The lent arrays hold the outline of a table that is well formed: the counts of each nonterminal, a row of
-// 16 bytes for each production (left side, length of the right side, symbols) the offset of its field, and the
-// interval that its entry conditions leave each attribute of its left side.
+// 16 bytes for each production (left side, length of the right side, symbols) and the offset of its field.
 // After a refusal they are scratch.
 pub fn read_table(
     table: &[u8],
@@ -48,12 +46,9 @@ pub fn read_table(
     synthesized: &mut [u8; 48],
     rows: &mut [u8; 2048],
     offsets: &mut [u32; 128],
-    lows: &mut [u32; 1024],
-    highs: &mut [u32; 1024],
-    flags: &mut [u8; 128],
 ) -> Reading
-    requires { ⌜ (length (now inherited) ≡ 48) × (length (now synthesized) ≡ 48) × (length (now rows) ≡ 2048) × (length (now offsets) ≡ 128) × Long (spansOf (now lows) (now highs) (now flags)) ⌝ }
-    ensures { λ r. ⌜ Answers r (now (inherited .exit)) (now (synthesized .exit)) (now (rows .exit)) (now (offsets .exit)) (spansOf (now (lows .exit)) (now (highs .exit)) (now (flags .exit))) (readTable (now (table .entry))) ⌝ }
+    requires { ⌜ (length (now inherited) ≡ 48) × (length (now synthesized) ≡ 48) × (length (now rows) ≡ 2048) × (length (now offsets) ≡ 128) ⌝ }
+    ensures { λ r. ⌜ Answers r (now (inherited .exit)) (now (synthesized .exit)) (now (rows .exit)) (now (offsets .exit)) (readTable (now (table .entry))) ⌝ }
 {
     if 32768 < table.len() {
         return Reading::Malformed {
@@ -84,15 +79,5 @@ pub fn read_table(
         result,
         productions: 0,
     };
-    production::read_productions(
-        table,
-        sizes,
-        inherited,
-        synthesized,
-        rows,
-        offsets,
-        lows,
-        highs,
-        flags,
-    )
+    production::read_productions(table, sizes, inherited, synthesized, rows, offsets)
 }

@@ -3,7 +3,6 @@ ghost use mathlib.Core.Path.{_≡_};
 ghost use Prim.Native.Nat.{_+_, _*_, _<_, _≤_};
 ghost use lib.ListN.{length};
 ghost use Rattle.meaning.specs.Table.{byte};
-ghost use Rattle.entries.specs.Span.{spansOf, Long, Kept};
 ghost use Rattle.table.specs.Outline.{countOf, Blank, Written, Copied, SmallCounts, counted};
 ghost use Rattle.table.specs.Progress.{Next, Over};
 ghost use Rattle.table.specs.Productions.{widthIn, ProductionJudged, SmallBody, BodyRead, ProductionRead, Ready};
@@ -91,7 +90,7 @@ pub fn production_number(
     fields::production_fault(terminals, nonterminals, p, &table[from..end])
 }
 
-// The rules, conditions and intervals of production p, which stands at an offset.
+// The rules and conditions of the production at an offset.
 pub fn read_body(
     table: &[u8],
     at: usize,
@@ -99,17 +98,11 @@ pub fn read_body(
     synthesized: &[u8; 48],
     rules: usize,
     conditions: usize,
-    p: usize,
-    lows: &mut [u32; 1024],
-    highs: &mut [u32; 1024],
-    flags: &mut [u8; 128],
 ) -> Uses
-    requires { ⌜ (at + 5 + widthIn (now table) at ≤ length (now table)) × SmallBody (now table) at (now inherited) (now synthesized) × (length (now inherited) ≡ 48) × (length (now synthesized) ≡ 48) × (rules ≤ at) × (conditions ≤ at)
-        × (p < 128) × Long (spansOf (now lows) (now highs) (now flags)) ⌝ }
-    ensures read { λ u. ⌜ BodyRead (now (table .entry)) at (now (inherited .entry)) (now (synthesized .entry)) rules conditions (spansOf (now (lows .exit)) (now (highs .exit)) (now (flags .exit))) p u ⌝ }
+    requires { ⌜ (at + 5 + widthIn (now table) at ≤ length (now table)) × SmallBody (now table) at (now inherited) (now synthesized) × (length (now inherited) ≡ 48) × (length (now synthesized) ≡ 48) × (rules ≤ at) × (conditions ≤ at) ⌝ }
+    ensures read { λ u. ⌜ BodyRead (now (table .entry)) at (now (inherited .entry)) (now (synthesized .entry)) rules conditions u ⌝ }
     ensures next { λ u. ⌜ (u .number ≡ 0 → Next (now (table .entry)) (at + 5) u) ⌝ }
     ensures inside { λ u. ⌜ u .at ≤ length (now (table .entry)) ⌝ }
-    ensures kept { λ u. ⌜ Kept (spansOf (now (lows .entry)) (now (highs .entry)) (now (flags .entry))) (spansOf (now (lows .exit)) (now (highs .exit)) (now (flags .exit))) p ⌝ }
 {
     let width = fields::wide(table[at + 4]);
     let from = at + 3;
@@ -123,21 +116,7 @@ pub fn read_body(
         &mut inh,
         &mut syn,
     );
-    entries::begin(p, lows, highs, flags);
-    crate::walk::read_uses(
-        table,
-        end,
-        at,
-        width,
-        &inh,
-        &syn,
-        rules,
-        conditions,
-        p,
-        lows,
-        highs,
-        flags,
-    )
+    crate::walk::read_uses(table, end, at, width, &inh, &syn, rules, conditions)
 }
 
 // Production p, with its row, its offset, its rules and conditions.
@@ -153,12 +132,9 @@ pub fn read_production(
     offsets: &mut [u32; 128],
     rules: usize,
     conditions: usize,
-    lows: &mut [u32; 1024],
-    highs: &mut [u32; 1024],
-    flags: &mut [u8; 128],
 ) -> Uses
-    requires { ⌜ (at < length (now table)) × (length (now table) ≤ 32768) × (0 < p → byte (now table) at ≡ 3) × SmallCounts (now inherited) (now synthesized) nonterminals × (length (now inherited) ≡ 48) × (length (now synthesized) ≡ 48) × (length (now rows) ≡ 2048) × (length (now offsets) ≡ 128) × (rules ≤ at) × (conditions ≤ at) × Long (spansOf (now lows) (now highs) (now flags)) ⌝ }
-    ensures { λ u. ⌜ ProductionRead (now (table .entry)) at p terminals nonterminals (now (inherited .entry)) (now (synthesized .entry)) (now (rows .entry)) (now (offsets .entry)) (spansOf (now (lows .entry)) (now (highs .entry)) (now (flags .entry))) rules conditions (now (rows .exit)) (now (offsets .exit)) (spansOf (now (lows .exit)) (now (highs .exit)) (now (flags .exit))) u ⌝ }
+    requires { ⌜ (at < length (now table)) × (length (now table) ≤ 32768) × (0 < p → byte (now table) at ≡ 3) × SmallCounts (now inherited) (now synthesized) nonterminals × (length (now inherited) ≡ 48) × (length (now synthesized) ≡ 48) × (length (now rows) ≡ 2048) × (length (now offsets) ≡ 128) × (rules ≤ at) × (conditions ≤ at) ⌝ }
+    ensures { λ u. ⌜ ProductionRead (now (table .entry)) at p terminals nonterminals (now (inherited .entry)) (now (synthesized .entry)) (now (rows .entry)) (now (offsets .entry)) rules conditions (now (rows .exit)) (now (offsets .exit)) u ⌝ }
 {
     let number = production_number(table, at, p, terminals, nonterminals);
     if number != 0 {
@@ -173,18 +149,7 @@ pub fn read_production(
     let end = at + 5 + fields::wide(table[at + 4]);
     copy_row(rows, p, &table[from..end]);
     offsets[p] = at as u32;
-    read_body(
-        table,
-        at,
-        inherited,
-        synthesized,
-        rules,
-        conditions,
-        p,
-        lows,
-        highs,
-        flags,
-    )
+    read_body(table, at, inherited, synthesized, rules, conditions)
 }
 
 // All productions, from the last tag 2 field on.
@@ -195,12 +160,9 @@ pub fn read_productions(
     synthesized: &[u8; 48],
     rows: &mut [u8; 2048],
     offsets: &mut [u32; 128],
-    lows: &mut [u32; 1024],
-    highs: &mut [u32; 1024],
-    flags: &mut [u8; 128],
 ) -> Reading
-    requires { ⌜ Ready (now table) sizes (now inherited) (now synthesized) × (length (now rows) ≡ 2048) × (length (now offsets) ≡ 128) × Long (spansOf (now lows) (now highs) (now flags)) ⌝ }
-    ensures { λ r. ⌜ Answers r (now (inherited .entry)) (now (synthesized .entry)) (now (rows .exit)) (now (offsets .exit)) (spansOf (now (lows .exit)) (now (highs .exit)) (now (flags .exit))) (rest (now (table .entry)) (counted (now (table .entry)) (now (inherited .entry)) (now (synthesized .entry)) (sizes .nonterminals)) (7 + 5 * sizes .nonterminals)) ⌝ }
+    requires { ⌜ Ready (now table) sizes (now inherited) (now synthesized) × (length (now rows) ≡ 2048) × (length (now offsets) ≡ 128) ⌝ }
+    ensures { λ r. ⌜ Answers r (now (inherited .entry)) (now (synthesized .entry)) (now (rows .exit)) (now (offsets .exit)) (rest (now (table .entry)) (counted (now (table .entry)) (now (inherited .entry)) (now (synthesized .entry)) (sizes .nonterminals)) (7 + 5 * sizes .nonterminals)) ⌝ }
 {
     let mut at = 7 + 5 * sizes.nonterminals;
     let mut p: usize = 0;
@@ -219,9 +181,6 @@ pub fn read_productions(
             offsets,
             rules,
             conditions,
-            lows,
-            highs,
-            flags,
         );
         if u.number != 0 {
             let offset = u.at as u32;

@@ -4,9 +4,7 @@ ghost use mathlib.Core.Bool.{true, false};
 ghost use Prim.Native.Nat.{_+_, _<_, _≤_};
 ghost use lib.ListN.{length};
 ghost use Rattle.meaning.specs.Table.{byte};
-ghost use mathlib.Core.List.{[]};
 ghost use Rattle.rules.specs.Rule.{Small};
-ghost use Rattle.entries.specs.Span.{spansOf, Long, Spanned, Kept};
 ghost use Rattle.table.specs.Progress.{Sized, Over, settingOf, UseTaken, UsesRead, Next, endOf};
 use crate::Uses;
 
@@ -82,17 +80,11 @@ pub fn read_uses(
     syn: &[u8; 13],
     rules: usize,
     conditions: usize,
-    p: usize,
-    lows: &mut [u32; 1024],
-    highs: &mut [u32; 1024],
-    flags: &mut [u8; 128],
 ) -> Uses
-    requires { ⌜ Small width (now inh) (now syn) × (from ≤ length (now table)) × (offset ≤ length (now table)) × (rules ≤ from) × (conditions ≤ from) × (p < 128)
-        × Spanned (spansOf (now lows) (now highs) (now flags)) p [] × Long (spansOf (now lows) (now highs) (now flags)) ⌝ }
-    ensures read { λ u. ⌜ UsesRead (settingOf (now (table .entry)) offset width (now (inh .entry)) (now (syn .entry))) from rules conditions (spansOf (now (lows .exit)) (now (highs .exit)) (now (flags .exit))) p u ⌝ }
+    requires { ⌜ Small width (now inh) (now syn) × (from ≤ length (now table)) × (offset ≤ length (now table)) × (rules ≤ from) × (conditions ≤ from) ⌝ }
+    ensures read { λ u. ⌜ UsesRead (settingOf (now (table .entry)) offset width (now (inh .entry)) (now (syn .entry))) from rules conditions u ⌝ }
     ensures next { λ u. ⌜ (u .number ≡ 0 → Next (now (table .entry)) from u) ⌝ }
     ensures inside { λ u. ⌜ u .at ≤ length (now (table .entry)) ⌝ }
-    ensures kept { λ u. ⌜ Kept (spansOf (now (lows .entry)) (now (highs .entry)) (now (flags .entry))) (spansOf (now (lows .exit)) (now (highs .exit)) (now (flags .exit))) p ⌝ }
 {
     let mut note = rules::gather::begin();
     let mut at = from;
@@ -118,10 +110,7 @@ pub fn read_uses(
             at = at + 3 + size;
             continue;
         }
-        let begin = at + 3;
-        let end = begin + size;
-        entries::narrow(&table[begin..end], p, lows, highs, flags);
         c += 1;
-        at = end;
+        at = at + 3 + size;
     }
 }

@@ -34,7 +34,7 @@ module _ {O Q : Type 0} {P : O → Type 0} (R : Q → Type 0) (sel : O → Q) (h
 
   pub reads-through : (c : Condition O) → Reads P c → Reads R (mapCondition sel c)
   reads-through (range a l u) r = h a r
-  reads-through (atmost a b) r = (h a (r .0), h b (r .1))
+  reads-through (atmost a b c) r = (h a (r .0), h b (r .1))
 
 -- ---- sums of counts
 

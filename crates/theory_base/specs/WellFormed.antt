@@ -1,6 +1,7 @@
 -- What follows from the rules of 01 for each node in progress: its production is a listed one or the whole segment's.
-use Prim.Native.Nat.{ℕ, zero, suc, _≤_, _<_}
+use Prim.Native.Nat.{ℕ, zero, suc, _+_, _≤_, _<_}
 use native.Mathlib.Omega.{arith}
+use native.Mathlib.Decide.{decLt}
 use mathlib.Core.Path.{_≡_, refl, ap}
 use mathlib.Core.Bool.{false}
 use lib.ListN.{getD, length, List·getD-eq-default}
@@ -20,6 +21,15 @@ listed-at g f p l = rw (not-whole g f p l) refl
 
 pub well-formed-at : (g : Grammar) → WellFormed g → (p : ℕ) → p < length (g .productions) → WellFormedProduction g (productionAt g p)
 well-formed-at g f p l = rw (listed-at g f p l) (f .each (getD (g .productions) p (wholeProduction g)) (getD-in (g .productions) p (wholeProduction g) l))
+
+-- ---- counts of attributes
+
+pub counts-most : (g : Grammar) → WellFormed g → (n : ℕ) → getD (g .counts) n noCounts .inherited + getD (g .counts) n noCounts .synthesized ≤ 8
+counts-most g w n = go (decLt n (length (g .counts)))
+  where
+    go : Dec (n < length (g .counts)) → getD (g .counts) n noCounts .inherited + getD (g .counts) n noCounts .synthesized ≤ 8
+    go (yes l) = w .attributes (getD (g .counts) n noCounts) (getD-in (g .counts) n noCounts l)
+    go (no l) = rw (List·getD-eq-default (g .counts) noCounts {n = n} (omega arith)) (omega arith)
 
 -- ---- what the values of a node need of its production: refusals 7 to 9
 

@@ -4,6 +4,7 @@ use native.Mathlib.Omega.{arith}
 use mathlib.Core.Path.{_≡_, refl, ap, _∙_}
 use mathlib.Core.Logic.{inl, inr}
 use mathlib.Core.List.{List, [], _∷_, map}
+use mathlib.Core.Option.{none, some}
 use lib.ListN.{length, getD, length-append}
 use Rattle.meaning.specs.Base.{In}
 use Rattle.meaning.specs.Grammar.{Symbol, terminal, nonterminal, Function, const, copy, sum, diff, prod, maxi, mini, addc, quot, Rule, Condition, range, atmost}
@@ -40,7 +41,8 @@ rule-length r = go (r .target) (r .function)
 
 pub condition-length : (c : Condition ℕ) → length (conditionWords c) ≡ 3
 condition-length (range a l h) = refl
-condition-length (atmost a b) = refl
+condition-length (atmost a b none) = refl
+condition-length (atmost a b (some c)) = refl
 
 -- lists of the same length, one after the other
 each-length : {A : Type 0} (n : ℕ) (f : A → List ℕ) → ((x : A) → length (f x) ≡ n) → (xs : List A) → length (concat (map f xs)) ≡ n * length xs

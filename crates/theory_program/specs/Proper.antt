@@ -5,6 +5,7 @@ use native.Mathlib.Decide.{decLt}
 use mathlib.Core.Path.{_≡_, refl, sym, ap, subst}
 use mathlib.Core.Logic.{inl, inr}
 use mathlib.Core.Bool.{Bool, true, false, not}
+use mathlib.Core.Option.{none, some}
 use mathlib.Core.List.{List, [], _∷_, map}
 use lib.ListN.{length, getD, take, drop, length-map, length-take, length-drop, List·getD-eq-default}
 use lib.Dec.{T, eqb, ltb, ltb→lt, eqb·suc-zero}
@@ -14,7 +15,7 @@ use Rattle.meaning.specs.Rules.{Operands, Reads, Input, InputAt, Output, Output
 use Rattle.meaning.specs.Selectors.{occurrence}
 use Rattle.meaning.specs.Scheme.{Instruction, add, evaluate, expect, test, remove, mapFunction, mapCondition, mapRule, synBetween, selectInherited, selectAfter, rulesFor, conditionsAt, entryTests, testsAfter, inheritedRules, synthesizedRules, removed, symbolScheme, symbolsScheme, scheme}
 use Rattle.theory_base.specs.Members.{in-keep, getD-in, map-in}
-use Rattle.theory_base.specs.WellFormed.{listed-at}
+use Rattle.theory_base.specs.WellFormed.{listed-at, counts-most}
 use Rattle.theory_base.specs.Selectors.{inherited-at, target-of-inherited, target-of-synthesized}
 use Rattle.theory_base.specs.Present.{in-for}
 use Rattle.theory_base.specs.Evaluate.{distinct-keep}
@@ -33,7 +34,8 @@ pub record ProperRule (r : Rule ℕ) : Type 0 where
 
 abbrev pub Bounds : {O : Type 0} → Condition O → Type 0
 Bounds (range a l h) = InFourBytes l × InFourBytes h
-Bounds (atmost a b) = Unit {0}
+Bounds (atmost a b none) = Unit {0}
+Bounds (atmost a b (some c)) = InFourBytes c
 
 pub record ProperCondition (c : Condition ℕ) : Type 0 where
   pub reads : Reads Selector c
@@ -64,20 +66,15 @@ constant-map s (quot a c) h = h
 
 bounds-map : {O P : Type 0} (s : O → P) (c : Condition O) → Bounds c → Bounds (mapCondition s c)
 bounds-map s (range a l h) b = b
-bounds-map s (atmost a b) h = tt
+bounds-map s (atmost a b none) h = tt
+bounds-map s (atmost a b (some c)) h = h
 
 proper-bounds : (c : Condition Occurrence) → Proper c → Bounds c
 proper-bounds (range a l h) p = (p .0, p .1)
-proper-bounds (atmost a b) p = tt
+proper-bounds (atmost a b none) p = tt
+proper-bounds (atmost a b (some c)) p = p
 
 -- ---- counts of attributes
-
-counts-most : (g : Grammar) → WellFormed g → (n : ℕ) → getD (g .counts) n noCounts .inherited + getD (g .counts) n noCounts .synthesized ≤ 8
-counts-most g w n = go (decLt n (length (g .counts)))
-  where
-    go : Dec (n < length (g .counts)) → getD (g .counts) n noCounts .inherited + getD (g .counts) n noCounts .synthesized ≤ 8
-    go (yes l) = w .attributes (getD (g .counts) n noCounts) (getD-in (g .counts) n noCounts l)
-    go (no l) = rw (List·getD-eq-default (g .counts) noCounts {n = n} (omega arith)) (omega arith)
 
 pub att-most : (g : Grammar) → WellFormed g → (x : Symbol) → att g x ≤ 8
 att-most g w (terminal t) = omega arith

@@ -5,6 +5,7 @@ use mathlib.Core.Path.{refl}
 use mathlib.Core.Logic.{_⊎_, inl, inr}
 use mathlib.Core.Bool.{Bool, true, false, _&&_}
 use mathlib.Core.List.{List, [], _∷_, _++_, map}
+use mathlib.Core.Option.{none, some}
 use lib.ListN.{length}
 use lib.Dec.{eqb}
 use Rattle.meaning.specs.Base.{In, countFrom, total}
@@ -76,7 +77,8 @@ function-small t (quot a c) p = two-small t 8 a 0 _ (p .target .1) (omega arith)
 
 condition-small : (c : Condition ℕ) → ProperCondition c → Small (conditionWords c)
 condition-small (range a l h) p = each-small (conditionWords (range a l h)) (packed-small a 0 0 0 (p .reads .1) (omega arith) (omega arith) (omega arith), (unsigned-small l (p .bounds .0), (unsigned-small h (p .bounds .1), tt)))
-condition-small (atmost a b) p = each-small (conditionWords (atmost a b)) (packed-small a 1 b 0 (p .reads .0 .1) (omega arith) (p .reads .1 .1) (omega arith), (omega arith, (omega arith, tt)))
+condition-small (atmost a b none) p = each-small (conditionWords (atmost a b none)) (packed-small a 1 b 0 (p .reads .0 .1) (omega arith) (p .reads .1 .1) (omega arith), (omega arith, (omega arith, tt)))
+condition-small (atmost a b (some c)) p = each-small (conditionWords (atmost a b (some c))) (packed-small a 2 b 0 (p .reads .0 .1) (omega arith) (p .reads .1 .1) (omega arith), (unsigned-small c (p .bounds), (omega arith, tt)))
 
 -- ---- instructions
 

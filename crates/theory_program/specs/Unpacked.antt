@@ -4,6 +4,7 @@ use native.Mathlib.Omega.{arith}
 use mathlib.Core.Path.{_≡_, refl, ap₂, _∙_}
 use mathlib.Core.Bool.{Bool, true, false}
 use mathlib.Core.List.{List, [], _∷_}
+use mathlib.Core.Option.{Option, none, some}
 use lib.ListN.{getD}
 use lib.IntN.{ℤ, pos}
 use lib.Dec.{eqb}
@@ -58,21 +59,29 @@ rule-at {r = r} s p = let h = rule-first s in ap₂ ruleFrom (h .0) (h .1) ∙ r
 
 -- ---- conditions
 
--- kind 0 is a range
-abbrev pub conditionOfKind : Bool → ℕ → ℕ → ℤ → ℤ → Condition ℕ
-conditionOfKind true a b l h = range a l h
-conditionOfKind false a b l h = atmost a b
+-- the constant of a comparison: none where its kind is 1
+abbrev pub offsetOfKind : Bool → ℤ → Option ℤ
+offsetOfKind true c = none
+offsetOfKind false c = some c
+
+-- kind 0 is a range; of a comparison the second word is the constant
+abbrev pub conditionOfKind : Bool → Bool → ℕ → ℕ → ℤ → ℤ → Condition ℕ
+conditionOfKind true k a b l h = range a l h
+conditionOfKind false k a b l h = atmost a b (offsetOfKind k l)
 
 abbrev pub conditionFrom : ℕ → ℕ → ℕ → Condition ℕ
-conditionFrom w l h = conditionOfKind (eqb (w / 128 % 16) 0) (w % 128) (w / 2048 % 128) (signed l) (signed h)
+conditionFrom w l h = conditionOfKind (eqb (w / 128 % 16) 0) (eqb (w / 128 % 16) 1) (w % 128) (w / 2048 % 128) (signed l) (signed h)
 
 condition-back : (c : Condition ℕ) → ProperCondition c → conditionFrom (getD (conditionWords c) 0 0) (getD (conditionWords c) 1 0) (getD (conditionWords c) 2 0) ≡ c
 condition-back (range a l h) p =
     let u = unpacked a 0 0 0 (omega (arith, p .reads .1)) (omega arith) (omega arith) in
     rw (u .first, u .function, signed-unsigned l (p .bounds .0), signed-unsigned h (p .bounds .1)) refl
-condition-back (atmost a b) p =
+condition-back (atmost a b none) p =
     let u = unpacked a 1 b 0 (omega (arith, p .reads .0 .1)) (omega arith) (omega (arith, p .reads .1 .1)) in
     rw (u .first, u .function, u .second) refl
+condition-back (atmost a b (some c)) p =
+    let u = unpacked a 2 b 0 (omega (arith, p .reads .0 .1)) (omega arith) (omega (arith, p .reads .1 .1)) in
+    rw (u .first, u .function, u .second, signed-unsigned c (p .bounds)) refl
 
 -- the first condition of some that stand there
 pub condition-at : {ws : List ℕ} {a : ℕ} {c : Condition ℕ} {cs : List (Condition ℕ)} → ConditionsAt ws a (c ∷ cs) → ProperCondition c → conditionFrom (getD ws a 0) (getD ws (a + 1) 0) (getD ws (a + 2) 0) ≡ c

@@ -50,11 +50,11 @@ rule-body s b h p =
 
 pub condition-body : (s : State) (b : List ℕ) → Bytes b → Passed s condition b → b ≡ conditionBytes (conditionOf b)
 condition-body s b h p =
-    let n = leb→le (byte b 0) 1 (both (leb (byte b 0) 1) (all (occurrenceKnown s (current s)) (reads (conditionOf b))) (p .named) .0) in
-    condition-bytes b h n (go n (or-cases (ltb 1 (byte b 0)) (eqb (length b) (conditionLength (byte b 0))) (both (leb 1 (length b) && ltb (s .conditions) 512) (ltb 1 (byte b 0) || eqb (length b) (conditionLength (byte b 0))) (p .limits) .1)))
+    let n = leb→le (byte b 0) 2 (both (leb (byte b 0) 2) (all (occurrenceKnown s (current s)) (reads (conditionOf b))) (p .named) .0) in
+    condition-bytes b h n (go n (or-cases (ltb 2 (byte b 0)) (eqb (length b) (conditionLength (byte b 0))) (both (leb 1 (length b) && ltb (s .conditions) 512) (ltb 2 (byte b 0) || eqb (length b) (conditionLength (byte b 0))) (p .limits) .1)))
   where
-    go : byte b 0 ≤ 1 → T (ltb 1 (byte b 0)) ⊎ T (eqb (length b) (conditionLength (byte b 0))) → length b ≡ conditionLength (byte b 0)
-    go n (inl t) = absurd (omega (arith, ltb→lt 1 (byte b 0) t))
+    go : byte b 0 ≤ 2 → T (ltb 2 (byte b 0)) ⊎ T (eqb (length b) (conditionLength (byte b 0))) → length b ≡ conditionLength (byte b 0)
+    go n (inl t) = absurd (omega (arith, ltb→lt 2 (byte b 0) t))
     go n (inr t) = eqb→eq (length b) (conditionLength (byte b 0)) t
 
 -- the body of a production: left side, length, symbols

@@ -15,7 +15,7 @@ use Rattle.meaning.specs.Base.{all, In, total}
 use Rattle.meaning.specs.Grammar.{Symbol, terminal, nonterminal, Occurrence, Function, const, copy, sum, diff, prod, maxi, mini, addc, quot, Rule, Condition, range, atmost, Production, Counts, noCounts, Grammar}
 use Rattle.meaning.specs.Rules.{Operands, Reads, Input, Output, Operand, Distinct, Constant, Proper, InFourBytes}
 use Rattle.meaning.specs.Table as Table
-use Rattle.meaning.specs.Table.{State, Header, Entry, Kind, header, counts, production, rule, condition, noHeader, headerOf, isSome, byte, signed, constantAt, occurrenceAt, within, symbolOf, symbolKnown, functionOf, ruleOf, conditionOf, occurrenceKnown, isInput, hasRule, complete, lastComplete, readField, withRule, withCondition, productionOf, grammarOf, nothingRead}
+use Rattle.meaning.specs.Table.{State, Header, Entry, Kind, header, counts, production, rule, condition, noHeader, headerOf, isSome, byte, signed, constantAt, occurrenceAt, within, symbolOf, symbolKnown, functionOf, ruleOf, conditionOf, occurrenceKnown, isInput, ordered, hasRule, complete, lastComplete, readField, withRule, withCondition, productionOf, grammarOf, nothingRead}
 use Rattle.theory_base.specs.Members.{both, in-some, all-in, map-in}
 use Rattle.theory_table.specs.Reading.{Passed, Next, Full}
 use Rattle.theory_table.specs.Occurrences.{input-over, output-over, operand-over, output-at, operands-map, reads-map, rule-operands, condition-reads, set-once}
@@ -56,23 +56,21 @@ constant-of b h = go (byte b 2) h
 
 abbrev Ends : Condition Occurrence → Type 0
 Ends (range o l h) = InFourBytes l × InFourBytes h
-Ends (atmost o u) = Unit {0}
+Ends (atmost o u none) = Unit {0}
+Ends (atmost o u (some c)) = InFourBytes c
 
 ends-in : (b : List ℕ) → Ends (conditionOf b)
-ends-in b = go (eqb (byte b 0) 0)
+ends-in b = go (eqb (byte b 0) 0) (eqb (byte b 0) 1)
   where
-    go : (c : Bool) → Ends (elim c [ true ↦ range (occurrenceAt b 1) (constantAt b 3) (constantAt b 7) | false ↦ atmost (occurrenceAt b 1) (occurrenceAt b 3) ])
-    go true = (constant-in b 3, constant-in b 7)
-    go false = tt
+    go : (c d : Bool) → Ends (elim c [ true ↦ range (occurrenceAt b 1) (constantAt b 3) (constantAt b 7) | false ↦ atmost (occurrenceAt b 1) (occurrenceAt b 3) (elim d [ true ↦ none | false ↦ some (constantAt b 5) ]) ])
+    go true d = (constant-in b 3, constant-in b 7)
+    go false true = tt
+    go false false = constant-in b 5
 
-proper-from : (c : Condition Occurrence) → Ends c → T (elim c [ range o l h ↦ leZ l h | atmost o u ↦ not (eqb (o .position) 0 && eqb (u .position) 0) ]) → Proper c
+proper-from : (c : Condition Occurrence) → Ends c → T (ordered c) → Proper c
 proper-from (range o l h) d t = (d .0, d .1, t)
-proper-from (atmost o u) d t = go (o .position) (u .position) t
-  where
-    go : (a b : ℕ) → T (not (eqb a 0 && eqb b 0)) → 1 ≤ a + b
-    go zero zero t = absurd t
-    go zero (suc b) t = omega arith
-    go (suc a) b t = omega arith
+proper-from (atmost o u none) d t = tt
+proper-from (atmost o u (some c)) d t = d
 
 -- ---- one production, whatever else is read
 
@@ -350,8 +348,8 @@ module _ (hd : Option Header) (cs : List Counts) (co : List ℕ) (rn cn o : ℕ)
   read-condition (e ∷ es) v l p =
       let s : State = mk hd cs co (e ∷ es) rn cn in
       let c : Condition Occurrence = conditionOf b in
-      let a = both (leb (byte b 0) 1) (all (occurrenceKnown s e) (Table.reads c)) (p .named) in
-      let m = both (leb 1 (length b) && ltb cn 512) (ltb 1 (byte b 0) || eqb (length b) (Table.conditionLength (byte b 0))) (p .limits) in
+      let a = both (leb (byte b 0) 2) (all (occurrenceKnown s e) (Table.reads c)) (p .named) in
+      let m = both (leb 1 (length b) && ltb cn 512) (ltb 2 (byte b 0) || eqb (length b) (Table.conditionLength (byte b 0))) (p .limits) in
       let room = ltb→lt cn 512 (both (leb 1 (length b)) (ltb cn 512) (m .0) .1) in
       let k = with-condition s (headerOf s) e (v .entries e (inl refl)) c (a .1) (p .directions) (proper-from c (ends-in b) (p .bounds)) in
       record {

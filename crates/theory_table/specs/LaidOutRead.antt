@@ -16,7 +16,7 @@ use Rattle.meaning.specs.Grammar.{Symbol, terminal, nonterminal, Occurrence, Fu
 use Rattle.meaning.specs.Rules.{Operands, Operand, Distinct, Proper, Known, WellFormed, WellFormedProduction}
 use Rattle.meaning.specs.Layout as Layout
 use Rattle.meaning.specs.Layout.{field, symbolByte, headerBytes, countsBytes, productionBytes, ruleBytes, conditionBytes, RulesAndConditions, Productions, countsFields, LaidOut}
-use Rattle.meaning.specs.Table.{State, Header, Entry, Kind, header, counts, production, rule, condition, byte, within, symbolOf, symbolKnown, ruleLength, conditionLength, constantAt, operands, reads, occurrenceKnown, isInput, hasRule, complete, lastComplete, readField, withRule, withCondition, wellFormed, readTable, nothingRead, productionOf, grammarOf}
+use Rattle.meaning.specs.Table.{State, Header, Entry, Kind, header, counts, production, rule, condition, byte, within, symbolOf, symbolKnown, ruleLength, conditionLength, constantAt, operands, reads, occurrenceKnown, isInput, ordered, hasRule, complete, lastComplete, readField, withRule, withCondition, wellFormed, readTable, nothingRead, productionOf, grammarOf}
 use Rattle.theory_base.specs.Members.{and, both, reverse-in, in-all, in-right, in-reverse, map-in, one-more, map-one-more}
 use Rattle.theory_table.specs.Reading.{Passed, tagOf, Full, Next, over, more, reads-table}
 use Rattle.theory_table.specs.Reading as Reading
@@ -36,11 +36,9 @@ distinct-before [] r ys d q i e = i
 distinct-before (x ∷ xs) r ys d q (inl p) e = d .0 r (in-right r xs (r ∷ ys) (inl refl)) (sym e ∙ ap (λ z. z .target) p)
 distinct-before (x ∷ xs) r ys d q (inr i) e = distinct-before xs r ys (d .1) q i e
 
-proper-test : (c : Condition Occurrence) → Proper c → T (elim c [ range o l h ↦ leZ l h | atmost o u ↦ not (eqb (o .position) 0 && eqb (u .position) 0) ])
+proper-test : (c : Condition Occurrence) → Proper c → T (ordered c)
 proper-test (range o l h) p = p .2
-proper-test (atmost o u) p = not-T (eqb (o .position) 0 && eqb (u .position) 0) (λ t.
-    let h = both (eqb (o .position) 0) (eqb (u .position) 0) t in
-    omega (arith, eqb→eq (o .position) 0 (h .0), eqb→eq (u .position) 0 (h .1)))
+proper-test (atmost o u c) p = tt
 
 module _ (g : Grammar) (wf : WellFormed g) where
   abbrev headerIs : Header
@@ -95,15 +93,15 @@ module _ (g : Grammar) (wf : WellFormed g) where
         let b : List ℕ = conditionBytes c in
         let q = condition-read c (w .proper c i) in
         let ins = reads-inputs s e c (reads-map (λ o u. input-over g (grammarOf s) p (productionOf e) (sym back) (sym el) (sym er) (o .position) (o .attribute) u) c (w .reads c i)) in
-        let fits : Bool = ltb 1 (byte b 0) || eqb (length b) (conditionLength (byte b 0)) in
+        let fits : Bool = ltb 2 (byte b 0) || eqb (length b) (conditionLength (byte b 0)) in
         record {
           limits = and (leb 1 (length b) && ltb cn 512) fits (and (leb 1 (length b)) (ltb cn 512) (q .long) (lt→ltb cn 512 room)) (q .right);
-          named = subst (λ z. T (leb (byte b 0) 1 && all (occurrenceKnown s e) (reads z))) (sym (q .same)) (and (leb (byte b 0) 1) (all (occurrenceKnown s e) (reads c)) (q .named) (ins .0));
+          named = subst (λ z. T (leb (byte b 0) 2 && all (occurrenceKnown s e) (reads z))) (sym (q .same)) (and (leb (byte b 0) 2) (all (occurrenceKnown s e) (reads c)) (q .named) (ins .0));
           start = tt;
           directions = subst (λ z. T (all (isInput s e) (reads z))) (sym (q .same)) (ins .1);
           once = tt;
           leftward = tt;
-          bounds = subst (λ z. T (elim z [ range o l h ↦ leZ l h | atmost o u ↦ not (eqb (o .position) 0 && eqb (u .position) 0) ])) (sym (q .same)) (proper-test c (w .proper c i));
+          bounds = subst (λ z. T (ordered z)) (sym (q .same)) (proper-test c (w .proper c i));
         }
 
     -- a production all of whose rules are read

@@ -13,6 +13,7 @@ use Rattle.meaning.specs.Base.{countFrom}
 use Rattle.meaning.specs.Grammar.{Symbol, terminal, nonterminal, Occurrence, Function, const, copy, sum, diff, prod, maxi, mini, addc, quot, Rule, Condition, range, atmost}
 use Rattle.meaning.specs.Rules.{InFourBytes, Constant, Proper}
 use Rattle.meaning.specs.Layout.{unsigned, fourBytes, constantBytes, occurrenceBytes, symbolByte, functionBytes, ruleBytes, conditionBytes, Bytes}
+use mathlib.Core.Option.{Option, none, some}
 use Rattle.meaning.specs.Table.{byte, signed, constantAt, occurrenceAt, symbolOf, ruleOf, conditionOf, ruleLength, conditionLength}
 use Rattle.theory_base.specs.Members.{and, getD-in}
 
@@ -195,23 +196,28 @@ rule-read r h = rule-read-of (r .target) (r .function) h
 
 -- ---- conditions
 
-abbrev conditionBy : List ℕ → Bool → Condition Occurrence
-conditionBy b c = elim c as (λ x. Condition Occurrence) [ true ↦ range (occurrenceAt b 1) (constantAt b 3) (constantAt b 7) | false ↦ atmost (occurrenceAt b 1) (occurrenceAt b 3) ]
+abbrev offsetBy : List ℕ → Bool → Option ℤ
+offsetBy b d = elim d [ true ↦ none | false ↦ some (constantAt b 5) ]
 
-kind-bytes : (b : List ℕ) (k : ℕ) → Bytes b → k ≤ 1 → byte b 0 ≡ k → length b ≡ conditionLength k → b ≡ conditionBytes (conditionBy b (eqb k 0))
+abbrev conditionBy : List ℕ → ℕ → Bool → Condition Occurrence
+conditionBy b k c = elim c as (λ x. Condition Occurrence) [ true ↦ range (occurrenceAt b 1) (constantAt b 3) (constantAt b 7) | false ↦ atmost (occurrenceAt b 1) (occurrenceAt b 3) (offsetBy b (eqb k 1)) ]
+
+kind-bytes : (b : List ℕ) (k : ℕ) → Bytes b → k ≤ 2 → byte b 0 ≡ k → length b ≡ conditionLength k → b ≡ conditionBytes (conditionBy b k (eqb k 0))
 kind-bytes b zero h l e n = listed 11 b n ∙ ap (λ x. x ∷ byte b 1 ∷ byte b 2 ∷ byte b 3 ∷ byte b 4 ∷ byte b 5 ∷ byte b 6 ∷ byte b 7 ∷ byte b 8 ∷ byte b 9 ∷ byte b 10 ∷ []) e ∙ ap₂ (λ xs ys. 0 ∷ byte b 1 ∷ byte b 2 ∷ xs ++ ys) (constant-bytes b 3 h) (constant-bytes b 7 h)
 kind-bytes b (suc zero) h l e n = listed 5 b n ∙ ap (λ x. x ∷ byte b 1 ∷ byte b 2 ∷ byte b 3 ∷ byte b 4 ∷ []) e
-kind-bytes b (suc (suc k)) h l e n = absurd (omega arith)
+kind-bytes b (suc (suc zero)) h l e n = listed 9 b n ∙ ap (λ x. x ∷ byte b 1 ∷ byte b 2 ∷ byte b 3 ∷ byte b 4 ∷ byte b 5 ∷ byte b 6 ∷ byte b 7 ∷ byte b 8 ∷ []) e ∙ ap (λ xs. 2 ∷ byte b 1 ∷ byte b 2 ∷ byte b 3 ∷ byte b 4 ∷ xs) (constant-bytes b 5 h)
+kind-bytes b (suc (suc (suc k))) h l e n = absurd (omega arith)
 
-pub condition-bytes : (b : List ℕ) → Bytes b → byte b 0 ≤ 1 → length b ≡ conditionLength (byte b 0) → b ≡ conditionBytes (conditionOf b)
+pub condition-bytes : (b : List ℕ) → Bytes b → byte b 0 ≤ 2 → length b ≡ conditionLength (byte b 0) → b ≡ conditionBytes (conditionOf b)
 condition-bytes b h l n = kind-bytes b (byte b 0) h l refl n
 
 pub record ConditionRead (c : Condition Occurrence) : Type 0 where
   pub same : conditionOf (conditionBytes c) ≡ c
   pub long : T (leb 1 (length (conditionBytes c)))
-  pub named : T (leb (byte (conditionBytes c) 0) 1)
-  pub right : T (ltb 1 (byte (conditionBytes c) 0) || eqb (length (conditionBytes c)) (conditionLength (byte (conditionBytes c) 0)))
+  pub named : T (leb (byte (conditionBytes c) 0) 2)
+  pub right : T (ltb 2 (byte (conditionBytes c) 0) || eqb (length (conditionBytes c)) (conditionLength (byte (conditionBytes c) 0)))
 
 pub condition-read : (c : Condition Occurrence) → Proper c → ConditionRead c
 condition-read (range o l u) h = record { same = ap₂ (λ x y. range o x y) (constant-back l (h .0)) (constant-back u (h .1)); long = tt; named = tt; right = tt }
-condition-read (atmost o u) h = record { same = refl; long = tt; named = tt; right = tt }
+condition-read (atmost o u none) h = record { same = refl; long = tt; named = tt; right = tt }
+condition-read (atmost o u (some c)) h = record { same = ap (λ z. atmost o u (some z)) (constant-back c h); long = tt; named = tt; right = tt }

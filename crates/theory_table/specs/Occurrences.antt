@@ -146,11 +146,11 @@ operands-map {P} {Q} h f u = operands-all Q f (λ o i. h o (all-operands P f u o
 
 pub reads-all : (P : Occurrence → Type 0) (c : Condition Occurrence) → ((o : Occurrence) → In o (reads c) → P o) → Reads P c
 reads-all P (range a l u) h = h a (inl refl)
-reads-all P (atmost a b) h = (h a (inl refl), h b (inr (inl refl)))
+reads-all P (atmost a b c) h = (h a (inl refl), h b (inr (inl refl)))
 
 pub all-reads : (P : Occurrence → Type 0) (c : Condition Occurrence) → Reads P c → (o : Occurrence) → In o (reads c) → P o
 all-reads P (range a l u) h o i = of-one P a h o i
-all-reads P (atmost a b) h o i = of-two P a b h o i
+all-reads P (atmost a b c) h o i = of-two P a b h o i
 
 pub reads-map : {P Q : Occurrence → Type 0} → ((o : Occurrence) → P o → Q o) → (c : Condition Occurrence) → Reads P c → Reads Q c
 reads-map {P} {Q} h c u = reads-all Q c (λ o i. h o (all-reads P c u o i))

@@ -140,10 +140,16 @@ pub record StretchAt (bs : List ℕ) (e : Entry) (end : ℕ) : Type 0 where
   pub own : RulesAndConditions (productionOf e .rules) (productionOf e .conditions) body
   pub isHere : drop (e .offset) bs ≡ field 3 (productionBytes (productionOf e)) ++ (body ++ rest)
   pub isEnd : e .offset + length (field 3 (productionBytes (productionOf e)) ++ body) ≡ end
+  pub over : 0 < length rest → byte rest 0 ≡ 3
 
 pub first-offset : {es : List Entry} {o : ℕ} {bs : List ℕ} → Stretches es o bs → (end : ℕ) → o + length bs ≡ end → o ≡ getD (map (λ d. d .offset) es) 0 end
 first-offset nothing end l = omega arith
 first-offset (stretch e own later) end l = refl
+
+-- what follows a stretch begins with a tag 3, if it is not empty
+next-tag : {es : List Entry} {o : ℕ} {bs : List ℕ} → Stretches es o bs → 0 < length bs → byte bs 0 ≡ 3
+next-tag nothing l = absurd (omega arith)
+next-tag (stretch e own later) l = refl
 
 -- past a first part
 past : (bs first rest whole : List ℕ) (o : ℕ) → whole ≡ first ++ rest → drop o bs ≡ whole → o + length whole ≡ length bs → (drop (o + length first) bs ≡ rest) × (o + length first + length rest ≡ length bs)
@@ -154,7 +160,7 @@ stretch-at nothing bs d l p m = absurd (omega arith)
 stretch-at (stretch e {es} {body} {rest} own later) bs d l zero m =
     let pb : List ℕ = field 3 (productionBytes (productionOf e)) in
     let f = past bs (pb ++ body) rest (pb ++ (body ++ rest)) (e .offset) (sym (append-assoc pb body rest)) d l in
-    record { body = body; rest = rest; own = own; isHere = d; isEnd = first-offset later (length bs) (f .1) }
+    record { body = body; rest = rest; own = own; isHere = d; isEnd = first-offset later (length bs) (f .1); over = next-tag later }
 stretch-at (stretch e {es} {body} {rest} own later) bs d l (suc p) m =
     let pb : List ℕ = field 3 (productionBytes (productionOf e)) in
     let f = past bs (pb ++ body) rest (pb ++ (body ++ rest)) (e .offset) (sym (append-assoc pb body rest)) d l in

@@ -19,7 +19,7 @@ pub const MARK: i64 = i64::MIN;
 // 02 (d): the one place in code where the limits of values stand.
 const LOWEST: i64 = -1000000000000;
 
-const HIGHEST: i64 = 1000000000000;
+pub const HIGHEST: i64 = 1000000000000;
 
 // Two numbers further from 0 than this have a product that is no value; where one is not, the product fits an i64.
 const NEAR: i64 = 1000000;
@@ -30,6 +30,14 @@ pub fn at_most(a: i64, b: i64) -> bool
     ensures { λ r. ⌜ r ≡ leZ a b ⌝ }
 {
     a <= b
+}
+
+// The second plus a constant: both are values, so that nothing overflows.
+pub fn at_most_plus(a: i64, b: i64, c: i64) -> bool
+    requires { ⌜ (inRange b ≡ true) × (inRange c ≡ true) ⌝ }
+    ensures { λ r. ⌜ r ≡ leZ a (b +ℤ c) ⌝ }
+{
+    a <= b + c
 }
 
 pub fn in_bounds(v: i64, low: i64, high: i64) -> bool

@@ -80,10 +80,34 @@ fn range(o: Occurrence, low: i32, high: i32) -> Field {
     (5, [&[0, o[0], o[1]], &low.to_be_bytes()[..], &high.to_be_bytes()[..]].concat())
 }
 
+/// Of kind 1, or of kind 2 with a constant, mostly a small one.
+fn compared(r: &mut Random, a: Occurrence, b: Occurrence) -> Field {
+    let mut body = vec![1, a[0], a[1], b[0], b[1]];
+    if r.chance(60) {
+        body[0] = 2;
+        let constant = if r.chance(80) { r.below(7) as i32 - 3 } else { r.value() };
+        body.extend(constant.to_be_bytes());
+    }
+    (5, body)
+}
+
+/// Alternatives of one nonterminal told apart by how far its first attribute is above its last.
+fn apart(inherited: u8, i: usize, n: usize) -> Vec<Field> {
+    let between = |a: u8, b: u8, c: i32| (5, [&[2, 0, a, 0, b], &c.to_be_bytes()[..]].concat());
+    let mut found = Vec::new();
+    if i > 0 {
+        found.push(between(inherited, 1, -3 * i as i32));
+    }
+    if i + 1 < n {
+        found.push(between(1, inherited, 3 * i as i32 + 2));
+    }
+    found
+}
+
 fn condition(r: &mut Random, inputs: &[Occurrence]) -> Field {
     let (a, b) = (*r.pick(inputs), *r.pick(inputs));
-    if (a[0] + b[0] > 0 && r.chance(50)) || r.chance(1) {
-        return (5, vec![1, a[0], a[1], b[0], b[1]]);
+    if r.chance(50) {
+        return compared(r, a, b);
     }
     let (x, y) = (r.value(), r.value());
     if r.chance(2) {
@@ -120,12 +144,15 @@ fn fields(r: &mut Random) -> Vec<Field> {
     for left in 0..nonterminals {
         let n = if left + 1 < nonterminals { 2 + r.below(2) } else { 1 + r.below(3) };
         let split = counts.0[left].0 > 0 && r.chance(40);
+        let by_difference = counts.0[left].0 > 1 && r.chance(60);
         for i in 0..n {
             let right = right_side(r, terminals, nonterminals, left, if split { 0 } else { i }, n);
             let symbol = 128 + left as u8;
             found.push((3, [&[left as u8, right.len() as u8], &right[..]].concat()));
             found.extend(rules(r, &counts, symbol, &right));
-            if split {
+            if split && by_difference {
+                found.extend(apart(counts.0[left].0, i, n));
+            } else if split {
                 found.push(range([0, 1], 3 * i as i32, 3 * i as i32 + 2));
             }
             let readable = inputs(&counts, symbol, &right, right.len() + 1);

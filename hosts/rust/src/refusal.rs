@@ -33,7 +33,7 @@ impl Refusal {
             7 => "rule sets an input, or something reads an output",
             8 => "second rule, or none",
             9 => "inherited rule reads its own position or a later one",
-            10 => "low above high, or a comparison inside position 0",
+            10 => "low above high",
             11 => "nonterminal unreachable or deriving no token string",
             12 => "nonterminal that can reach itself leftmost without reading",
             13 => "production that clashes with an earlier one",

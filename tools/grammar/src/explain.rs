@@ -3,7 +3,7 @@ use crate::model::{Condition, Function, Grammar, Item, Occurrence, Production};
 use crate::resolve::Places;
 use crate::source::{Fault, Span};
 use crate::table::{Field, What};
-use plain::judge::{clash, Analysis};
+use plain::judge::{clash, entered_with, Analysis};
 use segment::Refusal;
 
 /// A grammar's text and table together.
@@ -36,7 +36,7 @@ impl Judged<'_> {
             (8, Some(What::Item(p, i))) => self.second_rule(p, i),
             (8, Some(What::Production(p))) => self.missing(p),
             (9, Some(What::Item(p, i))) => self.reads_too_far(p, i)?,
-            (10, Some(What::Item(p, i))) => self.wrong_condition(p, i),
+            (10, Some(What::Item(p, i))) => self.wrong_condition(p, i)?,
             (11, Some(What::Part(n))) => self.useless(n)?,
             (12, Some(What::Part(n))) => self.circle(n)?,
             (13, Some(What::Production(p))) => self.clash(p)?,
@@ -171,12 +171,9 @@ impl Judged<'_> {
         Some((span, words))
     }
 
-    fn wrong_condition(&self, p: usize, i: usize) -> Found {
-        let span = self.place(What::Item(p, i));
-        match &self.production(p).items[i] {
-            Item::Condition(Condition::Range(_, low, high)) => (span, format!("the low bound {low} is above the high bound {high}")),
-            _ => (span, "an entry condition is a range; two attributes of the left side are not compared".into()),
-        }
+    fn wrong_condition(&self, p: usize, i: usize) -> Option<Found> {
+        let Item::Condition(Condition::Range(_, low, high)) = &self.production(p).items[i] else { return None };
+        Some((self.place(What::Item(p, i)), format!("the low bound {low} is above the high bound {high}")))
     }
 
     /// The plain engine's reading of a table that the refusals 1 to 10 let through.
@@ -222,16 +219,48 @@ impl Judged<'_> {
     }
 
     fn clash(&self, p: usize) -> Option<Found> {
-        let (q, both) = self.analysed(|a, o| {
+        let (q, both, values) = self.analysed(|a, o| {
             let sets = a.starts();
-            clash(self.table, o, &sets).map(|(p, q)| (q, sets.starts[p] & sets.starts[q]))
+            clash(self.table, o, &sets).map(|(p, q)| (q, sets.starts[p] & sets.starts[q], entered_with(self.table, o, p, q)))
         })??;
         let next = match self.grammar.tokens.get(both.trailing_zeros() as usize) {
             Some(token) => format!("before `{token}`"),
             None => "at the end of the segment".into(),
         };
         let (line, name) = (self.place(What::Production(q)).line, self.part_name(self.production(p).left));
-        let words = format!("this production of `{name}` clashes with the one on line {line}: {next} both are possible");
+        let with = values.and_then(|v| self.entered(p, q, &v)).unwrap_or_default();
+        let words = format!("this production of `{name}` clashes with the one on line {line}: {next} both are possible{with}");
         Some((self.place(What::Production(p)), words))
+    }
+
+    /// The entry conditions of a production.
+    fn entries(&self, p: usize) -> Vec<&Condition<Occurrence>> {
+        let at_entry = |item: &&Item<Occurrence>| item.reads().iter().all(|o| o.position == 0);
+        let conditions = self.production(p).items.iter().filter(at_entry).filter_map(|item| match item {
+            Item::Condition(c) => Some(c),
+            Item::Rule(..) => None,
+        });
+        conditions.collect()
+    }
+
+    /// Values that meet the entry conditions of both, by name; they are tried before they are shown.
+    fn entered(&self, p: usize, q: usize, values: &[i64]) -> Option<String> {
+        let mut read: Vec<usize> = Vec::new();
+        for c in self.entries(p).into_iter().chain(self.entries(q)) {
+            let value = |o: &Occurrence| values[o.attribute - 1];
+            let (holds, reads) = match c {
+                Condition::Range(a, low, high) => ((i64::from(*low)..=i64::from(*high)).contains(&value(a)), vec![a]),
+                Condition::AtMost(a, b, c) => (value(a) <= value(b) + i64::from(c.unwrap_or(0)), vec![a, b]),
+            };
+            if !holds {
+                return None;
+            }
+            read.extend(reads.iter().map(|o| o.attribute));
+        }
+        read.sort_unstable();
+        read.dedup();
+        let takes = &self.grammar.parts[self.production(p).left].takes;
+        let named: Vec<String> = read.iter().map(|&a| format!("`{}` = {}", takes[a - 1], values[a - 1])).collect();
+        Some(format!(", as with {}", named.join(", ")))
     }
 }

@@ -17,7 +17,8 @@ pub enum Function<O> {
 #[derive(Clone, Debug, PartialEq, Eq)]
 pub enum Condition<O> {
     Range(O, i32, i32),
-    AtMost(O, O),
+    /// The first at most the second; with a constant, plus it.
+    AtMost(O, O, Option<i32>),
 }
 
 /// What follows a production: its rules and conditions.
@@ -60,7 +61,7 @@ impl<O> Item<O> {
         match self {
             Item::Rule(_, function) => function.operands(),
             Item::Condition(Condition::Range(a, _, _)) => vec![a],
-            Item::Condition(Condition::AtMost(a, b)) => vec![a, b],
+            Item::Condition(Condition::AtMost(a, b, _)) => vec![a, b],
         }
     }
 
@@ -68,7 +69,7 @@ impl<O> Item<O> {
         Ok(match self {
             Item::Rule(target, function) => Item::Rule(f(target)?, function.map(f)?),
             Item::Condition(Condition::Range(a, low, high)) => Item::Condition(Condition::Range(f(a)?, *low, *high)),
-            Item::Condition(Condition::AtMost(a, b)) => Item::Condition(Condition::AtMost(f(a)?, f(b)?)),
+            Item::Condition(Condition::AtMost(a, b, c)) => Item::Condition(Condition::AtMost(f(a)?, f(b)?, *c)),
         })
     }
 }

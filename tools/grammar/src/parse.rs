@@ -260,6 +260,20 @@ impl Cursor<'_> {
         Ok(if is_max { Function::Max(a, b) } else { Function::Min(a, b) })
     }
 
+    /// What a comparison adds to its second attribute: `+ 2` or `- 2`.
+    fn plus(&mut self) -> Result<Option<i32>, Fault> {
+        let sign = match (self.skip("+"), self.skip("-")) {
+            (true, _) => 1,
+            (_, true) => -1,
+            _ => return Ok(None),
+        };
+        if !self.is_number() {
+            return self.expected("a number (a comparison adds a number, as in `d <= a + 2`)");
+        }
+        let (number, span) = self.number()?;
+        Ok(Some(fits(sign * number, span)?))
+    }
+
     fn condition(&mut self) -> Result<Statement, Fault> {
         let found = if self.is_number() {
             let low = self.constant()?;
@@ -276,7 +290,8 @@ impl Cursor<'_> {
             if self.is_number() {
                 return self.expected("an attribute (a range has two numbers, as in `0 <= d <= 2`)");
             }
-            Condition::AtMost(a, self.reference("an attribute")?)
+            let b = self.reference("an attribute")?;
+            Condition::AtMost(a, b, self.plus()?)
         };
         Ok(Statement::Item(Item::Condition(found)))
     }

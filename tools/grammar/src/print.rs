@@ -28,7 +28,8 @@ pub fn item(g: &Grammar, p: &Production, item: &Item<crate::model::Occurrence>) 
     match item.unwrap_or_else(|never| match never {}) {
         Item::Rule(target, f) => format!("{target} = {}", function(&f)),
         Item::Condition(Condition::Range(a, low, high)) => format!("{low} <= {a} <= {high}"),
-        Item::Condition(Condition::AtMost(a, b)) => format!("{a} <= {b}"),
+        Item::Condition(Condition::AtMost(a, b, None)) => format!("{a} <= {b}"),
+        Item::Condition(Condition::AtMost(a, b, Some(c))) => format!("{a} <= {}", function(&Function::AddC(b, c))),
     }
 }
 

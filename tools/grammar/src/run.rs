@@ -181,7 +181,7 @@ impl<'a> Stop<'a> {
             let value = |o: &Occurrence| self.value(production, position, *o);
             let holds = match c {
                 Condition::Range(a, low, high) => (i64::from(*low)..=i64::from(*high)).contains(&value(a)),
-                Condition::AtMost(a, b) => value(a) <= value(b),
+                Condition::AtMost(a, b, c) => value(a) <= value(b) + i64::from(c.unwrap_or(0)),
             };
             if !holds {
                 let values: Vec<String> =

@@ -96,10 +96,11 @@ fn condition(c: &Condition<Occurrence>) -> Vec<u8> {
             body.extend(low.to_be_bytes());
             body.extend(high.to_be_bytes());
         }
-        Condition::AtMost(a, b) => {
-            body.push(1);
+        Condition::AtMost(a, b, plus) => {
+            body.push(1 + plus.is_some() as u8);
             occurrence(&mut body, a);
             occurrence(&mut body, b);
+            body.extend(plus.map_or(vec![], |c| c.to_be_bytes().to_vec()));
         }
     }
     body
@@ -178,5 +179,5 @@ fn condition_of(b: &[u8]) -> Condition<Occurrence> {
     if b[0] == 0 {
         return Condition::Range(occurrence_at(b, 1), constant_at(b, 3), constant_at(b, 7));
     }
-    Condition::AtMost(occurrence_at(b, 1), occurrence_at(b, 3))
+    Condition::AtMost(occurrence_at(b, 1), occurrence_at(b, 3), (b[0] == 2).then(|| constant_at(b, 5)))
 }

@@ -54,6 +54,11 @@ fn a_product_sheet() {
 }
 
 #[test]
+fn depth_and_allowance() {
+    run_examples("allowance", 6);
+}
+
+#[test]
 fn words_is_the_table_of_the_specification() {
     let (_, built) = read("words");
     assert_eq!(built.table.len(), 136);

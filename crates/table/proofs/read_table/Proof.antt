@@ -8,13 +8,13 @@ use Rattle.table.proofs.read_table.Statement.{statement}
 use Rattle.table.proofs.read_table.Tie as tie
 
 returns : tie.Need-returns
-returns c = answer-refused _ _ _ _ _ _ _ _ _ (table-long (c .before .before .args .table .now) (c .if1 .taken)) refl
+returns c = answer-refused _ _ _ _ _ _ _ _ (table-long (c .before .before .args .table .now) (c .if1 .taken)) refl
 
 header-number-requires : tie.Need-header-number-requires
 header-number-requires c κs = search needs
 
 returns-2 : tie.Need-returns-2
-returns-2 c = answer-refused _ _ _ _ _ _ _ _ _ (header-answer _ (omega arith) _ (c .before .header-number .ensures) (c .if2 .taken)) refl
+returns-2 c = answer-refused _ _ _ _ _ _ _ _ (header-answer _ (omega arith) _ (c .before .header-number .ensures) (c .if2 .taken)) refl
 
 shared-slice-read-wide : tie.Need-shared-slice-read-wide
 shared-slice-read-wide c = omega (arith, c .before .before .header-number .ensures .long (omega arith))
@@ -47,13 +47,35 @@ cast-offset : tie.Need-cast-offset
 cast-offset c = search needs
 
 returns-3 : tie.Need-returns-3
-returns-3 c = answer-refused _ _ _ _ _ _ _ _ _ (counts-answer _ (omega arith) _ (c .before .before .before .before .before .before .before .before .before .before .before .before .before .before .before .header-number .ensures) (omega arith) _ _ _ _ (c .before .before .before .read-counts .ensures .0) (c .before .if3 .taken)) refl
+returns-3 c = answer-refused _ _ _ _ _ _ _ _ (counts-answer _ (omega arith) _ (c .before .before .before .before .before .before .before .before .before .before .before .before .before .before .before .header-number .ensures) (omega arith) _ _ _ _ (c .before .before .before .read-counts .ensures .0) (c .before .if3 .taken)) refl
 
 read-productions-requires : tie.Need-read-productions-requires
-read-productions-requires c κs = (record { terminals = c .before .before .before .before .before .before .before .before .before .before .before .before .before .before .before .before .before .before .wide .ensures .0; nonterminals = c .before .before .before .before .before .before .before .before .before .before .before .before .before .before .before .before .wide2 .ensures .0; start = c .before .before .before .before .before .before .before .before .before .before .before .before .before .before .wide3 .ensures .0; result = c .before .before .before .before .before .before .before .before .before .before .before .before .wide4 .ensures .0; few = omega (arith, c .before .before .before .before .before .before .before .before .before .before .before .before .before .before .before .before .before .before .before .before .before .header-number .ensures .few (omega arith)); long = c .before .before .before .before .before .before .before .before .before .read-counts .ensures .0 .long (omega arith); short = c .before .before .before .before .before .before .before .before .before .before .before .before .before .before .before .before .before .before .before .before .before .before .if1 .left; small = c .before .before .before .before .before .before .before .before .before .read-counts .ensures .0 .small (omega arith); first = c .before .before .before .before .before .before .before .before .before .read-counts .ensures .1 .0; second = c .before .before .before .before .before .before .before .before .before .read-counts .ensures .1 .1 }, c .before .before .before .before .before .before .before .before .before .before .before .before .before .before .before .before .before .before .before .before .before .before .before .before .pre .2, c .before .before .before .before .before .before .before .before .before .before .before .before .before .before .before .before .before .before .before .before .before .before .before .before .pre .3, c .before .before .before .before .before .before .before .before .before .before .before .before .before .before .before .before .before .before .before .before .before .before .before .before .pre .4)
+read-productions-requires c κs =
+    let rc = c .before .before .before .before .before .before in
+    let w4 = rc .before .before .before in
+    let hn = w4 .before .before .before .before .before .before .before .before .before in
+    let st = hn .before .before .before in (
+      record {
+        terminals = w4 .before .before .before .before .before .before .wide .ensures .0;
+        nonterminals = w4 .before .before .before .before .wide2 .ensures .0;
+        start = w4 .before .before .wide3 .ensures .0;
+        result = w4 .wide4 .ensures .0;
+        few = omega (arith, hn .header-number .ensures .few (w4 .before .before .before .before .before .before .before .before .if2 .left));
+        long = rc .read-counts .ensures .0 .long (omega arith);
+        short = hn .before .if1 .left;
+        small = rc .read-counts .ensures .0 .small (omega arith);
+        first = rc .read-counts .ensures .1 .0;
+        second = rc .read-counts .ensures .1 .1;
+      },
+      st .pre .2,
+      st .pre .3,
+    )
 
 returns-4 : tie.Need-returns-4
-returns-4 c = productions-answer _ (omega arith) _ (c .before .before .before .before .before .before .before .before .before .before .before .before .before .before .before .before .before .before .before .before .before .before .header-number .ensures) (omega arith) _ _ _ _ (c .before .before .before .before .before .before .before .before .before .before .read-counts .ensures .0) _ _ _ _ (omega arith) (c .read-productions .ensures)
+returns-4 c =
+    let rc = c .before .before .before .before .before .before .before in
+    let hn = rc .before .before .before .before .before .before .before .before .before .before .before .before in
+    productions-answer _ (omega arith) _ (hn .header-number .ensures) (rc .before .before .before .before .before .before .before .before .before .before .before .if2 .left) _ _ _ _ (rc .read-counts .ensures .0) _ _ _ (omega arith) (c .read-productions .ensures)
 
 pub read-table-spec : {M : Type 1} → statement M
 read-table-spec =

@@ -11,7 +11,7 @@ pub fn meaning(number: u32) -> &'static str {
         7 => "a rule sets an input, or something reads an output",
         8 => "an output has a second rule, or none",
         9 => "a rule for an inherited attribute reads its own position or above",
-        10 => "low is above high, or a comparison stands inside position 0",
+        10 => "low is above high",
         11 => "a nonterminal is unreachable or derives no token string",
         12 => "a nonterminal can reach itself leftmost without reading",
         13 => "a production clashes with an earlier one",

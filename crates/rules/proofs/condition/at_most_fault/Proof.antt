@@ -1,4 +1,4 @@
-use Rattle.fields.proofs.Demands.{equal-met, equal-not, differs-met, differs-not, equal-yes, equal-no}
+use Rattle.fields.proofs.Demands.{equal-met, equal-not, differs-met, differs-not}
 use mathlib.Core.Path.{refl}
 use native.Mathlib.Omega.{arith}
 use borrow.Author.Needs.{needs}
@@ -32,29 +32,9 @@ returns-5 : tie.Need-returns-5
 unfolding atMostFault
 returns-5 c = equal-met _ _ _ _ (omega arith) (differs-met _ _ _ _ (omega arith) (differs-met _ _ _ _ (omega arith) (differs-met _ _ _ _ (omega arith) (differs-not _ _ _ _ (omega arith)))))
 
-shared-slice-read-wide : tie.Need-shared-slice-read-wide
-shared-slice-read-wide c = search needs
-
-wide-requires : tie.Need-wide-requires
-wide-requires c κs = search needs
-
 returns-6 : tie.Need-returns-6
 unfolding atMostFault
-returns-6 c = equal-met _ _ _ _ (omega arith) (differs-met _ _ _ _ (omega arith) (differs-met _ _ _ _ (omega arith) (differs-met _ _ _ _ (omega arith) (differs-met _ _ _ _ (omega arith) (equal-no _ _ _ _ (omega arith) (refl))))))
-
-shared-slice-read-wide-2 : tie.Need-shared-slice-read-wide-2
-shared-slice-read-wide-2 c = search needs
-
-wide-requires-2 : tie.Need-wide-requires-2
-wide-requires-2 c κs = search needs
-
-returns-7 : tie.Need-returns-7
-unfolding atMostFault
-returns-7 c = equal-met _ _ _ _ (omega arith) (differs-met _ _ _ _ (omega arith) (differs-met _ _ _ _ (omega arith) (differs-met _ _ _ _ (omega arith) (differs-met _ _ _ _ (omega arith) (equal-yes _ _ _ _ (omega arith) (differs-not _ _ _ _ (omega arith)))))))
-
-returns-8 : tie.Need-returns-8
-unfolding atMostFault
-returns-8 c = equal-met _ _ _ _ (omega arith) (differs-met _ _ _ _ (omega arith) (differs-met _ _ _ _ (omega arith) (differs-met _ _ _ _ (omega arith) (differs-met _ _ _ _ (omega arith) (equal-yes _ _ _ _ (omega arith) (differs-met _ _ _ _ (omega arith) (refl)))))))
+returns-6 c = equal-met _ _ _ _ (omega arith) (differs-met _ _ _ _ (omega arith) (differs-met _ _ _ _ (omega arith) (differs-met _ _ _ _ (omega arith) (differs-met _ _ _ _ (omega arith) (refl)))))
 
 pub at-most-fault-spec : {M : Type 1} → statement M
 at-most-fault-spec =
@@ -67,10 +47,4 @@ at-most-fault-spec =
     returns-3
     returns-4
     returns-5
-    shared-slice-read-wide
-    wide-requires
-    returns-6
-    shared-slice-read-wide-2
-    wide-requires-2
-    returns-7
-    returns-8)
+    returns-6)

@@ -2,6 +2,7 @@ use Rattle.fields.proofs.Demands.{atMost-met, atMost-not, below-met, below-not,
 use native.Mathlib.Omega.{arith}
 use borrow.Author.Needs.{needs}
 use Rattle.rules.specs.Rule.{conditionFault}
+use Rattle.rules.proofs.Laws.{compared-at}
 use Rattle.rules.proofs.condition.condition_fault.Statement.{statement}
 use Rattle.rules.proofs.condition.condition_fault.Tie as tie
 
@@ -30,12 +31,18 @@ returns-4 : tie.Need-returns-4
 unfolding conditionFault
 returns-4 c = atMost-met _ _ _ _ (omega arith) (below-met _ _ _ _ (omega arith) (atMost-met _ _ _ _ (omega arith) (equal-yes _ _ _ _ (omega arith) (c .range-fault .ensures))))
 
+mul-at-most-fault : tie.Need-mul-at-most-fault
+mul-at-most-fault c = search needs
+
+add-at-most-fault : tie.Need-add-at-most-fault
+add-at-most-fault c = search needs
+
 at-most-fault-requires : tie.Need-at-most-fault-requires
 at-most-fault-requires c κs = search needs
 
 returns-5 : tie.Need-returns-5
 unfolding conditionFault
-returns-5 c = atMost-met _ _ _ _ (omega arith) (below-met _ _ _ _ (omega arith) (atMost-met _ _ _ _ (omega arith) (equal-no _ _ _ _ (omega arith) (c .at-most-fault .ensures))))
+returns-5 c = atMost-met _ _ _ _ (omega arith) (below-met _ _ _ _ (omega arith) (atMost-met _ _ _ _ (omega arith) (equal-no _ _ _ _ (omega arith) (compared-at _ _ _ _ (c .at-most-fault .ensures) (c .before .before .before .wide .ensures .0)))))
 
 pub condition-fault-spec : {M : Type 1} → statement M
 condition-fault-spec =
@@ -48,5 +55,7 @@ condition-fault-spec =
     returns-3
     range-fault-requires
     returns-4
+    mul-at-most-fault
+    add-at-most-fault
     at-most-fault-requires
     returns-5)

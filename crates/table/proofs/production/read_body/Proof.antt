@@ -1,7 +1,6 @@
 use mathlib.Core.Path.{refl}
 use native.Mathlib.Omega.{arith}
 use borrow.Author.Needs.{needs}
-use Rattle.entries.proofs.Narrowing.{kept-then}
 use Rattle.rules.proofs.Noting.{zeros}
 use Rattle.table.proofs.Producing.{part-in, body-small, body-read, next-sooner}
 use borrow.Author.Needs.{needs}
@@ -38,14 +37,23 @@ part-place-counts-end c = search needs
 place-counts-requires : tie.Need-place-counts-requires
 place-counts-requires c κs = (search needs, search needs, search needs, search needs, record { kept = refl; zero = zeros 13 }, record { kept = refl; zero = zeros 13 })
 
-begin-requires : tie.Need-begin-requires
-begin-requires c κs = search needs
-
 read-uses-requires : tie.Need-read-uses-requires
-read-uses-requires c κs = (body-small (c .before .before .before .before .before .before .before .before .before .before .before .before .before .before .before .before .args .table .now) (c .before .before .before .before .before .before .before .before .before .before .before .before .before .before .before .before .args .at) _ _ _ _ _ _ (c .before .before .before .before .before .before .before .before .before .before .before .before .before .wide .ensures .0) (part-in (c .before .before .before .before .before .before .before .before .before .before .before .before .before .before .before .before .args .table .now) (c .before .before .before .before .before .before .before .before .before .before .before .before .before .before .before .before .args .at) (c .before .before .before .before .before .before .before .before .before .before .before .before .before .wide .result) (c .before .before .before .before .before .before .before .before .before .before .before .before .before .wide .ensures .0)) (c .before .before .before .before .before .before .before .before .before .before .before .before .before .before .before .before .pre .0) (c .before .before .before .before .before .before .before .before .before .place-counts .ensures .0) (c .before .before .before .before .before .before .before .before .before .place-counts .ensures .1) (c .before .before .before .before .before .before .before .before .before .before .before .before .before .before .before .before .pre .1), omega arith, omega arith, omega arith, omega arith, c .before .before .before .before .before .before .before .before .before .before .before .before .before .before .before .before .pre .6, c .before .before .before .before .before .begin .ensures .0, c .before .before .before .before .before .begin .ensures .1 .long)
+read-uses-requires c κs =
+    let w = c .before .before .before .before .before .before in
+    let st = w .before .before .before in
+    let counted = c .before .before .place-counts .ensures in
+    let part = part-in (st .args .table .now) (st .args .at) (w .wide .result) (w .wide .ensures .0) in
+    (body-small (st .args .table .now) (st .args .at) _ _ _ _ _ _ (w .wide .ensures .0) part (st .pre .0) (counted .0) (counted .1) (st .pre .1), omega arith, omega arith, omega arith, omega arith)
 
 returns : tie.Need-returns
-returns c = (body-read (c .before .before .before .before .before .before .before .before .before .before .before .before .before .before .before .before .before .args .table .now) (c .before .before .before .before .before .before .before .before .before .before .before .before .before .before .before .before .before .args .at) _ _ _ _ _ _ (c .before .before .before .before .before .before .before .before .before .before .before .before .before .before .wide .ensures .0) (part-in (c .before .before .before .before .before .before .before .before .before .before .before .before .before .before .before .before .before .args .table .now) (c .before .before .before .before .before .before .before .before .before .before .before .before .before .before .before .before .before .args .at) (c .before .before .before .before .before .before .before .before .before .before .before .before .before .before .wide .result) (c .before .before .before .before .before .before .before .before .before .before .before .before .before .before .wide .ensures .0)) (c .before .before .before .before .before .before .before .before .before .before .before .before .before .before .before .before .before .pre .0) (c .before .before .before .before .before .before .before .before .before .before .place-counts .ensures .0) (c .before .before .before .before .before .before .before .before .before .before .place-counts .ensures .1) _ _ _ _ _ (c .read-uses .ensures .0), ((λ z. next-sooner _ _ _ _ (omega arith) (c .read-uses .ensures .1 .0 z)), (c .read-uses .ensures .1 .1 .0, kept-then _ _ _ _ (c .before .before .before .before .before .before .begin .ensures .1) (c .read-uses .ensures .1 .1 .1))))
+returns c =
+    let w = c .before .before .before .before .before .before .before in
+    let st = w .before .before .before in
+    let counted = c .before .before .before .place-counts .ensures in
+    let part = part-in (st .args .table .now) (st .args .at) (w .wide .result) (w .wide .ensures .0) in (
+      body-read (st .args .table .now) (st .args .at) _ _ _ _ _ _ (w .wide .ensures .0) part (st .pre .0) (counted .0) (counted .1) _ _ _ (c .read-uses .ensures .0),
+      ((λ z. next-sooner _ _ _ _ (omega arith) (c .read-uses .ensures .1 .0 z)), c .read-uses .ensures .1 .1),
+    )
 
 pub read-body-spec : {M : Type 1} → statement M
 read-body-spec =
@@ -61,6 +69,5 @@ read-body-spec =
     part-place-counts-start
     part-place-counts-end
     place-counts-requires
-    begin-requires
     read-uses-requires
     returns)

@@ -9,7 +9,7 @@ production-number-requires : tie.Need-production-number-requires
 production-number-requires c κs = search needs
 
 returns : tie.Need-returns
-returns c = production-refused _ _ _ _ _ _ _ _ _ _ _ _ _ (c .before .production-number .ensures) (c .before .before .before .pre .7) (c .before .before .before .pre .10) (c .if1 .taken) (omega arith) (c .before .before .before .pre .6)
+returns c = production-refused _ _ _ _ _ _ _ _ _ _ _ _ (c .before .production-number .ensures) (c .before .before .before .pre .7) (c .if1 .taken) (omega arith) (c .before .before .before .pre .6)
 
 add-from : tie.Need-add-from
 add-from c = search needs
@@ -51,10 +51,19 @@ element-write-offsets : tie.Need-element-write-offsets
 element-write-offsets c = c .before .before .before .before .before .before .production-number .ensures .known (omega arith) .few
 
 read-body-requires : tie.Need-read-body-requires
-read-body-requires c κs = (c .before .before .before .before .before .before .before .before .before .production-number .ensures .known (omega arith) .long, small-body _ _ _ _ _ _ _ (c .before .before .before .before .before .before .before .before .before .production-number .ensures .known (omega arith)) (c .before .before .before .before .before .before .before .before .before .before .before .pre .3), c .before .before .before .before .before .before .before .before .before .before .before .pre .4, c .before .before .before .before .before .before .before .before .before .before .before .pre .5, c .before .before .before .before .before .before .before .before .before .before .before .pre .8, c .before .before .before .before .before .before .before .before .before .before .before .pre .9, c .before .before .before .before .before .before .before .before .before .production-number .ensures .known (omega arith) .few, c .before .before .before .before .before .before .before .before .before .before .before .pre .10)
+read-body-requires c κs =
+    let n = c .before .before .before .before .before .before in
+    let st = n .before .before in
+    let known = n .production-number .ensures .known (omega arith) in
+    (known .long, small-body _ _ _ _ _ _ _ known (st .pre .3), st .pre .4, st .pre .5, st .pre .8, st .pre .9)
 
 returns-2 : tie.Need-returns-2
-returns-2 c = production-read _ _ _ _ _ _ _ _ _ _ _ _ _ (c .before .before .before .before .before .before .before .before .before .before .production-number .ensures) (c .before .before .before .before .before .before .before .before .before .before .before .before .pre .7) (c .before .before .before .before .before .before .before .before .before .before .before .before .pre .10) (omega arith) _ _ (part-in (c .before .before .before .before .before .before .before .before .before .before .before .before .args .table .now) (c .before .before .before .before .before .before .before .before .before .before .before .before .args .at) (c .before .before .before .before .before .before .before .wide .result) (c .before .before .before .before .before .before .before .wide .ensures .0)) (c .before .before .before .before .copy-row .ensures) _ _ (c .read-body .ensures .0) (c .read-body .ensures .1 .1 .1) (c .read-body .ensures .1 .0) (c .read-body .ensures .1 .1 .0)
+returns-2 c =
+    let n = c .before .before .before .before .before .before .before in
+    let st = n .before .before in
+    let w = c .before .before .before .before in
+    let part = part-in (st .args .table .now) (st .args .at) (w .wide .result) (w .wide .ensures .0) in
+    production-read _ _ _ _ _ _ _ _ _ _ _ _ (n .production-number .ensures) (st .pre .7) (omega arith) _ _ part (c .before .copy-row .ensures) _ (c .read-body .ensures .0) (c .read-body .ensures .1 .0) (c .read-body .ensures .1 .1)
 
 pub read-production-spec : {M : Type 1} → statement M
 read-production-spec =

@@ -2,16 +2,15 @@ use mathlib.Core.Path.{refl}
 use native.Mathlib.Omega.{arith}
 use Prim.Native.Nat.{_-_}
 use lib.ListN.{length}
-use Rattle.entries.specs.Span.{spansOf}
 use Rattle.table.proofs.Rows.{Reached, reached-start, reached-more, reached-refused, reached-none, answer-refused, answer-whole}
 use Rattle.table.proofs.production.read_productions.Statement.{statement}
 use Rattle.table.proofs.production.read_productions.Tie as tie
 
 abbrev Inv-loop : tie.InvT-loop
-Inv-loop table sizes inherited synthesized rows₀ offsets₀ lows₀ highs₀ flags₀ at₀ p₀ rules₀ conditions₀ rows offsets lows highs flags at p rules conditions = Reached table (sizes .nonterminals) inherited synthesized rows offsets (spansOf lows highs flags) p at rules conditions
+Inv-loop table sizes inherited synthesized rows₀ offsets₀ at₀ p₀ rules₀ conditions₀ rows offsets at p rules conditions = Reached table (sizes .nonterminals) inherited synthesized rows offsets p at rules conditions
 
 abbrev μ-loop : tie.MeasureT-loop
-μ-loop table sizes inherited synthesized rows₀ offsets₀ lows₀ highs₀ flags₀ at₀ p₀ rules₀ conditions₀ rows offsets lows highs flags at p rules conditions = length table - at
+μ-loop table sizes inherited synthesized rows₀ offsets₀ at₀ p₀ rules₀ conditions₀ rows offsets at p rules conditions = length table - at
 
 mul-at : tie.Need-mul-at Inv-loop μ-loop
 mul-at c = omega (arith, c .before .before .pre .0 .few)
@@ -20,34 +19,45 @@ add-at : tie.Need-add-at Inv-loop μ-loop
 add-at c = omega (arith, c .before .before .pre .0 .few)
 
 loop-holds : tie.Need-loop-holds Inv-loop μ-loop
-loop-holds c = reached-start _ _ _ _ _ _ _ (c .before .before .pre .0 .long) (c .before .before .pre .1) (c .before .before .pre .2) (c .before .before .pre .3)
+loop-holds c = reached-start _ _ _ _ _ _ (c .before .before .pre .0 .long) (c .before .before .pre .1) (c .before .before .pre .2)
 
 read-production-requires : tie.Need-read-production-requires Inv-loop μ-loop
-read-production-requires c κs = (c .before .before .before .before .before .loop-test .taken, c .before .before .before .before .before .before .before .before .before .pre .0 .short, (λ h. c .before .before .before .before .before .before .loop .inv .over h (c .before .before .before .before .before .loop-test .taken)), c .before .before .before .before .before .before .before .before .before .pre .0 .small, c .before .before .before .before .before .before .before .before .before .pre .0 .first, c .before .before .before .before .before .before .before .before .before .pre .0 .second, c .before .before .before .before .before .before .loop .inv .kept, c .before .before .before .before .before .before .loop .inv .kept-offsets, c .before .before .before .before .before .before .loop .inv .rules, c .before .before .before .before .before .before .loop .inv .conditions, c .before .before .before .before .before .before .loop .inv .kept-spans)
+read-production-requires c κs =
+    let lp = c .before .before .before in
+    let now = lp .loop .inv in
+    let ready = lp .before .before .before .pre .0 in
+    let more = c .before .before .loop-test .taken in
+    (more, ready .short, (λ h. now .over h more), ready .small, ready .first, ready .second, now .kept, now .kept-offsets, now .rules, now .conditions)
 
 cast-offset : tie.Need-cast-offset Inv-loop μ-loop
-cast-offset c = omega (arith, c .before .before .before .read-production .ensures .inside, c .before .before .before .before .before .before .before .before .before .before .before .before .before .pre .0 .short)
+cast-offset c = omega (arith, c .before .before .before .read-production .ensures .inside, c .before .before .before .before .before .before .before .before .before .before .pre .0 .short)
 
 returns : tie.Need-returns Inv-loop μ-loop
-returns c = answer-refused _ _ _ _ _ _ _ _ _ (reached-refused _ _ _ _ _ _ _ _ _ _ _ (c .before .before .before .before .before .before .before .before .before .before .loop .inv) (c .before .before .before .before .before .before .before .before .before .before .before .before .before .pre .0 .nonterminals) _ (c .before .before .before .before .before .before .before .before .before .before .before .before .before .pre .0 .terminals) _ _ _ _ (c .before .before .before .read-production .ensures) (c .before .if1 .taken)) refl
+returns c =
+    let lp = c .before .before .before .before .before .before .before in
+    let ready = lp .before .before .before .pre .0 in
+    answer-refused _ _ _ _ _ _ _ _ (reached-refused _ _ _ _ _ _ _ _ _ _ (lp .loop .inv) (ready .nonterminals) _ (ready .terminals) _ _ _ (c .before .before .before .read-production .ensures) (c .before .if1 .taken)) refl
 
 add-p : tie.Need-add-p Inv-loop μ-loop
-add-p c = omega (arith, c .before .before .before .before .before .before .before .before .before .loop .inv .few)
+add-p c = omega (arith, c .before .before .before .before .before .before .loop .inv .few)
 
 loop-less : tie.Need-loop-less Inv-loop μ-loop
 loop-less c = omega (arith, c .before .before .read-production .ensures .next (omega arith) .after, c .before .before .read-production .ensures .inside)
 
 loop-again : tie.Need-loop-again Inv-loop μ-loop
-loop-again c = reached-more _ _ _ _ _ _ _ _ _ _ _ (c .before .before .before .before .before .before .before .before .before .loop .inv) (c .before .before .before .before .before .before .before .before .before .before .before .before .pre .0 .nonterminals) _ (c .before .before .before .before .before .before .before .before .before .before .before .before .pre .0 .terminals) _ _ _ _ (c .before .before .read-production .ensures) (omega arith)
+loop-again c =
+    let lp = c .before .before .before .before .before .before in
+    let ready = lp .before .before .before .pre .0 in
+    reached-more _ _ _ _ _ _ _ _ _ _ (lp .loop .inv) (ready .nonterminals) _ (ready .terminals) _ _ _ (c .before .before .read-production .ensures) (omega arith)
 
 cast-offset-2 : tie.Need-cast-offset-2 Inv-loop μ-loop
 cast-offset-2 c = omega (arith, c .before .before .loop .inv .inside, c .before .before .before .before .before .pre .0 .short)
 
 returns-2 : tie.Need-returns-2 Inv-loop μ-loop
-returns-2 c = answer-refused _ _ _ _ _ _ _ _ _ (reached-none _ _ _ _ _ _ _ _ _ _ _ (c .before .before .loop .inv) (c .before .before .before .before .before .pre .0 .nonterminals) (c .before .loop-test .left) (omega arith)) refl
+returns-2 c = answer-refused _ _ _ _ _ _ _ _ (reached-none _ _ _ _ _ _ _ _ _ _ (c .before .before .loop .inv) (c .before .before .before .before .before .pre .0 .nonterminals) (c .before .loop-test .left) (omega arith)) refl
 
 returns-3 : tie.Need-returns-3 Inv-loop μ-loop
-returns-3 c = answer-whole _ _ _ _ _ _ _ _ _ _ _ (c .before .before .before .before .before .pre .0) (c .before .before .loop .inv) (c .before .loop-test .left) (c .if2 .left)
+returns-3 c = answer-whole _ _ _ _ _ _ _ _ _ _ (c .before .before .before .before .before .pre .0) (c .before .before .loop .inv) (c .before .loop-test .left) (c .if2 .left)
 
 pub read-productions-spec : {M : Type 1} → statement M
 read-productions-spec =

@@ -2,17 +2,15 @@ use mathlib.Core.Path.{_∙_}
 use native.Mathlib.Omega.{arith}
 use Prim.Native.Nat.{_-_}
 use lib.ListN.{length}
-use Rattle.table.proofs.Steps.{part-body}
-use Rattle.table.proofs.Walking.{part-ready, Walking, walk-start, walk-refused, walk-rule, walk-condition, walk-over}
-use Rattle.entries.specs.Span.{spansOf}
+use Rattle.table.proofs.Walking.{Walking, walk-start, walk-refused, walk-rule, walk-condition, walk-over}
 use Rattle.table.proofs.walk.read_uses.Statement.{statement}
 use Rattle.table.proofs.walk.read_uses.Tie as tie
 
 abbrev Inv-loop : tie.InvT-loop
-Inv-loop table from offset width inh syn rules conditions p lows₀ highs₀ flags₀ note₀ at₀ r₀ c₀ lows highs flags note at r c = Walking table from offset width inh syn rules conditions (spansOf lows₀ highs₀ flags₀) p note (spansOf lows highs flags) at r c
+Inv-loop table from offset width inh syn rules conditions note₀ at₀ r₀ c₀ note at r c = Walking table from offset width inh syn rules conditions note at r c
 
 abbrev μ-loop : tie.MeasureT-loop
-μ-loop table from offset width inh syn rules conditions p lows₀ highs₀ flags₀ note₀ at₀ r₀ c₀ lows highs flags note at r c = length table - at
+μ-loop table from offset width inh syn rules conditions note₀ at₀ r₀ c₀ note at r c = length table - at
 
 begin-requires : tie.Need-begin-requires Inv-loop μ-loop
 begin-requires c κs = tt
@@ -20,7 +18,7 @@ begin-requires c κs = tt
 loop-holds : tie.Need-loop-holds Inv-loop μ-loop
 loop-holds c =
     let pre = c .before .before .pre in
-    walk-start _ _ _ _ _ _ _ _ _ _ _ (c .begin .ensures) (pre .1) (pre .3) (pre .4) (pre .6) (pre .7)
+    walk-start _ _ _ _ _ _ _ _ _ (c .begin .ensures) (pre .1) (pre .3) (pre .4)
 
 is-over-requires : tie.Need-is-over-requires Inv-loop μ-loop
 is-over-requires c κs = c .loop .inv .inside
@@ -36,8 +34,8 @@ returns c =
     let over = c .before .before .before in
     let at = over .before .before in
     let pre = at .before .before .before .pre in
-    let d = walk-over _ _ _ _ _ _ _ _ _ _ _ _ _ _ _ (at .loop .inv) (over .before .is-over .ensures .0 (over .if1 .taken)) _ (c .before .has-gap .ensures .1) _ (c .finish .ensures) (pre .2) in
-    (d .read, (d .next, (d .inside, at .loop .inv .same)))
+    let d = walk-over _ _ _ _ _ _ _ _ _ _ _ _ (at .loop .inv) (over .before .is-over .ensures .0 (over .if1 .taken)) _ (c .before .has-gap .ensures .1) _ (c .finish .ensures) (pre .2) in
+    (d .read, (d .next, d .inside))
 
 size-at-requires : tie.Need-size-at-requires Inv-loop μ-loop
 size-at-requires c κs = c .before .before .loop .inv .inside
@@ -51,7 +49,7 @@ take-use-requires c κs =
 returns-2 : tie.Need-returns-2 Inv-loop μ-loop
 returns-2 c =
     let at = c .before .before .before .before .before .before in
-    (walk-refused _ _ _ _ _ _ _ _ _ _ _ _ _ _ _ (at .loop .inv) _ _ _ (c .before .take-use .ensures) (c .if2 .taken), ((λ z. absurd (c .if2 .taken z)), (at .loop .inv .inside, at .loop .inv .same)))
+    (walk-refused _ _ _ _ _ _ _ _ _ _ _ _ (at .loop .inv) _ _ _ (c .before .take-use .ensures) (c .if2 .taken), ((λ z. absurd (c .if2 .taken z)), at .loop .inv .inside))
 
 shared-slice-read-wide : tie.Need-shared-slice-read-wide Inv-loop μ-loop
 shared-slice-read-wide c =
@@ -79,51 +77,29 @@ loop-again : tie.Need-loop-again Inv-loop μ-loop
 loop-again c =
     let taken = c .before .before .before .before in
     let at = taken .before .before .before .before .before in
-    walk-rule _ _ _ _ _ _ _ _ _ _ _ _ _ _ _ (at .loop .inv) _ _ _ (taken .take-use .ensures) (omega arith) (omega arith)
-
-add-begin : tie.Need-add-begin Inv-loop μ-loop
-add-begin c = omega (arith, c .before .before .before .before .take-use .ensures .whole (omega arith) .inside)
-
-add-end : tie.Need-add-end Inv-loop μ-loop
-add-end c = omega (arith, c .before .before .before .before .take-use .ensures .whole (omega arith) .inside)
-
-sub-narrow : tie.Need-sub-narrow Inv-loop μ-loop
-sub-narrow c = omega (arith, c .before .before .before .before .take-use .ensures .whole (omega arith) .inside)
-
-part-narrow-start : tie.Need-part-narrow-start Inv-loop μ-loop
-part-narrow-start c = omega (arith, c .before .before .before .before .take-use .ensures .whole (omega arith) .inside)
-
-part-narrow-end : tie.Need-part-narrow-end Inv-loop μ-loop
-part-narrow-end c = omega (arith, c .before .before .before .before .take-use .ensures .whole (omega arith) .inside)
-
-narrow-requires : tie.Need-narrow-requires Inv-loop μ-loop
-narrow-requires c κs =
-    let other = c .before .before .before .before in
-    let fine = other .before .before .before in
-    let taken = fine .before in
-    let j = taken .take-use .ensures in
-    let at = taken .before .before .before .before .before in
-    let start = at .before .before .before in
-    let k = part-ready _ _ _ _ (j .whole (fine .if2 .left)) (part-body (start .args .table .now) (at .loop .at) (taken .before .before .size-at .result)) (j .form (fine .if2 .left) (j .kinds (fine .if2 .left) (λ e. other .if3 .left (other .before .wide .ensures .0 ∙ e)))) in
-    (start .pre .5, k .0, k .1, k .2, at .loop .inv .same .long)
+    walk-rule _ _ _ _ _ _ _ _ _ _ _ _ (at .loop .inv) _ _ _ (taken .take-use .ensures) (omega arith) (omega arith)
 
 add-c : tie.Need-add-c Inv-loop μ-loop
 add-c c =
-    let taken = c .before .before .before .before .before .before .before .before .before in
+    let taken = c .before .before .before .before in
     omega (arith, taken .take-use .ensures .whole (omega arith) .inside, taken .before .before .before .before .before .loop .inv .conditions)
 
+add-at-3 : tie.Need-add-at-3 Inv-loop μ-loop
+add-at-3 c = omega (arith, c .before .before .before .before .take-use .ensures .whole (omega arith) .inside)
+
+add-at-4 : tie.Need-add-at-4 Inv-loop μ-loop
+add-at-4 c = omega (arith, c .before .before .before .before .take-use .ensures .whole (omega arith) .inside)
+
 loop-less-2 : tie.Need-loop-less-2 Inv-loop μ-loop
-loop-less-2 c = omega (arith, c .before .before .before .before .before .before .before .before .before .take-use .ensures .whole (omega arith) .inside)
+loop-less-2 c = omega (arith, c .before .before .before .before .take-use .ensures .whole (omega arith) .inside)
 
 loop-again-2 : tie.Need-loop-again-2 Inv-loop μ-loop
 loop-again-2 c =
-    let other = c .before .before .before .before .before in
+    let other = c in
     let fine = other .before .before .before in
     let taken = fine .before in
     let at = taken .before .before .before .before .before in
-    let start = at .before .before .before in
-    let part = part-body (start .args .table .now) (at .loop .at) (taken .before .before .size-at .result) in
-    walk-condition _ _ _ _ _ _ _ _ _ _ _ _ _ _ _ (at .loop .inv) _ _ _ (taken .take-use .ensures) (fine .if2 .left) _ _ (λ e. other .if3 .left (other .before .wide .ensures .0 ∙ e)) part (c .narrow .ensures .0) (c .narrow .ensures .1)
+    walk-condition _ _ _ _ _ _ _ _ _ _ _ _ (at .loop .inv) _ _ _ (taken .take-use .ensures) (fine .if2 .left) (λ e. other .if3 .left (other .before .wide .ensures .0 ∙ e))
 
 pub read-uses-spec : {M : Type 1} → statement M
 read-uses-spec =
@@ -147,12 +123,8 @@ read-uses-spec =
     add-at-2
     loop-less
     loop-again
-    add-begin
-    add-end
-    sub-narrow
-    part-narrow-start
-    part-narrow-end
-    narrow-requires
     add-c
+    add-at-3
+    add-at-4
     loop-less-2
     loop-again-2)
