@@ -9,7 +9,7 @@ use Rattle.meaning.specs.Grammar.{Function, const, copy, sum, diff, prod
 use Rattle.meaning.specs.Value.{lowest, highest, inRange, mark, quotient, apply, holds}
 
 -- negsuc n is -(n + 1)
-range-ends : map inRange (negsuc 2147483648 ∷ negsuc 2147483647 ∷ negsuc 0 ∷ pos 0 ∷ pos 2147483647 ∷ pos 2147483648 ∷ []) ≡ false ∷ true ∷ true ∷ true ∷ true ∷ false ∷ []
+range-ends : map inRange (negsuc 1000000000000 ∷ negsuc 999999999999 ∷ negsuc 0 ∷ pos 0 ∷ pos 1000000000000 ∷ pos 1000000000001 ∷ []) ≡ false ∷ true ∷ true ∷ true ∷ true ∷ false ∷ []
 range-ends = refl
 
 -- the lowest 64-bit number, -2^63, and it is no value
@@ -60,11 +60,11 @@ quotients : map computed (quot 0 (pos 2) ∷ quot 1 (pos 2) ∷ quot 0 (pos 1) �
 unfolding vals computed
 quotients = refl
 
-quotient-of-ends : map (λ a. quotient a (pos 1000000)) (lowest ∷ highest ∷ []) ≡ negsuc 2146 ∷ pos 2147 ∷ []
+quotient-of-ends : map (λ a. quotient a (pos 1000000)) (lowest ∷ highest ∷ []) ≡ negsuc 999999 ∷ pos 1000000 ∷ []
 quotient-of-ends = refl
 
 -- exact, in range or not
-products-of-ends : apply (λ k. getD (lowest ∷ highest ∷ []) k (pos 0)) (prod 0 0) ≡ pos 4611686018427387904
+products-of-ends : apply (λ k. getD (lowest ∷ highest ∷ []) k (pos 0)) (prod 0 0) ≡ pos 1000000000000000000000000
 products-of-ends = refl
 
 -- both bounds belong to a range

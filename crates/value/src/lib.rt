@@ -16,10 +16,10 @@ ghost use Rattle.value.specs.Ranged.{ranged};
 // 01: "the mark is the lowest 64-bit number".
 pub const MARK: i64 = i64::MIN;
 
-// 01: "Values are signed 32-bit": the one place in code where their limits stand.
-const LOWEST: i64 = -2147483648;
+// 02 (d): the one place in code where the limits of values stand.
+const LOWEST: i64 = -1000000000000;
 
-const HIGHEST: i64 = 2147483647;
+const HIGHEST: i64 = 1000000000000;
 
 // Two numbers further from 0 than this have a product that is no value; where one is not, the product fits an i64.
 const NEAR: i64 = 1000000;

@@ -204,7 +204,7 @@ impl Pair {
             *register = match r.below(4) {
                 0 => MARK,
                 1 => r.number() as i64,
-                2 => i32::MAX as i64 + r.below(2) as i64,
+                2 => 1_000_000_000_000 + r.below(2) as i64,
                 _ => r.value() as i64,
             };
         }
