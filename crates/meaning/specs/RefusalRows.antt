@@ -7,7 +7,7 @@ use lib.ListN.{replicate}
 use lib.IntN.{ℤ, pos, negsuc}
 use Rattle.meaning.specs.Grammar.{terminal, nonterminal, const, copy, addc, range, Grammar}
 use Rattle.meaning.specs.Calls.{Called, more, value, refused, closedRecord, openOf, feedOf, finishOf}
-use Rattle.meaning.specs.Words.{words, occ, rule}
+use Rattle.meaning.specs.Words.{words, p0, p1, p2, occ, rule}
 use Rattle.meaning.specs.SchemeRows.{wide}
 use Rattle.meaning.specs.CallRows.{m, state, stacks, called, used, thenFeed, thenFinish}
 
@@ -110,8 +110,12 @@ too-low = refl
 great-enough : thenFeed (sums (pos 999999999999) (pos 1)) (0 ∷ []) (openOf (sums (pos 999999999999) (pos 1)) (used 4 4)) ≡ called (more 8) (state true 1 8 2 1) (stacks (pos 1000000000000 ∷ pos 1000000000000 ∷ m ∷ m ∷ []) (32769 ∷ 0 ∷ 0 ∷ 0 ∷ []))
 great-enough = refl
 
+-- 01's grammar of words and tags with a count that starts at c
+abbrev counted : ℤ → Grammar
+counted c = record { terminals = 3; counts = words .counts; start = 0; result = 1; productions = p0 ∷ p1 ∷ p2 ∷ record { left = 1; right = []; rules = rule (occ 0 2) (const c) ∷ []; conditions = [] } ∷ [] }
+
 -- 02 (d): "A count that starts at 2,147,483,647 now gives 2,147,483,648 after one word"
-past-32-bits : thenFeed (sums (pos 2147483647) (pos 1)) (0 ∷ []) (openOf (sums (pos 2147483647) (pos 1)) (used 4 4)) ≡ called (more 8) (state true 1 8 2 1) (stacks (pos 2147483648 ∷ pos 2147483648 ∷ m ∷ m ∷ []) (32769 ∷ 0 ∷ 0 ∷ 0 ∷ []))
+past-32-bits : thenFinish (counted (pos 2147483647)) (thenFeed (counted (pos 2147483647)) (0 ∷ []) (openOf (counted (pos 2147483647)) (used 8 5))) .answer ≡ value (pos 2147483648) 14
 past-32-bits = refl
 
 -- a constant too

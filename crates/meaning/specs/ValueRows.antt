@@ -3,7 +3,7 @@ use Prim.Native.Nat.{ℕ, _-_, _*_}
 use mathlib.Core.Path.{_≡_, refl}
 use mathlib.Core.Bool.{true, false}
 use mathlib.Core.List.{[], _∷_, map}
-use lib.ListN.{getD}
+use lib.ListN.{getD, replicate}
 use lib.IntN.{ℤ, pos, negsuc}
 use Rattle.meaning.specs.Grammar.{Function, const, copy, sum, diff, prod, maxi, mini, addc, quot, range, atmost}
 use Rattle.meaning.specs.Value.{lowest, highest, inRange, mark, quotient, apply, holds}
@@ -63,9 +63,28 @@ quotients = refl
 quotient-of-ends : map (λ a. quotient a (pos 1000000)) (lowest ∷ highest ∷ []) ≡ negsuc 999999 ∷ pos 1000000 ∷ []
 quotient-of-ends = refl
 
--- exact, in range or not
-products-of-ends : apply (λ k. getD (lowest ∷ highest ∷ []) k (pos 0)) (prod 0 0) ≡ pos 1000000000000000000000000
-products-of-ends = refl
+-- the limits and some numbers whose products they are: 10001 * 99990001 is 1,000,000,000,001
+limits : ℕ → ℤ
+limits k = getD (lowest ∷ highest ∷ pos 1 ∷ negsuc 0 ∷ pos 1000000 ∷ negsuc 999999 ∷ pos 10001 ∷ pos 99990001 ∷ negsuc 99990000 ∷ []) k (pos 0)
+
+-- 1,000,000 by 1,000,000 and -1,000,000,000,000 by -1, and their opposites; the limits themselves
+at-limits : map (apply limits) (prod 4 4 ∷ prod 0 3 ∷ prod 4 5 ∷ prod 1 3 ∷ copy 1 ∷ copy 0 ∷ []) ≡ highest ∷ highest ∷ lowest ∷ lowest ∷ highest ∷ lowest ∷ []
+unfolding limits
+at-limits = refl
+
+-- exact, in range or not: one past each limit by sum, diff, prod and addc
+past-highest : map (apply limits) (sum 1 2 ∷ diff 1 3 ∷ prod 6 7 ∷ addc 1 (pos 1) ∷ []) ≡ replicate 4 (pos 1000000000001)
+unfolding limits
+past-highest = refl
+
+past-lowest : map (apply limits) (sum 0 3 ∷ diff 0 2 ∷ prod 6 8 ∷ addc 0 (negsuc 0) ∷ []) ≡ replicate 4 (negsuc 1000000000000)
+unfolding limits
+past-lowest = refl
+
+-- 10^24 and -10^24, past 64 bits
+products-of-limits : map (apply limits) (prod 0 0 ∷ prod 0 1 ∷ []) ≡ pos 1000000000000000000000000 ∷ negsuc 999999999999999999999999 ∷ []
+unfolding limits
+products-of-limits = refl
 
 -- both bounds belong to a range
 ranges : map (holds vals) (range 0 (pos 7) (pos 7) ∷ range 0 (pos 0) (pos 6) ∷ range 0 (pos 8) (pos 9) ∷ range 1 (negsuc 6) (pos 0) ∷ range 1 (negsuc 5) (pos 0) ∷ range 1 (negsuc 9) (negsuc 6) ∷ range 1 (negsuc 9) (negsuc 7) ∷ []) ≡ true ∷ false ∷ false ∷ true ∷ false ∷ true ∷ false ∷ []

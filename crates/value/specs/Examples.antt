@@ -41,7 +41,11 @@ difference-out = refl
 lowest-product : ranged (computed 4 (pos 1000000) (negsuc 999999)) ≡ lowest
 lowest-product = refl
 
-product-out : ranged (computed 4 (pos 1000000) (pos 1000001)) ≡ mark
+highest-product : ranged (computed 4 lowest (negsuc 0)) ≡ highest
+highest-product = refl
+
+-- one past the limit, 10001 * 99990001, and its opposite
+product-out : map (λ b. ranged (computed 4 (pos 10001) b)) (pos 99990001 ∷ negsuc 99990000 ∷ []) ≡ mark ∷ mark ∷ []
 product-out = refl
 
 -- 02 (d): "a product too large for 64 bits is still a 23"; 2 ^ 32 * 2 ^ 32 would be 0 there
