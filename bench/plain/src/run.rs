@@ -62,7 +62,7 @@ impl Machine<'_> {
             5 => a().max(b()),
             6 => a().min(b()),
             7 => a() + signed(c),
-            _ => a() / signed(c),
+            _ => (2 * a() + signed(c)).div_euclid(2 * signed(c)),
         };
         in_range(v).then_some(v)
     }

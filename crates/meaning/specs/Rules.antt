@@ -68,7 +68,7 @@ fourBytes c = leZ lowestConstant c && leZ c highestConstant
 abbrev pub InFourBytes : ℤ → Type 0
 InFourBytes c = T (leZ lowestConstant c) × T (leZ c highestConstant)
 
--- 01: "quot a c, toward zero, c from 1 to 1,000,000"
+-- 01: "quot a c, toward zero, c from 1 to 1,000,000"; to the nearest since 02 (f)
 abbrev pub Constant : {O : Type 0} → Function O → Type 0
 Constant (const c) = InFourBytes c
 Constant (copy a) = Unit {0}

@@ -6,7 +6,7 @@ use mathlib.Core.List.{[], _∷_, map}
 use lib.ListN.{getD, replicate}
 use lib.IntN.{ℤ, pos, negsuc}
 use Rattle.meaning.specs.Grammar.{Function, const, copy, sum, diff, prod, maxi, mini, addc, quot, range, atmost}
-use Rattle.meaning.specs.Value.{lowest, highest, inRange, mark, quotient, apply, holds}
+use Rattle.meaning.specs.Value.{lowest, highest, inRange, mark, nearest, quotient, apply, holds}
 
 -- negsuc n is -(n + 1)
 range-ends : map inRange (negsuc 1000000000000 ∷ negsuc 999999999999 ∷ negsuc 0 ∷ pos 0 ∷ pos 1000000000000 ∷ pos 1000000000001 ∷ []) ≡ false ∷ true ∷ true ∷ true ∷ true ∷ false ∷ []
@@ -55,13 +55,35 @@ additions : map computed (addc 0 (pos 3) ∷ addc 0 (negsuc 9) ∷ addc 1 (pos 3
 unfolding vals computed
 additions = refl
 
--- toward zero
-quotients : map computed (quot 0 (pos 2) ∷ quot 1 (pos 2) ∷ quot 0 (pos 1) ∷ quot 1 (pos 1) ∷ quot 0 (pos 7) ∷ quot 1 (pos 7) ∷ quot 0 (pos 8) ∷ quot 1 (pos 1000000) ∷ []) ≡ pos 3 ∷ negsuc 2 ∷ pos 7 ∷ negsuc 6 ∷ pos 1 ∷ negsuc 0 ∷ pos 0 ∷ pos 0 ∷ []
+-- to the nearest, halves upward, on 7 and -7
+quotients : map computed (quot 0 (pos 2) ∷ quot 1 (pos 2) ∷ quot 0 (pos 1) ∷ quot 1 (pos 1) ∷ quot 0 (pos 7) ∷ quot 1 (pos 7) ∷ quot 0 (pos 8) ∷ quot 1 (pos 1000000) ∷ []) ≡ pos 4 ∷ negsuc 2 ∷ pos 7 ∷ negsuc 6 ∷ pos 1 ∷ negsuc 0 ∷ pos 1 ∷ pos 0 ∷ []
 unfolding vals computed
 quotients = refl
 
-quotient-of-ends : map (λ a. quotient a (pos 1000000)) (lowest ∷ highest ∷ []) ≡ negsuc 999999 ∷ pos 1000000 ∷ []
-quotient-of-ends = refl
+-- 02 (f): "so 5 by 2 is 3 and minus 5 by 2 is minus 2": of 1 to 4 only 3, of -4 to -1 only -2
+five-halves : map (nearest (pos 5) 2) (pos 1 ∷ pos 2 ∷ pos 3 ∷ pos 4 ∷ []) ≡ false ∷ false ∷ true ∷ false ∷ []
+five-halves = refl
+
+minus-five-halves : map (nearest (negsuc 4) 2) (negsuc 3 ∷ negsuc 2 ∷ negsuc 1 ∷ negsuc 0 ∷ []) ≡ false ∷ false ∷ true ∷ false ∷ []
+minus-five-halves = refl
+
+-- 5, -5, 1, -1, 3 and -3 by 2
+halves : map (λ a. quotient a (pos 2)) (pos 5 ∷ negsuc 4 ∷ pos 1 ∷ negsuc 0 ∷ pos 3 ∷ negsuc 2 ∷ []) ≡ pos 3 ∷ negsuc 1 ∷ pos 1 ∷ pos 0 ∷ pos 2 ∷ negsuc 0 ∷ []
+halves = refl
+
+-- 1, -1, 2 and -2 by 3
+thirds : map (λ a. quotient a (pos 3)) (pos 1 ∷ negsuc 0 ∷ pos 2 ∷ negsuc 1 ∷ []) ≡ pos 0 ∷ pos 0 ∷ pos 1 ∷ negsuc 0 ∷ []
+thirds = refl
+
+-- both limits by 1, by 2 and by 1,000,000; one short of them by 2 and by 1,000,000
+lowest-divided : map (quotient lowest) (pos 1 ∷ pos 2 ∷ pos 1000000 ∷ []) ≡ lowest ∷ negsuc 499999999999 ∷ negsuc 999999 ∷ []
+lowest-divided = refl
+
+highest-divided : map (quotient highest) (pos 1 ∷ pos 2 ∷ pos 1000000 ∷ []) ≡ highest ∷ pos 500000000000 ∷ pos 1000000 ∷ []
+highest-divided = refl
+
+short-divided : map (λ a. map (quotient a) (pos 2 ∷ pos 1000000 ∷ [])) (negsuc 999999999998 ∷ pos 999999999999 ∷ []) ≡ (negsuc 499999999998 ∷ negsuc 999999 ∷ []) ∷ (pos 500000000000 ∷ pos 1000000 ∷ []) ∷ []
+short-divided = refl
 
 -- the limits and some numbers whose products they are: 10001 * 99990001 is 1,000,000,000,001
 limits : ℕ → ℤ

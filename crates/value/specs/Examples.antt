@@ -18,7 +18,7 @@ both-negative : map (λ (f : ℕ). ranged (computed f (negsuc 2) (negsuc 4))) (2
     ≡ negsuc 7 ∷ pos 2 ∷ pos 15 ∷ negsuc 2 ∷ negsuc 4 ∷ negsuc 7 ∷ []
 both-negative = refl
 
-quotient-up : ranged (computed 8 (pos 7) (pos 2)) ≡ pos 3
+quotient-up : ranged (computed 8 (pos 7) (pos 2)) ≡ pos 4
 quotient-up = refl
 
 quotient-small : ranged (computed 8 (negsuc 0) (pos 1000000)) ≡ pos 0

@@ -9,18 +9,23 @@ use lib.Signed.{leZ, mag}
 use mir.Syntax.{w64}
 use mir.Val.{SFits}
 use Rattle.meaning.specs.Grammar.{Function}
-use Rattle.meaning.specs.Value.{apply, inRange, lowest, highest, mark, pick}
+use Rattle.meaning.specs.Value.{apply, inRange, lowest, mark, pick, quotient}
 use Rattle.meaning.specs.Calls.{isMark}
+use Rattle.theory_base.specs.Members.{T→true, true→T}
+use Rattle.theory_base.specs.Quotients.{value-size, quotient-size, quotient-ranged}
 use Rattle.value.specs.Ranged.{ranged, pick-in}
 use Rattle.value.specs.Computed.{larger, smaller, computed, numberOf, firstOperand, secondOperand, apply-computed}
-use Rattle.value.specs.Sizes.{natAbs-add, natAbs-sub, quotient-size, inside}
+use Rattle.value.specs.Sizes.{natAbs-add, natAbs-sub}
 
 -- no value has a larger size
 abbrev pub reach : ℕ
 reach = natAbs lowest
 
 pub in-range-size : (z : ℤ) → inRange z ≡ true → natAbs z ≤ reach
-in-range-size z e = inside z (mag lowest) (mag highest) (omega arith) e
+in-range-size z e = value-size z (true→T (inRange z) e)
+
+pub quotient-in : (a c : ℤ) → inRange a ≡ true → inRange (quotient a c) ≡ true
+quotient-in a c e = T→true (inRange (quotient a c)) (quotient-ranged a c (true→T (inRange a) e))
 
 pub large-out : (z : ℤ) → reach < natAbs z → inRange z ≡ false
 large-out z h = is-no (inRange z) (λ e. clash (natAbs z) (in-range-size z e) h)
