@@ -41,8 +41,8 @@ const TOLD: &[(&str, &str, &str)] = &[
     ),
     (
         "sheet",
-        "limit nine nine nine nine nine nine nine nine nine nine",
-        "refused 23 after 10, at token 11, `nine`: a value outside 32 bits, by a rule of the production on line 116",
+        "limit nine nine nine nine nine nine nine nine nine nine nine nine nine",
+        "refused 23 after 13, at token 14, `nine`: a value outside -1,000,000,000,000 to 1,000,000,000,000, by a rule of the production on line 116",
     ),
 ];
 
