@@ -41,6 +41,10 @@ fn signed(word: u32) -> i64 {
     word as i32 as i64
 }
 
+fn in_range(v: i64) -> bool {
+    (-1_000_000_000_000..=1_000_000_000_000).contains(&v)
+}
+
 impl Machine<'_> {
     fn register(&self, selector: u32) -> i64 {
         self.registers[self.rh - selector as usize]
@@ -54,13 +58,13 @@ impl Machine<'_> {
             1 => a(),
             2 => a() + b(),
             3 => a() - b(),
-            4 => a() * b(),
+            4 => a().checked_mul(b())?,
             5 => a().max(b()),
             6 => a().min(b()),
             7 => a() + signed(c),
-            _ => a() / signed(c),
+            _ => (2 * a() + signed(c)).div_euclid(2 * signed(c)),
         };
-        (v == v as i32 as i64).then_some(v)
+        in_range(v).then_some(v)
     }
 
     fn holds(&self, at: usize) -> bool {
@@ -235,7 +239,7 @@ fn fits(o: &Outline, r: &Record, registers: &[i64], places: &[u32]) -> bool {
     if registers[rh..].iter().any(|&v| v != MARK) || places[ph..].iter().any(|&p| p != 0) {
         return false;
     }
-    let value = |v: i64| v == v as i32 as i64;
+    let value = in_range;
     let mut at = 0;
     let mut take = |n: usize, valued: bool| {
         if rh - at < n {

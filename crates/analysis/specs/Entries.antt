@@ -1,5 +1,5 @@
 -- Entry conditions as one interval for each production and attribute, and when the conditions of two productions can hold together.
--- Bounds are kept as words that order as the values do: the value plus 2,147,483,648.
+-- Bounds are kept as words that order as they do: the bound plus 2,147,483,648. A bound has four bytes; a value may have more.
 use Prim.Native.Nat.{ℕ, zero, suc, _+_, _-_, _*_, _≤_, _<_, min, max}
 use native.Mathlib.Omega.{arith}
 use mathlib.Core.Path.{_≡_, sym, _∙_}
@@ -12,14 +12,13 @@ use lib.ListN.{getD, length}
 use lib.Signed.{leZ}
 use Rattle.meaning.specs.Base.{all, countFrom, isEmpty}
 use Rattle.meaning.specs.Grammar.{Condition, range, atmost, Grammar, productionAt, nonterminal, inh}
-use Rattle.meaning.specs.Value.{inRange, lowest, highest}
 use Rattle.meaning.specs.Scheme.{entryTests}
 use Rattle.meaning.specs.Derivation.{Listed}
 use Rattle.meaning.specs.Decide.{compatible, satisfiable}
 use Rattle.theory_base.specs.Members.{and, both, or-cases, or-left, or-right}
 use Rattle.theory_sets.specs.Tests.{decide, all-at, all-map, all-map₂}
 use Rattle.theory_sets.specs.Intervals.{onRange, entry, entered}
-use Rattle.meaning.specs.Rules.{WellFormed}
+use Rattle.meaning.specs.Rules.{WellFormed, lowestConstant, highestConstant, fourBytes}
 use Rattle.theory_sets.specs.Widths.{both-true}
 use Rattle.analysis.specs.Numbers.{all-count, count-all}
 
@@ -28,7 +27,7 @@ all-intro : {A : Type 0} (f : A → Bool) (xs : List A) (d : A) → ((i : ℕ) �
 all-intro f [] d k = tt
 all-intro f (x ∷ xs) d k = and (f x) (all f xs) (k 0 (omega arith)) (all-intro f xs d (λ i l. k (suc i) (omega arith)))
 
--- a value of 32 bits as a word
+-- a bound as a word
 unfoldable pub biased : ℤ → ℕ
 biased (pos n) = n + 2147483648
 biased (negsuc n) = 2147483647 - n
@@ -53,23 +52,23 @@ pub record Entries (lows highs flags : List ℕ) (g : Grammar) : Type 0 where
   pub flag : (p : ℕ) → Listed g p → eqb (getD flags p 0) 0 ≡ isEmpty (entryTests g (productionAt g p))
 
 -- ---- the order of biased words
-pub biased-le : (a b : ℤ) → T (inRange a) → T (inRange b) → T (leZ a b) → biased a ≤ biased b
+pub biased-le : (a b : ℤ) → T (fourBytes a) → T (fourBytes b) → T (leZ a b) → biased a ≤ biased b
 unfolding biased
 biased-le (pos a) (pos b) i j t = let l = leb→le a b t in omega arith
 biased-le (pos a) (negsuc b) i j t = absurd t
 biased-le (negsuc a) (pos b) i j t = omega arith
 biased-le (negsuc a) (negsuc b) i j t = let l = leb→le b a t in omega arith
 
-pub le-biased : (a b : ℤ) → T (inRange a) → T (inRange b) → biased a ≤ biased b → T (leZ a b)
+pub le-biased : (a b : ℤ) → T (fourBytes a) → T (fourBytes b) → biased a ≤ biased b → T (leZ a b)
 unfolding biased
 le-biased (pos a) (pos b) i j h = le→leb a b (omega arith)
 le-biased (pos a) (negsuc b) i j h = absurd (omega arith)
 le-biased (negsuc a) (pos b) i j h = tt
-le-biased (negsuc a) (negsuc b) i j h = le→leb b a (let m = leb→le a 2147483647 (both (leZ lowest (negsuc a)) (leZ (negsuc a) highest) i .0) in let n = leb→le b 2147483647 (both (leZ lowest (negsuc b)) (leZ (negsuc b) highest) j .0) in omega arith)
+le-biased (negsuc a) (negsuc b) i j h = le→leb b a (let m = leb→le a 2147483647 (both (leZ lowestConstant (negsuc a)) (leZ (negsuc a) highestConstant) i .0) in let n = leb→le b 2147483647 (both (leZ lowestConstant (negsuc b)) (leZ (negsuc b) highestConstant) j .0) in omega arith)
 
-pub biased-word : (a : ℤ) → T (inRange a) → biased a ≤ 4294967295
+pub biased-word : (a : ℤ) → T (fourBytes a) → biased a ≤ 4294967295
 unfolding biased
-biased-word (pos a) i = let m = leb→le a 2147483647 (both (leZ lowest (pos a)) (leZ (pos a) highest) i .1) in omega arith
+biased-word (pos a) i = let m = leb→le a 2147483647 (both (leZ lowestConstant (pos a)) (leZ (pos a) highestConstant) i .1) in omega arith
 biased-word (negsuc a) i = omega arith
 
 -- ---- conditions one after another
@@ -162,7 +161,7 @@ off a b x k = go (decide (eqb a b))
 
 module _ (k : ℕ) (cs : List (Condition ℕ)) (fits : T (all (entry k) cs)) where
   -- one condition bounds the low ends of those that agree with it
-  bounds : (a b : ℕ) (m i : ℤ) → T (eqb a b) → T (inRange i) → (c : Condition ℕ) → T (entry k c) → T (compatible (range b m i) c) → T (onRange a (λ l h. leb (biased l) (biased i)) c)
+  bounds : (a b : ℕ) (m i : ℤ) → T (eqb a b) → T (fourBytes i) → (c : Condition ℕ) → T (entry k c) → T (compatible (range b m i) c) → T (onRange a (λ l h. leb (biased l) (biased i)) c)
   bounds a b m i e v (range d l h) f t = off a d (leb (biased l) (biased i)) at
     where
       at : T (eqb a d) → T (leb (biased l) (biased i))
@@ -190,7 +189,7 @@ module _ (k : ℕ) (cs : List (Condition ℕ)) (fits : T (all (entry k) cs)) whe
       each (atmost b c) f u = tt
 
   module _ (meets : (a : ℕ) → 0 < a → a ≤ k → lowEnd a cs ≤ highEnd a cs) where
-    below : (a : ℕ) (l i : ℤ) → 0 < a → a ≤ k → T (inRange l) → T (inRange i) → T (onRange a (λ x y. leb (biased x) (lowEnd a cs)) (range a l l)) → T (onRange a (λ x y. leb (highEnd a cs) (biased y)) (range a i i)) → T (leZ l i)
+    below : (a : ℕ) (l i : ℤ) → 0 < a → a ≤ k → T (fourBytes l) → T (fourBytes i) → T (onRange a (λ x y. leb (biased x) (lowEnd a cs)) (range a l l)) → T (onRange a (λ x y. leb (highEnd a cs) (biased y)) (range a i i)) → T (leZ l i)
     below a l i p q v w s t =
         let x = leb→le (biased l) (lowEnd a cs) (on-same a a (leb (biased l) (lowEnd a cs)) (eqb-refl a) s) in
         let y = leb→le (highEnd a cs) (biased i) (on-same a a (leb (highEnd a cs) (biased i)) (eqb-refl a) t) in

@@ -25,12 +25,12 @@ finish-refusals = refl
 table-refusals : map (numbers (λ k. tableRefused k 0)) (openingAnswer ∷ callAnswer (feed []) ∷ callAnswer finish ∷ []) ≡ (countFrom 1 13) ∷ (countFrom 1 13) ∷ (countFrom 1 13) ∷ []
 table-refusals = refl
 
--- opened with 0 moves, fed with any number, finished with a value of 32 bits
+-- opened with 0 moves, fed with any number, finished with a value in range
 going-on : map openingAnswer (more 0 ∷ more 1 ∷ value (pos 0) 0 ∷ []) ≡ true ∷ false ∷ false ∷ []
 going-on = refl
 
 fed : map (callAnswer (feed [])) (more 9 ∷ value (pos 0) 0 ∷ []) ≡ true ∷ false ∷ []
 fed = refl
 
-finished : map (callAnswer finish) (more 9 ∷ value (pos 2147483647) 9 ∷ value (pos 2147483648) 9 ∷ []) ≡ false ∷ true ∷ false ∷ []
+finished : map (callAnswer finish) (more 9 ∷ value (pos 1000000000000) 9 ∷ value (pos 1000000000001) 9 ∷ []) ≡ false ∷ true ∷ false ∷ []
 finished = refl

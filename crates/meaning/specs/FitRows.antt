@@ -92,7 +92,7 @@ not-alone : map (λ ps. stacksFit words (state true 0 0 1 2) (stacks (pos 4 ∷ 
 not-alone = refl
 
 -- its values stand, and no more
-start-left-values : map (λ v. stacksFit words (state true 0 0 1 1) (stacks (v ∷ []) (32769 ∷ []))) (pos 0 ∷ m ∷ pos 2147483648 ∷ []) ≡ true ∷ false ∷ false ∷ []
+start-left-values : map (λ v. stacksFit words (state true 0 0 1 1) (stacks (v ∷ []) (32769 ∷ []))) (pos 0 ∷ m ∷ pos 1000000000001 ∷ []) ≡ true ∷ false ∷ false ∷ []
 start-left-values = refl
 
 start-left-heights : map (λ n. stacksFit words (state true 0 0 n 1) (stacks (pos 4 ∷ pos 4 ∷ []) (32769 ∷ []))) (0 ∷ 1 ∷ 2 ∷ []) ≡ false ∷ false ∷ false ∷ []
@@ -105,11 +105,11 @@ marked-and-valued : map (registers 7) ((pos 0 ∷ m ∷ pos 0 ∷ m ∷ pos 0 �
 marked-and-valued = refl
 
 -- only the mark is marked
-next-to-mark : map (λ v. registers 7 (v ∷ m ∷ pos 0 ∷ m ∷ pos 0 ∷ m ∷ pos 1 ∷ m ∷ [])) (m ∷ negsuc 9223372036854775806 ∷ negsuc 9223372036854775808 ∷ negsuc 2147483648 ∷ negsuc 0 ∷ []) ≡ true ∷ replicate 4 false
+next-to-mark : map (λ v. registers 7 (v ∷ m ∷ pos 0 ∷ m ∷ pos 0 ∷ m ∷ pos 1 ∷ m ∷ [])) (m ∷ negsuc 9223372036854775806 ∷ negsuc 9223372036854775808 ∷ negsuc 1000000000000 ∷ negsuc 0 ∷ []) ≡ true ∷ replicate 4 false
 next-to-mark = refl
 
 -- any value in range will do: no run leaves these
-values-in-range : map (λ v. registers 7 (m ∷ m ∷ pos 0 ∷ m ∷ pos 0 ∷ m ∷ v ∷ m ∷ [])) (pos 2147483647 ∷ negsuc 2147483647 ∷ pos 2147483648 ∷ negsuc 2147483648 ∷ []) ≡ true ∷ true ∷ false ∷ false ∷ []
+values-in-range : map (λ v. registers 7 (m ∷ m ∷ pos 0 ∷ m ∷ pos 0 ∷ m ∷ v ∷ m ∷ [])) (pos 1000000000000 ∷ negsuc 999999999999 ∷ pos 1000000000001 ∷ negsuc 1000000000000 ∷ []) ≡ true ∷ true ∷ false ∷ false ∷ []
 values-in-range = refl
 
 one-too-many : registers 8 (after-open ++ (pos 1 ∷ [])) ≡ false

@@ -7,7 +7,7 @@ use lib.ListN.{replicate}
 use lib.IntN.{ℤ, pos, negsuc}
 use Rattle.meaning.specs.Grammar.{terminal, nonterminal, const, copy, addc, range, Grammar}
 use Rattle.meaning.specs.Calls.{Called, more, value, refused, closedRecord, openOf, feedOf, finishOf}
-use Rattle.meaning.specs.Words.{words, occ, rule}
+use Rattle.meaning.specs.Words.{words, p0, p1, p2, occ, rule}
 use Rattle.meaning.specs.SchemeRows.{wide}
 use Rattle.meaning.specs.CallRows.{m, state, stacks, called, used, thenFeed, thenFinish}
 
@@ -86,7 +86,7 @@ enters-none = refl
 no-second-try : thenFinish (twoWays (pos 4) (pos 1)) (openOf (twoWays (pos 4) (pos 1)) (used 5 4)) ≡ called (refused 22 0) (state false 0 8 4 3) (stacks (m ∷ m ∷ pos 4 ∷ pos 1 ∷ m ∷ []) (32768 ∷ 0 ∷ 256 ∷ 0 ∷ []))
 no-second-try = refl
 
--- ---- 23: a value outside 32 bits. S to 0 with two attributes; A to 0 hands up v
+-- ---- 23: a value outside the limits. S to 0 with two attributes; A to 0 hands up v
 
 abbrev sums : ℤ → ℤ → Grammar
 sums a b = record {
@@ -100,18 +100,26 @@ sums a b = record {
       ∷ [];
 }
 
--- evaluated all or none: the first attribute would be 2147483647, the second 2147483648
-too-great : thenFeed (sums (pos 2147483646) (pos 2)) (0 ∷ []) (openOf (sums (pos 2147483646) (pos 2)) (used 4 4)) ≡ called (refused 23 1) (state false 1 6 3 2) (stacks (m ∷ m ∷ pos 2147483646 ∷ m ∷ []) (32768 ∷ 1 ∷ 0 ∷ 0 ∷ []))
+-- evaluated all or none: the first attribute would be 1000000000000, the second 1000000000001
+too-great : thenFeed (sums (pos 999999999999) (pos 2)) (0 ∷ []) (openOf (sums (pos 999999999999) (pos 2)) (used 4 4)) ≡ called (refused 23 1) (state false 1 6 3 2) (stacks (m ∷ m ∷ pos 999999999999 ∷ m ∷ []) (32768 ∷ 1 ∷ 0 ∷ 0 ∷ []))
 too-great = refl
 
-too-low : thenFeed (sums (negsuc 2147483647) (negsuc 0)) (0 ∷ []) (openOf (sums (negsuc 2147483647) (negsuc 0)) (used 4 4)) .answer ≡ refused 23 1
+too-low : thenFeed (sums (negsuc 999999999999) (negsuc 0)) (0 ∷ []) (openOf (sums (negsuc 999999999999) (negsuc 0)) (used 4 4)) .answer ≡ refused 23 1
 too-low = refl
 
-great-enough : thenFeed (sums (pos 2147483646) (pos 1)) (0 ∷ []) (openOf (sums (pos 2147483646) (pos 1)) (used 4 4)) ≡ called (more 8) (state true 1 8 2 1) (stacks (pos 2147483647 ∷ pos 2147483647 ∷ m ∷ m ∷ []) (32769 ∷ 0 ∷ 0 ∷ 0 ∷ []))
+great-enough : thenFeed (sums (pos 999999999999) (pos 1)) (0 ∷ []) (openOf (sums (pos 999999999999) (pos 1)) (used 4 4)) ≡ called (more 8) (state true 1 8 2 1) (stacks (pos 1000000000000 ∷ pos 1000000000000 ∷ m ∷ m ∷ []) (32769 ∷ 0 ∷ 0 ∷ 0 ∷ []))
 great-enough = refl
 
+-- 01's grammar of words and tags with a count that starts at c
+abbrev counted : ℤ → Grammar
+counted c = record { terminals = 3; counts = words .counts; start = 0; result = 1; productions = p0 ∷ p1 ∷ p2 ∷ record { left = 1; right = []; rules = rule (occ 0 2) (const c) ∷ []; conditions = [] } ∷ [] }
+
+-- 02 (d): "A count that starts at 2,147,483,647 now gives 2,147,483,648 after one word"
+past-32-bits : thenFinish (counted (pos 2147483647)) (thenFeed (counted (pos 2147483647)) (0 ∷ []) (openOf (counted (pos 2147483647)) (used 8 5))) .answer ≡ value (pos 2147483648) 14
+past-32-bits = refl
+
 -- a constant too
-constant-too-great : thenFeed (sums (pos 2147483648) (pos 0)) (0 ∷ []) (openOf (sums (pos 2147483648) (pos 0)) (used 4 4)) .answer ≡ refused 23 1
+constant-too-great : thenFeed (sums (pos 1000000000001) (pos 0)) (0 ∷ []) (openOf (sums (pos 1000000000001) (pos 0)) (used 4 4)) .answer ≡ refused 23 1
 constant-too-great = refl
 
 -- the result is the attribute that the header names
@@ -252,7 +260,7 @@ last-move : feedOf words (state true 0 4294967294 1 1) (stacks (m ∷ []) (32768
 last-move = refl
 
 -- before 23: S's value would be too great
-move-limit-value : feedOf (sums (pos 2147483647) (pos 0)) (state true 0 4294967289 2 1) (stacks (m ∷ m ∷ m ∷ []) (32768 ∷ 0 ∷ 0 ∷ [])) (0 ∷ []) ≡ called (refused 35 1) (state false 1 4294967295 3 2) (stacks (m ∷ m ∷ pos 2147483647 ∷ []) (32768 ∷ 1 ∷ 0 ∷ []))
+move-limit-value : feedOf (sums (pos 1000000000000) (pos 0)) (state true 0 4294967289 2 1) (stacks (m ∷ m ∷ m ∷ []) (32768 ∷ 0 ∷ 0 ∷ [])) (0 ∷ []) ≡ called (refused 35 1) (state false 1 4294967295 3 2) (stacks (m ∷ m ∷ pos 1000000000000 ∷ []) (32768 ∷ 1 ∷ 0 ∷ []))
 move-limit-value = refl
 
 -- exactly enough moves: 8 for no tokens

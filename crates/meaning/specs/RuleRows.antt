@@ -1,10 +1,12 @@
 -- The table's rules and conditions: what they are read as, refusals 4, 5 and 7 to 10, and their order.
 use Prim.Native.Nat.{ℕ, suc}
 use mathlib.Core.Path.{_≡_, refl}
+use mathlib.Core.Bool.{true, false}
 use mathlib.Core.List.{List, [], _∷_, _++_, map}
 use lib.ListN.{replicate}
 use lib.IntN.{pos, negsuc}
 use Rattle.meaning.specs.Grammar.{const, copy, sum, diff, prod, maxi, mini, addc, quot, range, atmost, terminal, nonterminal}
+use Rattle.meaning.specs.Rules.{fourBytes}
 use Rattle.meaning.specs.Table.{readTable, signed}
 use Rattle.meaning.specs.Judgement.{Verdict, accepted, rejected}
 use Rattle.meaning.specs.Decide.{verdictOf}
@@ -38,6 +40,10 @@ functions-accepted = refl
 -- four-byte two's complement
 signs : map signed (0 ∷ 1 ∷ 2147483647 ∷ 2147483648 ∷ 4294967294 ∷ 4294967295 ∷ []) ≡ pos 0 ∷ pos 1 ∷ pos 2147483647 ∷ negsuc 2147483647 ∷ negsuc 1 ∷ negsuc 0 ∷ []
 signs = refl
+
+-- constants and bounds keep to them, though values go further
+ends-of-constants : map fourBytes (negsuc 2147483648 ∷ negsuc 2147483647 ∷ pos 2147483647 ∷ pos 2147483648 ∷ []) ≡ false ∷ true ∷ true ∷ false ∷ []
+ends-of-constants = refl
 
 -- ---- 4: lengths. The target (9, 9) is unknown: with the right length it is a 5
 

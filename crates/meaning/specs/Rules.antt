@@ -6,6 +6,7 @@ use lib.ListN.{length}
 use lib.Dec.{T}
 use lib.IntN.{ℤ, pos, negsuc}
 use lib.Signed.{leZ}
+use mathlib.Core.Bool.{Bool, _&&_}
 use Rattle.meaning.specs.Base.{In, total}
 use Rattle.meaning.specs.Grammar.{Symbol, terminal, nonterminal, Occurrence, Function, const, copy, sum, diff, prod, maxi, mini, addc, quot, Rule, Condition, range, atmost, Production, Counts, Grammar, inh, syn, att, symbolAt, nonterminalCount}
 
@@ -54,11 +55,20 @@ abbrev pub Known : Grammar → Symbol → Type 0
 Known g (terminal t) = t < g .terminals
 Known g (nonterminal n) = n < nonterminalCount g
 
--- 01: "constants and bounds are four-byte two's complement"
-abbrev pub InFourBytes : ℤ → Type 0
-InFourBytes c = T (leZ (negsuc 2147483647) c) × T (leZ c (pos 2147483647))
+-- 01: "constants and bounds are four-byte two's complement": the one place where their limits stand
+abbrev pub lowestConstant : ℤ
+lowestConstant = negsuc 2147483647
 
--- 01: "quot a c, toward zero, c from 1 to 1,000,000"
+abbrev pub highestConstant : ℤ
+highestConstant = pos 2147483647
+
+abbrev pub fourBytes : ℤ → Bool
+fourBytes c = leZ lowestConstant c && leZ c highestConstant
+
+abbrev pub InFourBytes : ℤ → Type 0
+InFourBytes c = T (leZ lowestConstant c) × T (leZ c highestConstant)
+
+-- 01: "quot a c, toward zero, c from 1 to 1,000,000"; to the nearest since 02 (f)
 abbrev pub Constant : {O : Type 0} → Function O → Type 0
 Constant (const c) = InFourBytes c
 Constant (copy a) = Unit {0}

@@ -3,13 +3,13 @@ use Prim.Native.Nat.{ℕ, _-_, _*_}
 use mathlib.Core.Path.{_≡_, refl}
 use mathlib.Core.Bool.{true, false}
 use mathlib.Core.List.{[], _∷_, map}
-use lib.ListN.{getD}
+use lib.ListN.{getD, replicate}
 use lib.IntN.{ℤ, pos, negsuc}
 use Rattle.meaning.specs.Grammar.{Function, const, copy, sum, diff, prod, maxi, mini, addc, quot, range, atmost}
-use Rattle.meaning.specs.Value.{lowest, highest, inRange, mark, quotient, apply, holds}
+use Rattle.meaning.specs.Value.{lowest, highest, inRange, mark, nearest, quotient, apply, holds}
 
 -- negsuc n is -(n + 1)
-range-ends : map inRange (negsuc 2147483648 ∷ negsuc 2147483647 ∷ negsuc 0 ∷ pos 0 ∷ pos 2147483647 ∷ pos 2147483648 ∷ []) ≡ false ∷ true ∷ true ∷ true ∷ true ∷ false ∷ []
+range-ends : map inRange (negsuc 1000000000000 ∷ negsuc 999999999999 ∷ negsuc 0 ∷ pos 0 ∷ pos 1000000000000 ∷ pos 1000000000001 ∷ []) ≡ false ∷ true ∷ true ∷ true ∷ true ∷ false ∷ []
 range-ends = refl
 
 -- the lowest 64-bit number, -2^63, and it is no value
@@ -55,17 +55,58 @@ additions : map computed (addc 0 (pos 3) ∷ addc 0 (negsuc 9) ∷ addc 1 (pos 3
 unfolding vals computed
 additions = refl
 
--- toward zero
-quotients : map computed (quot 0 (pos 2) ∷ quot 1 (pos 2) ∷ quot 0 (pos 1) ∷ quot 1 (pos 1) ∷ quot 0 (pos 7) ∷ quot 1 (pos 7) ∷ quot 0 (pos 8) ∷ quot 1 (pos 1000000) ∷ []) ≡ pos 3 ∷ negsuc 2 ∷ pos 7 ∷ negsuc 6 ∷ pos 1 ∷ negsuc 0 ∷ pos 0 ∷ pos 0 ∷ []
+-- to the nearest, halves upward, on 7 and -7
+quotients : map computed (quot 0 (pos 2) ∷ quot 1 (pos 2) ∷ quot 0 (pos 1) ∷ quot 1 (pos 1) ∷ quot 0 (pos 7) ∷ quot 1 (pos 7) ∷ quot 0 (pos 8) ∷ quot 1 (pos 1000000) ∷ []) ≡ pos 4 ∷ negsuc 2 ∷ pos 7 ∷ negsuc 6 ∷ pos 1 ∷ negsuc 0 ∷ pos 1 ∷ pos 0 ∷ []
 unfolding vals computed
 quotients = refl
 
-quotient-of-ends : map (λ a. quotient a (pos 1000000)) (lowest ∷ highest ∷ []) ≡ negsuc 2146 ∷ pos 2147 ∷ []
-quotient-of-ends = refl
+-- 02 (f): "so 5 by 2 is 3 and minus 5 by 2 is minus 2": of 1 to 4 only 3, of -4 to -1 only -2
+five-halves : map (nearest (pos 5) 2) (pos 1 ∷ pos 2 ∷ pos 3 ∷ pos 4 ∷ []) ≡ false ∷ false ∷ true ∷ false ∷ []
+five-halves = refl
 
--- exact, in range or not
-products-of-ends : apply (λ k. getD (lowest ∷ highest ∷ []) k (pos 0)) (prod 0 0) ≡ pos 4611686018427387904
-products-of-ends = refl
+minus-five-halves : map (nearest (negsuc 4) 2) (negsuc 3 ∷ negsuc 2 ∷ negsuc 1 ∷ negsuc 0 ∷ []) ≡ false ∷ false ∷ true ∷ false ∷ []
+minus-five-halves = refl
+
+-- 5, -5, 1, -1, 3 and -3 by 2
+halves : map (λ a. quotient a (pos 2)) (pos 5 ∷ negsuc 4 ∷ pos 1 ∷ negsuc 0 ∷ pos 3 ∷ negsuc 2 ∷ []) ≡ pos 3 ∷ negsuc 1 ∷ pos 1 ∷ pos 0 ∷ pos 2 ∷ negsuc 0 ∷ []
+halves = refl
+
+-- 1, -1, 2 and -2 by 3
+thirds : map (λ a. quotient a (pos 3)) (pos 1 ∷ negsuc 0 ∷ pos 2 ∷ negsuc 1 ∷ []) ≡ pos 0 ∷ pos 0 ∷ pos 1 ∷ negsuc 0 ∷ []
+thirds = refl
+
+-- both limits by 1, by 2 and by 1,000,000; one short of them by 2 and by 1,000,000
+lowest-divided : map (quotient lowest) (pos 1 ∷ pos 2 ∷ pos 1000000 ∷ []) ≡ lowest ∷ negsuc 499999999999 ∷ negsuc 999999 ∷ []
+lowest-divided = refl
+
+highest-divided : map (quotient highest) (pos 1 ∷ pos 2 ∷ pos 1000000 ∷ []) ≡ highest ∷ pos 500000000000 ∷ pos 1000000 ∷ []
+highest-divided = refl
+
+short-divided : map (λ a. map (quotient a) (pos 2 ∷ pos 1000000 ∷ [])) (negsuc 999999999998 ∷ pos 999999999999 ∷ []) ≡ (negsuc 499999999998 ∷ negsuc 999999 ∷ []) ∷ (pos 500000000000 ∷ pos 1000000 ∷ []) ∷ []
+short-divided = refl
+
+-- the limits and some numbers whose products they are: 10001 * 99990001 is 1,000,000,000,001
+limits : ℕ → ℤ
+limits k = getD (lowest ∷ highest ∷ pos 1 ∷ negsuc 0 ∷ pos 1000000 ∷ negsuc 999999 ∷ pos 10001 ∷ pos 99990001 ∷ negsuc 99990000 ∷ []) k (pos 0)
+
+-- 1,000,000 by 1,000,000 and -1,000,000,000,000 by -1, and their opposites; the limits themselves
+at-limits : map (apply limits) (prod 4 4 ∷ prod 0 3 ∷ prod 4 5 ∷ prod 1 3 ∷ copy 1 ∷ copy 0 ∷ []) ≡ highest ∷ highest ∷ lowest ∷ lowest ∷ highest ∷ lowest ∷ []
+unfolding limits
+at-limits = refl
+
+-- exact, in range or not: one past each limit by sum, diff, prod and addc
+past-highest : map (apply limits) (sum 1 2 ∷ diff 1 3 ∷ prod 6 7 ∷ addc 1 (pos 1) ∷ []) ≡ replicate 4 (pos 1000000000001)
+unfolding limits
+past-highest = refl
+
+past-lowest : map (apply limits) (sum 0 3 ∷ diff 0 2 ∷ prod 6 8 ∷ addc 0 (negsuc 0) ∷ []) ≡ replicate 4 (negsuc 1000000000000)
+unfolding limits
+past-lowest = refl
+
+-- 10^24 and -10^24, past 64 bits
+products-of-limits : map (apply limits) (prod 0 0 ∷ prod 0 1 ∷ []) ≡ pos 1000000000000000000000000 ∷ negsuc 999999999999999999999999 ∷ []
+unfolding limits
+products-of-limits = refl
 
 -- both bounds belong to a range
 ranges : map (holds vals) (range 0 (pos 7) (pos 7) ∷ range 0 (pos 0) (pos 6) ∷ range 0 (pos 8) (pos 9) ∷ range 1 (negsuc 6) (pos 0) ∷ range 1 (negsuc 5) (pos 0) ∷ range 1 (negsuc 9) (negsuc 6) ∷ range 1 (negsuc 9) (negsuc 7) ∷ []) ≡ true ∷ false ∷ false ∷ true ∷ false ∷ true ∷ false ∷ []

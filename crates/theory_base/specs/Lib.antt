@@ -1,4 +1,5 @@
 pub mod Members
+pub mod Quotients
 pub mod WellFormed
 pub mod Agree
 pub mod Selectors

@@ -1,4 +1,4 @@
--- The entry conditions of a well-formed grammar are ranges over the inherited attributes, each with its bounds in range.
+-- The entry conditions of a well-formed grammar are ranges over the inherited attributes, each with its bounds of four bytes.
 use Prim.Native.Nat.{ℕ, zero, suc, _+_, _≤_, max}
 use native.Mathlib.Omega.{arith}
 use native.Mathlib.Nat.{zero-add}
@@ -9,9 +9,8 @@ use lib.Signed.{leZ}
 use lib.Dec.{T, eqb, ltb, leb, eqb→eq, lt→ltb, le→leb}
 use Rattle.meaning.specs.Base.{all}
 use Rattle.meaning.specs.Grammar.{nonterminal, Occurrence, Condition, range, atmost, Production, Grammar, productionAt, inh, conditionPosition}
-use Rattle.meaning.specs.Value.{inRange, lowest, highest}
 use Rattle.meaning.specs.Scheme.{choose, synBetween, selectAfter, mapCondition, conditionsAt, entryTests}
-use Rattle.meaning.specs.Rules.{InputAt, Input, Reads, Proper, InFourBytes, WellFormedProduction, WellFormed}
+use Rattle.meaning.specs.Rules.{InputAt, Input, Reads, Proper, InFourBytes, WellFormedProduction, WellFormed, lowestConstant, highestConstant, fourBytes}
 use Rattle.meaning.specs.Derivation.{Listed}
 use Rattle.theory_base.specs.Members.{and, in-all, in-keep, map-in}
 use Rattle.theory_base.specs.WellFormed.{well-formed-at}
@@ -36,10 +35,10 @@ module _ (g : Grammar) (p : Production) where
   entry-fits (range o l h) t i r =
       let b = input-0 (o .position) (o .attribute) (eqb→eq (o .position) 0 t) i in
       let w = and (ltb 0 (o .attribute)) (leb (o .attribute) count) (lt→ltb 0 (o .attribute) (b .0)) (le→leb (o .attribute) count (b .1)) in
-      rw (select-0 g p o t) (and (ltb 0 (o .attribute) && leb (o .attribute) count) (inRange l && inRange h) w (and (inRange l) (inRange h) (bounded l (r .0)) (bounded h (r .1))))
+      rw (select-0 g p o t) (and (ltb 0 (o .attribute) && leb (o .attribute) count) (fourBytes l && fourBytes h) w (and (fourBytes l) (fourBytes h) (bounded l (r .0)) (bounded h (r .1))))
     where
-      bounded : (c : ℤ) → InFourBytes c → T (inRange c)
-      bounded c b = and (leZ lowest c) (leZ c highest) (b .0) (b .1)
+      bounded : (c : ℤ) → InFourBytes c → T (fourBytes c)
+      bounded c b = and (leZ lowestConstant c) (leZ c highestConstant) (b .0) (b .1)
   entry-fits (atmost o u) t i r = let e = eqb→eq (max (o .position) (u .position)) 0 t in absurd (omega arith)
 
 pub entries-fit : (g : Grammar) → WellFormed g → (p : ℕ) → Listed g p → T (all (entry (inh g (nonterminal (productionAt g p .left)))) (entryTests g (productionAt g p)))

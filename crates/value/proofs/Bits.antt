@@ -1,8 +1,12 @@
 -- A signed local holds bits: what is read back from them.
-use mathlib.Core.Path.{_≡_, refl}
+use Prim.Native.Nat.{_<_}
+use mathlib.Core.Path.{_≡_, refl, sym, subst}
 use mathlib.Core.Bool.{Bool, true, false}
 use native.Mathlib.Omega.{arith}
-use lib.IntN.{ℤ}
+use borrow.Author.Tests.{leb-true}
+use lib.Dec.{T}
+use lib.IntN.{ℤ, pos, negsuc}
+use lib.Signed.{leZ}
 use mir.Syntax.{w64}
 use mir.Facts.{toZ-ofZ}
 use mir.Val.{SFits, toZ, ofZ}
@@ -34,3 +38,14 @@ fits2 op a b p q r = rw (locals op a b p q) r
 
 pub through2 : (op : ℤ → ℤ → ℤ) (a b : ℤ) → SFits w64 a → SFits w64 b → SFits w64 (op a b) → toZ w64 (ofZ w64 (op (toZ w64 (ofZ w64 a)) (toZ w64 (ofZ w64 b)))) ≡ op a b
 through2 op a b p q r = rw (locals op a b p q) (toZ-ofZ r)
+
+-- the same with what is known of two operands as they are read back
+pub op-fits : (op : ℤ → ℤ → ℤ) {x y a b : ℤ} → x ≡ a → y ≡ b → SFits w64 (op a b) → SFits w64 (op x y)
+op-fits op e d r = rw (e, d) r
+
+pub op-back : (op : ℤ → ℤ → ℤ) {x y a b : ℤ} → x ≡ a → y ≡ b → SFits w64 (op a b) → toZ w64 (ofZ w64 (op x y)) ≡ op a b
+op-back op e d r = rw (e, d) (toZ-ofZ r)
+
+pub positive-bits : (d : ℤ) → leZ (pos 1) d ≡ true → 0 < ofZ w64 d
+positive-bits (pos n) e = leb-true 1 n e
+positive-bits (negsuc n) e = absurd (subst T (sym e) tt)

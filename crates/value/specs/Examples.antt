@@ -18,7 +18,7 @@ both-negative : map (λ (f : ℕ). ranged (computed f (negsuc 2) (negsuc 4))) (2
     ≡ negsuc 7 ∷ pos 2 ∷ pos 15 ∷ negsuc 2 ∷ negsuc 4 ∷ negsuc 7 ∷ []
 both-negative = refl
 
-quotient-up : ranged (computed 8 (pos 7) (pos 2)) ≡ pos 3
+quotient-up : ranged (computed 8 (pos 7) (pos 2)) ≡ pos 4
 quotient-up = refl
 
 quotient-small : ranged (computed 8 (negsuc 0) (pos 1000000)) ≡ pos 0
@@ -26,23 +26,35 @@ quotient-small = refl
 
 -- ---- the limits
 
-highest-sum : ranged (computed 2 (pos 2147483640) (pos 7)) ≡ highest
+highest-sum : ranged (computed 2 (pos 999999999993) (pos 7)) ≡ highest
 highest-sum = refl
 
 sum-out : ranged (computed 2 highest (pos 1)) ≡ mark
 sum-out = refl
 
-lowest-difference : ranged (computed 3 (negsuc 2147483646) (pos 1)) ≡ lowest
+lowest-difference : ranged (computed 3 (negsuc 999999999998) (pos 1)) ≡ lowest
 lowest-difference = refl
 
 difference-out : ranged (computed 3 lowest (pos 1)) ≡ mark
 difference-out = refl
 
-lowest-product : ranged (computed 4 (pos 65536) (negsuc 32767)) ≡ lowest
+lowest-product : ranged (computed 4 (pos 1000000) (negsuc 999999)) ≡ lowest
 lowest-product = refl
 
-product-out : ranged (computed 4 (pos 65536) (pos 32768)) ≡ mark
+highest-product : ranged (computed 4 lowest (negsuc 0)) ≡ highest
+highest-product = refl
+
+-- one past the limit, 10001 * 99990001, and its opposite
+product-out : map (λ b. ranged (computed 4 (pos 10001) b)) (pos 99990001 ∷ negsuc 99990000 ∷ []) ≡ mark ∷ mark ∷ []
 product-out = refl
+
+-- 02 (d): "a product too large for 64 bits is still a 23"; 2 ^ 32 * 2 ^ 32 would be 0 there
+product-past-64-bits : ranged (computed 4 (pos 4294967296) (pos 4294967296)) ≡ mark
+product-past-64-bits = refl
+
+-- an exact product may be the mark's own number, and is no value
+product-at-mark : computed 4 (pos 2147483648) (negsuc 4294967295) ≡ mark
+product-at-mark = refl
 
 lowest-squared : ranged (computed 4 lowest lowest) ≡ mark
 lowest-squared = refl
@@ -52,7 +64,7 @@ addc-out = refl
 
 -- ---- constants
 
-constants : map signed (0 ∷ 2147483647 ∷ 2147483648 ∷ 4294967295 ∷ []) ≡ pos 0 ∷ highest ∷ lowest ∷ negsuc 0 ∷ []
+constants : map signed (0 ∷ 2147483647 ∷ 2147483648 ∷ 4294967295 ∷ []) ≡ pos 0 ∷ pos 2147483647 ∷ negsuc 2147483647 ∷ negsuc 0 ∷ []
 constants = refl
 
 constant-read : constantAt (9 ∷ 255 ∷ 255 ∷ 255 ∷ 254 ∷ []) 1 ≡ negsuc 1

@@ -1,28 +1,31 @@
--- No overflow, for all functions at once: on values every exact result lies strictly between the lowest and the highest 64-bit number, so it fits an i64 and is not the mark.
+-- No overflow, for all functions but the product: on values every exact result lies strictly between the lowest and the highest 64-bit number, so it fits an i64 and is not the mark.
 use Prim.Native.Nat.{ℕ, zero, suc, _^_, _≤_, _<_}
 use native.Mathlib.Omega.{arith}
 use mathlib.Core.Path.{_≡_, refl, ap, _∙_}
 use mathlib.Core.Bool.{Bool, true, false, _&&_, not}
-use mathlib.Core.List.{List, [], _∷_}
 use borrow.Author.Tests.{lt-leb}
-use lib.ListN.{getD}
-use lib.IntN.{ℤ, pos, negsuc, natAbs, _+ℤ_, _-ℤ_, _*ℤ_}
+use lib.IntN.{ℤ, pos, negsuc, natAbs, _+ℤ_, _-ℤ_}
 use lib.Signed.{leZ, mag}
 use mir.Syntax.{w64}
 use mir.Val.{SFits}
 use Rattle.meaning.specs.Grammar.{Function}
-use Rattle.meaning.specs.Value.{apply, inRange, lowest, highest, mark, pick, quotient}
+use Rattle.meaning.specs.Value.{apply, inRange, lowest, mark, pick, quotient}
 use Rattle.meaning.specs.Calls.{isMark}
+use Rattle.theory_base.specs.Members.{T→true, true→T}
+use Rattle.theory_base.specs.Quotients.{value-size, quotient-size, quotient-ranged}
 use Rattle.value.specs.Ranged.{ranged, pick-in}
-use Rattle.value.specs.Computed.{larger, smaller, results, computed, numberOf, firstOperand, secondOperand, apply-computed}
-use Rattle.value.specs.Sizes.{natAbs-add, natAbs-sub, quotient-size, mul-at-most, inside}
+use Rattle.value.specs.Computed.{larger, smaller, computed, numberOf, firstOperand, secondOperand, apply-computed}
+use Rattle.value.specs.Sizes.{natAbs-add, natAbs-sub}
 
 -- no value has a larger size
 abbrev pub reach : ℕ
 reach = natAbs lowest
 
 pub in-range-size : (z : ℤ) → inRange z ≡ true → natAbs z ≤ reach
-in-range-size z e = inside z (mag lowest) (mag highest) (omega arith) e
+in-range-size z e = value-size z (true→T (inRange z) e)
+
+pub quotient-in : (a c : ℤ) → inRange a ≡ true → inRange (quotient a c) ≡ true
+quotient-in a c e = T→true (inRange (quotient a c)) (quotient-ranged a c (true→T (inRange a) e))
 
 pub large-out : (z : ℤ) → reach < natAbs z → inRange z ≡ false
 large-out z h = is-no (inRange z) (λ e. clash (natAbs z) (in-range-size z e) h)
@@ -59,35 +62,39 @@ pub fits64 : (z : ℤ) → Fits64 z → SFits w64 z
 fits64 (pos n) h = record { sfits = h }
 fits64 (negsuc n) h = record { sfits = omega arith }
 
-infixr 30 _also_
-data Each (P : ℤ → Type 0) : List ℤ → Type 0 where
-  done : Each P []
-  _also_ : {z : ℤ} {zs : List ℤ} → P z → Each P zs → Each P (z ∷ zs)
+-- function 4, the product, is left out: its exact result may pass 64 bits or be the number that the mark is, so it is judged before it is made (proofs/Products)
+pub computed-size : (f : ℕ) (a b : ℤ) → (f ≡ 4 → ⊥) → inRange a ≡ true → inRange b ≡ true → Fits64 (computed f a b)
+computed-size f a b other p q = each f other
+  where
+    m : natAbs a ≤ reach
+    m = in-range-size a p
 
-getD-each : {P : ℤ → Type 0} {zs : List ℤ} (n : ℕ) (d : ℤ) → Each P zs → P d → P (getD zs n d)
-getD-each n d done p = p
-getD-each zero d (q also e) p = q
-getD-each (suc n) d (q also e) p = getD-each n d e p
+    n : natAbs b ≤ reach
+    n = in-range-size b q
 
-pub computed-size : (f : ℕ) (a b : ℤ) → inRange a ≡ true → inRange b ≡ true → Fits64 (computed f a b)
-computed-size f a b p q =
-    let m = in-range-size a p in
-    let n = in-range-size b q in
-    let itself : Fits64 a = omega arith in
-    let plus : Fits64 (a +ℤ b) = omega (arith, natAbs-add a b) in
-    let minus : Fits64 (a -ℤ b) = omega (arith, natAbs-sub a b) in
-    let times : Fits64 (a *ℤ b) = omega (arith, mul-at-most a b reach reach m n) in
-    let highest-of : Fits64 (larger a b) = omega (arith, in-range-size (larger a b) (pick-in (leZ a b) b a q p)) in
-    let lowest-of : Fits64 (smaller a b) = omega (arith, in-range-size (smaller a b) (pick-in (leZ a b) a b p q)) in
-    let divided : Fits64 (quotient a b) = omega (arith, quotient-size a b) in
-    let each : Each Fits64 (results a b) = itself also itself also plus also minus also times also highest-of also lowest-of also plus also divided also done in
-    getD-each f (pos 0) each (omega arith)
+    itself : Fits64 a
+    itself = omega (arith, m)
 
-pub apply-size : {O : Type 0} (v : O → ℤ) (f : Function O) → inRange (firstOperand v f) ≡ true → inRange (secondOperand v f) ≡ true → Fits64 (apply v f)
-apply-size v f p q = rw (apply-computed v f) (computed-size (numberOf f) (firstOperand v f) (secondOperand v f) p q)
+    plus : Fits64 (a +ℤ b)
+    plus = omega (arith, natAbs-add a b, m, n)
 
-pub computed-fits : (f : ℕ) (a b : ℤ) → inRange a ≡ true → inRange b ≡ true → SFits w64 (computed f a b)
-computed-fits f a b p q = fits64 (computed f a b) (computed-size f a b p q)
+    each : (f : ℕ) → (f ≡ 4 → ⊥) → Fits64 (computed f a b)
+    each zero k = itself
+    each (suc zero) k = itself
+    each (suc (suc zero)) k = plus
+    each (suc (suc (suc zero))) k = omega (arith, natAbs-sub a b, m, n)
+    each (suc (suc (suc (suc zero)))) k = absurd (k refl)
+    each (suc (suc (suc (suc (suc zero))))) k = omega (arith, in-range-size (larger a b) (pick-in (leZ a b) b a q p))
+    each (suc (suc (suc (suc (suc (suc zero)))))) k = omega (arith, in-range-size (smaller a b) (pick-in (leZ a b) a b p q))
+    each (suc (suc (suc (suc (suc (suc (suc zero))))))) k = plus
+    each (suc (suc (suc (suc (suc (suc (suc (suc zero)))))))) k = omega (arith, quotient-size a b, m)
+    each (suc (suc (suc (suc (suc (suc (suc (suc (suc f))))))))) k = omega arith
 
-pub computed-not-mark : (f : ℕ) (a b : ℤ) → inRange a ≡ true → inRange b ≡ true → computed f a b ≡ mark → ⊥
-computed-not-mark f a b p q e = omega (arith, computed-size f a b p q, ap natAbs e)
+pub apply-size : {O : Type 0} (v : O → ℤ) (f : Function O) → (numberOf f ≡ 4 → ⊥) → inRange (firstOperand v f) ≡ true → inRange (secondOperand v f) ≡ true → Fits64 (apply v f)
+apply-size v f k p q = rw (apply-computed v f) (computed-size (numberOf f) (firstOperand v f) (secondOperand v f) k p q)
+
+pub computed-fits : (f : ℕ) (a b : ℤ) → (f ≡ 4 → ⊥) → inRange a ≡ true → inRange b ≡ true → SFits w64 (computed f a b)
+computed-fits f a b k p q = fits64 (computed f a b) (computed-size f a b k p q)
+
+pub computed-not-mark : (f : ℕ) (a b : ℤ) → (f ≡ 4 → ⊥) → inRange a ≡ true → inRange b ≡ true → computed f a b ≡ mark → ⊥
+computed-not-mark f a b k p q e = omega (arith, computed-size f a b k p q, ap natAbs e)

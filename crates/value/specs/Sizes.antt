@@ -1,6 +1,6 @@
--- The size of a sum, a difference, a product and a quotient, and of a number between two bounds.
-use Prim.Native.Nat.{ℕ, zero, suc, _+_, _*_, _/_, _≤_, _<_}
-use native.Mathlib.Nat.{div-le-self, div-zero, mul-le-mul-left, mul-le-mul-right, le-trans}
+-- The size of a sum, a difference and a product, and of a number between two bounds.
+use Prim.Native.Nat.{ℕ, zero, suc, _+_, _*_, _≤_, _<_}
+use native.Mathlib.Nat.{mul-le-mul-left, mul-le-mul-right, le-trans}
 use native.Mathlib.Omega.{arith}
 use mathlib.Core.Path.{_≡_, refl}
 use mathlib.Core.Bool.{Bool, true, false, _&&_, cond}
@@ -8,7 +8,6 @@ use borrow.Author.Tests.{leb-true, leb-false}
 use lib.Dec.{ltb}
 use lib.IntN.{ℤ, pos, negsuc, negℤ, natAbs, _+ℤ_, _-ℤ_, _*ℤ_}
 use lib.Signed.{leZ}
-use Rattle.meaning.specs.Value.{quotient}
 
 pub natAbs-neg : (a : ℤ) → natAbs (negℤ a) ≡ natAbs a
 natAbs-neg (pos zero) = refl
@@ -33,17 +32,6 @@ natAbs-mul (pos a) (pos b) = refl
 natAbs-mul (pos a) (negsuc b) = natAbs-neg (pos (a * suc b))
 natAbs-mul (negsuc a) (pos b) = natAbs-neg (pos (suc a * b))
 natAbs-mul (negsuc a) (negsuc b) = refl
-
--- ---- quotients
-pub quotient-size : (a c : ℤ) → natAbs (quotient a c) ≤ natAbs a
-quotient-size (pos a) (pos c) = div-le-self a c
-quotient-size (pos a) (negsuc c) = rw (natAbs-neg (pos (a / suc c))) (div-le-self a (suc c))
-quotient-size (negsuc a) (pos c) = rw (natAbs-neg (pos (suc a / c))) (div-le-self (suc a) c)
-quotient-size (negsuc a) (negsuc c) = div-le-self (suc a) (suc c)
-
-pub quotient-by-zero : (a : ℤ) → quotient a (pos 0) ≡ pos 0
-quotient-by-zero (pos n) = rw (div-zero n)
-quotient-by-zero (negsuc n) = rw (div-zero (suc n))
 
 -- ---- products
 products : (m n k l : ℕ) → m ≤ k → n ≤ l → m * n ≤ k * l

@@ -2,12 +2,12 @@ ghost use Prim.Native.Nat.{_+_, _<_, _≤_};
 ghost use mathlib.Core.Path.{_≡_};
 ghost use mathlib.Core.Bool.{true, _&&_};
 ghost use lib.ListN.{length};
-ghost use lib.IntN.{_+ℤ_, _-ℤ_, _*ℤ_};
+ghost use lib.IntN.{pos, natAbs, _+ℤ_, _-ℤ_, _*ℤ_};
 ghost use lib.Signed.{leZ};
 ghost use Rattle.meaning.specs.Calls.{isMark};
 ghost use Rattle.meaning.specs.Table.{byte, signed, constantAt};
 ghost use Rattle.meaning.specs.Value as Value;
-ghost use Rattle.meaning.specs.Value.{inRange};
+ghost use Rattle.meaning.specs.Value.{inRange, floored};
 ghost use Rattle.value.specs.Computed as Computed;
 ghost use Rattle.value.specs.Computed.{computed};
 ghost use Rattle.value.specs.Constants.{wordAt};
@@ -16,10 +16,10 @@ ghost use Rattle.value.specs.Ranged.{ranged};
 // 01: "the mark is the lowest 64-bit number".
 pub const MARK: i64 = i64::MIN;
 
-// 01: "Values are signed 32-bit": the one place in code where their limits stand.
-const LOWEST: i64 = -2147483648;
+// 02 (d): the one place in code where the limits of values stand.
+const LOWEST: i64 = -1000000000000;
 
-const HIGHEST: i64 = 2147483647;
+const HIGHEST: i64 = 1000000000000;
 
 // Two numbers further from 0 than this have a product that is no value; where one is not, the product fits an i64.
 const NEAR: i64 = 1000000;
@@ -113,15 +113,26 @@ pub fn smaller(a: i64, b: i64) -> i64
     b
 }
 
-// Toward zero; by 0 it is 0, as in the definition.
+// The greatest whole number at most n / d.
+fn floor(n: i64, d: i64) -> i64
+    requires { ⌜ (natAbs n ≤ 4000000000000) × (leZ (pos 1) d ≡ true) ⌝ }
+    ensures { λ r. ⌜ r ≡ floored n (natAbs d) ⌝ }
+{
+    if 0 <= n {
+        return n / d;
+    }
+    (n + 1) / d - 1
+}
+
+// To the nearest, halves upward; by a number below 1 it is 0, as in the definition. It is a value, so that nothing is tested.
 pub fn quotient(a: i64, c: i64) -> i64
-    requires { ⌜ inRange a ≡ true ⌝ }
+    requires { ⌜ (inRange a ≡ true) × (inRange c ≡ true) ⌝ }
     ensures { λ r. ⌜ r ≡ ranged (Value.quotient a c) ⌝ }
 {
-    if c == 0 {
-        return 0;
+    if 1 <= c {
+        return floor(a + a + c, c + c);
     }
-    within(a / c)
+    0
 }
 
 // A function by its number in 01. The constant stands for const's first operand, and for the second one of addc and quot.

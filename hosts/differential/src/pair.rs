@@ -138,7 +138,7 @@ impl Pair {
 
     /// Forges the record or the stacks: near what a run leaves, or anything.
     pub fn forge(&mut self, r: &mut Random) {
-        match r.below(12) {
+        match r.below(14) {
             0 => self.record.tokens = 65533 + r.below(4) as u64,
             1 | 2 => self.record.moves = u32::MAX as u64 - r.below(12) as u64,
             3 => self.record.moves = u32::MAX as u64 + r.below(2) as u64,
@@ -147,6 +147,7 @@ impl Pair {
             6 => self.forge_left(r),
             7 => self.forge_all(r),
             8 | 9 => self.forge_place(r),
+            10 | 11 => self.forge_values(r),
             _ => self.forge_register(r),
         }
     }
@@ -171,7 +172,7 @@ impl Pair {
         let height = (self.record.registers as usize).min(self.lengths.registers);
         self.cells.registers[..self.lengths.registers].fill(MARK);
         for v in &mut self.cells.registers[..height] {
-            *v = r.value() as i64;
+            *v = r.held();
         }
     }
 
@@ -204,9 +205,17 @@ impl Pair {
             *register = match r.below(4) {
                 0 => MARK,
                 1 => r.number() as i64,
-                2 => i32::MAX as i64 + r.below(2) as i64,
-                _ => r.value() as i64,
+                2 => r.pick(&[1, -1]) * (1_000_000_000_000 + r.below(2) as i64),
+                _ => r.held(),
             };
+        }
+    }
+
+    /// Other values where there are values.
+    fn forge_values(&mut self, r: &mut Random) {
+        let height = (self.record.registers as usize).min(self.lengths.registers);
+        for v in self.cells.registers[..height].iter_mut().filter(|v| **v != MARK) {
+            *v = r.held();
         }
     }
 }

@@ -28,7 +28,7 @@ impl Random {
         &items[self.below(items.len())]
     }
 
-    /// A value of a run: mostly small, sometimes at the limits.
+    /// A constant or a bound of a table, which has four bytes: mostly small, sometimes at its limits.
     pub fn value(&mut self) -> i32 {
         match self.below(10) {
             0 => i32::MAX - self.below(3) as i32,
@@ -36,6 +36,16 @@ impl Random {
             2 => self.number() as i32,
             3..=5 => self.below(200) as i32 - 100,
             _ => self.below(6) as i32 - 1,
+        }
+    }
+
+    /// A value that a register holds: often at the limits of values, or where products pass them or 64 bits.
+    pub fn held(&mut self) -> i64 {
+        let about = *self.pick(&[1_000_000_000_000, 1_000_000, i64::from(i32::MAX), 1 << 32]);
+        match self.below(4) {
+            0 => about - self.below(3) as i64,
+            1 => self.below(3) as i64 - about,
+            _ => self.value() as i64,
         }
     }
 }

@@ -41,7 +41,7 @@ impl Refusal {
             20 => "unknown token",
             21 => "token not expected",
             22 => "condition false",
-            23 => "value outside 32 bits",
+            23 => "value outside -1,000,000,000,000 to 1,000,000,000,000",
             24 => "segment over where a token is expected",
             30 => "program area short",
             31 => "too few registers lent",

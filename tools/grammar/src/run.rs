@@ -59,7 +59,7 @@ fn too_large(built: &Built, outcome: &Outcome) -> String {
     let place = outcome.engine.places().last().copied().unwrap_or_default();
     let line = built.places.productions.get((place / 256) as usize).map(|p| p.span.line);
     let rule = line.map_or(String::new(), |line| format!(", by a rule of the production on line {line}"));
-    format!("a value outside 32 bits{rule}")
+    format!("a value outside -1,000,000,000,000 to 1,000,000,000,000{rule}")
 }
 
 /// Where a run stopped: the production and the position of the symbol that the top place waits at, none for the start symbol.

@@ -37,12 +37,12 @@ const TOLD: &[(&str, &str, &str)] = &[
     (
         "sheet",
         "limit one zero kilogram item five pound total two gram",
-        "refused 22 after 10, after token 10, `gram`: the condition `Items.grams <= Weight2.grams` on line 37 is false: Items.grams is 2268, Weight2.grams is 2",
+        "refused 22 after 10, after token 10, `gram`: the condition `Items.grams <= Weight2.grams` on line 38 is false: Items.grams is 2268, Weight2.grams is 2",
     ),
     (
         "sheet",
-        "limit nine nine nine nine nine nine nine nine nine nine",
-        "refused 23 after 10, at token 11, `nine`: a value outside 32 bits, by a rule of the production on line 116",
+        "limit nine nine nine nine nine nine nine nine nine nine nine nine nine",
+        "refused 23 after 13, at token 14, `nine`: a value outside -1,000,000,000,000 to 1,000,000,000,000, by a rule of the production on line 117",
     ),
 ];
 

@@ -50,7 +50,7 @@ fn a_legal_clause() {
 
 #[test]
 fn a_product_sheet() {
-    run_examples("sheet", 9);
+    run_examples("sheet", 10);
 }
 
 #[test]
