@@ -2,7 +2,7 @@
 use crate::model::{Condition, Grammar, Item, Occurrence, Production, Symbol};
 use crate::{print, Built};
 use plain::judge::Analysis;
-use segment::{Engine, Refusal};
+use segment::{Refusal, Run, Table};
 
 /// The numbers of tokens given by name.
 pub fn tokens(g: &Grammar, words: &[&str]) -> Result<Vec<u8>, String> {
