@@ -121,6 +121,8 @@ pub struct Grammar {
     pub tokens: Vec<String>,
     pub parts: Vec<Part>,
     pub start: usize,
+    /// The start symbol.
+    pub whole: Symbol,
     pub result: usize,
     pub productions: Vec<Production>,
 }
@@ -130,6 +132,14 @@ impl Grammar {
         match symbol {
             Symbol::Token(t) => &self.tokens[t],
             Symbol::Part(n) => &self.parts[n].name,
+        }
+    }
+
+    /// The name of a symbol's attribute, by its number.
+    pub fn attribute(&self, symbol: Symbol, attribute: usize) -> &str {
+        match symbol {
+            Symbol::Token(_) => "?",
+            Symbol::Part(n) => self.parts[n].attributes().nth(attribute - 1).map_or("?", |a| a),
         }
     }
 
@@ -156,7 +166,7 @@ impl Grammar {
     /// An occurrence as it is written: `n` on the left side, `L.n` on the right, `L2.n` where L stands there several times.
     pub fn label(&self, p: &Production, o: Occurrence) -> String {
         let Symbol::Part(n) = p.symbol(o.position) else { return self.name(p.symbol(o.position)).into() };
-        let attribute = self.parts[n].attributes().nth(o.attribute - 1).map_or("?", |a| a);
+        let attribute = self.attribute(Symbol::Part(n), o.attribute);
         if o.position == 0 {
             return attribute.into();
         }

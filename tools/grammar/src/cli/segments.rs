@@ -1,0 +1,85 @@
+//! The commands on segments: `run`.
+use super::batch;
+use super::files::{build, shown};
+use super::{Args, Command, Outcome, Trouble};
+
+use crate::{run, Built};
+use std::ffi::{OsStr, OsString};
+use std::io::{BufRead, BufReader, IsTerminal, Write};
+
+pub const COMMANDS: &[Command] = &[Command {
+    name: "run",
+    options: &["--segments=", "--empty"],
+    usage: &[
+        ("run FILE TOKENS...", "runs a segment: its value, or why it is refused"),
+        ("run FILE -", "runs a segment a line of standard input, a line of answer each"),
+        ("run FILE --segments LIST", "the same for the lines of a file"),
+        ("run FILE --empty", "runs the segment without tokens"),
+    ],
+    run: run_segments,
+}];
+
+/// What is to be run.
+pub enum Given {
+    Tokens(Vec<String>),
+    Lines(Box<dyn BufRead>),
+}
+
+fn open(file: &OsStr) -> Result<Box<dyn BufRead>, Trouble> {
+    if file == "-" {
+        return Ok(Box::new(BufReader::new(std::io::stdin())));
+    }
+    let opened = std::fs::File::open(file).map_err(|e| Trouble::Failed(format!("{}: {e}", shown(file))))?;
+    Ok(Box::new(BufReader::with_capacity(1 << 16, opened)))
+}
+
+/// The names of tokens as arguments.
+pub fn words(given: Vec<OsString>) -> Result<Vec<String>, Trouble> {
+    let word = |w: OsString| w.into_string().map_err(|w| Trouble::Failed(format!("grammar: `{}` is not UTF-8", w.to_string_lossy())));
+    // One argument may hold several names.
+    let words = given.into_iter().map(word).collect::<Result<Vec<String>, _>>()?;
+    Ok(words.iter().flat_map(|w| w.split_whitespace()).map(String::from).collect())
+}
+
+fn given(args: &mut Args) -> Result<Given, Trouble> {
+    let rest = args.rest();
+    match (args.value("--segments"), args.has("--empty"), &rest[..]) {
+        (Some(file), false, []) => Ok(Given::Lines(open(file)?)),
+        (None, true, []) => Ok(Given::Tokens(vec![])),
+        (None, false, [dash]) if dash == "-" => Ok(Given::Lines(open(dash)?)),
+        (None, false, [_, ..]) => Ok(Given::Tokens(words(rest)?)),
+        (None, false, []) => Err(Trouble::Failed(
+            "grammar: no tokens are given: name them, or write `-` to read a segment a line from standard input, or `--empty`".into(),
+        )),
+        _ => Err(Trouble::Failed("grammar: tokens, `--segments` and `--empty` exclude each other".into())),
+    }
+}
+
+fn run_segments(mut args: Args, out: &mut dyn Write) -> Outcome {
+    let file = args.next()?;
+    let given = given(&mut args)?;
+    let (_, built) = build(&file)?;
+    match given {
+        Given::Tokens(words) => one(&built, &words, out),
+        Given::Lines(lines) => many(&built, lines, out),
+    }
+}
+
+fn one(built: &Built, words: &[String], out: &mut dyn Write) -> Outcome {
+    let tokens = run::tokens(&built.grammar, words).map_err(Trouble::Refused)?;
+    let outcome = run::run(&built.table, &tokens);
+    match outcome.answer {
+        Ok(value) => Ok(writeln!(out, "{value}")?),
+        Err(refusal) => Err(Trouble::Refused(run::told(built, &tokens, &outcome, refusal))),
+    }
+}
+
+fn many(built: &Built, lines: Box<dyn BufRead>, out: &mut dyn Write) -> Outcome {
+    // Progress is shown where someone looks and the answers go elsewhere.
+    let watched = std::io::stderr().is_terminal() && !std::io::stdout().is_terminal();
+    let counts = batch::answer(built, lines, out, watched)?;
+    if counts.refused > 0 {
+        return Err(Trouble::Told);
+    }
+    Ok(())
+}
