@@ -16,6 +16,7 @@ and found as SEGMENT_LIBRARY, or beside this file.
 
 import ctypes
 import enum
+import json
 import os
 
 VERSION = "0.2.0"
@@ -187,12 +188,32 @@ def sum_of(table):
     return total
 
 
-class Table:
-    """A table that the engine accepts."""
+class Names:
+    """A grammar's names and their numbers: what `grammar header --lang json` writes, read from a file or a text."""
 
-    def __init__(self, data):
+    def __init__(self, text):
+        data = json.loads(text)
+        self.sum = int(data["table"]["sum"], 16)
+        self.tokens = data["tokens"]
+        self.parts = data["parts"]
+        self._numbers = {name: number for number, name in enumerate(self.tokens)}
+
+    def numbers(self, words):
+        """The tokens' numbers; ValueError for a word that is no token."""
+        try:
+            return bytes(self._numbers[word] for word in words)
+        except KeyError as error:
+            raise ValueError(f"{error.args[0]!r} is not a token; the tokens: {' '.join(self.tokens)}") from None
+
+
+class Table:
+    """A table that the engine accepts. With names it must be the table that the names belong to."""
+
+    def __init__(self, data, names=None):
         self.bytes = bytes(data)
         check(self.bytes)
+        if names is not None and names.sum != self.sum():
+            raise ValueError(f"another table: its sum is {self.sum():016x}, not {names.sum:016x}")
 
     def __repr__(self):
         return f"Table({len(self.bytes)} bytes, sum {self.sum():016x})"

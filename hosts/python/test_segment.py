@@ -59,6 +59,14 @@ class Words(unittest.TestCase):
         self.assertEqual(segment.listing(WORDS), read("../crates/listing/stdout"))
         self.assertEqual(repr(segment.Table(WORDS)), "Table(136 bytes, sum d30e9953d2057f43)")
 
+    def test_names(self):
+        text = '{"table": {"sum": "%s"}, "tokens": ["word", "open", "close"], "parts": []}'
+        names = segment.Names(text % "d30e9953d2057f43")
+        run = segment.Table(WORDS, names).run()
+        self.assertEqual(run.evaluate(names.numbers("word open word close".split())), 2)
+        self.assertRaises(ValueError, names.numbers, ["wrod"])
+        self.assertRaises(ValueError, segment.Table, WORDS, segment.Names(text % "0"))
+
     def test_threads(self):
         table, found = segment.Table(WORDS), {}
 

@@ -29,4 +29,4 @@ mod table;
 pub use lent::check;
 pub use refusal::{Kind, Refusal};
 pub use run::{Run, MOVES};
-pub use table::{listing, stretch, sum, Table};
+pub use table::{listing, stretch, sum, NotTable, Table};

@@ -29,6 +29,18 @@ impl Table {
         Ok(Table { bytes })
     }
 
+    /// Judges a table, and asks whether it is the one with this sum: the table that the names of `grammar header` belong to.
+    ///
+    /// # Errors
+    /// The table is refused, or has another sum.
+    pub fn with_sum(bytes: impl Into<Vec<u8>>, sum: u64) -> Result<Table, NotTable> {
+        let table = Table::new(bytes).map_err(NotTable::Refused)?;
+        match table.sum() {
+            found if found == sum => Ok(table),
+            found => Err(NotTable::Other { found, wanted: sum }),
+        }
+    }
+
     /// The bytes.
     #[must_use]
     pub fn bytes(&self) -> &[u8] {
@@ -74,6 +86,32 @@ impl fmt::Debug for Table {
         write!(f, "Table({} bytes, sum {:016x})", self.bytes.len(), self.sum())
     }
 }
+
+/// Why some bytes are not the table that was asked for.
+#[derive(Clone, Copy, Debug, PartialEq, Eq)]
+#[non_exhaustive]
+pub enum NotTable {
+    /// The engine refuses them.
+    Refused(Refusal),
+    /// They are another table.
+    Other {
+        /// The sum of the table.
+        found: u64,
+        /// The sum that was asked for.
+        wanted: u64,
+    },
+}
+
+impl fmt::Display for NotTable {
+    fn fmt(&self, f: &mut fmt::Formatter) -> fmt::Result {
+        match self {
+            NotTable::Refused(refusal) => refusal.fmt(f),
+            NotTable::Other { found, wanted } => write!(f, "another table: its sum is {found:016x}, not {wanted:016x}"),
+        }
+    }
+}
+
+impl core::error::Error for NotTable {}
 
 /// The sum of a table's bytes, accepted or not: see [`Table::sum`].
 #[must_use]

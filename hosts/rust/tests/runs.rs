@@ -1,6 +1,6 @@
 //! Runs of the grammar of words and tags through the wrapper.
 use segment::lent::{self, Memory, Record, MARK};
-use segment::{Kind, Refusal, Run, Table, MOVES};
+use segment::{Kind, NotTable, Refusal, Run, Table, MOVES};
 
 const WORDS: &[u8] = include_bytes!("../../../grammars/words.table");
 
@@ -118,7 +118,12 @@ fn tables() {
 fn sums_tell_tables_apart() {
     assert_eq!(segment::sum(b""), 0xcbf29ce484222325);
     assert_eq!(segment::sum(b"foobar"), 0x85944171f73967e8);
-    assert_eq!(table().sum(), segment::sum(WORDS));
+    let sum = table().sum();
+    assert_eq!(sum, segment::sum(WORDS));
+    assert_eq!(Table::with_sum(WORDS, sum), Ok(table()));
+    assert_eq!(Table::with_sum(WORDS, 1), Err(NotTable::Other { found: sum, wanted: 1 }));
+    assert_eq!(Table::with_sum(WORDS, 1).unwrap_err().to_string(), "another table: its sum is d30e9953d2057f43, not 0000000000000001");
+    assert!(matches!(Table::with_sum([], sum), Err(NotTable::Refused(r)) if r.number() == 3));
 }
 
 /// What is shown in a failed test stays short.

@@ -14,8 +14,10 @@ pub mod resolve;
 pub mod run;
 pub mod source;
 pub mod stacks;
+pub mod story;
 pub mod suggest;
 pub mod table;
+pub mod trace;
 
 use explain::Judged;
 use model::Grammar;

@@ -38,6 +38,12 @@ impl<O> Function<O> {
     }
 
     /// The same function, each occurrence put into another form.
+    pub fn each<P>(&self, f: &mut impl FnMut(&O) -> P) -> Function<P> {
+        let made = self.map(&mut |o| Ok::<P, std::convert::Infallible>(f(o)));
+        made.unwrap_or_else(|never| match never {})
+    }
+
+    /// The same, where that may fail.
     fn map<P, E>(&self, f: &mut impl FnMut(&O) -> Result<P, E>) -> Result<Function<P>, E> {
         use Function::*;
         Ok(match self {
@@ -51,6 +57,16 @@ impl<O> Function<O> {
             AddC(a, c) => AddC(f(a)?, *c),
             Quot(a, c) => Quot(f(a)?, *c),
         })
+    }
+}
+
+impl<O> Condition<O> {
+    /// The same condition, each occurrence put into another form.
+    pub fn each<P>(&self, f: &mut impl FnMut(&O) -> P) -> Condition<P> {
+        match self {
+            Condition::Range(a, low, high) => Condition::Range(f(a), *low, *high),
+            Condition::AtMost(a, b) => Condition::AtMost(f(a), f(b)),
+        }
     }
 }
 

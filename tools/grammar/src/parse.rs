@@ -97,7 +97,9 @@ impl Cursor<'_> {
         let after = self.line.get(self.at + 1).map(|l| &l.kind);
         match self.kind() {
             Some(Kind::Mark("," | ".")) if number(before) && number(after) => "; numbers are whole and written without marks, as in `1000`",
-            Some(Kind::Mark("+" | "-" | "*" | "/")) => "; a rule has one function: a part that reads nothing can compute the rest",
+            Some(Kind::Mark("+" | "-" | "*" | "/")) if self.line.iter().any(|l| l.kind == Kind::Mark("=")) => {
+                "; a rule has one function: a part that reads nothing can compute the rest"
+            }
             _ => "",
         }
     }

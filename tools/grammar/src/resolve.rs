@@ -3,7 +3,7 @@ use crate::lex::{lexemes, names};
 use crate::model::{Grammar, Item, Occurrence, Part, Production, Symbol};
 use crate::parse::{statement, Reference, Statement, Word};
 use crate::source::{fault, Fault, Faults, Span};
-use crate::suggest::hint;
+use crate::suggest::{hint, nearest};
 use std::collections::{HashMap, HashSet};
 
 /// Where in the text each part of a grammar stands.
@@ -157,8 +157,8 @@ impl Names {
 
     fn find_start(&self, starts: &[(Span, &Word, &Word)], end: Span) -> Result<(Span, usize, usize), Fault> {
         let Some((span, part, result)) = starts.first() else {
-            let words = if self.excused.contains("start") { "" } else { "the text has no line `start PART.ATTRIBUTE`" };
-            return fault(end, words);
+            let meant = self.excused.iter().any(|w| w == "start" || nearest(w, ["start"]).is_some());
+            return fault(end, if meant { "" } else { "the text has no line `start PART.ATTRIBUTE`" });
         };
         if let Some((again, _, _)) = starts.get(1) {
             return fault(*again, format!("a second start; the first is on line {}", span.line));
@@ -193,10 +193,10 @@ impl Names {
     }
 
     fn declare_part(&mut self, name: &Word, takes: &[Word], gives: &[Word]) -> Result<(), Fault> {
-        self.declare(name, Symbol::Part(self.parts.len()))?;
         let all: Vec<Word> = takes.iter().chain(gives).cloned().collect();
         distinct(&all)?;
         at_most(&all, 255, "attributes")?;
+        self.declare(name, Symbol::Part(self.parts.len()))?;
         self.parts.push((name.clone(), Part { name: name.text.clone(), takes: texts(takes), gives: texts(gives) }));
         match self.parts.get(128) {
             Some((w, _)) => fault(w.span, "more than 128 parts cannot be written into a table"),

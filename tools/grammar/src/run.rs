@@ -1,7 +1,7 @@
 //! A segment given by names, and its refusal in words.
 use crate::model::{Grammar, Item, Occurrence, Symbol};
 use crate::stacks::{conditions, holds, result, right, rules, Place, Stacks, LIMIT, WHOLE};
-use crate::suggest::{counted, hint};
+use crate::suggest::hint;
 use crate::{print, Built};
 use plain::judge::Analysis;
 use segment::{Refusal, Run, Table};
@@ -70,11 +70,12 @@ pub fn told(built: &Built, tokens: &[u8], outcome: &Outcome, refusal: Refusal) -
     let place = match outcome.fed {
         _ if outcome.finished => "at the end".into(),
         fed if fed > read => format!("at {}", name(read)),
-        _ => format!("once {} was read", name(read - 1)),
+        _ => format!("once {}, was read", name(read - 1)),
     };
     let next = tokens.get(read).copied().filter(|_| outcome.fed > read);
     let reason = reason(built, outcome, refusal, next);
-    format!("refused {} after {}, {place}: {reason}", refusal.number(), counted(read, "token"))
+    let s = if read == 1 { "" } else { "s" };
+    format!("refused {} after {read} token{s}, {place}: {reason}", refusal.number())
 }
 
 /// What was expected or did not hold.

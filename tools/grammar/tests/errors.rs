@@ -182,7 +182,7 @@ fn all_faults_in_one_run() {
     let many = format!("token word\n{}", "x\n".repeat(25));
     let shown = to_table(&many).expect_err("faults").show("x", &many);
     assert_eq!(shown.matches("x:").count(), 21);
-    assert!(shown.ends_with("\nx: 6 more faults"), "{shown}");
+    assert!(shown.ends_with("\nx: 5 more faults"), "{shown}");
 }
 
 /// What the engine refuses is told for all rules and conditions at once.

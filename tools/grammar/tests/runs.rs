@@ -24,7 +24,7 @@ const TOLD: &[(&str, &str, &str)] = &[
     (
         "clause",
         "one sub two",
-        "refused 22 after 3 tokens, once token 3, `two` was read: the condition `Number.n <= next` on line 44 is false: Number.n is 2, next is 1",
+        "refused 22 after 3 tokens, once token 3, `two`, was read: the condition `Number.n <= next` on line 44 is false: Number.n is 2, next is 1",
     ),
     (
         "clause",
@@ -36,7 +36,7 @@ const TOLD: &[(&str, &str, &str)] = &[
     (
         "sheet",
         "limit one zero kilogram item five pound total two gram",
-        "refused 22 after 10 tokens, once token 10, `gram` was read: the condition `Items.grams <= Weight2.grams` on line 38 is false: Items.grams is 2268, Weight2.grams is 2",
+        "refused 22 after 10 tokens, once token 10, `gram`, was read: the condition `Items.grams <= Weight2.grams` on line 38 is false: Items.grams is 2268, Weight2.grams is 2",
     ),
     (
         "sheet",
