@@ -57,7 +57,12 @@ impl<'b> Story<'b> {
     /// Opens a run and feeds the tokens before the one with this number, counted from 1. Where one of them is refused, the story begins
     /// at the last that was read.
     pub fn open(built: &'b Built, tokens: &'b [u8], from: usize) -> Result<Story<'b>, Refusal> {
-        let mut run = steps::Run::open(built.table.bytes(), REGISTERS, PLACES)?;
+        Story::open_in(built, tokens, from, (REGISTERS, PLACES))
+    }
+
+    /// The same with so many registers and places.
+    pub fn open_in(built: &'b Built, tokens: &'b [u8], from: usize, room: (usize, usize)) -> Result<Story<'b>, Refusal> {
+        let mut run = steps::Run::open(built.table.bytes(), room.0, room.1)?;
         let index = run.skip(&tokens[..from.clamp(1, tokens.len() + 1) - 1]);
         Ok(Story { built, tokens, run, index, brought: false, over: false })
     }

@@ -1,6 +1,7 @@
 //! The command line: commands, options, and what the exit status says.
 mod args;
 mod batch;
+mod class;
 mod files;
 mod segments;
 
@@ -41,7 +42,7 @@ struct Command {
     run: fn(Args, &mut dyn Write) -> Outcome,
 }
 
-const COMMANDS: &[&[Command]] = &[files::COMMANDS, segments::COMMANDS];
+const COMMANDS: &[&[Command]] = &[files::COMMANDS, segments::COMMANDS, class::COMMANDS];
 
 fn commands() -> impl Iterator<Item = &'static Command> {
     COMMANDS.iter().copied().flatten()
