@@ -33,7 +33,7 @@ pub fn tell(built: &Built, tokens: &[u8], wanted: &Wanted, out: &mut dyn Write) 
         }
     };
     let (moves, read) = story.counts();
-    let begun = if read == 0 { "opened".into() } else { format!("opened, {read} tokens read, {moves} moves made") };
+    let begun = if read == 0 { "opened".into() } else { format!("opened, {} read, {moves} moves made", tokens_words(read as usize)) };
     writeln!(out, "{begun}; registers and places are told from the top, r1 is the topmost, * marks what is new")?;
     let stacks = story.stacks();
     registers(out, &stacks, &[], wanted.full)?;
