@@ -209,11 +209,11 @@ impl<'b> Model<'b> {
 
     fn add(&mut self, n: usize) -> Option<End> {
         if self.registers.len() + n > self.room.0 && self.slip != Some(Slip::NoLimits) {
-            let end = (31, format!("{} registers are lent", self.room.0));
+            let words = format!("only {} registers are lent", self.room.0);
             if self.slip != Some(Slip::WritesFirst) {
-                return Some(Err(end));
+                return refused(31, words);
             }
-            self.late = Some(end);
+            self.late = Some((31, format!("{words}, and what is above them is written over")));
         }
         self.registers.extend(std::iter::repeat_n(None, n));
         self.phase = Phase::Added;
@@ -247,7 +247,7 @@ impl<'b> Model<'b> {
                 (Some(v), Some(cell)) => cells.push((cell, v as i64)),
                 _ => return refused(0, format!("{text} reads a mark, which is no number")),
             }
-            words.push(format!("{text} = {}", cells[cells.len() - 1].1));
+            words.push(format!("{text}: {}", cells[cells.len() - 1].1));
         }
         self.phase = then;
         if cells.is_empty() {
@@ -304,11 +304,11 @@ impl<'b> Model<'b> {
 
     fn push(&mut self, p: usize, lead: &str) -> Option<End> {
         if self.places.len() == self.room.1 && self.slip != Some(Slip::NoLimits) {
-            let end = (32, format!("{} places are lent", self.room.1));
+            let words = format!("only {} places are lent", self.room.1);
             if self.slip != Some(Slip::WritesFirst) {
-                return Some(Err(end));
+                return refused(32, words);
             }
-            self.late = Some(end);
+            self.late = Some((32, format!("{words}, and what is above them is written over")));
         }
         self.places.push(Place { production: p, passed: 0 });
         self.phase = if self.late.is_some() { Phase::Ready } else { Phase::Fresh };

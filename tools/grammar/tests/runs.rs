@@ -83,3 +83,16 @@ fn entry_conditions_at_the_end() {
     assert_eq!(told(&built, "u"), format!("refused 22 after 1 token, at the end: {first}; {second}"));
     assert_eq!(told(&built, "u t"), format!("refused 22 after 1 token, at token 2, `t`: {second}"));
 }
+
+/// The way of writing "strictly less" that docs/GRAMMARS.md tells.
+#[test]
+fn strictly_less() {
+    let text = "token one two three\npart S -> n\npart A -> a\npart Less(n) -> m\nstart S.n\n\
+        S: A A Less\n Less.n = A2.a\n n = A2.a\n A1.a <= Less.m\n\
+        A: one\n a = 1\nA: two\n a = 2\nA: three\n a = 3\nLess: nothing\n m = n - 1\n";
+    let built = to_table(text).expect("accepted");
+    for (a, b) in (0..3).flat_map(|a| (0..3).map(move |b| (a, b))) {
+        let answer = run::run(&built.table, &[a, b]).answer.map_err(|r| r.number());
+        assert_eq!(answer, if a < b { Ok(i64::from(b) + 1) } else { Err(22) }, "{a} {b}");
+    }
+}

@@ -26,6 +26,13 @@ fn piped_tokens_are_not_passed_over() {
     }
 }
 
+#[test]
+fn standard_input_is_read_once() {
+    let told = "grammar: standard input cannot be both the grammar and the segments\n";
+    assert_answer(grammar_on(&["run", "-", "-"], b"word\n"), 2, "", told);
+    assert_answer(grammar_on(&["run", "-", "word"], common::shipped("words").as_bytes()), 0, "1\n", "");
+}
+
 const LINES: &str = "word\n\nword  open\tword close\r\nopen open open open\nword wrod\n\u{1b}[31m\nword word";
 const ANSWERS: &str = "1\n0\n2\n\
     refused 22 after 3 tokens, at token 4, `open`: the condition `0 <= d <= 2` on line 31 is false: d is 3\n\

@@ -57,7 +57,7 @@ impl Args {
     }
 
     /// The next argument; the usage where there is none.
-    pub fn next(&mut self) -> Result<OsString, Trouble> {
+    pub fn take(&mut self) -> Result<OsString, Trouble> {
         self.rest.pop_front().map_or_else(misused, Ok)
     }
 

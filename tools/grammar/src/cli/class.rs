@@ -34,7 +34,7 @@ fn page_of(mut args: Args, out: &mut dyn Write) -> Outcome {
         args.end()?;
         return slip(number, out);
     }
-    let file = args.next()?;
+    let file = args.take()?;
     let (_, built) = build(&file)?;
     let tokens = segment(&built, &mut args)?;
     let room = (args.number("--registers")?.unwrap_or(REGISTERS), args.number("--places")?.unwrap_or(PLACES));
@@ -54,7 +54,7 @@ fn slip(number: usize, out: &mut dyn Write) -> Outcome {
 }
 
 fn exercises_of(mut args: Args, out: &mut dyn Write) -> Outcome {
-    let file = args.next()?;
+    let file = args.take()?;
     args.end()?;
     let Some(seed) = args.number("--seed")? else { return misused() };
     let (_, built) = build(&file)?;

@@ -70,7 +70,7 @@ pub fn build(file: &OsStr) -> Result<(String, Built), Trouble> {
 
 /// Does something with each file, and goes on where one is refused.
 fn each(mut args: Args, mut work: impl FnMut(&OsStr) -> Outcome) -> Outcome {
-    let (first, rest) = (args.next()?, args.rest());
+    let (first, rest) = (args.take()?, args.rest());
     let mut refused = Ok(());
     for file in std::iter::once(first).chain(rest) {
         match work(&file) {
@@ -101,7 +101,7 @@ fn is_same(a: &OsStr, b: &OsStr) -> bool {
 }
 
 fn table(mut args: Args, out: &mut dyn Write) -> Outcome {
-    let file = args.next()?;
+    let file = args.take()?;
     args.end()?;
     let to = args.value("-o");
     if let Some(to) = to.filter(|to| is_same(&file, to)) {
@@ -115,7 +115,7 @@ fn table(mut args: Args, out: &mut dyn Write) -> Outcome {
 }
 
 fn text(mut args: Args, out: &mut dyn Write) -> Outcome {
-    let file = args.next()?;
+    let file = args.take()?;
     args.end()?;
     let bytes = read(&file)?;
     let text = to_text(&bytes).map_err(|refusal| {
@@ -127,7 +127,7 @@ fn text(mut args: Args, out: &mut dyn Write) -> Outcome {
 }
 
 fn listed(mut args: Args, out: &mut dyn Write) -> Outcome {
-    let file = args.next()?;
+    let file = args.take()?;
     args.end()?;
     let (_, built) = build(&file)?;
     Ok(out.write_all(list::text(&built).as_bytes())?)
@@ -166,7 +166,7 @@ fn test(args: Args, out: &mut dyn Write) -> Outcome {
 }
 
 fn names(mut args: Args, out: &mut dyn Write) -> Outcome {
-    let file = args.next()?;
+    let file = args.take()?;
     args.end()?;
     let path = std::path::Path::new(&file);
     let stem = path.file_stem().map_or("grammar".into(), |s| s.to_string_lossy().into_owned());

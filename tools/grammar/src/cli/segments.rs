@@ -69,8 +69,11 @@ fn given(args: &mut Args) -> Result<Given, Trouble> {
 }
 
 fn run_segments(mut args: Args, out: &mut dyn Write) -> Outcome {
-    let file = args.next()?;
+    let file = args.take()?;
     let given = given(&mut args)?;
+    if file == "-" && matches!(given, Given::Lines(_)) {
+        return Err(Trouble::Failed("grammar: standard input cannot be both the grammar and the segments".into()));
+    }
     let (_, built) = build(&file)?;
     match given {
         Given::Tokens(words) => one(&built, &words, out),
@@ -92,7 +95,7 @@ pub fn segment(built: &Built, args: &mut Args) -> Result<Vec<u8>, Trouble> {
 }
 
 fn trace_segment(mut args: Args, out: &mut dyn Write) -> Outcome {
-    let file = args.next()?;
+    let file = args.take()?;
     let (_, built) = build(&file)?;
     let tokens = segment(&built, &mut args)?;
     let (from, to) = (args.number("--from")?, args.number("--to")?);

@@ -3,8 +3,9 @@ use super::tree::Tree;
 use super::{Page, MOVES};
 use crate::run::{run_on, told};
 use crate::slips;
-use crate::stacks::Stacks;
+use crate::stacks::{Cell, Stacks};
 use crate::story::{kind_name, Event, Story};
+use crate::suggest::counted;
 use segment::Run;
 
 /// A register: its name, its value and whether it changed.
@@ -49,9 +50,13 @@ fn list(items: impl Iterator<Item = String>) -> String {
     format!("[{}]", items.collect::<Vec<_>>().join(","))
 }
 
-fn shown(stacks: &Stacks, changed: &[usize]) -> (Vec<Register>, Vec<(String, usize)>) {
-    let registers = stacks.cells.iter().map(|c| (stacks.name(c), c.value, changed.contains(&c.number)));
-    let places = stacks.places.iter().rev().map(|&p| (stacks.place_name(p), p.number()));
+/// The stacks from the top; cells above those lent are named so.
+fn shown(stacks: &Stacks, changed: &[usize], room: (usize, usize)) -> (Vec<Register>, Vec<(String, usize)>) {
+    let above = |above: bool| if above { " (not lent)" } else { "" };
+    let (cells, places) = (&stacks.cells, stacks.places.iter().enumerate().rev());
+    let name = |c: &Cell| format!("{}{}", stacks.name(c), above(cells.len() - c.number >= room.0));
+    let registers = cells.iter().map(|c| (name(c), c.value, changed.contains(&c.number)));
+    let places = places.map(|(i, &p)| (format!("{}{}", stacks.place_name(p), above(i >= room.1)), p.number()));
     (registers.collect(), places.collect())
 }
 
@@ -78,14 +83,14 @@ impl Data {
     /// The engine's run.
     fn engine(&mut self, page: &Page) -> Result<(), String> {
         let mut story = Story::open_in(page.built, page.tokens, 0, page.room).map_err(|r| r.to_string())?;
-        let (registers, places) = shown(&story.stacks(), &[]);
+        let (registers, places) = shown(&story.stacks(), &[], page.room);
         self.frames.push(Frame { kind: "opened", registers, places, ..Frame::default() });
         let mut token = 0;
         while let Some(event) = story.next() {
             match event {
                 Event::Coming(index) => token = index,
                 Event::Moved(made) if self.frames.len() <= MOVES => {
-                    let (registers, places) = shown(&made.stacks, &made.changed);
+                    let (registers, places) = shown(&made.stacks, &made.changed, page.room);
                     let (kind, read) = (kind_name(made.kind), story.counts().1 as usize);
                     self.tree.add(page.built, &made);
                     self.frames.push(Frame { kind, words: made.words.clone(), token, read, registers, places });
@@ -103,9 +108,10 @@ impl Data {
         let Ok(mut run) = Run::with_room(&page.built.table, page.room.0, page.room.1) else { return };
         let outcome = run_on(&mut run, page.tokens);
         if let Err(refusal) = outcome.answer {
+            let after = format!("refused {} after {}", refusal.number(), counted(refusal.count() as usize, "token"));
             let words = match refusal.number() {
-                31 => format!("refused 31 after {} tokens: the run needs more than the {} registers lent", refusal.count(), page.room.0),
-                32 => format!("refused 32 after {} tokens: the run needs more than the {} places lent", refusal.count(), page.room.1),
+                31 => format!("{after}: the run needs more than the {} registers lent", page.room.0),
+                32 => format!("{after}: the run needs more than the {} places lent", page.room.1),
                 _ => told(page.built, page.tokens, &outcome, refusal),
             };
             self.end = format!("{words}. The move that failed changed nothing; those before it stand.");
@@ -155,7 +161,7 @@ fn slipped(page: &Page, slip: slips::Slip) -> (Vec<Frame>, String) {
         let height = frame.registers.len();
         let differs = |i: &usize| before.get(*i) != Some(&frame.registers[*i]);
         let changed: Vec<usize> = (0..height).filter(differs).map(|i| height - i).collect();
-        let (registers, places) = shown(&stacks, &changed);
+        let (registers, places) = shown(&stacks, &changed, page.room);
         frames.push(Frame { kind: "", words: vec![frame.words], token: frame.token, read: frame.token, registers, places });
         before = frame.registers;
     }
