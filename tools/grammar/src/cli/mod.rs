@@ -53,7 +53,7 @@ fn help() -> String {
         "grammar: judges the grammars of the segment engine, turns them into tables, and runs segments (docs/GRAMMARS.md)\n\n",
     );
     for (usage, words) in commands().flat_map(|c| c.usage) {
-        text += &format!("  grammar {usage:48} {words}\n");
+        text += &format!("  {:58} {words}\n", written(usage));
     }
     text +=
         "\n  FILE is a grammar as text; `-` stands for standard input. TOKENS are names, or `-` for a segment a line on standard input.\n";
@@ -64,7 +64,13 @@ fn help() -> String {
 
 /// The lines of a command's usage.
 fn usage(command: &Command) -> String {
-    command.usage.iter().map(|(usage, words)| format!("usage: grammar {usage:40} {words}\n")).collect()
+    command.usage.iter().map(|(usage, words)| format!("usage: {:50} {words}\n", written(usage))).collect()
+}
+
+/// How a command is written; options on a line of their own follow the one before.
+fn written(usage: &str) -> String {
+    let lead = if usage.starts_with(' ') { "       " } else { "grammar" };
+    format!("{lead} {usage}")
 }
 
 fn called(mut args: Vec<OsString>, out: &mut dyn Write) -> Outcome {
