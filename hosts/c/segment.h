@@ -13,6 +13,7 @@
  *    1 to 14: the table (or the production asked for) is refused; with the byte offset of its field
  *   20 to 24: the segment is refused; with the tokens read
  *   30 to 35: the state of the run or the memory is refused; with the tokens read, or 0 for 30, 33 and 34
+ *         42: a window's size, buffer or value is refused; no cell of the buffer is written
  * The numbers have names, SEGMENT_..., and segment_reason gives their words. On 1 to 13 and on 30 no register, place or program word is written. */
 #ifndef SEGMENT_H
 #define SEGMENT_H
@@ -68,7 +69,8 @@ enum segment_number {
     SEGMENT_NEEDS_PLACES = 32,
     SEGMENT_RUN_CLOSED = 33,
     SEGMENT_STACKS_UNFIT = 34,
-    SEGMENT_TOO_MUCH = 35
+    SEGMENT_TOO_MUCH = 35,
+    SEGMENT_WINDOW_UNFIT = 42
 };
 
 /* The run record. Each call on a run takes it and hands the next one back in its place. */
@@ -119,6 +121,24 @@ void segment_finish(const uint8_t *table, size_t table_length, segment_record *r
                     uint32_t *places, size_t places_length, uint32_t *program, size_t program_length, uint32_t *number, int64_t *value,
                     uint64_t *count);
 
+/* A window over the values of the last finished segments (docs/WINDOW.md): its size is 1 to 64, and its buffer has at least so many
+ * cells. The buffer is only written by these two calls; cells past those are never looked at. */
+#define SEGMENT_WINDOW 64
+#define SEGMENT_WINDOW_CELLS(size) (5 + 2 * (size))
+
+/* Opens a window in the buffer, which may hold anything.
+ * *number: 0, or 42 for a size outside 1 to 64 or a buffer that is too short.
+ * *total, *largest, *has_largest: all 0, since there is no value yet. */
+void segment_window_open(uint64_t size, int64_t *buffer, size_t buffer_length, uint32_t *number, int64_t *total, int64_t *largest,
+                         uint32_t *has_largest);
+
+/* Brings what segment_finish handed out, its number, value and count. With the number 0 the value enters, and the oldest leaves where
+ * the window is full; with any other nothing changes.
+ * *number: 0, or 42 for a value outside its limits or a buffer that no opening and values after it can leave.
+ * *total: the exact total of the window's values, 0 on a refusal.
+ * *largest: the largest of them, where *has_largest is 1; both are 0 where the window holds no value and on a refusal. */
+void segment_window_value(uint32_t finish_number, int64_t finish_value, uint64_t finish_count, int64_t *buffer, size_t buffer_length,
+                          uint32_t *number, int64_t *total, int64_t *largest, uint32_t *has_largest);
 /* ---- What follows needs nothing of the library but the functions above. ---- */
 
 #if defined(__cplusplus) || (defined(__STDC_VERSION__) && __STDC_VERSION__ >= 199901L)
@@ -184,6 +204,8 @@ SEGMENT_INLINE const char *segment_reason(uint32_t number) {
         return "the stacks do not fit";
     case SEGMENT_TOO_MUCH:
         return "a token after 65,535, or a move after 4,294,967,295 or after the budget";
+    case SEGMENT_WINDOW_UNFIT:
+        return "a window's size, buffer or value does not fit";
     default:
         return "the number is not known to this version";
     }

@@ -56,6 +56,7 @@ class Kind(enum.IntEnum):
     RUN_CLOSED = 33
     STACKS_UNFIT = 34
     TOO_MUCH = 35
+    WINDOW_UNFIT = 42
 
 
 REASONS = {
@@ -84,6 +85,7 @@ REASONS = {
     Kind.RUN_CLOSED: "the run is closed",
     Kind.STACKS_UNFIT: "the stacks do not fit",
     Kind.TOO_MUCH: "a token after 65,535, or a move after 4,294,967,295 or after the budget",
+    Kind.WINDOW_UNFIT: "a window's size, buffer or value does not fit",
 }
 
 
@@ -112,8 +114,8 @@ class Refusal(Exception):
 
     @property
     def tokens(self):
-        """The tokens read. The refusals 30, 33 and 34 tell none: nothing was looked at."""
-        return self.count if self.number > 14 and self.number not in (30, 33, 34) else None
+        """The tokens read. The refusals 30, 33, 34 and 42 tell none."""
+        return self.count if self.number > 14 and self.number not in (30, 33, 34, 42) else None
 
     def _words(self):
         where = ""
@@ -225,6 +227,30 @@ class Table:
     def run(self, registers=REGISTERS, places=PLACES, budget=MOVES):
         """Opens a run."""
         return Run(self, registers, places, budget)
+
+
+class Window:
+    """A window over the values of the last finished segments: their total and the largest (docs/WINDOW.md)."""
+
+    def __init__(self, size):
+        self._cells = (ctypes.c_int64 * (5 + 2 * max(0, min(size, 64))))()
+        self.total, self.largest = 0, None
+        self._called("segment_window_open", ctypes.c_uint64(size))
+
+    def bring(self, value):
+        """Brings a segment's value, or a Refusal, which changes nothing; answers total and largest."""
+        number, count = (value.number, value.count) if isinstance(value, Refusal) else (0, 0)
+        entered = 0 if number else value
+        self._called("segment_window_value", ctypes.c_uint32(number), ctypes.c_int64(entered), ctypes.c_uint64(count))
+        return self.total, self.largest
+
+    def _called(self, name, *brought):
+        number, total, largest, has = ctypes.c_uint32(), ctypes.c_int64(), ctypes.c_int64(), ctypes.c_uint32()
+        out = map(ctypes.byref, (number, total, largest, has))
+        _call(name, *brought, self._cells, ctypes.c_size_t(len(self._cells)), *out)
+        if number.value:
+            raise Refusal(number.value, 0)
+        self.total, self.largest = total.value, largest.value if has.value else None
 
 
 class Run:

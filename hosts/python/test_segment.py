@@ -67,6 +67,15 @@ class Words(unittest.TestCase):
         self.assertRaises(ValueError, names.numbers, ["wrod"])
         self.assertRaises(ValueError, segment.Table, WORDS, segment.Names(text % "0"))
 
+    def test_window(self):
+        window = segment.Window(3)
+        self.assertEqual((window.total, window.largest), (0, None))
+        found = [window.bring(value) for value in (5, 2, 6, segment.Refusal(22, 3), 4, 1, 4)]
+        self.assertEqual(found, [(5, 5), (7, 5), (13, 6), (13, 6), (12, 6), (11, 6), (9, 4)])
+        for size in (0, 65):
+            self.assertEqual(self.refused(42, 0, segment.Window, size).tokens, None)
+        self.refused(42, 0, window.bring, 10**12 + 1)
+
     def test_threads(self):
         table, found = segment.Table(WORDS), {}
 
@@ -86,7 +95,7 @@ class Names(unittest.TestCase):
         kinds = re.findall(r'^    (\w+) = (\d+), "(.*)";$', read("rust/src/refusal.rs"), re.M)
         upper = lambda name: re.sub(r"(?<!^)([A-Z])", r"_\1", name).upper()
         self.kinds = [(upper(name), int(number), words) for name, number, words in kinds]
-        self.assertEqual(len(self.kinds), 25)
+        self.assertEqual(len(self.kinds), 26)
 
     def test_python(self):
         self.assertEqual([(k.name, k.value, segment.REASONS[k]) for k in segment.Kind], self.kinds)

@@ -89,6 +89,33 @@ fn judge_tables() {
     }
 }
 
+/// What a field costs in `check`: tables of rising length, and the most rules that a production can have, in order and against it.
+fn judge_fields() {
+    let mut tables = vec![
+        ("brackets".to_string(), samples::brackets()),
+        ("words and tags".to_string(), samples::words()),
+        ("chain of 1".to_string(), samples::chain(1, 0, 4)),
+        ("chain of 4".to_string(), samples::chain(4, 2, 8)),
+        ("chain of 10".to_string(), samples::chain(10, 7, 100)),
+        ("chain of 22".to_string(), samples::chain(22, 16, 240)),
+        ("chain of 47".to_string(), samples::chain(47, 33, 512)),
+        ("the largest".to_string(), samples::largest()),
+    ];
+    for symbols in [1, 3, 7, 12] {
+        for (order, reversed) in [("in order", false), ("reversed", true)] {
+            tables.push((format!("{} rules a production, {order}", 8 * (symbols + 1)), samples::many_rules(symbols, reversed)));
+        }
+    }
+    println!("\n| table | bytes | fields | plain Rust, ns | proved, ns | plain Rust, ns a field | proved, ns a field |");
+    println!("|---|---|---|---|---|---|---|");
+    for (name, table) in &tables {
+        assert_eq!((Proved::check(table), Plain::check(table)), ((0, 0), (0, 0)), "{name}");
+        let (a, b) = beside(judging::<Plain>(table), judging::<Proved>(table));
+        let fields = samples::fields(table);
+        println!("| {name} | {} | {fields} | {a:.0} | {b:.0} | {:.1} | {:.1} |", table.len(), a / fields as f64, b / fields as f64);
+    }
+}
+
 fn call_without_tokens() {
     let words = samples::words();
     let tables = [
@@ -133,6 +160,33 @@ fn run_segments() {
     }
 }
 
+/// A later call on a window, in nanoseconds: values brought to a window that is full.
+fn values(size: usize, mut bring: impl FnMut(i64)) -> impl FnMut() -> f64 {
+    let values: Vec<i64> = (0..4096u64).map(|i| (i.wrapping_mul(0x9e37_79b9_7f4a_7c15) >> 40) as i64).collect();
+    values[..size].iter().for_each(|&v| bring(v));
+    move || {
+        let start = Instant::now();
+        values.iter().for_each(|&v| bring(black_box(v)));
+        start.elapsed().as_nanos() as f64 / values.len() as f64
+    }
+}
+
+fn windows() {
+    println!("\n| window | cells | plain Rust, ns a value | proved, ns a value | proved / plain |");
+    println!("|---|---|---|---|---|");
+    for size in [1, 8, 64] {
+        let cells = segment::window::length(size);
+        let (mut a, mut b) = (vec![0; cells], vec![0; cells]);
+        plain::window::open(size as u64, &mut a).unwrap();
+        segment::window::open(size as u64, &mut b).unwrap();
+        let plain = values(size, |v| assert!(black_box(plain::window::value(v, &mut a)).is_some()));
+        let proved = values(size, |v| assert!(black_box(segment::window::bring(Ok((v, 0)), &mut b)).is_ok()));
+        let (x, y) = beside(plain, proved);
+        assert_eq!(a, b, "size {size}");
+        println!("| of the last {size} | {cells} | {x:.0} | {y:.0} | {:.2} |", y / x);
+    }
+}
+
 /// The commands that `bench/listing` gives to both programs: `COMMAND TABLE`, so many times, for the chain of 47.
 fn commands(command: &str, times: usize) {
     let hex: String = samples::chain(47, 33, 512).iter().map(|b| format!("{b:02x}")).collect();
@@ -147,6 +201,8 @@ fn main() {
         return commands(command, times.parse().expect("a number of times"));
     }
     judge_tables();
+    judge_fields();
     call_without_tokens();
     run_segments();
+    windows();
 }

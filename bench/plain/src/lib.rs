@@ -5,6 +5,7 @@ pub mod program;
 pub mod run;
 pub mod samples;
 pub mod table;
+pub mod window;
 
 use judge::Sets;
 use table::{Outline, Refusal};

@@ -88,6 +88,80 @@ pub fn refused_late(n: usize, third: usize, conditions: usize) -> Vec<u8> {
     t
 }
 
+/// 128 productions of 12 symbols, 1,024 rules and 512 conditions, all fields but four as long as they can be: 8 bytes below the bound of
+/// 21,879, since the start symbol has nothing to hand down but constants.
+pub fn largest() -> Vec<u8> {
+    let mut t = Vec::new();
+    field(&mut t, 1, &[63, 48, 0, 1]);
+    field(&mut t, 2, &[0, 4]);
+    for _ in 0..47 {
+        field(&mut t, 2, &[4, 4]);
+    }
+    field(&mut t, 3, &[0, 12, 129, 9, 9, 9, 9, 9, 9, 9, 9, 9, 9, 9]);
+    for a in 1..=4 {
+        field(&mut t, 4, &[1, a, 0, 0, 0, 0, a]);
+        field(&mut t, 4, &[0, a, 7, 1, 4 + a, 0, 0, 0, 1]);
+    }
+    for k in 1..=47u8 {
+        let kinds = if k == 47 { 1 } else { 2 + (k <= 34) as u8 };
+        for kind in 0..kinds {
+            let children = if kind == 2 && k <= 13 { 3 } else { kind };
+            let mut body = vec![k, 12, kind];
+            body.extend(std::iter::repeat_n(129 + k, children as usize));
+            body.resize(14, 9);
+            field(&mut t, 3, &body);
+            for a in 1..=4 {
+                for child in 0..children {
+                    field(&mut t, 4, &[2 + child, a, 7, 0, a, 0, 0, 0, 1]);
+                }
+                field(&mut t, 4, &[0, 4 + a, 7, 0, a, 0, 0, 0, 1]);
+            }
+            for a in (1..=4).cycle().take(if k == 47 { 8 } else { 4 }) {
+                field(&mut t, 5, &[0, 0, a, 0xff, 0xff, 0, 0, 0, 0, 0xff, 0xff]);
+            }
+        }
+    }
+    t
+}
+
+/// Ten productions with a rule for each of 8 attributes of their left side and of each symbol on their right, in the order of their
+/// occurrences or against it. With 12 symbols, the most a production can have, a production has 104 rules and the table 1,024.
+pub fn many_rules(symbols: u8, reversed: bool) -> Vec<u8> {
+    let mut t = Vec::new();
+    field(&mut t, 1, &[1, 12, 0, 1]);
+    for _ in 0..11 {
+        field(&mut t, 2, &[0, 8]);
+    }
+    field(&mut t, 2, &[8, 0]);
+    let mut production = |left: u8, right: &[u8], outputs: u8| {
+        field(&mut t, 3, &[&[left, right.len() as u8], right].concat());
+        let mut rules: Vec<[u8; 2]> = (0..=outputs).flat_map(|k| (1..=8).map(move |a| [k, a])).collect();
+        if reversed {
+            rules.reverse();
+        }
+        for [k, a] in rules {
+            field(&mut t, 4, &[k, a, 0, 0, 0, 0, 1]);
+        }
+    };
+    production(0, &[129, 130, 131, 132, 133, 134, 135, 136, 137, 138], 0);
+    for left in 1..=10 {
+        let width = if left == 10 { symbols.min(9) } else { symbols };
+        production(left, &vec![139; width as usize], width);
+    }
+    field(&mut t, 3, &[11, 1, 0]);
+    t
+}
+
+/// How many fields a table has.
+pub fn fields(table: &[u8]) -> usize {
+    let (mut at, mut count) = (0, 0);
+    while at < table.len() {
+        at += 3 + table[at + 1] as usize * 256 + table[at + 2] as usize;
+        count += 1;
+    }
+    count
+}
+
 /// As long as a table may be, refused by 5 at its last field, a rule with an unknown function.
 pub fn longest_refused() -> Vec<u8> {
     let mut t = chain(47, 33, 512);

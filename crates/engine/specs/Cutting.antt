@@ -16,7 +16,8 @@ use Rattle.meaning.specs.Part.{config}
 use Rattle.meaning.specs.Calls as Calls
 use Rattle.meaning.specs.Calls.{Record, Stacks, Called, lay, lentOf, layAll, frameOf, configOf, recordOf, closedRecord, asBrought, refused, more, stacksFit, whenFit, afterFeed, afterFinish, openOf, feedOf, finishOf}
 use Rattle.theory_answers.specs.FitTest.{fit-exactly}
-use Rattle.fit.specs.Cut.{stacksOf, fits-cut}
+use Rattle.meaning.specs.PublicCalls.{stacksOf}
+use Rattle.fit.specs.Cut.{fits-cut}
 
 -- the cells past the first n and k, put back
 abbrev pub uncut : ℕ → ℕ → List ℤ → List ℕ → Called → Called

@@ -15,20 +15,20 @@ use Rattle.meaning.specs.Machine.{Config, Lent, readRegister, Settled, stopped,
 use Rattle.meaning.specs.Walk.{nothing}
 use Rattle.meaning.specs.Calls as Calls
 use Rattle.meaning.specs.Calls.{Stacks, lentOf, layAll, recordOf, configOf, result, afterFeed, afterFinish}
-use Rattle.theory_answers.specs.Runs.{Led, Finished, finished}
+use Rattle.theory_answers.specs.Runs.{Finished, finished}
 use Rattle.theory_answers.specs.ShapeMemory.{result-ranged}
 use Rattle.theory_program.specs.Records.{segment-words}
 use Rattle.theory_program.specs.Addresses.{Begins, segment-at}
 use Rattle.theory_program.specs.Stands.{stands-within}
-use Rattle.machine.specs.declared.Run.{Run}
+use Rattle.moves.specs.declared.Run.{Run}
 use Rattle.machine.specs.declared.Ended as Ended
 use Rattle.machine.specs.declared.Ended.the-variants.{Stopped, Failed}
-use Rattle.machine.specs.Held.{Held}
-use Rattle.machine.specs.Laid.{LaidIn}
+use Rattle.moves.specs.Held.{Held}
+use Rattle.moves.specs.Laid.{LaidIn}
 use Rattle.registers.specs.Laid.{laid-stack, laid-inside}
 use Rattle.registers.specs.Stack.{stack}
 use Rattle.machine.specs.Advancing.{Settles}
-use Rattle.fit.specs.Cut.{stacksOf}
+use Rattle.meaning.specs.PublicCalls.{stacksOf}
 use Rattle.engine.specs.declared.Record.{Record}
 use Rattle.engine.specs.declared.Answer.{Answer}
 use Rattle.engine.specs.declared.Answer.the-variants.{More, Value, Refused}
@@ -119,7 +119,7 @@ module _ (g : Grammar) (ws : List ℕ) (vs₀ : List ℤ) (ps₀ : List ℕ) (fe
 
   module _ (c : Config) (few-moves : c .moves ≤ movesLimit) where
     pub is-finished : (d : Config) → finishAll g (lentOf (stacksOf vs₀ ps₀)) c ≡ stopped d → T (isFinished d)
-    is-finished d e = subst (λ o. Finished g (lentOf (stacksOf vs₀ ps₀)) [] c o) e (finished g (lentOf (stacksOf vs₀ ps₀)) [] c c (record { moves = []; made = nothing; few = few-moves })) .1
+    is-finished d e = subst (λ o. Finished g (lentOf (stacksOf vs₀ ps₀)) c [] (c .tokens) o) e (finished g (lentOf (stacksOf vs₀ ps₀)) c [] c (record { moves = []; made = λ us b. nothing; few = few-moves })) .1
 
     pub finish-leaves : (vs : List ℤ) (ps : List ℕ) (e : Ended.Ended) → Settles g ws (lentOf (stacksOf vs₀ ps₀)) (finishAll g (lentOf (stacksOf vs₀ ps₀)) c) vs ps e → calledIs (finishedFrom (getD ws 5 0) vs e) vs ps ≡ afterFinish g (stacksOf vs₀ ps₀) (finishAll g (lentOf (stacksOf vs₀ ps₀)) c)
     finish-leaves vs ps (Stopped run) s =

@@ -16,7 +16,7 @@ use Rattle.meaning.specs.Calls.{Stacks, lay, lentOf, layAll, recordOf, closedRe
 use Rattle.registers.specs.Stack.{lay-add, lay-push}
 use Rattle.theory_program.specs.Addresses.{Begins}
 use Rattle.theory_program.specs.Records.{segment-words}
-use Rattle.fit.specs.Cut.{stacksOf}
+use Rattle.meaning.specs.PublicCalls.{stacksOf}
 
 -- all cells cleared
 cleared : {A : Type 0} (clear : A) (n : ℕ) (mem : List A) → n ≡ length mem → lay n clear [] mem ≡ replicate (length mem) clear

@@ -11,13 +11,13 @@ use Rattle.meaning.specs.Fit.{Fit}
 use Rattle.meaning.specs.Machine.{Config, Lent, feedAll, finishAll, over}
 use Rattle.meaning.specs.Calls.{Record, Stacks, lentOf, configOf, afterFeed, afterFinish, feedOf, finishOf}
 use Rattle.theory_program.specs.Addresses.{Begins}
-use Rattle.machine.specs.declared.Run.{Run}
+use Rattle.moves.specs.declared.Run.{Run}
 use Rattle.machine.specs.declared.Ended as Ended
 use Rattle.machine.specs.declared.Ended.the-variants.{Stopped, Failed}
-use Rattle.machine.specs.Held.{Held}
+use Rattle.moves.specs.Held.{Held}
 use Rattle.machine.specs.Advancing.{Running, Settles, Advances}
 use Rattle.machine.specs.Feeding.{Feeds}
-use Rattle.fit.specs.Cut.{stacksOf}
+use Rattle.meaning.specs.PublicCalls.{stacksOf}
 use Rattle.fit.specs.Shown.{Shown}
 use Rattle.engine.specs.declared.Called.{Called}
 use Rattle.engine.specs.Records.{calledIs}

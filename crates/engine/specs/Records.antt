@@ -5,7 +5,7 @@ use lib.IntN.{ℤ}
 use Rattle.meaning.specs.Calls as Calls
 use Rattle.meaning.specs.Calls.{more, value, refused, tableRefused}
 use Rattle.meaning.specs.PublicCalls.{Effect, effect}
-use Rattle.fit.specs.Cut.{stacksOf}
+use Rattle.meaning.specs.PublicCalls.{stacksOf}
 use Rattle.engine.specs.declared.Record.{Record}
 use Rattle.engine.specs.declared.Answer.{Answer}
 use Rattle.engine.specs.declared.Answer.the-variants.{More, Value, Refused, TableRefused}

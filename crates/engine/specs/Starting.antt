@@ -21,11 +21,11 @@ use Rattle.theory_answers.specs.ShapeMemory.{fit-shaped}
 use Rattle.theory_program.specs.Addresses.{Begins}
 use Rattle.theory_program.specs.Resuming.{placeAddress}
 use Rattle.registers.specs.Stack.{stack, stack-length, stack-read}
-use Rattle.machine.specs.declared.Run.{Run}
-use Rattle.machine.specs.Laid.{LaidIn}
-use Rattle.machine.specs.Ahead.{Ahead, ahead-next, ahead-place}
-use Rattle.machine.specs.Held.{Held, topFrame}
-use Rattle.fit.specs.Cut.{stacksOf}
+use Rattle.moves.specs.declared.Run.{Run}
+use Rattle.moves.specs.Laid.{LaidIn}
+use Rattle.moves.specs.Ahead.{Ahead, ahead-next, ahead-place}
+use Rattle.moves.specs.Held.{Held, topFrame}
+use Rattle.meaning.specs.PublicCalls.{stacksOf}
 
 -- ---- the top place
 

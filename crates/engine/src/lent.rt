@@ -7,7 +7,7 @@ ghost use Rattle.meaning.specs.Grammar.{Grammar};
 ghost use Rattle.meaning.specs.Calls.{openOf, feedOf, finishOf};
 ghost use Rattle.theory_program.specs.Addresses.{Begins};
 ghost use Rattle.fit.specs.Shown.{Shown};
-ghost use Rattle.fit.specs.Cut.{stacksOf};
+ghost use Rattle.meaning.specs.PublicCalls.{stacksOf};
 ghost use Rattle.engine.specs.Records.{recordIs, calledIs};
 ghost use Rattle.engine.specs.Judging.{Brought, turnedBack};
 use crate::Answer;
@@ -51,7 +51,7 @@ fn open_lent(registers: &mut [i64], places: &mut [u32], program: &[u32]) -> Call
     requires { ⌜ (length (now registers) ≤ 4096) × (length (now places) ≤ 1024) × (4 < length (now program)) ⌝ }
     ensures { λ r. ⌜ ((g : Grammar) → Begins g (now (program .entry)) → calledIs r (now (registers .exit)) (now (places .exit)) ≡ openOf g (stacksOf (now (registers .entry)) (now (places .entry)))) ⌝ }
 {
-    let count = machine::word_at(program, 4);
+    let count = moves::word_at(program, 4);
     if registers.len() < count {
         return closed(Answer::Refused {
             number: 31,

@@ -3,7 +3,7 @@ ghost use mathlib.Core.Path.{_≡_};
 ghost use lib.ListN.{length};
 ghost use Rattle.meaning.specs.Program.{programOf};
 ghost use Rattle.meaning.specs.PublicCalls.{opens, performs, feed, finish};
-ghost use Rattle.fit.specs.Cut.{stacksOf};
+ghost use Rattle.meaning.specs.PublicCalls.{stacksOf};
 ghost use Rattle.engine.specs.Records.{recordIs, effectIs};
 ghost use Rattle.engine.specs.Beginning.{BegunAs};
 use prepare::Prepared;

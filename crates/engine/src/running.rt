@@ -10,8 +10,8 @@ ghost use Rattle.meaning.specs.Fit.{Fit};
 ghost use Rattle.meaning.specs.Calls.{lentOf, configOf};
 ghost use Rattle.theory_program.specs.Addresses.{Begins};
 ghost use Rattle.theory_program.specs.Resuming.{placeAddress};
-ghost use Rattle.machine.specs.Held.{Held};
-ghost use Rattle.fit.specs.Cut.{stacksOf};
+ghost use Rattle.moves.specs.Held.{Held};
+ghost use Rattle.meaning.specs.PublicCalls.{stacksOf};
 ghost use Rattle.engine.specs.Records.{recordIs};
 ghost use Rattle.engine.specs.Starting.{Stood, Standing, Fitting};
 ghost use Rattle.engine.specs.Leaving.{recordFrom, broughtFrom, closedFrom, fedFrom, finishedFrom, Ending};
@@ -19,7 +19,7 @@ use crate::Answer;
 use crate::Called;
 use crate::Record;
 use machine::Ended;
-use machine::Run;
+use moves::Run;
 
 // ---- from a record to a run
 
@@ -34,7 +34,7 @@ fn address_of(program: &[u32], place: usize) -> usize
     if place == LEFT {
         return 1;
     }
-    machine::resume(program, place)
+    moves::resume(program, place)
 }
 
 pub fn run_of(places: &[u32], program: &[u32], brought: Record) -> Run
@@ -42,7 +42,7 @@ pub fn run_of(places: &[u32], program: &[u32], brought: Record) -> Run
     ensures { λ r. ⌜ ((g : Grammar) (vs : List ℤ) → Begins g (now (program .entry)) → WellFormed g → length vs ≤ 4096 → length (now (places .entry)) ≤ 1024 → Fit g (recordIs brought) (stacksOf vs (now (places .entry))) → Held g (now (program .entry)) (lentOf (stacksOf vs (now (places .entry)))) vs (now (places .entry)) r (configOf g (recordIs brought) (stacksOf vs (now (places .entry))))) ⌝ }
 {
     let height = brought.places as usize;
-    let place = machine::word_at(places, height - 1);
+    let place = moves::word_at(places, height - 1);
     Run {
         tokens: brought.tokens,
         moves: brought.moves,

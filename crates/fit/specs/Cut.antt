@@ -14,10 +14,8 @@ use Rattle.meaning.specs.Grammar.{Grammar}
 use Rattle.meaning.specs.Rules.{WellFormed}
 use Rattle.meaning.specs.Machine.{tokensLimit, movesLimit}
 use Rattle.meaning.specs.Calls.{Record, Stacks, lentOf, isMark, stackFits, stacksFit}
+use Rattle.meaning.specs.PublicCalls.{stacksOf}
 use Rattle.fit.specs.Upward.{standsFit, stack-fits-up}
-
-abbrev pub stacksOf : List ℤ → List ℕ → Stacks
-stacksOf vs ps = record { registers = vs; places = ps }
 
 -- the lent cells
 abbrev pub cut : Stacks → Stacks

@@ -10,7 +10,8 @@ use Rattle.meaning.specs.Words.{words}
 use Rattle.meaning.specs.Calls.{stacksFit}
 use Rattle.fit.specs.Upward.{kind, fitsFrom, placesAbove, cellsAbove, standsFit}
 use Rattle.fit.specs.Shown.{countOf, countsFrom, rowOn, cellsAt}
-use Rattle.fit.specs.Cut.{numbers, stacksOf}
+use Rattle.meaning.specs.PublicCalls.{stacksOf}
+use Rattle.fit.specs.Cut.{numbers}
 
 -- 01: "places from the bottom 32768, 0, 257, 513"; the registers from the bottom, the highest but one as given
 abbrev places : List ℕ

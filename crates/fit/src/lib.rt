@@ -10,7 +10,8 @@ ghost use Rattle.meaning.specs.Value.{inRange};
 ghost use Rattle.meaning.specs.Calls.{isMark, cellFits, stacksFit};
 ghost use Rattle.fit.specs.Upward.{kind, Passes, stretches, fitsFrom, placesAbove, cellsAbove, standsFit};
 ghost use Rattle.fit.specs.Shown.{Shown, Readable, RowTo, countOf, countsFrom, rowOn, cellsAt};
-ghost use Rattle.fit.specs.Cut.{numbers, stacksOf};
+ghost use Rattle.meaning.specs.PublicCalls.{stacksOf};
+ghost use Rattle.fit.specs.Cut.{numbers};
 
 // 01: the whole segment's place, while the start symbol is waited at and once it is left.
 const SEGMENT: u32 = 32768;

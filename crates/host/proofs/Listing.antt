@@ -7,7 +7,7 @@ use borrow.Author.Tests.{lt-ltb, le-ltb}
 use lib.ListN.{length}
 use lib.Dec.{ltb}
 use Rattle.meaning.specs.PublicCalls.{areaLength, written}
-use Rattle.prepare.specs.Making.{madeOf}
+use Rattle.meaning.specs.PublicCalls.{madeOf}
 use Rattle.listing_pages.specs.declared.Page.{Page}
 use Rattle.listing_pages.specs.Pages.{lineRoom, lead, left, isNone, linesOf, Shows}
 use Rattle.host.specs.Lent.{flagOf}

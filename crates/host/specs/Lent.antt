@@ -8,7 +8,7 @@ use lib.Dec.{eqb}
 use lib.IntN.{ℤ, pos}
 use Rattle.meaning.specs.Calls.{Record, Answer, more, value, refused, tableRefused}
 use Rattle.meaning.specs.PublicCalls.{Effect}
-use Rattle.fit.specs.Cut.{stacksOf}
+use Rattle.meaning.specs.PublicCalls.{stacksOf}
 use Rattle.engine.specs.declared.Called.{Called}
 use Rattle.engine.specs.Records.{recordIs, answerIs, effectIs}
 

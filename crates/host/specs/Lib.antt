@@ -1,3 +1,4 @@
 pub mod Lent
 pub mod Listed
 pub mod Passed
+pub mod Windows

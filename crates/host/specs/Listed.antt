@@ -6,7 +6,7 @@ use mathlib.Core.List.{List, _++_}
 use lib.ListN.{length}
 use lib.Dec.{ltb}
 use Rattle.meaning.specs.PublicCalls.{areaLength, written, joined, printed}
-use Rattle.prepare.specs.Making.{madeOf}
+use Rattle.meaning.specs.PublicCalls.{madeOf}
 use Rattle.listing_pages.specs.Pages.{lineRoom, lead, left, isNone, lead-left, linesOf, lines-printed}
 use Rattle.host.specs.Lent.{flagOf}
 

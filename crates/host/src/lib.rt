@@ -3,7 +3,7 @@ ghost use mathlib.Core.Path.{_≡_};
 ghost use Rattle.meaning.specs.Decide.{verdictOf};
 ghost use Rattle.meaning.specs.Program.{programOf};
 ghost use Rattle.meaning.specs.PublicCalls.{opens, performs, feed, finish};
-ghost use Rattle.fit.specs.Cut.{stacksOf};
+ghost use Rattle.meaning.specs.PublicCalls.{stacksOf};
 ghost use Rattle.engine.specs.Records.{recordIs, answerIs};
 ghost use Rattle.host.specs.Passed.{checked, Stretched};
 ghost use Rattle.host.specs.Listed.{listed, listedOf};
@@ -13,6 +13,8 @@ use checker::spans::Span;
 use engine::Answer;
 use engine::Called;
 use engine::Record;
+
+pub mod windows;
 
 // ---- calls on a table
 

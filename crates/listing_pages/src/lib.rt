@@ -5,7 +5,7 @@ ghost use mathlib.Core.List.{[], _∷_};
 ghost use lib.ListN.{length};
 ghost use Rattle.meaning.specs.Listing.{refusalLine};
 ghost use Rattle.meaning.specs.PublicCalls.{areaLength};
-ghost use Rattle.prepare.specs.Making.{madeOf};
+ghost use Rattle.meaning.specs.PublicCalls.{madeOf};
 ghost use Rattle.listing_text.specs.Cursors.{linesLeft};
 ghost use Rattle.listing_pages.specs.Pages.{Shows, Onward, linesOf};
 use listing_text::Cursor;

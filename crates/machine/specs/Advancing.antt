@@ -16,12 +16,12 @@ use Rattle.meaning.specs.Part.{frame}
 use Rattle.theory_answers.specs.Bounds.{counts}
 use Rattle.theory_base.specs.Steps.{advance-stopped, advance-failed, advance-moved}
 use Rattle.theory_program.specs.Code.{operation, low-operation}
-use Rattle.machine.specs.declared.Run.{Run}
-use Rattle.machine.specs.declared.Step.the-variants.{Moved, Blocked}
+use Rattle.moves.specs.declared.Run.{Run}
+use Rattle.moves.specs.declared.Step.the-variants.{Moved, Blocked}
 use Rattle.machine.specs.declared.Ended as Ended
 use Rattle.machine.specs.declared.Ended.the-variants.{Stopped, Failed}
-use Rattle.machine.specs.Held.{Held, Answers, AtHand, some, nothing, at-hand}
-use Rattle.machine.specs.Passing.{lookIf, lookOf}
+use Rattle.moves.specs.Held.{Held, Answers, AtHand, some, nothing, at-hand}
+use Rattle.moves.specs.Passing.{lookIf, lookOf}
 
 -- what is answered for what the machine settles in
 abbrev pub Settles : Grammar → List ℕ → Lent → Settled → List ℤ → List ℕ → Ended.Ended → Type 0

@@ -13,11 +13,11 @@ use Rattle.meaning.specs.Grammar.{Grammar}
 use Rattle.meaning.specs.Rules.{WellFormed}
 use Rattle.meaning.specs.Machine.{Config, Lent, Settled, stopped, failed, token, advanceFrom, feedToken, feedAll, tokensLimit}
 use Rattle.theory_program.specs.Records.{segment-words}
-use Rattle.machine.specs.declared.Run.{Run}
+use Rattle.moves.specs.declared.Run.{Run}
 use Rattle.machine.specs.declared.Ended as Ended
 use Rattle.machine.specs.declared.Ended.the-variants.{Stopped, Failed}
-use Rattle.machine.specs.Held.{Held}
-use Rattle.machine.specs.Passing.{lookIf, lookOf}
+use Rattle.moves.specs.Held.{Held}
+use Rattle.moves.specs.Passing.{lookIf, lookOf}
 use Rattle.machine.specs.Advancing.{Settles, Running, Advances}
 
 -- ---- with a limit on the tokens read before, and a bound on what comes next

@@ -3,8 +3,8 @@ use mathlib.Core.Path.{_≡_, refl}
 use mathlib.Core.Bool.{true, false}
 use mathlib.Core.List.{[], _∷_}
 use Rattle.meaning.specs.Grammar.{token, over}
-use Rattle.machine.specs.Moves.{passed}
-use Rattle.machine.specs.Passing.{lookOf}
+use Rattle.moves.specs.Moves.{passed}
+use Rattle.moves.specs.Passing.{lookOf}
 use Rattle.machine.specs.Advancing.{stopsAt}
 
 aToken : lookOf 7 ≡ token 7

@@ -7,7 +7,7 @@ use lib.IntN.{pos}
 use Rattle.meaning.specs.Base.{keep, countFrom}
 use Rattle.meaning.specs.Calls.{Answer, more, value, refused, tableRefused}
 use Rattle.meaning.specs.PublicCalls.{feed, finish}
-use Rattle.meaning.specs.Statements.{openingAnswer, callAnswer}
+use Rattle.meaning.specs.CallStatements.{openingAnswer, callAnswer}
 
 -- the numbers below 40 that are answered
 abbrev numbers : (ℕ → Answer) → (Answer → Bool) → List ℕ

@@ -15,10 +15,10 @@ use Rattle.meaning.specs.SchemeRows.{wide}
 use Rattle.meaning.specs.WalkRows.{wideTree, wideSegment}
 use Rattle.meaning.specs.CallRows.{m}
 
-abbrev open-node : ℕ → List ℤ → List Tree → Open
+abbrev pub open-node : ℕ → List ℤ → List Tree → Open
 open-node p vs ts = record { production = p; inherited = vs; children = ts }
 
-abbrev waits-at : Open → Symbol → List Symbol → Ancestor
+abbrev pub waits-at : Open → Symbol → List Symbol → Ancestor
 waits-at o x xs = record { node = o; symbol = x; ahead = xs }
 
 -- ---- word open
@@ -80,23 +80,23 @@ after (suc n) g us c = elim (next g (lent 12 5) (lookAt us) c) [ blocked k ↦ c
 abbrev machine : ℕ → Config
 machine n = after n wide wideSegment (opening wide)
 
-abbrev X : Symbol
+abbrev pub X : Symbol
 X = nonterminal 1
 
-abbrev Y : Symbol
+abbrev pub Y : Symbol
 Y = nonterminal 2
 
-abbrev y1 : Tree
+abbrev pub y1 : Tree
 y1 = node 3 (pos 7 ∷ pos 7 ∷ pos 8 ∷ []) (treeAnd (leaf 2) noTrees)
 
-abbrev x3 : Tree
+abbrev pub x3 : Tree
 x3 = node 2 (pos 7 ∷ pos 3 ∷ pos 7 ∷ []) (treeAnd (leaf 1) noTrees)
 
-abbrev y4 : Tree
+abbrev pub y4 : Tree
 y4 = node 3 (negsuc 0 ∷ negsuc 0 ∷ pos 0 ∷ []) (treeAnd (leaf 2) noTrees)
 
 -- the node of X with these left children, the latest first, at a point
-abbrev in-X : List Tree → Point → Part
+abbrev pub in-X : List Tree → Point → Part
 in-X ts pt = partAt (open-node 1 (pos 3 ∷ pos 4 ∷ []) ts) pt (waits-at (open-node 0 [] []) X [] ∷ waits-at (open-node whole [] []) (nonterminal 0) [] ∷ [])
 
 at-predict : machine 4 ≡ drawPart wide (in-X [] (fresh (Y ∷ terminal 0 ∷ X ∷ Y ∷ []))) 0 4
@@ -128,7 +128,7 @@ at-closing-registers = refl
 
 -- ---- values of occurrences
 
-abbrev last-added : Part
+abbrev pub last-added : Part
 last-added = in-X (x3 ∷ leaf 0 ∷ y1 ∷ []) (added Y [])
 
 values : map (valueIn (pos 3 ∷ pos 4 ∷ []) (x3 ∷ leaf 0 ∷ y1 ∷ [])) (occ 0 1 ∷ occ 0 2 ∷ occ 1 1 ∷ occ 1 2 ∷ occ 1 3 ∷ occ 3 2 ∷ occ 3 3 ∷ []) ≡ (pos 3) ∷ pos 4 ∷ pos 7 ∷ pos 7 ∷ pos 8 ∷ pos 3 ∷ pos 7 ∷ []

@@ -4,10 +4,12 @@ use mathlib.Core.Bool.{true, false}
 use mathlib.Core.List.{List, [], _∷_, _++_}
 use lib.ListN.{length, drop, take}
 use lib.Dec.{ltb}
+use lib.IntN.{ℤ}
 use Rattle.meaning.specs.Grammar.{Grammar}
 use Rattle.meaning.specs.Table.{State, wellFormed, malformed, readTable, grammarOf}
 use Rattle.meaning.specs.Judgement.{Verdict, accepted, rejected, entryOffset}
 use Rattle.meaning.specs.Decide.{judge}
+use Rattle.meaning.specs.Program.{programOf}
 use Rattle.meaning.specs.Listing.{Text, listing, refusalLine}
 use Rattle.meaning.specs.Calls.{Record, Stacks, Called, Answer, refused, tableRefused, closedRecord, asBrought, openOf, feedOf, finishOf}
 
@@ -70,6 +72,35 @@ opens program bs area m = called program bs area closedRecord m (λ g. openOf g 
 
 abbrev pub performs : (Grammar → List ℕ) → List ℕ → List ℕ → Record → Stacks → Call → Effect
 performs program bs area r m c = called program bs area r m (λ g. callOf g r m c)
+
+-- the stacks that a caller lends
+abbrev pub stacksOf : List ℤ → List ℕ → Stacks
+stacksOf vs ps = record { registers = vs; places = ps }
+
+-- ---- the program of a table, for a caller that only wants it
+
+-- turned back with 01's number and offset, or a program of so many words
+pub data ProgramAnswer : Type 0 where
+  turned : ℕ → ℕ → ProgramAnswer
+  programmed : ℕ → ProgramAnswer
+
+-- the answer, and the area afterwards
+pub record Made : Type 0 where
+  pub answer : ProgramAnswer
+  pub area : List ℕ
+
+abbrev pub made : ProgramAnswer → List ℕ → Made
+made a area = record { answer = a; area = area }
+
+-- 01: "Its content depends on the table alone .. and words beyond the program are not touched"
+abbrev pub madeOf : List ℕ → List ℕ → Made
+madeOf bs area = elim (ltb (length area) areaLength) [
+  | true ↦ made (turned 30 0) area
+  | false ↦ elim (check bs) [
+    | unusable n o ↦ made (turned n o) area
+    | usable s ↦ made (programmed (length (programOf (grammarOf s)))) (written (programOf (grammarOf s)) area)
+  ]
+]
 
 -- ---- the stretch of a production
 

@@ -8,7 +8,9 @@ use lib.Dec.{ltb}
 use lib.IntN.{pos, negsuc}
 use Rattle.meaning.specs.Grammar.{Grammar}
 use Rattle.meaning.specs.Calls.{Record, Stacks, Answer, more, value, refused, tableRefused, closedRecord}
-use Rattle.meaning.specs.PublicCalls.{called, feed, finish, areaLength, written, Effect, opens, performs, stretchOf}
+use Rattle.meaning.specs.PublicCalls.{called, feed, finish, areaLength, written, Effect, opens, performs, stretchOf, turned, programmed, made, madeOf}
+use Rattle.meaning.specs.Program.{programOf}
+use Rattle.meaning.specs.Words.{words}
 use Rattle.meaning.specs.Samples.{small, functions}
 use Rattle.meaning.specs.TableRows.{bytes}
 use Rattle.meaning.specs.CallRows.{m, state, stacks, used}
@@ -120,3 +122,15 @@ no-such-production = refl
 
 refused-stretch : map (λ p. stretchOf (small ++ (3 ∷ [])) p 9 8) (0 ∷ 4 ∷ []) ≡ replicate 2 (record { part = []; number = 2; offset = 57 })
 refused-stretch = refl
+
+-- ---- the program alone: 30 before the table; refused, nothing is written; accepted, the program's words and no more
+
+program-short : madeOf [] (5 ∷ []) ≡ made (turned 30 0) (5 ∷ [])
+program-short = refl
+
+program-refused : (area : List ℕ) → Long area → madeOf (1 ∷ 0 ∷ []) area ≡ made (turned 2 0) area
+program-refused area h = rw (h, madeOf)
+
+program-written : (area : List ℕ) → Long area → madeOf bytes area ≡ made (programmed (length (programOf words))) (written (programOf words) area)
+unfolding bytes
+program-written area h = rw (h, madeOf)

@@ -1,127 +1,28 @@
--- The demands, as statements: each is a type, and its proof, in theory_demands, is a value of it.
+-- Demands 2 and 3, as statements: each is a type, and its proof, in theory_demands, is a value of it. (Demand 1 is in CallStatements.)
 use Prim.Native.Nat.{ℕ, _+_, _≤_, _<_}
 use mathlib.Core.Path.{_≡_}
-use mathlib.Core.Logic.{_↔_, _⊎_}
+use mathlib.Core.Logic.{_↔_}
 use mathlib.Core.Bool.{Bool, true, false}
 use mathlib.Core.List.{List, [], _∷_, _++_}
 use lib.ListN.{length}
-use lib.Dec.{T, eqb}
+use lib.Dec.{T}
 use lib.IntN.{ℤ}
-use Rattle.meaning.specs.Base.{any, In}
-use Rattle.meaning.specs.Grammar.{Grammar, Symbol, nonterminal, Rule, Condition, att, syn, productionAt}
-use Rattle.meaning.specs.Rules.{WellFormed, Operands, Reads}
+use Rattle.meaning.specs.Grammar.{Grammar, Symbol, att, syn}
+use Rattle.meaning.specs.Rules.{WellFormed}
 use Rattle.meaning.specs.Layout.{LaidOut, Bytes}
 use Rattle.meaning.specs.Judgement.{Accepted, Judged, Verdict, AllUseful, NoneRecursive, NoneClash}
 use Rattle.meaning.specs.Decide.{verdictOf}
-use Rattle.meaning.specs.Value.{inRange}
-use Rattle.meaning.specs.Scheme.{Instruction, add, evaluate, expect, test, remove, entryTests}
-use Rattle.meaning.specs.Machine.{Frame, Config, Lent, moved, opening, next, lookAt, unread, readRegister, movesLimit, tokensLimit}
+use Rattle.meaning.specs.Scheme.{Instruction, expect}
+use Rattle.meaning.specs.Machine.{Frame, Config, Lent, moved, opening, next, lookAt, unread, waits}
 use Rattle.meaning.specs.Tree.{Tree, TreeOf, valueOf}
 use Rattle.meaning.specs.Walk.{Act, walk, Makes}
 use Rattle.meaning.specs.Selectors.{SelectorsFind}
-use Rattle.meaning.specs.Calls.{Record, Stacks, Answer, more, value, refused, tableRefused, lentOf, recordOf, layAll, configOf, stacksFit}
-use Rattle.meaning.specs.Fit.{Fit}
-use Rattle.meaning.specs.PublicCalls.{Call, feed, finish, areaLength, written, Effect, opens, performs}
+use Rattle.meaning.specs.Calls.{Record, Stacks, more, value, lentOf, recordOf, layAll}
+use Rattle.meaning.specs.PublicCalls.{Call, feed, finish, areaLength, Effect, opens, performs}
+use Rattle.meaning.specs.CallStatements.{Met, tokensOf}
 use Rattle.meaning.specs.Drawn.{WalkFits, drawnRecord, drawnStacks, drawnMoves}
 
--- 34 is the declarative one
-abbrev pub FitExactly : Type 0
-FitExactly = (g : Grammar) (r : Record) (m : Stacks) → T (stacksFit g r m) ↔ Fit g r m
-
--- ==== demand 1: each call gives what it is for, or exactly one numbered refusal of 01
-
-abbrev pub among : List ℕ → ℕ → Bool
-among ns n = any (eqb n) ns
-
-abbrev pub isTableNumber : ℕ → Bool
-isTableNumber n = among (1 ∷ 2 ∷ 3 ∷ 4 ∷ 5 ∷ 6 ∷ 7 ∷ 8 ∷ 9 ∷ 10 ∷ 11 ∷ 12 ∷ 13 ∷ []) n
-
--- what an opening, a feed and a finish may answer
-abbrev pub openingAnswer : Answer → Bool
-openingAnswer (more n) = eqb n 0
-openingAnswer (value v n) = false
-openingAnswer (refused k n) = among (30 ∷ 31 ∷ 32 ∷ []) k
-openingAnswer (tableRefused k o) = isTableNumber k
-
-abbrev pub callAnswer : Call → Answer → Bool
-callAnswer (feed ts) (more n) = true
-callAnswer (feed ts) (value v n) = false
-callAnswer (feed ts) (refused k n) = among (20 ∷ 21 ∷ 22 ∷ 23 ∷ 30 ∷ 31 ∷ 32 ∷ 33 ∷ 34 ∷ 35 ∷ []) k
-callAnswer (feed ts) (tableRefused k o) = isTableNumber k
-callAnswer finish (more n) = false
-callAnswer finish (value v n) = inRange v
-callAnswer finish (refused k n) = among (22 ∷ 23 ∷ 24 ∷ 30 ∷ 31 ∷ 32 ∷ 33 ∷ 34 ∷ 35 ∷ []) k
-callAnswer finish (tableRefused k o) = isTableNumber k
-
--- for arbitrary bytes, areas, records, stacks and tokens
-abbrev pub AlwaysAnswers : Type 0
-AlwaysAnswers =
-    ((program : Grammar → List ℕ) (bs area : List ℕ) (m : Stacks) → T (openingAnswer (opens program bs area m .answer)))
-    × ((program : Grammar → List ℕ) (bs area : List ℕ) (r : Record) (m : Stacks) (c : Call) → T (callAnswer c (performs program bs area r m c .answer)))
-
--- a call on a run that is not turned back before its moves
-pub record Met (bs : List ℕ) (g : Grammar) (area : List ℕ) (r : Record) (m : Stacks) : Type 0 where
-  pub long : areaLength ≤ length area
-  pub accepts : Accepted bs g
-  pub isOpen : r .isOpen ≡ true
-  pub fits : Fit g r m
-
-abbrev pub tokensOf : Call → List ℕ
-tokensOf (feed ts) = ts
-tokensOf finish = []
-
-abbrev pub staysOpen : Answer → Bool
-staysOpen (more n) = true
-staysOpen (value v n) = false
-staysOpen (refused k n) = false
-staysOpen (tableRefused k o) = false
-
--- the moves of a call: what it leaves is the configuration that they lead to, whatever the answer. 01: "The failing move changes nothing, earlier ones stand, the record is closed."
-pub record MovesTo (g : Grammar) (m : Stacks) (c : Config) (call : Call) (e : Effect) : Type 0 where
-  pub moves : List Act
-  pub left : List ℕ
-  pub to : Config
-  pub made : Makes g (lentOf m) (tokensOf call) c moves left to
-  pub isRecord : e .state ≡ recordOf (staysOpen (e .answer)) to
-  pub isStacks : e .stacks ≡ layAll g to m
-  -- what a call leaves open, the next call reads back
-  pub readBack : staysOpen (e .answer) ≡ true → Fit g (e .state) (e .stacks) × (configOf g (e .state) (e .stacks) ≡ to)
-
-abbrev pub CallsMove : Type 0
-CallsMove = (program : Grammar → List ℕ) (bs area : List ℕ) (g : Grammar) (r : Record) (m : Stacks) (c : Call) → Met bs g area r m → MovesTo g m (configOf g r m) c (performs program bs area r m c)
-
--- an empty feed changes nothing but the program area
-abbrev pub EmptyFeed : Type 0
-EmptyFeed = (program : Grammar → List ℕ) (bs area : List ℕ) (g : Grammar) (r : Record) (m : Stacks) → Met bs g area r m → performs program bs area r m (feed []) ≡ record { answer = more (r .moves); state = r; stacks = m; area = written (program g) area }
-
--- 01: "35 a token after 65,535, or a move after 4,294,967,295"
-abbrev pub LimitsOnly : Type 0
-LimitsOnly = (program : Grammar → List ℕ) (bs area : List ℕ) (r : Record) (m : Stacks) (c : Call) (n : ℕ) → performs program bs area r m c .answer ≡ refused 35 n
-    → (performs program bs area r m c .state .tokens ≡ tokensLimit) ⊎ (performs program bs area r m c .state .moves ≡ movesLimit)
-
--- a selector of a register that stands, and one of a register that holds a value
-abbrev pub Standing : Config → ℕ → Type 0
-Standing c k = (1 ≤ k) × (k ≤ length (c .registers))
-
-abbrev pub Valued : Config → ℕ → Type 0
-Valued c k = (1 ≤ k) × (k ≤ length (c .registers)) × T (inRange (readRegister (c .registers) k))
-
--- what the instruction at hand reads and writes
-abbrev pub Handles : Grammar → Config → Instruction → Type 0
-Handles g c (add n) = Unit {0}
-Handles g c (evaluate rules) = (r : Rule ℕ) → In r rules → Standing c (r .target) × Operands (Valued c) (r .function)
-Handles g c (test cs) = (t : Condition ℕ) → In t cs → Reads (Valued c) t
-Handles g c (remove n) = n ≤ length (c .registers)
-Handles g c (expect x) = (p : ℕ) → p < length (g .productions) → x ≡ nonterminal (productionAt g p .left) → (t : Condition ℕ) → In t (entryTests g (productionAt g p)) → Reads (Valued c) t
-
--- whatever fits, at every move: selectors stand between 1 and the height, every register read holds a value in range
-abbrev pub HandlesAlways : Type 0
-HandlesAlways =
-    (bs : List ℕ) (g : Grammar) (r : Record) (m : Stacks) → Accepted bs g → Fit g r m
-    → (ws : List Act) (us vs : List ℕ) (c : Config) → Makes g (lentOf m) us (configOf g r m) ws vs c
-    → (p : ℕ) (i : Instruction) (is : List Instruction) (fs : List Frame) → c .frames ≡ record { production = p; rest = i ∷ is } ∷ fs → Handles g c i
-
--- ==== demand 2: a table is accepted exactly when it meets 01's rules
+-- ==== demand 2: "A table is accepted exactly when it meets 01's rules."
 
 pub record Meets (bs : List ℕ) (g : Grammar) : Type 0 where
   -- 01: "At most 32,768 bytes of fields"
@@ -154,21 +55,45 @@ pub data History (program : Grammar → List ℕ) (bs : List ℕ) (m₀ : Stacks
   finished : {ts : List ℕ} {r : Record} {m : Stacks} (area : List ℕ) → History program bs m₀ ts false r m → areaLength ≤ length area → r .isOpen ≡ true
       → History program bs m₀ ts true (performs program bs area r m finish .state) (performs program bs area r m finish .stacks)
 
+-- does a call end the segment?
+abbrev pub ends : Call → Bool
+ends (feed ts) = false
+ends finish = true
+
+-- any list of calls goes on with any call: with the opening's table on an open record it adds its tokens or the end; a call, with any table and area, that is turned back before its moves counts for nothing. (Left out is only a call that moves under another table)
+abbrev pub GoesOn : Type 0
+GoesOn =
+    (program : Grammar → List ℕ) (bs : List ℕ) (g : Grammar) (m₀ : Stacks) (ts : List ℕ) (isOver : Bool) (r : Record) (m : Stacks) → Accepted bs g → History program bs m₀ ts isOver r m
+    → ((area : List ℕ) (c : Call) → areaLength ≤ length area → r .isOpen ≡ true → History program bs m₀ (ts ++ tokensOf c) (ends c) (performs program bs area r m c .state) (performs program bs area r m c .stacks))
+    × ((other area : List ℕ) (c : Call) → ((h : Grammar) → Met other h area r m → ⊥) → History program bs m₀ ts isOver (performs program other area r m c .state) (performs program other area r m c .stacks))
+
 -- ==== demand 2: values
 
+-- "That tree is its only one."
 abbrev pub OnlyTree : Type 0
 OnlyTree = (bs : List ℕ) (g : Grammar) → Accepted bs g → (ts : List ℕ) (t u : Tree) → TreeOf g ts t → TreeOf g ts u → t ≡ u
 
--- a finish after any list of calls answers v with n moves exactly where the tokens fed have a well evaluated tree with value v whose walk, of n moves, fits
+-- "Under it a segment gets a value exactly when it has a well evaluated derivation tree with that value, its walk fits the lent stacks and it keeps to the limits."
+-- After any list of calls: a finish answers v with n moves exactly where the tokens fed have such a tree, with value v and a walk of n moves
 abbrev pub ValueAlways : Type 0
 ValueAlways =
     (program : Grammar → List ℕ) (bs area : List ℕ) (g : Grammar) (m₀ : Stacks) (ts : List ℕ) (r : Record) (m : Stacks) → Accepted bs g → areaLength ≤ length area
     → History program bs m₀ ts false r m → (v : ℤ) (n : ℕ)
     → (performs program bs area r m finish .answer ≡ value v n) ↔ ((t : Tree) × TreeOf g ts t × WalkFits g (lentOf m₀) t × (valueOf g t ≡ v) × (length (walk g t) ≡ n))
 
+-- what a feed of ts and a finish do after an opening that left o
+abbrev pub fedAndFinished : (Grammar → List ℕ) → List ℕ → List ℕ → List ℕ → Effect → Effect
+fedAndFinished program bs area ts o = let f = performs program bs area (o .state) (o .stacks) (feed ts) in performs program bs area (f .state) (f .stacks) finish
+
+-- a segment brought whole: opened, fed, finished. Nothing is presupposed of the opening
+abbrev pub ValueWhole : Type 0
+ValueWhole =
+    (program : Grammar → List ℕ) (bs area : List ℕ) (g : Grammar) (m : Stacks) (ts : List ℕ) → Accepted bs g → areaLength ≤ length area → (v : ℤ) (n : ℕ)
+    → (fedAndFinished program bs area ts (opens program bs area m) .answer ≡ value v n) ↔ ((t : Tree) × TreeOf g ts t × WalkFits g (lentOf m) t × (valueOf g t ≡ v) × (length (walk g t) ≡ n))
+
 -- ==== demand 3
 
--- registers, places and record are the picture that 01 draws from the tree
+-- "For every list of calls from an opening, registers, places and record are exactly the picture that 01 draws from the tree"
 abbrev pub PictureAlways : Type 0
 PictureAlways =
     (program : Grammar → List ℕ) (bs : List ℕ) (g : Grammar) (m₀ : Stacks) (ts us : List ℕ) (isOver : Bool) (r : Record) (m : Stacks) (t : Tree)
@@ -176,7 +101,7 @@ PictureAlways =
     → TreeOf g (ts ++ us) t → WalkFits g (lentOf m₀) t → (isOver ≡ true → us ≡ [])
     → (r ≡ drawnRecord g t (length ts) isOver) × (m ≡ drawnStacks g t (length ts) isOver m₀)
 
--- for any tokens: record and stacks are those of the configuration that so many moves from the opening lead to, which have read all the tokens fed, or, where the record is closed, a first part of them
+-- for any tokens: record and stacks are those of the configuration that so many moves from the opening lead to, which have read a first part of the tokens fed
 pub record Reached (g : Grammar) (m₀ : Stacks) (ts : List ℕ) (r : Record) (m : Stacks) : Type 0 where
   pub moves : List Act
   pub unread : List ℕ
@@ -185,7 +110,8 @@ pub record Reached (g : Grammar) (m₀ : Stacks) (ts : List ℕ) (r : Record) (m
   pub counted : length moves ≡ r .moves
   pub isRecord : r ≡ recordOf (r .isOpen) config
   pub isStacks : m ≡ layAll g config m₀
-  pub allRead : r .isOpen ≡ true → unread ≡ []
+  -- while the record is open they have read all of them, no move has looked at what comes next, and the next move must
+  pub openRun : r .isOpen ≡ true → ((us : List ℕ) → Makes g (lentOf m₀) (ts ++ us) (opening g) moves us config) × T (waits (config .frames))
 
 abbrev pub ReachedAlways : Type 0
 ReachedAlways = (program : Grammar → List ℕ) (bs : List ℕ) (g : Grammar) (m₀ : Stacks) (ts : List ℕ) (isOver : Bool) (r : Record) (m : Stacks) → Accepted bs g → History program bs m₀ ts isOver r m → Reached g m₀ ts r m
@@ -198,7 +124,7 @@ WalkAlways =
     → TreeOf g (ts ++ us) t → WalkFits g (lentOf m₀) t → (isOver ≡ true → us ≡ [])
     → (c : Config) × Makes g (lentOf m₀) (ts ++ us) (opening g) (drawnMoves g t (length ts) isOver) us c × (r ≡ recordOf (r .isOpen) c) × (m ≡ layAll g c m₀)
 
--- at each move that the opening leads to, whatever the tokens, every selector finds the attribute it names
+-- "at each move, whatever the tokens, every selector finds the attribute it names": each move that the opening leads to
 abbrev pub SelectorsAlways : Type 0
 SelectorsAlways =
     (bs : List ℕ) (g : Grammar) → Accepted bs g → (lent : Lent) (ws : List Act) (ts us : List ℕ) (c : Config) → Makes g lent (ts ++ us) (opening g) ws us c
@@ -226,7 +152,7 @@ pub record Returned (g : Grammar) (x : Symbol) (c z : Config) : Type 0 where
   pub leaves : z .registers ≡ results ++ below
   pub resultsSize : length results ≡ syn g x
 
--- when a part is left, the registers below its results are those it was entered with
+-- "when a part is left, the registers below its results are those it was entered with"
 abbrev pub ReturnsAlways : Type 0
 ReturnsAlways =
     (bs : List ℕ) (g : Grammar) → Accepted bs g → (lent : Lent) (ws : List Act) (ts us : List ℕ) (c z : Config) → Makes g lent (ts ++ us) (opening g) ws us c

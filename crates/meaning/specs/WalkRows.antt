@@ -114,7 +114,7 @@ wideTree =
 abbrev pub wideSegment : List ℕ
 wideSegment = 2 ∷ 0 ∷ 1 ∷ 2 ∷ []
 
-wide-tree : TreeOf wide wideSegment wideTree
+pub wide-tree : TreeOf wide wideSegment wideTree
 wide-tree = record { evaluated = (record { listed = lit< tt; symbol = refl; size = refl; ranges = tt; rules = (refl, (refl, (refl, tt))); conditions = tt }, ((record { listed = lit< tt; symbol = refl; size = refl; ranges = tt; rules = (refl, (refl, (refl, (refl, (refl, tt))))); conditions = tt }, ((record { listed = lit< tt; symbol = refl; size = refl; ranges = tt; rules = (refl, (refl, tt)); conditions = tt }, (refl, tt)), (refl, ((record { listed = lit< tt; symbol = refl; size = refl; ranges = tt; rules = (refl, tt); conditions = tt }, (refl, tt)), ((record { listed = lit< tt; symbol = refl; size = refl; ranges = tt; rules = (refl, (refl, tt)); conditions = tt }, (refl, tt)), tt))))), tt)); read = refl }
 
 wide-value : valueOf wide wideTree ≡ pos 7

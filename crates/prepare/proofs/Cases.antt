@@ -1,7 +1,7 @@
 -- The cases of what a call begins with.
 use Prim.Native.Nat.{ℕ, _≤_, _<_}
 use native.Mathlib.Omega.{arith}
-use mathlib.Core.Path.{_≡_, sym, ap, ap₂, _∙_, subst}
+use mathlib.Core.Path.{_≡_, refl, sym, ap, ap₂, _∙_, subst}
 use mathlib.Core.Bool.{Bool, true, false}
 use mathlib.Core.List.{List}
 use lib.ListN.{length}
@@ -24,7 +24,8 @@ use Rattle.prepare.specs.declared.Made as MadeCode
 use Rattle.prepare.specs.declared.Made.the-variants as MadeVariant
 use Rattle.prepare.specs.Preparing.{Accepting, Case, PreparedAs}
 use Rattle.prepare.specs.Making as Making
-use Rattle.prepare.specs.Making.{Made, turned, programmed, made, madeOf, MadeAs}
+use Rattle.meaning.specs.PublicCalls.{Made, turned, programmed, made, madeOf}
+use Rattle.prepare.specs.Making.{preparedIs, MadeAs}
 
 -- ---- the table's verdict
 
@@ -95,6 +96,12 @@ module _ {t area area′ rows inherited synthesized : List ℕ} {p : Code.Prepar
   as-written sizes size e =
       let z = prepared-ready q sizes size e in
       record { case = record { state = z .state; isUsable = z .isUsable; formed = z .shown .formed; begins = subst (Begins (grammarOf (z .state))) (sym (z .isWritten)) (written-begins (grammarOf (z .state)) area) } }
+
+-- the contract of `prepare` fixes 01's number and the area
+pub prepared-made : (t area area′ rows inherited synthesized : List ℕ) (p : Code.Prepared) → PreparedAs t area area′ rows inherited synthesized p → made (preparedIs p) area′ ≡ madeOf t area
+prepared-made t area area′ rows inherited synthesized Short q = made-short q refl
+prepared-made t area area′ rows inherited synthesized (Variant.Unusable n o) q = made-refused q n o refl
+prepared-made t area area′ rows inherited synthesized (Ready sizes size) q = made-written q sizes size refl
 
 -- ---- the cases of the answer
 

@@ -2,7 +2,8 @@
 ghost use mathlib.Core.Path.{_≡_};
 ghost use lib.ListN.{length};
 ghost use Rattle.prepare.specs.Preparing.{PreparedAs};
-ghost use Rattle.prepare.specs.Making.{madeIs, made, madeOf, MadeAs};
+ghost use Rattle.meaning.specs.PublicCalls.{made, madeOf};
+ghost use Rattle.prepare.specs.Making.{madeIs, MadeAs};
 use checker::judging::Judged;
 use table::Sizes;
 

@@ -1,60 +1,22 @@
--- The note against 01: a rule more, and every output noted.
-use Prim.Native.Nat.{ℕ, zero, suc, _+_, _-_, _/_, _^_, _≤_, _<_}
+-- The note against 01: every output noted.
+use Prim.Native.Nat.{ℕ, zero, suc, _+_, _/_, _^_, _≤_, _<_}
 use mathlib.Core.Path.{_≡_, refl, sym, _∙_, ap, ap₂}
 use mathlib.Core.Bool.{Bool, true, false, _&&_, _||_, not, cond}
 use mathlib.Core.List.{List, [], _∷_, map}
 use native.Mathlib.Omega.{arith}
-use native.Mathlib.Decide.{ℕ-discrete}
-use lib.Bits.{bitOr}
 use lib.Dec.{eqb, leb}
-use lib.ListN.{getD, length, set}
-use lib.Seq.{getD-set-same, getD-set-other}
-use borrow.Author.Tests.{le-leb, lt-leb, eq-eqb, ne-eqb}
+use lib.ListN.{getD, length}
+use borrow.Author.Tests.{le-leb, lt-leb}
 use Rattle.meaning.specs.Base.{all, countFrom}
 use Rattle.meaning.specs.Grammar.{Symbol, Occurrence, Rule, Condition, Counts}
 use Rattle.meaning.specs.Table.{State, Entry, Header, isInput, hasRule, complete, entrySymbol, countsAt, occurrencesAt, sameAs}
 use Rattle.fields.specs.Demand.{ifEqual}
 use Rattle.rules.specs.Rule.{Small, bit, ones, filledAt, settled, allCount, completeNote}
-use Rattle.rules.specs.Note.{Placed, Noted, occurrence, isSet}
-use Rattle.rules.proofs.Bits.{bit-set, bit-zero, bit-suc, bit-first, bit-shifted}
+use Rattle.rules.specs.Note.{Placed, Notes, occurrence, isSet}
+use Rattle.rules.proofs.Bits.{bit-suc, bit-first, bit-shifted}
+use Rattle.rules.proofs.Noting.{notes-bit}
 use Rattle.rules.proofs.Uses.{entry, state, inherited-in, synthesized-in}
 use Rattle.fields.proofs.Cases.{and-true}
-
--- ---- the note grows with each rule
-
-pub noted-none : (note : List ℕ) → ((k : ℕ) → getD note k 0 ≡ 0) → Noted note []
-noted-none note e k a p q = ap (λ (n : ℕ). bit n a) (e k) ∙ bit-zero a
-
-less-one : (a i : ℕ) → 1 ≤ a → eqb (a - 1) i ≡ eqb a (suc i)
-less-one a i l = go (ℕ-discrete (a - 1) i)
-  where
-    go : Dec (a - 1 ≡ i) → eqb (a - 1) i ≡ eqb a (suc i)
-    go (yes e) = eq-eqb (a - 1) i e ∙ sym (eq-eqb a (suc i) (omega arith))
-    go (no n) = ne-eqb (a - 1) i n ∙ sym (ne-eqb a (suc i) (λ q. n (omega arith)))
-
-module _ (note : List ℕ) (rs : List (Rule Occurrence)) (r : Rule Occurrence) where
-  abbrev p : ℕ
-  p = r .target .position
-
-  abbrev a : ℕ
-  a = r .target .attribute
-
-  pub noted-more :
-      Noted note rs → length note ≡ 13 → p < 13 → 1 ≤ a
-      → Noted (set note p (bitOr (getD note p 0) (2 ^ (a - 1)))) (r ∷ rs)
-  noted-more nt len inside first k i lk li = go (ℕ-discrete k p)
-    where
-      go : Dec (k ≡ p) → bit (getD (set note p (bitOr (getD note p 0) (2 ^ (a - 1)))) k 0) i ≡ isSet (r ∷ rs) (occurrence k (suc i))
-      go (yes e) =
-          ap (λ (j : ℕ). bit (getD (set note p (bitOr (getD note p 0) (2 ^ (a - 1)))) j 0) i) e
-          ∙ ap (λ (n : ℕ). bit n i) (getD-set-same note p (bitOr (getD note p 0) (2 ^ (a - 1))) 0 (omega arith))
-          ∙ bit-set (getD note p 0) (a - 1) i
-          ∙ ap₂ _||_ (less-one a i first) (ap (λ (j : ℕ). bit (getD note j 0) i) (sym e) ∙ nt k i lk li)
-          ∙ ap (λ x. (x && eqb a (suc i)) || isSet rs (occurrence k (suc i))) (sym (eq-eqb p k (sym e)))
-      go (no n) =
-          ap (λ (m : ℕ). bit m i) (getD-set-other note p k (bitOr (getD note p 0) (2 ^ (a - 1))) 0 n)
-          ∙ nt k i lk li
-          ∙ ap (λ x. (x && eqb a (suc i)) || isSet rs (occurrence k (suc i))) (sym (ne-eqb p k (λ q. n (sym q))))
 
 -- ---- tests on numbers in a row
 
@@ -99,13 +61,13 @@ ones-bits (suc d) n =
     ∙ count-same (λ i. bit n (1 + i)) (λ i. bit (n / 2) i) 0 d (λ i p q. ap (λ (x : ℕ). bit n x) {x = 1 + i} {y = suc i} (omega arith) ∙ bit-suc n i)
     ∙ ones-bits d (n / 2))
 
-all-mapped : {A B : Type 0} (f : B → Bool) (g : A → B) (l : List A) → all f (map g l) ≡ all (λ x. f (g x)) l
+pub all-mapped : {A B : Type 0} (f : B → Bool) (g : A → B) (l : List A) → all f (map g l) ≡ all (λ x. f (g x)) l
 all-mapped f g [] = refl
 all-mapped f g (x ∷ l) = ap (λ y. f (g x) && y) (all-mapped f g l)
 
 -- ---- every output of a production is noted
 
-module _ (h : Header) (cs : List Counts) (os : List ℕ) (es : List Entry) (r c o l : ℕ) (xs : List Symbol) (rs : List (Rule Occurrence)) (cds : List (Condition Occurrence)) (width : ℕ) (inh syn note : List ℕ) (pl : Placed cs l xs width inh syn) (small : Small width inh syn) (nt : Noted note rs) where
+module _ (h : Header) (cs : List Counts) (os : List ℕ) (es : List Entry) (r c o l : ℕ) (xs : List Symbol) (rs : List (Rule Occurrence)) (cds : List (Condition Occurrence)) (width : ℕ) (inh syn note : List ℕ) (pl : Placed cs l xs width inh syn) (small : Small width inh syn) (nt : Notes note rs) where
   abbrev e : Entry
   e = entry h cs os es r c o l xs rs cds
 
@@ -126,7 +88,7 @@ module _ (h : Header) (cs : List Counts) (os : List ℕ) (es : List Entry) (r c 
     test z u a = sameAs z (leb a u) || isSet rs (occurrence k a)
 
     bit-is : (a : ℕ) → a < 8 → isSet rs (occurrence k (suc a)) ≡ bit n a
-    bit-is a q = sym (nt k a (omega (arith, small .0)) q)
+    bit-is a q = sym (notes-bit note rs nt k a (omega (arith, small .0)) q)
 
     left-inputs : all (test true i) (countFrom 1 i) ≡ true
     left-inputs = count-true (test true i) 1 i (λ a p q. ap (λ x. x || isSet rs (occurrence k a)) (le-leb a i (omega arith)))

@@ -16,8 +16,9 @@ use Rattle.fields.specs.Demand.{ifEqual, ifBelow, below, lacks, holds, equal, a
 use Rattle.fields.proofs.Rest.{fieldOf}
 use Rattle.fields.proofs.Judged.{judge-stands}
 use Rattle.rules.specs.Rule.{Small, bit, classIn, fourAt, lengthOf, operandCount, operandClass, operandPlace, divisorFits, ruleOrder, ruleUses, ruleFault}
-use Rattle.rules.specs.Note.{Placed, Noted, occurrence, isSet}
+use Rattle.rules.specs.Note.{Placed, Notes, occurrence, isSet}
 use Rattle.rules.proofs.Laws.{ap3, class-inside, class-first, class-last}
+use Rattle.rules.proofs.Noting.{notes-bit}
 use Rattle.rules.proofs.Order.{divisor-same}
 use Rattle.rules.proofs.Uses.{Classed, input, classed, uses-by, entry, state}
 use Rattle.fields.proofs.Cases.{and-true}
@@ -125,7 +126,7 @@ place-same : (x : Bool) (m t : ℕ) → eqb t 0 ≡ false → cond x (ltb m t) t
 place-same true m t e = refl
 place-same false m t e = sym (lt-ltb 0 t (let n = eqb-false t 0 e in omega arith))
 
-module _ (h : Header) (cs : List Counts) (os : List ℕ) (es : List Entry) (r c o l : ℕ) (xs : List Symbol) (rs : List (Rule Occurrence)) (cds : List (Condition Occurrence)) (width : ℕ) (inh syn note : List ℕ) (pl : Placed cs l xs width inh syn) (small : Small width inh syn) (nt : Noted note rs) (b : List ℕ) where
+module _ (h : Header) (cs : List Counts) (os : List ℕ) (es : List Entry) (r c o l : ℕ) (xs : List Symbol) (rs : List (Rule Occurrence)) (cds : List (Condition Occurrence)) (width : ℕ) (inh syn note : List ℕ) (pl : Placed cs l xs width inh syn) (small : Small width inh syn) (nt : Notes note rs) (b : List ℕ) where
   abbrev e : Entry
   e = entry h cs os es r c o l xs rs cds
 
@@ -164,7 +165,7 @@ module _ (h : Header) (cs : List Counts) (os : List ℕ) (es : List Entry) (r c 
       let q : 1 ≤ byte b 1 = class-first width inh syn (byte b 0) (byte b 1) k in
       let u : byte b 1 ≤ 8 = omega (arith, class-last width inh syn (byte b 0) (byte b 1) k, small .1 (byte b 0) p) in
       let one : byte b 1 ≡ suc (byte b 1 - 1) = omega arith in
-      ap (λ (a : ℕ). isSet rs (occurrence (byte b 0) a)) one ∙ sym (nt (byte b 0) (byte b 1 - 1) (omega (arith, small .0)) (omega arith))
+      ap (λ (a : ℕ). isSet rs (occurrence (byte b 0) a)) one ∙ sym (notes-bit note rs nt (byte b 0) (byte b 1 - 1) (omega (arith, small .0)) (omega arith))
 
   uses-judged :
       f ≤ 8

@@ -5,6 +5,7 @@ ghost use lib.ListN.{length};
 ghost use Rattle.rules.specs.Rule.{classAt, classIn};
 
 pub mod condition;
+pub mod gather;
 pub mod note;
 pub mod rule;
 

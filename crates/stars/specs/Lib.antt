@@ -1,3 +1,4 @@
 pub mod Ranges
 pub mod Runs
+pub mod Met
 pub mod Stars

@@ -1,31 +1,30 @@
 -- The rules and conditions of a production, one after the other.
-use Prim.Native.Nat.{ℕ, zero, suc, _+_, _-_, _^_, _≤_, _<_, max}
-use mathlib.Core.Path.{_≡_, refl, sym, _∙_, ap, ap₂, subst, subst₂}
+use Prim.Native.Nat.{ℕ, suc, _+_, _≤_, _<_, max}
+use mathlib.Core.Path.{_≡_, refl, sym, _∙_, ap, ap₂, subst}
 use mathlib.Core.Bool.{Bool, true, false, _&&_, _||_, not, true≢false}
 use mathlib.Core.List.{List, [], _∷_}
 use mathlib.Core.Logic.{⊎-elim}
 use native.Mathlib.Omega.{arith}
-use lib.Bits.{bitOr}
 use lib.Dec.{eqb}
-use lib.ListN.{length, getD, set, replicate, length-set}
-use borrow.Author.Tests.{ne-eqb, eq-eqb, lt-ltb}
+use lib.ListN.{length}
+use borrow.Author.Tests.{ne-eqb, eq-eqb, lt-ltb, not-true, not-false}
 use Rattle.meaning.specs.Grammar.{Counts, Rule, Condition, range, atmost, Occurrence}
-use Rattle.meaning.specs.Table.{byte, Header, Entry, atFirst, atAny, stage, tagStands, wellFormed, malformed, judgeField, readField, kindOf, ruleOf, conditionOf, constantAt, occurrenceAt, lastComplete}
+use Rattle.meaning.specs.Table.{byte, Header, Entry, atFirst, atAny, stage, tagStands, wellFormed, malformed, current, judgeField, readField, kindOf, ruleOf, conditionOf, constantAt, occurrenceAt, lastComplete}
 use Rattle.fields.specs.Field.{Whole, Short, rest, judged, bodyAt}
 use Rattle.fields.specs.Reads.{stateOf, entryOf}
 use Rattle.fields.proofs.Rest.{rest-end, rest-missing, judged-fine, judged-refused, step-short, step-field, calm-other, body-length, body-byte, fieldOf}
 use Rattle.fields.proofs.Judged.{judge-not, stage-later}
-use Rattle.rules.specs.Rule.{Small, ruleFault, conditionFault, completeNote}
-use Rattle.rules.specs.Note.{Noted}
-use Rattle.rules.proofs.Laws.{rule-fine, condition-fine}
+use Rattle.rules.specs.Rule.{Small, ruleFault, conditionFault}
+use Rattle.rules.specs.Note.{Notes, rulesAfter, GapsAnswered}
+use Rattle.rules.proofs.Laws.{condition-fine}
 use Rattle.rules.proofs.RuleJudged.{rule-judged}
 use Rattle.rules.proofs.ConditionJudged.{condition-judged}
-use Rattle.rules.proofs.Complete.{noted-none, noted-more, complete-judged}
+use Rattle.rules.proofs.Noting.{notes-fine}
 use Rattle.analysis.specs.EntryImage.{isEntry}
 use Rattle.entries.specs.Span.{Spans, Spanned, Long, Kept}
 use Rattle.entries.proofs.Narrowing.{kept-same, kept-then}
 use Rattle.table.specs.declared.Uses.{Uses}
-use Rattle.table.specs.Progress.{Over, Setting, settingOf, Around, stateIn, UseJudged, Walked, UsesRead, Next, endOf}
+use Rattle.table.specs.Progress.{Over, Setting, settingOf, Around, stateIn, UseTaken, Walked, UsesRead, Next, endOf}
 use Rattle.table.proofs.Steps.{endBy}
 use Rattle.fields.proofs.Cases.{lt-or-le, nonzero}
 
@@ -43,14 +42,15 @@ module _ (t : List ℕ) (at size r c width : ℕ) (inh syn note : List ℕ) (ins
   abbrev g : ℕ → Setting
   g o = settingOf t o width inh syn
 
-  pub use-cut : Short t at → UseJudged t at size r c width inh syn note 2
+  pub use-cut : Short t at → UseTaken t at size r c width inh syn note note 2
   use-cut h =
       record {
         read = λ o a rs cds nt. step-short t (stateIn (g o) a rs cds r c) at inside (calm-other (stateIn (g o) a rs cds r c) (byte t at) other) _ h;
+        notes = λ o a rs cds nt z. absurd (nonzero 1 z);
+        same = λ n. refl;
         whole = λ z. absurd (nonzero 1 z);
-        form = λ z. absurd (nonzero 1 z);
         kinds = λ z. absurd (nonzero 1 z);
-        target = λ z. absurd (nonzero 1 z);
+        form = λ z. absurd (nonzero 1 z);
       }
 
   module _ (w : Whole t at size) where
@@ -67,7 +67,7 @@ module _ (t : List ℕ) (at size r c width : ℕ) (inh syn note : List ℕ) (ins
     any-stage : (o : ℕ) (a : Around (g o)) (rs : List (Rule Occurrence)) (cds : List (Condition Occurrence)) → stage (stateIn (g o) a rs cds r c) ≡ atAny
     any-stage o a rs cds = stage-any (a .header) (a .counts) (a .offsets) (entryOf o (a .left) (a .right) rs cds) (a .others) r c (a .all)
 
-    pub use-other : (byte t at ≡ 4 → ⊥) → (byte t at ≡ 5 → ⊥) → UseJudged t at size r c width inh syn note 3
+    pub use-other : (byte t at ≡ 4 → ⊥) → (byte t at ≡ 5 → ⊥) → UseTaken t at size r c width inh syn note note 3
     use-other n m =
         record {
           read = λ o a rs cds nt.
@@ -75,21 +75,17 @@ module _ (t : List ℕ) (at size r c width : ℕ) (inh syn note : List ℕ) (ins
               (judge-not (stateIn (g o) a rs cds r c) at (byte t at) b
               (ap (λ x. tagStands x (byte t at)) (any-stage o a rs cds)
               ∙ or-none (eqb (byte t at) 3) (eqb (byte t at) 4) (eqb (byte t at) 5) (ne-eqb (byte t at) 3 other) (ne-eqb (byte t at) 4 n) (ne-eqb (byte t at) 5 m)));
+          notes = λ o a rs cds nt z. absurd (nonzero 2 z);
+          same = λ n. refl;
           whole = λ z. absurd (nonzero 2 z);
-          form = λ z. absurd (nonzero 2 z);
           kinds = λ z. absurd (nonzero 2 z);
-          target = λ z. absurd (nonzero 2 z);
+          form = λ z. absurd (nonzero 2 z);
         }
 
     module _ (small : Small width inh syn) (part : List ℕ) (is-part : part ≡ b) (number : ℕ) where
-      target-in : ruleFault r width inh syn note b ≡ 0 → (2 ≤ size) × (byte t (at + 3) < 13) × (1 ≤ byte t (at + 4)) × (byte t (at + 4) ≤ 8)
-      target-in e =
-          let q = rule-fine r width inh syn note b small e in
-          let l = body-length t at size (w .inside) in
-          let k : 2 ≤ size = omega (arith, q .0) in
-          let x : byte b 0 ≡ byte t (at + 3) = body-byte t at size 0 (omega arith) ∙ ap (byte t) {x = at + 3 + 0} {y = at + 3} (omega arith) in
-          let y : byte b 1 ≡ byte t (at + 4) = body-byte t at size 1 (omega arith) ∙ ap (byte t) {x = at + 3 + 1} {y = at + 4} (omega arith) in
-          (k, omega (arith, q .1), omega (arith, q .2), omega (arith, q .3))
+      -- the rules after the field, by its tag
+      abbrev rulesBy : (o : ℕ) → Around (g o) → List (Rule Occurrence) → List (Condition Occurrence) → ℕ → List (Rule Occurrence)
+      rulesBy o a rs cds tag = current (readField (stateIn (g o) a rs cds r c) at (kindOf tag) b) .rules
 
       not-entry : (byte b 0 ≡ 0 → ⊥) → (byte b 1 ≡ 0 → byte b 3 ≡ 0 → ⊥) → isEntry (conditionOf b) ≡ false
       not-entry n m =
@@ -104,8 +100,11 @@ module _ (t : List ℕ) (at size r c width : ℕ) (inh syn note : List ℕ) (ins
           let x : byte b 0 ≡ byte t (at + 3) = body-byte t at size 0 (omega arith) ∙ ap (byte t) {x = at + 3 + 0} {y = at + 3} (omega arith) in
           (k, (λ z. sym l ∙ q .1 (x ∙ z)), λ n. not-entry (λ z. n (sym x ∙ z)) (q .2 (λ z. n (sym x ∙ z))))
 
-      pub use-rule : byte t at ≡ 4 → number ≡ ruleFault r width inh syn note part → UseJudged t at size r c width inh syn note number
-      use-rule tag e =
+      pub use-rule :
+          (note′ : List ℕ) → byte t at ≡ 4 → number ≡ ruleFault r width inh syn note part
+          → ((rs : List (Rule Occurrence)) → Notes note rs → Notes note′ (rulesAfter number part rs)) → ((number ≡ 0 → ⊥) → note′ ≡ note)
+          → UseTaken t at size r c width inh syn note note′ number
+      use-rule note′ tag e noted stays =
           let q : number ≡ ruleFault r width inh syn note b = e ∙ ap (ruleFault r width inh syn note) is-part in
           record {
             read = λ o a rs cds nt.
@@ -113,13 +112,18 @@ module _ (t : List ℕ) (at size r c width : ℕ) (inh syn note : List ℕ) (ins
                 (ap (λ (x : ℕ). judgeField (stateIn (g o) a rs cds r c) (fieldOf at x b)) tag
                 ∙ rule-judged (a .header) (a .counts) (a .offsets) (a .others) r c o (a .left) (a .right) rs cds width inh syn note (a .placed) small nt b at (any-stage o a rs cds)
                 ∙ sym q);
+            notes = λ o a rs cds nt z.
+                subst
+                (λ (x : ℕ). Notes note′ (rulesBy o a rs cds x))
+                (sym tag)
+                (notes-fine note′ b number rs z (subst (λ (x : List ℕ). Notes note′ (rulesAfter number x rs)) is-part (noted rs nt)));
+            same = stays;
             whole = λ z. w;
-            form = λ z f. absurd (omega (arith, tag, f));
             kinds = λ z n. absurd (n tag);
-            target = λ z f. target-in (sym q ∙ z);
+            form = λ z f. absurd (omega (arith, tag, f));
           }
 
-      pub use-condition : byte t at ≡ 5 → number ≡ conditionFault c width inh syn part → UseJudged t at size r c width inh syn note number
+      pub use-condition : byte t at ≡ 5 → number ≡ conditionFault c width inh syn part → UseTaken t at size r c width inh syn note note number
       use-condition tag e =
           let q : number ≡ conditionFault c width inh syn b = e ∙ ap (conditionFault c width inh syn) is-part in
           record {
@@ -128,10 +132,11 @@ module _ (t : List ℕ) (at size r c width : ℕ) (inh syn note : List ℕ) (ins
                 (ap (λ (x : ℕ). judgeField (stateIn (g o) a rs cds r c) (fieldOf at x b)) tag
                 ∙ condition-judged (a .header) (a .counts) (a .offsets) (a .others) r c o (a .left) (a .right) rs cds width inh syn (a .placed) b at (any-stage o a rs cds)
                 ∙ sym q);
+            notes = λ o a rs cds nt z. subst (λ (x : ℕ). Notes note (rulesBy o a rs cds x)) (sym tag) nt;
+            same = λ n. refl;
             whole = λ z. w;
-            form = λ z f. form-in (sym q ∙ z);
             kinds = λ z n. tag;
-            target = λ z f. absurd (omega (arith, tag, f));
+            form = λ z f. form-in (sym q ∙ z);
           }
 
 -- the part of the table that a condition's body is, ready to narrow the intervals
@@ -151,33 +156,26 @@ pub record Walking (t : List ℕ) (from offset width : ℕ) (inh syn : List ℕ)
   pub inside : at ≤ length t
   pub rules : r ≤ at
   pub conditions : c ≤ at
-  pub kept : length note ≡ 13
   pub walked : Walked (settingOf t offset width inh syn) from r₀ c₀ note v p at r c
   pub same : Kept v₀ v p
-
-pub zeros : (n k : ℕ) → _≡_ {A = ℕ} (getD (replicate n 0) k 0) 0
-zeros zero k = refl
-zeros (suc n) zero = refl
-zeros (suc n) (suc k) = zeros n k
 
 module _ (t : List ℕ) (from offset width : ℕ) (inh syn : List ℕ) (r₀ c₀ : ℕ) (v₀ : Spans) (p : ℕ) where
   abbrev s : Setting
   s = settingOf t offset width inh syn
 
-  pub walk-start : from ≤ length t → r₀ ≤ from → c₀ ≤ from → Spanned v₀ p [] → Long v₀ → Walking t from offset width inh syn r₀ c₀ v₀ p (replicate 13 0) v₀ from r₀ c₀
-  walk-start l m q s k =
+  pub walk-start : (note : List ℕ) → Notes note [] → from ≤ length t → r₀ ≤ from → c₀ ≤ from → Spanned v₀ p [] → Long v₀ → Walking t from offset width inh syn r₀ c₀ v₀ p note v₀ from r₀ c₀
+  walk-start note nt l m q s k =
       record {
         after = omega arith;
         inside = l;
         rules = m;
         conditions = q;
-        kept = refl;
-        walked = λ a. ([], [], noted-none (replicate 13 0) (zeros 13), s, refl);
+        walked = λ a. ([], [], nt, s, refl);
         same = kept-same v₀ p k;
       }
 
   module _ (note : List ℕ) (v : Spans) (at r c : ℕ) (w : Walking t from offset width inh syn r₀ c₀ v₀ p note v at r c) where
-    module _ (size number : ℕ) (j : UseJudged t at size r c width inh syn note number) where
+    module _ (size : ℕ) (note′ : List ℕ) (number : ℕ) (j : UseTaken t at size r c width inh syn note note′ number) where
       pub walk-refused : (number ≡ 0 → ⊥) → UsesRead s from r₀ c₀ v p (record { number = number; at = at; rules = r; conditions = c })
       walk-refused n a =
           let q = w .walked a in (
@@ -195,56 +193,41 @@ module _ (t : List ℕ) (from offset width : ℕ) (inh syn : List ℕ) (r₀ c�
         abbrev next : ℕ
         next = at + 3 + size
 
-        -- the state after the field, by its tag
+        -- the state after the field, by its tag, and the note of its rules
         onward :
-            (a : Around s) (rs : List (Rule Occurrence)) (cds : List (Condition Occurrence)) → Noted note rs → (tag : ℕ) → byte t at ≡ tag
+            (a : Around s) (rs : List (Rule Occurrence)) (cds : List (Condition Occurrence)) → Notes note rs → (tag : ℕ) → byte t at ≡ tag
             → rest t (stateIn s a rs cds r c) at ≡ rest t (readField (stateIn s a rs cds r c) at (kindOf tag) b′) next
         onward a rs cds nt tag e =
             j .read offset a rs cds nt ∙ judged-fine number at _ fine
             ∙ ap (λ (x : ℕ). rest t (readField (stateIn s a rs cds r c) at (kindOf x) b′) next) e
 
-        abbrev place : ℕ
-        place = byte t (at + 3)
+        notes-on :
+            (a : Around s) (rs : List (Rule Occurrence)) (cds : List (Condition Occurrence)) → Notes note rs → (tag : ℕ) → byte t at ≡ tag
+            → Notes note′ (current (readField (stateIn s a rs cds r c) at (kindOf tag) b′) .rules)
+        notes-on a rs cds nt tag e = subst (λ (x : ℕ). Notes note′ (current (readField (stateIn s a rs cds r c) at (kindOf x) b′) .rules)) e (j .notes offset a rs cds nt fine)
 
-        abbrev number-of : ℕ
-        number-of = byte t (at + 4)
-
-        walk-rule : byte t at ≡ 4 → Walking t from offset width inh syn r₀ c₀ v₀ p (set note place (bitOr (getD note place 0) (2 ^ (number-of - 1)))) v next (r + 1) c
+        pub walk-rule : byte t at ≡ 4 → Walking t from offset width inh syn r₀ c₀ v₀ p note′ v next (r + 1) c
         walk-rule tag =
-            let k = j .target fine tag in
-            let x : byte b′ 0 ≡ place = body-byte t at size 0 (omega (arith, k .0)) ∙ ap (byte t) {x = at + 3 + 0} {y = at + 3} (omega arith) in
-            let y : byte b′ 1 ≡ number-of = body-byte t at size 1 (omega (arith, k .0)) ∙ ap (byte t) {x = at + 3 + 1} {y = at + 4} (omega arith) in
             let one : suc r ≡ r + 1 = omega arith in
             record {
               after = omega (arith, w .after);
               inside = j .whole fine .inside;
               rules = omega (arith, w .rules);
               conditions = omega (arith, w .conditions);
-              kept = length-set note place (bitOr (getD note place 0) (2 ^ (number-of - 1))) ∙ w .kept;
               walked = λ a.
                   let m = w .walked a in (
                     ruleOf b′ ∷ m .0,
                     m .1,
-                    subst₂ (λ (u v : ℕ). Noted (set note u (bitOr (getD note u 0) (2 ^ (v - 1)))) (ruleOf b′ ∷ m .0)) x y (noted-more note (m .0) (ruleOf b′) (m .2) (w .kept) (omega (arith, k .1)) (omega (arith, k .2))),
+                    notes-on a (m .0) (m .1) (m .2) 4 tag,
                     m .3,
                     m .4 ∙ onward a (m .0) (m .1) (m .2) 4 tag ∙ ap (λ (n : ℕ). rest t (stateIn s a (ruleOf b′ ∷ m .0) (m .1) n c) next) one,
                   );
               same = w .same;
             }
 
-        -- the same for the numbers and the note that the code has
-        pub walk-noted :
-            (m n : ℕ) (note′ : List ℕ) → byte t at ≡ 4 → m ≡ place → n ≡ number-of → note′ ≡ set note m (bitOr (getD note m 0) (2 ^ (n - 1)))
-            → Walking t from offset width inh syn r₀ c₀ v₀ p note′ v next (r + 1) c
-        walk-noted m n note′ tag x y e =
-            subst
-            (λ (l : List ℕ). Walking t from offset width inh syn r₀ c₀ v₀ p l v next (r + 1) c)
-            (sym (e ∙ ap₂ (λ (u v : ℕ). set note u (bitOr (getD note u 0) (2 ^ (v - 1)))) x y))
-            (walk-rule tag)
-
         pub walk-condition :
             (v′ : Spans) (part : List ℕ) → (byte t at ≡ 4 → ⊥) → part ≡ b′ → ((cs : List (Condition Occurrence)) → Spanned v p cs → Spanned v′ p (conditionOf part ∷ cs)) → Kept v v′ p
-            → Walking t from offset width inh syn r₀ c₀ v₀ p note v′ next r (c + 1)
+            → Walking t from offset width inh syn r₀ c₀ v₀ p note′ v′ next r (c + 1)
         walk-condition v′ part n is-part narrowed stays =
             let one : suc c ≡ c + 1 = omega arith in
             record {
@@ -252,12 +235,11 @@ module _ (t : List ℕ) (from offset width : ℕ) (inh syn : List ℕ) (r₀ c�
               inside = j .whole fine .inside;
               rules = omega (arith, w .rules);
               conditions = omega (arith, w .conditions);
-              kept = w .kept;
               walked = λ a.
                   let m = w .walked a in (
                     m .0,
                     conditionOf b′ ∷ m .1,
-                    m .2,
+                    notes-on a (m .0) (m .1) (m .2) 5 (j .kinds fine n),
                     subst (λ (x : List ℕ). Spanned v′ p (conditionOf x ∷ m .1)) is-part (narrowed (m .1) (m .3)),
                     m .4 ∙ onward a (m .0) (m .1) (m .2) 5 (j .kinds fine n) ∙ ap (λ (k : ℕ). rest t (stateIn s a (m .0) (conditionOf b′ ∷ m .1) r k) next) one,
                   );
@@ -266,10 +248,9 @@ module _ (t : List ℕ) (from offset width : ℕ) (inh syn : List ℕ) (r₀ c�
 
     -- ---- the production is over
 
-    module _ (small : Small width inh syn) (over : Over t at) where
-      complete-in : (a : Around s) (rs : List (Rule Occurrence)) (cds : List (Condition Occurrence)) → Noted note rs → lastComplete (stateIn s a rs cds r c) ≡ completeNote width inh syn note
-      complete-in a rs cds nt =
-          complete-judged (a .header) (a .counts) (a .offsets) (a .others) r c offset (a .left) (a .right) rs cds width inh syn note (a .placed) small nt
+    module _ (over : Over t at) (gap : Bool) (answered : GapsAnswered width inh syn note gap) where
+      gap-in : (a : Around s) (rs : List (Rule Occurrence)) (cds : List (Condition Occurrence)) → Notes note rs → gap ≡ not (lastComplete (stateIn s a rs cds r c))
+      gap-in a rs cds nt = answered (stateIn s a rs cds r c) (entryOf offset (a .left) (a .right) rs cds) (a .placed) nt .judged
 
       missing : (a : Around s) (rs : List (Rule Occurrence)) (cds : List (Condition Occurrence)) → lastComplete (stateIn s a rs cds r c) ≡ false → rest t (stateIn s a rs cds r c) at ≡ malformed 8 offset
       missing a rs cds e = ⊎-elim tagged ended (lt-or-le at (length t))
@@ -290,22 +271,22 @@ module _ (t : List ℕ) (from offset width : ℕ) (inh syn : List ℕ) (r₀ c�
         pub next : u .number ≡ 0 → Next t from u
         pub inside : u .at ≤ length t
 
-      walk-end : (x : Bool) → completeNote width inh syn note ≡ x → offset ≤ length t → Ended (endOf x offset at r c)
-      walk-end true e l =
+      walk-end : (x : Bool) → gap ≡ x → offset ≤ length t → Ended (endOf x offset at r c)
+      walk-end false e l =
           record {
             read = λ a.
                 let q = w .walked a in
-                (q .0, q .1, q .4 ∙ sym (judged-fine 0 at _ refl), (λ z. complete-in a (q .0) (q .1) (q .2) ∙ e), λ z. q .3);
+                (q .0, q .1, q .4 ∙ sym (judged-fine 0 at _ refl), (λ z. not-false (lastComplete (stateIn s a (q .0) (q .1) r c)) (sym (gap-in a (q .0) (q .1) (q .2)) ∙ e)), λ z. q .3);
             next = λ z. record { after = w .after; inside = w .inside; over = over; rules = w .rules; conditions = w .conditions };
             inside = w .inside;
           }
-      walk-end false e l =
+      walk-end true e l =
           record {
             read = λ a.
                 let q = w .walked a in (
                   q .0,
                   q .1,
-                  q .4 ∙ missing a (q .0) (q .1) (complete-in a (q .0) (q .1) (q .2) ∙ e) ∙ sym (judged-refused 8 offset _ (nonzero 7)),
+                  q .4 ∙ missing a (q .0) (q .1) (not-true (lastComplete (stateIn s a (q .0) (q .1) r c)) (sym (gap-in a (q .0) (q .1) (q .2)) ∙ e)) ∙ sym (judged-refused 8 offset _ (nonzero 7)),
                   (λ z. absurd (nonzero 7 z)),
                   λ z. absurd (nonzero 7 z),
                 );
@@ -313,5 +294,5 @@ module _ (t : List ℕ) (from offset width : ℕ) (inh syn : List ℕ) (r₀ c�
             inside = l;
           }
 
-      pub walk-over : (x : Bool) (u : Uses) → x ≡ completeNote width inh syn note → u ≡ endOf x offset at r c → offset ≤ length t → Ended u
-      walk-over x u e q l = subst Ended (sym q) (walk-end x (sym e) l)
+      pub walk-over : (u : Uses) → u ≡ endOf gap offset at r c → offset ≤ length t → Ended u
+      walk-over u q l = subst Ended (sym q) (walk-end gap refl l)

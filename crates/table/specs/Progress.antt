@@ -5,10 +5,10 @@ use mathlib.Core.Bool.{Bool, true, false}
 use mathlib.Core.List.{List, [], _∷_}
 use lib.ListN.{length}
 use Rattle.meaning.specs.Grammar.{Counts, Symbol, Rule, Condition, Occurrence}
-use Rattle.meaning.specs.Table.{conditionOf, byte, Header, Entry, State, nothingRead, lastComplete, readField, kindOf}
+use Rattle.meaning.specs.Table.{conditionOf, byte, Header, Entry, State, nothingRead, current, lastComplete, readField, kindOf}
 use Rattle.fields.specs.Field.{Whole, Short, rest, judged, bodyAt}
 use Rattle.fields.specs.Reads.{stateOf, entryOf}
-use Rattle.rules.specs.Note.{Placed, Noted}
+use Rattle.rules.specs.Note.{Placed, Notes}
 use Rattle.analysis.specs.EntryImage.{isEntry}
 use Rattle.entries.specs.Span.{Spans, Spanned}
 use Rattle.table.specs.declared.Uses.{Uses}
@@ -70,22 +70,30 @@ pub record Around (g : Setting) : Type 0 where
 abbrev pub stateIn : (g : Setting) → Around g → List (Rule Occurrence) → List (Condition Occurrence) → ℕ → ℕ → State
 stateIn g a rs cds r c = stateOf (a .header) (a .counts) (a .offsets) (entryOf (g .offset) (a .left) (a .right) rs cds ∷ a .others) r c
 
--- a rule or condition judged, after r rules and c conditions of the table: its number
-pub record UseJudged (t : List ℕ) (at size r c width : ℕ) (inh syn note : List ℕ) (number : ℕ) : Type 0 where
+-- the state after the field at an offset, of a size
+abbrev pub fieldRead : (g : Setting) → Around g → List (Rule Occurrence) → List (Condition Occurrence) → ℕ → ℕ → ℕ → ℕ → State
+fieldRead g a rs cds r c at size = readField (stateIn g a rs cds r c) at (kindOf (byte (g .table) at)) (bodyAt (g .table) at size)
+
+-- a rule or condition taken, after r rules and c conditions of the table: its number, and the note before and after.
+-- 02: "after each rule field the notes hold exactly the occurrences that its production's rules have set so far"
+pub record UseTaken (t : List ℕ) (at size r c width : ℕ) (inh syn note note′ : List ℕ) (number : ℕ) : Type 0 where
   pub read :
-      (o : ℕ) (a : Around (settingOf t o width inh syn)) (rs : List (Rule Occurrence)) (cds : List (Condition Occurrence)) → Noted note rs
+      (o : ℕ) (a : Around (settingOf t o width inh syn)) (rs : List (Rule Occurrence)) (cds : List (Condition Occurrence)) → Notes note rs
       → rest t (stateIn (settingOf t o width inh syn) a rs cds r c) at
-      ≡ judged number at (rest t (readField (stateIn (settingOf t o width inh syn) a rs cds r c) at (kindOf (byte t at)) (bodyAt t at size)) (at + 3 + size))
+      ≡ judged number at (rest t (fieldRead (settingOf t o width inh syn) a rs cds r c at size) (at + 3 + size))
+  pub notes :
+      (o : ℕ) (a : Around (settingOf t o width inh syn)) (rs : List (Rule Occurrence)) (cds : List (Condition Occurrence)) → Notes note rs
+      → number ≡ 0 → Notes note′ (current (fieldRead (settingOf t o width inh syn) a rs cds r c at size) .rules)
+  pub same : (number ≡ 0 → ⊥) → note′ ≡ note
   pub whole : number ≡ 0 → Whole t at size
   pub kinds : number ≡ 0 → (byte t at ≡ 4 → ⊥) → byte t at ≡ 5
   pub form : number ≡ 0 → byte t at ≡ 5 → (1 ≤ size) × (byte t (at + 3) ≡ 0 → size ≡ 11) × ((byte t (at + 3) ≡ 0 → ⊥) → isEntry (conditionOf (bodyAt t at size)) ≡ false)
-  pub target : number ≡ 0 → byte t at ≡ 4 → (2 ≤ size) × (byte t (at + 3) < 13) × (1 ≤ byte t (at + 4)) × (byte t (at + 4) ≤ 8)
 
 -- the note after each field: exactly the occurrences that the production's rules have set so far; and the intervals of production p
 abbrev pub Walked : Setting → ℕ → ℕ → ℕ → List ℕ → Spans → ℕ → ℕ → ℕ → ℕ → Type 0
 Walked g from r₀ c₀ note v p at r c =
     (a : Around g)
-    → (rs : List (Rule Occurrence)) × (cds : List (Condition Occurrence)) × Noted note rs × Spanned v p cds
+    → (rs : List (Rule Occurrence)) × (cds : List (Condition Occurrence)) × Notes note rs × Spanned v p cds
     × (rest (g .table) (stateIn g a [] [] r₀ c₀) from ≡ rest (g .table) (stateIn g a rs cds r c) at)
 
 -- all rules and conditions of production p read, or a refusal
@@ -105,7 +113,7 @@ pub record Next (t : List ℕ) (from : ℕ) (u : Uses) : Type 0 where
   pub rules : u .rules ≤ u .at
   pub conditions : u .conditions ≤ u .at
 
--- the end of a production: a missing rule, or the next offset
+-- the end of a production with a gap or without one: 8 at its own offset, or the next offset
 abbrev pub endOf : Bool → ℕ → ℕ → ℕ → ℕ → Uses
-endOf true offset at r c = record { number = 0; at = at; rules = r; conditions = c }
-endOf false offset at r c = record { number = 8; at = offset; rules = r; conditions = c }
+endOf true offset at r c = record { number = 8; at = offset; rules = r; conditions = c }
+endOf false offset at r c = record { number = 0; at = at; rules = r; conditions = c }

@@ -7,7 +7,7 @@ ghost use Rattle.meaning.specs.Table.{byte};
 ghost use mathlib.Core.List.{[]};
 ghost use Rattle.rules.specs.Rule.{Small};
 ghost use Rattle.entries.specs.Span.{spansOf, Long, Spanned, Kept};
-ghost use Rattle.table.specs.Progress.{Sized, Over, settingOf, UseJudged, UsesRead, Next, endOf};
+ghost use Rattle.table.specs.Progress.{Sized, Over, settingOf, UseTaken, UsesRead, Next, endOf};
 use crate::Uses;
 
 // Whether the table is over or a tag byte 3 follows.
@@ -22,8 +22,8 @@ pub fn is_over(table: &[u8], at: usize) -> bool
     fields::wide(table[at]) == 3
 }
 
-// The number of the refusal of a rule or condition, or 0, after r rules and c conditions of the table.
-pub fn use_number(
+// Takes a rule or condition after r rules and c conditions of the table: the number of its refusal, or 0; what a rule sets is noted.
+pub fn take_use(
     table: &[u8],
     at: usize,
     size: usize,
@@ -32,10 +32,10 @@ pub fn use_number(
     width: usize,
     inh: &[u8; 13],
     syn: &[u8; 13],
-    note: &[u8; 13],
+    note: &mut [u8; 13],
 ) -> u8
     requires { ⌜ (at < length (now table)) × (byte (now table) at ≡ 3 → ⊥) × Sized (now table) at size × Small width (now inh) (now syn) ⌝ }
-    ensures { λ q. ⌜ UseJudged (now (table .entry)) at size r c width (now (inh .entry)) (now (syn .entry)) (now (note .entry)) q ⌝ }
+    ensures { λ q. ⌜ UseTaken (now (table .entry)) at size r c width (now (inh .entry)) (now (syn .entry)) (now (note .entry)) (now (note .exit)) q ⌝ }
 {
     if 65535 < size {
         return 2;
@@ -44,7 +44,7 @@ pub fn use_number(
     let from = at + 3;
     let end = from + size;
     if tag == 4 {
-        return rules::rule::rule_fault(r, width, inh, syn, note, &table[from..end]);
+        return rules::gather::take_rule(r, width, inh, syn, note, &table[from..end]);
     }
     if tag == 5 {
         return rules::condition::condition_fault(c, width, inh, syn, &table[from..end]);
@@ -52,20 +52,21 @@ pub fn use_number(
     3
 }
 
-pub fn finish(complete: bool, offset: usize, at: usize, r: usize, c: usize) -> Uses
-    ensures { λ u. ⌜ u ≡ endOf complete offset at r c ⌝ }
+// The end of a production: 8 at its offset where it has a gap.
+pub fn finish(gap: bool, offset: usize, at: usize, r: usize, c: usize) -> Uses
+    ensures { λ u. ⌜ u ≡ endOf gap offset at r c ⌝ }
 {
-    if complete {
+    if gap {
         return Uses {
-            number: 0,
-            at,
+            number: 8,
+            at: offset,
             rules: r,
             conditions: c,
         };
     }
     Uses {
-        number: 8,
-        at: offset,
+        number: 0,
+        at,
         rules: r,
         conditions: c,
     }
@@ -93,17 +94,17 @@ pub fn read_uses(
     ensures inside { λ u. ⌜ u .at ≤ length (now (table .entry)) ⌝ }
     ensures kept { λ u. ⌜ Kept (spansOf (now (lows .entry)) (now (highs .entry)) (now (flags .entry))) (spansOf (now (lows .exit)) (now (highs .exit)) (now (flags .exit))) p ⌝ }
 {
-    let mut note = [0u8; 13];
+    let mut note = rules::gather::begin();
     let mut at = from;
     let mut r = rules;
     let mut c = conditions;
     loop {
         if is_over(table, at) {
-            let complete = rules::note::is_complete(width, inh, syn, &note);
-            return finish(complete, offset, at, r, c);
+            let gap = rules::gather::has_gap(width, inh, syn, &note);
+            return finish(gap, offset, at, r, c);
         }
         let size = fields::size_at(table, at);
-        let number = use_number(table, at, size, r, c, width, inh, syn, &note);
+        let number = take_use(table, at, size, r, c, width, inh, syn, &mut note);
         if number != 0 {
             return Uses {
                 number,
@@ -113,11 +114,6 @@ pub fn read_uses(
             };
         }
         if fields::wide(table[at]) == 4 {
-            rules::note::note_down(
-                &mut note,
-                fields::wide(table[at + 3]),
-                fields::wide(table[at + 4]),
-            );
             r += 1;
             at = at + 3 + size;
             continue;

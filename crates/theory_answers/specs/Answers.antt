@@ -17,7 +17,7 @@ use Rattle.meaning.specs.Walk.{nothing}
 use Rattle.meaning.specs.Calls.{Record, Stacks, Called, Answer, closedRecord, more, refused, tableRefused, lentOf, recordOf, layAll, configOf, stacksFit, asBrought, openOf, afterFeed, afterFinish, whenFit}
 use Rattle.meaning.specs.Fit.{Fit}
 use Rattle.meaning.specs.PublicCalls.{Checked, usable, unusable, checkedAs, check, Call, feed, finish, callOf, areaLength, written, Effect, effect, opens, performs}
-use Rattle.meaning.specs.Statements.{isTableNumber, openingAnswer, callAnswer, AlwaysAnswers, Met, MovesTo, CallsMove, EmptyFeed, LimitsOnly, HandlesAlways}
+use Rattle.meaning.specs.CallStatements.{isTableNumber, openingAnswer, callAnswer, AlwaysAnswers, Met, MovesTo, CallsMove, EmptyFeed, LimitsOnly, HandlesAlways}
 use Rattle.theory_base.specs.Members.{T→true}
 use Rattle.theory_table.specs.ReadWellFormed.{read-well-formed}
 use Rattle.theory_table.specs.AcceptedTable.{accepted-well-formed}
@@ -27,7 +27,7 @@ use Rattle.theory_answers.specs.ShapeMemory.{fit-shaped, fit-waits, at-s
 use Rattle.theory_answers.specs.Handling.{handles}
 use Rattle.theory_answers.specs.Memory.{Within, read-back, laid-fits, fit-within, same-record, same-stacks}
 use Rattle.theory_answers.specs.Bounds.{Blocks, atLimit, notExpected, conditionFalse, outOfRange, noRegister, noPlace, within-move}
-use Rattle.theory_answers.specs.Runs.{makes-keep, Led, FeedBlocks, manyTokens, notToken, atMove, Fed, fed, Finished, finished}
+use Rattle.theory_answers.specs.Runs.{makes-keep, Led, Leads, Anything, with-nothing, with-end, FeedBlocks, manyTokens, unknownToken, blockedMove, Fed, fed, Finished, finished}
 use Rattle.theory_answers.specs.TableNumbers.{CheckedRight, check-number}
 use Rattle.theory_answers.specs.Called.{called-is}
 
@@ -44,16 +44,16 @@ check-reads bs s h = go (readTable bs) refl h
     go (malformed n o) e h = absurd (let z : _≡_ {A = ℕ} 0 1 = cc in omega arith)
     go (wellFormed u) e h = e ∙ ap wellFormed (by u (judge u) h)
 
-checked-formed : (bs : List ℕ) (s : State) → check bs ≡ usable s → WellFormed (grammarOf s)
+pub checked-formed : (bs : List ℕ) (s : State) → check bs ≡ usable s → WellFormed (grammarOf s)
 checked-formed bs s h = read-well-formed bs s (check-reads bs s h)
 
 -- ---- the moves of a call on what fits
 
-abbrev made : Grammar → Record → Stacks → Call → Called
+abbrev pub made : Grammar → Record → Stacks → Call → Called
 made g r m (feed ts) = afterFeed g m (feedAll g (lentOf m) ts (configOf g r m))
 made g r m finish = afterFinish g m (finishAll g (lentOf m) (configOf g r m))
 
-call-is : (g : Grammar) (r : Record) (m : Stacks) (c : Call) → callOf g r m c ≡ whenFit g r m (made g r m c)
+pub call-is : (g : Grammar) (r : Record) (m : Stacks) (c : Call) → callOf g r m c ≡ whenFit g r m (made g r m c)
 call-is g r m (feed ts) = refl
 call-is g r m finish = refl
 
@@ -73,7 +73,7 @@ module _ (Q : Answer → Record → Stacks → Type 0) (program : Grammar → Li
   abbrev Leaves : Effect → Type 0
   Leaves e = Q (e .answer) (e .state) (e .stacks)
 
-  by-cases : Q (refused 30 0) r m → ((n o : ℕ) → T (isTableNumber n) → Q (tableRefused n o) r m) → Q (refused 33 0) r m → Q (refused 34 0) r m
+  pub by-cases : Q (refused 30 0) r m → ((n o : ℕ) → T (isTableNumber n) → Q (tableRefused n o) r m) → Q (refused 33 0) r m → Q (refused 34 0) r m
       → ((s : State) → check bs ≡ usable s → Fit (grammarOf s) r m → Holds (made (grammarOf s) r m c))
       → Leaves (performs program bs area r m c)
   by-cases short turned closed unfit h = go (ltb (length area) areaLength) (check bs) refl (check-number bs)
@@ -89,26 +89,30 @@ module _ (Q : Answer → Record → Stacks → Type 0) (program : Grammar → Li
 -- ---- every configuration that the moves of a call lead to
 
 module _ (g : Grammar) (wf : WellFormed g) (r : Record) (m : Stacks) (f : Fit g r m) where
-  fits-shaped : ShapedAt g (configOf g r m)
+  pub fits-shaped : ShapedAt g (configOf g r m)
   fits-shaped = fit-shaped g wf (reverse (take (r .placeHeight) (m .places))) (reverse (take (r .registerHeight) (m .registers))) (f .stands)
 
   fits-wait : T (waits (configOf g r m .frames))
   fits-wait = fit-waits g wf (reverse (take (r .placeHeight) (m .places))) (reverse (take (r .registerHeight) (m .registers))) (f .stands)
 
-  start : (us : List ℕ) → Led g (lentOf m) us (configOf g r m) us (configOf g r m)
-  start us = record { moves = []; made = nothing; few = f .moves }
+  start : Leads g (lentOf m) Anything [] (configOf g r m) [] (configOf g r m)
+  start = record { moves = []; made = λ us b. nothing; few = f .moves }
 
   led-shaped : (us vs : List ℕ) (e : Config) → Led g (lentOf m) us (configOf g r m) vs e → ShapedAt g e
   led-shaped us vs e l = makes-keep g (lentOf m) (ShapedAt g) (λ k a b s h. shape-move g wf (lentOf m) k a b s h) (l .made) fits-shaped
 
-  led-within : (us vs : List ℕ) (e : Config) → Led g (lentOf m) us (configOf g r m) vs e → Within (lentOf m) e
+  pub led-within : (us vs : List ℕ) (e : Config) → Led g (lentOf m) us (configOf g r m) vs e → Within (lentOf m) e
   led-within us vs e l = makes-keep g (lentOf m) (Within (lentOf m)) (λ k a b s h. within-move g (lentOf m) k a b s h) (l .made) (fit-within g wf r m f)
 
-  feed-leads : (ts : List ℕ) → Fed g (lentOf m) ts (configOf g r m) (feedAll g (lentOf m) ts (configOf g r m))
-  feed-leads ts = fed g (lentOf m) ts (configOf g r m) ts (configOf g r m) (start ts) fits-wait (f .tokens)
+  -- what a feed, and a finish, leads to, as plain moves
+  pub fed-led : (us vs : List ℕ) (e : Config) → Leads g (lentOf m) Anything us (configOf g r m) vs e → Led g (lentOf m) us (configOf g r m) vs e
+  fed-led us vs e l = with-nothing g (lentOf m) us (configOf g r m) vs e (with-end g (lentOf m) us (configOf g r m) vs e l)
 
-  finish-leads : Finished g (lentOf m) [] (configOf g r m) (finishAll g (lentOf m) (configOf g r m))
-  finish-leads = finished g (lentOf m) [] (configOf g r m) (configOf g r m) (start [])
+  pub feed-leads : (ts : List ℕ) → Fed g (lentOf m) (configOf g r m) ts (feedAll g (lentOf m) ts (configOf g r m))
+  feed-leads ts = fed g (lentOf m) (configOf g r m) ts [] (configOf g r m) start fits-wait (f .tokens)
+
+  pub finish-leads : Finished g (lentOf m) (configOf g r m) [] (r .tokens) (finishAll g (lentOf m) (configOf g r m))
+  finish-leads = finished g (lentOf m) (configOf g r m) [] (configOf g r m) start
 
 -- ---- 01's numbers
 
@@ -122,8 +126,8 @@ token-number t e noPlace ts n = tt
 
 feed-number : (e : Config) {k : ℕ} → FeedBlocks e k → (ts : List ℕ) (n : ℕ) → T (callAnswer (feed ts) (refused k n))
 feed-number e (manyTokens l) ts n = tt
-feed-number e notToken ts n = tt
-feed-number e (atMove t b) ts n = token-number t e b ts n
+feed-number e unknownToken ts n = tt
+feed-number e (blockedMove t b) ts n = token-number t e b ts n
 
 end-number : (e : Config) {k : ℕ} → Blocks over e k → (n : ℕ) → T (callAnswer finish (refused k n))
 end-number e (atLimit l) n = tt
@@ -145,13 +149,13 @@ turned-back finish n o t = t
 fit-answers : (g : Grammar) → WellFormed g → (r : Record) (m : Stacks) → Fit g r m → (c : Call) → T (callAnswer c (made g r m c .answer))
 fit-answers g wf r m f (feed ts) = go (feedAll g (lentOf m) ts (configOf g r m)) (feed-leads g wf r m f ts)
   where
-    go : (o : Settled) → Fed g (lentOf m) ts (configOf g r m) o → T (callAnswer (feed ts) (afterFeed g m o .answer))
+    go : (o : Settled) → Fed g (lentOf m) (configOf g r m) ts o → T (callAnswer (feed ts) (afterFeed g m o .answer))
     go (stopped e) v = tt
     go (failed e k) v = feed-number e (v .3) ts (e .tokens)
 fit-answers g wf r m f finish = go (finishAll g (lentOf m) (configOf g r m)) (finish-leads g wf r m f)
   where
-    go : (o : Settled) → Finished g (lentOf m) [] (configOf g r m) o → T (callAnswer finish (afterFinish g m o .answer))
-    go (stopped e) v = result-ranged g wf e (led-shaped g wf r m f [] [] e (v .0)) (v .1)
+    go : (o : Settled) → Finished g (lentOf m) (configOf g r m) [] (r .tokens) o → T (callAnswer finish (afterFinish g m o .answer))
+    go (stopped e) v = result-ranged g wf e (led-shaped g wf r m f [] [] e (with-nothing g (lentOf m) [] (configOf g r m) [] e (v .0))) (v .1)
     go (failed e k) v = end-number e (v .1) (e .tokens)
 
 opens-right : (program : Grammar → List ℕ) (bs area : List ℕ) (m : Stacks) → T (openingAnswer (opens program bs area m .answer))
@@ -195,8 +199,8 @@ move-limit l e noPlace q = absurd (omega arith)
 
 feed-limit : (e : Config) {k : ℕ} → FeedBlocks e k → e .moves ≤ movesLimit → k ≡ 35 → (e .tokens ≡ tokensLimit) ⊎ (e .moves ≡ movesLimit)
 feed-limit e (manyTokens l) m q = inl l
-feed-limit e notToken m q = absurd (omega arith)
-feed-limit e (atMove t b) m q = inr (omega (arith, move-limit (token t) e b q))
+feed-limit e unknownToken m q = absurd (omega arith)
+feed-limit e (blockedMove t b) m q = inr (omega (arith, move-limit (token t) e b q))
 
 abbrev AtLimit : ℕ → Answer → Record → Type 0
 AtLimit n a r = a ≡ refused 35 n → (r .tokens ≡ tokensLimit) ⊎ (r .moves ≡ movesLimit)
@@ -204,12 +208,12 @@ AtLimit n a r = a ≡ refused 35 n → (r .tokens ≡ tokensLimit) ⊎ (r .moves
 fit-limits : (g : Grammar) → WellFormed g → (r : Record) (m : Stacks) → Fit g r m → (c : Call) (n : ℕ) → AtLimit n (made g r m c .answer) (made g r m c .state)
 fit-limits g wf r m f (feed ts) n = go (feedAll g (lentOf m) ts (configOf g r m)) (feed-leads g wf r m f ts)
   where
-    go : (o : Settled) → Fed g (lentOf m) ts (configOf g r m) o → AtLimit n (afterFeed g m o .answer) (afterFeed g m o .state)
+    go : (o : Settled) → Fed g (lentOf m) (configOf g r m) ts o → AtLimit n (afterFeed g m o .answer) (afterFeed g m o .state)
     go (stopped e) v q = absurd (let z : _≡_ {A = ℕ} 0 1 = cc in omega arith)
     go (failed e k) v q = feed-limit e (v .3) (v .1 .few) (refused-is k (e .tokens) 35 n q)
 fit-limits g wf r m f finish n = go (finishAll g (lentOf m) (configOf g r m)) (finish-leads g wf r m f)
   where
-    go : (o : Settled) → Finished g (lentOf m) [] (configOf g r m) o → AtLimit n (afterFinish g m o .answer) (afterFinish g m o .state)
+    go : (o : Settled) → Finished g (lentOf m) (configOf g r m) [] (r .tokens) o → AtLimit n (afterFinish g m o .answer) (afterFinish g m o .state)
     go (stopped e) v q = absurd (let z : _≡_ {A = ℕ} 0 1 = cc in omega arith)
     go (failed e k) v q = inr (omega (arith, v .0 .few, move-limit over e (v .1) (refused-is k (e .tokens) 35 n q)))
 
@@ -238,23 +242,27 @@ module _ (program : Grammar → List ℕ) (bs area : List ℕ) (g : Grammar) (r 
   wf : WellFormed g
   wf = accepted-well-formed bs g (met .accepts)
 
-  fed-to : (ts : List ℕ) (words : List ℕ) (o : Settled) → Fed g (lentOf m) ts (configOf g r m) o → MovesTo g m (configOf g r m) (feed ts) (effect (afterFeed g m o) words)
-  fed-to ts words (stopped e) v =
-      let s = at-stop g wf (e .frames) (e .registers) (led-shaped g wf r m (met .fits) ts [] e (v .0)) (v .1) in
-      let w = led-within g wf r m (met .fits) ts [] e (v .0) in
-      record { moves = v .0 .moves; left = []; to = e; made = v .0 .made; isRecord = refl; isStacks = refl; readBack = λ z. (laid-fits g true e m s w (v .2), read-back g true e m s w) }
-  fed-to ts words (failed e k) v = record { moves = v .1 .moves; left = v .0; to = e; made = v .1 .made; isRecord = refl; isStacks = refl; readBack = λ z. absurd (subst T (sym z) tt) }
+  abbrev To : Call → Effect → Type 0
+  To c e = MovesTo program area g m (configOf g r m) c e
 
-  finished-to : (words : List ℕ) (o : Settled) → Finished g (lentOf m) [] (configOf g r m) o → MovesTo g m (configOf g r m) finish (effect (afterFinish g m o) words)
-  finished-to words (stopped e) v = record { moves = v .0 .moves; left = []; to = e; made = v .0 .made; isRecord = refl; isStacks = refl; readBack = λ z. absurd (subst T (sym z) tt) }
-  finished-to words (failed e k) v = record { moves = v .0 .moves; left = []; to = e; made = v .0 .made; isRecord = refl; isStacks = refl; readBack = λ z. absurd (subst T (sym z) tt) }
+  fed-to : (ts : List ℕ) (o : Settled) → Fed g (lentOf m) (configOf g r m) ts o → To (feed ts) (effect (afterFeed g m o) (written (program g) area))
+  fed-to ts (stopped e) v =
+      let l = fed-led g wf r m (met .fits) ts [] e (v .0) in
+      let s = at-stop g wf (e .frames) (e .registers) (led-shaped g wf r m (met .fits) ts [] e l) (v .1) in
+      let w = led-within g wf r m (met .fits) ts [] e l in
+      record { moves = v .0 .moves; left = []; to = e; made = v .0 .made; few = v .2; says = (refl, v .1, refl); isRecord = refl; isStacks = refl; isArea = refl; readBack = λ z. (laid-fits g true e m s w (v .2), read-back g true e m s w) }
+  fed-to ts (failed e k) v = record { moves = v .1 .moves; left = v .0; to = e; made = v .1 .made; few = v .2; says = (refl, v .4); isRecord = refl; isStacks = refl; isArea = refl; readBack = λ z. absurd (subst T (sym z) tt) }
 
-  made-to : (c : Call) → MovesTo g m (configOf g r m) c (effect (made g r m c) (written (program g) area))
-  made-to (feed ts) = fed-to ts (written (program g) area) (feedAll g (lentOf m) ts (configOf g r m)) (feed-leads g wf r m (met .fits) ts)
-  made-to finish = finished-to (written (program g) area) (finishAll g (lentOf m) (configOf g r m)) (finish-leads g wf r m (met .fits))
+  finished-to : (o : Settled) → Finished g (lentOf m) (configOf g r m) [] (r .tokens) o → To finish (effect (afterFinish g m o) (written (program g) area))
+  finished-to (stopped e) v = record { moves = v .0 .moves; left = []; to = e; made = v .0 .made; few = omega (arith, v .2, met .fits .tokens); says = (v .1, refl, refl); isRecord = refl; isStacks = refl; isArea = refl; readBack = λ z. absurd (subst T (sym z) tt) }
+  finished-to (failed e k) v = record { moves = v .0 .moves; left = []; to = e; made = v .0 .made; few = omega (arith, v .3, met .fits .tokens); says = (refl, v .2); isRecord = refl; isStacks = refl; isArea = refl; readBack = λ z. absurd (subst T (sym z) tt) }
+
+  made-to : (c : Call) → To c (effect (made g r m c) (written (program g) area))
+  made-to (feed ts) = fed-to ts (feedAll g (lentOf m) ts (configOf g r m)) (feed-leads g wf r m (met .fits) ts)
+  made-to finish = finished-to (finishAll g (lentOf m) (configOf g r m)) (finish-leads g wf r m (met .fits))
 
 pub calls-move : CallsMove
-calls-move program bs area g r m c met = subst (λ e. MovesTo g m (configOf g r m) c e) (sym (performs-met program bs area g r m met c)) (made-to program bs area g r m met c)
+calls-move program bs area g r m c met = subst (λ e. MovesTo program area g m (configOf g r m) c e) (sym (performs-met program bs area g r m met c)) (made-to program bs area g r m met c)
 
 pub empty-feed : EmptyFeed
 empty-feed program bs area g r m met =

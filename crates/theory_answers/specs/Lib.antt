@@ -9,4 +9,7 @@ pub mod Bounds
 pub mod Runs
 pub mod TableNumbers
 pub mod Called
+pub mod TurnedBack
 pub mod Answers
+pub mod LentOnly
+pub mod Once

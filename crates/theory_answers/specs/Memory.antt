@@ -115,10 +115,6 @@ lay-over g c e m w =
     ap (λ k. record { registers = lay (k .maxRegisters) mark (e .registers) (layAll g c m .registers); places = lay (k .maxPlaces) 0 (map (placeOf g) (e .frames)) (layAll g c m .places) }) l
     ∙ ap₂ (λ x y. record { registers = reverse (e .registers) ++ replicate (lentOf m .maxRegisters - length (e .registers)) mark ++ x; places = reverse (map (placeOf g) (e .frames)) ++ replicate (lentOf m .maxPlaces - length (map (placeOf g) (e .frames))) 0 ++ y }) a b
 
--- a list laid on what was laid before
-pub lay-again : {A : Type 0} (clear : A) (n : ℕ) (xs ys mem : List A) → length xs ≤ n → lay n clear ys (lay n clear xs mem) ≡ lay n clear ys mem
-lay-again clear n xs ys mem h = ap (λ z. reverse ys ++ replicate (n - length ys) clear ++ z) (lay-rest n clear xs mem h)
-
 -- ---- what fits, read and laid again
 
 waits-back : (g : Grammar) → WellFormed g → {ps : List ℕ} {rs : List ℤ} {x : Symbol} → WaitsAt g ps rs x → map (placeOf g) (map (frameOf g) ps) ≡ ps

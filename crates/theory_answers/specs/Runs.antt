@@ -1,18 +1,22 @@
 -- Feeds and finishes as moves: whatever the tokens, what a call leads to is reached by moves, and one of 01's refusals stops it.
 use Prim.Native.Nat.{ℕ, zero, suc, _+_, _-_, _≤_, _<_}
 use native.Mathlib.Omega.{arith}
-use mathlib.Core.Path.{_≡_, refl, sym, ap, _∙_, subst}
+use mathlib.Core.Path.{_≡_, refl, sym, ap, ap₂, _∙_, subst, subst₂}
 use mathlib.Core.Logic.{_⊎_, inl, inr}
 use mathlib.Core.Bool.{Bool, true, false, _&&_}
-use mathlib.Core.List.{List, [], _∷_, _++_, append-nil}
+use mathlib.Core.List.{List, [], _∷_, _++_, append-nil, append-assoc}
 use lib.ListN.{drop}
-use lib.Dec.{T, ltb, leb, ltb→lt, lt→ltb, leb→le, nleb→lt}
-use Rattle.meaning.specs.Grammar.{Grammar, Look, token, over}
-use Rattle.meaning.specs.Machine.{Config, Lent, Outcome, moved, blocked, Settled, stopped, failed, waits, next, lookAt, unread, isDone, isFinished, advance, advanceFrom, feedToken, feedAll, finishAll, tokensLimit, movesLimit}
+use lib.Dec.{T, eqb, ltb, leb, ltb→lt, lt→ltb, nltb→le, leb→le, nleb→lt}
+use Rattle.meaning.specs.Grammar.{Grammar, whole, Look, token, over}
+use Rattle.meaning.specs.Base.{isEmpty}
+use Rattle.meaning.specs.Scheme.{Instruction}
+use Rattle.meaning.specs.Machine.{Frame, Config, Lent, Outcome, moved, blocked, Settled, stopped, failed, needsLook, waits, next, lookAt, unread, isDone, isFinished, advance, advanceFrom, feedToken, feedAll, finishAll, tokensLimit, movesLimit}
 use Rattle.meaning.specs.Walk.{Act, actBy, Makes, nothing, andThen}
+use Rattle.meaning.specs.PublicCalls.{feed, finish}
+use Rattle.meaning.specs.CallStatements.{Follows, Unseen, Refuses, tooMany, notToken, atToken, atEnd, between}
 use Rattle.theory_base.specs.Members.{T→true, both}
 use Rattle.theory_base.specs.Steps.{at-hand}
-use Rattle.theory_answers.specs.Bounds.{counts, look-free, no-read, Blocks, atLimit, blocks}
+use Rattle.theory_answers.specs.Bounds.{counts, look-free, no-read, Blocks, blocks}
 
 -- what every move keeps, moves keep
 pub makes-keep : (g : Grammar) (lent : Lent) (Inv : Config → Type 0) → ((l : Look) (c d : Config) → Inv c → next g lent l c ≡ moved d → Inv d)
@@ -22,13 +26,18 @@ makes-keep g lent Inv keeps (andThen {vs = vs} {d = d} p i is fs e m f h) s = ke
 
 -- ---- the tokens to come while one is at hand
 
--- ts follow the token at hand, n were read before it: it is still to come or just read
-abbrev Coming : Look → List ℕ → ℕ → List ℕ → ℕ → Type 0
-Coming (token t) ts n us k = ((us ≡ t ∷ ts) × (k ≡ n)) ⊎ ((us ≡ ts) × (k ≡ suc n))
-Coming over ts n us k = (us ≡ []) × (k ≡ n)
+-- n were read before the token at hand: it is still to come or just read
+abbrev Coming : Look → ℕ → List ℕ → ℕ → Type 0
+Coming (token t) n us k = ((us ≡ t ∷ []) × (k ≡ n)) ⊎ ((us ≡ []) × (k ≡ suc n))
+Coming over n us k = (us ≡ []) × (k ≡ n)
 
-unread-none : (c d : Config) (us : List ℕ) → d .tokens ≡ c .tokens → us ≡ unread c d us
-unread-none c d us e = let z : 0 ≡ d .tokens - c .tokens = omega (arith, e) in ap (λ n. drop n us) z
+-- at the end nothing comes behind
+abbrev Last : (List ℕ → Type 0) → Look → Type 0
+Last Behind (token t) = Unit {0}
+Last Behind over = (us : List ℕ) → Behind us → us ≡ []
+
+unread-none : (c d : Config) (us : List ℕ) → d .tokens ≡ c .tokens → unread c d us ≡ us
+unread-none c d us e = let z : d .tokens - c .tokens ≡ 0 = omega (arith, e) in ap (λ n. drop n us) z
 
 unread-one : (c d : Config) (t : ℕ) (us ts : List ℕ) → us ≡ t ∷ ts → d .tokens ≡ suc (c .tokens) → unread c d us ≡ ts
 unread-one c d t us ts e h =
@@ -42,141 +51,228 @@ look-is (u ∷ vs) c e = let z : u ≡ c = cc in ap (λ n. n ∷ vs) z
 over-token : {A : Type 0} (t : ℕ) → over ≡ token t → A
 over-token t e = absurd (let z : _≡_ {A = ℕ} 0 1 = cc in omega arith)
 
--- one move with the token at hand is one with the tokens to come
-coming-on : (g : Grammar) (lent : Lent) (l : Look) (ts : List ℕ) (n : ℕ) (us : List ℕ) (c d : Config) → Coming l ts n us (c .tokens) → waits (c .frames) && isDone l n c ≡ false → next g lent l c ≡ moved d
-    → (next g lent (lookAt us) c ≡ moved d) × Coming l ts n (unread c d us) (d .tokens)
-coming-on g lent over ts n us c d s w h = (subst (λ z. next g lent (lookAt z) c ≡ moved d) (sym (s .0)) h, go (counts g lent over c d h .tokens))
-  where
-    go : (d .tokens ≡ c .tokens) ⊎ ((t : ℕ) × (over ≡ token t) × (d .tokens ≡ suc (c .tokens))) → (unread c d us ≡ []) × (d .tokens ≡ n)
-    go (inl e) = (sym (unread-none c d us e) ∙ s .0, e ∙ s .1)
-    go (inr v) = over-token (v .0) (v .1)
-coming-on g lent (token t) ts n us c d (inl s) w h = (subst (λ z. next g lent (lookAt z) c ≡ moved d) (sym (s .0)) h, go (counts g lent (token t) c d h .tokens))
-  where
-    go : (d .tokens ≡ c .tokens) ⊎ ((u : ℕ) × (token t ≡ token u) × (d .tokens ≡ suc (c .tokens))) → Coming (token t) ts n (unread c d us) (d .tokens)
-    go (inl e) = inl (sym (unread-none c d us e) ∙ s .0, e ∙ s .1)
-    go (inr v) = inr (unread-one c d t us ts (s .0) (v .2), omega (arith, v .2, s .1))
-coming-on g lent (token t) ts n us c d (inr s) w h =
-    let done : ltb n (c .tokens) ≡ true = T→true (ltb n (c .tokens)) (lt→ltb n (c .tokens) (omega (arith, s .1))) in
-    let idle : waits (c .frames) ≡ false = not-both (waits (c .frames)) (ltb n (c .tokens)) done w in
-    let e = no-read g lent (token t) c d idle h in
-    (look-free g lent (lookAt us) (token t) c idle ∙ h, inr (sym (unread-none c d us e) ∙ s .0, e ∙ s .1))
+-- once the token at hand is read, what is still to do needs no next one
+idle : (t n : ℕ) (c : Config) → c .tokens ≡ suc n → waits (c .frames) && isDone (token t) n c ≡ false → waits (c .frames) ≡ false
+idle t n c e w = not-both (waits (c .frames)) (ltb n (c .tokens)) (T→true (ltb n (c .tokens)) (lt→ltb n (c .tokens) (omega (arith, e)))) w
   where
     not-both : (a b : Bool) → b ≡ true → a && b ≡ false → a ≡ false
     not-both true b e f = absurd (subst T (sym e ∙ f) tt)
     not-both false b e f = refl
 
+-- a start symbol that is left waits
+unfinished : (c : Config) → waits (c .frames) && isFinished c ≡ false → isFinished c ≡ false
+unfinished c w = go (c .frames) w
+  where
+    rests : (p : ℕ) (is : List Instruction) → needsLook is && (eqb p whole && isEmpty is) ≡ false → eqb p whole && isEmpty is ≡ false
+    rests p [] w = w
+    rests p (i ∷ is) w = neither (eqb p whole)
+      where
+        neither : (b : Bool) → b && false ≡ false
+        neither true = refl
+        neither false = refl
+
+    go : (fs : List Frame) → waits fs && (elim fs as (λ z. Bool) [ [] ↦ false | f ∷ fs ↦ eqb (f .production) whole && isEmpty (f .rest) ]) ≡ false → (elim fs as (λ z. Bool) [ [] ↦ false | f ∷ fs ↦ eqb (f .production) whole && isEmpty (f .rest) ]) ≡ false
+    go [] w = refl
+    go (f ∷ fs) w = rests (f .production) (f .rest) w
+
+-- what one move leaves of the tokens to come, whatever comes behind
+record Passed (l : Look) (n : ℕ) (us : List ℕ) (c d : Config) : Type 0 where
+  pub left : List ℕ
+  pub coming : Coming l n left (d .tokens)
+  pub rest : (ws : List ℕ) → unread c d (us ++ ws) ≡ left ++ ws
+
+module _ (g : Grammar) (lent : Lent) where
+  passed : (l : Look) (n : ℕ) (us : List ℕ) (c d : Config) → Coming l n us (c .tokens) → waits (c .frames) && isDone l n c ≡ false → next g lent l c ≡ moved d → Passed l n us c d
+  passed over n us c d s w h = go (counts g lent over c d h .tokens)
+    where
+      go : (d .tokens ≡ c .tokens) ⊎ ((t : ℕ) × (over ≡ token t) × (d .tokens ≡ suc (c .tokens))) → Passed over n us c d
+      go (inl e) = record { left = us; coming = (s .0, e ∙ s .1); rest = λ ws. unread-none c d (us ++ ws) e }
+      go (inr v) = over-token (v .0) (v .1)
+  passed (token t) n us c d (inl s) w h = go (counts g lent (token t) c d h .tokens)
+    where
+      go : (d .tokens ≡ c .tokens) ⊎ ((u : ℕ) × (token t ≡ token u) × (d .tokens ≡ suc (c .tokens))) → Passed (token t) n us c d
+      go (inl e) = record { left = us; coming = inl (s .0, e ∙ s .1); rest = λ ws. unread-none c d (us ++ ws) e }
+      go (inr v) = record { left = []; coming = inr (refl, omega (arith, v .2, s .1)); rest = λ ws. unread-one c d t (us ++ ws) ws (ap (λ x. x ++ ws) (s .0)) (v .2) }
+  passed (token t) n us c d (inr s) w h =
+      let e = no-read g lent (token t) c d (idle t n c (s .1) w) h in
+      record { left = us; coming = inr (s .0, e ∙ s .1); rest = λ ws. unread-none c d (us ++ ws) e }
+
+  -- what is at hand is what comes next
+  same-look : (Behind : List ℕ → Type 0) (l : Look) (n : ℕ) (us : List ℕ) (c : Config) → Last Behind l → Coming l n us (c .tokens) → waits (c .frames) && isDone l n c ≡ false → (ws : List ℕ) → Behind ws → next g lent (lookAt (us ++ ws)) c ≡ next g lent l c
+  same-look Behind over n us c z s w ws b = ap₂ (λ x y. next g lent (lookAt (x ++ y)) c) (s .0) (z ws b)
+  same-look Behind (token t) n us c z (inl s) w ws b = ap (λ x. next g lent (lookAt (x ++ ws)) c) (s .0)
+  same-look Behind (token t) n us c z (inr s) w ws b = look-free g lent (lookAt (us ++ ws)) (token t) c (idle t n c (s .1) w)
+
 -- what stops a feed at e
 pub data FeedBlocks (e : Config) : ℕ → Type 0 where
   manyTokens : e .tokens ≡ tokensLimit → FeedBlocks e 35
-  notToken : FeedBlocks e 20
-  atMove : {k : ℕ} (t : ℕ) → Blocks (token t) e k → FeedBlocks e k
+  unknownToken : FeedBlocks e 20
+  blockedMove : {k : ℕ} (t : ℕ) → Blocks (token t) e k → FeedBlocks e k
+
+-- ---- the moves from c₀
+
+-- they lead to c, with us to come
+pub record Led (g : Grammar) (lent : Lent) (us₀ : List ℕ) (c₀ : Config) (us : List ℕ) (c : Config) : Type 0 where
+  pub moves : List Act
+  pub made : Makes g lent us₀ c₀ moves us c
+  pub few : c .moves ≤ movesLimit
+
+-- and whatever comes behind, the same moves do
+pub record Leads (g : Grammar) (lent : Lent) (Behind : List ℕ → Type 0) (us₀ : List ℕ) (c₀ : Config) (us : List ℕ) (c : Config) : Type 0 where
+  pub moves : List Act
+  pub made : (ws : List ℕ) → Behind ws → Makes g lent (us₀ ++ ws) c₀ moves (us ++ ws) c
+  pub few : c .moves ≤ movesLimit
+
+-- behind the tokens of a feed anything may come, behind a finish nothing
+abbrev pub Anything : List ℕ → Type 0
+Anything = Follows (feed [])
+
+abbrev pub Nothing : List ℕ → Type 0
+Nothing = Follows finish
+
+module _ (g : Grammar) (lent : Lent) (us₀ : List ℕ) (c₀ : Config) (us : List ℕ) (c : Config) where
+  pub with-nothing : Leads g lent Nothing us₀ c₀ us c → Led g lent us₀ c₀ us c
+  with-nothing s = record { moves = s .moves; made = subst₂ (λ x y. Makes g lent x c₀ (s .moves) y c) (append-nil us₀) (append-nil us) (s .made [] refl); few = s .few }
+
+  pub with-end : Leads g lent Anything us₀ c₀ us c → Leads g lent Nothing us₀ c₀ us c
+  with-end s = record { moves = s .moves; made = λ ws b. s .made ws tt; few = s .few }
+
+  -- ts more to come
+  abbrev pub with-more : (ts all : List ℕ) → us₀ ++ ts ≡ all → Leads g lent Anything us₀ c₀ us c → Leads g lent Anything all c₀ (us ++ ts) c
+  with-more ts all e s = record { moves = s .moves; made = λ ws b. subst₂ (λ x y. Makes g lent x c₀ (s .moves) y c) (sym (append-assoc us₀ ts ws) ∙ ap (λ z. z ++ ws) e) (sym (append-assoc us ts ws)) (s .made (ts ++ ws) tt); few = s .few }
 
 -- ---- the loop
 
-module _ (g : Grammar) (lent : Lent) (us₀ : List ℕ) (c₀ : Config) where
-  -- moves from the start lead to c, with these tokens to come
-  pub record Led (us : List ℕ) (c : Config) : Type 0 where
-    pub moves : List Act
-    pub made : Makes g lent us₀ c₀ moves us c
-    pub few : c .moves ≤ movesLimit
-
-  led-on : (us : List ℕ) (c d : Config) → Led us c → next g lent (lookAt us) c ≡ moved d → Led (unread c d us) d
-  led-on us c d s h =
-      let a = at-hand g lent (lookAt us) c d h in
-      record {
-        moves = s .moves ++ (actBy (a .production) (a .instruction) d ∷ []);
-        made = andThen (a .production) (a .instruction) (a .rest) (a .below) d (s .made) (a .frames) h;
-        few = omega (arith, a .limit, counts g lent (lookAt us) c d h .moves);
-      }
-
-  pub record Going (l : Look) (ts : List ℕ) (n : ℕ) (c : Config) : Type 0 where
+module _ (g : Grammar) (lent : Lent) (Behind : List ℕ → Type 0) (us₀ : List ℕ) (c₀ : Config) where
+  record Going (l : Look) (n : ℕ) (c : Config) : Type 0 where
     pub left : List ℕ
-    pub led : Led left c
-    pub coming : Coming l ts n left (c .tokens)
+    pub leads : Leads g lent Behind us₀ c₀ left c
+    pub coming : Coming l n left (c .tokens)
 
-  abbrev Advanced : Look → List ℕ → ℕ → Settled → Type 0
-  Advanced l ts n (stopped e) = Going l ts n e × T (waits (e .frames)) × T (isDone l n e)
-  Advanced l ts n (failed e k) = Going l ts n e × Blocks l e k
+  abbrev Advanced : Look → ℕ → Settled → Type 0
+  Advanced l n (stopped e) = Going l n e × T (waits (e .frames)) × T (isDone l n e)
+  Advanced l n (failed e k) = Going l n e × (next g lent l e ≡ blocked k) × (waits (e .frames) && isDone l n e ≡ false)
 
-  going-on : (l : Look) (ts : List ℕ) (n : ℕ) (c d : Config) → Going l ts n c → waits (c .frames) && isDone l n c ≡ false → next g lent l c ≡ moved d → Going l ts n d
-  going-on l ts n c d s w h = let r = coming-on g lent l ts n (s .left) c d (s .coming) w h in record { left = unread c d (s .left); led = led-on (s .left) c d (s .led) (r .0); coming = r .1 }
+  module _ (l : Look) (n : ℕ) (z : Last Behind l) where
+    going-on : (c d : Config) → Going l n c → waits (c .frames) && isDone l n c ≡ false → next g lent l c ≡ moved d → Going l n d
+    going-on c d s w h =
+        let p = passed g lent l n (s .left) c d (s .coming) w h in
+        let a = at-hand g lent l c d h in
+        let ws : List Act = s .leads .moves ++ (actBy (a .production) (a .instruction) d ∷ []) in
+        let one : (vs : List ℕ) → Behind vs → Makes g lent (us₀ ++ vs) c₀ ws (unread c d (s .left ++ vs)) d =
+        λ vs b. andThen (a .production) (a .instruction) (a .rest) (a .below) d (s .leads .made vs b) (a .frames) (same-look g lent Behind l n (s .left) c z (s .coming) w vs b ∙ h) in
+        let led : Leads g lent Behind us₀ c₀ (p .left) d = record { moves = ws; made = λ vs b. subst (λ x. Makes g lent (us₀ ++ vs) c₀ ws x d) (p .rest vs) (one vs b); few = omega (arith, a .limit, counts g lent l c d h .moves) } in
+        record { left = p .left; leads = led; coming = p .coming }
 
-  module _ (l : Look) (ts : List ℕ) (n : ℕ) where
-    stops : (c : Config) → Going l ts n c → waits (c .frames) && isDone l n c ≡ true → Going l ts n c × T (waits (c .frames)) × T (isDone l n c)
+    stops : (c : Config) → Going l n c → waits (c .frames) && isDone l n c ≡ true → Going l n c × T (waits (c .frames)) × T (isDone l n c)
     stops c s w =
         let t : T (waits (c .frames) && isDone l n c) = rw w tt in
         (s, both (waits (c .frames)) (isDone l n c) t .0, both (waits (c .frames)) (isDone l n c) t .1)
 
-    advanced : (left : ℕ) (c : Config) → left + c .moves ≡ movesLimit → Going l ts n c → Advanced l ts n (advance left g lent l n c)
+    advanced : (left : ℕ) (c : Config) → left + c .moves ≡ movesLimit → Going l n c → Advanced l n (advance left g lent l n c)
     advanced zero c m s = ready (waits (c .frames) && isDone l n c) refl (next g lent l c) refl
       where
-        ready : (b : Bool) → waits (c .frames) && isDone l n c ≡ b → (o : Outcome) → next g lent l c ≡ o → Advanced l ts n (elim b [ true ↦ stopped c | false ↦ elim o [ blocked k ↦ failed c k | moved d ↦ failed c 35 ] ])
+        ready : (b : Bool) → waits (c .frames) && isDone l n c ≡ b → (o : Outcome) → next g lent l c ≡ o → Advanced l n (elim b [ true ↦ stopped c | false ↦ elim o [ blocked k ↦ failed c k | moved d ↦ failed c 35 ] ])
         ready true w o h = stops c s w
-        ready false w (blocked k) h = (s, blocks g lent l c k h)
-        ready false w (moved d) h = (s, atLimit (omega arith))
+        ready false w (blocked k) h = (s, h, w)
+        -- at the limit no move is made
+        ready false w (moved d) h = absurd (omega (arith, at-hand g lent l c d h .limit))
     advanced (suc left) c m s = ready (waits (c .frames) && isDone l n c) refl (next g lent l c) refl (λ d e t. advanced left d e t)
       where
-        ready : (b : Bool) → waits (c .frames) && isDone l n c ≡ b → (o : Outcome) → next g lent l c ≡ o → ((d : Config) → left + d .moves ≡ movesLimit → Going l ts n d → Advanced l ts n (advance left g lent l n d)) → Advanced l ts n (elim b [ true ↦ stopped c | false ↦ elim o [ blocked k ↦ failed c k | moved d ↦ advance left g lent l n d ] ])
+        ready : (b : Bool) → waits (c .frames) && isDone l n c ≡ b → (o : Outcome) → next g lent l c ≡ o
+            → ((d : Config) → left + d .moves ≡ movesLimit → Going l n d → Advanced l n (advance left g lent l n d))
+            → Advanced l n (elim b [ true ↦ stopped c | false ↦ elim o [ blocked k ↦ failed c k | moved d ↦ advance left g lent l n d ] ])
         ready true w o h ih = stops c s w
-        ready false w (blocked k) h ih = (s, blocks g lent l c k h)
-        ready false w (moved d) h ih = ih d (omega (arith, counts g lent l c d h .moves)) (going-on l ts n c d s w h)
+        ready false w (blocked k) h ih = (s, h, w)
+        ready false w (moved d) h ih = ih d (omega (arith, counts g lent l c d h .moves)) (going-on c d s w h)
 
-  advanced-from : (l : Look) (ts : List ℕ) (c : Config) → Going l ts (c .tokens) c → Advanced l ts (c .tokens) (advanceFrom g lent l c)
-  advanced-from l ts c s = advanced l ts (c .tokens) (movesLimit - c .moves) c (omega (arith, s .led .few)) s
+  advanced-from : (l : Look) → Last Behind l → (c : Config) → Going l (c .tokens) c → Advanced l (c .tokens) (advanceFrom g lent l c)
+  advanced-from l z c s = advanced l (c .tokens) z (movesLimit - c .moves) c (omega (arith, s .leads .few)) s
 
-  -- ---- a feed
+-- ---- a feed
 
-  -- with us still to come behind the tokens fed
-  abbrev pub FedBefore : List ℕ → Settled → Type 0
-  FedBefore us (stopped e) = Led us e × T (waits (e .frames)) × (e .tokens ≤ tokensLimit)
-  FedBefore us (failed e k) = (vs : List ℕ) × Led vs e × (e .tokens ≤ tokensLimit) × FeedBlocks e k
+module _ (g : Grammar) (lent : Lent) (c₀ : Config) where
+  -- of the last of the tokens us
+  abbrev pub Fed : List ℕ → Settled → Type 0
+  Fed us (stopped e) = Leads g lent Anything us c₀ [] e × T (waits (e .frames)) × (e .tokens ≤ tokensLimit)
+  Fed us (failed e k) = (vs : List ℕ) × (s : Leads g lent Anything us c₀ vs e) × (e .tokens ≤ tokensLimit) × FeedBlocks e k × Refuses g lent Anything us c₀ (s .moves) vs e k
 
-  abbrev pub Fed : Settled → Type 0
-  Fed o = FedBefore [] o
+  -- read were read before t, and ts come after it
+  module _ (read : List ℕ) (t : ℕ) (ts : List ℕ) (c : Config) (s : Leads g lent Anything read c₀ [] c) (w : T (waits (c .frames))) (m : c .tokens ≤ tokensLimit) where
+    abbrev FedToken : Settled → Type 0
+    FedToken (stopped e) = Fed (read ++ (t ∷ [])) (stopped e)
+    FedToken (failed e k) = Fed (read ++ (t ∷ ts)) (failed e k)
 
-  fed-token : (t : ℕ) (ts : List ℕ) (c : Config) → Led (t ∷ ts) c → c .tokens ≤ tokensLimit → FedBefore ts (feedToken g lent t c)
-  fed-token t ts c s m = limited (leb tokensLimit (c .tokens)) refl (ltb t (g .terminals))
-    where
-      count : (us : List ℕ) (k : ℕ) → c .tokens < tokensLimit → Coming (token t) ts (c .tokens) us k → k ≤ tokensLimit
-      count us k b (inl v) = omega (arith, v .1)
-      count us k b (inr v) = omega (arith, v .1)
+    unseen : Unseen g lent (read ++ (t ∷ ts)) c₀ (s .moves) (t ∷ ts) c
+    unseen = record { read = read; split = refl; made = λ us. s .made us tt }
 
-      behind : (us : List ℕ) (e : Config) → Led us e → Coming (token t) ts (c .tokens) us (e .tokens) → c .tokens < e .tokens → Led ts e
+    turned-back : (k : ℕ) → FeedBlocks c k → Refuses g lent Anything (read ++ (t ∷ ts)) c₀ (s .moves) (t ∷ ts) c k → FedToken (failed c k)
+    turned-back k b r = (t ∷ ts, with-more g lent read c₀ [] c (t ∷ ts) (read ++ (t ∷ ts)) refl s, m, b, r)
+
+    module _ (few : c .tokens < tokensLimit) (below : t < g .terminals) where
+      abbrev Gone : Config → Type 0
+      Gone e = Going g lent Anything (read ++ (t ∷ [])) c₀ (token t) (c .tokens) e
+
+      count : (us : List ℕ) (k : ℕ) → Coming (token t) (c .tokens) us k → k ≤ tokensLimit
+      count us k (inl v) = omega (arith, v .1)
+      count us k (inr v) = omega (arith, v .1)
+
+      behind : (us : List ℕ) (e : Config) → Leads g lent Anything (read ++ (t ∷ [])) c₀ us e → Coming (token t) (c .tokens) us (e .tokens) → c .tokens < e .tokens → Leads g lent Anything (read ++ (t ∷ [])) c₀ [] e
       behind us e r (inl v) d = absurd (omega (arith, v .1))
-      behind us e r (inr v) d = subst (λ z. Led z e) (v .0) r
+      behind us e r (inr v) d = subst (λ z. Leads g lent Anything (read ++ (t ∷ [])) c₀ z e) (v .0) r
 
-      read : c .tokens < tokensLimit → (o : Settled) → Advanced (token t) ts (c .tokens) o → FedBefore ts o
-      read b (stopped e) v = (behind (v .0 .left) e (v .0 .led) (v .0 .coming) (ltb→lt (c .tokens) (e .tokens) (v .2)), v .1, count (v .0 .left) (e .tokens) b (v .0 .coming))
-      read b (failed e k) v = (v .0 .left, v .0 .led, count (v .0 .left) (e .tokens) b (v .0 .coming), atMove t (v .1))
+      -- blocked at t, or, once it is read, at a move that needs no next one
+      refuses : (e : Config) (k : ℕ) (r : Gone e) → next g lent (token t) e ≡ blocked k → waits (e .frames) && isDone (token t) (c .tokens) e ≡ false → Coming (token t) (c .tokens) (r .left) (e .tokens)
+          → Refuses g lent Anything (read ++ (t ∷ ts)) c₀ (r .leads .moves) (r .left ++ ts) e k
+      refuses e k r h x (inl v) = atToken t ts (ap (λ z. z ++ ts) (v .0)) (omega (arith, v .1)) below h
+      refuses e k r h x (inr v) =
+          let split : read ++ (t ∷ ts) ≡ (read ++ (t ∷ [])) ++ (r .left ++ ts) = sym (append-assoc read (t ∷ []) ts) ∙ ap (λ z. (read ++ (t ∷ [])) ++ (z ++ ts)) (sym (v .0)) in
+          let made : (us : List ℕ) → Makes g lent ((read ++ (t ∷ [])) ++ us) c₀ (r .leads .moves) us e = λ us. subst (λ z. Makes g lent ((read ++ (t ∷ [])) ++ us) c₀ (r .leads .moves) (z ++ us) e) (v .0) (r .leads .made us tt) in
+          let quiet = idle t (c .tokens) e (v .1) x in
+          between quiet (record { read = read ++ (t ∷ []); split = split; made = made }) (λ l. look-free g lent l (token t) e quiet ∙ h)
 
-      limited : (b : Bool) → leb tokensLimit (c .tokens) ≡ b → (k : Bool) → FedBefore ts (elim b [ true ↦ failed c 35 | false ↦ elim k [ true ↦ advanceFrom g lent (token t) c | false ↦ failed c 20 ] ])
-      limited true q k = (t ∷ ts, s, m, manyTokens (omega (arith, leb→le tokensLimit (c .tokens) (rw q tt))))
-      limited false q true = read (nleb→lt tokensLimit (c .tokens) (rw q tt)) (advanceFrom g lent (token t) c) (advanced-from (token t) ts c (record { left = t ∷ ts; led = s; coming = inl (refl, refl) }))
-      limited false q false = (t ∷ ts, s, m, notToken)
+      advances : (o : Settled) → Advanced g lent Anything (read ++ (t ∷ [])) c₀ (token t) (c .tokens) o → FedToken o
+      advances (stopped e) v = (behind (v .0 .left) e (v .0 .leads) (v .0 .coming) (ltb→lt (c .tokens) (e .tokens) (v .2)), v .1, count (v .0 .left) (e .tokens) (v .0 .coming))
+      advances (failed e k) v =
+          let r : Gone e = v .0 in
+          let whole = with-more g lent (read ++ (t ∷ [])) c₀ (r .left) e ts (read ++ (t ∷ ts)) (append-assoc read (t ∷ []) ts) (r .leads) in
+          (r .left ++ ts, whole, count (r .left) (e .tokens) (r .coming), blockedMove t (blocks g lent (token t) e k (v .1)), refuses e k r (v .1) (v .2) (r .coming))
 
-  fed-cons : (ts us : List ℕ) → ((d : Config) → Led (ts ++ us) d → T (waits (d .frames)) → d .tokens ≤ tokensLimit → FedBefore us (feedAll g lent ts d)) → (o : Settled) → FedBefore (ts ++ us) o → FedBefore us (elim o [ failed d k ↦ failed d k | stopped d ↦ feedAll g lent ts d ])
-  fed-cons ts us ih (failed d k) v = v
-  fed-cons ts us ih (stopped d) v = ih d (v .0) (v .1) (v .2)
+    fed-token : FedToken (feedToken g lent t c)
+    fed-token = limited (leb tokensLimit (c .tokens)) refl (ltb t (g .terminals)) refl
+      where
+        limited : (b : Bool) → leb tokensLimit (c .tokens) ≡ b → (k : Bool) → ltb t (g .terminals) ≡ k → FedToken (elim b [ true ↦ failed c 35 | false ↦ elim k [ true ↦ advanceFrom g lent (token t) c | false ↦ failed c 20 ] ])
+        limited true q k p =
+            let all : c .tokens ≡ tokensLimit = omega (arith, leb→le tokensLimit (c .tokens) (rw q tt)) in
+            turned-back 35 (manyTokens all) (tooMany refl t ts refl all w unseen)
+        limited false q true p =
+            let few = nleb→lt tokensLimit (c .tokens) (rw q tt) in
+            let below = ltb→lt t (g .terminals) (rw p tt) in
+            advances few below (advanceFrom g lent (token t) c) (advanced-from g lent Anything (read ++ (t ∷ [])) c₀ (token t) tt c (record { left = t ∷ []; leads = with-more g lent read c₀ [] c (t ∷ []) (read ++ (t ∷ [])) refl s; coming = inl (refl, refl) }))
+        limited false q false p = turned-back 20 unknownToken (notToken refl t ts refl (nleb→lt tokensLimit (c .tokens) (rw q tt)) (nltb→le t (g .terminals) (rw p tt)) w unseen)
 
-  pub fed-before : (ts us : List ℕ) (c : Config) → Led (ts ++ us) c → T (waits (c .frames)) → c .tokens ≤ tokensLimit → FedBefore us (feedAll g lent ts c)
-  fed-before [] us c s w m = (s, w, m)
-  fed-before (t ∷ ts) us c s w m = fed-cons ts us (λ d r v k. fed-before ts us d r v k) (feedToken g lent t c) (fed-token t (ts ++ us) c s m)
-
-  pub fed : (ts : List ℕ) (c : Config) → Led ts c → T (waits (c .frames)) → c .tokens ≤ tokensLimit → Fed (feedAll g lent ts c)
-  fed ts c s w m = fed-before ts [] c (subst (λ z. Led z c) (sym (append-nil ts)) s) w m
+  pub fed : (ts read : List ℕ) (c : Config) → Leads g lent Anything read c₀ [] c → T (waits (c .frames)) → c .tokens ≤ tokensLimit → Fed (read ++ ts) (feedAll g lent ts c)
+  fed [] read c s w m = (subst (λ z. Leads g lent Anything z c₀ [] c) (sym (append-nil read)) s, w, m)
+  fed (t ∷ ts) read c s w m = then (λ d r v k. fed ts (read ++ (t ∷ [])) d r v k) (feedToken g lent t c) (fed-token read t ts c s w m)
+    where
+      then : ((d : Config) → Leads g lent Anything (read ++ (t ∷ [])) c₀ [] d → T (waits (d .frames)) → d .tokens ≤ tokensLimit → Fed ((read ++ (t ∷ [])) ++ ts) (feedAll g lent ts d))
+          → (o : Settled) → FedToken read t ts c s w m o → Fed (read ++ (t ∷ ts)) (elim o [ failed d k ↦ failed d k | stopped d ↦ feedAll g lent ts d ])
+      then ih (failed d k) v = v
+      then ih (stopped d) v = subst (λ z. Fed z (feedAll g lent ts d)) (append-assoc read (t ∷ []) ts) (ih d (v .0) (v .1) (v .2))
 
   -- ---- a finish
 
-  abbrev pub Finished : Settled → Type 0
-  Finished (stopped e) = Led [] e × T (isFinished e)
-  Finished (failed e k) = Led [] e × Blocks over e k
+  -- after n tokens
+  abbrev pub Finished : List ℕ → ℕ → Settled → Type 0
+  Finished us n (stopped e) = Leads g lent Nothing us c₀ [] e × T (isFinished e) × (e .tokens ≡ n)
+  Finished us n (failed e k) = (s : Leads g lent Nothing us c₀ [] e) × Blocks over e k × Refuses g lent Nothing us c₀ (s .moves) [] e k × (e .tokens ≡ n)
 
-  pub finished : (c : Config) → Led [] c → Finished (finishAll g lent c)
-  finished c s = go (finishAll g lent c) (advanced-from over [] c (record { left = []; led = s; coming = (refl, refl) }))
+  pub finished : (read : List ℕ) (c : Config) → Leads g lent Anything read c₀ [] c → Finished read (c .tokens) (finishAll g lent c)
+  finished read c s = go (finishAll g lent c) (advanced-from g lent Nothing read c₀ over (λ us b. b) c (record { left = []; leads = with-end g lent read c₀ [] c s; coming = (refl, refl) }))
     where
-      back : (e : Config) → Going over [] (c .tokens) e → Led [] e
-      back e r = subst (λ z. Led z e) (r .coming .0) (r .led)
-
-      go : (o : Settled) → Advanced over [] (c .tokens) o → Finished o
-      go (stopped e) v = (back e (v .0), v .2)
-      go (failed e k) v = (back e (v .0), v .1)
+      go : (o : Settled) → Advanced g lent Nothing read c₀ over (c .tokens) o → Finished read (c .tokens) o
+      go (stopped e) v = (subst (λ z. Leads g lent Nothing read c₀ z e) (v .0 .coming .0) (v .0 .leads), v .2, v .0 .coming .1)
+      go (failed e k) v =
+          let r = v .0 in
+          let by : Refuses g lent Nothing read c₀ (r .leads .moves) (r .left) e k = atEnd (r .coming .0) (unfinished e (v .2)) (λ us b. b) (v .1) in
+          subst (λ z. (a : Leads g lent Nothing read c₀ z e) × Blocks over e k × Refuses g lent Nothing read c₀ (a .moves) z e k × (e .tokens ≡ c .tokens)) (r .coming .0) (r .leads, blocks g lent over e k (v .1), by, r .coming .1)

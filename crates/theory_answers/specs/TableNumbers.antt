@@ -13,7 +13,7 @@ use Rattle.meaning.specs.Table.{State, Field, Read, wellFormed, malformed, Stag
 use Rattle.meaning.specs.Judgement.{Verdict, accepted, rejected, countsOffset, entryOffset}
 use Rattle.meaning.specs.Decide.{judge, firstWhere, reachable, productive, isLeftRecursive, clashes}
 use Rattle.meaning.specs.PublicCalls.{Checked, usable, unusable, checkedAs, check}
-use Rattle.meaning.specs.Statements.{isTableNumber}
+use Rattle.meaning.specs.CallStatements.{isTableNumber}
 use Rattle.theory_base.specs.Members.{both}
 
 abbrev Numbered : Read → Type 0

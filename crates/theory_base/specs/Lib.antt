@@ -10,6 +10,7 @@ pub mod Evaluations
 pub mod Grow
 pub mod Frames
 pub mod MoveCounts
-pub mod Counted
+pub mod WalkCounts
+pub mod CallsUnder
 pub mod Walks
 pub mod Steps

@@ -1,4 +1,4 @@
--- The moves of a tree's walk, counted without naming them: how many it makes for the part that is opened after j tokens. (Walk of meaning has the moves themselves; theory_walk proves that they are as many.)
+-- The moves of a tree's walk, counted without naming them: how many it makes for the part that is opened after j tokens. (Walk of meaning has the moves themselves; WalkCounts proves that they are as many.)
 use Prim.Native.Nat.{ℕ, suc, _+_}
 use mathlib.Core.Bool.{Bool, true, false, not}
 use lib.Dec.{ltb}
@@ -6,6 +6,10 @@ use Rattle.meaning.specs.Base.{isEmpty}
 use Rattle.meaning.specs.Grammar.{Grammar, nonterminal, productionAt, symbolAt, inh, syn, att}
 use Rattle.meaning.specs.Scheme.{conditionsAt}
 use Rattle.meaning.specs.Tree.{Tree, Forest, leaf, node, noTrees, treeAnd, width, isOpened, isLeft}
+
+-- so many that all is opened
+abbrev pub pastEnd : Tree → ℕ
+pastEnd t = suc (width t)
 
 abbrev pub oneIf : Bool → ℕ
 oneIf true = 1

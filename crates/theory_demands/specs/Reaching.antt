@@ -1,9 +1,9 @@
 -- Demand 3 for any tokens: every list of calls stands at a configuration that so many moves from the opening lead to.
 use Prim.Native.Nat.{ℕ, _+_}
 use native.Mathlib.Omega.{arith}
-use mathlib.Core.Path.{_≡_, refl, sym, ap, _∙_, subst}
+use mathlib.Core.Path.{_≡_, sym, ap, _∙_, subst}
 use mathlib.Core.Logic.{inl, inr}
-use mathlib.Core.Bool.{false}
+use mathlib.Core.Bool.{Bool, true, false}
 use mathlib.Core.List.{List, [], _∷_, append-nil}
 use lib.ListN.{length, length-append}
 use lib.Dec.{T}
@@ -15,7 +15,6 @@ use Rattle.meaning.specs.Statements.{Reached, ReachedAlways}
 use Rattle.theory_table.specs.AcceptedTable.{accepted-well-formed}
 use Rattle.theory_answers.specs.Bounds.{counts}
 use Rattle.theory_sound.specs.Histories.{Run, runs}
-use Rattle.theory_answers.specs.Runs.{Led}
 use Rattle.theory_demands.specs.ByGrammar.{by-grammar}
 
 -- ---- the counter counts the moves
@@ -34,10 +33,30 @@ reached-always program bs g m₀ ts isOver r m a h = go (runs g (accepted-well-f
     count : {us vs : List ℕ} {c : Config} {ws : List Act} → Makes g (lentOf m₀) us (opening g) ws vs c → length ws ≡ c .moves
     count {c = c} k = omega (arith, counted g (lentOf m₀) k)
 
+    same-record : (b : Bool) (c : Config) → r ≡ recordOf b c → r ≡ recordOf (r .isOpen) c
+    same-record b c e = e ∙ ap (λ z. recordOf z c) (sym (ap (λ z. z .isOpen) e))
+
     go : Run g m₀ ts r m → Reached g m₀ ts r m
     go (inl o) =
-        let l = subst (λ z. Led g (lentOf m₀) z (opening g) [] (o .config)) (append-nil ts) (o .leads []) in
-        record { moves = l .moves; unread = []; config = o .config; made = l .made; counted = count (l .made) ∙ sym (ap (λ z. z .moves) (o .isRecord)); isRecord = o .isRecord ∙ ap (λ b. recordOf b (o .config)) (sym (ap (λ z. z .isOpen) (o .isRecord))); isStacks = o .isStacks; allRead = λ e. refl }
+        let one : Makes g (lentOf m₀) ts (opening g) (o .leads .moves) [] (o .config) = subst (λ z. Makes g (lentOf m₀) z (opening g) (o .leads .moves) [] (o .config)) (append-nil ts) (o .leads .made [] tt) in
+        record {
+          moves = o .leads .moves;
+          unread = [];
+          config = o .config;
+          made = one;
+          counted = count one ∙ sym (ap (λ z. z .moves) (o .isRecord));
+          isRecord = same-record true (o .config) (o .isRecord);
+          isStacks = o .isStacks;
+          openRun = λ e. ((λ us. o .leads .made us tt), o .stop .1);
+        }
     go (inr o) =
-        let isClosed : r .isOpen ≡ false = ap (λ z. z .isOpen) (o .isRecord) in
-        record { moves = o .led .moves; unread = o .unread; config = o .config; made = o .led .made; counted = count (o .led .made) ∙ sym (ap (λ z. z .moves) (o .isRecord)); isRecord = o .isRecord ∙ ap (λ b. recordOf b (o .config)) (sym isClosed); isStacks = o .isStacks; allRead = λ e. absurd (subst T (sym e ∙ isClosed) tt) }
+        record {
+          moves = o .led .moves;
+          unread = o .unread;
+          config = o .config;
+          made = o .led .made;
+          counted = count (o .led .made) ∙ sym (ap (λ z. z .moves) (o .isRecord));
+          isRecord = same-record false (o .config) (o .isRecord);
+          isStacks = o .isStacks;
+          openRun = λ e. absurd (subst T (sym e ∙ ap (λ z. z .isOpen) (o .isRecord)) tt);
+        }

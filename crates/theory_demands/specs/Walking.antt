@@ -42,7 +42,7 @@ drawn-first g t j false = walk-first j (walk g t)
 
 module _ (bs : List ℕ) (g : Grammar) (a : Accepted bs g) (lent : Lent) (stream : List ℕ) where
   -- so many moves as are drawn are the moves drawn
-  moves-drawn : (t : Tree) → TreeOf g stream t → (j : ℕ) (isOver : Bool) {ws : List Act} {us : List ℕ} {c : Config} → Makes g lent stream (opening g) ws us c → c .moves ≡ length (drawnMoves g t j isOver) → ws ≡ drawnMoves g t j isOver
+  pub moves-drawn : (t : Tree) → TreeOf g stream t → (j : ℕ) (isOver : Bool) {ws : List Act} {us : List ℕ} {c : Config} → Makes g lent stream (opening g) ws us c → c .moves ≡ length (drawnMoves g t j isOver) → ws ≡ drawnMoves g t j isOver
   moves-drawn t w j isOver {ws} {us} {c} m n =
       let k = accepted-made bs g a lent stream m .walked t w in
       let size : length ws ≡ length (drawnMoves g t j isOver) = omega (arith, counted g lent m, n) in
@@ -65,7 +65,7 @@ walk-always program bs g m₀ ts us isOver r m t a h k f over = go isOver over (
         (c, subst (λ z. Makes g (lentOf m₀) (ts ++ us) (opening g) z us c) (moves-drawn bs g a (lentOf m₀) (ts ++ us) t k (length ts) b y n) y, same-record o c e, x)
 
     go : (b : Bool) → (b ≡ true → us ≡ []) → r ≡ drawnRecord g t (length ts) b → Run g m₀ ts r m → Found b
-    go b u d (inl o) = at b (o .leads us .moves) (o .config) d true (o .isRecord) (o .isStacks) (o .leads us .made)
+    go b u d (inl o) = at b (o .leads .moves) (o .config) d true (o .isRecord) (o .isStacks) (o .leads .made us tt)
     go true u d (inr o) =
         let none : o .unread ≡ [] = no-elements (o .unread) (omega (arith, ap length (o .joined), length-append (o .before) (o .unread), o .held .shows .tokens, ap (λ z. z .tokens) (sym (o .isRecord) ∙ d))) in
         let e : us ≡ [] = u refl in

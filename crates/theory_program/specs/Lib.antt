@@ -11,3 +11,4 @@ pub mod Resuming
 pub mod Sizes
 pub mod SmallWords
 pub mod AddressRows
+pub mod Telling

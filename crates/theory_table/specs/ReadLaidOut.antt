@@ -105,13 +105,21 @@ module _ (bs : List ℕ) (s : State) (h : Bytes bs) (e : readTable bs ≡ wellFo
   front-rest : bs ≡ front ++ table-layout .rest
   front-rest = table-layout .isTable ∙ sym (append-assoc (field 1 (headerBytes (grammarOf s))) (countsFields (grammarOf s .counts)) (table-layout .rest))
 
+  behind-front : drop (7 + 5 * length (s .counts)) bs ≡ table-layout .rest
+  behind-front = ap (drop (7 + 5 * length (s .counts))) front-rest ∙ drop-at front (table-layout .rest) (7 + 5 * length (s .counts)) front-length
+
   -- the productions' stretches follow the header and the counts
   pub read-stretches : Stretches (reverse (s .entries)) (7 + 5 * length (s .counts)) (drop (7 + 5 * length (s .counts)) bs)
   read-stretches =
       let l = table-layout in
-      let here : drop (7 + 5 * length (s .counts)) bs ≡ l .rest = ap (drop (7 + 5 * length (s .counts))) front-rest ∙ drop-at front (l .rest) (7 + 5 * length (s .counts)) front-length in
-      subst (Stretches (reverse (s .entries)) (7 + 5 * length (s .counts))) (sym here) (subst (λ z. Stretches (reverse (s .entries)) z (l .rest)) (omega arith) (l .stretches))
+      subst (Stretches (reverse (s .entries)) (7 + 5 * length (s .counts))) (sym behind-front) (subst (λ z. Stretches (reverse (s .entries)) z (l .rest)) (omega arith) (l .stretches))
+
+  pub read-front : bs ≡ field 1 (headerBytes (grammarOf s)) ++ (countsFields (grammarOf s .counts) ++ drop (7 + 5 * length (s .counts)) bs)
+  read-front = subst (λ z. bs ≡ field 1 (headerBytes (grammarOf s)) ++ (countsFields (grammarOf s .counts) ++ z)) (sym behind-front) (table-layout .isTable)
+
+  pub read-length : 7 + 5 * length (s .counts) + length (drop (7 + 5 * length (s .counts)) bs) ≡ length bs
+  read-length = omega (arith, length-drop (7 + 5 * length (s .counts)) bs, front-length, ap length front-rest, length-append front (table-layout .rest))
 
   -- the stretch of each production: its own bytes, up to the next one's offset or the table's end
   pub read-stretch : (p : ℕ) → p < length (s .entries) → StretchAt bs (getD (reverse (s .entries)) p noEntry) (getD (map (λ d. d .offset) (reverse (s .entries))) (suc p) (length bs))
-  read-stretch p l = stretch-at read-stretches bs refl (omega (arith, length-drop (7 + 5 * length (s .counts)) bs, front-length, ap length front-rest, length-append front (table-layout .rest))) p (omega (arith, length-reverse (s .entries)))
+  read-stretch p l = stretch-at read-stretches bs refl read-length p (omega (arith, length-reverse (s .entries)))

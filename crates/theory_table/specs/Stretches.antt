@@ -141,7 +141,7 @@ pub record StretchAt (bs : List ℕ) (e : Entry) (end : ℕ) : Type 0 where
   pub isHere : drop (e .offset) bs ≡ field 3 (productionBytes (productionOf e)) ++ (body ++ rest)
   pub isEnd : e .offset + length (field 3 (productionBytes (productionOf e)) ++ body) ≡ end
 
-first-offset : {es : List Entry} {o : ℕ} {bs : List ℕ} → Stretches es o bs → (end : ℕ) → o + length bs ≡ end → o ≡ getD (map (λ d. d .offset) es) 0 end
+pub first-offset : {es : List Entry} {o : ℕ} {bs : List ℕ} → Stretches es o bs → (end : ℕ) → o + length bs ≡ end → o ≡ getD (map (λ d. d .offset) es) 0 end
 first-offset nothing end l = omega arith
 first-offset (stretch e own later) end l = refl
 

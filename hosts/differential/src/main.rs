@@ -1,12 +1,13 @@
 //! Compares the proved engine, through the host library, with the plain one on random calls: valid and damaged tables, segments in any
 //! pieces, forged records and stacks, short memory. After each call the answer, the record and every register, place and program word
-//! are compared, with some cells past those lent.
+//! are compared, with some cells past those lent. So are the calls on windows (`windows`).
 //!
 //!     differential [SEED [CALLS]]
 mod pair;
 mod random;
 mod segments;
 mod tables;
+mod windows;
 
 use pair::{Call, Lengths, Pair};
 use plain::samples;
@@ -33,6 +34,8 @@ impl Table {
 struct Comparison {
     r: Random,
     made: u64,
+    /// The calls on windows, which `made` does not count.
+    windows: u64,
     /// The answers: call and number of the refusal, 0 for none.
     answers: BTreeMap<(&'static str, u32), u64>,
     samples: Vec<Vec<u8>>,
@@ -138,6 +141,9 @@ impl Comparison {
         let mut at = 0;
         while at < segment.len() {
             self.disturb(&mut pair, &table.bytes)?;
+            if self.r.chance(20) {
+                pair.forge_values(&mut self.r);
+            }
             let longest = if self.r.chance(70) { segment.len() - at } else { 3 };
             let end = segment.len().min(at + self.r.below(longest + 1));
             if self.call(&mut pair, &table.bytes, Call::Feed(&segment[at..end]))? != 0 && self.r.chance(80) {
@@ -148,6 +154,18 @@ impl Comparison {
         self.disturb(&mut pair, &table.bytes)?;
         self.call(&mut pair, &table.bytes, Call::Finish)?;
         Ok(())
+    }
+
+    /// A window after some of the runs.
+    fn window(&mut self) -> Result<(), String> {
+        if !self.r.chance(5) {
+            return Ok(());
+        }
+        let Comparison { r, windows, answers, .. } = self;
+        windows::run(r, |call, number| {
+            *windows += 1;
+            *answers.entry((call, number)).or_default() += 1;
+        })
     }
 
     fn report(&self) {
@@ -165,10 +183,10 @@ impl Comparison {
         println!();
     }
 
-    /// The numbers of 01 that no call was refused with.
+    /// The numbers of 01 and 02 that no call was refused with.
     fn missing(&self) -> Vec<u32> {
         let seen = |n: &u32| self.answers.keys().any(|(_, number)| number == n);
-        (1..=14).chain(20..=24).chain(30..=35).filter(|n| !seen(n)).collect()
+        (1..=14).chain(20..=24).chain(30..=35).chain([42]).filter(|n| !seen(n)).collect()
     }
 }
 
@@ -187,17 +205,17 @@ fn main() {
     let calls = number(arguments.next()).unwrap_or(CALLS);
     println!("seed {seed}");
     let samples = vec![samples::words(), samples::lines(), samples::brackets(), samples::chain(1, 0, 0), samples::chain(3, 2, 8)];
-    let mut c = Comparison { r: Random::new(seed), made: 0, answers: BTreeMap::new(), samples };
+    let mut c = Comparison { r: Random::new(seed), made: 0, windows: 0, answers: BTreeMap::new(), samples };
     while c.made < calls {
         let table = c.table();
-        let outcome = c.judge(&table.bytes).and_then(|()| c.run(&table));
+        let outcome = c.judge(&table.bytes).and_then(|()| c.run(&table)).and_then(|()| c.window());
         if let Err(difference) = outcome {
             println!("call {} differs: {difference}", c.made + 1);
             std::process::exit(1);
         }
     }
     c.report();
-    println!("{} calls, all alike", c.made);
+    println!("{} calls and {} on windows, all alike", c.made, c.windows);
     let missing = c.missing();
     if calls >= CALLS && !missing.is_empty() {
         println!("but no call was refused with {missing:?}");

@@ -211,8 +211,8 @@ impl Pair {
         }
     }
 
-    /// Other values where there are values.
-    fn forge_values(&mut self, r: &mut Random) {
+    /// Other values where there are values: the run goes on with them.
+    pub fn forge_values(&mut self, r: &mut Random) {
         let height = (self.record.registers as usize).min(self.lengths.registers);
         for v in self.cells.registers[..height].iter_mut().filter(|v| **v != MARK) {
             *v = r.held();

@@ -41,8 +41,9 @@ impl Random {
 
     /// A value that a register holds: often at the limits of values, or where products pass them or 64 bits.
     pub fn held(&mut self) -> i64 {
-        let about = *self.pick(&[1_000_000_000_000, 1_000_000, i64::from(i32::MAX), 1 << 32]);
-        match self.below(4) {
+        let limit = 1_000_000_000_000;
+        let about = *self.pick(&[limit, limit, limit, 1_000_000, i64::from(i32::MAX), 1 << 32]);
+        match self.below(3) {
             0 => about - self.below(3) as i64,
             1 => self.below(3) as i64 - about,
             _ => self.value() as i64,

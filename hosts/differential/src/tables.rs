@@ -39,6 +39,12 @@ fn inputs(counts: &Counts, left: u8, right: &[u8], below: usize) -> Vec<Occurren
     found
 }
 
+/// Mostly small, so that halves occur.
+fn divisor(r: &mut Random) -> u32 {
+    let most = if r.chance(70) { 8 } else { 1_000_000 };
+    1 + r.below(most) as u32
+}
+
 fn rule(r: &mut Random, target: Occurrence, inputs: &[Occurrence]) -> Vec<u8> {
     let function = if inputs.is_empty() { 0 } else { r.below(9) as u8 };
     let mut body = vec![target[0], target[1], function];
@@ -47,7 +53,7 @@ fn rule(r: &mut Random, target: Occurrence, inputs: &[Occurrence]) -> Vec<u8> {
     }
     match function {
         0 | 7 => body.extend(r.value().to_be_bytes()),
-        8 => body.extend((1 + r.below(1_000_000) as u32).to_be_bytes()),
+        8 => body.extend(divisor(r).to_be_bytes()),
         2..=6 => body.extend(r.pick(inputs)),
         _ => {}
     }

@@ -25,8 +25,10 @@ mod refusal;
 mod run;
 pub mod steps;
 mod table;
+pub mod window;
 
 pub use lent::check;
 pub use refusal::{Kind, Refusal};
 pub use run::{Run, MOVES};
 pub use table::{listing, stretch, sum, NotTable, Table};
+pub use window::{Standing, Window};

@@ -77,6 +77,7 @@ kinds! {
     RunClosed = 33, "the run is closed";
     StacksUnfit = 34, "the stacks do not fit";
     TooMuch = 35, "a token after 65,535, or a move after 4,294,967,295 or after the budget";
+    WindowUnfit = 42, "a window's size, buffer or value does not fit";
 }
 
 /// Why a call was turned back: a number, and what it comes with.
@@ -87,11 +88,13 @@ pub struct Refusal {
 }
 
 impl Refusal {
-    pub(crate) const fn new(number: u32, count: u64) -> Refusal {
+    /// A refusal as a call handed it out, number and count, for those who bring one to a later call.
+    #[must_use]
+    pub const fn new(number: u32, count: u64) -> Refusal {
         Refusal { number, count }
     }
 
-    /// The number: 1 to 14 for a table, 20 to 24 for a segment, 30 to 35 for the state of a run.
+    /// The number: 1 to 14 for a table, 20 to 24 for a segment, 30 to 35 for the state of a run, 42 for a window.
     #[must_use]
     pub const fn number(&self) -> u32 {
         self.number
@@ -116,7 +119,8 @@ impl Refusal {
         (self.number <= 14).then_some(self.count)
     }
 
-    /// The tokens read before the segment or the run was refused. The refusals 30, 33 and 34 tell none: nothing was looked at.
+    /// The tokens read before the segment or the run was refused. The refusals 30, 33 and 34 tell none, since nothing was looked at,
+    /// nor does 42.
     #[must_use]
     pub fn tokens(&self) -> Option<u64> {
         let told = matches!(self.number, 20..=24 | 31 | 32 | 35);

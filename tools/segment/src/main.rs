@@ -5,6 +5,7 @@ mod runs;
 mod session;
 mod tables;
 mod trace;
+mod window;
 mod words;
 
 use input::Lines;

@@ -1,7 +1,7 @@
 //! What stands between commands, and which function answers which.
 use crate::input::Line;
 use crate::words::{bytes, Bad, Fault, Words, AREA};
-use crate::{runs, tables, trace};
+use crate::{runs, tables, trace, window};
 use engine::lent::{Memory, Record};
 use std::collections::HashMap;
 use std::io::Write;
@@ -10,21 +10,29 @@ use std::io::Write;
 pub type Command = fn(&mut Session, Words, &mut dyn Write) -> Result<(), Fault>;
 
 /// The commands, a list for each module: a new group of commands is a module whose list is named here.
-const COMMANDS: &[&[(&str, Command)]] = &[tables::COMMANDS, runs::COMMANDS, trace::COMMANDS];
+const COMMANDS: &[&[(&str, Command)]] = &[tables::COMMANDS, runs::COMMANDS, trace::COMMANDS, window::COMMANDS];
 
-/// The run as it stands, and the tables that have names.
+/// The run and the window as they stand, and the tables that have names.
 pub struct Session {
     pub record: Record,
     pub registers: Vec<i64>,
     pub places: Vec<u32>,
     program: Vec<u32>,
+    pub window: Vec<i64>,
     pub tables: HashMap<Vec<u8>, Vec<u8>>,
 }
 
 impl Session {
     /// Before the first command: a closed record, all zero, and no cells.
     pub fn new() -> Session {
-        Session { record: Record::default(), registers: vec![], places: vec![], program: vec![0; AREA], tables: HashMap::new() }
+        Session {
+            record: Record::default(),
+            registers: vec![],
+            places: vec![],
+            program: vec![0; AREA],
+            window: vec![],
+            tables: HashMap::new(),
+        }
     }
 
     /// Answers a line; a comment has no answer.

@@ -2,7 +2,7 @@ use mathlib.Core.Path.{ap, _∙_}
 use denote.Ref.{now}
 use Rattle.meaning.specs.Program.{programOf}
 use Rattle.meaning.specs.PublicCalls.{performs, feed}
-use Rattle.fit.specs.Cut.{stacksOf}
+use Rattle.meaning.specs.PublicCalls.{stacksOf}
 use Rattle.host.specs.Lent.{passed-on}
 use borrow.Author.Needs.{needs}
 use Rattle.host.proofs.segment_feed.Statement.{statement}

@@ -3,7 +3,7 @@ use mir.Facts.{toZ-ofZ}
 use denote.Ref.{now}
 use Rattle.meaning.specs.Program.{programOf}
 use Rattle.meaning.specs.PublicCalls.{performs, finish}
-use Rattle.fit.specs.Cut.{stacksOf}
+use Rattle.meaning.specs.PublicCalls.{stacksOf}
 use Rattle.host.specs.Lent.{valueOf, passed-on}
 use borrow.Author.Needs.{needs, sfits-of}
 use Rattle.host.proofs.segment_finish.Statement.{statement}

@@ -24,7 +24,9 @@ returns-3 : tie.Need-returns-3
 returns-3 c =
     let a = c .before .before .before .before .before .before .before .before .before .before .before .before .before .args in
     let page = c .before .before .before .before .before .first-page in
-    listed-page (now (a .table)) (now (a .program)) (now (a .out)) (c .before .before .before .before .before .before .before .before .before .if1 .left) (c .before .before .before .before .before .before .before .before .if2 .left) _ _ (page .result) true (c .if3 .taken) (page .ensures .0) (page .ensures .1)
+    let long = c .before .before .before .before .before .before .before .before .before .if1 .left in
+    let room = c .before .before .before .before .before .before .before .before .if2 .left in
+    listed-page (now (a .table)) (now (a .program)) (now (a .out)) long room _ _ (page .result) true (c .if3 .taken) (page .ensures .0) (page .ensures .1)
 
 same-length-3 : tie.Need-same-length-3
 same-length-3 c = search needs
@@ -36,7 +38,9 @@ returns-4 : tie.Need-returns-4
 returns-4 c =
     let a = c .before .before .before .before .before .before .before .before .before .before .before .before .before .args in
     let page = c .before .before .before .before .before .first-page in
-    listed-page (now (a .table)) (now (a .program)) (now (a .out)) (c .before .before .before .before .before .before .before .before .before .if1 .left) (c .before .before .before .before .before .before .before .before .if2 .left) _ _ (page .result) false (c .if3 .left) (page .ensures .0) (page .ensures .1)
+    let long = c .before .before .before .before .before .before .before .before .before .if1 .left in
+    let room = c .before .before .before .before .before .before .before .before .if2 .left in
+    listed-page (now (a .table)) (now (a .program)) (now (a .out)) long room _ _ (page .result) false (c .if3 .left) (page .ensures .0) (page .ensures .1)
 
 pub segment-list-spec : {M : Type 1} → statement M
 segment-list-spec =

@@ -46,7 +46,11 @@ same-length-4 : tie.Need-same-length-4
 same-length-4 c = search needs
 
 returns-2 : tie.Need-returns-2
-returns-2 c = (shows-as (lines-refused (now (c .before .before .before .before .before .before .before .before .before .before .before .before .before .before .before .args .table)) _ _ (refused-unusable (c .before .before .before .before .before .before .before .before .before .before .program-of .ensures .1) _ _ (c .before .before .before .before .before .before .number .given .1))) (c .before .before .refusal2 .ensures), ap (λ m. m .area) (c .before .before .before .before .before .before .before .before .before .before .program-of .ensures .0))
+returns-2 c =
+    let table = now (c .before .before .before .before .before .before .before .before .before .before .before .before .before .before .before .args .table) in
+    let made = c .before .before .before .before .before .before .before .before .before .before .program-of .ensures in
+    let refused = refused-unusable (made .1) _ _ (c .before .before .before .before .before .before .number .given .1) in
+    (shows-as (lines-refused table _ _ refused) (c .before .before .refusal2 .ensures), ap (λ m. m .area) (made .0))
 
 same-length-5 : tie.Need-same-length-5
 same-length-5 c = search needs
@@ -55,7 +59,10 @@ same-length-6 : tie.Need-same-length-6
 same-length-6 c = search needs
 
 returns-3 : tie.Need-returns-3
-returns-3 c = (shows-as (lines-listing _ _ _ (written-stands (c .before .before .before .before .before .before .before .before .before .before .program-of .ensures .1) _ (c .before .before .before .before .before .before .enum-told2 .given .1)) (c .before .before .before .before .first .ensures)) (c .before .before .next-page .ensures .0), ap (λ m. m .area) (c .before .before .before .before .before .before .before .before .before .before .program-of .ensures .0))
+returns-3 c =
+    let made = c .before .before .before .before .before .before .before .before .before .before .program-of .ensures in
+    let stands = written-stands (made .1) _ (c .before .before .before .before .before .before .enum-told2 .given .1) in
+    (shows-as (lines-listing _ _ _ stands (c .before .before .before .before .first .ensures)) (c .before .before .next-page .ensures .0), ap (λ m. m .area) (made .0))
 
 pub first-page-spec : {M : Type 1} → statement M
 first-page-spec =

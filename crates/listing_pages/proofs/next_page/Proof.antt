@@ -33,25 +33,40 @@ part-next-line-end : tie.Need-part-next-line-end Inv-loop μ-loop
 part-next-line-end c = search needs
 
 next-line-requires : tie.Need-next-line-requires Inv-loop μ-loop
-next-line-requires c κs = omega (arith, length-take (length (c .before .before .loop .out) - c .before .before .loop .filled) (drop (c .before .before .loop .filled) (c .before .before .loop .out)), length-drop (c .before .before .loop .filled) (c .before .before .loop .out), c .before .loop-test .taken, c .before .before .loop .inv .1, c .before .before .before .before .before .pre)
+next-line-requires c κs =
+    let lp = c .before .before .loop in
+    let room = length (lp .out) - lp .filled in
+    omega (arith, length-take room (drop (lp .filled) (lp .out)), length-drop (lp .filled) (lp .out), c .before .loop-test .taken, lp .inv .1, c .before .before .before .before .before .pre)
 
 same-length : tie.Need-same-length Inv-loop μ-loop
-same-length c = same-len-mid (c .before .before .before .before .before .before .loop .filled) (length (c .before .before .before .before .before .before .loop .out) - c .before .before .before .before .before .before .loop .filled) (c .before .before .before .before .before .before .loop .out) (c .before .before .before .next-line .last .1 .1 .0) (c .before .before .before .next-line .kept .1 .1 .0) ∙ c .before .before .before .before .before .before .loop .inv .1
+same-length c =
+    let lp = c .before .before .before .before .before .before .loop in
+    let line = c .before .before .before .next-line in
+    same-len-mid (lp .filled) (length (lp .out) - lp .filled) (lp .out) (line .last .1 .1 .0) (line .kept .1 .1 .0) ∙ lp .inv .1
 
 returns : tie.Need-returns Inv-loop μ-loop
-returns c = (told-over (c .before .before .before .before .before .before .loop .inv .0) (c .before .before .before .next-line .result) (c .before .before .before .next-line .last .1 .1 .0) (c .before .before .before .next-line .ensures .1) (c .if1 .taken) (omega (arith, c .before .before .before .before .before .before .loop .inv .1, c .before .before .before .before .before .before .loop .inv .2)), tt)
+returns c =
+    let i = c .before .before .before .before .before .before .loop .inv in
+    let line = c .before .before .before .next-line in
+    (told-over (i .0) (line .result) (line .last .1 .1 .0) (line .ensures .1) (c .if1 .taken) (omega (arith, i .1, i .2)), tt)
 
 add-filled : tie.Need-add-filled Inv-loop μ-loop
 add-filled c = search needs
 
 loop-less : tie.Need-loop-less Inv-loop μ-loop
-loop-less c = told-less (c .before .before .before .before .before .before .before .before .loop .inv .0) (c .before .before .before .before .before .next-line .result) (c .before .before .before .before .before .next-line .last .1 .1 .0) (c .before .before .before .before .before .next-line .ensures .1) (c .before .before .if1 .left)
+loop-less c =
+    let line = c .before .before .before .before .before .next-line in
+    told-less (c .before .before .before .before .before .before .before .before .loop .inv .0) (line .result) (line .last .1 .1 .0) (line .ensures .1) (c .before .before .if1 .left)
 
 loop-again : tie.Need-loop-again Inv-loop μ-loop
 loop-again c =
-    let room : c .before .before .before .before .before .before .before .before .loop .filled + lineRoom ≤ length (now (c .before .before .before .before .before .before .before .before .before .before .before .args .out)) = omega (arith, c .before .before .before .before .before .before .before .loop-test .taken, c .before .before .before .before .before .before .before .before .loop .inv .1, c .before .before .before .before .before .before .before .before .before .before .before .pre) in
-    let same = same-len-mid (c .before .before .before .before .before .before .before .before .loop .filled) (length (c .before .before .before .before .before .before .before .before .loop .out) - c .before .before .before .before .before .before .before .before .loop .filled) (c .before .before .before .before .before .before .before .before .loop .out) (c .before .before .before .before .before .next-line .last .1 .1 .0) (c .before .before .before .before .before .next-line .kept .1 .1 .0) in
-    (told-turn (c .before .before .before .before .before .before .before .before .loop .inv .0) (c .before .before .before .before .before .next-line .result) (c .before .before .before .before .before .next-line .last .1 .1 .0) (c .before .before .before .before .before .next-line .ensures .1) room (c .before .before .if1 .left), same ∙ c .before .before .before .before .before .before .before .before .loop .inv .1, omega (arith, same, c .before .before .before .before .before .next-line .ensures .0, c .before .before .before .before .before .before .before .loop-test .taken, c .before .before .before .before .before .before .before .before .loop .inv .1, c .before .before .before .before .before .before .before .before .before .before .before .pre))
+    let start = c .before .before .before .before .before .before .before .before .before .before .before in
+    let lp = c .before .before .before .before .before .before .before .before .loop in
+    let line = c .before .before .before .before .before .next-line in
+    let test = c .before .before .before .before .before .before .before .loop-test .taken in
+    let room : lp .filled + lineRoom ≤ length (now (start .args .out)) = omega (arith, test, lp .inv .1, start .pre) in
+    let same = same-len-mid (lp .filled) (length (lp .out) - lp .filled) (lp .out) (line .last .1 .1 .0) (line .kept .1 .1 .0) in
+    (told-turn (lp .inv .0) (line .result) (line .last .1 .1 .0) (line .ensures .1) room (c .before .before .if1 .left), same ∙ lp .inv .1, omega (arith, same, line .ensures .0, test, lp .inv .1, start .pre))
 
 slice-aggregate-next-line : tie.Need-slice-aggregate-next-line Inv-loop μ-loop
 slice-aggregate-next-line c = search needs
@@ -64,12 +79,15 @@ same-length-2 c = c .before .before .before .before .loop .inv .1
 
 returns-2 : tie.Need-returns-2 Inv-loop μ-loop
 returns-2 c =
-    let l = c .before .before .before .before .loop in
-    let t = c .before .before .before .loop-test .left in
-    let room = c .before .before .before .before .before .before .before .pre in
-    let ws = now (c .before .before .before .before .before .before .before .args .program) in
-    let over = c .before .next-line2 .result .over in
-    (filled-full (l .inv .0) (omega (arith, l .inv .1, l .inv .2)) (omega (arith, l .inv .1, t, room)) over (told-none-left ws (linesLeft ws (l .c)) (replicate 64 0) (c .before .next-line2 .last .1 .1 .0) (c .before .next-line2 .result) (c .before .next-line2 .ensures .1)), filled-page (l .inv .0) (omega (arith, t, l .inv .1, room)) over)
+    let lp = c .before .before .before .before .loop in
+    let test = c .before .before .before .loop-test .left in
+    let start = c .before .before .before .before .before .before .before in
+    let ws = now (start .args .program) in
+    let line = c .before .next-line2 in
+    let none = told-none-left ws (linesLeft ws (lp .c)) (replicate 64 0) (line .last .1 .1 .0) (line .result) (line .ensures .1) in (
+      filled-full (lp .inv .0) (omega (arith, lp .inv .1, lp .inv .2)) (omega (arith, lp .inv .1, test, start .pre)) (line .result .over) none,
+      filled-page (lp .inv .0) (omega (arith, test, lp .inv .1, start .pre)) (line .result .over),
+    )
 
 pub next-page-spec : {M : Type 1} → statement M
 next-page-spec =

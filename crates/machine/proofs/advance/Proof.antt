@@ -1,5 +1,5 @@
 use native.Mathlib.Omega.{arith}
-use Rattle.machine.specs.Held.{bounds}
+use Rattle.moves.specs.Held.{bounds}
 use Rattle.machine.specs.Feeding.{look-advanced}
 use borrow.Author.Needs.{needs}
 use Rattle.machine.proofs.advance.Statement.{statement}

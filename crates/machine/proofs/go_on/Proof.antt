@@ -1,8 +1,8 @@
-use Rattle.machine.specs.declared.Step.the-variants.{Moved, Blocked}
-use Rattle.machine.specs.declared.Step.{Step}
+use Rattle.moves.specs.declared.Step.the-variants.{Moved, Blocked}
+use Rattle.moves.specs.declared.Step.{Step}
 use Rattle.machine.specs.Advancing.{Running, Going, number-most, blocked-over, blocked-limit, going-start, going-held, going-stop, going-fail, going-blocked, going-on, counts-one}
-use Rattle.machine.specs.Passing.{lookOf}
-use Rattle.machine.specs.Held.{Answers, bounds}
+use Rattle.moves.specs.Passing.{lookOf}
+use Rattle.moves.specs.Held.{Answers, bounds}
 use Rattle.meaning.specs.Machine.{movesLimit, unexpected}
 use lib.ListN.{length}
 use denote.Ref.{now}

@@ -1,5 +1,5 @@
-use Rattle.machine.specs.Passing.{lookOf}
-use Rattle.machine.specs.Held.{bounds, ready-as}
+use Rattle.moves.specs.Passing.{lookOf}
+use Rattle.moves.specs.Held.{bounds, ready-as}
 use denote.Ref.{now}
 use native.Mathlib.Omega.{arith}
 use borrow.Author.Needs.{needs}

@@ -1,6 +1,6 @@
 use mathlib.Core.Path.{ap, _∙_}
 use denote.Ref.{now}
-use Rattle.fit.specs.Cut.{stacksOf}
+use Rattle.meaning.specs.PublicCalls.{stacksOf}
 use Rattle.engine.specs.Records.{recordIs, calledIs, effectIs}
 use Rattle.engine.specs.Beginning.{accepting-begins, accepting-brought, accepting-called}
 use Rattle.engine.proofs.Cases.{ready-case, turned-case}

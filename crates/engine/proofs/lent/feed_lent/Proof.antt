@@ -1,6 +1,6 @@
 use mathlib.Core.Path.{sym, ap, _∙_}
 use denote.Ref.{now}
-use Rattle.fit.specs.Cut.{stacksOf}
+use Rattle.meaning.specs.PublicCalls.{stacksOf}
 use Rattle.engine.specs.Records.{recordIs, calledIs}
 use Rattle.engine.specs.Judging.{when-turned}
 use Rattle.engine.specs.Performing.{Judged, judged-fitting, judged-running, feed-made}

@@ -1,5 +1,5 @@
 use Rattle.engine.specs.Records.{recordIs}
-use Rattle.fit.specs.Cut.{stacksOf}
+use Rattle.meaning.specs.PublicCalls.{stacksOf}
 use mathlib.Core.Bool.{true, false}
 use mathlib.Core.Path.{sym, _∙_}
 use denote.Ref.{now}

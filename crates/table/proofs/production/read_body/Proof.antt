@@ -2,7 +2,7 @@ use mathlib.Core.Path.{refl}
 use native.Mathlib.Omega.{arith}
 use borrow.Author.Needs.{needs}
 use Rattle.entries.proofs.Narrowing.{kept-then}
-use Rattle.table.proofs.Walking.{zeros}
+use Rattle.rules.proofs.Noting.{zeros}
 use Rattle.table.proofs.Producing.{part-in, body-small, body-read, next-sooner}
 use borrow.Author.Needs.{needs}
 use Rattle.table.proofs.production.read_body.Statement.{statement}

@@ -1,8 +1,9 @@
+use mathlib.Core.Path.{_∙_}
 use native.Mathlib.Omega.{arith}
 use Prim.Native.Nat.{_-_}
 use lib.ListN.{length}
 use Rattle.table.proofs.Steps.{part-body}
-use Rattle.table.proofs.Walking.{part-ready, Walking, walk-start, walk-refused, walk-noted, walk-condition, walk-over}
+use Rattle.table.proofs.Walking.{part-ready, Walking, walk-start, walk-refused, walk-rule, walk-condition, walk-over}
 use Rattle.entries.specs.Span.{spansOf}
 use Rattle.table.proofs.walk.read_uses.Statement.{statement}
 use Rattle.table.proofs.walk.read_uses.Tie as tie
@@ -13,98 +14,116 @@ Inv-loop table from offset width inh syn rules conditions p lows₀ highs₀ fla
 abbrev μ-loop : tie.MeasureT-loop
 μ-loop table from offset width inh syn rules conditions p lows₀ highs₀ flags₀ note₀ at₀ r₀ c₀ lows highs flags note at r c = length table - at
 
+begin-requires : tie.Need-begin-requires Inv-loop μ-loop
+begin-requires c κs = tt
+
 loop-holds : tie.Need-loop-holds Inv-loop μ-loop
-loop-holds c = walk-start _ _ _ _ _ _ _ _ _ _ (c .before .pre .1) (c .before .pre .3) (c .before .pre .4) (c .before .pre .6) (c .before .pre .7)
+loop-holds c =
+    let pre = c .before .before .pre in
+    walk-start _ _ _ _ _ _ _ _ _ _ _ (c .begin .ensures) (pre .1) (pre .3) (pre .4) (pre .6) (pre .7)
 
 is-over-requires : tie.Need-is-over-requires Inv-loop μ-loop
 is-over-requires c κs = c .loop .inv .inside
 
-is-complete-requires : tie.Need-is-complete-requires Inv-loop μ-loop
-is-complete-requires c κs = c .before .before .before .before .before .pre .0
+has-gap-requires : tie.Need-has-gap-requires Inv-loop μ-loop
+has-gap-requires c κs = c .before .before .before .before .before .before .pre .0
 
 finish-requires : tie.Need-finish-requires Inv-loop μ-loop
 finish-requires c κs = tt
 
 returns : tie.Need-returns Inv-loop μ-loop
-returns c = let d = walk-over _ _ _ _ _ _ _ _ _ _ _ _ _ _ _ (c .before .before .before .before .before .loop .inv) (c .before .before .before .before .before .before .before .pre .0) (c .before .before .before .before .is-over .ensures .0 (c .before .before .before .if1 .taken)) _ _ (c .before .is-complete .ensures) (c .finish .ensures) (c .before .before .before .before .before .before .before .pre .2) in (d .read, (d .next, (d .inside, c .before .before .before .before .before .loop .inv .same)))
+returns c =
+    let over = c .before .before .before in
+    let at = over .before .before in
+    let pre = at .before .before .before .pre in
+    let d = walk-over _ _ _ _ _ _ _ _ _ _ _ _ _ _ _ (at .loop .inv) (over .before .is-over .ensures .0 (over .if1 .taken)) _ (c .before .has-gap .ensures .1) _ (c .finish .ensures) (pre .2) in
+    (d .read, (d .next, (d .inside, at .loop .inv .same)))
 
 size-at-requires : tie.Need-size-at-requires Inv-loop μ-loop
 size-at-requires c κs = c .before .before .loop .inv .inside
 
-use-number-requires : tie.Need-use-number-requires Inv-loop μ-loop
-use-number-requires c κs = ((c .before .before .before .is-over .ensures .1 (c .before .before .if1 .left)) .0, (c .before .before .before .is-over .ensures .1 (c .before .before .if1 .left)) .1, (c .before .size-at .ensures .0, c .before .size-at .ensures .1), c .before .before .before .before .before .before .pre .0)
+take-use-requires : tie.Need-take-use-requires Inv-loop μ-loop
+take-use-requires c κs =
+    let sized = c .before in
+    let more = sized .before .before .is-over .ensures .1 (sized .before .if1 .left) in
+    (more .0, more .1, (sized .size-at .ensures .0, sized .size-at .ensures .1), sized .before .before .before .before .before .before .pre .0)
 
 returns-2 : tie.Need-returns-2 Inv-loop μ-loop
-returns-2 c = (walk-refused _ _ _ _ _ _ _ _ _ _ _ _ _ _ _ (c .before .before .before .before .before .before .loop .inv) _ _ (c .before .use-number .ensures) (c .if2 .taken), ((λ z. absurd (c .if2 .taken z)), (c .before .before .before .before .before .before .loop .inv .inside, c .before .before .before .before .before .before .loop .inv .same)))
+returns-2 c =
+    let at = c .before .before .before .before .before .before in
+    (walk-refused _ _ _ _ _ _ _ _ _ _ _ _ _ _ _ (at .loop .inv) _ _ _ (c .before .take-use .ensures) (c .if2 .taken), ((λ z. absurd (c .if2 .taken z)), (at .loop .inv .inside, at .loop .inv .same)))
 
 shared-slice-read-wide : tie.Need-shared-slice-read-wide Inv-loop μ-loop
-shared-slice-read-wide c = (c .before .before .before .before .before .before .is-over .ensures .1 (c .before .before .before .before .before .if1 .left)) .0
+shared-slice-read-wide c =
+    let over = c .before .before .before .before .before in
+    (over .before .is-over .ensures .1 (over .if1 .left)) .0
 
 wide-requires : tie.Need-wide-requires Inv-loop μ-loop
 wide-requires c κs = tt
 
-add-wide : tie.Need-add-wide Inv-loop μ-loop
-add-wide c = omega (arith, c .before .before .before .before .before .use-number .ensures .whole (omega arith) .inside)
-
-shared-slice-read-wide-2 : tie.Need-shared-slice-read-wide-2 Inv-loop μ-loop
-shared-slice-read-wide-2 c = omega (arith, c .before .before .before .before .before .before .use-number .ensures .whole (omega arith) .inside, c .before .before .before .before .before .before .use-number .ensures .target (omega arith) (omega arith) .0)
-
-wide-requires-2 : tie.Need-wide-requires-2 Inv-loop μ-loop
-wide-requires-2 c κs = tt
-
-add-wide-2 : tie.Need-add-wide-2 Inv-loop μ-loop
-add-wide-2 c = omega (arith, c .before .before .before .before .before .before .before .use-number .ensures .whole (omega arith) .inside)
-
-shared-slice-read-wide-3 : tie.Need-shared-slice-read-wide-3 Inv-loop μ-loop
-shared-slice-read-wide-3 c = omega (arith, c .before .before .before .before .before .before .before .before .use-number .ensures .whole (omega arith) .inside, c .before .before .before .before .before .before .before .before .use-number .ensures .target (omega arith) (omega arith) .0)
-
-wide-requires-3 : tie.Need-wide-requires-3 Inv-loop μ-loop
-wide-requires-3 c κs = tt
-
-note-down-requires : tie.Need-note-down-requires Inv-loop μ-loop
-note-down-requires c κs = let k = c .before .before .before .before .before .before .before .before .before .use-number .ensures .target (omega arith) (omega arith) in (omega (arith, k .1), omega (arith, k .2), omega (arith, k .3))
-
 add-r : tie.Need-add-r Inv-loop μ-loop
-add-r c = omega (arith, c .before .before .before .before .before .before .before .before .before .before .use-number .ensures .whole (omega arith) .inside, c .before .before .before .before .before .before .before .before .before .before .before .before .before .before .before .loop .inv .rules)
+add-r c =
+    let taken = c .before .before .before .before in
+    omega (arith, taken .take-use .ensures .whole (omega arith) .inside, taken .before .before .before .before .before .loop .inv .rules)
 
 add-at : tie.Need-add-at Inv-loop μ-loop
-add-at c = omega (arith, c .before .before .before .before .before .before .before .before .before .before .use-number .ensures .whole (omega arith) .inside)
+add-at c = omega (arith, c .before .before .before .before .take-use .ensures .whole (omega arith) .inside)
 
 add-at-2 : tie.Need-add-at-2 Inv-loop μ-loop
-add-at-2 c = omega (arith, c .before .before .before .before .before .before .before .before .before .before .use-number .ensures .whole (omega arith) .inside)
+add-at-2 c = omega (arith, c .before .before .before .before .take-use .ensures .whole (omega arith) .inside)
 
 loop-less : tie.Need-loop-less Inv-loop μ-loop
-loop-less c = omega (arith, c .before .before .before .before .before .before .before .before .before .before .use-number .ensures .whole (omega arith) .inside)
+loop-less c = omega (arith, c .before .before .before .before .take-use .ensures .whole (omega arith) .inside)
 
 loop-again : tie.Need-loop-again Inv-loop μ-loop
-loop-again c = walk-noted _ _ _ _ _ _ _ _ _ _ _ _ _ _ _ (c .before .before .before .before .before .before .before .before .before .before .before .before .before .before .before .loop .inv) _ _ (c .before .before .before .before .before .before .before .before .before .before .use-number .ensures) (omega arith) _ _ _ (omega arith) (c .before .before .before .wide2 .ensures .0) (c .before .wide3 .ensures .0) (c .note-down .ensures)
+loop-again c =
+    let taken = c .before .before .before .before in
+    let at = taken .before .before .before .before .before in
+    walk-rule _ _ _ _ _ _ _ _ _ _ _ _ _ _ _ (at .loop .inv) _ _ _ (taken .take-use .ensures) (omega arith) (omega arith)
 
 add-begin : tie.Need-add-begin Inv-loop μ-loop
-add-begin c = omega (arith, c .before .before .before .before .use-number .ensures .whole (omega arith) .inside)
+add-begin c = omega (arith, c .before .before .before .before .take-use .ensures .whole (omega arith) .inside)
 
 add-end : tie.Need-add-end Inv-loop μ-loop
-add-end c = omega (arith, c .before .before .before .before .use-number .ensures .whole (omega arith) .inside)
+add-end c = omega (arith, c .before .before .before .before .take-use .ensures .whole (omega arith) .inside)
 
 sub-narrow : tie.Need-sub-narrow Inv-loop μ-loop
-sub-narrow c = omega (arith, c .before .before .before .before .use-number .ensures .whole (omega arith) .inside)
+sub-narrow c = omega (arith, c .before .before .before .before .take-use .ensures .whole (omega arith) .inside)
 
 part-narrow-start : tie.Need-part-narrow-start Inv-loop μ-loop
-part-narrow-start c = omega (arith, c .before .before .before .before .use-number .ensures .whole (omega arith) .inside)
+part-narrow-start c = omega (arith, c .before .before .before .before .take-use .ensures .whole (omega arith) .inside)
 
 part-narrow-end : tie.Need-part-narrow-end Inv-loop μ-loop
-part-narrow-end c = omega (arith, c .before .before .before .before .use-number .ensures .whole (omega arith) .inside)
+part-narrow-end c = omega (arith, c .before .before .before .before .take-use .ensures .whole (omega arith) .inside)
 
 narrow-requires : tie.Need-narrow-requires Inv-loop μ-loop
-narrow-requires c κs = let k = part-ready _ _ _ _ (c .before .before .before .before .before .before .before .before .use-number .ensures .whole (omega arith)) (part-body (c .before .before .before .before .before .before .before .before .before .before .before .before .before .before .before .args .table .now) (c .before .before .before .before .before .before .before .before .before .before .before .before .before .loop .at) (c .before .before .before .before .before .before .before .before .before .before .size-at .result)) (c .before .before .before .before .before .before .before .before .use-number .ensures .form (omega arith) (c .before .before .before .before .before .before .before .before .use-number .ensures .kinds (omega arith) (omega arith))) in (c .before .before .before .before .before .before .before .before .before .before .before .before .before .before .before .pre .5, k .0, k .1, k .2, c .before .before .before .before .before .before .before .before .before .before .before .before .before .loop .inv .same .long)
+narrow-requires c κs =
+    let other = c .before .before .before .before in
+    let fine = other .before .before .before in
+    let taken = fine .before in
+    let j = taken .take-use .ensures in
+    let at = taken .before .before .before .before .before in
+    let start = at .before .before .before in
+    let k = part-ready _ _ _ _ (j .whole (fine .if2 .left)) (part-body (start .args .table .now) (at .loop .at) (taken .before .before .size-at .result)) (j .form (fine .if2 .left) (j .kinds (fine .if2 .left) (λ e. other .if3 .left (other .before .wide .ensures .0 ∙ e)))) in
+    (start .pre .5, k .0, k .1, k .2, at .loop .inv .same .long)
 
 add-c : tie.Need-add-c Inv-loop μ-loop
-add-c c = omega (arith, c .before .before .before .before .before .before .before .before .before .use-number .ensures .whole (omega arith) .inside, c .before .before .before .before .before .before .before .before .before .before .before .before .before .before .loop .inv .conditions)
+add-c c =
+    let taken = c .before .before .before .before .before .before .before .before .before in
+    omega (arith, taken .take-use .ensures .whole (omega arith) .inside, taken .before .before .before .before .before .loop .inv .conditions)
 
 loop-less-2 : tie.Need-loop-less-2 Inv-loop μ-loop
-loop-less-2 c = omega (arith, c .before .before .before .before .before .before .before .before .before .use-number .ensures .whole (omega arith) .inside)
+loop-less-2 c = omega (arith, c .before .before .before .before .before .before .before .before .before .take-use .ensures .whole (omega arith) .inside)
 
 loop-again-2 : tie.Need-loop-again-2 Inv-loop μ-loop
-loop-again-2 c = walk-condition _ _ _ _ _ _ _ _ _ _ _ _ _ _ _ (c .before .before .before .before .before .before .before .before .before .before .before .before .before .before .loop .inv) _ _ (c .before .before .before .before .before .before .before .before .before .use-number .ensures) (omega arith) _ _ (omega arith) (part-body (c .before .before .before .before .before .before .before .before .before .before .before .before .before .before .before .before .args .table .now) (c .before .before .before .before .before .before .before .before .before .before .before .before .before .before .loop .at) (c .before .before .before .before .before .before .before .before .before .before .before .size-at .result)) (c .narrow .ensures .0) (c .narrow .ensures .1)
+loop-again-2 c =
+    let other = c .before .before .before .before .before in
+    let fine = other .before .before .before in
+    let taken = fine .before in
+    let at = taken .before .before .before .before .before in
+    let start = at .before .before .before in
+    let part = part-body (start .args .table .now) (at .loop .at) (taken .before .before .size-at .result) in
+    walk-condition _ _ _ _ _ _ _ _ _ _ _ _ _ _ _ (at .loop .inv) _ _ _ (taken .take-use .ensures) (fine .if2 .left) _ _ (λ e. other .if3 .left (other .before .wide .ensures .0 ∙ e)) part (c .narrow .ensures .0) (c .narrow .ensures .1)
 
 pub read-uses-spec : {M : Type 1} → statement M
 read-uses-spec =
@@ -112,23 +131,17 @@ read-uses-spec =
     (tie.spec
     Inv-loop
     μ-loop
+    begin-requires
     loop-holds
     is-over-requires
-    is-complete-requires
+    has-gap-requires
     finish-requires
     returns
     size-at-requires
-    use-number-requires
+    take-use-requires
     returns-2
     shared-slice-read-wide
     wide-requires
-    add-wide
-    shared-slice-read-wide-2
-    wide-requires-2
-    add-wide-2
-    shared-slice-read-wide-3
-    wide-requires-3
-    note-down-requires
     add-r
     add-at
     add-at-2

@@ -1,0 +1,2 @@
+pub mod Predicting
+pub mod Entering

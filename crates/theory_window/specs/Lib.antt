@@ -1,0 +1,12 @@
+pub mod Parts
+pub mod Lists
+pub mod Ring
+pub mod Leaders
+pub mod Sums
+pub mod Kept
+pub mod Brought
+pub mod Cases
+pub mod Reached
+pub mod Promises
+pub mod Always
+pub mod Proved

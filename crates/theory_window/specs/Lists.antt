@@ -1,0 +1,134 @@
+-- Laws of lists.
+use Prim.Native.Nat.{ℕ, zero, suc, _+_, _-_, _≤_, _<_}
+use native.Mathlib.Omega.{arith}
+use mathlib.Core.Path.{_≡_, refl, sym, ap, ap₂, _∙_}
+use mathlib.Core.Bool.{Bool, true, false, _&&_}
+use mathlib.Core.List.{List, [], _∷_, _++_, map}
+use lib.ListN.{length, getD, take, drop, set, replicate}
+use lib.Seq.{set-getD}
+use lib.IntN.{ℤ}
+use Rattle.meaning.specs.Base.{all, countFrom}
+use Rattle.meaning.specs.Window.{turned, valueAt}
+
+-- ---- tests
+
+pub and-left : (a b : Bool) → (a && b) ≡ true → a ≡ true
+and-left true b e = refl
+and-left false b e = e
+
+pub and-right : (a b : Bool) → (a && b) ≡ true → b ≡ true
+and-right true b e = e
+and-right false b e = absurd (let z : _≡_ {A = ℕ} 0 1 = cc in omega arith)
+
+pub both : {a b : Bool} → a ≡ true → b ≡ true → (a && b) ≡ true
+both p q = rw (p, q) refl
+
+-- two tests that follow from each other
+pub same-test : (a b : Bool) → (a ≡ true → b ≡ true) → (b ≡ true → a ≡ true) → a ≡ b
+same-test true b f g = sym (f refl)
+same-test false true f g = g refl
+same-test false false f g = refl
+
+module _ {A : Type 0} (f : A → Bool) where
+  pub all-append : (xs ys : List A) → all f xs ≡ true → all f ys ≡ true → all f (xs ++ ys) ≡ true
+  all-append [] ys p q = q
+  all-append (x ∷ xs) ys p q = both (and-left (f x) (all f xs) p) (all-append xs ys (and-right (f x) (all f xs) p) q)
+
+  pub all-drop : (n : ℕ) (xs : List A) → all f xs ≡ true → all f (drop n xs) ≡ true
+  all-drop zero xs p = p
+  all-drop (suc n) [] p = refl
+  all-drop (suc n) (x ∷ xs) p = all-drop n xs (and-right (f x) (all f xs) p)
+
+  pub all-take : (n : ℕ) (xs : List A) → all f xs ≡ true → all f (take n xs) ≡ true
+  all-take zero xs p = refl
+  all-take (suc n) [] p = refl
+  all-take (suc n) (x ∷ xs) p = both (and-left (f x) (all f xs) p) (all-take n xs (and-right (f x) (all f xs) p))
+
+  pub all-turned : (k : ℕ) (xs : List A) → all f xs ≡ true → all f (turned k xs) ≡ true
+  all-turned k xs p = all-append (drop k xs) (take k xs) (all-drop k xs p) (all-take k xs p)
+
+  pub all-set : (xs : List A) (i : ℕ) (v : A) → all f xs ≡ true → f v ≡ true → all f (set xs i v) ≡ true
+  all-set [] i v p q = refl
+  all-set (x ∷ xs) zero v p q = both q (and-right (f x) (all f xs) p)
+  all-set (x ∷ xs) (suc i) v p q = both (and-left (f x) (all f xs) p) (all-set xs i v (and-right (f x) (all f xs) p) q)
+
+  pub all-getD : (xs : List A) (i : ℕ) (d : A) → f d ≡ true → all f xs ≡ true → f (getD xs i d) ≡ true
+  all-getD [] i d q p = q
+  all-getD (x ∷ xs) zero d q p = and-left (f x) (all f xs) p
+  all-getD (x ∷ xs) (suc i) d q p = all-getD xs i d q (and-right (f x) (all f xs) p)
+
+-- ---- map
+
+module _ {A B : Type 0} (f : A → B) where
+  pub map-append : (xs ys : List A) → map f (xs ++ ys) ≡ map f xs ++ map f ys
+  map-append [] ys = refl
+  map-append (x ∷ xs) ys = ap (λ l. f x ∷ l) (map-append xs ys)
+
+  pub map-take : (n : ℕ) (xs : List A) → map f (take n xs) ≡ take n (map f xs)
+  map-take zero xs = refl
+  map-take (suc n) [] = refl
+  map-take (suc n) (x ∷ xs) = ap (λ l. f x ∷ l) (map-take n xs)
+
+  pub map-drop : (n : ℕ) (xs : List A) → map f (drop n xs) ≡ drop n (map f xs)
+  map-drop zero xs = refl
+  map-drop (suc n) [] = refl
+  map-drop (suc n) (x ∷ xs) = map-drop n xs
+
+  pub map-turned : (k : ℕ) (xs : List A) → map f (turned k xs) ≡ turned k (map f xs)
+  map-turned k xs = map-append (drop k xs) (take k xs) ∙ ap₂ (λ a b. a ++ b) (map-drop k xs) (map-take k xs)
+
+-- ---- the numbers from a on
+
+pub length-up : (a n : ℕ) → length (countFrom a n) ≡ n
+length-up a zero = refl
+length-up a (suc n) = ap suc (length-up (suc a) n)
+
+pub getD-up : (a n i : ℕ) → i < n → getD (countFrom a n) i 0 ≡ a + i
+getD-up a zero i l = absurd (omega arith)
+getD-up a (suc n) zero l = omega arith
+getD-up a (suc n) (suc i) l = omega (arith, getD-up (suc a) n i (omega arith))
+
+pub drop-up : (k a n : ℕ) → drop k (countFrom a n) ≡ countFrom (a + k) (n - k)
+drop-up zero a n =
+    let e : a + 0 ≡ a = omega arith in
+    let d : n - 0 ≡ n = omega arith in
+    rw (e, d) refl
+drop-up (suc k) a zero = let e : 0 - suc k ≡ 0 = omega arith in rw e refl
+drop-up (suc k) a (suc n) =
+    let e : suc a + k ≡ a + suc k = omega arith in
+    let d : n - k ≡ suc n - suc k = omega arith in
+    drop-up k (suc a) n ∙ (λ i. countFrom (e i) (d i))
+
+pub take-up : (k a n : ℕ) → k ≤ n → take k (countFrom a n) ≡ countFrom a k
+take-up zero a n l = refl
+take-up (suc k) a zero l = absurd (omega arith)
+take-up (suc k) a (suc n) l = ap (λ m. a ∷ m) (take-up k (suc a) n (omega arith))
+
+pub all-up : (f : ℕ → Bool) (a n : ℕ) → ((i : ℕ) → a ≤ i → i < a + n → f i ≡ true) → all f (countFrom a n) ≡ true
+all-up f a zero h = refl
+all-up f a (suc n) h = both (h a (omega arith) (omega arith)) (all-up f (suc a) n (λ i p q. h i (omega arith) (omega arith)))
+
+up-suc : (a n : ℕ) → countFrom (suc a) n ≡ map suc (countFrom a n)
+up-suc a zero = refl
+up-suc a (suc n) = ap (λ l. suc a ∷ l) (up-suc (suc a) n)
+
+map-map : {A B C : Type 0} (f : A → B) (g : B → C) (xs : List A) → map g (map f xs) ≡ map (λ x. g (f x)) xs
+map-map f g [] = refl
+map-map f g (x ∷ xs) = ap (λ l. g (f x) ∷ l) (map-map f g xs)
+
+-- what stands in all slots
+pub values-up : (s : List ℤ) → map (valueAt s) (countFrom 0 (length s)) ≡ s
+values-up [] = refl
+values-up (x ∷ s) = ap (λ l. x ∷ l) (ap (map (valueAt (x ∷ s))) (up-suc 0 (length s)) ∙ (map-map suc (valueAt (x ∷ s)) (countFrom 0 (length s)) ∙ values-up s))
+
+pub set-up : (n k : ℕ) → k < n → set (countFrom 0 n) k k ≡ countFrom 0 n
+set-up n k l =
+    let e : getD (countFrom 0 n) k 0 ≡ k = omega (arith, getD-up 0 n k l) in
+    ap (set (countFrom 0 n) k) (sym e) ∙ set-getD (countFrom 0 n) k 0
+
+-- ---- replicate
+
+pub take-replicate : {A : Type 0} (m n : ℕ) (a : A) → m ≤ n → take m (replicate n a) ≡ replicate m a
+take-replicate zero n a l = refl
+take-replicate (suc m) zero a l = absurd (omega arith)
+take-replicate (suc m) (suc n) a l = ap (λ t. a ∷ t) (take-replicate m n a (omega arith))

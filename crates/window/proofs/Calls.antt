@@ -1,0 +1,69 @@
+-- What the calls answer and leave, case by case.
+use Prim.Native.Nat.{ℕ, suc, _+_, _-_, _*_}
+use native.Mathlib.Omega.{arith}
+use mathlib.Core.Path.{_≡_, refl, sym, ap, _∙_}
+use mathlib.Core.Bool.{true, cond}
+use mathlib.Core.List.{List, [], _∷_, _++_, append-nil}
+use borrow.Author.Tests.{eq-eqb, ne-eqb}
+use lib.ListN.{length, getD, drop, set, length-replicate, drop-of-length-le, replicate-append-replicate}
+use lib.Seq.{take-all}
+use lib.Dec.{eqb}
+use lib.IntN.{ℤ, pos}
+use Rattle.meaning.specs.Value.{inRange}
+use Rattle.meaning.specs.Window.{stands, empty, turned, order, zeros, slotsOf, after, leads, leaderCells, valueAt, formOf, formLength, numberAt, sizeIn, heldIn, nextIn, totalIn, sizeFits, wellKept, outcome, written, opensWindow, bringsValue, valuesWith}
+use Rattle.theory_window.specs.Lists.{both}
+use Rattle.theory_window.specs.Ring.{length-order}
+use Rattle.meaning.specs.WindowStatements.{answerIn}
+use Rattle.theory_window.specs.Cases.{opens-met, value-met}
+use Rattle.theory_window.specs.Brought.{answer-form, push-valid, passed}
+
+-- ---- opening
+
+none : (l : List ℕ) → length l ≡ 0 → l ≡ []
+none [] e = refl
+none (x ∷ l) e = absurd (omega arith)
+
+form-empty : (n : ℕ) → formOf n 0 [] ≡ pos n ∷ zeros (4 + 2 * n)
+form-empty n =
+    let o : order n 0 0 ≡ [] = none (order n 0 0) (length-order n 0 0 (omega arith)) in
+    let z : n - 0 ≡ n = omega arith in
+    let s : slotsOf n 0 [] ≡ zeros n = ap (λ m. turned m (zeros m ++ [])) z ∙ (ap (turned n) (append-nil (zeros n)) ∙ whole) in
+    let m : 4 + 2 * n ≡ suc (suc (suc (suc (n + n)))) = omega arith in
+    ap (λ is. pos n ∷ pos 0 ∷ pos 0 ∷ pos 0 ∷ pos (length (leads (valueAt (slotsOf n 0 [])) is)) ∷ (slotsOf n 0 [] ++ leaderCells n (leads (valueAt (slotsOf n 0 [])) is))) o
+    ∙ ((λ i. pos n ∷ pos 0 ∷ pos 0 ∷ pos 0 ∷ pos 0 ∷ (s i ++ zeros (z i)))
+    ∙ (ap (λ l. pos n ∷ pos 0 ∷ pos 0 ∷ pos 0 ∷ pos 0 ∷ l) (replicate-append-replicate n n (pos 0)) ∙ ap (λ j. pos n ∷ zeros j) (sym m)))
+  where
+    whole : turned n (zeros n) ≡ zeros n
+    whole = (λ i. drop-of-length-le (zeros n) {i = n} (omega (arith, length-replicate n (pos 0))) i ++ take-all n (zeros n) (omega (arith, length-replicate n (pos 0))) i)
+
+module _ (n : ℕ) (b : List ℤ) where
+  pub opens-cleared : sizeFits n (length b) ≡ true → (cleared : List ℤ) → cleared ≡ zeros (5 + 2 * n) → (v : ℤ) → v ≡ pos n → outcome empty (set (cleared ++ drop (5 + 2 * n) b) 0 v) ≡ opensWindow n b
+  opens-cleared t cleared e v d =
+      let m : 5 + 2 * n ≡ suc (4 + 2 * n) = omega arith in
+      (λ i. outcome empty (set (e i ++ drop (5 + 2 * n) b) 0 (d i)))
+      ∙ (ap (λ j. outcome empty (set (zeros j ++ drop (5 + 2 * n) b) 0 (pos n))) m
+      ∙ (ap (λ l. outcome empty (l ++ drop (5 + 2 * n) b)) (sym (form-empty n))
+      ∙ sym (opens-met n b t)))
+
+-- ---- answers
+
+module _ (b : List ℤ) (h : ℕ) (e : h ≡ heldIn b) where
+  pub answer-none : h ≡ 0 → empty ≡ answerIn b
+  answer-none z = sym (ap (λ x. cond x empty (stands (totalIn b) (getD b (5 + numberAt b (5 + sizeIn b)) (pos 0)))) (ap (λ m. eqb m 0) (sym e) ∙ eq-eqb h 0 z))
+
+  pub answer-some : (h ≡ 0 → ⊥) → (n f : ℕ) (t m : ℤ) → n ≡ sizeIn b → f ≡ numberAt b (5 + n) → t ≡ totalIn b → m ≡ getD b (5 + f) (pos 0) → stands t m ≡ answerIn b
+  answer-some z n f t m en ef et em =
+      (λ i. stands (et i) (em i))
+      ∙ (ap (λ j. stands (totalIn b) (getD b (5 + j) (pos 0))) (ef ∙ ap (λ j. numberAt b (5 + j)) en)
+      ∙ sym (ap (λ x. cond x empty (stands (totalIn b) (getD b (5 + numberAt b (5 + sizeIn b)) (pos 0)))) (ap (λ m. eqb m 0) (sym e) ∙ ne-eqb h 0 z)))
+
+-- ---- one more value
+
+-- the buffer written for it answers by a scan
+pub renewed-answer : (b : List ℤ) → wellKept b ≡ true → (v : ℤ) → inRange v ≡ true → (c : List ℤ) → c ≡ written (sizeIn b) (after (sizeIn b) (nextIn b)) (valuesWith v b) b → outcome (answerIn c) c ≡ bringsValue v b
+renewed-answer b kept v r c e =
+    let n = sizeIn b in
+    let k = after n (nextIn b) in
+    (λ i. outcome (answerIn (e i)) (e i))
+    ∙ (ap (λ a. outcome a (written n k (valuesWith v b) b)) (answer-form n k (valuesWith v b) (push-valid b (passed b kept) v r) (drop (formLength n) b))
+    ∙ sym (value-met v b (both r kept)))

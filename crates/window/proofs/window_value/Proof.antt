@@ -1,0 +1,64 @@
+use mathlib.Core.Path.{_≡_, refl, sym, ap, _∙_}
+use mathlib.Core.Bool.{true, false, _&&_}
+use denote.Ref.{now}
+use Rattle.meaning.specs.Value.{inRange}
+use Rattle.meaning.specs.Window.{wellKept, bringsValue}
+use borrow.Author.Tests.{not-true, not-false}
+use Rattle.window_cells.specs.Signed.{back}
+use Rattle.theory_window.specs.Cases.{value-not}
+use borrow.Author.Needs.{needs}
+use Rattle.window.proofs.window_value.Statement.{statement}
+use Rattle.window.proofs.window_value.Tie as tie
+
+in-range-requires : tie.Need-in-range-requires
+in-range-requires c κs = search needs
+
+tested : (c : tie.After-in-range) → inRange (c .before .args .value) ≡ c .in-range .result
+tested c = sym (c .in-range .ensures ∙ ap inRange (back (c .before .args .value) (c .before .fits .value)))
+
+returns : tie.Need-returns
+returns c =
+    let s = c .before .before in
+    let t : inRange (s .args .value) ≡ false = tested (c .before) ∙ not-true (c .before .in-range .result) (c .if1 .taken) in
+    sym (value-not (s .args .value) (now (s .args .buffer)) (rw t refl))
+
+well-kept-requires : tie.Need-well-kept-requires
+well-kept-requires c κs = search needs
+
+same-length : tie.Need-same-length
+same-length c = search needs
+
+returns-2 : tie.Need-returns-2
+returns-2 c =
+    let s = c .before .before .before .before .before in
+    let b = now (s .args .buffer) in
+    let t : inRange (s .args .value) ≡ true = tested (c .before .before .before .before) ∙ not-false (c .before .before .before .before .in-range .result) (c .before .before .before .if1 .left) in
+    let w : wellKept b ≡ false = sym (c .before .well-kept .ensures) ∙ not-true (c .before .well-kept .result) (c .if2 .taken) in
+    sym (value-not (s .args .value) b (ap (λ x. x && wellKept b) t ∙ w))
+
+push-requires : tie.Need-push-requires
+push-requires c κs =
+    let s = c .before .before .before .before .before .before in
+    let t : inRange (s .args .value) ≡ true = tested (c .before .before .before .before .before) ∙ not-false (c .before .before .before .before .before .in-range .result) (c .before .before .before .before .if1 .left) in
+    (sym (c .before .before .well-kept .ensures) ∙ not-false (c .before .before .well-kept .result) (c .before .if2 .left), ap inRange (back (s .args .value) (s .fits .value)) ∙ t)
+
+same-length-2 : tie.Need-same-length-2
+same-length-2 c = search needs
+
+returns-3 : tie.Need-returns-3
+returns-3 c =
+    let s = c .before .before .before .before .before .before .before .before in
+    c .before .push .ensures ∙ ap (λ v. bringsValue v (now (s .args .buffer))) (back (s .args .value) (s .fits .value))
+
+pub window-value-spec : {M : Type 1} → statement M
+window-value-spec =
+    tie.close
+    (tie.spec
+    in-range-requires
+    returns
+    well-kept-requires
+    same-length
+    returns-2
+    push-requires
+    same-length-2
+    returns-3)

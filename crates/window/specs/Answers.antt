@@ -1,0 +1,16 @@
+-- The meaning of the code's answers.
+use mathlib.Core.List.{List}
+use lib.IntN.{ℤ}
+use Rattle.meaning.specs.Window as Window
+use Rattle.meaning.specs.Window.{stands, empty, turnedBack, Outcome, outcome}
+use Rattle.window.specs.declared.WindowAnswer.{WindowAnswer}
+use Rattle.window.specs.declared.WindowAnswer.the-variants.{Stands, Empty, Refused}
+
+abbrev pub answerIs : WindowAnswer → Window.WindowAnswer
+answerIs (Stands sum top) = stands sum top
+answerIs Empty = empty
+answerIs Refused = turnedBack
+
+-- what a call answers, and the buffer that it leaves
+abbrev pub outcomeIs : WindowAnswer → List ℤ → Outcome
+outcomeIs a b = outcome (answerIs a) b

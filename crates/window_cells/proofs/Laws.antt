@@ -1,0 +1,69 @@
+-- The loops, a turn at a time, and small numbers.
+use Prim.Native.Nat.{ℕ, zero, suc, _+_, _<_, _≤_}
+use native.Mathlib.Numerals.{add-one}
+use native.Mathlib.Omega.{arith}
+use mathlib.Core.Path.{_≡_, refl, sym, ap, _∙_}
+use mathlib.Core.Bool.{Bool, true, false, _&&_}
+use mathlib.Core.List.{List, [], _∷_, _++_}
+use borrow.Author.Tests.{leb-true, le-leb}
+use lib.IntN.{ℤ, pos, negsuc, natAbs, _+ℤ_, +ℤ-idr, +ℤ-assoc}
+use lib.Signed.{leZ, nonNeg}
+use lib.Dec.{T, leb}
+use mir.Syntax.{w64}
+use mir.Val.{SFits, toZ, ofZ}
+use mir.Facts.{toZ-ofZ}
+use lib.ListN.{length, getD, take, drop, set, drop-of-length-le, length-replicate}
+use lib.Seq.{drop-cons, set-at, append-snoc, take-suc, length-take-le}
+use Rattle.meaning.specs.Base.{all}
+use Rattle.meaning.specs.Window.{total, zeros, small}
+use Rattle.theory_window.specs.Lists.{and-right}
+
+-- ---- tests along cells
+
+module _ {A : Type 0} (f : A → Bool) (xs : List A) (i : ℕ) where
+  pub all-end : length xs ≤ i → all f (drop i xs) ≡ true
+  all-end l = rw (drop-of-length-le xs {i = i} l) refl
+
+  -- b tells whether the cell at hand passes
+  pub all-tested : (d : A) (b : Bool) → i < length xs → b ≡ f (getD xs i d) → all f xs ≡ all f (drop i xs) → all f xs ≡ b && all f (drop (i + 1) xs)
+  all-tested d b l e q = q ∙ ((rw (add-one i, drop-cons xs i d l) refl) ∙ ap (λ (t : Bool). t && all f (drop (i + 1) xs)) (sym e))
+
+-- a signed cell is tested by its bits
+pub all-signed : (f : ℤ → Bool) (xs : List ℤ) (i : ℕ) (b : Bool) → i < length xs → SFits w64 (getD xs i (pos 0)) → b ≡ f (toZ w64 (ofZ w64 (getD xs i (pos 0)))) → all f xs ≡ all f (drop i xs) → all f xs ≡ b && all f (drop (i + 1) xs)
+all-signed f xs i b l s e q = all-tested f xs i (pos 0) b l (e ∙ ap f (toZ-ofZ s)) q
+
+-- ---- totals
+
+pub total-turn : (xs : List ℤ) (i : ℕ) (sum : ℤ) → i < length xs → total xs ≡ sum +ℤ total (drop i xs) → total xs ≡ sum +ℤ getD xs i (pos 0) +ℤ total (drop (i + 1) xs)
+total-turn xs i sum l q = q ∙ (ap (λ t. sum +ℤ t) (rw (add-one i, drop-cons xs i (pos 0) l) refl) ∙ sym (+ℤ-assoc sum (getD xs i (pos 0)) (total (drop (i + 1) xs))))
+
+pub total-end : (xs : List ℤ) (i : ℕ) (sum : ℤ) → length xs ≤ i → total xs ≡ sum +ℤ total (drop i xs) → sum ≡ total xs
+total-end xs i sum l q = sym (q ∙ (ap (λ t. sum +ℤ total t) (drop-of-length-le xs {i = i} l) ∙ +ℤ-idr sum))
+
+-- ---- stores from the front
+
+store : (front d : List ℤ) (i : ℕ) (v : ℤ) → length front ≡ i → i < length d → set (front ++ drop i d) i v ≡ front ++ (v ∷ []) ++ drop (i + 1) d
+store front d i v e l = rw (add-one i, drop-cons d i (pos 0) l, set-at front (getD d i (pos 0)) (drop (suc i) d) v i e) (sym (append-snoc front v (drop (suc i) d)))
+
+zeros-more : (n : ℕ) → zeros n ++ (pos 0 ∷ []) ≡ zeros (suc n)
+zeros-more zero = refl
+zeros-more (suc n) = ap (λ l. pos 0 ∷ l) (zeros-more n)
+
+pub clear-turn : (d cells : List ℤ) (i : ℕ) → i < length d → cells ≡ zeros i ++ drop i d → set cells i (pos 0) ≡ zeros (i + 1) ++ drop (i + 1) d
+clear-turn d cells i l q = let e : zeros i ++ (pos 0 ∷ []) ≡ zeros (i + 1) = rw (add-one i) (zeros-more i) in ap (λ c. set c i (pos 0)) q ∙ (store (zeros i) d i (pos 0) (length-replicate i (pos 0)) l ∙ ap (λ t. t ++ drop (i + 1) d) e)
+
+pub put-turn : (d f cells : List ℤ) (i : ℕ) (v : ℤ) → i < length d → i < length f → v ≡ getD f i (pos 0) → cells ≡ take i f ++ drop i d → set cells i v ≡ take (i + 1) f ++ drop (i + 1) d
+put-turn d f cells i v l m e q = let t : take i f ++ (getD f i (pos 0) ∷ []) ≡ take (i + 1) f = rw (add-one i) (sym (take-suc f i (pos 0) m)) in (λ j. set (q j) i (e j)) ∙ (store (take i f) d i (getD f i (pos 0)) (length-take-le i f (omega arith)) l ∙ ap (λ x. x ++ drop (i + 1) d) t)
+
+-- ---- small numbers
+
+pub small-in : (v : ℤ) → (leZ (pos 0) v && leZ v (pos 64)) ≡ true → T (nonNeg v) × (natAbs v ≡ small v) × (natAbs v ≤ 64)
+small-in (pos m) e = (tt, rw (and-right (leb 0 m) (leb m 64) e) refl, leb-true m 64 (and-right (leb 0 m) (leb m 64) e))
+small-in (negsuc m) e = absurd (let z : _≡_ {A = ℕ} 0 1 = cc in omega arith)
+
+pub small-out : (v : ℤ) → (leZ (pos 0) v && leZ v (pos 64)) ≡ false → 65 ≡ small v
+small-out (pos m) e = rw (right-false (leb 0 m) (leb m 64) (le-leb 0 m (omega arith)) e) refl
+  where
+    right-false : (a b : Bool) → a ≡ true → (a && b) ≡ false → b ≡ false
+    right-false a b p q = rw p at q
+small-out (negsuc m) e = refl

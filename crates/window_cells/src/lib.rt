@@ -1,0 +1,114 @@
+// Cells of a window's buffer: small numbers read from them, and tests, totals and copies of stretches.
+ghost use Prim.Native.Nat.{_≤_};
+ghost use mathlib.Core.Path.{_≡_};
+ghost use mathlib.Core.Bool.{true};
+ghost use lib.ListN.{length, getD, take};
+ghost use lib.IntN.{pos};
+ghost use Rattle.meaning.specs.Base.{all};
+ghost use Rattle.meaning.specs.Value.{inRange};
+ghost use Rattle.meaning.specs.Window as Window;
+ghost use Rattle.meaning.specs.Window.{total, zeros, numberAt, sameNumber};
+ghost use Rattle.theory_window.specs.Parts.{isZero};
+use value::in_bounds;
+use value::in_range;
+
+pub fn same(a: i64, b: i64) -> bool
+    ensures { λ r. ⌜ r ≡ sameNumber a b ⌝ }
+{
+    if a <= b {
+        return b <= a;
+    }
+    false
+}
+
+// A number from 0 to 64, and 65 for anything else.
+pub fn small(v: i64) -> usize
+    ensures { λ r. ⌜ (r ≡ Window.small v) × (r ≤ 65) ⌝ }
+{
+    if in_bounds(v, 0, 64) {
+        return v as usize;
+    }
+    65
+}
+
+// 0 past the end.
+pub fn cell(cells: &[i64], at: usize) -> i64
+    ensures { λ r. ⌜ r ≡ getD (now (cells .entry)) at (pos 0) ⌝ }
+{
+    if cells.len() <= at {
+        return 0;
+    }
+    cells[at]
+}
+
+pub fn number_at(cells: &[i64], at: usize) -> usize
+    ensures { λ r. ⌜ (r ≡ numberAt (now (cells .entry)) at) × (r ≤ 65) ⌝ }
+{
+    small(cell(cells, at))
+}
+
+pub fn all_valued(cells: &[i64]) -> bool
+    ensures { λ r. ⌜ r ≡ all inRange (now (cells .entry)) ⌝ }
+{
+    let mut i = 0;
+    while i < cells.len() {
+        let v = cells[i];
+        if in_range(v) {
+            i += 1;
+        } else {
+            return false;
+        }
+    }
+    true
+}
+
+pub fn all_zero(cells: &[i64]) -> bool
+    ensures { λ r. ⌜ r ≡ all isZero (now (cells .entry)) ⌝ }
+{
+    let mut i = 0;
+    while i < cells.len() {
+        let v = cells[i];
+        if same(v, 0) {
+            i += 1;
+        } else {
+            return false;
+        }
+    }
+    true
+}
+
+pub fn total_of(cells: &[i64]) -> i64
+    requires { ⌜ (length (now cells) ≤ 64) × (all inRange (now cells) ≡ true) ⌝ }
+    ensures { λ r. ⌜ r ≡ total (now (cells .entry)) ⌝ }
+{
+    let mut sum: i64 = 0;
+    let mut i = 0;
+    while i < cells.len() {
+        let v = cells[i];
+        sum += v;
+        i += 1;
+    }
+    sum
+}
+
+pub fn clear(cells: &mut [i64])
+    ensures { λ r. ⌜ now (cells .exit) ≡ zeros (length (now (cells .entry))) ⌝ }
+{
+    let mut i = 0;
+    while i < cells.len() {
+        cells[i] = 0;
+        i += 1;
+    }
+}
+
+pub fn put(cells: &mut [i64], from: &[i64])
+    requires { ⌜ length (now cells) ≤ length (now from) ⌝ }
+    ensures { λ r. ⌜ now (cells .exit) ≡ take (length (now (cells .entry))) (now (from .entry)) ⌝ }
+{
+    let mut i = 0;
+    while i < cells.len() {
+        let v = from[i];
+        cells[i] = v;
+        i += 1;
+    }
+}

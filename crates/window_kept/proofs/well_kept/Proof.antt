@@ -1,0 +1,59 @@
+use Prim.Native.Nat.{_+_, _*_}
+use native.Mathlib.Omega.{arith}
+use mathlib.Core.Path.{refl}
+use denote.Ref.{now}
+use lib.ListN.{length}
+use borrow.Author.Tests.{le-leb, lt-leb}
+use Rattle.window_kept.proofs.Checking.{size-not, size-met}
+use borrow.Author.Needs.{needs}
+use Rattle.window_kept.proofs.well_kept.Statement.{statement}
+use Rattle.window_kept.proofs.well_kept.Tie as tie
+
+number-at-requires : tie.Need-number-at-requires
+number-at-requires c κs = search needs
+
+returns : tie.Need-returns
+returns c =
+    let n = c .before .number-at in
+    let b = now (c .before .before .args .buffer) in
+    size-not b (n .result) (n .ensures .0) (rw (lt-leb 1 (n .result) (omega arith)) refl)
+
+returns-2 : tie.Need-returns-2
+returns-2 c =
+    let n = c .before .before .number-at in
+    let b = now (c .before .before .before .args .buffer) in
+    size-not b (n .result) (n .ensures .0) (rw (le-leb 1 (n .result) (omega arith), lt-leb (n .result) 64 (omega arith)) refl)
+
+mul-if3 : tie.Need-mul-if3
+mul-if3 c = search needs
+
+add-if3 : tie.Need-add-if3
+add-if3 c = search needs
+
+returns-3 : tie.Need-returns-3
+returns-3 c =
+    let n = c .before .before .before .number-at in
+    let b = now (c .before .before .before .before .args .buffer) in
+    size-not b (n .result) (n .ensures .0) (rw (le-leb 1 (n .result) (omega arith), le-leb (n .result) 64 (omega arith), lt-leb (5 + 2 * n .result) (length b) (omega arith)) refl)
+
+parts-kept-requires : tie.Need-parts-kept-requires
+parts-kept-requires c κs = search needs
+
+returns-4 : tie.Need-returns-4
+returns-4 c =
+    let n = c .before .before .before .before .number-at in
+    let b = now (c .before .before .before .before .before .args .buffer) in
+    size-met b (n .result) (n .ensures .0) (rw (le-leb 1 (n .result) (omega arith), le-leb (n .result) 64 (omega arith), le-leb (5 + 2 * n .result) (length b) (omega arith)) refl) (c .parts-kept .ensures)
+
+pub well-kept-spec : {M : Type 1} → statement M
+well-kept-spec =
+    tie.close
+    (tie.spec
+    number-at-requires
+    returns
+    returns-2
+    mul-if3
+    add-if3
+    returns-3
+    parts-kept-requires
+    returns-4)

@@ -1,0 +1,29 @@
+-- What the inner functions of the check need and answer.
+use Prim.Native.Nat.{ℕ, _+_, _≤_, _<_}
+use mathlib.Core.Path.{_≡_}
+use mathlib.Core.Bool.{Bool, true, _&&_}
+use mathlib.Core.List.{List}
+use lib.ListN.{length, take, drop}
+use lib.Dec.{leb}
+use lib.IntN.{ℤ}
+use Rattle.meaning.specs.Base.{all}
+use Rattle.meaning.specs.Value.{inRange}
+use Rattle.meaning.specs.Window.{leadersOf, heldIn, nextIn, totalIn, placeFits}
+use Rattle.theory_window.specs.Parts.{countIn, valuesFit, leadersFit}
+
+-- slots and leader cells that fit their window's numbers
+pub record Window (s area : List ℤ) (h k c : ℕ) : Type 0 where
+  pub few : length s ≤ 64
+  pub alike : length area ≡ length s
+  pub held : h ≤ length s
+  pub next : k < length s
+  pub count : c ≤ length s
+  pub ranged : all inRange s ≡ true
+
+-- of a buffer with this size, all but the size's own tests
+abbrev pub partsKept : List ℤ → ℕ → Bool
+partsKept b n =
+    placeFits n (heldIn b) (nextIn b)
+    && (valuesFit (heldIn b) (take n (drop 5 b)) (totalIn b)
+    && (leb (countIn b) n
+    && leadersFit (countIn b) (take n (drop (5 + n) b)) (leadersOf n (heldIn b) (nextIn b) (take n (drop 5 b)))))
