@@ -133,7 +133,9 @@ const show = (move) => {
 
 const keys = { ArrowLeft: () => show(at - 1), ArrowRight: () => show(at + 1), Home: () => show(0), End: () => show(last) };
 document.addEventListener("keydown", (event) => {
-  if (event.altKey || event.ctrlKey || event.metaKey || !(event.key in keys)) return;
+  // In the tree arrow keys scroll, as everywhere.
+  const scrolls = event.target instanceof Element && event.target.closest("#tree");
+  if (event.altKey || event.ctrlKey || event.metaKey || scrolls || !(event.key in keys)) return;
   event.preventDefault();
   keys[event.key]();
 });
