@@ -72,7 +72,7 @@ fn in_proved(table: &[u8], record: &mut lent::Record, m: &mut Memory, call: Call
         Call::Feed(tokens) => lent::feed(table, record, m, tokens).map(|moves| (0, 0, moves)),
         Call::Finish => lent::finish(table, record, m).map(|(value, moves)| (0, value, moves)),
     };
-    answer.unwrap_or_else(|r| (r.number, 0, r.count))
+    answer.unwrap_or_else(|r| (r.number(), 0, r.count()))
 }
 
 fn in_plain(table: &[u8], record: &mut lent::Record, m: Memory, call: Call) -> Answered {
@@ -138,7 +138,7 @@ impl Pair {
 
     /// Forges the record or the stacks: near what a run leaves, or anything.
     pub fn forge(&mut self, r: &mut Random) {
-        match r.below(12) {
+        match r.below(14) {
             0 => self.record.tokens = 65533 + r.below(4) as u64,
             1 | 2 => self.record.moves = u32::MAX as u64 - r.below(12) as u64,
             3 => self.record.moves = u32::MAX as u64 + r.below(2) as u64,
@@ -147,6 +147,7 @@ impl Pair {
             6 => self.forge_left(r),
             7 => self.forge_all(r),
             8 | 9 => self.forge_place(r),
+            10 | 11 => self.forge_values(r),
             _ => self.forge_register(r),
         }
     }

@@ -57,14 +57,14 @@ fn plain(call: Call, buffer: &mut [i64]) -> Result<Standing, Refusal> {
         Call::Value(value) => plain::window::value(value, buffer),
         Call::Refused(_) => plain::window::refused(buffer),
     };
-    answer.map(|(total, largest)| Standing { total, largest }).ok_or(Refusal { number: 42, count: 0 })
+    answer.map(|(total, largest)| Standing { total, largest }).ok_or(Refusal::new(42, 0))
 }
 
 fn proved(call: Call, buffer: &mut [i64], count: u64) -> Result<Standing, Refusal> {
     match call {
         Call::Open(size) => window::open(size, buffer),
         Call::Value(value) => window::bring(Ok((value, count)), buffer),
-        Call::Refused(number) => window::bring(Err(Refusal { number, count }), buffer),
+        Call::Refused(number) => window::bring(Err(Refusal::new(number, count)), buffer),
     }
 }
 
@@ -79,7 +79,7 @@ fn compared(r: &mut Random, call: Call, buffer: &mut Vec<i64>) -> Result<u32, St
     if b.is_err() && *buffer != before {
         return Err(format!("{call:?} on {before:?}: turned back, and {buffer:?}"));
     }
-    Ok(b.map_or_else(|refusal| refusal.number, |_| 0))
+    Ok(b.map_or_else(|refusal| refusal.number(), |_| 0))
 }
 
 /// A cell changed, or the buffer cut short.

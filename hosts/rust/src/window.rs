@@ -2,11 +2,14 @@
 //!
 //! [`open`] and [`bring`] are the library's calls as they are, on a buffer that the caller lends; [`Window`] keeps its own.
 use crate::Refusal;
+use alloc::vec;
+use alloc::vec::Vec;
 
 /// The largest size of a window.
 pub const SIZE: usize = 64;
 
 /// How many cells the buffer of a window of this size has: five numbers, the values, and the leaders' slots.
+#[must_use]
 pub const fn length(size: usize) -> usize {
     5 + 2 * size
 }
@@ -14,7 +17,9 @@ pub const fn length(size: usize) -> usize {
 /// What stands in a window. Before the first value the total is 0 and there is no largest.
 #[derive(Clone, Copy, Debug, PartialEq, Eq)]
 pub struct Standing {
+    /// The exact total of the values.
     pub total: i64,
+    /// The largest of them.
     pub largest: Option<i64>,
 }
 
@@ -55,12 +60,15 @@ impl Numbers {
     fn answer(self) -> Result<Standing, Refusal> {
         match self.number {
             0 => Ok(Standing { total: self.total, largest: (self.has_largest != 0).then_some(self.largest) }),
-            number => Err(Refusal { number, count: 0 }),
+            number => Err(Refusal::new(number, 0)),
         }
     }
 }
 
 /// Opens a window of a size from 1 to 64 in the first cells of the buffer. On a refusal, 42, the buffer is as it was.
+///
+/// # Errors
+/// 42: the size is not 1 to 64, or the buffer is too short.
 pub fn open(size: u64, buffer: &mut [i64]) -> Result<Standing, Refusal> {
     let mut n = Numbers::default();
     let (cells, long) = (buffer.as_mut_ptr(), buffer.len());
@@ -72,10 +80,13 @@ pub fn open(size: u64, buffer: &mut [i64]) -> Result<Standing, Refusal> {
 /// Brings a finish's answer, value and moves or a refusal: a value enters; a refusal changes nothing and gets both as they stand.
 /// Turned back with 42, and with the buffer as it was, are a value outside the limits and a buffer that no opening and values after
 /// it can leave.
+///
+/// # Errors
+/// 42.
 pub fn bring(finished: Result<(i64, u64), Refusal>, buffer: &mut [i64]) -> Result<Standing, Refusal> {
     let (number, value, count) = match finished {
         Ok((value, moves)) => (0, value, moves),
-        Err(refusal) => (refusal.number, 0, refusal.count),
+        Err(refusal) => (refusal.number(), 0, refusal.count()),
     };
     let mut n = Numbers::default();
     let (cells, long) = (buffer.as_mut_ptr(), buffer.len());
@@ -88,12 +99,10 @@ pub fn bring(finished: Result<(i64, u64), Refusal>, buffer: &mut [i64]) -> Resul
 ///
 /// ```
 /// # let table = include_bytes!(concat!(env!("CARGO_MANIFEST_DIR"), "/../../grammars/words.table"));
-/// let mut window = segment::Window::new(2)?;
-/// let mut engine = segment::Engine::new(*table)?;
+/// let table = segment::Table::new(*table)?;
+/// let (mut window, mut run) = (segment::Window::new(2)?, table.run());
 /// for words in [&[0, 0, 0][..], &[0], &[2], &[0, 0]] {
-///     engine.restart()?;
-///     let finished = engine.feed(words).and_then(|_| engine.finish());
-///     window.bring(finished)?;
+///     window.bring(run.evaluate(words))?;
 /// }
 /// assert_eq!((window.standing().total, window.standing().largest), (3, Some(2)));
 /// # Ok::<(), segment::Refusal>(())
@@ -106,6 +115,9 @@ pub struct Window {
 
 impl Window {
     /// Opens a window of a size from 1 to 64.
+    ///
+    /// # Errors
+    /// 42: another size.
     pub fn new(size: usize) -> Result<Window, Refusal> {
         let mut buffer = vec![0; length(size.min(SIZE))];
         let standing = open(size as u64, &mut buffer)?;
@@ -113,17 +125,22 @@ impl Window {
     }
 
     /// Brings what a finish answered: only a value enters.
+    ///
+    /// # Errors
+    /// 42: the value is outside the limits, which no finish answers.
     pub fn bring(&mut self, finished: Result<i64, Refusal>) -> Result<Standing, Refusal> {
         self.standing = bring(finished.map(|value| (value, 0)), &mut self.buffer)?;
         Ok(self.standing)
     }
 
     /// Total and largest as they stand.
+    #[must_use]
     pub fn standing(&self) -> Standing {
         self.standing
     }
 
     /// The size that the window was opened with.
+    #[must_use]
     pub fn size(&self) -> usize {
         self.buffer[0] as usize
     }
@@ -135,6 +152,7 @@ impl Window {
     }
 
     /// The cells, as docs/WINDOW.md states them.
+    #[must_use]
     pub fn cells(&self) -> &[i64] {
         &self.buffer
     }

@@ -1,10 +1,10 @@
 //! The window through the host library.
 use segment::window::{self, length, Standing};
-use segment::{Engine, Refusal, Window};
+use segment::{Refusal, Table, Window};
 
 const WORDS: &[u8] = include_bytes!("../../../grammars/words.table");
 
-const TURNED_BACK: Refusal = Refusal { number: 42, count: 0 };
+const TURNED_BACK: Refusal = Refusal::new(42, 0);
 
 fn standing(total: i64, largest: Option<i64>) -> Standing {
     Standing { total, largest }
@@ -24,18 +24,18 @@ fn total_and_largest_of_the_last_values() {
 
 #[test]
 fn only_accepted_segments_enter() {
-    let mut engine = Engine::new(WORDS).unwrap();
+    let table = Table::new(WORDS).unwrap();
+    let mut run = table.run();
     let mut window = Window::new(64).unwrap();
     let mut expected = vec![];
     for tokens in [&[0, 1, 0, 2][..], &[0, 0, 0], &[2], &[0, 1], &[0]] {
-        engine.restart().unwrap();
-        let finished = engine.feed(tokens).and_then(|_| engine.finish());
+        let finished = run.evaluate(tokens);
         expected.extend(finished);
         assert_eq!(window.bring(finished), Ok(standing(expected.iter().sum(), expected.iter().max().copied())));
     }
     assert_eq!(expected, [2, 3, 1]);
     let before = window.cells().to_vec();
-    assert_eq!(window.bring(Err(Refusal { number: 5, count: 12 })), Ok(standing(6, Some(3))));
+    assert_eq!(window.bring(Err(Refusal::new(5, 12))), Ok(standing(6, Some(3))));
     assert_eq!(window.cells(), before);
 }
 
@@ -82,7 +82,7 @@ fn damaged_buffers() {
             damaged[cell] = damaged[cell].wrapping_add(change);
             let before = damaged.clone();
             assert_eq!(window::bring(Ok((1, 9)), &mut damaged), Err(TURNED_BACK), "cell {cell}");
-            assert_eq!(window::bring(Err(Refusal { number: 24, count: 3 }), &mut damaged), Err(TURNED_BACK), "cell {cell}");
+            assert_eq!(window::bring(Err(Refusal::new(24, 3)), &mut damaged), Err(TURNED_BACK), "cell {cell}");
             assert_eq!(damaged, before);
         }
     }
@@ -90,5 +90,5 @@ fn damaged_buffers() {
 
 #[test]
 fn in_words() {
-    assert_eq!(TURNED_BACK.to_string(), "refused with 42, window size, buffer or value does not fit");
+    assert_eq!(TURNED_BACK.to_string(), "refused 42: a window's size, buffer or value does not fit");
 }

@@ -2,7 +2,7 @@
 mod common;
 use common::shipped;
 use grammar::{run, to_table, to_text, Built};
-use segment::Refusal;
+use segment::Kind;
 use std::collections::BTreeMap;
 
 const NAMES: [&str; 3] = ["words", "clause", "sheet"];
@@ -53,9 +53,9 @@ fn damaged_texts_are_judged_in_words() {
         for _ in 0..2000 {
             let text = damaged(&text, &mut chance);
             let fault = match to_table(&text) {
-                Err(fault) => fault,
+                Err(faults) => faults.first().clone(),
                 Ok(built) => {
-                    assert_eq!(to_table(&to_text(&built.table).expect("accepted")).expect(&text).table, built.table);
+                    assert_eq!(to_table(&to_text(built.table.bytes()).expect("accepted")).expect(&text).table, built.table);
                     continue;
                 }
             };
@@ -63,7 +63,7 @@ fn damaged_texts_are_judged_in_words() {
             assert!((1..=line.chars().count() + 1).contains(&fault.span.column), "{}", fault.show(name, &text));
             if let Some((number, words)) = fault.message.strip_prefix("refused ").and_then(|m| m.split_once(": ")) {
                 let number: u32 = number.parse().expect("a number");
-                assert_ne!(words, Refusal { number, count: 0 }.reason(), "{}", fault.show(name, &text));
+                assert_ne!(words, Kind::of(number).reason(), "{}", fault.show(name, &text));
                 *refusals.entry(number).or_insert(0) += 1;
             }
         }
@@ -78,10 +78,10 @@ fn random_segments_are_told_in_words() {
         let built: Built = to_table(&shipped(name)).expect(name);
         for _ in 0..1000 {
             let tokens: Vec<u8> = (0..chance.below(12)).map(|_| chance.below(built.grammar.tokens.len()) as u8).collect();
-            let outcome = run::run(&built.table, &tokens).expect("opened");
+            let outcome = run::run(&built.table, &tokens);
             if let Err(refusal) = outcome.answer {
                 let told = run::told(&built, &tokens, &outcome, refusal);
-                assert!(told.starts_with(&format!("refused {} after {}, ", refusal.number, refusal.count)), "{told}");
+                assert!(told.starts_with(&format!("refused {} after {} token", refusal.number(), refusal.count())), "{told}");
                 assert!(!told.ends_with(": ") && !told.ends_with(refusal.reason()), "{tokens:?}: {told}");
             }
         }
