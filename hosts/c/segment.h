@@ -14,7 +14,8 @@
  *   20 to 24: the segment is refused; with the tokens read
  *   30 to 35: the state of the run or the memory is refused; with the tokens read, or 0 for 30, 33 and 34
  *         42: a window's size, buffer or value is refused; no cell of the buffer is written
- * The numbers have names, SEGMENT_..., and segment_reason gives their words. On 1 to 13 and on 30 no register, place or program word is written. */
+ * The numbers have names, SEGMENT_..., and segment_reason gives their words. On 1 to 13 and on 30 no register, place or program word is
+ * written. */
 #ifndef SEGMENT_H
 #define SEGMENT_H
 
@@ -139,6 +140,7 @@ void segment_window_open(uint64_t size, int64_t *buffer, size_t buffer_length, u
  * *largest: the largest of them, where *has_largest is 1; both are 0 where the window holds no value and on a refusal. */
 void segment_window_value(uint32_t finish_number, int64_t finish_value, uint64_t finish_count, int64_t *buffer, size_t buffer_length,
                           uint32_t *number, int64_t *total, int64_t *largest, uint32_t *has_largest);
+
 /* ---- What follows needs nothing of the library but the functions above. ---- */
 
 #if defined(__cplusplus) || (defined(__STDC_VERSION__) && __STDC_VERSION__ >= 199901L)
@@ -205,7 +207,7 @@ SEGMENT_INLINE const char *segment_reason(uint32_t number) {
     case SEGMENT_TOO_MUCH:
         return "a token after 65,535, or a move after 4,294,967,295 or after the budget";
     case SEGMENT_WINDOW_UNFIT:
-        return "a window's size, buffer or value does not fit";
+        return "the window's size, buffer or value does not fit";
     default:
         return "the number is not known to this version";
     }

@@ -1,4 +1,4 @@
-/* The functions over a segment_run, at their edges. */
+/* The functions over a segment_run, at their edges, and a window. */
 #include "segment.h"
 
 #include <stdio.h>
@@ -64,12 +64,27 @@ static void budgets(void) {
     MUST(is(segment_run_feed(&run, tokens, 2), SEGMENT_OK, 11));
 }
 
+static void windows(void) {
+    int64_t cells[SEGMENT_WINDOW_CELLS(3)];
+    int64_t total, largest;
+    uint32_t number, has_largest;
+    segment_window_open(3, cells, SEGMENT_WINDOW_CELLS(3) - 1, &number, &total, &largest, &has_largest);
+    MUST(number == SEGMENT_WINDOW_UNFIT);
+    segment_window_open(3, cells, SEGMENT_WINDOW_CELLS(3), &number, &total, &largest, &has_largest);
+    MUST(number == SEGMENT_OK && total == 0 && has_largest == 0);
+    segment_window_value(SEGMENT_OK, 5, 32, cells, SEGMENT_WINDOW_CELLS(3), &number, &total, &largest, &has_largest);
+    segment_window_value(SEGMENT_OK, -2, 32, cells, SEGMENT_WINDOW_CELLS(3), &number, &total, &largest, &has_largest);
+    segment_window_value(SEGMENT_SEGMENT_OVER, 0, 3, cells, SEGMENT_WINDOW_CELLS(3), &number, &total, &largest, &has_largest);
+    MUST(number == SEGMENT_OK && total == 3 && has_largest == 1 && largest == 5);
+}
+
 int main(void) {
     uint32_t number;
     nothing_lent();
     a_run();
     budgets();
-    for (number = 0; number <= 36; number++) {
+    windows();
+    for (number = 0; number <= 43; number++) {
         MUST(segment_reason(number)[0] != 0);
     }
     MUST(strcmp(segment_reason(15), segment_reason(99)) == 0 && strcmp(segment_reason(14), segment_reason(15)) != 0);

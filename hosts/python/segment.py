@@ -24,6 +24,7 @@ REGISTERS = 4096
 PLACES = 1024
 PROGRAM = 16384
 LINE = 64
+WINDOW = 64
 MARK = -(2**63)
 MOVES = 4_294_967_295
 
@@ -85,7 +86,7 @@ REASONS = {
     Kind.RUN_CLOSED: "the run is closed",
     Kind.STACKS_UNFIT: "the stacks do not fit",
     Kind.TOO_MUCH: "a token after 65,535, or a move after 4,294,967,295 or after the budget",
-    Kind.WINDOW_UNFIT: "a window's size, buffer or value does not fit",
+    Kind.WINDOW_UNFIT: "the window's size, buffer or value does not fit",
 }
 
 
@@ -229,28 +230,50 @@ class Table:
         return Run(self, registers, places, budget)
 
 
+def _within(number, low, high):
+    """The number, or the limit that it is past: what ctypes would cut is handed on as something that is refused too."""
+    return max(low, min(number, high))
+
+
 class Window:
-    """A window over the values of the last finished segments: their total and the largest (docs/WINDOW.md)."""
+    """A window over the values of the last finished segments, 1 to 64 of them: their total and the largest (docs/WINDOW.md).
+
+    Before the first value the total is 0 and the largest None."""
 
     def __init__(self, size):
-        self._cells = (ctypes.c_int64 * (5 + 2 * max(0, min(size, 64))))()
-        self.total, self.largest = 0, None
-        self._called("segment_window_open", ctypes.c_uint64(size))
+        self.size = size
+        self._length = 5 + 2 * _within(size, 0, WINDOW)
+        self._cells = (ctypes.c_int64 * self._length)()
+        self._called("segment_window_open", ctypes.c_uint64(_within(size, 0, WINDOW + 1)))
 
-    def bring(self, value):
-        """Brings a segment's value, or a Refusal, which changes nothing; answers total and largest."""
-        number, count = (value.number, value.count) if isinstance(value, Refusal) else (0, 0)
-        entered = 0 if number else value
-        self._called("segment_window_value", ctypes.c_uint32(number), ctypes.c_int64(entered), ctypes.c_uint64(count))
-        return self.total, self.largest
+    def bring(self, answer):
+        """Brings what a segment came to, its value or the Refusal: only a value enters. Answers total and largest."""
+        refused = isinstance(answer, Refusal)
+        number, value, count = (answer.number, 0, answer.count) if refused else (0, _within(answer, -(2**63), 2**63 - 1), 0)
+        return self._called("segment_window_value", ctypes.c_uint32(number), ctypes.c_int64(value), ctypes.c_uint64(count))
+
+    @property
+    def values(self):
+        """The values, from the oldest."""
+        held, end = self._cells[1], self._cells[2]
+        return [self._cells[5 + (end - held + i) % self.size] for i in range(held)]
+
+    @property
+    def cells(self):
+        """The cells, as docs/WINDOW.md states them."""
+        return list(self._cells)
+
+    def __repr__(self):
+        return f"Window(size {self.size}, total {self.total}, largest {self.largest})"
 
     def _called(self, name, *brought):
-        number, total, largest, has = ctypes.c_uint32(), ctypes.c_int64(), ctypes.c_int64(), ctypes.c_uint32()
-        out = map(ctypes.byref, (number, total, largest, has))
-        _call(name, *brought, self._cells, ctypes.c_size_t(len(self._cells)), *out)
+        number, total, largest, has_largest = ctypes.c_uint32(), ctypes.c_int64(), ctypes.c_int64(), ctypes.c_uint32()
+        out = map(ctypes.byref, (number, total, largest, has_largest))
+        _call(name, *brought, self._cells, ctypes.c_size_t(self._length), *out)
         if number.value:
             raise Refusal(number.value, 0)
-        self.total, self.largest = total.value, largest.value if has.value else None
+        self.total, self.largest = total.value, largest.value if has_largest.value else None
+        return self.total, self.largest
 
 
 class Run:

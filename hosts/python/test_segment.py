@@ -68,13 +68,17 @@ class Words(unittest.TestCase):
         self.assertRaises(ValueError, segment.Table, WORDS, segment.Names(text % "0"))
 
     def test_window(self):
-        window = segment.Window(3)
-        self.assertEqual((window.total, window.largest), (0, None))
-        found = [window.bring(value) for value in (5, 2, 6, segment.Refusal(22, 3), 4, 1, 4)]
-        self.assertEqual(found, [(5, 5), (7, 5), (13, 6), (13, 6), (12, 6), (11, 6), (9, 4)])
-        for size in (0, 65):
-            self.assertEqual(self.refused(42, 0, segment.Window, size).tokens, None)
-        self.refused(42, 0, window.bring, 10**12 + 1)
+        run, window = segment.Table(WORDS).run(), segment.Window(2)
+        self.assertEqual((window.total, window.largest, window.values), (0, None, []))
+        self.assertEqual([window.bring(run.evaluate([0] * n)) for n in (3, 1, 2)], [(3, 3), (4, 3), (3, 2)])
+        refused = self.refused(21, 0, run.evaluate, [2])
+        self.assertEqual((window.bring(refused), window.values, window.cells), ((3, 2), [1, 2], [2, 2, 1, 3, 1, 2, 1, 0, 0]))
+        self.assertEqual(repr(window), "Window(size 2, total 3, largest 2)")
+        for value in (10**12 + 1, -(10**12) - 1, 2**64, -(2**64)):
+            unfit = self.refused(42, 0, window.bring, value)
+        self.assertEqual(str(unfit), "refused 42: the window's size, buffer or value does not fit")
+        for size in (0, 65, -1, 2**64 + 1):
+            self.assertIsNone(self.refused(42, 0, segment.Window, size).tokens)
 
     def test_threads(self):
         table, found = segment.Table(WORDS), {}

@@ -138,7 +138,7 @@ impl Pair {
 
     /// Forges the record or the stacks: near what a run leaves, or anything.
     pub fn forge(&mut self, r: &mut Random) {
-        match r.below(14) {
+        match r.below(12) {
             0 => self.record.tokens = 65533 + r.below(4) as u64,
             1 | 2 => self.record.moves = u32::MAX as u64 - r.below(12) as u64,
             3 => self.record.moves = u32::MAX as u64 + r.below(2) as u64,
@@ -147,7 +147,6 @@ impl Pair {
             6 => self.forge_left(r),
             7 => self.forge_all(r),
             8 | 9 => self.forge_place(r),
-            10 | 11 => self.forge_values(r),
             _ => self.forge_register(r),
         }
     }

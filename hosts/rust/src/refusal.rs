@@ -77,7 +77,7 @@ kinds! {
     RunClosed = 33, "the run is closed";
     StacksUnfit = 34, "the stacks do not fit";
     TooMuch = 35, "a token after 65,535, or a move after 4,294,967,295 or after the budget";
-    WindowUnfit = 42, "a window's size, buffer or value does not fit";
+    WindowUnfit = 42, "the window's size, buffer or value does not fit";
 }
 
 /// Why a call was turned back: a number, and what it comes with.
@@ -88,9 +88,7 @@ pub struct Refusal {
 }
 
 impl Refusal {
-    /// A refusal as a call handed it out, number and count, for those who bring one to a later call.
-    #[must_use]
-    pub const fn new(number: u32, count: u64) -> Refusal {
+    pub(crate) const fn new(number: u32, count: u64) -> Refusal {
         Refusal { number, count }
     }
 

@@ -1,6 +1,6 @@
 //! A window over the values of the last finished segments: their total and the largest.
 //!
-//! [`open`] and [`bring`] are the library's calls as they are, on a buffer that the caller lends; [`Window`] keeps its own.
+//! [`open`] and [`value`] are the library's calls as they are, on a buffer that the caller lends; [`Window`] keeps its own.
 use crate::Refusal;
 use alloc::vec;
 use alloc::vec::Vec;
@@ -17,7 +17,7 @@ pub const fn length(size: usize) -> usize {
 /// What stands in a window. Before the first value the total is 0 and there is no largest.
 #[derive(Clone, Copy, Debug, PartialEq, Eq)]
 pub struct Standing {
-    /// The exact total of the values.
+    /// The exact total of the window's values.
     pub total: i64,
     /// The largest of them.
     pub largest: Option<i64>,
@@ -65,10 +65,10 @@ impl Numbers {
     }
 }
 
-/// Opens a window of a size from 1 to 64 in the first cells of the buffer. On a refusal, 42, the buffer is as it was.
+/// Opens a window of a size from 1 to 64 in the first cells of the buffer.
 ///
 /// # Errors
-/// 42: the size is not 1 to 64, or the buffer is too short.
+/// 42: another size, or a buffer that is too short, which is left as it was.
 pub fn open(size: u64, buffer: &mut [i64]) -> Result<Standing, Refusal> {
     let mut n = Numbers::default();
     let (cells, long) = (buffer.as_mut_ptr(), buffer.len());
@@ -77,17 +77,12 @@ pub fn open(size: u64, buffer: &mut [i64]) -> Result<Standing, Refusal> {
     n.answer()
 }
 
-/// Brings a finish's answer, value and moves or a refusal: a value enters; a refusal changes nothing and gets both as they stand.
-/// Turned back with 42, and with the buffer as it was, are a value outside the limits and a buffer that no opening and values after
-/// it can leave.
+/// Brings the three numbers of a finish's answer. With the number 0 the value enters, and the oldest leaves where the window is full; any
+/// other number is a refusal's: nothing changes, and total and largest are told as they stand.
 ///
 /// # Errors
-/// 42.
-pub fn bring(finished: Result<(i64, u64), Refusal>, buffer: &mut [i64]) -> Result<Standing, Refusal> {
-    let (number, value, count) = match finished {
-        Ok((value, moves)) => (0, value, moves),
-        Err(refusal) => (refusal.number(), 0, refusal.count()),
-    };
+/// 42: a value outside the limits, or a buffer that no opening and values after it can leave; the buffer is left as it was.
+pub fn value(number: u32, value: i64, count: u64, buffer: &mut [i64]) -> Result<Standing, Refusal> {
     let mut n = Numbers::default();
     let (cells, long) = (buffer.as_mut_ptr(), buffer.len());
     // SAFETY: as in `open`.
@@ -95,12 +90,24 @@ pub fn bring(finished: Result<(i64, u64), Refusal>, buffer: &mut [i64]) -> Resul
     n.answer()
 }
 
+/// [`value`] with what [`finish`](crate::lent::finish) answered.
+///
+/// # Errors
+/// As for [`value`].
+pub fn bring(finished: Result<(i64, u64), Refusal>, buffer: &mut [i64]) -> Result<Standing, Refusal> {
+    match finished {
+        Ok((brought, moves)) => value(0, brought, moves, buffer),
+        Err(refusal) => value(refusal.number(), 0, refusal.count(), buffer),
+    }
+}
+
 /// A window with its buffer.
 ///
 /// ```
-/// # let table = include_bytes!(concat!(env!("CARGO_MANIFEST_DIR"), "/../../grammars/words.table"));
-/// let table = segment::Table::new(*table)?;
-/// let (mut window, mut run) = (segment::Window::new(2)?, table.run());
+/// # let bytes = include_bytes!(concat!(env!("CARGO_MANIFEST_DIR"), "/../../grammars/words.table"));
+/// let table = segment::Table::new(*bytes)?;
+/// let mut run = table.run();
+/// let mut window = segment::Window::new(2)?;
 /// for words in [&[0, 0, 0][..], &[0], &[2], &[0, 0]] {
 ///     window.bring(run.evaluate(words))?;
 /// }
@@ -127,7 +134,7 @@ impl Window {
     /// Brings what a finish answered: only a value enters.
     ///
     /// # Errors
-    /// 42: the value is outside the limits, which no finish answers.
+    /// 42: a value outside the limits, which no finish answers.
     pub fn bring(&mut self, finished: Result<i64, Refusal>) -> Result<Standing, Refusal> {
         self.standing = bring(finished.map(|value| (value, 0)), &mut self.buffer)?;
         Ok(self.standing)
