@@ -30,14 +30,14 @@ impl Chance {
 }
 
 /// The tokens of a segment that is derived from the grammar; conditions are not looked at.
-struct Derive<'g> {
+pub struct Derive<'g> {
     g: &'g Grammar,
     /// The depth of the lowest tree of each part.
     lowest: Vec<usize>,
 }
 
 impl<'g> Derive<'g> {
-    fn new(g: &'g Grammar) -> Derive<'g> {
+    pub fn new(g: &'g Grammar) -> Derive<'g> {
         let mut found = Derive { g, lowest: vec![usize::MAX; g.parts.len()] };
         for _ in 0..=g.parts.len() {
             for p in 0..g.productions.len() {
@@ -73,7 +73,7 @@ impl<'g> Derive<'g> {
     }
 
     /// A segment of 1 to 10 tokens, if one is found.
-    fn segment(&self, chance: &mut Chance) -> Option<Vec<u8>> {
+    pub fn segment(&self, chance: &mut Chance) -> Option<Vec<u8>> {
         let tries = (0..200).map(|_| {
             let mut out = Vec::new();
             let depth = 2 + chance.below(6) + self.lowest[self.g.start];

@@ -78,7 +78,8 @@ impl Header<'_> {
 
     fn c(&self) -> String {
         let (upper, lower) = (ascii(self.name).to_uppercase(), ascii(self.name).to_lowercase());
-        let mut text = format!("/* The names of {} and their numbers, written by `grammar header --lang c`. */\n", self.from);
+        let mut text =
+            format!("/* The names of {} and their numbers, written by `grammar header --lang c`. */\n", self.from.replace("*/", "* /"));
         let _ = write!(text, "#ifndef {upper}_NAMES_H\n#define {upper}_NAMES_H\n\n#include \"segment.h\"\n\n");
         let _ = writeln!(text, "#define {upper}_TABLE_LENGTH {}", self.bytes.len());
         let _ = writeln!(text, "#define {upper}_TABLE_SUM UINT64_C(0x{:016x})\n", self.sum);

@@ -27,7 +27,9 @@ pub fn nearest<'a>(word: &str, names: impl IntoIterator<Item = &'a str>) -> Opti
     }
     let allowed = if length >= 6 { 2 } else { usize::from(length >= 3) };
     let far = |name: &str| if name.to_lowercase() == word.to_lowercase() { 0 } else { distance(word, name) };
-    let all = names.into_iter().filter(|name| *name != word).map(|name| (far(name), name));
+    // Names of another length by far are not compared: they could be very long.
+    let near = |name: &&str| *name != word && name.len() <= 4 * (length + 2) && name.chars().count().abs_diff(length) <= 2;
+    let all = names.into_iter().filter(near).map(|name| (far(name), name));
     all.filter(|(far, _)| *far <= allowed).min_by_key(|(far, _)| *far).map(|(_, name)| name)
 }
 

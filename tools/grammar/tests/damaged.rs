@@ -87,3 +87,28 @@ fn random_segments_are_told_in_words() {
         }
     }
 }
+
+/// A text that is laid out says the same, and stays as it is when it is laid out again.
+#[test]
+fn layout_keeps_the_grammar() {
+    let mut chance = Chance(3);
+    let (mut laid_out, mut refused) = (0, 0);
+    for name in NAMES {
+        let text = shipped(name);
+        for _ in 0..300 {
+            let text = damaged(&text, &mut chance).replace(" = ", if chance.below(2) == 0 { "=" } else { "   =\t" });
+            let Ok(laid) = grammar::fmt::laid_out(&text) else {
+                refused += 1;
+                continue;
+            };
+            assert_eq!(grammar::fmt::laid_out(&laid).expect("laid out"), laid);
+            match (to_table(&text), to_table(&laid)) {
+                (Ok(a), Ok(b)) => assert_eq!(a.table, b.table, "{text}"),
+                (Err(a), Err(b)) => assert_eq!(a.first().message.split_once(" on line"), b.first().message.split_once(" on line")),
+                (a, b) => panic!("{a:?}\n{b:?}\n{text}"),
+            }
+            laid_out += 1;
+        }
+    }
+    assert!(laid_out > 300 && refused > 20, "{laid_out} laid out, {refused} refused");
+}

@@ -1,26 +1,8 @@
 //! Table to text to table gives the same bytes.
 mod common;
-use common::shipped;
+use common::{shipped, vectors};
 use grammar::model::Grammar;
 use grammar::{print, resolve, table, to_table, to_text};
-use std::collections::BTreeSet;
-
-fn bytes(hex: &str) -> Option<Vec<u8>> {
-    let digits = hex.as_bytes().chunks(2);
-    digits.map(|d| u8::from_str_radix(std::str::from_utf8(d).ok()?, 16).ok()).collect()
-}
-
-/// The tables of the vectors' commands.
-fn vectors() -> BTreeSet<Vec<u8>> {
-    let root = concat!(env!("CARGO_MANIFEST_DIR"), "/../../vectors");
-    let mut found = BTreeSet::new();
-    for name in ["fixed", "edits", "random"] {
-        let text = std::fs::read_to_string(format!("{root}/{name}.in")).expect(name);
-        let checks = text.lines().filter_map(|line| line.strip_prefix("check "));
-        found.extend(checks.filter_map(bytes));
-    }
-    found
-}
 
 #[test]
 fn accepted_tables_come_back() {

@@ -56,6 +56,35 @@ fn without_a_slip_it_is_the_engine() {
     }
 }
 
+/// The accepted tables of the vectors, with made-up names: parts without attributes, empty alternatives, conditions of all kinds.
+#[test]
+fn under_the_grammars_of_the_vectors_it_is_the_engine() {
+    let tables = common::vectors();
+    let mut seed = 11u64;
+    let mut below = |n: usize| {
+        seed = seed.wrapping_mul(6_364_136_223_846_793_005).wrapping_add(1_442_695_040_888_963_407);
+        (seed >> 33) as usize % n
+    };
+    let mut built = 0;
+    for text in tables.iter().filter_map(|table| grammar::to_text(table).ok()) {
+        let grammar = to_table(&text).expect("accepted");
+        let derive = grammar::exercises::Derive::new(&grammar.grammar);
+        let mut chance = grammar::exercises::Chance::new(built);
+        built += 1;
+        for _ in 0..6 {
+            let mut tokens = derive.segment(&mut chance).unwrap_or_default();
+            if below(3) == 0 {
+                tokens.insert(below(tokens.len() + 1), below(grammar.grammar.tokens.len()) as u8);
+            }
+            let (frames, _) = run(&grammar, &tokens, None, ROOM);
+            if frames.len() < 500 {
+                assert_same(&grammar, &tokens, ROOM);
+            }
+        }
+    }
+    assert!(built >= 100, "{built}");
+}
+
 fn slipped(name: &str, segment: &str, slip: Slip, room: (usize, usize)) -> (End, Vec<Option<i64>>) {
     let built = to_table(&shipped(name)).expect(name);
     let (frames, end) = run(&built, &tokens(&built, segment), Some(slip), room);
