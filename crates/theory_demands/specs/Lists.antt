@@ -1,23 +1,26 @@
 -- Demand 3 as one claim: what holds after a list of calls, whatever tokens are still to come.
-use Prim.Native.Nat.{ℕ, _≤_}
+use Prim.Native.Nat.{ℕ, _≤_, _<_}
 use native.Mathlib.Omega.{arith}
 use native.Mathlib.Decide.{decLe}
 use mathlib.Core.Path.{_≡_, refl, sym, ap, ap₂, _∙_, subst, subst₂}
 use mathlib.Core.Logic.{inl, inr}
 use mathlib.Core.Bool.{Bool, true, false}
 use mathlib.Core.List.{List, [], _∷_, _++_, append-nil}
-use lib.ListN.{length, take, length-append}
-use lib.Seq.{take-at, take-append-le, take-all}
+use lib.ListN.{length, take, drop, length-append, take-append-drop}
+use lib.Seq.{take-at, take-append-le, take-all, length-take-le}
 use lib.Dec.{T}
-use Rattle.meaning.specs.Grammar.{Grammar}
+use Rattle.meaning.specs.Grammar.{Grammar, Symbol}
 use Rattle.meaning.specs.Rules.{WellFormed}
 use Rattle.meaning.specs.Judgement.{Accepted}
-use Rattle.meaning.specs.Machine.{Config, Lent, Settled, stopped, failed, opening, waits, unread, feedAll, tokensLimit}
+use Rattle.meaning.specs.Scheme.{Instruction, expect}
+use Rattle.meaning.specs.Machine.{Frame, Config, Lent, Settled, stopped, failed, opening, waits, unread, feedAll, tokensLimit}
 use Rattle.meaning.specs.Tree.{Tree, TreeOf}
 use Rattle.meaning.specs.Walk.{Act, actBy, Makes, nothing, andThen}
 use Rattle.meaning.specs.Calls.{Record, Stacks, lentOf, recordOf, layAll, afterFeed, feedOf}
 use Rattle.meaning.specs.Drawn.{drawnRecord, drawnStacks}
-use Rattle.meaning.specs.Statements.{PictureAlways, WalkAlways}
+use Rattle.meaning.specs.Part.{frame}
+use Rattle.meaning.specs.Selectors.{SelectorsFind}
+use Rattle.meaning.specs.Statements.{History, PartWalked, Returned, PictureAlways, WalkAlways}
 use Rattle.meaning.specs.Claim.{Passed, MayCome, Pictured, EveryListOfCalls}
 use Rattle.theory_base.specs.Members.{no-elements}
 use Rattle.theory_base.specs.CallsUnder as Under
@@ -172,3 +175,26 @@ walk-again claim program bs g m₀ ts us isOver r m t a h k f over =
     let l = claim program bs g m₀ ts isOver r m a h in
     let p = l .pictured us over t k f in
     (l .config, subst₂ (λ x y. Makes g (lentOf m₀) (ts ++ us) (opening g) x (y ++ us) (l .config)) (p .isWalk) (p .isRead) (l .made us over), l .isRecord, l .isStacks)
+
+-- at every move that the calls made: the next instruction's selectors, and a part that is entered there and left
+selectors-again : EveryListOfCalls
+    → (program : Grammar → List ℕ) (bs : List ℕ) (g : Grammar) (m₀ : Stacks) (ts : List ℕ) (isOver : Bool) (r : Record) (m : Stacks) (a : Accepted bs g) (h : History program bs m₀ ts isOver r m)
+    → (n : ℕ) → n < r .moves
+    → (first : List Act) × (c : Config) × (read toCome : List ℕ) × (length first ≡ n) × (ts ≡ read ++ toCome) × Makes g (lentOf m₀) ts (opening g) first toCome c
+    × ((p : ℕ) (i : Instruction) (is : List Instruction) (fs : List Frame) → c .frames ≡ frame p (i ∷ is) ∷ fs → SelectorsFind g read toCome c i)
+    × ((p : ℕ) (x : Symbol) (is : List Instruction) (fs : List Frame) (z : Config) → c .frames ≡ frame p (expect x ∷ is) ∷ fs → PartWalked g (lentOf m₀) toCome c z → Returned g x c z)
+selectors-again claim program bs g m₀ ts isOver r m a h n k =
+    let l = claim program bs g m₀ ts isOver r m a h in
+    let first : List Act = take n (l .moves) in
+    let p = l .each [] (λ e. refl) first (drop n (l .moves)) (sym (take-append-drop n (l .moves))) in
+    let all : ts ++ [] ≡ ts = append-nil ts in (
+      first,
+      p .config,
+      p .read,
+      p .toCome,
+      length-take-le n (l .moves) (omega (arith, k, l .counted)),
+      sym all ∙ p .isSplit,
+      subst (λ x. Makes g (lentOf m₀) x (opening g) first (p .toCome) (p .config)) all (p .made),
+      p .finds,
+      p .returns,
+    )
