@@ -5,15 +5,17 @@
  *
  * Every function may be called with any content in the lent memory; what does not fit is turned back with a number. What each
  * function hands back is fixed for every input: each lent number, each field of the record, each register, place and program word.
- * A list is a pointer and its length in elements. No pointer may be NULL, not even that of a list of length 0, and no two of the
- * lists and numbers of one call may overlap, except that lists that are only read may.
+ * A list is a pointer and its length in elements. No pointer may be NULL, not even that of a list of length 0 (the functions over a
+ * segment_run at the end allow that), and no two of the lists and numbers of one call may overlap, except that lists that are only read
+ * may. Threads may call at the same time, each with its own record and memory; a table may be shared.
  *
  * Refusals. *number is 0 where a call does what it is for, and else
  *    1 to 14: the table (or the production asked for) is refused; with the byte offset of its field
  *   20 to 24: the segment is refused; with the tokens read
  *   30 to 35: the state of the run or the memory is refused; with the tokens read, or 0 for 30, 33 and 34
  *         42: a window's size, buffer or value is refused; no cell of the buffer is written
- * On 1 to 13 and on 30 no register, place or program word is written. */
+ * The numbers have names, SEGMENT_..., and segment_reason gives their words. On 1 to 13 and on 30 no register, place or program word is
+ * written. */
 #ifndef SEGMENT_H
 #define SEGMENT_H
 
@@ -24,6 +26,11 @@
 extern "C" {
 #endif
 
+/* The version of this header and its library. */
+#define SEGMENT_VERSION_MAJOR 0
+#define SEGMENT_VERSION_MINOR 2
+#define SEGMENT_VERSION "0.2.0"
+
 /* A run uses at most so many registers and places; cells past these are neither read nor written. */
 #define SEGMENT_REGISTERS 4096
 #define SEGMENT_PLACES 1024
@@ -31,8 +38,41 @@ extern "C" {
 #define SEGMENT_PROGRAM 16384
 /* A line of a listing has at most so many bytes. */
 #define SEGMENT_LINE 64
+/* A segment has at most so many moves. */
+#define SEGMENT_MOVES UINT64_C(4294967295)
 /* What a register without a value holds. */
 #define SEGMENT_MARK INT64_MIN
+
+/* The numbers of refusals by name. */
+enum segment_number {
+    SEGMENT_OK = 0,
+    SEGMENT_TABLE_TOO_LONG = 1,
+    SEGMENT_FIELD_CUT_SHORT = 2,
+    SEGMENT_TAG_OUT_OF_ORDER = 3,
+    SEGMENT_OUTSIDE_LIMITS = 4,
+    SEGMENT_UNKNOWN_NAME = 5,
+    SEGMENT_WRONG_START = 6,
+    SEGMENT_WRONG_SIDE = 7,
+    SEGMENT_NOT_ONE_RULE = 8,
+    SEGMENT_READS_TOO_FAR = 9,
+    SEGMENT_WRONG_CONDITION = 10,
+    SEGMENT_USELESS = 11,
+    SEGMENT_LEFT_RECURSION = 12,
+    SEGMENT_CLASH = 13,
+    SEGMENT_NO_PRODUCTION = 14,
+    SEGMENT_UNKNOWN_TOKEN = 20,
+    SEGMENT_UNEXPECTED_TOKEN = 21,
+    SEGMENT_CONDITION_FALSE = 22,
+    SEGMENT_VALUE_OUTSIDE = 23,
+    SEGMENT_SEGMENT_OVER = 24,
+    SEGMENT_PROGRAM_SHORT = 30,
+    SEGMENT_NEEDS_REGISTERS = 31,
+    SEGMENT_NEEDS_PLACES = 32,
+    SEGMENT_RUN_CLOSED = 33,
+    SEGMENT_STACKS_UNFIT = 34,
+    SEGMENT_TOO_MUCH = 35,
+    SEGMENT_WINDOW_UNFIT = 42
+};
 
 /* The run record. Each call on a run takes it and hands the next one back in its place. */
 typedef struct {
@@ -68,7 +108,7 @@ void segment_open(const uint8_t *table, size_t table_length, segment_record *rec
 
 /* Feeds tokens to an open run, on the record and the stacks as the call before left them.
  * *number: 0, or 1 to 13, 20 to 23, 30 to 35. 20 to 23, 31, 32 and 35 close the record, with the moves made until then standing; the
- * others leave record and stacks as brought.
+ * others leave record and stacks as brought, but that an open record is handed back with open = 1.
  * *count: the moves made since opening; on a refusal the tokens read, or the table's offset. */
 void segment_feed(const uint8_t *table, size_t table_length, segment_record *record, int64_t *registers, size_t registers_length,
                   uint32_t *places, size_t places_length, uint32_t *program, size_t program_length, const uint8_t *tokens,
@@ -100,6 +140,223 @@ void segment_window_open(uint64_t size, int64_t *buffer, size_t buffer_length, u
  * *largest: the largest of them, where *has_largest is 1; both are 0 where the window holds no value and on a refusal. */
 void segment_window_value(uint32_t finish_number, int64_t finish_value, uint64_t finish_count, int64_t *buffer, size_t buffer_length,
                           uint32_t *number, int64_t *total, int64_t *largest, uint32_t *has_largest);
+
+/* ---- What follows needs nothing of the library but the functions above. ---- */
+
+#if defined(__cplusplus) || (defined(__STDC_VERSION__) && __STDC_VERSION__ >= 199901L)
+#define SEGMENT_INLINE static inline
+#elif defined(__GNUC__)
+#define SEGMENT_INLINE static __inline__ __attribute__((unused))
+#else
+#define SEGMENT_INLINE static
+#endif
+
+/* The reason of a refusal in words. */
+SEGMENT_INLINE const char *segment_reason(uint32_t number) {
+    switch (number) {
+    case SEGMENT_OK:
+        return "no refusal";
+    case SEGMENT_TABLE_TOO_LONG:
+        return "the table is too long";
+    case SEGMENT_FIELD_CUT_SHORT:
+        return "a field is cut short";
+    case SEGMENT_TAG_OUT_OF_ORDER:
+        return "a tag is out of order, or the table is over too early";
+    case SEGMENT_OUTSIDE_LIMITS:
+        return "a length, count or constant is outside its limits";
+    case SEGMENT_UNKNOWN_NAME:
+        return "a symbol, attribute, occurrence, function or kind is unknown";
+    case SEGMENT_WRONG_START:
+        return "the start symbol has inherited attributes or lacks the result attribute";
+    case SEGMENT_WRONG_SIDE:
+        return "a rule sets an input, or something reads an output";
+    case SEGMENT_NOT_ONE_RULE:
+        return "an output has a second rule, or none";
+    case SEGMENT_READS_TOO_FAR:
+        return "a rule for an inherited attribute reads its own position or above";
+    case SEGMENT_WRONG_CONDITION:
+        return "low is above high";
+    case SEGMENT_USELESS:
+        return "a nonterminal is unreachable or derives no token string";
+    case SEGMENT_LEFT_RECURSION:
+        return "a nonterminal can reach itself leftmost without reading";
+    case SEGMENT_CLASH:
+        return "a production clashes with an earlier one";
+    case SEGMENT_NO_PRODUCTION:
+        return "there is no such production";
+    case SEGMENT_UNKNOWN_TOKEN:
+        return "the token is not below the number of terminals";
+    case SEGMENT_UNEXPECTED_TOKEN:
+        return "the token is not the expected one, is in no alternative's set, or follows a start symbol already left";
+    case SEGMENT_CONDITION_FALSE:
+        return "a condition is false, or no alternative has its entry conditions met";
+    case SEGMENT_VALUE_OUTSIDE:
+        return "a value is outside -1,000,000,000,000 to 1,000,000,000,000";
+    case SEGMENT_SEGMENT_OVER:
+        return "the segment is over where a token is expected or no alternative's set holds the end";
+    case SEGMENT_PROGRAM_SHORT:
+        return "the program area is short";
+    case SEGMENT_NEEDS_REGISTERS:
+        return "the run needs more registers than were lent; at most 4,096 count";
+    case SEGMENT_NEEDS_PLACES:
+        return "the run needs more places than were lent; at most 1,024 count";
+    case SEGMENT_RUN_CLOSED:
+        return "the run is closed";
+    case SEGMENT_STACKS_UNFIT:
+        return "the stacks do not fit";
+    case SEGMENT_TOO_MUCH:
+        return "a token after 65,535, or a move after 4,294,967,295 or after the budget";
+    case SEGMENT_WINDOW_UNFIT:
+        return "the window's size, buffer or value does not fit";
+    default:
+        return "the number is not known to this version";
+    }
+}
+
+/* Memory for one run. SEGMENT_ROOM is all that a run can use: some 100 KB. */
+typedef struct {
+    int64_t *registers;
+    size_t registers_length;
+    uint32_t *places;
+    size_t places_length;
+    uint32_t *program;
+    size_t program_length;
+} segment_memory;
+
+typedef struct {
+    int64_t registers[SEGMENT_REGISTERS];
+    uint32_t places[SEGMENT_PLACES];
+    uint32_t program[SEGMENT_PROGRAM];
+} segment_room;
+
+/* A run: its table, its memory and its record. Read the fields; write none. */
+typedef struct {
+    const uint8_t *table;
+    size_t table_length;
+    segment_memory memory;
+    segment_record record;
+    uint64_t spent; /* the moves that the record counts before the first: SEGMENT_MOVES less the budget */
+} segment_run;
+
+/* What a call answers: number is SEGMENT_OK or the refusal's; value is the segment's after a finish; count is the moves made since
+ * opening, or with a refusal the tokens read or the table's offset. */
+typedef struct {
+    uint32_t number;
+    int64_t value;
+    uint64_t count;
+} segment_answer;
+
+SEGMENT_INLINE segment_memory segment_memory_of(segment_room *room) {
+    segment_memory m;
+    m.registers = room->registers;
+    m.registers_length = SEGMENT_REGISTERS;
+    m.places = room->places;
+    m.places_length = SEGMENT_PLACES;
+    m.program = room->program;
+    m.program_length = SEGMENT_PROGRAM;
+    return m;
+}
+
+/* A list's pointer; for NULL, which only a list of length 0 may have, one that is not. */
+SEGMENT_INLINE const uint8_t *segment_bytes(const uint8_t *bytes) {
+    static const uint8_t none[1] = {0};
+    return bytes ? bytes : none;
+}
+
+SEGMENT_INLINE segment_memory segment_lent(segment_memory m) {
+    static int64_t no_register[1];
+    static uint32_t no_word[1];
+    if (!m.registers) {
+        m.registers = no_register;
+    }
+    if (!m.places) {
+        m.places = no_word;
+    }
+    if (!m.program) {
+        m.program = no_word;
+    }
+    return m;
+}
+
+/* The moves made since opening. */
+SEGMENT_INLINE uint64_t segment_moves(const segment_run *run) {
+    return run->record.moves < run->spent ? 0 : run->record.moves - run->spent;
+}
+
+/* Register k of an open or finished run, counted as the listing counts: 1 is the top. SEGMENT_MARK past the last, and where there is no
+ * value yet. */
+SEGMENT_INLINE int64_t segment_register(const segment_run *run, uint64_t k) {
+    return k >= 1 && k <= run->record.registers ? run->memory.registers[run->record.registers - k] : SEGMENT_MARK;
+}
+
+/* The verdict on a table, as an answer. */
+SEGMENT_INLINE segment_answer segment_run_check(const uint8_t *table, size_t table_length) {
+    segment_answer a = {0, 0, 0};
+    uint32_t offset = 0;
+    segment_check(segment_bytes(table), table_length, &a.number, &offset);
+    a.count = offset;
+    return a;
+}
+
+/* Opens a run again, for another segment: the same table, memory and budget. */
+SEGMENT_INLINE segment_answer segment_run_restart(segment_run *run) {
+    segment_answer a = {0, 0, 0};
+    const segment_memory *m = &run->memory;
+    segment_open(run->table, run->table_length, &run->record, m->registers, m->registers_length, m->places, m->places_length, m->program,
+                 m->program_length, &a.number, &a.count);
+    if (a.number == SEGMENT_OK) {
+        run->record.moves = run->spent;
+    }
+    return a;
+}
+
+/* Opens a run with a budget of moves: the move after it is refused by 35. SEGMENT_MOVES is no budget. Counts are told as if there were
+ * none. */
+SEGMENT_INLINE segment_answer segment_run_open_with_budget(segment_run *run, const uint8_t *table, size_t table_length,
+                                                           segment_memory memory, uint64_t moves) {
+    run->table = segment_bytes(table);
+    run->table_length = table_length;
+    run->memory = segment_lent(memory);
+    run->spent = moves < SEGMENT_MOVES ? SEGMENT_MOVES - moves : 0;
+    return segment_run_restart(run);
+}
+
+SEGMENT_INLINE segment_answer segment_run_open(segment_run *run, const uint8_t *table, size_t table_length, segment_memory memory) {
+    return segment_run_open_with_budget(run, table, table_length, memory, SEGMENT_MOVES);
+}
+
+/* Feeds tokens. Each call judges the table anew: feed in large pieces. */
+SEGMENT_INLINE segment_answer segment_run_feed(segment_run *run, const uint8_t *tokens, size_t tokens_length) {
+    segment_answer a = {0, 0, 0};
+    const segment_memory *m = &run->memory;
+    segment_feed(run->table, run->table_length, &run->record, m->registers, m->registers_length, m->places, m->places_length, m->program,
+                 m->program_length, segment_bytes(tokens), tokens_length, &a.number, &a.count);
+    if (a.number == SEGMENT_OK) {
+        a.count = segment_moves(run);
+    }
+    return a;
+}
+
+SEGMENT_INLINE segment_answer segment_run_finish(segment_run *run) {
+    segment_answer a = {0, 0, 0};
+    const segment_memory *m = &run->memory;
+    segment_finish(run->table, run->table_length, &run->record, m->registers, m->registers_length, m->places, m->places_length,
+                   m->program, m->program_length, &a.number, &a.value, &a.count);
+    if (a.number == SEGMENT_OK) {
+        a.count = segment_moves(run);
+    }
+    return a;
+}
+
+/* The sum of a table, which `grammar header` writes beside a grammar's names (FNV-1a, 64 bits). */
+SEGMENT_INLINE uint64_t segment_sum(const uint8_t *table, size_t table_length) {
+    uint64_t sum = UINT64_C(0xcbf29ce484222325);
+    size_t i;
+    for (i = 0; i < table_length; i++) {
+        sum = (sum ^ table[i]) * UINT64_C(0x100000001b3);
+    }
+    return sum;
+}
 
 #ifdef __cplusplus
 }

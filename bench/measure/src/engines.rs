@@ -42,19 +42,19 @@ impl Engine for Proved {
     }
 
     fn check(table: &[u8]) -> (u32, u32) {
-        lent::check(table).map_or_else(|r| (r.number, r.count as u32), |()| (0, 0))
+        lent::check(table).map_or_else(|r| (r.number(), r.count() as u32), |()| (0, 0))
     }
 
     fn open(&mut self, table: &[u8]) -> Answer<()> {
-        lent::open(table, &mut self.record, &mut self.buffers.lent()).map(drop).map_err(|r| (r.number, r.count))
+        lent::open(table, &mut self.record, &mut self.buffers.lent()).map(drop).map_err(|r| (r.number(), r.count()))
     }
 
     fn feed(&mut self, table: &[u8], tokens: &[u8]) -> Answer<u64> {
-        lent::feed(table, &mut self.record, &mut self.buffers.lent(), tokens).map_err(|r| (r.number, r.count))
+        lent::feed(table, &mut self.record, &mut self.buffers.lent(), tokens).map_err(|r| (r.number(), r.count()))
     }
 
     fn finish(&mut self, table: &[u8]) -> Answer<(i64, u64)> {
-        lent::finish(table, &mut self.record, &mut self.buffers.lent()).map_err(|r| (r.number, r.count))
+        lent::finish(table, &mut self.record, &mut self.buffers.lent()).map_err(|r| (r.number(), r.count()))
     }
 }
 

@@ -81,14 +81,14 @@ impl Comparison {
 
     fn judge(&mut self, table: &[u8]) -> Result<(), String> {
         let plain = plain::check(table).map(drop).map_err(|r| (r.number, r.offset as u64));
-        let proved = segment::check(table).map_err(|r| (r.number, r.count));
+        let proved = segment::check(table).map_err(|r| (r.number(), r.count()));
         self.count("check", proved.err().map_or(0, |e| e.0));
         if plain != proved {
             return Err(format!("check: proved {proved:?}, plain {plain:?}\ntable {}", hex(table)));
         }
         let production = if self.r.chance(5) { self.r.number() as usize } else { self.r.below(12) };
         let plain = plain::stretch(table, production).map_err(|r| (r.number, r.offset as u64));
-        let proved = segment::lent::stretch(table, production).map(|(s, n)| (s, s + n)).map_err(|r| (r.number, r.count));
+        let proved = segment::lent::stretch(table, production).map(|(s, n)| (s, s + n)).map_err(|r| (r.number(), r.count()));
         self.count("stretch", proved.err().map_or(0, |e| e.0));
         if plain != proved {
             return Err(format!("stretch of {production}: proved {proved:?}, plain {plain:?}\ntable {}", hex(table)));

@@ -72,7 +72,7 @@ fn in_proved(table: &[u8], record: &mut lent::Record, m: &mut Memory, call: Call
         Call::Feed(tokens) => lent::feed(table, record, m, tokens).map(|moves| (0, 0, moves)),
         Call::Finish => lent::finish(table, record, m).map(|(value, moves)| (0, value, moves)),
     };
-    answer.unwrap_or_else(|r| (r.number, 0, r.count))
+    answer.unwrap_or_else(|r| (r.number(), 0, r.count()))
 }
 
 fn in_plain(table: &[u8], record: &mut lent::Record, m: Memory, call: Call) -> Answered {

@@ -2,7 +2,6 @@
 //! largest and every cell are compared, with some past the window's form.
 use crate::random::Random;
 use segment::window::{self, Standing};
-use segment::Refusal;
 
 /// A call on a window's buffer.
 #[derive(Clone, Copy, Debug)]
@@ -50,22 +49,26 @@ fn value(r: &mut Random) -> i64 {
     }
 }
 
+/// What stands in the window, or a refusal's number and what comes with it.
+type Answered = Result<Standing, (u32, u64)>;
+
 /// What the plain window answers, as the host library does.
-fn plain(call: Call, buffer: &mut [i64]) -> Result<Standing, Refusal> {
+fn plain(call: Call, buffer: &mut [i64]) -> Answered {
     let answer = match call {
         Call::Open(size) => plain::window::open(size, buffer),
         Call::Value(value) => plain::window::value(value, buffer),
         Call::Refused(_) => plain::window::refused(buffer),
     };
-    answer.map(|(total, largest)| Standing { total, largest }).ok_or(Refusal { number: 42, count: 0 })
+    answer.map(|(total, largest)| Standing { total, largest }).ok_or((42, 0))
 }
 
-fn proved(call: Call, buffer: &mut [i64], count: u64) -> Result<Standing, Refusal> {
-    match call {
+fn proved(call: Call, buffer: &mut [i64], count: u64) -> Answered {
+    let answer = match call {
         Call::Open(size) => window::open(size, buffer),
-        Call::Value(value) => window::bring(Ok((value, count)), buffer),
-        Call::Refused(number) => window::bring(Err(Refusal { number, count }), buffer),
-    }
+        Call::Value(value) => window::value(0, value, count, buffer),
+        Call::Refused(number) => window::value(number, 0, count, buffer),
+    };
+    answer.map_err(|refusal| (refusal.number(), refusal.count()))
 }
 
 /// Makes a call on both; gives the number of its refusal, 0 for none.
@@ -79,7 +82,7 @@ fn compared(r: &mut Random, call: Call, buffer: &mut Vec<i64>) -> Result<u32, St
     if b.is_err() && *buffer != before {
         return Err(format!("{call:?} on {before:?}: turned back, and {buffer:?}"));
     }
-    Ok(b.map_or_else(|refusal| refusal.number, |_| 0))
+    Ok(b.map_or_else(|(number, _)| number, |_| 0))
 }
 
 /// A cell changed, or the buffer cut short.

@@ -33,8 +33,11 @@ pub struct Record {
 /// The memory of a run, lent to each call.
 #[derive(Debug, PartialEq, Eq)]
 pub struct Memory<'a> {
+    /// The registers; at most [`REGISTERS`] count.
     pub registers: &'a mut [i64],
+    /// The places; at most [`PLACES`] count.
     pub places: &'a mut [u32],
+    /// The program area, of at least [`PROGRAM`] words.
     pub program: &'a mut [u32],
 }
 
@@ -108,14 +111,17 @@ extern "C" {
     );
 }
 
-fn answered(number: u32, count: u64) -> Result<u64, Refusal> {
+pub(crate) fn answered(number: u32, count: u64) -> Result<u64, Refusal> {
     match number {
         0 => Ok(count),
-        _ => Err(Refusal { number, count }),
+        _ => Err(Refusal::new(number, count)),
     }
 }
 
 /// The verdict on a table.
+///
+/// # Errors
+/// 1 to 13: the table is refused, with the offset of its field.
 pub fn check(table: &[u8]) -> Result<(), Refusal> {
     let (mut number, mut offset) = (0, 0);
     // SAFETY: the pointers are those of a slice and of two numbers, all alive during the call.
@@ -124,6 +130,9 @@ pub fn check(table: &[u8]) -> Result<(), Refusal> {
 }
 
 /// Start and length of a production's stretch of the table.
+///
+/// # Errors
+/// 1 to 13: the table is refused. 14: there is no such production.
 pub fn stretch(table: &[u8], production: usize) -> Result<(usize, usize), Refusal> {
     let (mut start, mut length, mut number, mut offset) = (0, 0, 0, 0);
     // SAFETY: as in `check`.
@@ -133,6 +142,7 @@ pub fn stretch(table: &[u8], production: usize) -> Result<(usize, usize), Refusa
 
 /// As many lines of a table's listing as there is room for, into the first bytes of `out`: how many bytes, and whether that is all.
 /// With a shorter area than [`PROGRAM`], or less room than [`LINE`], 0 and false.
+#[must_use]
 pub fn list(table: &[u8], program: &mut [u32], out: &mut [u8]) -> (usize, bool) {
     let (mut length, mut over) = (0, 0);
     let (p, o) = (program.as_mut_ptr(), out.as_mut_ptr());
@@ -166,6 +176,9 @@ macro_rules! call {
 }
 
 /// Opens a run; the record is handed back closed and all zero on a refusal.
+///
+/// # Errors
+/// 1 to 13, 30, 31, 32.
 pub fn open(table: &[u8], record: &mut Record, m: &mut Memory) -> Result<u64, Refusal> {
     let (mut number, mut count) = (0, 0);
     call!(segment_open, table, record, m, &mut number, &mut count);
@@ -173,6 +186,9 @@ pub fn open(table: &[u8], record: &mut Record, m: &mut Memory) -> Result<u64, Re
 }
 
 /// Feeds tokens; answers the moves made since opening.
+///
+/// # Errors
+/// 1 to 13, 20 to 23, 30 to 35.
 pub fn feed(table: &[u8], record: &mut Record, m: &mut Memory, tokens: &[u8]) -> Result<u64, Refusal> {
     let (mut number, mut count) = (0, 0);
     call!(segment_feed, table, record, m, tokens.as_ptr(), tokens.len(), &mut number, &mut count);
@@ -180,6 +196,9 @@ pub fn feed(table: &[u8], record: &mut Record, m: &mut Memory, tokens: &[u8]) ->
 }
 
 /// Finishes the segment; answers its value and the moves made since opening.
+///
+/// # Errors
+/// 1 to 13, 22 to 24, 30 to 35.
 pub fn finish(table: &[u8], record: &mut Record, m: &mut Memory) -> Result<(i64, u64), Refusal> {
     let (mut number, mut value, mut count) = (0, 0, 0);
     call!(segment_finish, table, record, m, &mut number, &mut value, &mut count);

@@ -1,70 +1,154 @@
-//! Refusals in words.
-use std::fmt;
+//! Refusals: their numbers, names and words.
+use core::fmt;
+
+/// The numbers, the names and the words, once for all: the enum, its numbers and its words are made from this list. `hosts/c/segment.h`
+/// and `hosts/python/segment.py` have the same names and words, and `hosts/test` compares.
+macro_rules! kinds {
+    ($($name:ident = $number:literal, $reason:literal;)+) => {
+        /// What a refusal is about, one name for each number. Later versions may have more.
+        #[derive(Clone, Copy, Debug, PartialEq, Eq, Hash)]
+        #[non_exhaustive]
+        pub enum Kind {
+            $(
+                #[doc = concat!(stringify!($number), ": ", $reason, ".")]
+                $name,
+            )+
+            /// A number that this version of the crate does not know.
+            Unknown,
+        }
+
+        impl Kind {
+            /// All kinds that have a number, in the order of their numbers.
+            pub const ALL: &'static [Kind] = &[$(Kind::$name),+];
+
+            /// The kind with this number.
+            #[must_use]
+            pub const fn of(number: u32) -> Kind {
+                match number {
+                    $($number => Kind::$name,)+
+                    _ => Kind::Unknown,
+                }
+            }
+
+            /// The number; 0 for [`Kind::Unknown`].
+            #[must_use]
+            pub const fn number(self) -> u32 {
+                match self {
+                    $(Kind::$name => $number,)+
+                    Kind::Unknown => 0,
+                }
+            }
+
+            /// The reason in words.
+            #[must_use]
+            pub const fn reason(self) -> &'static str {
+                match self {
+                    $(Kind::$name => $reason,)+
+                    Kind::Unknown => "the number is not known to this version",
+                }
+            }
+        }
+    };
+}
+
+kinds! {
+    TableTooLong = 1, "the table is too long";
+    FieldCutShort = 2, "a field is cut short";
+    TagOutOfOrder = 3, "a tag is out of order, or the table is over too early";
+    OutsideLimits = 4, "a length, count or constant is outside its limits";
+    UnknownName = 5, "a symbol, attribute, occurrence, function or kind is unknown";
+    WrongStart = 6, "the start symbol has inherited attributes or lacks the result attribute";
+    WrongSide = 7, "a rule sets an input, or something reads an output";
+    NotOneRule = 8, "an output has a second rule, or none";
+    ReadsTooFar = 9, "a rule for an inherited attribute reads its own position or above";
+    WrongCondition = 10, "low is above high";
+    Useless = 11, "a nonterminal is unreachable or derives no token string";
+    LeftRecursion = 12, "a nonterminal can reach itself leftmost without reading";
+    Clash = 13, "a production clashes with an earlier one";
+    NoProduction = 14, "there is no such production";
+    UnknownToken = 20, "the token is not below the number of terminals";
+    UnexpectedToken = 21, "the token is not the expected one, is in no alternative's set, or follows a start symbol already left";
+    ConditionFalse = 22, "a condition is false, or no alternative has its entry conditions met";
+    ValueOutside = 23, "a value is outside -1,000,000,000,000 to 1,000,000,000,000";
+    SegmentOver = 24, "the segment is over where a token is expected or no alternative's set holds the end";
+    ProgramShort = 30, "the program area is short";
+    NeedsRegisters = 31, "the run needs more registers than were lent; at most 4,096 count";
+    NeedsPlaces = 32, "the run needs more places than were lent; at most 1,024 count";
+    RunClosed = 33, "the run is closed";
+    StacksUnfit = 34, "the stacks do not fit";
+    TooMuch = 35, "a token after 65,535, or a move after 4,294,967,295 or after the budget";
+    WindowUnfit = 42, "the window's size, buffer or value does not fit";
+}
 
 /// Why a call was turned back: a number, and what it comes with.
-#[derive(Clone, Copy, Debug, PartialEq, Eq)]
+#[derive(Clone, Copy, PartialEq, Eq, Hash)]
 pub struct Refusal {
-    /// 1 to 14 for a table, 20 to 24 for a segment, 30 to 35 for the state of a run, 42 for a window.
-    pub number: u32,
-    /// The offset of a table's field, or the tokens read.
-    pub count: u64,
+    number: u32,
+    count: u64,
 }
 
 impl Refusal {
+    pub(crate) const fn new(number: u32, count: u64) -> Refusal {
+        Refusal { number, count }
+    }
+
+    /// The number: 1 to 14 for a table, 20 to 24 for a segment, 30 to 35 for the state of a run, 42 for a window.
+    #[must_use]
+    pub const fn number(&self) -> u32 {
+        self.number
+    }
+
+    /// The number by its name.
+    #[must_use]
+    pub const fn kind(&self) -> Kind {
+        Kind::of(self.number)
+    }
+
+    /// What the number comes with, as the library hands it out: an offset, the tokens read, or 0. [`Refusal::offset`] and
+    /// [`Refusal::tokens`] say which.
+    #[must_use]
+    pub const fn count(&self) -> u64 {
+        self.count
+    }
+
     /// The byte offset of the field that a table is refused for.
+    #[must_use]
     pub fn offset(&self) -> Option<u64> {
         (self.number <= 14).then_some(self.count)
     }
 
-    /// The tokens read before a segment or a state was refused.
+    /// The tokens read before the segment or the run was refused. The refusals 30, 33 and 34 tell none, since nothing was looked at,
+    /// nor does 42.
+    #[must_use]
     pub fn tokens(&self) -> Option<u64> {
-        (self.number > 14).then_some(self.count)
+        let told = matches!(self.number, 20..=24 | 31 | 32 | 35);
+        told.then_some(self.count)
     }
 
-    /// The reason.
-    pub fn reason(&self) -> &'static str {
-        match self.number {
-            1 => "table too long",
-            2 => "field cut short",
-            3 => "tag out of order, or table over too early",
-            4 => "length, count or constant outside its limits",
-            5 => "symbol, attribute, occurrence, function or kind unknown",
-            6 => "start symbol with inherited attributes or without the result attribute",
-            7 => "rule sets an input, or something reads an output",
-            8 => "second rule, or none",
-            9 => "inherited rule reads its own position or a later one",
-            10 => "low above high",
-            11 => "nonterminal unreachable or deriving no token string",
-            12 => "nonterminal that can reach itself leftmost without reading",
-            13 => "production that clashes with an earlier one",
-            14 => "no such production",
-            20 => "unknown token",
-            21 => "token not expected",
-            22 => "condition false",
-            23 => "value outside -1,000,000,000,000 to 1,000,000,000,000",
-            24 => "segment over where a token is expected",
-            30 => "program area short",
-            31 => "too few registers lent",
-            32 => "too few places lent",
-            33 => "run closed",
-            34 => "stacks do not fit",
-            35 => "too many tokens or moves",
-            42 => "window size, buffer or value does not fit",
-            _ => "unknown refusal",
-        }
+    /// The reason in words.
+    #[must_use]
+    pub const fn reason(&self) -> &'static str {
+        self.kind().reason()
     }
 }
 
 impl fmt::Display for Refusal {
     fn fmt(&self, f: &mut fmt::Formatter) -> fmt::Result {
-        write!(f, "refused with {}, {}", self.number, self.reason())?;
-        match self.offset() {
-            _ if self.number == 42 => Ok(()),
-            Some(offset) => write!(f, ", at byte {offset}"),
-            None if self.count == 1 => write!(f, ", after 1 token"),
-            None => write!(f, ", after {} tokens", self.count),
+        write!(f, "refused {}", self.number)?;
+        match (self.offset(), self.tokens()) {
+            (Some(offset), _) => write!(f, " at byte {offset}")?,
+            (_, Some(1)) => write!(f, " after 1 token")?,
+            (_, Some(tokens)) => write!(f, " after {tokens} tokens")?,
+            (None, None) => {}
         }
+        write!(f, ": {}", self.reason())
     }
 }
 
-impl std::error::Error for Refusal {}
+impl fmt::Debug for Refusal {
+    fn fmt(&self, f: &mut fmt::Formatter) -> fmt::Result {
+        write!(f, "Refusal({}: {:?}, {})", self.number, self.kind(), self.count)
+    }
+}
+
+impl core::error::Error for Refusal {}

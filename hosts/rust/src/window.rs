@@ -1,12 +1,15 @@
 //! A window over the values of the last finished segments: their total and the largest.
 //!
-//! [`open`] and [`bring`] are the library's calls as they are, on a buffer that the caller lends; [`Window`] keeps its own.
+//! [`open`] and [`value`] are the library's calls as they are, on a buffer that the caller lends; [`Window`] keeps its own.
 use crate::Refusal;
+use alloc::vec;
+use alloc::vec::Vec;
 
 /// The largest size of a window.
 pub const SIZE: usize = 64;
 
 /// How many cells the buffer of a window of this size has: five numbers, the values, and the leaders' slots.
+#[must_use]
 pub const fn length(size: usize) -> usize {
     5 + 2 * size
 }
@@ -14,7 +17,9 @@ pub const fn length(size: usize) -> usize {
 /// What stands in a window. Before the first value the total is 0 and there is no largest.
 #[derive(Clone, Copy, Debug, PartialEq, Eq)]
 pub struct Standing {
+    /// The exact total of the window's values.
     pub total: i64,
+    /// The largest of them.
     pub largest: Option<i64>,
 }
 
@@ -55,12 +60,15 @@ impl Numbers {
     fn answer(self) -> Result<Standing, Refusal> {
         match self.number {
             0 => Ok(Standing { total: self.total, largest: (self.has_largest != 0).then_some(self.largest) }),
-            number => Err(Refusal { number, count: 0 }),
+            number => Err(Refusal::new(number, 0)),
         }
     }
 }
 
-/// Opens a window of a size from 1 to 64 in the first cells of the buffer. On a refusal, 42, the buffer is as it was.
+/// Opens a window of a size from 1 to 64 in the first cells of the buffer.
+///
+/// # Errors
+/// 42: another size, or a buffer that is too short, which is left as it was.
 pub fn open(size: u64, buffer: &mut [i64]) -> Result<Standing, Refusal> {
     let mut n = Numbers::default();
     let (cells, long) = (buffer.as_mut_ptr(), buffer.len());
@@ -69,14 +77,12 @@ pub fn open(size: u64, buffer: &mut [i64]) -> Result<Standing, Refusal> {
     n.answer()
 }
 
-/// Brings a finish's answer, value and moves or a refusal: a value enters; a refusal changes nothing and gets both as they stand.
-/// Turned back with 42, and with the buffer as it was, are a value outside the limits and a buffer that no opening and values after
-/// it can leave.
-pub fn bring(finished: Result<(i64, u64), Refusal>, buffer: &mut [i64]) -> Result<Standing, Refusal> {
-    let (number, value, count) = match finished {
-        Ok((value, moves)) => (0, value, moves),
-        Err(refusal) => (refusal.number, 0, refusal.count),
-    };
+/// Brings the three numbers of a finish's answer. With the number 0 the value enters, and the oldest leaves where the window is full; any
+/// other number is a refusal's: nothing changes, and total and largest are told as they stand.
+///
+/// # Errors
+/// 42: a value outside the limits, or a buffer that no opening and values after it can leave; the buffer is left as it was.
+pub fn value(number: u32, value: i64, count: u64, buffer: &mut [i64]) -> Result<Standing, Refusal> {
     let mut n = Numbers::default();
     let (cells, long) = (buffer.as_mut_ptr(), buffer.len());
     // SAFETY: as in `open`.
@@ -84,16 +90,26 @@ pub fn bring(finished: Result<(i64, u64), Refusal>, buffer: &mut [i64]) -> Resul
     n.answer()
 }
 
+/// [`value`] with what [`finish`](crate::lent::finish) answered.
+///
+/// # Errors
+/// As for [`value`].
+pub fn bring(finished: Result<(i64, u64), Refusal>, buffer: &mut [i64]) -> Result<Standing, Refusal> {
+    match finished {
+        Ok((brought, moves)) => value(0, brought, moves, buffer),
+        Err(refusal) => value(refusal.number(), 0, refusal.count(), buffer),
+    }
+}
+
 /// A window with its buffer.
 ///
 /// ```
-/// # let table = include_bytes!(concat!(env!("CARGO_MANIFEST_DIR"), "/../../grammars/words.table"));
+/// # let bytes = include_bytes!(concat!(env!("CARGO_MANIFEST_DIR"), "/../../grammars/words.table"));
+/// let table = segment::Table::new(*bytes)?;
+/// let mut run = table.run();
 /// let mut window = segment::Window::new(2)?;
-/// let mut engine = segment::Engine::new(*table)?;
 /// for words in [&[0, 0, 0][..], &[0], &[2], &[0, 0]] {
-///     engine.restart()?;
-///     let finished = engine.feed(words).and_then(|_| engine.finish());
-///     window.bring(finished)?;
+///     window.bring(run.evaluate(words))?;
 /// }
 /// assert_eq!((window.standing().total, window.standing().largest), (3, Some(2)));
 /// # Ok::<(), segment::Refusal>(())
@@ -106,6 +122,9 @@ pub struct Window {
 
 impl Window {
     /// Opens a window of a size from 1 to 64.
+    ///
+    /// # Errors
+    /// 42: another size.
     pub fn new(size: usize) -> Result<Window, Refusal> {
         let mut buffer = vec![0; length(size.min(SIZE))];
         let standing = open(size as u64, &mut buffer)?;
@@ -113,17 +132,22 @@ impl Window {
     }
 
     /// Brings what a finish answered: only a value enters.
+    ///
+    /// # Errors
+    /// 42: a value outside the limits, which no finish answers.
     pub fn bring(&mut self, finished: Result<i64, Refusal>) -> Result<Standing, Refusal> {
         self.standing = bring(finished.map(|value| (value, 0)), &mut self.buffer)?;
         Ok(self.standing)
     }
 
     /// Total and largest as they stand.
+    #[must_use]
     pub fn standing(&self) -> Standing {
         self.standing
     }
 
     /// The size that the window was opened with.
+    #[must_use]
     pub fn size(&self) -> usize {
         self.buffer[0] as usize
     }
@@ -135,6 +159,7 @@ impl Window {
     }
 
     /// The cells, as docs/WINDOW.md states them.
+    #[must_use]
     pub fn cells(&self) -> &[i64] {
         &self.buffer
     }

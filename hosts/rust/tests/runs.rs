@@ -1,23 +1,27 @@
 //! Runs of the grammar of words and tags through the wrapper.
 use segment::lent::{self, Memory, Record, MARK};
-use segment::{Engine, Refusal};
+use segment::{Kind, NotTable, Refusal, Run, Table, MOVES};
 
 const WORDS: &[u8] = include_bytes!("../../../grammars/words.table");
 
-fn engine() -> Engine {
-    Engine::new(WORDS).unwrap()
+fn table() -> Table {
+    Table::new(WORDS).unwrap()
+}
+
+/// Number and count of a refusal.
+type Refused = (u32, u64);
+
+fn refused(refusal: Refusal) -> Refused {
+    (refusal.number(), refusal.count())
 }
 
 /// Value and moves of a segment.
-fn run(tokens: &[u8]) -> Result<(i64, u64), Refusal> {
-    let mut e = engine();
-    e.feed(tokens)?;
-    e.finish()?;
-    Ok((e.value().unwrap(), e.moves()))
-}
-
-fn refusal<T>(number: u32, count: u64) -> Result<T, Refusal> {
-    Err(Refusal { number, count })
+fn run(tokens: &[u8]) -> Result<(i64, u64), Refused> {
+    let table = table();
+    let mut run = table.run();
+    run.feed(tokens).map_err(refused)?;
+    run.finish().map_err(refused)?;
+    Ok((run.value().unwrap(), run.moves()))
 }
 
 #[test]
@@ -25,63 +29,127 @@ fn values() {
     assert_eq!(run(&[]), Ok((0, 8)));
     assert_eq!(run(&[0, 1, 0, 2]).unwrap().0, 2);
     assert_eq!(run(&[1, 1, 1, 0, 2, 2, 2]).unwrap().0, 1);
+    let table = table();
+    let mut run = table.run();
+    assert_eq!((run.evaluate(&[0]), run.evaluate(&[]), run.evaluate(&[0, 0])), (Ok(1), Ok(0), Ok(2)));
 }
 
 #[test]
 fn refused_segments() {
-    assert_eq!(run(&[1, 1, 1, 1]), refusal(22, 3));
-    assert_eq!(run(&[0, 2]), refusal(21, 1));
-    assert_eq!(run(&[1]), refusal(24, 1));
-    assert_eq!(run(&[0, 3]), refusal(20, 1));
+    assert_eq!(run(&[1, 1, 1, 1]), Err((22, 3)));
+    assert_eq!(run(&[0, 2]), Err((21, 1)));
+    assert_eq!(run(&[1]), Err((24, 1)));
+    assert_eq!(run(&[0, 3]), Err((20, 1)));
 }
 
 #[test]
 fn room() {
-    let small = |registers, places| {
-        let mut e = Engine::with_room(WORDS, registers, places)?;
-        e.finish()
-    };
+    let table = table();
+    let small = |registers, places| Run::with_room(&table, registers, places).and_then(|mut run| run.finish()).map_err(refused);
     assert_eq!(small(3, 3), Ok(0));
-    assert_eq!(small(2, 3), refusal(31, 0));
-    assert_eq!(small(3, 2), refusal(32, 0));
-    assert_eq!(Engine::with_room(WORDS, 0, 3).err(), refusal::<()>(31, 0).err());
+    assert_eq!(small(2, 3), Err((31, 0)));
+    assert_eq!(small(3, 2), Err((32, 0)));
+    assert_eq!(small(0, 3), Err((31, 0)));
+    assert_eq!(small(usize::MAX, usize::MAX), Ok(0));
 }
 
 #[test]
 fn stopped() {
-    let mut e = engine();
-    e.feed(&[0]).unwrap();
-    assert_eq!(e.feed(&[1]), Ok(e.moves()));
-    assert_eq!((e.tokens(), e.is_open(), e.value()), (2, true, None));
-    let registers: Vec<_> = e.registers().rev().collect();
+    let table = table();
+    let mut run = table.run();
+    run.feed(&[0]).unwrap();
+    assert_eq!(run.feed(&[1]), Ok(run.moves()));
+    assert_eq!((run.tokens(), run.is_open(), run.value()), (2, true, None));
+    let registers: Vec<_> = run.registers().rev().collect();
     assert_eq!(registers, [Some(1), None, Some(0), None, Some(0), None, None]);
-    assert_eq!(e.places(), [32768, 0, 257, 513]);
+    for (i, register) in registers.iter().enumerate() {
+        assert_eq!(run.register(i + 1), *register);
+    }
+    assert_eq!((run.register(0), run.register(8), run.register(usize::MAX)), (None, None, None));
+    assert_eq!(run.places(), [32768, 0, 257, 513]);
 }
 
 #[test]
 fn closed_and_opened_again() {
-    let mut e = engine();
-    assert_eq!(e.feed(&[0, 2, 0]), refusal(21, 1));
-    assert!(!e.is_open());
-    assert_eq!(e.feed(&[0]), refusal(33, 0));
-    assert_eq!(e.finish(), refusal(33, 0));
-    e.restart().unwrap();
-    e.feed(&[0, 0]).unwrap();
-    assert_eq!((e.finish(), e.value(), e.places().len()), (Ok(2), Some(2), 1));
-    e.restart().unwrap();
-    assert_eq!(e.value(), None);
+    let table = table();
+    let mut run = table.run();
+    assert_eq!(run.feed(&[0, 2, 0]).map_err(refused), Err((21, 1)));
+    assert!(!run.is_open());
+    assert_eq!(run.feed(&[0]).map_err(refused), Err((33, 0)));
+    assert_eq!(run.finish().map_err(refused), Err((33, 0)));
+    run.restart().unwrap();
+    run.feed(&[0, 0]).unwrap();
+    assert_eq!((run.finish(), run.value(), run.places().len()), (Ok(2), Some(2), 1));
+    run.restart().unwrap();
+    assert_eq!(run.value(), None);
+}
+
+#[test]
+fn budgets() {
+    let table = table();
+    for (budget, answer) in [(31, Err((35, 4))), (32, Ok(2)), (23, Err((35, 4))), (22, Err((35, 4))), (0, Err((35, 0)))] {
+        let mut run = table.run().with_budget(budget);
+        for _ in 0..2 {
+            assert_eq!(run.evaluate(&[0, 1, 0, 2]).map_err(refused), answer, "{budget}");
+            assert_eq!((run.moves(), run.budget()), (budget.min(32), budget));
+        }
+    }
+    let mut run = table.run().with_budget(u64::MAX);
+    assert_eq!((run.feed(&[0, 1]), run.moves(), run.budget()), (Ok(11), 11, MOVES));
+    let mut run = table.run().with_budget(20);
+    assert_eq!((run.feed(&[0, 1]), run.feed(&[]), run.moves()), (Ok(11), Ok(11), 11));
 }
 
 #[test]
 fn tables() {
     assert_eq!(segment::check(WORDS), Ok(()));
-    assert_eq!(segment::check(&WORDS[..100]), refusal(2, 97));
-    let parts: Vec<u8> = (0..4).flat_map(|p| segment::stretch(WORDS, p).unwrap()).copied().collect();
+    assert_eq!(segment::check(&WORDS[..100]).map_err(refused), Err((2, 97)));
+    let table = table();
+    assert_eq!((table.bytes(), table.productions()), (WORDS, 4));
+    let parts: Vec<u8> = (0..4).flat_map(|p| table.stretch(p).unwrap()).copied().collect();
     assert_eq!(parts, WORDS[17..]);
-    assert_eq!(segment::stretch(WORDS, 4), refusal(14, 0));
-    assert_eq!(segment::stretch(WORDS, usize::MAX), refusal(14, 0));
-    assert_eq!(segment::stretch(&[], 0), refusal(3, 0));
-    assert_eq!(Engine::new([]).err(), Some(Refusal { number: 3, count: 0 }));
+    assert_eq!(table.stretch(4).map_err(refused), Err((14, 0)));
+    assert_eq!(segment::stretch(WORDS, usize::MAX).map_err(refused), Err((14, 0)));
+    assert_eq!(segment::stretch(&[], 0).map_err(refused), Err((3, 0)));
+    assert_eq!(Table::new([]).map_err(refused), Err((3, 0)));
+}
+
+#[test]
+fn sums_tell_tables_apart() {
+    assert_eq!(segment::sum(b""), 0xcbf29ce484222325);
+    assert_eq!(segment::sum(b"foobar"), 0x85944171f73967e8);
+    let sum = table().sum();
+    assert_eq!(sum, segment::sum(WORDS));
+    assert_eq!(Table::with_sum(WORDS, sum), Ok(table()));
+    assert_eq!(Table::with_sum(WORDS, 1), Err(NotTable::Other { found: sum, wanted: 1 }));
+    assert_eq!(Table::with_sum(WORDS, 1).unwrap_err().to_string(), "another table: its sum is d30e9953d2057f43, not 0000000000000001");
+    assert!(matches!(Table::with_sum([], sum), Err(NotTable::Refused(r)) if r.number() == 3));
+}
+
+/// What is shown in a failed test stays short.
+#[test]
+fn short_to_look_at() {
+    let table = table();
+    let mut run = table.run();
+    run.feed(&[0, 1]).unwrap();
+    let shown = "Run(open, 2 tokens, 11 moves, 7 registers, 4 places, Table(136 bytes, sum d30e9953d2057f43))";
+    assert_eq!(format!("{run:?}"), shown);
+    assert_eq!(format!("{:?}", run.feed(&[3]).unwrap_err()), "Refusal(20: UnknownToken, 2)");
+}
+
+fn sendable<T: Send + Sync + 'static>(_: T) {}
+
+#[test]
+fn threads_share_a_table() {
+    sendable(table());
+    sendable(run(&[1]).unwrap_err());
+    let table = table();
+    std::thread::scope(|scope| {
+        for n in 0..4 {
+            let table = &table;
+            scope.spawn(move || assert_eq!(table.run().evaluate(&vec![0; n]), Ok(n as i64)));
+        }
+    });
 }
 
 #[test]
@@ -99,11 +167,19 @@ fn listings() {
 
 #[test]
 fn words_for_refusals() {
-    assert_eq!(run(&[0, 2]).unwrap_err().to_string(), "refused with 21, token not expected, after 1 token");
-    assert_eq!(segment::check(&WORDS[..100]).unwrap_err().to_string(), "refused with 2, field cut short, at byte 97");
-    for number in (1..=14).chain(20..=24).chain(30..=35) {
-        assert_ne!(Refusal { number, count: 0 }.reason(), Refusal { number: 0, count: 0 }.reason(), "{number}");
-    }
+    let table = table();
+    let told = |tokens: &[u8]| table.run().evaluate(tokens).unwrap_err().to_string();
+    assert!(told(&[0, 2]).starts_with("refused 21 after 1 token: the token is not the expected one"));
+    assert!(told(&[1, 1, 1, 1]).starts_with("refused 22 after 3 tokens: a condition is false"));
+    assert_eq!(segment::check(&WORDS[..100]).unwrap_err().to_string(), "refused 2 at byte 97: a field is cut short");
+    let mut run = table.run();
+    run.evaluate(&[0, 0]).unwrap();
+    let closed = run.finish().unwrap_err();
+    assert_eq!((closed.to_string().as_str(), closed.tokens(), closed.offset()), ("refused 33: the run is closed", None, None));
+    let numbers: Vec<u32> = Kind::ALL.iter().map(|kind| kind.number()).collect();
+    assert_eq!(numbers, (1..=14).chain(20..=24).chain(30..=35).chain([42]).collect::<Vec<u32>>());
+    assert!(Kind::ALL.iter().all(|&kind| Kind::of(kind.number()) == kind && kind != Kind::Unknown));
+    assert_eq!((Kind::of(0), Kind::of(99), Kind::Unknown.number()), (Kind::Unknown, Kind::Unknown, 0));
 }
 
 #[test]
@@ -112,10 +188,10 @@ fn lent_memory() {
     let mut record = Record { open: 7, tokens: 1, moves: 2, registers: 3, places: 4 };
     let brought = Record { open: 1, ..record };
     let mut m = Memory { registers: &mut registers, places: &mut places, program: &mut short };
-    assert_eq!(lent::feed(WORDS, &mut record, &mut m, &[0]), refusal(30, 0));
+    assert_eq!(lent::feed(WORDS, &mut record, &mut m, &[0]).map_err(refused), Err((30, 0)));
     assert_eq!((record, m.registers == [7; 10], m.places == [9; 10], m.program == [5; 16383]), (brought, true, true, true));
     m.program = &mut program;
-    assert_eq!(lent::feed(WORDS, &mut record, &mut m, &[0]), refusal(34, 0));
+    assert_eq!(lent::feed(WORDS, &mut record, &mut m, &[0]).map_err(refused), Err((34, 0)));
     assert_eq!((record, m.registers == [7; 10], m.places == [9; 10], m.program[1]), (brought, true, true, 6));
     assert_eq!(lent::open(WORDS, &mut record, &mut m), Ok(0));
     assert_eq!(record, Record { open: 1, tokens: 0, moves: 0, registers: 1, places: 1 });

@@ -1,7 +1,7 @@
 //! A table's refusal in words, at the line it concerns.
-use crate::model::{Condition, Function, Grammar, Item, Occurrence, Production};
+use crate::model::{Condition, Function, Grammar, Item, Occurrence, Production, Symbol};
 use crate::resolve::Places;
-use crate::source::{Fault, Span};
+use crate::source::{Fault, Faults, Span};
 use crate::table::{Field, What};
 use plain::judge::{clash, entered_with, Analysis};
 use segment::Refusal;
@@ -16,13 +16,58 @@ pub struct Judged<'a> {
 
 type Found = (Span, String);
 
+/// A refusal by its number.
+fn numbered(number: u32, (span, words): Found) -> Fault {
+    Fault { span, message: format!("refused {number}: {words}") }
+}
+
 impl Judged<'_> {
-    /// The engine's refusal of the table as a fault of the text.
-    pub fn explain(&self, refusal: Refusal) -> Fault {
-        let what = self.fields.iter().find(|f| f.offset as u64 == refusal.count).map(|f| f.what);
+    /// The engine's refusal of the table as a fault of the text. The engine tells the first that applies; what else is wrong of the same
+    /// kind is told too.
+    pub fn explain(&self, refusal: Refusal) -> Faults {
+        let what = self.fields.iter().find(|f| f.offset as u64 == refusal.count()).map(|f| f.what);
         let field = || (self.place(what.unwrap_or(What::Header)), refusal.reason().into());
-        let (span, words) = self.found(refusal.number, what).unwrap_or_else(field);
-        Fault { span, message: format!("refused {}: {words}", refusal.number) }
+        let found = self.found(refusal.number(), what).unwrap_or_else(field);
+        let first = numbered(refusal.number(), found);
+        let more = match refusal.number() {
+            7..=10 => self.wrong_items(),
+            11 => self.all_useless(),
+            _ => vec![],
+        };
+        Faults::of([vec![first.clone()], more].concat()).unwrap_or_else(|| first.into())
+    }
+
+    /// Every rule and condition that 7 to 10 concern.
+    fn wrong_items(&self) -> Vec<Fault> {
+        let mut all = Vec::new();
+        for (p, production) in self.grammar.productions.iter().enumerate() {
+            for (i, item) in production.items.iter().enumerate() {
+                let sides = self.wrong_side(p, i).map(|found| (7, found));
+                let found = sides.or_else(|| self.wrong_item(p, i, item));
+                all.extend(found.map(|(number, found)| numbered(number, found)));
+            }
+            if self.lacks_rule(p) {
+                all.push(numbered(8, self.missing(p)));
+            }
+        }
+        all
+    }
+
+    fn wrong_item(&self, p: usize, i: usize, item: &Item<Occurrence>) -> Option<(u32, Found)> {
+        match item {
+            Item::Rule(..) if self.is_second(p, i) => Some((8, self.second_rule(p, i))),
+            Item::Rule(target, _) if target.position > 0 => self.reads_too_far(p, i).map(|found| (9, found)),
+            Item::Rule(..) => None,
+            Item::Condition(Condition::Range(_, low, high)) if low > high => self.wrong_condition(p, i).map(|found| (10, found)),
+            Item::Condition(_) => None,
+        }
+    }
+
+    /// Every part that 11 concerns.
+    fn all_useless(&self) -> Vec<Fault> {
+        let useful = self.analysed(|a, _| a.reachable() & a.productive()).unwrap_or(u64::MAX);
+        let parts = (0..self.grammar.parts.len()).filter(|n| useful >> n & 1 == 0);
+        parts.filter_map(|n| self.useless(n)).map(|found| numbered(11, found)).collect()
     }
 
     /// What is wrong and where, for the refusals that a text can meet.
@@ -141,24 +186,40 @@ impl Judged<'_> {
         }
     }
 
-    fn second_rule(&self, p: usize, i: usize) -> Found {
-        let items = &self.production(p).items;
+    /// The first item of a production that sets what this one sets.
+    fn first_rule(&self, p: usize, i: usize) -> usize {
         let set = |item: &Item<Occurrence>| match item {
             Item::Rule(o, _) => Some(*o),
             Item::Condition(_) => None,
         };
+        let items = &self.production(p).items;
         let target = set(&items[i]);
-        let first = items.iter().position(|item| set(item) == target).unwrap_or(i);
-        let line = self.place(What::Item(p, first)).line;
+        items.iter().position(|item| set(item) == target).unwrap_or(i)
+    }
+
+    fn is_second(&self, p: usize, i: usize) -> bool {
+        self.first_rule(p, i) != i
+    }
+
+    fn second_rule(&self, p: usize, i: usize) -> Found {
+        let line = self.place(What::Item(p, self.first_rule(p, i))).line;
         let (o, span) = self.occurrences(p, i)[0];
         (span, format!("a second rule for `{}`; the first is on line {line}", self.label(p, o)))
     }
 
-    fn missing(&self, p: usize) -> Found {
+    /// The outputs of a production that have no rule.
+    fn unset(&self, p: usize) -> Vec<Occurrence> {
         let production = self.production(p);
         let is_set = |o: &Occurrence| production.items.iter().any(|item| matches!(item, Item::Rule(t, _) if t == o));
-        let outputs = self.grammar.outputs(production);
-        let names: Vec<String> = outputs.into_iter().filter(|o| !is_set(o)).map(|o| format!("`{}`", self.label(p, o))).collect();
+        self.grammar.outputs(production).into_iter().filter(|o| !is_set(o)).collect()
+    }
+
+    fn lacks_rule(&self, p: usize) -> bool {
+        !self.unset(p).is_empty()
+    }
+
+    fn missing(&self, p: usize) -> Found {
+        let names: Vec<String> = self.unset(p).into_iter().map(|o| format!("`{}`", self.label(p, o))).collect();
         (self.place(What::Production(p)), format!("no rule for {}", names.join(", ")))
     }
 
@@ -213,9 +274,30 @@ impl Judged<'_> {
             seen |= next;
             at += 1;
         }
-        let names: Vec<String> = ways[at].iter().chain([&n]).map(|&m| format!("`{}`", self.part_name(m))).collect();
-        let way = names.join(" begins with ");
-        Some((self.places.parts[n], format!("{} can reach itself leftmost without reading: {way}", names[0])))
+        let way: Vec<usize> = ways[at].iter().chain([&n]).copied().collect();
+        let names: Vec<String> = way.iter().map(|&m| format!("`{}`", self.part_name(m))).collect();
+        let steps: Vec<usize> = way.windows(2).filter_map(|step| self.begins(step[0], step[1])).collect();
+        let lines: Vec<String> = steps.iter().map(|&p| self.place(What::Production(p)).line.to_string()).collect();
+        let words = format!("{} can reach itself leftmost without reading: {}", names[0], names.join(" begins with "));
+        let place = steps.first().map_or(self.places.parts[n], |&p| self.place(What::Production(p)));
+        let s = if lines.len() == 1 { "" } else { "s" };
+        Some((place, format!("{words} (line{s} {})", lines.join(", "))))
+    }
+
+    /// The first production of a part that begins with another, behind parts that derive nothing.
+    fn begins(&self, from: usize, to: usize) -> Option<usize> {
+        let mut empty = vec![false; self.grammar.parts.len()];
+        let is_empty = |empty: &[bool], s: &Symbol| matches!(s, Symbol::Part(n) if empty[*n]);
+        for _ in 0..empty.len() {
+            for p in &self.grammar.productions {
+                empty[p.left] |= p.right.iter().all(|s| is_empty(&empty, s));
+            }
+        }
+        let leads = |p: &Production| {
+            let before = p.right.iter().take_while(|s| is_empty(&empty, s)).count();
+            p.left == from && p.right.iter().take(before + 1).any(|s| *s == Symbol::Part(to))
+        };
+        self.grammar.productions.iter().position(leads)
     }
 
     fn clash(&self, p: usize) -> Option<Found> {

@@ -39,6 +39,12 @@ impl<O> Function<O> {
     }
 
     /// The same function, each occurrence put into another form.
+    pub fn each<P>(&self, f: &mut impl FnMut(&O) -> P) -> Function<P> {
+        let made = self.map(&mut |o| Ok::<P, std::convert::Infallible>(f(o)));
+        made.unwrap_or_else(|never| match never {})
+    }
+
+    /// The same, where that may fail.
     fn map<P, E>(&self, f: &mut impl FnMut(&O) -> Result<P, E>) -> Result<Function<P>, E> {
         use Function::*;
         Ok(match self {
@@ -52,6 +58,16 @@ impl<O> Function<O> {
             AddC(a, c) => AddC(f(a)?, *c),
             Quot(a, c) => Quot(f(a)?, *c),
         })
+    }
+}
+
+impl<O> Condition<O> {
+    /// The same condition, each occurrence put into another form.
+    pub fn each<P>(&self, f: &mut impl FnMut(&O) -> P) -> Condition<P> {
+        match self {
+            Condition::Range(a, low, high) => Condition::Range(f(a), *low, *high),
+            Condition::AtMost(a, b, c) => Condition::AtMost(f(a), f(b), *c),
+        }
     }
 }
 
@@ -122,6 +138,8 @@ pub struct Grammar {
     pub tokens: Vec<String>,
     pub parts: Vec<Part>,
     pub start: usize,
+    /// The start symbol.
+    pub whole: Symbol,
     pub result: usize,
     pub productions: Vec<Production>,
 }
@@ -131,6 +149,14 @@ impl Grammar {
         match symbol {
             Symbol::Token(t) => &self.tokens[t],
             Symbol::Part(n) => &self.parts[n].name,
+        }
+    }
+
+    /// The name of a symbol's attribute, by its number.
+    pub fn attribute(&self, symbol: Symbol, attribute: usize) -> &str {
+        match symbol {
+            Symbol::Token(_) => "?",
+            Symbol::Part(n) => self.parts[n].attributes().nth(attribute - 1).map_or("?", |a| a),
         }
     }
 
@@ -157,7 +183,7 @@ impl Grammar {
     /// An occurrence as it is written: `n` on the left side, `L.n` on the right, `L2.n` where L stands there several times.
     pub fn label(&self, p: &Production, o: Occurrence) -> String {
         let Symbol::Part(n) = p.symbol(o.position) else { return self.name(p.symbol(o.position)).into() };
-        let attribute = self.parts[n].attributes().nth(o.attribute - 1).map_or("?", |a| a);
+        let attribute = self.attribute(Symbol::Part(n), o.attribute);
         if o.position == 0 {
             return attribute.into();
         }

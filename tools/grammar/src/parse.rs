@@ -2,6 +2,7 @@
 use crate::lex::{too_large, Kind, Lexeme};
 use crate::model::{Condition, Function, Item};
 use crate::source::{fault, Fault, Span};
+use crate::suggest::nearest;
 
 /// A name where it stands.
 #[derive(Clone, Debug)]
@@ -40,6 +41,7 @@ const RESERVED: [&str; 6] = ["token", "part", "start", "nothing", "max", "min"];
 /// The statement of a line that is not empty.
 pub fn statement(line: &[Lexeme]) -> Result<Statement, Fault> {
     let mut c = Cursor { line, at: 0 };
+    c.is_meant()?;
     let found = match &line[0].kind {
         Kind::Name(w) if w == "token" => c.tokens(),
         Kind::Name(w) if w == "part" => c.part(),
@@ -50,7 +52,7 @@ pub fn statement(line: &[Lexeme]) -> Result<Statement, Fault> {
     }?;
     match line.get(c.at) {
         None => Ok(found),
-        Some(l) => fault(l.span, format!("expected the end of the line, found {}", shown(&l.kind))),
+        Some(l) => fault(l.span, format!("expected the end of the line, found {}{}", shown(&l.kind), c.too_much())),
     }
 }
 
@@ -72,6 +74,36 @@ struct Cursor<'a> {
 }
 
 impl Cursor<'_> {
+    /// Turns back lines that look like a statement of another form, and says which form was meant.
+    fn is_meant(&self) -> Result<(), Fault> {
+        let [Lexeme { kind: Kind::Name(first), span }, second, ..] = self.line else { return Ok(()) };
+        let declares = ["token", "part", "start"];
+        let is_name = matches!(second.kind, Kind::Name(_));
+        if is_name && !declares.contains(&first.as_str()) {
+            if let Some(word) = nearest(first, declares) {
+                return fault(*span, format!("`{first}` begins no line; did you mean `{word}`, in small letters?"));
+            }
+        }
+        if second.kind == Kind::Mark("->") && !declares.contains(&first.as_str()) {
+            return fault(second.span, format!("a production is written `{first}: ...`, a declaration `part {first} -> ...`"));
+        }
+        Ok(())
+    }
+
+    /// What to say of something after a statement that was whole.
+    fn too_much(&self) -> &'static str {
+        let before = self.at.checked_sub(1).map(|i| &self.line[i].kind);
+        let number = |kind: Option<&Kind>| matches!(kind, Some(Kind::Number(_)));
+        let after = self.line.get(self.at + 1).map(|l| &l.kind);
+        match self.kind() {
+            Some(Kind::Mark("," | ".")) if number(before) && number(after) => "; numbers are whole and written without marks, as in `1000`",
+            Some(Kind::Mark("+" | "-" | "*" | "/")) if self.line.iter().any(|l| l.kind == Kind::Mark("=")) => {
+                "; a rule has one function: a part that reads nothing can compute the rest"
+            }
+            _ => "",
+        }
+    }
+
     fn kind(&self) -> Option<&Kind> {
         self.line.get(self.at).map(|l| &l.kind)
     }
@@ -212,7 +244,13 @@ impl Cursor<'_> {
         }
         if self.is_number() {
             let c = self.constant()?;
-            return Ok(if self.skip("+") { Function::AddC(self.reference("an attribute")?, c) } else { Function::Const(c) });
+            if !self.skip("+") {
+                return Ok(Function::Const(c));
+            }
+            if self.is_number() {
+                return self.expected("an attribute (the sum of two numbers is written as one)");
+            }
+            return Ok(Function::AddC(self.reference("an attribute")?, c));
         }
         let a = self.reference("an attribute, a number, `max` or `min`")?;
         if self.skip("+") {

@@ -27,13 +27,21 @@ pub fn item(g: &Grammar, p: &Production, item: &Item<crate::model::Occurrence>) 
     let item = item.map(&mut |&o| Ok::<_, std::convert::Infallible>(g.label(p, o)));
     match item.unwrap_or_else(|never| match never {}) {
         Item::Rule(target, f) => format!("{target} = {}", function(&f)),
-        Item::Condition(Condition::Range(a, low, high)) => format!("{low} <= {a} <= {high}"),
-        Item::Condition(Condition::AtMost(a, b, None)) => format!("{a} <= {b}"),
-        Item::Condition(Condition::AtMost(a, b, Some(c))) => format!("{a} <= {}", function(&Function::AddC(b, c))),
+        Item::Condition(c) => condition(&c),
     }
 }
 
-fn function(f: &Function<String>) -> String {
+/// A condition with its operands as they are given.
+pub fn condition(c: &Condition<String>) -> String {
+    match c {
+        Condition::Range(a, low, high) => format!("{low} <= {a} <= {high}"),
+        Condition::AtMost(a, b, None) => format!("{a} <= {b}"),
+        Condition::AtMost(a, b, Some(c)) => format!("{a} <= {}", function(&Function::AddC(b.clone(), *c))),
+    }
+}
+
+/// A function with its operands as they are given.
+pub fn function(f: &Function<String>) -> String {
     match f {
         Function::Const(c) => c.to_string(),
         Function::Copy(a) => a.clone(),

@@ -1,9 +1,10 @@
 //! A text as a grammar: names are looked up, numbers given, and each line's place kept.
-use crate::lex::lexemes;
+use crate::lex::{lexemes, names};
 use crate::model::{Grammar, Item, Occurrence, Part, Production, Symbol};
 use crate::parse::{statement, Reference, Statement, Word};
-use crate::source::{fault, Fault, Span};
-use std::collections::HashMap;
+use crate::source::{fault, Fault, Faults, Span};
+use crate::suggest::{hint, nearest};
+use std::collections::{HashMap, HashSet};
 
 /// Where in the text each part of a grammar stands.
 #[derive(Clone, Debug)]
@@ -29,19 +30,69 @@ pub struct ItemPlace {
     pub item: Item<Span>,
 }
 
-/// The grammar of a text, with the places of its parts.
-pub fn grammar(text: &str) -> Result<(Grammar, Places), Fault> {
+/// The grammar of a text, with the places of its parts; or every fault that can be told from the lines one by one.
+pub fn grammar(text: &str) -> Result<(Grammar, Places), Faults> {
+    let mut told = Told::default();
     let mut lines = Vec::new();
     let mut end = Span { line: 1, column: 1, width: 1 };
     for (i, line) in text.lines().enumerate() {
-        let found = lexemes(line, i + 1)?;
         end = Span { line: i + 1, column: line.chars().count() + 1, width: 1 };
-        if let (Some(first), Some(last)) = (found.first(), found.last()) {
-            lines.push((first.span.to(last.span), statement(&found)?));
+        match read_line(line, i + 1) {
+            Ok(None) => {}
+            Ok(Some((span, statement))) => lines.push(Line::Whole(span, statement)),
+            Err(fault) => {
+                lines.push(Line::Broken { production: begins_production(line) });
+                told.excused.extend(names(line));
+                told.faults.push(fault);
+            }
         }
     }
-    let names = Names::collect(&lines, end)?;
-    names.productions(&lines, end)
+    let names = Names::collect(&lines, end, &mut told);
+    let found = names.productions(&lines, end, &mut told);
+    match Faults::of(told.faults) {
+        None => Ok(found),
+        Some(faults) => Err(faults),
+    }
+}
+
+/// A line of the text: a statement, or something that is none.
+enum Line {
+    Whole(Span, Statement),
+    Broken { production: bool },
+}
+
+fn read_line(line: &str, number: usize) -> Result<Option<(Span, Statement)>, Fault> {
+    let found = lexemes(line, number)?;
+    match (found.first(), found.last()) {
+        (Some(first), Some(last)) => Ok(Some((first.span.to(last.span), statement(&found)?))),
+        _ => Ok(None),
+    }
+}
+
+/// Whether a line that is no statement was to be a production: what follows belongs to it.
+fn begins_production(line: &str) -> bool {
+    let declares = ["token", "part", "start"].iter().any(|word| line.trim_start().starts_with(word));
+    let line = line.split('#').next().unwrap_or("");
+    !declares && (line.contains(": ") || line.trim_end().ends_with(':') || line.contains("->"))
+}
+
+/// The faults found so far, and the names in lines that are no statements: what is said of them may follow from such a line.
+#[derive(Default)]
+struct Told {
+    faults: Vec<Fault>,
+    excused: HashSet<String>,
+}
+
+impl Told {
+    /// Keeps a fault, unless it follows from a line that is told already: then its message is empty.
+    fn keep<T>(&mut self, found: Result<T, Fault>) -> Option<T> {
+        match found {
+            Ok(found) => return Some(found),
+            Err(fault) if fault.message.is_empty() => {}
+            Err(fault) => self.faults.push(fault),
+        }
+        None
+    }
 }
 
 /// What the declarations say.
@@ -50,6 +101,7 @@ struct Names {
     parts: Vec<(Word, Part)>,
     symbols: HashMap<String, Symbol>,
     start: (Span, usize, usize),
+    excused: HashSet<String>,
 }
 
 fn distinct(words: &[Word]) -> Result<(), Fault> {
@@ -82,31 +134,42 @@ fn listed<'a>(names: impl Iterator<Item = &'a String>) -> String {
 }
 
 impl Names {
-    fn collect(lines: &[(Span, Statement)], end: Span) -> Result<Names, Fault> {
-        let mut names = Names { tokens: vec![], parts: vec![], symbols: HashMap::new(), start: (end, 0, 0) };
+    fn collect(lines: &[Line], end: Span, told: &mut Told) -> Names {
+        let excused = told.excused.clone();
+        let mut names = Names { tokens: vec![], parts: vec![], symbols: HashMap::new(), start: (end, 0, 0), excused };
         let mut starts = Vec::new();
-        for (span, line) in lines {
+        for line in lines {
+            let Line::Whole(span, line) = line else { continue };
             match line {
-                Statement::Tokens(words) => names.declare_tokens(words)?,
-                Statement::Part { name, takes, gives } => names.declare_part(name, takes, gives)?,
+                Statement::Tokens(words) => names.declare_tokens(words, told),
+                Statement::Part { name, takes, gives } => {
+                    let found = names.declare_part(name, takes, gives);
+                    told.keep(found);
+                }
                 Statement::Start { part, result } => starts.push((*span, part, result)),
                 _ => {}
             }
         }
+        let start = names.find_start(&starts, end);
+        names.start = told.keep(start).unwrap_or((end, 0, 0));
+        names
+    }
+
+    fn find_start(&self, starts: &[(Span, &Word, &Word)], end: Span) -> Result<(Span, usize, usize), Fault> {
         let Some((span, part, result)) = starts.first() else {
-            return fault(end, "the text has no line `start PART.ATTRIBUTE`");
+            let meant = self.excused.iter().any(|w| w == "start" || nearest(w, ["start"]).is_some());
+            return fault(end, if meant { "" } else { "the text has no line `start PART.ATTRIBUTE`" });
         };
         if let Some((again, _, _)) = starts.get(1) {
             return fault(*again, format!("a second start; the first is on line {}", span.line));
         }
-        let n = names.part_number(part)?;
-        names.start = (*span, n, names.attribute_number(n, result)?);
-        Ok(names)
+        let n = self.part_number(part)?;
+        Ok((*span, n, self.attribute_number(n, result)?))
     }
 
     fn declare(&mut self, name: &Word, symbol: Symbol) -> Result<(), Fault> {
-        if name.text.ends_with(|c: char| c.is_ascii_digit()) {
-            return fault(name.span, format!("`{}` ends in a digit; at the end of a name digits count occurrences", name.text));
+        if matches!(symbol, Symbol::Part(_)) && name.text.ends_with(|c: char| c.is_ascii_digit()) {
+            return fault(name.span, format!("`{}` ends in a digit; at the end of a part's name digits count occurrences", name.text));
         }
         if let Some(&before) = self.symbols.get(&name.text) {
             let line = match before {
@@ -119,19 +182,21 @@ impl Names {
         Ok(())
     }
 
-    fn declare_tokens(&mut self, words: &[Word]) -> Result<(), Fault> {
+    fn declare_tokens(&mut self, words: &[Word], told: &mut Told) {
         for w in words {
-            self.declare(w, Symbol::Token(self.tokens.len()))?;
-            self.tokens.push(w.clone());
+            let found = self.declare(w, Symbol::Token(self.tokens.len()));
+            if told.keep(found).is_some() {
+                self.tokens.push(w.clone());
+            }
         }
-        at_most(&self.tokens, 255, "tokens")
+        told.keep(at_most(&self.tokens, 255, "tokens"));
     }
 
     fn declare_part(&mut self, name: &Word, takes: &[Word], gives: &[Word]) -> Result<(), Fault> {
-        self.declare(name, Symbol::Part(self.parts.len()))?;
         let all: Vec<Word> = takes.iter().chain(gives).cloned().collect();
         distinct(&all)?;
         at_most(&all, 255, "attributes")?;
+        self.declare(name, Symbol::Part(self.parts.len()))?;
         self.parts.push((name.clone(), Part { name: name.text.clone(), takes: texts(takes), gives: texts(gives) }));
         match self.parts.get(128) {
             Some((w, _)) => fault(w.span, "more than 128 parts cannot be written into a table"),
@@ -139,11 +204,20 @@ impl Names {
         }
     }
 
-    fn symbol(&self, w: &Word) -> Result<Symbol, Fault> {
-        match self.symbols.get(&w.text) {
-            Some(&s) => Ok(s),
-            None => fault(w.span, format!("`{}` is not declared as a token or a part", w.text)),
+    /// Words about a name, or none where the name stands in a line that is told already.
+    fn unless_excused(&self, w: &Word, words: String) -> String {
+        if self.excused.contains(&w.text) {
+            return String::new();
         }
+        words
+    }
+
+    fn symbol(&self, w: &Word) -> Result<Symbol, Fault> {
+        if let Some(&s) = self.symbols.get(&w.text) {
+            return Ok(s);
+        }
+        let hint = hint(&w.text, self.symbols.keys().map(String::as_str));
+        fault(w.span, self.unless_excused(w, format!("`{}` is not declared as a token or a part{hint}", w.text)))
     }
 
     fn part_number(&self, w: &Word) -> Result<usize, Fault> {
@@ -158,8 +232,8 @@ impl Names {
         match part.attributes().position(|a| *a == w.text) {
             Some(i) => Ok(i + 1),
             None => {
-                let has = listed(part.attributes());
-                fault(w.span, format!("`{}` has no attribute `{}`; its attributes: {has}", part.name, w.text))
+                let (has, hint) = (listed(part.attributes()), hint(&w.text, part.attributes().map(String::as_str)));
+                fault(w.span, format!("`{}` has no attribute `{}`; its attributes: {has}{hint}", part.name, w.text))
             }
         }
     }
@@ -171,26 +245,43 @@ impl Names {
         }
     }
 
-    /// The position on the right side that a name, or a name and a number, stands for.
+    /// Where a symbol with this name stands on the right side.
+    fn places(&self, p: &Production, name: &str) -> Vec<usize> {
+        (1..=p.right.len()).filter(|&k| self.symbol_name(p.right[k - 1]) == name).collect()
+    }
+
+    /// The position on the right side that a name, or a part's name and a number, stands for.
     fn position(&self, p: &Production, w: &Word) -> Result<usize, Fault> {
-        let places = |name: &str| -> Vec<usize> { (1..=p.right.len()).filter(|&k| self.symbol_name(p.right[k - 1]) == name).collect() };
-        match places(&w.text)[..] {
-            [] => {}
-            [k] => return Ok(k),
-            [..] => return fault(w.span, format!("`{0}` stands several times on the right side: write `{0}1`, `{0}2`", w.text)),
-        }
+        let is_token = matches!(self.symbols.get(&w.text), Some(Symbol::Token(_)));
         let name = w.text.trim_end_matches(|c: char| c.is_ascii_digit());
-        let found = places(name);
+        let (exact, found) = (self.places(p, &w.text), self.places(p, name));
+        match exact[..] {
+            [k] if !is_token => return Ok(k),
+            [_, _, ..] if !is_token => {
+                return fault(w.span, format!("`{0}` stands several times on the right side: write `{0}1`, `{0}2`", w.text))
+            }
+            _ => {}
+        }
         let number = w.text[name.len()..].parse::<usize>().unwrap_or(0);
         if number >= 1 && number <= found.len() {
             return Ok(found[number - 1]);
         }
-        if !found.is_empty() {
-            let times = if found.len() == 1 { "once".into() } else { format!("{} times", found.len()) };
-            return fault(w.span, format!("there is no `{}`: `{name}` stands {times} on the right side", w.text));
+        if let Some(&k) = exact.first() {
+            return Ok(k);
         }
-        let hint = if name == self.symbol_name(Symbol::Part(p.left)) { "; the left side's attributes are written without it" } else { "" };
-        fault(w.span, format!("`{}` does not stand on the right side{hint}", w.text))
+        fault(w.span, self.unless_excused(w, self.not_there(p, w, name, found.len())))
+    }
+
+    /// Why a name does not stand for a symbol on the right side, where `name`, without its number, stands so many times.
+    fn not_there(&self, p: &Production, w: &Word, name: &str, times: usize) -> String {
+        if times > 0 {
+            let times = if times == 1 { "once".into() } else { format!("{times} times") };
+            return format!("there is no `{}`: `{name}` stands {times} on the right side", w.text);
+        }
+        let own = name == self.symbol_name(Symbol::Part(p.left));
+        let hint = hint(name, p.right.iter().map(|&s| self.symbol_name(s)));
+        let hint = if own { "; the left side's attributes are written without it".into() } else { hint };
+        format!("`{}` does not stand on the right side{hint}", w.text)
     }
 
     fn occurrence(&self, p: &Production, r: &Reference) -> Result<Occurrence, Fault> {
@@ -211,26 +302,33 @@ impl Names {
         Ok(Production { left, right, items: vec![] })
     }
 
-    fn productions(self, lines: &[(Span, Statement)], end: Span) -> Result<(Grammar, Places), Fault> {
-        let mut productions: Vec<Production> = Vec::new();
-        let mut places: Vec<ProductionPlace> = Vec::new();
-        for (span, line) in lines {
-            match (line, productions.last_mut(), places.last_mut()) {
-                (Statement::Production { left, right }, ..) => {
-                    productions.push(self.production(left, right)?);
-                    places.push(ProductionPlace { span: *span, items: vec![] });
+    fn productions(self, lines: &[Line], end: Span, told: &mut Told) -> (Grammar, Places) {
+        let mut found: Vec<(Production, ProductionPlace)> = Vec::new();
+        // Whether what comes belongs to the last production, to one that is told already, or to none.
+        let (mut open, mut broken) = (false, false);
+        for line in lines {
+            match line {
+                Line::Broken { production: true } => (open, broken) = (false, true),
+                Line::Whole(span, Statement::Production { left, right }) => {
+                    let production = told.keep(self.production(left, right));
+                    (open, broken) = (production.is_some(), production.is_none());
+                    found.extend(production.map(|p| (p, ProductionPlace { span: *span, items: vec![] })));
                 }
-                (Statement::Item(item), Some(p), Some(place)) => {
-                    let found = item.map(&mut |r| self.occurrence(p, r))?;
-                    p.items.push(found);
-                    let item = item.map(&mut |r| Ok(r.span()))?;
-                    place.items.push(ItemPlace { span: *span, item });
+                Line::Whole(span, Statement::Item(item)) if open => {
+                    if let Some((p, place)) = found.last_mut() {
+                        let found = told.keep(item.map(&mut |r| self.occurrence(p, r)));
+                        p.items.extend(found);
+                        place.items.extend(item.map(&mut |r| Ok::<_, Fault>(r.span())).map(|item| ItemPlace { span: *span, item }));
+                    }
                 }
-                (Statement::Item(_), ..) => return fault(*span, "a rule or condition stands after the production it belongs to"),
+                Line::Whole(span, Statement::Item(_)) if !broken => {
+                    told.keep::<()>(fault(*span, "a rule or condition stands after the production it belongs to"));
+                }
                 _ => {}
             }
         }
-        Ok(self.gathered(productions, places, end))
+        let (productions, places) = found.into_iter().unzip();
+        self.gathered(productions, places, end)
     }
 
     fn gathered(self, productions: Vec<Production>, places: Vec<ProductionPlace>, end: Span) -> (Grammar, Places) {
@@ -244,6 +342,6 @@ impl Names {
         let (_, start, result) = self.start;
         let tokens = texts(&self.tokens);
         let parts = self.parts.into_iter().map(|(_, part)| part).collect();
-        (Grammar { tokens, parts, start, result, productions }, places)
+        (Grammar { tokens, parts, start, whole: Symbol::Part(start), result, productions }, places)
     }
 }

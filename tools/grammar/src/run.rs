@@ -1,107 +1,127 @@
 //! A segment given by names, and its refusal in words.
-use crate::model::{Condition, Grammar, Item, Occurrence, Production, Symbol};
+use crate::model::{Grammar, Item, Occurrence, Symbol};
+use crate::stacks::{conditions, holds, result, right, rules, Place, Stacks, LIMIT, WHOLE};
+use crate::suggest::hint;
 use crate::{print, Built};
 use plain::judge::Analysis;
-use segment::{Engine, Refusal};
+use segment::{Refusal, Run, Table};
 
 /// The numbers of tokens given by name.
-pub fn tokens(g: &Grammar, words: &[&str]) -> Result<Vec<u8>, String> {
-    let number = |(i, word): (usize, &&str)| match g.tokens.iter().position(|t| t == word) {
-        Some(t) => Ok(t as u8),
-        None => Err(format!("token {}, `{word}`, is not in the grammar; its tokens: {}", i + 1, g.tokens.join(" "))),
+pub fn tokens<W: AsRef<str>>(g: &Grammar, words: &[W]) -> Result<Vec<u8>, String> {
+    let number = |(i, word): (usize, &W)| {
+        let word = word.as_ref();
+        match g.tokens.iter().position(|t| t == word) {
+            Some(t) => Ok(t as u8),
+            None => Err(unknown(g, i, word)),
+        }
     };
     words.iter().enumerate().map(number).collect()
 }
 
-/// How a run ended: the value or the refusal, how many tokens were fed (a refused one counts), whether the finish was called, and
-/// the engine as it stands.
+/// What is said of a word that is no token.
+pub fn unknown(g: &Grammar, index: usize, word: &str) -> String {
+    let hint = hint(word, g.tokens.iter().map(String::as_str));
+    let tokens = if hint.is_empty() { format!("; its tokens: {}", g.tokens.join(" ")) } else { hint };
+    format!("token {}, `{word}`, is not in the grammar{tokens}", index + 1)
+}
+
+/// How a run ended: the value or the refusal, how many tokens were fed (a refused one counts), whether the finish was called, and the
+/// stacks as they stand.
 #[derive(Debug)]
 pub struct Outcome {
     pub answer: Result<i64, Refusal>,
+    pub moves: u64,
     fed: usize,
     finished: bool,
-    engine: Engine,
+    registers: Vec<Option<i64>>,
+    places: Vec<u32>,
 }
 
-/// Runs a segment on full stacks, a token at a time.
-pub fn run(table: &[u8], tokens: &[u8]) -> Result<Outcome, Refusal> {
-    let mut engine = Engine::new(table)?;
-    for (i, token) in tokens.iter().enumerate() {
-        if let Err(refusal) = engine.feed(&[*token]) {
-            return Ok(Outcome { answer: Err(refusal), fed: i + 1, finished: false, engine });
-        }
+impl Outcome {
+    fn of(run: &Run, answer: Result<i64, Refusal>, fed: usize, finished: bool) -> Outcome {
+        let (registers, places) = (run.registers().collect(), run.places().to_vec());
+        Outcome { answer, moves: run.moves(), fed, finished, registers, places }
     }
-    Ok(Outcome { answer: engine.finish(), fed: tokens.len(), finished: true, engine })
+}
+
+/// Runs a segment on full stacks.
+pub fn run(table: &Table, tokens: &[u8]) -> Outcome {
+    run_on(&mut table.run(), tokens)
+}
+
+/// Runs a segment on a run's memory. Where it is refused, the tokens read are fed again, to tell whether the refusal came after the last
+/// of them or at the next.
+pub fn run_on(run: &mut Run, tokens: &[u8]) -> Outcome {
+    let fed = run.restart().and_then(|()| run.feed(tokens));
+    let Err(refusal) = fed else {
+        let answer = run.finish();
+        return Outcome::of(run, answer, tokens.len(), true);
+    };
+    let read = run.tokens() as usize;
+    let outcome = Outcome::of(run, Err(refusal), read + 1, false);
+    let again = run.restart().and_then(|()| run.feed(&tokens[..read]));
+    Outcome { fed: if again.is_err() { read } else { read + 1 }, ..outcome }
 }
 
 /// A refusal of a segment in words: number, tokens read, the token's position and name, and what was expected or did not hold.
 pub fn told(built: &Built, tokens: &[u8], outcome: &Outcome, refusal: Refusal) -> String {
-    let read = refusal.count as usize;
+    let read = refusal.count() as usize;
     let name = |i: usize| format!("token {}, `{}`", i + 1, built.grammar.tokens[tokens[i] as usize]);
     let place = match outcome.fed {
         _ if outcome.finished => "at the end".into(),
         fed if fed > read => format!("at {}", name(read)),
-        _ => format!("after {}", name(read - 1)),
+        _ => format!("once {}, was read", name(read - 1)),
     };
     let next = tokens.get(read).copied().filter(|_| outcome.fed > read);
-    let reason = match (refusal.number, Stop::new(built, outcome)) {
+    let reason = reason(built, outcome, refusal, next);
+    let s = if read == 1 { "" } else { "s" };
+    format!("refused {} after {read} token{s}, {place}: {reason}", refusal.number())
+}
+
+/// What was expected or did not hold.
+fn reason(built: &Built, outcome: &Outcome, refusal: Refusal, next: Option<u8>) -> String {
+    let stop = Stop::new(built, outcome);
+    match (refusal.number(), stop) {
         (21, None) => "the segment is already complete".into(),
-        (21 | 22 | 24, Some(stop)) => stop.reason(refusal.number, next),
-        (23, _) => too_large(built, outcome),
+        (21, Some(stop)) => format!("expected {}", stop.expected()),
+        (22, Some(stop)) => stop.not_met(next),
+        (23, Some(stop)) => stop.too_large(),
+        (24, Some(stop)) => format!("the segment is over where it expects {}", stop.expected()),
         (31, _) => "it would need more than 4,096 registers".into(),
         (32, _) => "it would need more than 1,024 places".into(),
         _ => refusal.reason().into(),
-    };
-    format!("refused {} after {read}, {place}: {reason}", refusal.number)
+    }
 }
 
-fn too_large(built: &Built, outcome: &Outcome) -> String {
-    let place = outcome.engine.places().last().copied().unwrap_or_default();
-    let line = built.places.productions.get((place / 256) as usize).map(|p| p.span.line);
-    let rule = line.map_or(String::new(), |line| format!(", by a rule of the production on line {line}"));
-    format!("a value outside -1,000,000,000,000 to 1,000,000,000,000{rule}")
-}
-
-/// Where a run stopped: the production and the position of the symbol that the top place waits at, none for the start symbol.
+/// Where a run stopped: its stacks, and the place on top.
 struct Stop<'a> {
     built: &'a Built,
-    production: Option<(usize, usize)>,
-    awaited: Symbol,
-    registers: Vec<i64>,
-    places: &'a [u32],
+    stacks: Stacks<'a>,
+    top: Place,
 }
 
 impl<'a> Stop<'a> {
+    /// None once the start symbol is left.
     fn new(built: &'a Built, outcome: &'a Outcome) -> Option<Stop<'a>> {
-        let g = &built.grammar;
-        let places = outcome.engine.places();
-        let (production, awaited) = match *places.last()? {
-            32_769.. => return None,
-            32_768 => (None, Symbol::Part(g.start)),
-            place => {
-                let (p, position) = ((place / 256) as usize, (place % 256) as usize + 1);
-                (Some((p, position)), *g.productions[p].right.get(position - 1)?)
-            }
-        };
-        let registers = outcome.engine.registers().map(Option::unwrap_or_default).collect();
-        Some(Stop { built, production, awaited, registers, places })
-    }
-
-    fn reason(&self, number: u32, next: Option<u8>) -> String {
-        match number {
-            21 => format!("expected {}", self.expected()),
-            22 => self.not_met(next),
-            _ => format!("the segment is over where it expects {}", self.expected()),
+        let top = Place::of(*outcome.places.last()?);
+        if top.production == WHOLE && top.passed > 0 {
+            return None;
         }
+        Some(Stop { built, stacks: Stacks::new(&built.grammar, &outcome.registers, &outcome.places), top })
     }
 
-    fn grammar(&self) -> &Grammar {
+    fn grammar(&self) -> &'a Grammar {
         &self.built.grammar
+    }
+
+    /// The symbol that the top place waits at; none where all are passed.
+    fn awaited(&self) -> Option<Symbol> {
+        right(self.grammar(), self.top.production).get(self.top.passed).copied()
     }
 
     /// FIRST-then-FOLLOW of each production.
     fn starts(&self) -> [u64; 128] {
-        let Ok(outline) = plain::table::read(&self.built.table) else { return [0; 128] };
+        let Ok(outline) = plain::table::read(self.built.table.bytes()) else { return [0; 128] };
         let mut analysis = Analysis::new(&outline);
         analysis.find_nullable();
         analysis.starts().starts
@@ -109,13 +129,14 @@ impl<'a> Stop<'a> {
 
     /// The alternatives for the awaited part.
     fn alternatives(&self) -> Vec<usize> {
+        let awaited = self.awaited();
         let all = 0..self.grammar().productions.len();
-        all.filter(|&p| Symbol::Part(self.grammar().productions[p].left) == self.awaited).collect()
+        all.filter(|&p| Some(Symbol::Part(self.grammar().productions[p].left)) == awaited).collect()
     }
 
     fn expected(&self) -> String {
         let tokens = &self.grammar().tokens;
-        if let Symbol::Token(t) = self.awaited {
+        if let Some(Symbol::Token(t)) = self.awaited() {
             return format!("`{}`", tokens[t]);
         }
         let starts = self.starts();
@@ -134,69 +155,60 @@ impl<'a> Stop<'a> {
 
     /// The conditions that do not hold: those of the awaited part once it is done, else the entry conditions of its alternatives.
     fn not_met(&self, next: Option<u8>) -> String {
-        let mut found = Vec::new();
-        match self.production {
-            Some((p, position)) if self.is_done() => self.failing(p, position, &mut found),
-            _ => {
-                let (starts, look) = (self.starts(), next.map_or(63, usize::from));
-                let holds = |p: &usize| starts[*p] >> look & 1 == 1;
-                self.alternatives().into_iter().filter(holds).for_each(|p| self.failing(p, 0, &mut found));
-            }
-        }
+        let depth = self.stacks.places.len();
+        let done = self.top.production != WHOLE && self.is_done();
+        let found = if done {
+            self.failing(self.top.production, self.top.passed + 1, depth - 1)
+        } else {
+            let (starts, look) = (self.starts(), next.map_or(63, usize::from));
+            let may = self.alternatives().into_iter().filter(|&p| starts[p] >> look & 1 == 1);
+            may.flat_map(|p| self.failing(p, 0, depth)).collect()
+        };
         found.join("; ")
     }
 
-    /// How many attributes a symbol takes and gives.
-    fn counts(&self, symbol: Symbol) -> (usize, usize) {
-        match symbol {
-            Symbol::Token(_) => (0, 0),
-            Symbol::Part(n) => (self.grammar().parts[n].takes.len(), self.grammar().parts[n].gives.len()),
-        }
-    }
-
-    /// Whether the awaited part is done, and its inherited registers gone; one that takes nothing has no entry conditions.
+    /// Whether the awaited part is done: what it takes has no registers any more. One that takes nothing has no entry conditions.
     fn is_done(&self) -> bool {
-        let waiting: usize = self.places[1..].iter().map(|place| self.registers_of(*place)).sum();
-        let start = self.counts(Symbol::Part(self.grammar().start)).1;
-        self.registers.len() == start + waiting - self.counts(self.awaited).0
+        let first = Occurrence { position: self.top.passed + 1, attribute: 1 };
+        let takes = self.awaited().is_some_and(|s| crate::stacks::counts(self.grammar(), s).0 > 0);
+        !takes || self.stacks.cell(self.stacks.places.len() - 1, first).is_none()
     }
 
-    /// The registers of a place that waits: synthesized ones of the symbols passed, all of the next one.
-    fn registers_of(&self, place: u32) -> usize {
-        let (p, passed) = ((place / 256) as usize, (place % 256) as usize);
-        let right = &self.grammar().productions[p].right;
-        let (takes, gives) = self.counts(right[passed]);
-        right[..passed].iter().map(|&s| self.counts(s).1).sum::<usize>() + takes + gives
-    }
-
-    /// Puts into words the conditions of a production that belong to a position and are false.
-    fn failing(&self, p: usize, position: usize, found: &mut Vec<String>) {
+    /// `d is 3`, for each occurrence read.
+    fn values(&self, p: usize, item: &Item<Occurrence>, place: usize) -> String {
         let production = &self.grammar().productions[p];
-        for (i, item) in production.items.iter().enumerate() {
-            let Item::Condition(c) = item else { continue };
-            let reads = item.reads();
-            if reads.iter().map(|o| o.position).max() != Some(position) {
-                continue;
-            }
-            let value = |o: &Occurrence| self.value(production, position, *o);
-            let holds = match c {
-                Condition::Range(a, low, high) => (i64::from(*low)..=i64::from(*high)).contains(&value(a)),
-                Condition::AtMost(a, b, c) => value(a) <= value(b) + i64::from(c.unwrap_or(0)),
-            };
-            if !holds {
-                let values: Vec<String> =
-                    reads.iter().map(|o| format!("{} is {}", self.grammar().label(production, **o), value(o))).collect();
-                let line = self.built.places.productions[p].items[i].span.line;
-                let text = print::item(self.grammar(), production, item);
-                found.push(format!("the condition `{text}` on line {line} is false: {}", values.join(", ")));
+        let value = |o: Occurrence| self.stacks.value(place, o).map_or("not known".into(), |v| v.to_string());
+        let all = item.reads().into_iter().map(|o| format!("{} is {}", self.grammar().label(production, *o), value(*o)));
+        all.collect::<Vec<_>>().join(", ")
+    }
+
+    /// The conditions of a production at a place that belong to a position and are false, in words.
+    fn failing(&self, p: usize, position: usize, place: usize) -> Vec<String> {
+        let production = &self.grammar().productions[p];
+        let fails = |c: &_| holds(c, |o| self.stacks.value(place, o)) == Some(false);
+        let false_ones = conditions(production, position).filter(|(_, c)| fails(c));
+        let told = false_ones.map(|(i, _)| {
+            let item = &production.items[i];
+            let (text, line) = (print::item(self.grammar(), production, item), self.built.places.productions[p].items[i].span.line);
+            format!("the condition `{text}` on line {line} is false: {}", self.values(p, item, place))
+        });
+        told.collect()
+    }
+
+    /// The rule whose result leaves the limits of values.
+    fn too_large(&self) -> String {
+        let (p, place) = (self.top.production, self.stacks.places.len() - 1);
+        let words = "a value outside -1,000,000,000,000 to 1,000,000,000,000";
+        let Some(production) = self.grammar().productions.get(p) else { return words.into() };
+        let position = if self.top.passed < production.right.len() { self.top.passed + 1 } else { 0 };
+        for (i, item) in rules(production, position) {
+            let Item::Rule(_, function) = item else { continue };
+            let exact = result(function, |o| self.stacks.value(place, o));
+            if let Some(exact) = exact.filter(|v| v.abs() > LIMIT) {
+                let (text, line) = (print::item(self.grammar(), production, item), self.built.places.productions[p].items[i].span.line);
+                return format!("the rule `{text}` on line {line} gives {exact}, {words}: {}", self.values(p, item, place));
             }
         }
-    }
-
-    /// The value of an input, read from the registers: on top lie those of the part done at position `top`, or at its entry, 0.
-    fn value(&self, p: &Production, top: usize, o: Occurrence) -> i64 {
-        let above: usize = (o.position + 1..=top).map(|k| self.counts(p.symbol(k)).1).sum();
-        let gone = if o.position == 0 { 0 } else { self.counts(p.symbol(o.position)).0 };
-        self.registers[self.registers.len() - (above + o.attribute - gone)]
+        words.into()
     }
 }

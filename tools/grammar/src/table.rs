@@ -111,7 +111,7 @@ pub fn grammar(table: &[u8]) -> Grammar {
     let header = &table[3..7];
     let tokens = (0..header[0]).map(|t| letters(t, b'a')).collect();
     let (start, result) = (header[2] as usize, header[3] as usize);
-    let mut g = Grammar { tokens, parts: vec![], start, result, productions: vec![] };
+    let mut g = Grammar { tokens, parts: vec![], start, whole: Symbol::Part(start), result, productions: vec![] };
     let mut at = 7;
     while at < table.len() {
         let end = at + 3 + u16::from_be_bytes([table[at + 1], table[at + 2]]) as usize;

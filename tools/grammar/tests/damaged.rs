@@ -2,7 +2,7 @@
 mod common;
 use common::shipped;
 use grammar::{run, to_table, to_text, Built};
-use segment::Refusal;
+use segment::Kind;
 use std::collections::BTreeMap;
 
 const NAMES: [&str; 3] = ["words", "clause", "sheet"];
@@ -53,9 +53,9 @@ fn damaged_texts_are_judged_in_words() {
         for _ in 0..2000 {
             let text = damaged(&text, &mut chance);
             let fault = match to_table(&text) {
-                Err(fault) => fault,
+                Err(faults) => faults.first().clone(),
                 Ok(built) => {
-                    assert_eq!(to_table(&to_text(&built.table).expect("accepted")).expect(&text).table, built.table);
+                    assert_eq!(to_table(&to_text(built.table.bytes()).expect("accepted")).expect(&text).table, built.table);
                     continue;
                 }
             };
@@ -63,7 +63,7 @@ fn damaged_texts_are_judged_in_words() {
             assert!((1..=line.chars().count() + 1).contains(&fault.span.column), "{}", fault.show(name, &text));
             if let Some((number, words)) = fault.message.strip_prefix("refused ").and_then(|m| m.split_once(": ")) {
                 let number: u32 = number.parse().expect("a number");
-                assert_ne!(words, Refusal { number, count: 0 }.reason(), "{}", fault.show(name, &text));
+                assert_ne!(words, Kind::of(number).reason(), "{}", fault.show(name, &text));
                 *refusals.entry(number).or_insert(0) += 1;
             }
         }
@@ -78,12 +78,37 @@ fn random_segments_are_told_in_words() {
         let built: Built = to_table(&shipped(name)).expect(name);
         for _ in 0..1000 {
             let tokens: Vec<u8> = (0..chance.below(12)).map(|_| chance.below(built.grammar.tokens.len()) as u8).collect();
-            let outcome = run::run(&built.table, &tokens).expect("opened");
+            let outcome = run::run(&built.table, &tokens);
             if let Err(refusal) = outcome.answer {
                 let told = run::told(&built, &tokens, &outcome, refusal);
-                assert!(told.starts_with(&format!("refused {} after {}, ", refusal.number, refusal.count)), "{told}");
+                assert!(told.starts_with(&format!("refused {} after {} token", refusal.number(), refusal.count())), "{told}");
                 assert!(!told.ends_with(": ") && !told.ends_with(refusal.reason()), "{tokens:?}: {told}");
             }
         }
     }
+}
+
+/// A text that is laid out says the same, and stays as it is when it is laid out again.
+#[test]
+fn layout_keeps_the_grammar() {
+    let mut chance = Chance(3);
+    let (mut laid_out, mut refused) = (0, 0);
+    for name in NAMES {
+        let text = shipped(name);
+        for _ in 0..300 {
+            let text = damaged(&text, &mut chance).replace(" = ", if chance.below(2) == 0 { "=" } else { "   =\t" });
+            let Ok(laid) = grammar::fmt::laid_out(&text) else {
+                refused += 1;
+                continue;
+            };
+            assert_eq!(grammar::fmt::laid_out(&laid).expect("laid out"), laid);
+            match (to_table(&text), to_table(&laid)) {
+                (Ok(a), Ok(b)) => assert_eq!(a.table, b.table, "{text}"),
+                (Err(a), Err(b)) => assert_eq!(a.first().message.split_once(" on line"), b.first().message.split_once(" on line")),
+                (a, b) => panic!("{a:?}\n{b:?}\n{text}"),
+            }
+            laid_out += 1;
+        }
+    }
+    assert!(laid_out > 300 && refused > 20, "{laid_out} laid out, {refused} refused");
 }

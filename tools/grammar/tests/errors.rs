@@ -25,7 +25,22 @@ fn with(line: usize, text: &str) -> String {
 
 /// Line, new text of the line, column of the fault, the start of its message.
 const CASES: &[(usize, &str, usize, &str)] = &[
-    (6, "  L.d = 0 ; 1", 11, "the character `;` has no meaning here"),
+    (6, "  L.d = 0 ; 1", 11, "`;` has no meaning here: a line has one statement"),
+    (6, "  L.d = 0 @ 1", 11, "the character `@` has no meaning here"),
+    (6, "  L.d := 0", 7, "`:=` has no meaning here: a rule is written with `=`"),
+    (6, "  L.d == 0", 7, "`==` has no meaning here: equal is written with `<=`"),
+    (6, "  0 < L.n < 2", 5, "`<` has no meaning here: conditions are written with `<=`"),
+    (6, "  L.n > 0", 7, "`>` has no meaning here: write the smaller side first"),
+    (6, "  L.n >= 0", 7, "`>=` has no meaning here: write the smaller side first"),
+    (6, "  L.d = 1,000", 10, "expected the end of the line, found `,`; numbers are whole and written without marks, as in `1000`"),
+    (6, "  L.d = 1 + 2", 13, "expected an attribute (the sum of two numbers is written as one), found `2`"),
+    (1, "Token word open close", 1, "`Token` begins no line; did you mean `token`, in small letters?"),
+    (1, "tokens word open close", 1, "`tokens` begins no line; did you mean `token`"),
+    (2, "Part S -> n", 1, "`Part` begins no line; did you mean `part`"),
+    (5, "S -> L", 3, "a production is written `S: ...`, a declaration `part S -> ...`"),
+    (5, "S => L", 3, "`=>` has no meaning here: what a part gives is written with `->`, a production with `:`"),
+    (5, "S: opne L", 4, "`opne` is not declared as a token or a part; did you mean `open`?"),
+    (6, "  l.d = 0", 3, "`l` does not stand on the right side; did you mean `L`?"),
     (6, "  L.d = 99999999999999999999", 9, "the number 99999999999999999999 does not fit"),
     (6, "  L.d = 2147483648", 9, "the number 2147483648 does not fit"),
     (6, "  L.d = -2147483649", 9, "the number -2147483649 does not fit"),
@@ -35,7 +50,7 @@ const CASES: &[(usize, &str, usize, &str)] = &[
     (1, "token word, open", 11, "expected the name of a token, found `,`"),
     (1, "token word max", 12, "`max` is a word of the grammar language and cannot be a name"),
     (1, "token word word", 12, "`word` is declared a second time; the first is on line 1"),
-    (1, "token word open2 close", 12, "`open2` ends in a digit"),
+    (2, "part S2 -> n", 6, "`S2` ends in a digit"),
     (2, "part S - n", 8, "expected the end of the line, found `-`"),
     (2, "part S ->", 10, "expected the name of an attribute, but the line ends here"),
     (2, "part S -> n m", 13, "expected the end of the line, found `m`"),
@@ -68,7 +83,7 @@ const CASES: &[(usize, &str, usize, &str)] = &[
     (9, "  L3.d = d + 1", 3, "there is no `L3`: `L` stands 2 times on the right side"),
     (9, "  L0.d = d + 1", 3, "there is no `L0`: `L` stands 2 times on the right side"),
     (9, "  L1.d = open.d", 10, "`open` is a token and has no attributes"),
-    (9, "  L1.d = d + 1 + 1", 16, "expected the end of the line, found `+`"),
+    (9, "  L1.d = d + 1 + 1", 16, "expected the end of the line, found `+`; a rule has one function"),
     (9, "  L1.d = d +", 13, "expected an attribute or a number, but the line ends here"),
     (9, "  L1.d = d * 2", 14, "expected an attribute (a product is of two attributes), found `2`"),
     (9, "  L1.d = 2 * d", 12, "expected the end of the line, found `*`"),
@@ -100,7 +115,8 @@ fn the_small_grammar_is_accepted() {
 fn faults_name_line_and_column() {
     for case in CASES {
         let (line, new, column, message) = *case;
-        let fault = to_table(&with(line, new)).expect_err(new);
+        let faults = to_table(&with(line, new)).expect_err(new);
+        let fault = faults.first();
         assert!(fault.message.starts_with(message), "{new}: {}", fault.message);
         assert_eq!((fault.span.line, fault.span.column), (line_of(case), column), "{new}: {}", fault.message);
     }
@@ -109,7 +125,8 @@ fn faults_name_line_and_column() {
 #[test]
 fn an_empty_text_has_no_start() {
     for text in ["", "\n", "# nothing but a comment"] {
-        let fault = to_table(text).expect_err("no start");
+        let faults = to_table(text).expect_err("no start");
+        let fault = faults.first();
         assert_eq!((fault.span.line, fault.message.as_str()), (1, "the text has no line `start PART.ATTRIBUTE`"), "{text:?}");
     }
 }
@@ -126,7 +143,8 @@ fn what_no_byte_holds_is_a_fault() {
         (with(8, &format!("L: {}", "word ".repeat(256))), 8, "more than 255 symbols"),
     ];
     for (text, line, message) in cases {
-        let fault = to_table(&text).expect_err(message);
+        let faults = to_table(&text).expect_err(message);
+        let fault = faults.first();
         assert!(fault.message.starts_with(message), "{}", fault.message);
         assert_eq!(fault.span.line, line, "{message}");
     }
@@ -142,4 +160,50 @@ fn a_fault_is_shown_under_its_line() {
     let shown = to_table(&text).expect_err("product").show("x.grammar", &text);
     let message = "x.grammar:9:13: expected an attribute (a product is of two attributes), found `2`";
     assert_eq!(shown, format!("{message}\n  \tL1.d = d * 2   # twice\n  \t           ^"));
+}
+
+/// Wide characters take two cells of a terminal, and control characters are not passed on.
+#[test]
+fn carets_stand_under_wide_characters() {
+    let shown = |line: &str| to_table(line).expect_err(line).first().show("x", line);
+    assert_eq!(shown("part \u{6bb5} - n"), "x:1:8: expected the end of the line, found `-`\n  part \u{6bb5} - n\n          ^");
+    assert_eq!(shown("\u{1b}[31m"), "x:1:1: the character `\u{fffd}` has no meaning here\n  \u{fffd}[31m\n  ^");
+}
+
+/// The lines that are told, and nothing that only follows from them.
+#[test]
+fn all_faults_in_one_run() {
+    let text =
+        "tokens word open\npart S -> n\nstrat S.n\nS: L\n  L.d = 0\n  n = L.m\npart L(d) -> n\nL: word L\n  L.d = d * 2\n  n == L.n\n\
+        L: opne L close\n  n = 0\nL -> nothing\n  n = 0\n";
+    let faults = to_table(text).expect_err("faults");
+    let lines: Vec<usize> = faults.all().iter().map(|f| f.span.line).collect();
+    assert_eq!(lines, [1, 3, 6, 9, 10, 11, 13], "{}", faults.show("x", text));
+    let many = format!("token word\n{}", "x\n".repeat(25));
+    let shown = to_table(&many).expect_err("faults").show("x", &many);
+    assert_eq!(shown.matches("x:").count(), 21);
+    assert!(shown.ends_with("\nx: 5 more faults"), "{shown}");
+}
+
+/// What the engine refuses is told for all rules and conditions at once.
+#[test]
+fn all_wrong_items_in_one_run() {
+    let text = "token t\npart S -> n, m\npart A(d) -> a\nstart S.n\nS: A A\n n = A1.a\n n = 1\n A1.d = A2.a\n A2.d = n\n 3 <= A1.a <= 2\n\
+        A: t\n d = 1\n a = 1\n";
+    let faults = to_table(text).expect_err("refused");
+    let found: Vec<(usize, &str)> = faults.all().iter().map(|f| (f.span.line, &f.message[..10])).collect();
+    let numbers = [(5, "refused 8:"), (7, "refused 8:"), (8, "refused 9:"), (9, "refused 7:"), (10, "refused 10"), (12, "refused 7:")];
+    assert_eq!(found, numbers, "{}", faults.show("x", text));
+    let text = "token t\npart S -> n\npart A\npart B\nstart S.n\nS: t\n n = 1\nA: t\n";
+    assert_eq!(to_table(text).expect_err("useless").all().len(), 2);
+}
+
+/// Tokens may end in digits; a part beside them is counted all the same.
+#[test]
+fn tokens_that_end_in_digits() {
+    let text = "token h1 h2 utf8 L1\npart S -> n\npart L -> n\nstart S.n\nS: h1 L utf8 L L1\n n = L1.n + L2.n\nL: h2\n n = 1";
+    assert!(to_table(text).is_ok());
+    let message = |new: &str| to_table(&text.replace("L1.n + L2.n", new)).expect_err(new).first().message.clone();
+    assert_eq!(message("h1.n"), "`h1` is a token and has no attributes");
+    assert_eq!(message("L3.n"), "there is no `L3`: `L` stands 2 times on the right side");
 }

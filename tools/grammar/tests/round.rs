@@ -1,26 +1,8 @@
 //! Table to text to table gives the same bytes.
 mod common;
-use common::shipped;
+use common::{shipped, vectors};
 use grammar::model::Grammar;
 use grammar::{print, resolve, table, to_table, to_text};
-use std::collections::BTreeSet;
-
-fn bytes(hex: &str) -> Option<Vec<u8>> {
-    let digits = hex.as_bytes().chunks(2);
-    digits.map(|d| u8::from_str_radix(std::str::from_utf8(d).ok()?, 16).ok()).collect()
-}
-
-/// The tables of the vectors' commands.
-fn vectors() -> BTreeSet<Vec<u8>> {
-    let root = concat!(env!("CARGO_MANIFEST_DIR"), "/../../vectors");
-    let mut found = BTreeSet::new();
-    for name in ["fixed", "edits", "random"] {
-        let text = std::fs::read_to_string(format!("{root}/{name}.in")).expect(name);
-        let checks = text.lines().filter_map(|line| line.strip_prefix("check "));
-        found.extend(checks.filter_map(bytes));
-    }
-    found
-}
 
 #[test]
 fn accepted_tables_come_back() {
@@ -32,7 +14,7 @@ fn accepted_tables_come_back() {
             continue;
         };
         let built = to_table(&text).unwrap_or_else(|fault| panic!("{}\n{text}", fault.show("text", &text)));
-        assert_eq!(built.table, *old, "{text}");
+        assert_eq!(built.table.bytes(), *old, "{text}");
         assert_eq!(print::text(&built.grammar), text);
         accepted += 1;
     }
@@ -43,7 +25,7 @@ fn accepted_tables_come_back() {
 fn the_plain_engine_agrees() {
     for table in vectors() {
         let plain = plain::check(&table).map(|_| ()).map_err(|r| (r.number, u64::from(r.offset)));
-        assert_eq!(segment::check(&table).map_err(|r| (r.number, r.count)), plain);
+        assert_eq!(segment::check(&table).map_err(|r| (r.number(), r.count())), plain);
     }
 }
 
@@ -52,7 +34,7 @@ fn the_largest_sample_comes_back() {
     let old = plain::samples::chain(47, 33, 512);
     let text = to_text(&old).expect("accepted");
     assert!(text.contains("token z\ntoken aa\ntoken ab\n") && text.contains("part AV(i1, i2, i3, i4) -> s1, s2, s3, s4\n"));
-    assert_eq!(to_table(&text).expect("accepted").table, old);
+    assert_eq!(to_table(&text).expect("accepted").table.bytes(), old);
 }
 
 /// Names, comments and blank lines aside, a printed grammar reads as the grammar it was printed from.
@@ -88,8 +70,8 @@ fn every_function_has_its_bytes_and_text() {
     let head = "token t\npart A(i, j) -> m\npart S -> n\nstart S.n\nS: A\n A.i = 1\n A.j = 2\n n = A.m\nA: t\n m = ";
     for (rule, bytes, again) in RULES {
         let built = to_table(&format!("{head}{rule}")).expect(rule);
-        assert!(built.table.ends_with(&[&[0, 3], bytes].concat()), "{rule}");
-        let text = to_text(&built.table).expect(rule);
+        assert!(built.table.bytes().ends_with(&[&[0, 3], bytes].concat()), "{rule}");
+        let text = to_text(built.table.bytes()).expect(rule);
         assert!(text.ends_with(&format!("\n    s1 = {again}\n")), "{text}");
     }
 }

@@ -2,7 +2,6 @@
 mod common;
 use common::shipped;
 use grammar::{run, to_table, Built};
-use segment::Refusal;
 
 fn read(name: &str) -> Built {
     to_table(&shipped(name)).expect(name)
@@ -11,38 +10,38 @@ fn read(name: &str) -> Built {
 fn told(built: &Built, words: &str) -> String {
     let words: Vec<&str> = words.split_whitespace().collect();
     let tokens = run::tokens(&built.grammar, &words).expect("tokens");
-    let outcome = run::run(&built.table, &tokens).expect("opened");
+    let outcome = run::run(&built.table, &tokens);
     let refusal = outcome.answer.expect_err("a refusal");
     run::told(built, &tokens, &outcome, refusal)
 }
 
 /// Grammar, tokens, the refusal in words.
 const TOLD: &[(&str, &str, &str)] = &[
-    ("words", "word close", "refused 21 after 1, at token 2, `close`: the segment is already complete"),
-    ("words", "open", "refused 24 after 1, at the end: the segment is over where it expects `close`"),
-    ("words", "open open open open", "refused 22 after 3, at token 4, `open`: the condition `0 <= d <= 2` on line 31 is false: d is 3"),
-    ("clause", "", "refused 22 after 0, at the end: the condition `1 <= Level.count <= 9` on line 39 is false: Level.count is 0"),
+    ("words", "word close", "refused 21 after 1 token, at token 2, `close`: the segment is already complete"),
+    ("words", "open", "refused 24 after 1 token, at the end: the segment is over where it expects `close`"),
+    ("words", "open open open open", "refused 22 after 3 tokens, at token 4, `open`: the condition `0 <= d <= 2` on line 31 is false: d is 3"),
+    ("clause", "", "refused 22 after 0 tokens, at the end: the condition `1 <= Level.count <= 9` on line 39 is false: Level.count is 0"),
     (
         "clause",
         "one sub two",
-        "refused 22 after 3, after token 3, `two`: the condition `Number.n <= next` on line 44 is false: Number.n is 2, next is 1",
+        "refused 22 after 3 tokens, once token 3, `two`, was read: the condition `Number.n <= next` on line 44 is false: Number.n is 2, next is 1",
     ),
     (
         "clause",
         "one excludes excludes two",
-        "refused 22 after 3, at token 4, `two`: the condition `-20 <= Inner.score <= 60` on line 48 is false: Inner.score is -30",
+        "refused 22 after 3 tokens, at token 4, `two`: the condition `-20 <= Inner.score <= 60` on line 48 is false: Inner.score is -30",
     ),
-    ("clause", "sub", "refused 21 after 0, at token 1, `sub`: expected `one`, `two`, `three`, `four`, `five`, `six`, `seven`, `eight`, `nine` or the end"),
-    ("sheet", "limit one by one gram one", "refused 21 after 5, at token 6, `one`: expected `item` or `total`"),
+    ("clause", "sub", "refused 21 after 0 tokens, at token 1, `sub`: expected `one`, `two`, `three`, `four`, `five`, `six`, `seven`, `eight`, `nine` or the end"),
+    ("sheet", "limit one by one gram one", "refused 21 after 5 tokens, at token 6, `one`: expected `item` or `total`"),
     (
         "sheet",
         "limit one zero kilogram item five pound total two gram",
-        "refused 22 after 10, after token 10, `gram`: the condition `Items.grams <= Weight2.grams` on line 38 is false: Items.grams is 2268, Weight2.grams is 2",
+        "refused 22 after 10 tokens, once token 10, `gram`, was read: the condition `Items.grams <= Weight2.grams` on line 38 is false: Items.grams is 2268, Weight2.grams is 2",
     ),
     (
         "sheet",
         "limit nine nine nine nine nine nine nine nine nine nine nine nine nine",
-        "refused 23 after 13, at token 14, `nine`: a value outside -1,000,000,000,000 to 1,000,000,000,000, by a rule of the production on line 117",
+        "refused 23 after 13 tokens, at token 14, `nine`: the rule `product = a * b` on line 118 gives 9999999999990, a value outside -1,000,000,000,000 to 1,000,000,000,000: a is 999999999999, b is 10",
     ),
 ];
 
@@ -58,16 +57,19 @@ fn refusals_of_segments_in_words() {
 fn unknown_tokens_are_named() {
     let built = read("words");
     let told = run::tokens(&built.grammar, &["word", "wrod"]);
-    assert_eq!(told, Err("token 2, `wrod`, is not in the grammar; its tokens: word open close".into()));
+    assert_eq!(told, Err("token 2, `wrod`, is not in the grammar; did you mean `word`?".into()));
 }
 
 /// The 1,024 places hold the whole segment, S, and an L for each word and for the end.
 #[test]
 fn deep_segments_meet_the_places() {
     let built = read("words");
-    let answer = |n: usize| run::run(&built.table, &vec![0; n]).expect("opened").answer;
-    assert_eq!((answer(1021), answer(1022)), (Ok(1021), Err(Refusal { number: 32, count: 1022 })));
-    assert_eq!(told(&built, &"word ".repeat(1023)), "refused 32 after 1022, at token 1023, `word`: it would need more than 1,024 places");
+    let answer = |n: usize| run::run(&built.table, &vec![0; n]).answer.map_err(|r| (r.number(), r.count()));
+    assert_eq!((answer(1021), answer(1022)), (Ok(1021), Err((32, 1022))));
+    assert_eq!(
+        told(&built, &"word ".repeat(1023)),
+        "refused 32 after 1022 tokens, at token 1023, `word`: it would need more than 1,024 places"
+    );
 }
 
 /// Two alternatives hold the end; each has an entry condition that is false.
@@ -78,6 +80,19 @@ fn entry_conditions_at_the_end() {
     let built = to_table(text).expect("accepted");
     let condition = |text: &str, line: u32| format!("the condition `{text}` on line {line} is false: d is 7");
     let (first, second) = (condition("0 <= d <= 1", 10), condition("2 <= d <= 3", 13));
-    assert_eq!(told(&built, "u"), format!("refused 22 after 1, at the end: {first}; {second}"));
-    assert_eq!(told(&built, "u t"), format!("refused 22 after 1, at token 2, `t`: {second}"));
+    assert_eq!(told(&built, "u"), format!("refused 22 after 1 token, at the end: {first}; {second}"));
+    assert_eq!(told(&built, "u t"), format!("refused 22 after 1 token, at token 2, `t`: {second}"));
+}
+
+/// The way of writing "strictly less" that docs/GRAMMARS.md tells.
+#[test]
+fn strictly_less() {
+    let text = "token one two three\npart S -> n\npart A -> a\npart Less(n) -> m\nstart S.n\n\
+        S: A A Less\n Less.n = A2.a\n n = A2.a\n A1.a <= Less.m\n\
+        A: one\n a = 1\nA: two\n a = 2\nA: three\n a = 3\nLess: nothing\n m = n - 1\n";
+    let built = to_table(text).expect("accepted");
+    for (a, b) in (0..3).flat_map(|a| (0..3).map(move |b| (a, b))) {
+        let answer = run::run(&built.table, &[a, b]).answer.map_err(|r| r.number());
+        assert_eq!(answer, if a < b { Ok(i64::from(b) + 1) } else { Err(22) }, "{a} {b}");
+    }
 }

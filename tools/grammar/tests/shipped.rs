@@ -1,7 +1,7 @@
 //! The grammars that ship: accepted, and the examples in their comments answered as they say.
 mod common;
 use common::shipped;
-use grammar::{run, to_table, Built};
+use grammar::{examples, to_table, Built};
 
 fn read(name: &str) -> (String, Built) {
     let text = shipped(name);
@@ -9,33 +9,12 @@ fn read(name: &str) -> (String, Built) {
     (text, built)
 }
 
-/// The examples of a grammar's header: tokens and the answer.
-fn examples(text: &str) -> Vec<(Vec<&str>, &str)> {
-    let lines = text.lines().filter_map(|line| line.strip_prefix("#   "));
-    lines
-        .map(|line| {
-            let (tokens, answer) = line.split_once("  ").expect(line);
-            let tokens = if tokens == "(no tokens)" { vec![] } else { tokens.split(' ').collect() };
-            (tokens, answer.trim())
-        })
-        .collect()
-}
-
-fn answer(built: &Built, words: &[&str]) -> String {
-    let tokens = run::tokens(&built.grammar, words).expect("tokens");
-    match run::run(&built.table, &tokens).expect("opened").answer {
-        Ok(value) => format!("gives {value}"),
-        Err(refusal) => format!("refused {} after {}", refusal.number, refusal.count),
-    }
-}
-
 fn run_examples(name: &str, count: usize) {
     let (text, built) = read(name);
-    let examples = examples(&text);
-    assert_eq!(examples.len(), count, "{name}");
-    for (words, expected) in examples {
-        assert_eq!(answer(&built, &words), expected, "{name}: {words:?}");
-    }
+    let found = examples::find(&text);
+    assert_eq!(found.len(), count, "{name}");
+    let wrong: Vec<String> = found.iter().filter_map(|example| examples::wrong(&built, example)).collect();
+    assert_eq!(wrong, Vec::<String>::new(), "{name}");
 }
 
 #[test]
@@ -61,9 +40,9 @@ fn depth_and_allowance() {
 #[test]
 fn words_is_the_table_of_the_specification() {
     let (_, built) = read("words");
-    assert_eq!(built.table.len(), 136);
-    assert_eq!(built.table, plain::samples::words());
-    assert_eq!(built.table, include_bytes!("../../../grammars/words.table"));
+    assert_eq!(built.table.bytes().len(), 136);
+    assert_eq!(built.table.bytes(), plain::samples::words());
+    assert_eq!(built.table.bytes(), include_bytes!("../../../grammars/words.table"));
 }
 
 #[test]
@@ -79,10 +58,10 @@ fn the_classroom_runs_the_grammars_it_shows() {
     let root = concat!(env!("CARGO_MANIFEST_DIR"), "/../..");
     let page = std::fs::read_to_string(format!("{root}/docs/CLASSROOM.md")).expect("the page");
     let commands = std::fs::read_to_string(format!("{root}/vectors/classroom.in")).expect("the commands");
-    let mut tables = vec![read("words").1.table];
+    let mut tables = vec![read("words").1.table.bytes().to_vec()];
     for rest in page.split("```grammar\n").skip(1) {
         let (text, _) = rest.split_once("```").expect("the end of a grammar");
-        tables.push(to_table(text).unwrap_or_else(|fault| panic!("{}", fault.show("docs/CLASSROOM.md", text))).table);
+        tables.push(to_table(text).unwrap_or_else(|fault| panic!("{}", fault.show("docs/CLASSROOM.md", text))).table.bytes().to_vec());
     }
     assert_eq!(tables.len(), 4);
     for table in tables {

@@ -13,9 +13,9 @@ fn the_page_says_what_happens() {
     for line in block.lines() {
         let [words, answer, standing, cells] = line.split(" | ").collect::<Vec<_>>()[..] else { panic!("{line}") };
         let tokens = run::tokens(&clause.grammar, &words.split(' ').collect::<Vec<_>>()).unwrap();
-        let finished = run::run(&clause.table, &tokens).expect("opened").answer;
+        let finished = run::run(&clause.table, &tokens).answer;
         let found = window.bring(finished).unwrap();
-        let told = finished.map_or_else(|refusal| format!("refused {}", refusal.number), |value| format!("value {value}"));
+        let told = finished.map_or_else(|refusal| format!("refused {}", refusal.number()), |value| format!("value {value}"));
         let shown: Vec<String> = window.cells().iter().map(i64::to_string).collect();
         assert_eq!((told.as_str(), format!("{} {}", found.total, found.largest.unwrap()).as_str()), (answer, standing), "{line}");
         assert_eq!(shown.join(" "), cells, "{line}");

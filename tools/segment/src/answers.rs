@@ -32,7 +32,7 @@ impl Display for Answer {
             Answer::Opened => write!(f, "opened"),
             Answer::More(moves) => write!(f, "more {moves}"),
             Answer::Value(value, moves) => write!(f, "value {value} {moves}"),
-            Answer::Refused(refusal) => write!(f, "refused {} {}", refusal.number, refusal.count),
+            Answer::Refused(refusal) => write!(f, "refused {} {}", refusal.number(), refusal.count()),
         }
     }
 }

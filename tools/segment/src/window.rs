@@ -16,7 +16,7 @@ fn show(session: &Session, answer: Result<Standing, Refusal>, out: &mut dyn Writ
     match answer {
         Ok(Standing { total, largest: Some(largest) }) => write!(out, "window {total} {largest}")?,
         Ok(Standing { total, largest: None }) => write!(out, "window {total} none")?,
-        Err(refusal) => write!(out, "refused {} {}", refusal.number, refusal.count)?,
+        Err(refusal) => write!(out, "refused {} {}", refusal.number(), refusal.count())?,
     }
     Ok(writeln!(out, " | {}", Cells(&session.window))?)
 }
@@ -36,7 +36,7 @@ fn wvalue(session: &mut Session, words: Words, out: &mut dyn Write) -> Result<()
     let [value] = words.registers(1)?[..] else {
         return Err(words.bad(1, "bad number").into());
     };
-    let answer = window::bring(Ok((value, 0)), &mut session.window);
+    let answer = window::value(0, value, 0, &mut session.window);
     show(session, answer, out)
 }
 
@@ -47,7 +47,7 @@ fn wrefused(session: &mut Session, words: Words, out: &mut dyn Write) -> Result<
     if number == 0 {
         return Err(words.bad(1, "bad number").into());
     }
-    let answer = window::bring(Err(Refusal { number, count: 0 }), &mut session.window);
+    let answer = window::value(number, 0, 0, &mut session.window);
     show(session, answer, out)
 }
 

@@ -1,7 +1,6 @@
 //! The lines around the stacks: what comes next, the moves, and how the run ends.
 use super::grammar::{Grammar, WHOLE};
-use super::meanings::meaning;
-use super::steps::{Input, Kind, Move, Run, State};
+use engine::steps::{Input, Kind, Move, Run, State};
 use engine::Refusal;
 use std::io::{self, Write};
 
@@ -79,12 +78,12 @@ pub fn value(out: &mut dyn Write, value: i64, state: &State) -> io::Result<()> {
 pub fn refused(out: &mut dyn Write, number: u32, state: &State, tokens: &[u8], index: usize) -> io::Result<()> {
     let (read, made) = (counted(state.record.tokens, "token"), counted(state.record.moves, "move"));
     writeln!(out, "refused {number} after {read} and {made}, at {}", next(tokens, index))?;
-    writeln!(out, "        {}", meaning(number))
+    writeln!(out, "        {}", engine::Kind::of(number).reason())
 }
 
 /// The table is refused, with the offset of its field, or the lent memory is.
 pub fn not_opened(out: &mut dyn Write, refusal: Refusal) -> io::Result<()> {
-    let at = refusal.offset().map_or("the opening".into(), |offset| format!("offset {offset}"));
-    writeln!(out, "refused {} at {at}", refusal.number)?;
-    writeln!(out, "        {}", meaning(refusal.number))
+    let at = refusal.offset().map_or("the opening".into(), |offset| format!("byte {offset}"));
+    writeln!(out, "refused {} at {at}", refusal.number())?;
+    writeln!(out, "        {}", refusal.reason())
 }

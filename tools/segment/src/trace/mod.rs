@@ -1,16 +1,14 @@
 //! The command `trace`: the run of a segment, move by move; docs/TRACE.md.
 mod grammar;
 mod lines;
-mod meanings;
 mod stacks;
-mod steps;
 
 use crate::session::{Command, Session};
 use crate::words::{Fault, Words, CELLS};
 use engine::lent::{PLACES, REGISTERS};
+use engine::steps::{Input, Run, Step};
 use grammar::Grammar;
 use std::io::{self, Write};
-use steps::{Input, Run, Step};
 
 pub const COMMANDS: &[(&str, Command)] = &[("trace", trace)];
 

@@ -1,7 +1,7 @@
 //! The stacks of a run as text: each register with the occurrence that it belongs to.
 use super::grammar::{Grammar, WHOLE};
-use super::steps::State;
 use engine::lent::MARK;
+use engine::steps::State;
 use std::io::{self, Write};
 use std::ops::Range;
 

@@ -3,15 +3,15 @@
 //! 01: "35 a token after 65,535, or a move after 4,294,967,295". A call that is brought a record with so many moves that m are left
 //! makes its first m moves and then refuses with 35, "earlier ones stand": its stacks are those after m moves. So the call for a token,
 //! or for the end, is made with one move left, then from the same beginning with two left, and so on.
-use engine::lent::{self, Memory, Record, MARK, PROGRAM};
-use engine::Refusal;
-
-/// 01's limit of moves.
-const MOVES: u64 = 4_294_967_295;
+use crate::lent::{self, Memory, Record, MARK, PROGRAM};
+use crate::{Refusal, MOVES};
+use alloc::vec;
+use alloc::vec::Vec;
 
 /// A record and its stacks.
 #[derive(Clone)]
 pub struct State {
+    /// The record; its moves are all those since the opening.
     pub record: Record,
     registers: Vec<i64>,
     places: Vec<u32>,
@@ -19,50 +19,69 @@ pub struct State {
 
 impl State {
     /// The registers in use, from the bottom.
+    #[must_use]
     pub fn registers(&self) -> &[i64] {
         &self.registers[..self.record.registers as usize]
     }
 
     /// The places in use, from the bottom.
+    #[must_use]
     pub fn places(&self) -> &[u32] {
         &self.places[..self.record.places as usize]
     }
 
     /// The top place.
+    #[must_use]
     pub fn top(&self) -> u32 {
         self.places().last().copied().unwrap_or(0)
     }
 }
 
 /// What is brought to a call.
-#[derive(Clone, Copy)]
+#[derive(Clone, Copy, Debug, PartialEq, Eq)]
 pub enum Input {
+    /// A token.
     Token(u8),
+    /// The end of the segment.
     End,
 }
 
+/// The kinds of moves.
 #[derive(Clone, Copy, Debug, PartialEq, Eq)]
 pub enum Kind {
+    /// A production is chosen; its place is pushed.
     Predict,
+    /// The registers of the symbol at hand are added.
     Add,
+    /// The rules of a position are evaluated.
     Evaluate,
+    /// A token is read.
     Read,
+    /// The conditions of a position are tested, and hold.
     Test,
+    /// A production is done; its place and registers are removed.
     Remove,
 }
 
 /// A move: what it was, and the top place before it.
-#[derive(Debug, PartialEq, Eq)]
+#[derive(Clone, Copy, Debug, PartialEq, Eq)]
 pub struct Move {
+    /// What was done.
     pub kind: Kind,
+    /// The top place before the move.
     pub place: u32,
 }
 
 /// What a step comes to: another move, or how the call ends.
+#[derive(Clone, Copy, Debug, PartialEq, Eq)]
 pub enum Step {
+    /// A move was made.
     Moved(Move),
+    /// The token was read, and no move is left.
     More,
+    /// The segment's value.
     Value(i64),
+    /// The call is refused, with this number.
     Refused(u32),
 }
 
@@ -70,6 +89,7 @@ pub enum Step {
 pub struct Run<'a> {
     table: &'a [u8],
     program: Vec<u32>,
+    /// What is brought.
     pub input: Input,
     /// A state that calls can start from, and the moves made since.
     start: State,
@@ -79,6 +99,10 @@ pub struct Run<'a> {
 }
 
 impl Run<'_> {
+    /// Opens a run with room for so many registers and places.
+    ///
+    /// # Errors
+    /// 1 to 13: the table is refused. 31, 32: an opening needs more room.
     pub fn open(table: &[u8], registers: usize, places: usize) -> Result<Run<'_>, Refusal> {
         let start = State { record: Record::default(), registers: vec![MARK; registers], places: vec![0; places] };
         let mut run = Run { table, program: vec![0; PROGRAM], input: Input::End, start: start.clone(), made: 0, now: start };
@@ -123,7 +147,7 @@ impl Run<'_> {
         let answer = self.call(&mut next);
         let made = next.record.moves - brought;
         next.record.moves = before + made;
-        let last = std::mem::replace(&mut self.now, next);
+        let last = core::mem::replace(&mut self.now, next);
         if made < wanted {
             return answer;
         }
@@ -156,7 +180,7 @@ impl Run<'_> {
 }
 
 fn refused(refusal: Refusal) -> Step {
-    Step::Refused(refusal.number)
+    Step::Refused(refusal.number())
 }
 
 fn feed(table: &[u8], state: &mut State, program: &mut [u32], tokens: &[u8]) -> Result<u64, Refusal> {

@@ -1,0 +1,93 @@
+/* The functions over a segment_run, at their edges, and a window. */
+#include "segment.h"
+
+#include <stdio.h>
+#include <string.h>
+
+static const uint8_t words[] = {
+#include "words.inc"
+};
+static segment_room room;
+static segment_run run;
+static int failed;
+
+static void must(int line, int right) {
+    if (!right) {
+        failed = 1;
+        printf("hosts/c/test.c:%d\n", line);
+    }
+}
+#define MUST(right) must(__LINE__, (right))
+
+static int is(segment_answer a, uint32_t number, uint64_t count) { return a.number == number && a.count == count; }
+
+static void nothing_lent(void) {
+    segment_memory none;
+    memset(&none, 0, sizeof none);
+    MUST(is(segment_run_check(NULL, 0), SEGMENT_TAG_OUT_OF_ORDER, 0));
+    MUST(is(segment_run_check(words, sizeof words), SEGMENT_OK, 0));
+    MUST(is(segment_run_open(&run, words, sizeof words, none), SEGMENT_PROGRAM_SHORT, 0));
+    none.program = room.program;
+    none.program_length = SEGMENT_PROGRAM;
+    MUST(is(segment_run_open(&run, words, sizeof words, none), SEGMENT_NEEDS_REGISTERS, 0));
+    MUST(is(segment_run_feed(&run, NULL, 0), SEGMENT_RUN_CLOSED, 0));
+    MUST(is(segment_run_open(&run, NULL, 0, segment_memory_of(&room)), SEGMENT_TAG_OUT_OF_ORDER, 0));
+}
+
+static void a_run(void) {
+    static const uint8_t tokens[] = {0, 1, 0, 2};
+    segment_answer a;
+    MUST(is(segment_run_open(&run, words, sizeof words, segment_memory_of(&room)), SEGMENT_OK, 0));
+    MUST(is(segment_run_feed(&run, tokens, 2), SEGMENT_OK, 11));
+    MUST(is(segment_run_feed(&run, NULL, 0), SEGMENT_OK, 11));
+    MUST(segment_register(&run, 1) == 1 && segment_register(&run, 2) == SEGMENT_MARK && segment_register(&run, 3) == 0);
+    MUST(segment_register(&run, 0) == SEGMENT_MARK && segment_register(&run, 8) == SEGMENT_MARK);
+    MUST(is(segment_run_feed(&run, tokens + 2, 2), SEGMENT_OK, 23));
+    a = segment_run_finish(&run);
+    MUST(is(a, SEGMENT_OK, 32) && a.value == 2);
+    MUST(is(segment_run_finish(&run), SEGMENT_RUN_CLOSED, 0));
+}
+
+static void budgets(void) {
+    static const uint8_t tokens[] = {0, 1, 0, 2};
+    uint64_t budget;
+    for (budget = 0; budget < 40; budget++) {
+        segment_answer a = segment_run_open_with_budget(&run, words, sizeof words, segment_memory_of(&room), budget);
+        MUST(is(a, SEGMENT_OK, 0) && segment_moves(&run) == 0);
+        a = segment_run_feed(&run, tokens, sizeof tokens);
+        if (a.number == SEGMENT_OK) {
+            a = segment_run_finish(&run);
+        }
+        MUST(budget < 32 ? a.number == SEGMENT_TOO_MUCH && segment_moves(&run) == budget : is(a, SEGMENT_OK, 32) && a.value == 2);
+    }
+    MUST(is(segment_run_open_with_budget(&run, words, sizeof words, segment_memory_of(&room), UINT64_MAX), SEGMENT_OK, 0));
+    MUST(is(segment_run_feed(&run, tokens, 2), SEGMENT_OK, 11));
+}
+
+static void windows(void) {
+    int64_t cells[SEGMENT_WINDOW_CELLS(3)];
+    int64_t total, largest;
+    uint32_t number, has_largest;
+    segment_window_open(3, cells, SEGMENT_WINDOW_CELLS(3) - 1, &number, &total, &largest, &has_largest);
+    MUST(number == SEGMENT_WINDOW_UNFIT);
+    segment_window_open(3, cells, SEGMENT_WINDOW_CELLS(3), &number, &total, &largest, &has_largest);
+    MUST(number == SEGMENT_OK && total == 0 && has_largest == 0);
+    segment_window_value(SEGMENT_OK, 5, 32, cells, SEGMENT_WINDOW_CELLS(3), &number, &total, &largest, &has_largest);
+    segment_window_value(SEGMENT_OK, -2, 32, cells, SEGMENT_WINDOW_CELLS(3), &number, &total, &largest, &has_largest);
+    segment_window_value(SEGMENT_SEGMENT_OVER, 0, 3, cells, SEGMENT_WINDOW_CELLS(3), &number, &total, &largest, &has_largest);
+    MUST(number == SEGMENT_OK && total == 3 && has_largest == 1 && largest == 5);
+}
+
+int main(void) {
+    uint32_t number;
+    nothing_lent();
+    a_run();
+    budgets();
+    windows();
+    for (number = 0; number <= 43; number++) {
+        MUST(segment_reason(number)[0] != 0);
+    }
+    MUST(strcmp(segment_reason(15), segment_reason(99)) == 0 && strcmp(segment_reason(14), segment_reason(15)) != 0);
+    MUST(segment_sum(words, sizeof words) == UINT64_C(0xd30e9953d2057f43) && strcmp(SEGMENT_VERSION, "0.2.0") == 0);
+    return failed;
+}

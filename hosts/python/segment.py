@@ -1,0 +1,368 @@
+"""The segment engine for Python programs, by ctypes and without dependencies.
+
+The engine is a static archive, libhost.a; a shared object is made of it once (hosts/README.md):
+
+    gcc -shared -o libsegment.so -Wl,--whole-archive libhost.a
+
+and found as SEGMENT_LIBRARY, or beside this file.
+
+    import segment
+    table = segment.Table(open("words.table", "rb").read())
+    run = table.run()
+    run.feed([0, 1])
+    run.feed([0, 2])
+    print(run.finish())
+"""
+
+import ctypes
+import enum
+import json
+import os
+
+VERSION = "0.2.0"
+REGISTERS = 4096
+PLACES = 1024
+PROGRAM = 16384
+LINE = 64
+WINDOW = 64
+MARK = -(2**63)
+MOVES = 4_294_967_295
+
+
+class Kind(enum.IntEnum):
+    """What a refusal is about, one name for each number."""
+
+    TABLE_TOO_LONG = 1
+    FIELD_CUT_SHORT = 2
+    TAG_OUT_OF_ORDER = 3
+    OUTSIDE_LIMITS = 4
+    UNKNOWN_NAME = 5
+    WRONG_START = 6
+    WRONG_SIDE = 7
+    NOT_ONE_RULE = 8
+    READS_TOO_FAR = 9
+    WRONG_CONDITION = 10
+    USELESS = 11
+    LEFT_RECURSION = 12
+    CLASH = 13
+    NO_PRODUCTION = 14
+    UNKNOWN_TOKEN = 20
+    UNEXPECTED_TOKEN = 21
+    CONDITION_FALSE = 22
+    VALUE_OUTSIDE = 23
+    SEGMENT_OVER = 24
+    PROGRAM_SHORT = 30
+    NEEDS_REGISTERS = 31
+    NEEDS_PLACES = 32
+    RUN_CLOSED = 33
+    STACKS_UNFIT = 34
+    TOO_MUCH = 35
+    WINDOW_UNFIT = 42
+
+
+REASONS = {
+    Kind.TABLE_TOO_LONG: "the table is too long",
+    Kind.FIELD_CUT_SHORT: "a field is cut short",
+    Kind.TAG_OUT_OF_ORDER: "a tag is out of order, or the table is over too early",
+    Kind.OUTSIDE_LIMITS: "a length, count or constant is outside its limits",
+    Kind.UNKNOWN_NAME: "a symbol, attribute, occurrence, function or kind is unknown",
+    Kind.WRONG_START: "the start symbol has inherited attributes or lacks the result attribute",
+    Kind.WRONG_SIDE: "a rule sets an input, or something reads an output",
+    Kind.NOT_ONE_RULE: "an output has a second rule, or none",
+    Kind.READS_TOO_FAR: "a rule for an inherited attribute reads its own position or above",
+    Kind.WRONG_CONDITION: "low is above high",
+    Kind.USELESS: "a nonterminal is unreachable or derives no token string",
+    Kind.LEFT_RECURSION: "a nonterminal can reach itself leftmost without reading",
+    Kind.CLASH: "a production clashes with an earlier one",
+    Kind.NO_PRODUCTION: "there is no such production",
+    Kind.UNKNOWN_TOKEN: "the token is not below the number of terminals",
+    Kind.UNEXPECTED_TOKEN: "the token is not the expected one, is in no alternative's set, or follows a start symbol already left",
+    Kind.CONDITION_FALSE: "a condition is false, or no alternative has its entry conditions met",
+    Kind.VALUE_OUTSIDE: "a value is outside -1,000,000,000,000 to 1,000,000,000,000",
+    Kind.SEGMENT_OVER: "the segment is over where a token is expected or no alternative's set holds the end",
+    Kind.PROGRAM_SHORT: "the program area is short",
+    Kind.NEEDS_REGISTERS: "the run needs more registers than were lent; at most 4,096 count",
+    Kind.NEEDS_PLACES: "the run needs more places than were lent; at most 1,024 count",
+    Kind.RUN_CLOSED: "the run is closed",
+    Kind.STACKS_UNFIT: "the stacks do not fit",
+    Kind.TOO_MUCH: "a token after 65,535, or a move after 4,294,967,295 or after the budget",
+    Kind.WINDOW_UNFIT: "the window's size, buffer or value does not fit",
+}
+
+
+class Refusal(Exception):
+    """Why a call was turned back: a number, and what it comes with."""
+
+    def __init__(self, number, count):
+        self.number = number
+        self.count = count
+        super().__init__(self._words())
+
+    @property
+    def kind(self):
+        """The number by its name; None for one that this version does not know."""
+        return Kind(self.number) if self.number in REASONS else None
+
+    @property
+    def reason(self):
+        """The reason in words."""
+        return REASONS.get(self.number, "the number is not known to this version")
+
+    @property
+    def offset(self):
+        """The byte offset of the field that a table is refused for."""
+        return self.count if self.number <= 14 else None
+
+    @property
+    def tokens(self):
+        """The tokens read. The refusals 30, 33, 34 and 42 tell none."""
+        return self.count if self.number > 14 and self.number not in (30, 33, 34, 42) else None
+
+    def _words(self):
+        where = ""
+        if self.offset is not None:
+            where = f" at byte {self.offset}"
+        elif self.tokens is not None:
+            where = f" after {self.tokens} token{'' if self.tokens == 1 else 's'}"
+        return f"refused {self.number}{where}: {self.reason}"
+
+
+class Record(ctypes.Structure):
+    """The run record: open, tokens, moves and both heights."""
+
+    _fields_ = [(name, ctypes.c_uint64) for name in ("open", "tokens", "moves", "registers", "places")]
+
+
+_library = None
+
+
+def _call(name, *arguments):
+    """Calls a function of the library, which is loaded with the first call."""
+    global _library
+    if _library is None:
+        here = os.path.dirname(os.path.abspath(__file__))
+        _library = ctypes.CDLL(os.environ.get("SEGMENT_LIBRARY", os.path.join(here, "libsegment.so")))
+    function = getattr(_library, name)
+    function.restype = None
+    function(*arguments)
+
+
+def _bytes(data):
+    """A list of bytes as the library takes it: pointer and length."""
+    data = bytes(data)
+    return ctypes.c_char_p(data), ctypes.c_size_t(len(data))
+
+
+def check(table):
+    """The verdict on a table: raises Refusal where it is refused (1 to 13)."""
+    number, offset = ctypes.c_uint32(), ctypes.c_uint32()
+    _call("segment_check", *_bytes(table), ctypes.byref(number), ctypes.byref(offset))
+    if number.value:
+        raise Refusal(number.value, offset.value)
+
+
+def stretch(table, production):
+    """A production's stretch of an accepted table."""
+    start, length, number, offset = ctypes.c_size_t(), ctypes.c_size_t(), ctypes.c_uint32(), ctypes.c_uint32()
+    out = [ctypes.byref(n) for n in (start, length, number, offset)]
+    _call("segment_stretch", *_bytes(table), ctypes.c_size_t(production), *out)
+    if number.value:
+        raise Refusal(number.value, offset.value)
+    return bytes(table)[start.value : start.value + length.value]
+
+
+def listing(table):
+    """What the listing program prints for a table."""
+    program, size = (ctypes.c_uint32 * PROGRAM)(), 64 * LINE
+    while True:
+        out, length, over = (ctypes.c_uint8 * size)(), ctypes.c_size_t(), ctypes.c_uint32()
+        _call("segment_list", *_bytes(table), program, ctypes.c_size_t(PROGRAM), out, ctypes.c_size_t(size),
+              ctypes.byref(length), ctypes.byref(over))
+        if over.value:
+            return bytes(out[: length.value]).decode("ascii")
+        size *= 2
+
+
+def sum_of(table):
+    """The sum of a table, which `grammar header` writes beside a grammar's names (FNV-1a, 64 bits)."""
+    total = 0xCBF29CE484222325
+    for byte in table:
+        total = ((total ^ byte) * 0x100000001B3) % 2**64
+    return total
+
+
+class Names:
+    """A grammar's names and their numbers: what `grammar header --lang json` writes, read from a file or a text."""
+
+    def __init__(self, text):
+        data = json.loads(text)
+        self.sum = int(data["table"]["sum"], 16)
+        self.tokens = data["tokens"]
+        self.parts = data["parts"]
+        self._numbers = {name: number for number, name in enumerate(self.tokens)}
+
+    def numbers(self, words):
+        """The tokens' numbers; ValueError for a word that is no token."""
+        try:
+            return bytes(self._numbers[word] for word in words)
+        except KeyError as error:
+            raise ValueError(f"{error.args[0]!r} is not a token; the tokens: {' '.join(self.tokens)}") from None
+
+
+class Table:
+    """A table that the engine accepts. With names it must be the table that the names belong to."""
+
+    def __init__(self, data, names=None):
+        self.bytes = bytes(data)
+        check(self.bytes)
+        if names is not None and names.sum != self.sum():
+            raise ValueError(f"another table: its sum is {self.sum():016x}, not {names.sum:016x}")
+
+    def __repr__(self):
+        return f"Table({len(self.bytes)} bytes, sum {self.sum():016x})"
+
+    def sum(self):
+        """See sum_of."""
+        return sum_of(self.bytes)
+
+    def run(self, registers=REGISTERS, places=PLACES, budget=MOVES):
+        """Opens a run."""
+        return Run(self, registers, places, budget)
+
+
+def _within(number, low, high):
+    """The number, or the limit that it is past: what ctypes would cut is handed on as something that is refused too."""
+    return max(low, min(number, high))
+
+
+class Window:
+    """A window over the values of the last finished segments, 1 to 64 of them: their total and the largest (docs/WINDOW.md).
+
+    Before the first value the total is 0 and the largest None."""
+
+    def __init__(self, size):
+        self.size = size
+        self._length = 5 + 2 * _within(size, 0, WINDOW)
+        self._cells = (ctypes.c_int64 * self._length)()
+        self._called("segment_window_open", ctypes.c_uint64(_within(size, 0, WINDOW + 1)))
+
+    def bring(self, answer):
+        """Brings what a segment came to, its value or the Refusal: only a value enters. Answers total and largest."""
+        refused = isinstance(answer, Refusal)
+        number, value, count = (answer.number, 0, answer.count) if refused else (0, _within(answer, -(2**63), 2**63 - 1), 0)
+        return self._called("segment_window_value", ctypes.c_uint32(number), ctypes.c_int64(value), ctypes.c_uint64(count))
+
+    @property
+    def values(self):
+        """The values, from the oldest."""
+        held, end = self._cells[1], self._cells[2]
+        return [self._cells[5 + (end - held + i) % self.size] for i in range(held)]
+
+    @property
+    def cells(self):
+        """The cells, as docs/WINDOW.md states them."""
+        return list(self._cells)
+
+    def __repr__(self):
+        return f"Window(size {self.size}, total {self.total}, largest {self.largest})"
+
+    def _called(self, name, *brought):
+        number, total, largest, has_largest = ctypes.c_uint32(), ctypes.c_int64(), ctypes.c_int64(), ctypes.c_uint32()
+        out = map(ctypes.byref, (number, total, largest, has_largest))
+        _call(name, *brought, self._cells, ctypes.c_size_t(self._length), *out)
+        if number.value:
+            raise Refusal(number.value, 0)
+        self.total, self.largest = total.value, largest.value if has_largest.value else None
+        return self.total, self.largest
+
+
+class Run:
+    """A run over one segment, and the memory that it needs. Each call judges the table anew: feed in large pieces."""
+
+    def __init__(self, table, registers=REGISTERS, places=PLACES, budget=MOVES):
+        self.table = table
+        self._table = _bytes(table.bytes)
+        self._spent = MOVES - max(0, min(budget, MOVES))
+        lengths = (min(registers, REGISTERS), min(places, PLACES), PROGRAM)
+        self._cells = [(kind * n)() for kind, n in zip((ctypes.c_int64, ctypes.c_uint32, ctypes.c_uint32), lengths)]
+        self._memory = [part for cells, n in zip(self._cells, lengths) for part in (cells, ctypes.c_size_t(n))]
+        self.record = Record()
+        self.value = None
+        self.open()
+
+    def with_budget(self, moves):
+        """Gives each segment a budget of moves: the move after it is refused by 35. Opens the run anew."""
+        self._spent = MOVES - max(0, min(moves, MOVES))
+        self.open()
+        return self
+
+    def open(self):
+        """Opens the run, for the first segment or another."""
+        self.value = None
+        self._called("segment_open")
+        self.record.moves = self._spent
+
+    def feed(self, tokens):
+        """Feeds the next tokens; answers the moves made since opening."""
+        self._called("segment_feed", *_bytes(tokens))
+        return self.moves
+
+    def finish(self):
+        """Ends the segment; answers its value, and closes the run."""
+        value = ctypes.c_int64()
+        self._called("segment_finish", value=value)
+        self.value = value.value
+        return self.value
+
+    def evaluate(self, tokens):
+        """Opens the run, feeds the whole segment and finishes it."""
+        self.open()
+        self.feed(tokens)
+        return self.finish()
+
+    @property
+    def moves(self):
+        """The moves made since opening."""
+        return max(0, self.record.moves - self._spent)
+
+    @property
+    def budget(self):
+        """The moves that a segment may make."""
+        return MOVES - self._spent
+
+    @property
+    def tokens(self):
+        """The tokens read since opening."""
+        return self.record.tokens
+
+    @property
+    def is_open(self):
+        """Whether the run takes more tokens."""
+        return self.record.open != 0
+
+    @property
+    def registers(self):
+        """The registers in use, from the bottom; None where one has no value yet."""
+        used = self._cells[0][: self.record.registers]
+        return [None if value == MARK else value for value in used]
+
+    def register(self, number):
+        """The register with this number: 1 is the top. None past the last, and where there is no value yet."""
+        used = self.registers
+        return used[-number] if 1 <= number <= len(used) else None
+
+    @property
+    def places(self):
+        """The places in use, from the bottom."""
+        return list(self._cells[1][: self.record.places])
+
+    def __repr__(self):
+        state = "open" if self.is_open else "closed"
+        return f"Run({state}, {self.tokens} tokens, {self.moves} moves, {self.table!r})"
+
+    def _called(self, name, *more, value=None):
+        number, count = ctypes.c_uint32(), ctypes.c_uint64()
+        out = [number, count] if value is None else [number, value, count]
+        _call(name, *self._table, ctypes.byref(self.record), *self._memory, *more, *map(ctypes.byref, out))
+        if number.value:
+            raise Refusal(number.value, count.value)

@@ -1,0 +1,120 @@
+"""The Python module on the grammar of words and tags, and its names beside those of Rust and C."""
+
+import os
+import re
+import threading
+import unittest
+
+import segment
+
+HERE = os.path.dirname(os.path.abspath(__file__))
+
+
+def read(name, mode="r"):
+    with open(os.path.join(HERE, "..", name), mode) as file:
+        return file.read()
+
+
+WORDS = read("../grammars/words.table", "rb")
+
+
+class Words(unittest.TestCase):
+    def refused(self, number, count, call, *arguments):
+        with self.assertRaises(segment.Refusal) as caught:
+            call(*arguments)
+        self.assertEqual((caught.exception.number, caught.exception.count), (number, count))
+        return caught.exception
+
+    def test_values(self):
+        run = segment.Table(WORDS).run()
+        self.assertEqual(run.feed([0, 1]), 11)
+        self.assertEqual(run.feed(b""), 11)
+        self.assertEqual((run.registers, run.places), ([None, None, 0, None, 0, None, 1], [32768, 0, 257, 513]))
+        self.assertEqual([run.register(k) for k in range(9)], [None, 1, None, 0, None, 0, None, None, None])
+        run.feed(bytes([0, 2]))
+        self.assertEqual((run.finish(), run.value, run.tokens, run.moves, run.is_open), (2, 2, 4, 32, False))
+        self.assertEqual([run.evaluate([0] * n) for n in range(4)], [0, 1, 2, 3])
+
+    def test_refusals(self):
+        run = segment.Table(WORDS).run()
+        self.refused(22, 3, run.evaluate, [1, 1, 1, 1])
+        self.assertEqual(self.refused(21, 1, run.evaluate, [0, 2]).kind, segment.Kind.UNEXPECTED_TOKEN)
+        closed = self.refused(33, 0, run.finish)
+        self.assertEqual((str(closed), closed.tokens, closed.offset), ("refused 33: the run is closed", None, None))
+        cut = self.refused(2, 97, segment.check, WORDS[:100])
+        self.assertEqual(str(cut), "refused 2 at byte 97: a field is cut short")
+        self.refused(3, 0, segment.Table, b"")
+        self.refused(14, 0, segment.stretch, WORDS, 4)
+        self.refused(31, 0, segment.Table(WORDS).run, 0, 3)
+        self.refused(32, 1022, run.evaluate, [0] * 1022)
+
+    def test_budget(self):
+        run = segment.Table(WORDS).run(budget=31)
+        self.refused(35, 4, run.evaluate, [0, 1, 0, 2])
+        self.assertEqual((run.moves, run.budget), (31, 31))
+        self.assertEqual((run.with_budget(32).evaluate([0, 1, 0, 2]), run.moves), (2, 32))
+
+    def test_tables(self):
+        self.assertEqual(b"".join(segment.stretch(WORDS, p) for p in range(4)), WORDS[17:])
+        self.assertEqual(segment.listing(WORDS), read("../crates/listing/stdout"))
+        self.assertEqual(repr(segment.Table(WORDS)), "Table(136 bytes, sum d30e9953d2057f43)")
+
+    def test_names(self):
+        text = '{"table": {"sum": "%s"}, "tokens": ["word", "open", "close"], "parts": []}'
+        names = segment.Names(text % "d30e9953d2057f43")
+        run = segment.Table(WORDS, names).run()
+        self.assertEqual(run.evaluate(names.numbers("word open word close".split())), 2)
+        self.assertRaises(ValueError, names.numbers, ["wrod"])
+        self.assertRaises(ValueError, segment.Table, WORDS, segment.Names(text % "0"))
+
+    def test_window(self):
+        run, window = segment.Table(WORDS).run(), segment.Window(2)
+        self.assertEqual((window.total, window.largest, window.values), (0, None, []))
+        self.assertEqual([window.bring(run.evaluate([0] * n)) for n in (3, 1, 2)], [(3, 3), (4, 3), (3, 2)])
+        refused = self.refused(21, 0, run.evaluate, [2])
+        self.assertEqual((window.bring(refused), window.values, window.cells), ((3, 2), [1, 2], [2, 2, 1, 3, 1, 2, 1, 0, 0]))
+        self.assertEqual(repr(window), "Window(size 2, total 3, largest 2)")
+        for value in (10**12 + 1, -(10**12) - 1, 2**64, -(2**64)):
+            unfit = self.refused(42, 0, window.bring, value)
+        self.assertEqual(str(unfit), "refused 42: the window's size, buffer or value does not fit")
+        for size in (0, 65, -1, 2**64 + 1):
+            self.assertIsNone(self.refused(42, 0, segment.Window, size).tokens)
+
+    def test_threads(self):
+        table, found = segment.Table(WORDS), {}
+
+        def work(n):
+            found[n] = table.run().evaluate([0] * n)
+
+        threads = [threading.Thread(target=work, args=(n,)) for n in range(8)]
+        [thread.start() for thread in threads]
+        [thread.join() for thread in threads]
+        self.assertEqual(found, {n: n for n in range(8)})
+
+
+class Names(unittest.TestCase):
+    """One list of numbers, names and words: in Rust, in C, here and on the page."""
+
+    def setUp(self):
+        kinds = re.findall(r'^    (\w+) = (\d+), "(.*)";$', read("rust/src/refusal.rs"), re.M)
+        upper = lambda name: re.sub(r"(?<!^)([A-Z])", r"_\1", name).upper()
+        self.kinds = [(upper(name), int(number), words) for name, number, words in kinds]
+        self.assertEqual(len(self.kinds), 26)
+
+    def test_python(self):
+        self.assertEqual([(k.name, k.value, segment.REASONS[k]) for k in segment.Kind], self.kinds)
+
+    def test_c(self):
+        header = read("c/segment.h")
+        numbers = re.findall(r"^    SEGMENT_(\w+) = (\d+),?$", header, re.M)[1:]
+        words = re.findall(r'^    case SEGMENT_(\w+):\n        return "(.*)";$', header, re.M)[1:]
+        self.assertEqual([(name, int(n)) for name, n in numbers], [(name, n) for name, n, _ in self.kinds])
+        self.assertEqual(words, [(name, words) for name, _, words in self.kinds])
+
+    def test_the_page(self):
+        rows = re.findall(r"^\| (\d+) \| `(\w+)` \| (.*) \|$", read("../docs/REFUSALS.md"), re.M)
+        self.assertEqual([(name, int(n), words) for n, name, words in rows], self.kinds)
+
+
+if __name__ == "__main__":
+    unittest.main()
