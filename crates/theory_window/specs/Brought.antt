@@ -4,22 +4,22 @@ use native.Mathlib.Omega.{arith}
 use mathlib.Core.Path.{_≡_, refl, sym, ap, ap₂, _∙_}
 use mathlib.Core.Bool.{Bool, true, false, _&&_, cond}
 use mathlib.Core.List.{List, [], _∷_, _++_, map, append-assoc}
-use borrow.Author.Tests.{ne-eqb, ltb-true, ltb-false, lt-ltb, leb-true}
-use lib.ListN.{length, getD, take, drop, set, length-drop, length-set, length-map, take-append-drop, List·getD-append}
-use lib.Seq.{drop-drop, take-append-le, length-take-le, take-nil, getD-append-add}
+use borrow.Author.Tests.{eq-eqb, ne-eqb, ltb-true, ltb-false, lt-ltb, leb-true}
+use lib.ListN.{length, getD, take, drop, set, length-drop, length-set, length-map, take-append-drop, List·getD-append, List·getD-map}
+use lib.Seq.{getD-take, drop-drop, take-append-le, length-take-le, take-nil, getD-append-add}
 use lib.Dec.{eqb, leb, ltb}
 use lib.IntN.{ℤ, pos, _+ℤ_, _-ℤ_}
 use Rattle.meaning.specs.Base.{all, keep}
-use Rattle.meaning.specs.Value.{inRange}
+use Rattle.meaning.specs.Value.{inRange, mark}
 use Rattle.meaning.specs.Window.{total, largest, stands, empty, shown, turned, order, zeros, slotsOf, after, valueAt, leads, leadersOf, leaderCells, cells}
 use Rattle.meaning.specs.Window.{formOf, formLength, small, numberAt, sizeIn, heldIn, nextIn, totalIn, slotsIn, valuesIn, sameNumber, sizeFits, placeFits, sameCells, wellKept, written, valuesWith}
 use Rattle.meaning.specs.WindowStatements.{answerIn}
-use Rattle.theory_window.specs.Parts.{countIn, leaderAreaIn, isZero, eqNumbers, valuesFit, leadersFit, keptAs, keptParts}
+use Rattle.theory_window.specs.Parts.{countIn, leaderAreaIn, isZero, eqNumbers, valuesOf, topAt, answerOf, valuesFit, restZero, keptAs, keptParts}
 use Rattle.theory_window.specs.Lists.{and-left, and-right, both, all-append, all-drop, all-turned, all-getD, same-test}
 use Rattle.theory_window.specs.Ring.{length-turned, turned-push, grown, length-grown, last-grown, length-last, values-order, slots-of-values, length-slots, values-of-slots}
 use Rattle.theory_window.specs.Leaders.{first-leads, some-leads, stays, leaders-push}
 use Rattle.theory_window.specs.Sums.{total-values, total-set}
-use Rattle.theory_window.specs.Kept.{small-pos, small-back, sameNumber-same, all-zero, numbers-same, small-all, leaders-below, place-held, place-next, zeros-turned, place-push, same-cells, Valid, form-parts, form-kept}
+use Rattle.theory_window.specs.Kept.{small-pos, small-back, sameNumber-same, all-zero, numbers-same, small-all, leaders-below, place-held, place-next, zeros-turned, slots-ranged, place-push, same-cells, Valid, form-parts, form-kept}
 
 -- ---- a well kept buffer
 
@@ -53,44 +53,62 @@ pub record Passed (b : List ℤ) (n h k c : ℕ) (s area : List ℤ) : Type 0 wh
   pub leaders : map small (take c area) ≡ leadersOf n h k s
   pub after-leaders : all isZero (drop c area) ≡ true
 
-passed-by : (b : List ℤ) (n h k c : ℕ) (s area : List ℤ) → keptAs (length b) n h k (totalIn b) c s area ≡ true → Passed b n h k c s area
-passed-by b n h k c s area e =
-    let p1 : sizeFits n (length b) ≡ true = and-left (sizeFits n (length b)) rest1 e in
-    let q1 : rest1 ≡ true = and-right (sizeFits n (length b)) rest1 e in
-    let q2 : rest2 ≡ true = and-right (placeFits n h k) rest2 q1 in
-    let p3 : valuesFit h s (totalIn b) ≡ true = and-left (valuesFit h s (totalIn b)) rest3 q2 in
-    let q3 : rest3 ≡ true = and-right (valuesFit h s (totalIn b)) rest3 q2 in
-    let p5 : leadersFit c area (leadersOf n h k s) ≡ true = and-right (leb c n) (leadersFit c area (leadersOf n h k s)) q3 in
-    let m1 : (leb n 64 && leb (formLength n) (length b)) ≡ true = and-right (leb 1 n) (leb n 64 && leb (formLength n) (length b)) p1 in
-    let m3 : (all isZero (drop h s) && sameNumber (totalIn b) (total s)) ≡ true = and-right (all inRange s) (all isZero (drop h s) && sameNumber (totalIn b) (total s)) p3 in
-    record {
-      one = leb-true 1 n (and-left (leb 1 n) (leb n 64 && leb (formLength n) (length b)) p1);
-      most = leb-true n 64 (and-left (leb n 64) (leb (formLength n) (length b)) m1);
-      long = leb-true (formLength n) (length b) (and-right (leb n 64) (leb (formLength n) (length b)) m1);
-      place = and-left (placeFits n h k) rest2 q1;
-      ranged = and-left (all inRange s) (all isZero (drop h s) && sameNumber (totalIn b) (total s)) p3;
-      unheld = and-left (all isZero (drop h s)) (sameNumber (totalIn b) (total s)) m3;
-      sum = sameNumber-same (totalIn b) (total s) (and-right (all isZero (drop h s)) (sameNumber (totalIn b) (total s)) m3);
-      count = leb-true c n (and-left (leb c n) (leadersFit c area (leadersOf n h k s)) q3);
-      leaders = numbers-same (map small (take c area)) (leadersOf n h k s) (and-left (eqNumbers (map small (take c area)) (leadersOf n h k s)) (all isZero (drop c area)) p5);
-      after-leaders = and-right (eqNumbers (map small (take c area)) (leadersOf n h k s)) (all isZero (drop c area)) p5;
-    }
-  where
-    rest3 : Bool
-    rest3 = leb c n && leadersFit c area (leadersOf n h k s)
+module _ (b : List ℤ) (n h k c : ℕ) (s area : List ℤ) (e : keptAs (length b) n h k (totalIn b) c s area ≡ true) where
+  abbrev vs : List ℤ
+  vs = valuesOf n h k s
 
-    rest2 : Bool
-    rest2 = valuesFit h s (totalIn b) && rest3
+  abbrev claimed : List ℕ
+  claimed = map small (take c area)
 
-    rest1 : Bool
-    rest1 = placeFits n h k && rest2
+  abbrev rest3 : Bool
+  rest3 = restZero h s c area && valuesFit n h k s claimed (totalIn b)
+
+  abbrev rest2 : Bool
+  rest2 = leb c n && rest3
+
+  abbrev rest1 : Bool
+  rest1 = placeFits n h k && rest2
+
+  sizes : (leb n 64 && leb (formLength n) (length b)) ≡ true
+  sizes = and-right (leb 1 n) (leb n 64 && leb (formLength n) (length b)) (and-left (sizeFits n (length b)) rest1 e)
+
+  passed-long : formLength n ≤ length b
+  passed-long = leb-true (formLength n) (length b) (and-right (leb n 64) (leb (formLength n) (length b)) sizes)
+
+  passed-by : length s ≡ n → Passed b n h k c s area
+  passed-by long =
+      let q1 : rest1 ≡ true = and-right (sizeFits n (length b)) rest1 e in
+      let q2 : rest2 ≡ true = and-right (placeFits n h k) rest2 q1 in
+      let q3 : rest3 ≡ true = and-right (leb c n) rest3 q2 in
+      let z : restZero h s c area ≡ true = and-left (restZero h s c area) (valuesFit n h k s claimed (totalIn b)) q3 in
+      let f : valuesFit n h k s claimed (totalIn b) ≡ true = and-right (restZero h s c area) (valuesFit n h k s claimed (totalIn b)) q3 in
+      let g : (eqNumbers claimed (leadersOf n h k s) && sameNumber (totalIn b) (total vs)) ≡ true = and-right (all inRange vs) (eqNumbers claimed (leadersOf n h k s) && sameNumber (totalIn b) (total vs)) f in
+      let p : placeFits n h k ≡ true = and-left (placeFits n h k) rest2 q1 in
+      let u : all isZero (drop h s) ≡ true = and-left (all isZero (drop h s)) (all isZero (drop c area)) z in
+      record {
+        one = leb-true 1 n (and-left (leb 1 n) (leb n 64 && leb (formLength n) (length b)) (and-left (sizeFits n (length b)) rest1 e));
+        most = leb-true n 64 (and-left (leb n 64) (leb (formLength n) (length b)) sizes);
+        long = passed-long;
+        place = p;
+        ranged = slots-ranged n h k p s long u (and-left (all inRange vs) (eqNumbers claimed (leadersOf n h k s) && sameNumber (totalIn b) (total vs)) f);
+        unheld = u;
+        sum = sameNumber-same (totalIn b) (total vs) (and-right (eqNumbers claimed (leadersOf n h k s)) (sameNumber (totalIn b) (total vs)) g) ∙ total-values (n - h) k s (zeros-turned n h k p s long u);
+        count = leb-true c n (and-left (leb c n) rest3 q2);
+        leaders = numbers-same claimed (leadersOf n h k s) (and-left (eqNumbers claimed (leadersOf n h k s)) (sameNumber (totalIn b) (total vs)) g);
+        after-leaders = and-right (all isZero (drop h s)) (all isZero (drop c area)) z;
+      }
+
+slots-long : (b : List ℤ) → formLength (sizeIn b) ≤ length b → length (slotsIn b) ≡ sizeIn b
+slots-long b l = length-take-le (sizeIn b) (drop 5 b) (omega (arith, length-drop 5 b))
 
 abbrev pub PassedIn : List ℤ → Type 0
 PassedIn b = Passed b (sizeIn b) (heldIn b) (nextIn b) (countIn b) (slotsIn b) (leaderAreaIn b)
 
 passed-parts : (b : List ℤ) → keptParts b ≡ true → PassedIn b
 unfolding keptParts
-passed-parts b e = passed-by b (sizeIn b) (heldIn b) (nextIn b) (countIn b) (slotsIn b) (leaderAreaIn b) e
+passed-parts b e =
+    let n = sizeIn b in
+    passed-by b n (heldIn b) (nextIn b) (countIn b) (slotsIn b) (leaderAreaIn b) e (slots-long b (passed-long b n (heldIn b) (nextIn b) (countIn b) (slotsIn b) (leaderAreaIn b) e))
 
 five : (b : List ℤ) → 5 ≤ length b → b ≡ getD b 0 (pos 0) ∷ getD b 1 (pos 0) ∷ getD b 2 (pos 0) ∷ getD b 3 (pos 0) ∷ getD b 4 (pos 0) ∷ drop 5 b
 five [] l = absurd (omega arith)
@@ -106,9 +124,6 @@ parts n b =
     let e : 5 + n + n ≡ 5 + 2 * n = omega arith in
     sym (take-append-drop n (drop 5 b))
     ∙ ap (λ l. take n (drop 5 b) ++ l) (drop-drop n 5 b ∙ (sym (take-append-drop n (drop (5 + n) b)) ∙ ap (λ l. take n (drop (5 + n) b) ++ l) (drop-drop n (5 + n) b ∙ ap (λ m. drop m b) e)))
-
-slots-long : (b : List ℤ) → formLength (sizeIn b) ≤ length b → length (slotsIn b) ≡ sizeIn b
-slots-long b l = length-take-le (sizeIn b) (drop 5 b) (omega (arith, length-drop 5 b))
 
 values-long : (b : List ℤ) → formLength (sizeIn b) ≤ length b → heldIn b ≤ sizeIn b → length (valuesIn b) ≡ heldIn b
 values-long b l m = omega (arith, length-drop (sizeIn b - heldIn b) (turned (nextIn b) (slotsIn b)), length-turned (nextIn b) (slotsIn b), slots-long b l)
@@ -291,6 +306,33 @@ module _ (n k : ℕ) (w : List ℤ) (valid : Valid n k w) (rest : List ℤ) wher
           ap (λ m. cond (eqb m 0) empty (stands (total w) (getD (formOf n k w ++ rest) (5 + numberAt (formOf n k w ++ rest) (5 + sizeIn (formOf n k w ++ rest))) (pos 0)))) m
           ∙ (ap (λ b. cond b empty (stands (total w) (getD (formOf n k w ++ rest) (5 + numberAt (formOf n k w ++ rest) (5 + sizeIn (formOf n k w ++ rest))) (pos 0)))) (ne-eqb (suc (length vs)) 0 (λ z. omega arith))
           ∙ (λ i. stands (total (e i)) (largest-in v vs e i)))
+
+-- what the code's walk has read of a buffer is what a scan gives
+module _ (b : List ℤ) (kept : PassedIn b) where
+  abbrev c : ℕ
+  c = countIn b
+
+  abbrev area : List ℤ
+  area = leaderAreaIn b
+
+  top-largest : (v : ℤ) (vs : List ℤ) → valuesIn b ≡ v ∷ vs → topAt (slotsIn b) (leaderAreaIn b) (countIn b) 0 ≡ largest v vs
+  top-largest v vs e =
+      let n = sizeIn b in
+      let f = first-value (valueAt (slotsIn b)) (order n (heldIn b) (nextIn b)) v vs (values-order n (heldIn b) (nextIn b) (slotsIn b) (kept-slots b kept) ∙ e) in
+      let some : 0 < c = omega (arith, kept-count b kept, f .0) in
+      let first : numberAt area 0 ≡ getD (leadersOf n (heldIn b) (nextIn b) (slotsIn b)) 0 0 =
+      ap small (sym (getD-take c area 0 (pos 0) some)) ∙ (sym (List·getD-map small (take c area) 0 (pos 0)) ∙ ap (λ l. getD l 0 0) (kept .leaders)) in
+      ap (λ x. cond x mark (valueAt (slotsIn b) (numberAt area 0))) (ne-eqb 0 c (λ z. omega arith)) ∙ (ap (valueAt (slotsIn b)) first ∙ f .1)
+
+  pub answer-read : answerOf (heldIn b) (totalIn b) (topAt (slotsIn b) (leaderAreaIn b) (countIn b) 0) ≡ shown (valuesIn b)
+  answer-read = by (valuesIn b) refl
+    where
+      by : (u : List ℤ) → valuesIn b ≡ u → answerOf (heldIn b) (totalIn b) (topAt (slotsIn b) (leaderAreaIn b) (countIn b) 0) ≡ shown u
+      by [] e = ap (λ x. cond x empty (stands (totalIn b) (topAt (slotsIn b) area c 0))) (eq-eqb (heldIn b) 0 (sym (held-long b kept) ∙ ap length e))
+      by (v ∷ vs) e =
+          let some : heldIn b ≡ suc (length vs) = sym (held-long b kept) ∙ ap length e in
+          let t : totalIn b ≡ total (v ∷ vs) = kept .sum ∙ (sym (total-values (sizeIn b - heldIn b) (nextIn b) (slotsIn b) (kept-zeros b kept)) ∙ ap total e) in
+          ap (λ x. cond x empty (stands (totalIn b) (topAt (slotsIn b) area c 0))) (ne-eqb (heldIn b) 0 (λ z. omega arith)) ∙ (λ i. stands (t i) (top-largest v vs e i))
 
 -- ---- the tests of the parts answer whether a buffer is well kept
 

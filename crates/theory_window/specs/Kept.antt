@@ -12,11 +12,10 @@ use lib.IntN.{ℤ, pos, negsuc}
 use Rattle.meaning.specs.Base.{all}
 use Rattle.meaning.specs.Value.{inRange}
 use Rattle.meaning.specs.Window.{total, turned, order, zeros, slotsOf, after, valueAt, leadersOf, leaderCells, cells, formOf, formLength, small, sizeIn, heldIn, nextIn, slotsIn, valuesIn, sameNumber, placeFits, sizeFits, written, sameCells, wellKept}
-use Rattle.theory_window.specs.Parts.{countIn, leaderAreaIn, isZero, eqNumbers, leadersFit, keptAs, keptParts}
+use Rattle.theory_window.specs.Parts.{countIn, valuesOf, leaderAreaIn, isZero, eqNumbers, valuesFit, keptAs, keptParts}
 use Rattle.theory_window.specs.Lists.{and-left, and-right, both, all-append, all-turned}
-use Rattle.theory_window.specs.Ring.{grown, length-grown, order-in, length-order, length-slots, values-of-slots, zeros-of-slots}
+use Rattle.theory_window.specs.Ring.{grown, length-grown, order-in, length-order, length-slots, slots-of-values, values-of-slots, zeros-of-slots}
 use Rattle.theory_window.specs.Leaders.{length-leads, all-leads}
-use Rattle.theory_window.specs.Sums.{total-values}
 
 -- ---- numbers, zeros and lists by their tests
 
@@ -157,6 +156,14 @@ pub zeros-in : (m : ℕ) → all inRange (zeros m) ≡ true
 zeros-in zero = refl
 zeros-in (suc m) = zeros-in m
 
+-- values in range, and 0 in the slots without a value
+pub slots-ranged : (n h k : ℕ) → placeFits n h k ≡ true → (s : List ℤ) → length s ≡ n → all isZero (drop h s) ≡ true → all inRange (valuesOf n h k s) ≡ true → all inRange s ≡ true
+slots-ranged n h k p s e z a =
+    let m : ℕ = n - length (valuesOf n h k s) in
+    let q : k ≤ n = omega (arith, place-next n h k p) in
+    ap (all inRange) (sym (slots-of-values n h k s e (place-held n h k p) q (zeros-turned n h k p s e z)))
+    ∙ all-turned inRange (n - k) (zeros m ++ valuesOf n h k s) (all-append inRange (zeros m) (valuesOf n h k s) (zeros-in m) a)
+
 -- ---- a window that an opening and values can leave
 
 pub record Valid (n k : ℕ) (w : List ℤ) : Type 0 where
@@ -203,11 +210,11 @@ module _ (n h k : ℕ) (t : ℤ) (s : List ℤ) (ls : List ℕ) (rest : List ℤ
   pub read-long : length whole ≡ formLength n + length rest
   read-long = omega (arith, length-append (cells n h k t s ls) rest, cells-long)
 
-  leaders-read : all (λ j. ltb j n) ls ≡ true → leadersFit (length ls) (leaderCells n ls) ls ≡ true
-  leaders-read b =
-      let m : length (map pos ls) ≡ length ls = length-map ls pos in
-      rw (take-at (map pos ls) (zeros (n - length ls)) (length ls) m, drop-at (map pos ls) (zeros (n - length ls)) (length ls) m, small-map n ls most b)
-      (both (numbers-refl ls) (zeros-zero (n - length ls)))
+  leaders-read : all (λ j. ltb j n) ls ≡ true → map small (take (length ls) (leaderCells n ls)) ≡ ls
+  leaders-read b = ap (map small) (take-at (map pos ls) (zeros (n - length ls)) (length ls) (length-map ls pos)) ∙ small-map n ls most b
+
+  past-leaders : all isZero (drop (length ls) (leaderCells n ls)) ≡ true
+  past-leaders = ap (all isZero) (drop-at (map pos ls) (zeros (n - length ls)) (length ls) (length-map ls pos)) ∙ zeros-zero (n - length ls)
 
 module _ (n k : ℕ) (w : List ℤ) (v : Valid n k w) where
   abbrev h : ℕ
@@ -259,11 +266,10 @@ module _ (n k : ℕ) (w : List ℤ) (v : Valid n k w) where
     pub values-of : valuesIn b ≡ w
     values-of = (λ i. drop (size-of i - held-of i) (turned (next-of i) (slots-of i))) ∙ values-of-slots n k w held le
 
-    slots-total : total w ≡ total s
-    slots-total = ap total (sym (values-of-slots n k w held le)) ∙ total-values (n - length w) k s (zeros-of-slots n k w held le)
-
-    slots-ranged : all inRange s ≡ true
-    slots-ranged = all-turned inRange (n - k) (zeros (n - length w) ++ w) (all-append inRange (zeros (n - length w)) w (zeros-in (n - length w)) (v .ranged))
+    values-fit : valuesFit n h k s (map small (take (length ls) (leaderCells n ls))) (total w) ≡ true
+    values-fit =
+        (λ i. all inRange (values-of-slots n k w held le i) && (eqNumbers (leaders-read n h k (total w) s ls rest (v .most) slots-long few (leaders-below n h k s) i) ls && sameNumber (total w) (total (values-of-slots n k w held le i))))
+        ∙ both (v .ranged) (both (numbers-refl ls) (sameNumber-refl (total w)))
 
     pub form-parts : keptParts b ≡ true
     unfolding keptParts
@@ -271,8 +277,8 @@ module _ (n k : ℕ) (w : List ℤ) (v : Valid n k w) where
         (λ i. keptAs (length b) (size-of i) (held-of i) (next-of i) (total w) (read-count n h k (total w) s ls rest (v .most) slots-long few i) (slots-of i) (read-area n h k (total w) s ls rest (v .most) slots-long few i))
         ∙ both (both (le-leb 1 n (v .one)) (both (le-leb n 64 (v .most)) (le-leb (formLength n) (length b) (omega (arith, read-long n h k (total w) s ls rest (v .most) slots-long few)))))
         (both (v .place)
-        (both (both slots-ranged (both (turned-zeros n (length w) k (v .place) s slots-long (zeros-of-slots n k w held le)) (ap (sameNumber (total w)) (sym slots-total) ∙ sameNumber-refl (total w))))
-        (both (le-leb (length ls) n few) (leaders-read n h k (total w) s ls rest (v .most) slots-long few (leaders-below n h k s)))))
+        (both (le-leb (length ls) n few)
+        (both (both (turned-zeros n (length w) k (v .place) s slots-long (zeros-of-slots n k w held le)) (past-leaders n h k (total w) s ls rest (v .most) slots-long few)) values-fit)))
 
     pub form-kept : wellKept b ≡ true
     unfolding wellKept

@@ -14,8 +14,9 @@ use Rattle.meaning.specs.Base.{all, keep, countFrom, consIf}
 use Rattle.meaning.specs.Value.{inRange, mark}
 use Rattle.meaning.specs.Window.{larger, largest, leads, leadersOf, order, after, valueAt, turned}
 use Rattle.value.specs.Overflow.{in-range-size}
-use Rattle.theory_window.specs.Lists.{both, and-left, and-right, all-getD, length-up}
-use Rattle.theory_window.specs.Ring.{length-turned, grown, staying, order-push, order-room, order-full, staying-others}
+use Rattle.theory_window.specs.Lists.{both, and-left, and-right, length-up, map-reverse}
+use Rattle.theory_window.specs.Ring.{length-turned, grown, staying, order-push, order-room, order-full, staying-others, values-order}
+use Rattle.theory_window.specs.Parts.{valuesOf}
 
 -- ---- orders
 
@@ -112,9 +113,10 @@ module _ (f : ℕ → ℤ) where
       step : leads f (is ++ (j ∷ [])) ≡ keep (λ x. ltZ (f j) (f x)) (leads f is) ++ (j ∷ []) → leads f (i ∷ is ++ (j ∷ [])) ≡ keep (λ x. ltZ (f j) (f x)) (leads f (i ∷ is)) ++ (j ∷ [])
       step h = ap (λ t. consIf t i (leads f (is ++ (j ∷ [])))) (all-snoc (λ x. ltZ (f x) (f i)) is j) ∙ by (all (λ x. ltZ (f x) (f i)) is) (ltZ (f j) (f i)) refl h
 
-all-every : (p : ℕ → Bool) → ((i : ℕ) → p i ≡ true) → (is : List ℕ) → all p is ≡ true
-all-every p h [] = refl
-all-every p h (i ∷ is) = both (h i) (all-every p h is)
+-- a test that follows from another
+all-follows : {A : Type 0} (p q : A → Bool) → ((x : A) → p x ≡ true → q x ≡ true) → (xs : List A) → all p xs ≡ true → all q xs ≡ true
+all-follows p q h [] a = refl
+all-follows p q h (x ∷ xs) a = both (h x (and-left (p x) (all p xs) a)) (all-follows p q h xs (and-right (p x) (all p xs) a))
 
 -- ---- keep
 
@@ -279,13 +281,20 @@ above-mark : (v : ℤ) → inRange v ≡ true → ltZ mark v ≡ true
 above-mark (pos m) e = refl
 above-mark (negsuc m) e = lt-ltb m 9223372036854775807 (omega (arith, in-range-size (negsuc m) e))
 
+-- the values by a walk from the newest
+pub values-back : (n h k : ℕ) (s : List ℤ) → length s ≡ n → h ≤ n → k < n → map (valueAt s) (downFrom n h k) ≡ reverse (valuesOf n h k s)
+values-back n h k s e l q = ap (map (valueAt s)) (down-order n h k l q) ∙ (map-reverse (valueAt s) (order n h k) ∙ ap reverse (values-order n h k s e))
+
 -- the leaders by a walk from the newest
-pub leaders-back : (n h k : ℕ) (s : List ℤ) → h ≤ n → k < n → all inRange s ≡ true → leadsBack (valueAt s) mark (downFrom n h k) ≡ reverse (leadersOf n h k s)
-leaders-back n h k s l q a =
+pub leaders-back : (n h k : ℕ) (s : List ℤ) → length s ≡ n → h ≤ n → k < n → all inRange (valuesOf n h k s) ≡ true → leadsBack (valueAt s) mark (downFrom n h k) ≡ reverse (leadersOf n h k s)
+leaders-back n h k s e l q a =
     ap (leadsBack (valueAt s) mark) (down-order n h k l q)
     ∙ (back-leads (valueAt s) mark (reverse (order n h k))
-    ∙ (ap (λ t. reverse (keep (λ i. ltZ mark (valueAt s i)) (leads (valueAt s) t))) (reverse-reverse (order n h k))
-    ∙ ap reverse (keep-all (λ i. ltZ mark (valueAt s i)) (leadersOf n h k s) (each (leadersOf n h k s)))))
+    ∙ (ap (λ t. reverse (keep above (leads (valueAt s) t))) (reverse-reverse (order n h k))
+    ∙ ap reverse (keep-all above (leadersOf n h k s) (all-leads (valueAt s) above (order n h k) held-above))))
   where
-    each : (is : List ℕ) → all (λ i. ltZ mark (valueAt s i)) is ≡ true
-    each is = all-every (λ i. ltZ mark (valueAt s i)) (λ i. above-mark (valueAt s i) (all-getD inRange s i (pos 0) refl a)) is
+    above : ℕ → Bool
+    above i = ltZ mark (valueAt s i)
+
+    held-above : all above (order n h k) ≡ true
+    held-above = all-map (valueAt s) (λ v. ltZ mark v) (order n h k) ∙ all-follows inRange (λ v. ltZ mark v) above-mark (map (valueAt s) (order n h k)) (ap (all inRange) (values-order n h k s e) ∙ a)

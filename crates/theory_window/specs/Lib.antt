@@ -4,6 +4,7 @@ pub mod Ring
 pub mod Leaders
 pub mod Sums
 pub mod Kept
+pub mod Walk
 pub mod Brought
 pub mod Cases
 pub mod Reached

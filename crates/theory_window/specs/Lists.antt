@@ -3,7 +3,7 @@ use Prim.Native.Nat.{ℕ, zero, suc, _+_, _-_, _≤_, _<_}
 use native.Mathlib.Omega.{arith}
 use mathlib.Core.Path.{_≡_, refl, sym, ap, ap₂, _∙_}
 use mathlib.Core.Bool.{Bool, true, false, _&&_}
-use mathlib.Core.List.{List, [], _∷_, _++_, map}
+use mathlib.Core.List.{List, [], _∷_, _++_, map, reverse, reverse-cons, reverse-reverse}
 use lib.ListN.{length, getD, take, drop, set, replicate}
 use lib.Seq.{set-getD}
 use lib.IntN.{ℤ}
@@ -57,6 +57,13 @@ module _ {A : Type 0} (f : A → Bool) where
   all-getD (x ∷ xs) zero d q p = and-left (f x) (all f xs) p
   all-getD (x ∷ xs) (suc i) d q p = all-getD xs i d q (and-right (f x) (all f xs) p)
 
+  all-reversed : (xs : List A) → all f xs ≡ true → all f (reverse xs) ≡ true
+  all-reversed [] p = refl
+  all-reversed (x ∷ xs) p = ap (all f) (reverse-cons x xs) ∙ all-append (reverse xs) (x ∷ []) (all-reversed xs (and-right (f x) (all f xs) p)) (both (and-left (f x) (all f xs) p) refl)
+
+  pub all-reverse : (xs : List A) → all f (reverse xs) ≡ all f xs
+  all-reverse xs = same-test (all f (reverse xs)) (all f xs) (λ p. ap (all f) (sym (reverse-reverse xs)) ∙ all-reversed (reverse xs) p) (all-reversed xs)
+
 -- ---- map
 
 module _ {A B : Type 0} (f : A → B) where
@@ -73,6 +80,10 @@ module _ {A B : Type 0} (f : A → B) where
   map-drop zero xs = refl
   map-drop (suc n) [] = refl
   map-drop (suc n) (x ∷ xs) = map-drop n xs
+
+  pub map-reverse : (xs : List A) → map f (reverse xs) ≡ reverse (map f xs)
+  map-reverse [] = refl
+  map-reverse (x ∷ xs) = ap (map f) (reverse-cons x xs) ∙ (map-append (reverse xs) (x ∷ []) ∙ (ap (λ l. l ++ (f x ∷ [])) (map-reverse xs) ∙ sym (reverse-cons (f x) (map f xs))))
 
   pub map-turned : (k : ℕ) (xs : List A) → map f (turned k xs) ≡ turned k (map f xs)
   map-turned k xs = map-append (drop k xs) (take k xs) ∙ ap₂ (λ a b. a ++ b) (map-drop k xs) (map-take k xs)

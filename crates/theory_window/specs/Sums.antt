@@ -3,10 +3,10 @@ use Prim.Native.Nat.{ℕ, zero, suc, _*_, _≤_, _<_}
 use native.Mathlib.Omega.{arith}
 use mathlib.Core.Path.{_≡_, refl, sym, ap, _∙_}
 use mathlib.Core.Bool.{true}
-use mathlib.Core.List.{List, [], _∷_, _++_}
+use mathlib.Core.List.{List, [], _∷_, _++_, reverse, reverse-cons}
 use lib.ListN.{length, getD, take, drop, set, take-append-drop}
 use lib.Seq.{set-split, split-at}
-use lib.IntN.{ℤ, pos, natAbs, _+ℤ_, _-ℤ_, +ℤ-idl, +ℤ-assoc, +ℤ-comm, +ℤ-negℤ-cancel}
+use lib.IntN.{ℤ, pos, natAbs, _+ℤ_, _-ℤ_, +ℤ-idl, +ℤ-idr, +ℤ-assoc, +ℤ-comm, +ℤ-negℤ-cancel}
 use Rattle.meaning.specs.Base.{all}
 use Rattle.meaning.specs.Value.{inRange}
 use Rattle.meaning.specs.Window.{total, turned, zeros}
@@ -17,6 +17,12 @@ use Rattle.theory_window.specs.Lists.{and-left, and-right}
 pub total-append : (a b : List ℤ) → total (a ++ b) ≡ total a +ℤ total b
 total-append [] b = sym (+ℤ-idl (total b))
 total-append (x ∷ a) b = ap (λ t. x +ℤ t) (total-append a b) ∙ sym (+ℤ-assoc x (total a) (total b))
+
+pub total-reverse : (a : List ℤ) → total (reverse a) ≡ total a
+total-reverse [] = refl
+total-reverse (x ∷ a) =
+    ap total (reverse-cons x a)
+    ∙ (total-append (reverse a) (x ∷ []) ∙ ((λ i. total-reverse a i +ℤ +ℤ-idr x i) ∙ +ℤ-comm (total a) x))
 
 pub total-turned : (k : ℕ) (s : List ℤ) → total (turned k s) ≡ total s
 total-turned k s = total-append (drop k s) (take k s) ∙ (+ℤ-comm (total (drop k s)) (total (take k s)) ∙ (sym (total-append (take k s) (drop k s)) ∙ ap total (take-append-drop k s)))

@@ -1,15 +1,16 @@
 // A window over the values of the last finished segments, kept in a lent buffer: docs/WINDOW.md states its cells.
 ghost use mathlib.Core.Path.{_≡_};
-ghost use mathlib.Core.Bool.{true};
-ghost use Rattle.meaning.specs.Value.{inRange};
-ghost use Rattle.meaning.specs.Window.{wellKept, opensWindow, bringsValue, bringsRefusal};
+ghost use Rattle.meaning.specs.Window.{opensWindow, bringsValue, bringsRefusal};
 ghost use Rattle.meaning.specs.WindowStatements.{answerIn};
+ghost use Rattle.theory_window.specs.Parts.{answerOf};
+ghost use Rattle.window_push.specs.Parts as Parts;
 ghost use Rattle.window.specs.Answers.{answerIs, outcomeIs};
 use value::in_range;
 use window_cells::cell;
 use window_cells::clear;
 use window_cells::number_at;
-use window_kept::well_kept;
+use window_kept::Checked;
+use window_kept::check;
 use window_push::renew;
 
 // The largest size of a window.
@@ -21,6 +22,16 @@ pub enum WindowAnswer {
     Empty,
     // 42.
     Refused,
+}
+
+// Total and largest where a value is held.
+fn standing(held: usize, total: i64, largest: i64) -> WindowAnswer
+    ensures { λ r. ⌜ answerIs r ≡ answerOf held total largest ⌝ }
+{
+    if held == 0 {
+        return WindowAnswer::Empty;
+    }
+    WindowAnswer::Stands { total, largest }
 }
 
 // The total, and the value at the oldest leader.
@@ -37,13 +48,10 @@ fn answer(buffer: &[i64]) -> WindowAnswer
     WindowAnswer::Stands { total, largest }
 }
 
-fn push(value: i64, buffer: &mut [i64]) -> WindowAnswer
-    requires { ⌜ (wellKept (now buffer) ≡ true) × (inRange value ≡ true) ⌝ }
+fn push(value: i64, buffer: &mut [i64], size: usize, held: usize, next: usize) -> WindowAnswer
+    requires { ⌜ Parts.Brought (now buffer) size held next value ⌝ }
     ensures { λ r. ⌜ outcomeIs r (now (buffer .exit)) ≡ bringsValue value (now (buffer .entry)) ⌝ }
 {
-    let size = number_at(buffer, 0);
-    let held = number_at(buffer, 1);
-    let next = number_at(buffer, 2);
     renew(buffer, size, held, next, value);
     answer(buffer)
 }
@@ -74,18 +82,18 @@ pub fn window_value(value: i64, buffer: &mut [i64]) -> WindowAnswer
     if !in_range(value) {
         return WindowAnswer::Refused;
     }
-    if !well_kept(buffer) {
+    let Checked::Kept(size, held, next, _, _) = check(buffer) else {
         return WindowAnswer::Refused;
-    }
-    push(value, buffer)
+    };
+    push(value, buffer, size, held, next)
 }
 
-// A turnedBack segment changes nothing, and gets total and largest as they stand.
+// A refused segment changes nothing, and gets total and largest as they stand.
 pub fn window_state(buffer: &[i64]) -> WindowAnswer
     ensures { λ r. ⌜ answerIs r ≡ bringsRefusal (now (buffer .entry)) ⌝ }
 {
-    if !well_kept(buffer) {
+    let Checked::Kept(_, held, _, total, largest) = check(buffer) else {
         return WindowAnswer::Refused;
-    }
-    answer(buffer)
+    };
+    standing(held, total, largest)
 }

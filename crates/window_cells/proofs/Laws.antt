@@ -6,7 +6,7 @@ use mathlib.Core.Path.{_≡_, refl, sym, ap, _∙_}
 use mathlib.Core.Bool.{Bool, true, false, _&&_}
 use mathlib.Core.List.{List, [], _∷_, _++_}
 use borrow.Author.Tests.{leb-true, le-leb}
-use lib.IntN.{ℤ, pos, negsuc, natAbs, _+ℤ_, +ℤ-idr, +ℤ-assoc}
+use lib.IntN.{ℤ, pos, negsuc, natAbs}
 use lib.Signed.{leZ, nonNeg}
 use lib.Dec.{T, leb}
 use mir.Syntax.{w64}
@@ -15,7 +15,7 @@ use mir.Facts.{toZ-ofZ}
 use lib.ListN.{length, getD, take, drop, set, drop-of-length-le, length-replicate}
 use lib.Seq.{drop-cons, set-at, append-snoc, take-suc, length-take-le}
 use Rattle.meaning.specs.Base.{all}
-use Rattle.meaning.specs.Window.{total, zeros, small}
+use Rattle.meaning.specs.Window.{zeros, small}
 use Rattle.theory_window.specs.Lists.{and-right}
 
 -- ---- tests along cells
@@ -31,14 +31,6 @@ module _ {A : Type 0} (f : A → Bool) (xs : List A) (i : ℕ) where
 -- a signed cell is tested by its bits
 pub all-signed : (f : ℤ → Bool) (xs : List ℤ) (i : ℕ) (b : Bool) → i < length xs → SFits w64 (getD xs i (pos 0)) → b ≡ f (toZ w64 (ofZ w64 (getD xs i (pos 0)))) → all f xs ≡ all f (drop i xs) → all f xs ≡ b && all f (drop (i + 1) xs)
 all-signed f xs i b l s e q = all-tested f xs i (pos 0) b l (e ∙ ap f (toZ-ofZ s)) q
-
--- ---- totals
-
-pub total-turn : (xs : List ℤ) (i : ℕ) (sum : ℤ) → i < length xs → total xs ≡ sum +ℤ total (drop i xs) → total xs ≡ sum +ℤ getD xs i (pos 0) +ℤ total (drop (i + 1) xs)
-total-turn xs i sum l q = q ∙ (ap (λ t. sum +ℤ t) (rw (add-one i, drop-cons xs i (pos 0) l) refl) ∙ sym (+ℤ-assoc sum (getD xs i (pos 0)) (total (drop (i + 1) xs))))
-
-pub total-end : (xs : List ℤ) (i : ℕ) (sum : ℤ) → length xs ≤ i → total xs ≡ sum +ℤ total (drop i xs) → sum ≡ total xs
-total-end xs i sum l q = sym (q ∙ (ap (λ t. sum +ℤ total t) (drop-of-length-le xs {i = i} l) ∙ +ℤ-idr sum))
 
 -- ---- stores from the front
 

@@ -1,16 +1,13 @@
-// Cells of a window's buffer: small numbers read from them, and tests, totals and copies of stretches.
+// Cells of a window's buffer: small numbers read from them, and tests and copies of stretches.
 ghost use Prim.Native.Nat.{_≤_};
 ghost use mathlib.Core.Path.{_≡_};
-ghost use mathlib.Core.Bool.{true};
 ghost use lib.ListN.{length, getD, take};
 ghost use lib.IntN.{pos};
 ghost use Rattle.meaning.specs.Base.{all};
-ghost use Rattle.meaning.specs.Value.{inRange};
 ghost use Rattle.meaning.specs.Window as Window;
-ghost use Rattle.meaning.specs.Window.{total, zeros, numberAt, sameNumber};
+ghost use Rattle.meaning.specs.Window.{zeros, numberAt, sameNumber};
 ghost use Rattle.theory_window.specs.Parts.{isZero};
 use value::in_bounds;
-use value::in_range;
 
 pub fn same(a: i64, b: i64) -> bool
     ensures { λ r. ⌜ r ≡ sameNumber a b ⌝ }
@@ -47,21 +44,6 @@ pub fn number_at(cells: &[i64], at: usize) -> usize
     small(cell(cells, at))
 }
 
-pub fn all_valued(cells: &[i64]) -> bool
-    ensures { λ r. ⌜ r ≡ all inRange (now (cells .entry)) ⌝ }
-{
-    let mut i = 0;
-    while i < cells.len() {
-        let v = cells[i];
-        if in_range(v) {
-            i += 1;
-        } else {
-            return false;
-        }
-    }
-    true
-}
-
 pub fn all_zero(cells: &[i64]) -> bool
     ensures { λ r. ⌜ r ≡ all isZero (now (cells .entry)) ⌝ }
 {
@@ -75,20 +57,6 @@ pub fn all_zero(cells: &[i64]) -> bool
         }
     }
     true
-}
-
-pub fn total_of(cells: &[i64]) -> i64
-    requires { ⌜ (length (now cells) ≤ 64) × (all inRange (now cells) ≡ true) ⌝ }
-    ensures { λ r. ⌜ r ≡ total (now (cells .entry)) ⌝ }
-{
-    let mut sum: i64 = 0;
-    let mut i = 0;
-    while i < cells.len() {
-        let v = cells[i];
-        sum += v;
-        i += 1;
-    }
-    sum
 }
 
 pub fn clear(cells: &mut [i64])

@@ -1,2 +1,2 @@
-pub mod Matching
+pub mod Walking
 pub mod Checking

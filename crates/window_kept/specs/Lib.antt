@@ -1,2 +1,3 @@
 pub mod Parts
 pub mod Cut
+pub mod Checks

@@ -1,15 +1,13 @@
 -- What the inner functions of the check need and answer.
 use Prim.Native.Nat.{ℕ, _+_, _≤_, _<_}
 use mathlib.Core.Path.{_≡_}
-use mathlib.Core.Bool.{Bool, true, _&&_}
-use mathlib.Core.List.{List}
+use mathlib.Core.Bool.{Bool, _&&_}
+use mathlib.Core.List.{List, map}
 use lib.ListN.{length, take, drop}
 use lib.Dec.{leb}
 use lib.IntN.{ℤ}
-use Rattle.meaning.specs.Base.{all}
-use Rattle.meaning.specs.Value.{inRange}
-use Rattle.meaning.specs.Window.{leadersOf, heldIn, nextIn, totalIn, placeFits}
-use Rattle.theory_window.specs.Parts.{countIn, valuesFit, leadersFit}
+use Rattle.meaning.specs.Window.{small, heldIn, nextIn, totalIn, placeFits}
+use Rattle.theory_window.specs.Parts.{countIn, valuesFit, restZero}
 
 -- slots and leader cells that fit their window's numbers
 pub record Window (s area : List ℤ) (h k c : ℕ) : Type 0 where
@@ -18,12 +16,11 @@ pub record Window (s area : List ℤ) (h k c : ℕ) : Type 0 where
   pub held : h ≤ length s
   pub next : k < length s
   pub count : c ≤ length s
-  pub ranged : all inRange s ≡ true
 
 -- of a buffer with this size, all but the size's own tests
 abbrev pub partsKept : List ℤ → ℕ → Bool
 partsKept b n =
     placeFits n (heldIn b) (nextIn b)
-    && (valuesFit (heldIn b) (take n (drop 5 b)) (totalIn b)
     && (leb (countIn b) n
-    && leadersFit (countIn b) (take n (drop (5 + n) b)) (leadersOf n (heldIn b) (nextIn b) (take n (drop 5 b)))))
+    && (restZero (heldIn b) (take n (drop 5 b)) (countIn b) (take n (drop (5 + n) b))
+    && valuesFit n (heldIn b) (nextIn b) (take n (drop 5 b)) (map small (take (countIn b) (take n (drop (5 + n) b)))) (totalIn b)))

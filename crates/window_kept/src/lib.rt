@@ -3,17 +3,22 @@ ghost use Prim.Native.Nat.{_+_, _*_, _<_, _≤_};
 ghost use mathlib.Core.Path.{_≡_};
 ghost use mathlib.Core.List.{map};
 ghost use lib.ListN.{length, take};
-ghost use Rattle.meaning.specs.Window.{small, leadersOf, placeFits, wellKept};
-ghost use Rattle.theory_window.specs.Parts.{eqNumbers, valuesFit, leadersFit};
+ghost use Rattle.meaning.specs.Window.{small, placeFits};
+ghost use Rattle.theory_window.specs.Parts.{restZero, topAt, valuesFit};
 ghost use Rattle.theory_window.specs.Leaders as Leaders;
 ghost use Rattle.window_kept.specs.Parts as Parts;
-ghost use Rattle.window_kept.specs.Parts.{partsKept};
+ghost use Rattle.window_kept.specs.Checks.{checked, checkedParts, checkedIn};
 use value::MARK;
-use window_cells::all_valued;
+use value::in_range;
 use window_cells::all_zero;
 use window_cells::number_at;
 use window_cells::same;
-use window_cells::total_of;
+
+pub enum Checked {
+    // Size, number held, next slot, total, and the largest value: MARK before the first.
+    Kept(usize, usize, usize, i64, i64),
+    Wrong,
+}
 
 fn before(size: usize, slot: usize) -> usize
     requires { ⌜ slot < size ⌝ }
@@ -40,26 +45,21 @@ fn place_fits(size: usize, held: usize, next: usize) -> bool
     next == held
 }
 
-fn values_fit(slots: &[i64], held: usize, sum: i64) -> bool
-    requires { ⌜ (length (now slots) ≤ 64) × (held ≤ length (now slots)) ⌝ }
-    ensures { λ r. ⌜ r ≡ valuesFit held (now (slots .entry)) sum ⌝ }
-{
-    if !all_valued(slots) {
-        return false;
-    }
-    if !all_zero(&slots[held..]) {
-        return false;
-    }
-    same(sum, total_of(slots))
-}
-
-// The leaders, by a walk from the newest value, are the first `count` leader cells.
-fn leaders_match(slots: &[i64], area: &[i64], held: usize, next: usize, count: usize) -> bool
+// The values held, by one walk from the newest: each in range, their total `sum`, and their leaders the first `count` leader cells.
+fn values_fit(
+    slots: &[i64],
+    area: &[i64],
+    held: usize,
+    next: usize,
+    count: usize,
+    sum: i64,
+) -> Checked
     requires { ⌜ Parts.Window (now slots) (now area) held next count ⌝ }
-    ensures { λ r. ⌜ r ≡ eqNumbers (map small (take count (now (area .entry)))) (leadersOf (length (now (slots .entry))) held next (now (slots .entry))) ⌝ }
+    ensures { λ r. ⌜ r ≡ checked (valuesFit (length (now (slots .entry))) held next (now (slots .entry)) (map small (take count (now (area .entry)))) sum) (length (now (slots .entry))) held next sum (topAt (now (slots .entry)) (now (area .entry)) count 0) ⌝ }
 {
     let size = slots.len();
     let mut top: i64 = MARK;
+    let mut total: i64 = 0;
     let mut slot = next;
     let mut unmatched = count;
     let mut left = held;
@@ -67,64 +67,76 @@ fn leaders_match(slots: &[i64], area: &[i64], held: usize, next: usize, count: u
         slot = before(size, slot);
         left -= 1;
         let v = slots[slot];
+        if !in_range(v) {
+            return Checked::Wrong;
+        }
+        total += v;
         if v <= top {
             continue;
         }
         if unmatched == 0 {
-            return false;
+            return Checked::Wrong;
         }
         unmatched -= 1;
         if number_at(area, unmatched) != slot {
-            return false;
+            return Checked::Wrong;
         }
         top = v;
     }
-    unmatched == 0
+    if 0 < unmatched {
+        return Checked::Wrong;
+    }
+    if !same(sum, total) {
+        return Checked::Wrong;
+    }
+    Checked::Kept(size, held, next, sum, top)
 }
 
-fn leaders_fit(slots: &[i64], area: &[i64], held: usize, next: usize, count: usize) -> bool
-    requires { ⌜ Parts.Window (now slots) (now area) held next count ⌝ }
-    ensures { λ r. ⌜ r ≡ leadersFit count (now (area .entry)) (leadersOf (length (now (slots .entry))) held next (now (slots .entry))) ⌝ }
+// 0 in the slots that hold no value yet and in the leader cells past the leaders.
+fn rest_zero(slots: &[i64], area: &[i64], held: usize, count: usize) -> bool
+    requires { ⌜ (held ≤ length (now slots)) × (count ≤ length (now area)) ⌝ }
+    ensures { λ r. ⌜ r ≡ restZero held (now (slots .entry)) count (now (area .entry)) ⌝ }
 {
-    if !leaders_match(slots, area, held, next, count) {
+    if !all_zero(&slots[held..]) {
         return false;
     }
     all_zero(&area[count..])
 }
 
-fn parts_kept(buffer: &[i64], size: usize) -> bool
+fn parts_kept(buffer: &[i64], size: usize) -> Checked
     requires { ⌜ (size ≤ 64) × (5 + 2 * size ≤ length (now buffer)) ⌝ }
-    ensures { λ r. ⌜ r ≡ partsKept (now (buffer .entry)) size ⌝ }
+    ensures { λ r. ⌜ r ≡ checkedParts (now (buffer .entry)) size ⌝ }
 {
     let held = number_at(buffer, 1);
     let next = number_at(buffer, 2);
     if !place_fits(size, held, next) {
-        return false;
-    }
-    let slots = &buffer[5..5 + size];
-    if !values_fit(slots, held, buffer[3]) {
-        return false;
+        return Checked::Wrong;
     }
     let count = number_at(buffer, 4);
     if size < count {
-        return false;
+        return Checked::Wrong;
     }
+    let slots = &buffer[5..5 + size];
     let area = &buffer[5 + size..5 + 2 * size];
-    leaders_fit(slots, area, held, next, count)
+    if !rest_zero(slots, area, held, count) {
+        return Checked::Wrong;
+    }
+    values_fit(slots, area, held, next, count, buffer[3])
 }
 
-pub fn well_kept(buffer: &[i64]) -> bool
-    ensures { λ r. ⌜ r ≡ wellKept (now (buffer .entry)) ⌝ }
+// Whether the buffer is well kept, and what the test has read of it. No cell is read twice.
+pub fn check(buffer: &[i64]) -> Checked
+    ensures { λ r. ⌜ r ≡ checkedIn (now (buffer .entry)) ⌝ }
 {
     let size = number_at(buffer, 0);
     if size < 1 {
-        return false;
+        return Checked::Wrong;
     }
     if 64 < size {
-        return false;
+        return Checked::Wrong;
     }
     if buffer.len() < 5 + 2 * size {
-        return false;
+        return Checked::Wrong;
     }
     parts_kept(buffer, size)
 }

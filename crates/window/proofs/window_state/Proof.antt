@@ -1,28 +1,42 @@
 use mathlib.Core.Path.{_≡_, sym, _∙_}
-use mathlib.Core.Bool.{true}
 use denote.Ref.{now}
-use borrow.Author.Tests.{not-true, not-false}
+use mir.Syntax.{w64}
+use mir.Val.{toZ, ofZ}
+use Rattle.theory_window.specs.Parts.{answerOf}
 use Rattle.theory_window.specs.Cases.{state-not, state-met}
-use Rattle.meaning.specs.Window.{wellKept}
-use Rattle.theory_window.specs.Brought.{answer-kept}
+use Rattle.theory_window.specs.Brought.{passed, answer-read}
+use Rattle.window_kept.specs.Checks.{told-kept, told-wrong}
 use borrow.Author.Needs.{needs}
 use Rattle.window.proofs.window_state.Statement.{statement}
 use Rattle.window.proofs.window_state.Tie as tie
 
-well-kept-requires : tie.Need-well-kept-requires
-well-kept-requires c κs = search needs
+check-requires : tie.Need-check-requires
+check-requires c κs = search needs
+
+enum-known-held : tie.Need-enum-known-held
+enum-known-held c = search needs
+
+enum-told : tie.Need-enum-told
+enum-told c = search needs
 
 returns : tie.Need-returns
-returns c = let b = now (c .before .before .args .buffer) in sym (state-not b (sym (c .before .well-kept .ensures) ∙ not-true (c .before .well-kept .result) (c .if1 .taken)))
+returns c =
+    let b = now (c .before .before .before .args .buffer) in
+    sym (state-not b (told-wrong b (c .before .before .check .ensures) (c .enum-told .given .1)))
 
-answer-requires : tie.Need-answer-requires
-answer-requires c κs = search needs
+standing-requires : tie.Need-standing-requires
+standing-requires c κs = search needs
 
 returns-2 : tie.Need-returns-2
 returns-2 c =
-    let b = now (c .before .before .before .args .buffer) in
-    let t : wellKept b ≡ true = sym (c .before .before .well-kept .ensures) ∙ not-false (c .before .before .well-kept .result) (c .before .if1 .left) in
-    c .answer .ensures ∙ (answer-kept b t ∙ sym (state-met b t))
+    let b = now (c .before .before .before .before .before .args .buffer) in
+    let w = told-kept b (c .before .before .before .before .check .ensures) (c .before .before .held .given .1) in
+    let r = c .before .before .held .given .0 in
+    let t : toZ w64 (ofZ w64 (r .1 .1 .1 .0)) ≡ r .1 .1 .1 .0 = search needs in
+    let l : toZ w64 (ofZ w64 (r .1 .1 .1 .1 .0)) ≡ r .1 .1 .1 .1 .0 = search needs in
+    c .standing .ensures ∙ ((λ i. answerOf (w .held i) ((t ∙ w .total) i) ((l ∙ w .largest) i)) ∙ (answer-read b (passed b (w .kept)) ∙ sym (state-met b (w .kept))))
 
 pub window-state-spec : {M : Type 1} → statement M
-window-state-spec = tie.close (tie.spec well-kept-requires returns answer-requires returns-2)
+window-state-spec =
+    tie.close
+    (tie.spec check-requires enum-known-held enum-told returns standing-requires returns-2)

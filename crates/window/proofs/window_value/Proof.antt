@@ -1,11 +1,15 @@
 use mathlib.Core.Path.{_≡_, refl, sym, ap, _∙_}
 use mathlib.Core.Bool.{true, false, _&&_}
 use denote.Ref.{now}
+use mir.Syntax.{w64}
+use mir.Val.{toZ, ofZ}
 use Rattle.meaning.specs.Value.{inRange}
 use Rattle.meaning.specs.Window.{wellKept, bringsValue}
 use borrow.Author.Tests.{not-true, not-false}
 use Rattle.window_cells.specs.Signed.{back}
 use Rattle.theory_window.specs.Cases.{value-not}
+use Rattle.window_kept.specs.Checks.{told-kept, told-wrong}
+use Rattle.window_push.specs.Sizes.{brought}
 use borrow.Author.Needs.{needs}
 use Rattle.window.proofs.window_value.Statement.{statement}
 use Rattle.window.proofs.window_value.Tie as tie
@@ -22,32 +26,41 @@ returns c =
     let t : inRange (s .args .value) ≡ false = tested (c .before) ∙ not-true (c .before .in-range .result) (c .if1 .taken) in
     sym (value-not (s .args .value) (now (s .args .buffer)) (rw t refl))
 
-well-kept-requires : tie.Need-well-kept-requires
-well-kept-requires c κs = search needs
+check-requires : tie.Need-check-requires
+check-requires c κs = search needs
+
+enum-known-size : tie.Need-enum-known-size
+enum-known-size c = search needs
+
+enum-told : tie.Need-enum-told
+enum-told c = search needs
 
 same-length : tie.Need-same-length
 same-length c = search needs
 
 returns-2 : tie.Need-returns-2
 returns-2 c =
-    let s = c .before .before .before .before .before in
+    let s = c .before .before .before .before .before .before in
     let b = now (s .args .buffer) in
-    let t : inRange (s .args .value) ≡ true = tested (c .before .before .before .before) ∙ not-false (c .before .before .before .before .in-range .result) (c .before .before .before .if1 .left) in
-    let w : wellKept b ≡ false = sym (c .before .well-kept .ensures) ∙ not-true (c .before .well-kept .result) (c .if2 .taken) in
+    let i = c .before .before .before .before .before in
+    let t : inRange (s .args .value) ≡ true = tested i ∙ not-false (i .in-range .result) (c .before .before .before .before .if1 .left) in
+    let w : wellKept b ≡ false = told-wrong b (c .before .before .check .ensures) (c .enum-told .given .1) in
     sym (value-not (s .args .value) b (ap (λ x. x && wellKept b) t ∙ w))
 
 push-requires : tie.Need-push-requires
 push-requires c κs =
-    let s = c .before .before .before .before .before .before in
-    let t : inRange (s .args .value) ≡ true = tested (c .before .before .before .before .before) ∙ not-false (c .before .before .before .before .before .in-range .result) (c .before .before .before .before .if1 .left) in
-    (sym (c .before .before .well-kept .ensures) ∙ not-false (c .before .before .well-kept .result) (c .before .if2 .left), ap inRange (back (s .args .value) (s .fits .value)) ∙ t)
+    let s = c .before .before .before .before .before .before .before .before in
+    let i = c .before .before .before .before .before .before .before in
+    let b = now (s .args .buffer) in
+    let w = told-kept b (c .before .before .before .before .check .ensures) (c .before .before .size .given .1) in
+    brought b _ _ _ (toZ w64 (ofZ w64 (s .args .value))) (w .kept) (ap inRange (back (s .args .value) (s .fits .value)) ∙ (tested i ∙ not-false (i .in-range .result) (c .before .before .before .before .before .before .if1 .left))) (w .size) (w .held) (w .next)
 
 same-length-2 : tie.Need-same-length-2
 same-length-2 c = search needs
 
 returns-3 : tie.Need-returns-3
 returns-3 c =
-    let s = c .before .before .before .before .before .before .before .before in
+    let s = c .before .before .before .before .before .before .before .before .before .before in
     c .before .push .ensures ∙ ap (λ v. bringsValue v (now (s .args .buffer))) (back (s .args .value) (s .fits .value))
 
 pub window-value-spec : {M : Type 1} → statement M
@@ -56,7 +69,9 @@ window-value-spec =
     (tie.spec
     in-range-requires
     returns
-    well-kept-requires
+    check-requires
+    enum-known-size
+    enum-told
     same-length
     returns-2
     push-requires

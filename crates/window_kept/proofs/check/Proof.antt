@@ -6,8 +6,8 @@ use lib.ListN.{length}
 use borrow.Author.Tests.{le-leb, lt-leb}
 use Rattle.window_kept.proofs.Checking.{size-not, size-met}
 use borrow.Author.Needs.{needs}
-use Rattle.window_kept.proofs.well_kept.Statement.{statement}
-use Rattle.window_kept.proofs.well_kept.Tie as tie
+use Rattle.window_kept.proofs.check.Statement.{statement}
+use Rattle.window_kept.proofs.check.Tie as tie
 
 number-at-requires : tie.Need-number-at-requires
 number-at-requires c κs = search needs
@@ -45,8 +45,8 @@ returns-4 c =
     let b = now (c .before .before .before .before .before .args .buffer) in
     size-met b (n .result) (n .ensures .0) (rw (le-leb 1 (n .result) (omega arith), le-leb (n .result) 64 (omega arith), le-leb (5 + 2 * n .result) (length b) (omega arith)) refl) (c .parts-kept .ensures)
 
-pub well-kept-spec : {M : Type 1} → statement M
-well-kept-spec =
+pub check-spec : {M : Type 1} → statement M
+check-spec =
     tie.close
     (tie.spec
     number-at-requires
