@@ -1,122 +1,51 @@
--- The ways of the functions on one field and on intervals.
-use Prim.Native.Nat.{ℕ, _+_, _-_, _≤_, _<_, min, max}
+-- The ways of the functions on two productions.
+use Prim.Native.Nat.{ℕ, _+_, _-_, _*_, _≤_, _<_, min, max}
 use native.Mathlib.Omega.{arith}
-use mathlib.Core.Path.{_≡_, refl, sym, ap, ap₂, _∙_, subst}
-use mathlib.Core.Bool.{Bool, true, false}
+use mathlib.Core.Path.{_≡_, sym, ap, _∙_, subst}
+use mathlib.Core.Bool.{Bool, true, false, _&&_}
 use mathlib.Core.List.{List, [], _++_}
-use mathlib.Core.Option.{Option, none, some}
-use borrow.Author.Tests.{eq-eqb, ne-eqb, lt-leb}
-use lib.Dec.{T, eqb, leb}
-use lib.ListN.{getD, set, length, take, drop}
-use lib.Seq.{set-getD}
+use borrow.Author.Tests.{lt-leb}
+use lib.Dec.{T, eqb, leb, leb→le, le→leb}
+use lib.ListN.{getD, length, take, drop}
 use Rattle.meaning.specs.Base.{all, countFrom}
-use lib.IntN.{ℤ, natAbs}
-use mir.Syntax.{w64}
-use mir.Facts.{toZ-ofZ}
-use mir.Val.{SFits, toZ, ofZ}
-use Rattle.meaning.specs.Grammar.{Condition, range, atmost, Production, Grammar, productionAt}
+use lib.IntN.{ℤ}
+use Rattle.meaning.specs.Grammar.{Production, Grammar, productionAt}
+use Rattle.meaning.specs.Sets.{has, singleton}
+use Rattle.meaning.specs.Decide.{meet}
 use Rattle.meaning.specs.Differences.{constrained, matrixOf, closed, noneNegative, solvable}
-use Rattle.meaning.specs.Table.{byte, constantAt}
 use Rattle.theory_base.specs.Members.{T→true}
 use Rattle.theory_sets.specs.Intervals.{entry}
 use Rattle.theory_sets.specs.Widths.{both-true}
+use Rattle.token_set.specs.Words.{setOf}
+use Rattle.analysis.specs.Views.{members}
+use Rattle.analysis.specs.Growth.{none-in, single-is}
 use Rattle.analysis.specs.Numbers.{all-count, count-all}
-use Rattle.clash.specs.Intervals.{biased}
-use Rattle.clash.specs.Entry.{atEntry, raiseBy, lowerBy, rankBy, raised, lowered, leaveValues, entryHere, conditionHere, offsetHere, ifEntry, afterField, Stretch}
-use Rattle.clash.specs.Together.{enterTogether, grammarIn, lowest, highest, rank-most, matrix-told, ranges-told, compared-told}
-use Rattle.clash.specs.Walk.{afterAll, from-on}
-use Rattle.clash.specs.Clashing.{Placed}
-
--- ---- a signed local holds bits: a number that it holds is read back
-
-pub held : {z y : ℤ} → SFits w64 z → z ≡ y → toZ w64 (ofZ w64 z) ≡ y
-held f e = toZ-ofZ f ∙ e
-
-pub held-size : {z : ℤ} {n : ℕ} → SFits w64 z → natAbs z ≤ n → natAbs (toZ w64 (ofZ w64 z)) ≤ n
-held-size f l = rw (toZ-ofZ f) l
-
--- ---- one end
-
-module _ (ends : List ℕ) (i : ℕ) where
-  pub set-as : (v w : ℕ) → v ≡ w → set ends i v ≡ set ends i w
-  set-as v w e = ap (set ends i) e
-
-  pub kept-as : (w : ℕ) → w ≡ getD ends i 0 → ends ≡ set ends i w
-  kept-as w e = sym (ap (set ends i) e ∙ set-getD ends i 0)
-
--- ---- one field
-
-module _ (d : List ℕ) (t : ℕ) (et : t ≡ byte d 0) where
-  pub entry-tag : (t ≡ 5 → ⊥) → false ≡ entryHere d
-  unfolding entryHere
-  entry-tag n = sym (rw (sym et, ne-eqb t 5 n) refl)
-
-  module _ (tag : t ≡ 5) (p : ℕ) (ep : p ≡ byte d 4) where
-    pub entry-place : (p ≡ 0 → ⊥) → false ≡ entryHere d
-    unfolding entryHere
-    entry-place n = sym (rw (sym et, eq-eqb t 5 tag, sym ep, ne-eqb p 0 n) refl)
-
-    module _ (z : p ≡ 0) (k : ℕ) (ek : k ≡ byte d 3) where
-      pub entry-range : k ≡ 0 → true ≡ entryHere d
-      unfolding entryHere
-      entry-range y = sym (rw (sym et, eq-eqb t 5 tag, sym ep, eq-eqb p 0 z, sym ek, eq-eqb k 0 y) refl)
-
-      pub entry-other : (k ≡ 0 → ⊥) → (q : ℕ) → q ≡ byte d 6 → eqb q 0 ≡ entryHere d
-      unfolding entryHere
-      entry-other y q eq = sym (rw (sym et, eq-eqb t 5 tag, sym ep, eq-eqb p 0 z, sym ek, ne-eqb k 0 y, sym eq) refl)
-
--- a condition by its kind
-module _ (d : List ℕ) (k : ℕ) (ek : k ≡ byte d 3) where
-  abbrev byKind : Bool → Condition ℕ
-  byKind b = elim b [ true ↦ range (byte d 5) (constantAt d 6) (constantAt d 10) | false ↦ atmost (byte d 5) (byte d 7) (offsetHere d) ]
-
-  abbrev byOffset : Bool → Option ℤ
-  byOffset b = elim b [ true ↦ none | false ↦ some (constantAt d 8) ]
-
-  pub range-here : k ≡ 0 → conditionHere d ≡ range (byte d 5) (constantAt d 6) (constantAt d 10)
-  unfolding conditionHere
-  range-here z = ap byKind (eq-eqb (byte d 3) 0 (sym ek ∙ z))
-
-  pub compare-here : (k ≡ 0 → ⊥) → conditionHere d ≡ atmost (byte d 5) (byte d 7) (offsetHere d)
-  unfolding conditionHere
-  compare-here n = ap byKind (ne-eqb (byte d 3) 0 (λ z. n (ek ∙ z)))
-
-  pub offset-none : k ≡ 1 → offsetHere d ≡ none
-  unfolding offsetHere
-  offset-none z = ap byOffset (eq-eqb (byte d 3) 1 (sym ek ∙ z))
-
-  pub offset-some : (k ≡ 1 → ⊥) → offsetHere d ≡ some (constantAt d 8)
-  unfolding offsetHere
-  offset-some n = ap byOffset (ne-eqb (byte d 3) 1 (λ z. n (ek ∙ z)))
-
-module _ {S : Type 0} (f : Condition ℕ → S → S) (d : List ℕ) (s : S) where
-  pub field-passed : entryHere d ≡ false → s ≡ afterField f d s
-  unfolding afterField
-  field-passed n = sym (ap (λ b. ifEntry b (f (conditionHere d) s) s) n)
-
-  pub field-taken : entryHere d ≡ true → (c : Condition ℕ) → conditionHere d ≡ c → f c s ≡ afterField f d s
-  unfolding afterField
-  field-taken t c e = sym (ap₂ (λ b c. ifEntry b (f c s) s) t e)
-
-module _ (d ends : List ℕ) (here : entryHere d ≡ true) (k : ℕ) (ek : k ≡ byte d 3) (z : k ≡ 0) (i a : ℕ) (ea : a ≡ byte d 5) (ei : i ≡ a - 1) (v : ℕ) (new : List ℕ) where
-  pub raise-here : v ≡ biased (constantAt d 6) → new ≡ set ends i (max v (getD ends i 0)) → new ≡ afterField raiseBy d ends
-  raise-here ev e = e ∙ ap₂ (λ j w. set ends j (max w (getD ends j 0))) (ei ∙ ap (λ z. z - 1) ea) ev ∙ field-taken raiseBy d ends here _ (range-here d k ek z)
-
-  pub lower-here : v ≡ biased (constantAt d 10) → new ≡ set ends i (min v (getD ends i 0)) → new ≡ afterField lowerBy d ends
-  lower-here ev e = e ∙ ap₂ (λ j w. set ends j (min w (getD ends j 0))) (ei ∙ ap (λ z. z - 1) ea) ev ∙ field-taken lowerBy d ends here _ (range-here d k ek z)
+use Rattle.entry_conditions.specs.Entry.{atEntry, rankBy, raised, lowered, Stretch}
+use Rattle.clash.specs.Together.{enterTogether, grammarIn, rank-most, matrix-told, ranges-told, compared-told}
+use Rattle.entry_conditions.specs.Walk.{afterAll, from-on}
+use Rattle.clash.specs.Kept.{leaveValues}
+use Rattle.clash.specs.Clashing.{Placed, Kept}
 
 -- ---- all intervals
 
-module _ (lows highs : List ℕ) where
-  pub values-left : ((a : ℕ) → a < 8 → T (leb (getD lows a 0) (getD highs a 0))) → true ≡ leaveValues lows highs
-  unfolding leaveValues
-  values-left k = sym (T→true _ (all-count (λ a. leb (getD lows a 0) (getD highs a 0)) 0 8 (λ a l m. k a m)))
+module _ (l h m i : ℕ) where
+  pub apart : min h i < max l m → false ≡ leb (max l m) (min h i)
+  apart e = sym (lt-leb (max l m) (min h i) e)
 
-  pub none-left : (a : ℕ) → a < 8 → getD highs a 0 < getD lows a 0 → false ≡ leaveValues lows highs
+  pub overlapping : l ≤ h → m ≤ h → l ≤ i → leb m i ≡ leb (max l m) (min h i)
+  overlapping x y z = both-true (leb m i) (leb (max l m) (min h i)) (λ t. let u = leb→le m i t in le→leb (max l m) (min h i) (omega arith)) (λ t. let u = leb→le (max l m) (min h i) t in le→leb m i (omega arith))
+
+module _ (lows highs : List ℕ) (p q : ℕ) where
+  abbrev pub overlapAt : ℕ → Bool
+  overlapAt a = leb (max (getD lows (8 * p + a) 0) (getD lows (8 * q + a) 0)) (min (getD highs (8 * p + a) 0) (getD highs (8 * q + a) 0))
+
+  pub values-left : ((a : ℕ) → a < 8 → T (overlapAt a)) → true ≡ leaveValues lows highs p q
   unfolding leaveValues
-  none-left a l h =
-      both-true false (all (λ a. leb (getD lows a 0) (getD highs a 0)) (countFrom 0 8)) (λ t. absurd t)
-      (λ t. rw (lt-leb (getD lows a 0) (getD highs a 0) h) at (count-all (λ a. leb (getD lows a 0) (getD highs a 0)) 0 8 t a (omega arith) l))
+  values-left k = sym (T→true _ (all-count overlapAt 0 8 (λ a l m. k a m)))
+
+  pub none-left : (a : ℕ) → a < 8 → overlapAt a ≡ false → false ≡ leaveValues lows highs p q
+  unfolding leaveValues
+  none-left a l h = both-true false (all overlapAt (countFrom 0 8)) (λ t. absurd t) (λ t. rw h at (count-all overlapAt 0 8 t a (omega arith) l))
 
 -- ---- two productions
 
@@ -124,15 +53,15 @@ module _ (lows highs : List ℕ) where
 pub stretch-slice : {t offsets : List ℕ} {p : ℕ} → Placed t offsets p → (from : ℕ) → from ≡ getD offsets p 0 → Stretch (take (length t - from) (drop from t)) (productionAt (grammarIn t) p)
 stretch-slice {t} {offsets} {p} x from e = subst (λ z. Stretch z (productionAt (grammarIn t) p)) (sym (from-on t from ∙ ap (λ n. drop n t) e)) (x .stretch)
 
--- by intervals: what is found of p and then of q
+-- by intervals
 pub values-told :
-    (g : Grammar) (p q : Production) {first second : ℕ} {lows₁ highs₁ lows highs : List ℕ} {r : Bool} → first ≡ afterAll rankBy p 0 → (first ≡ 0 → ⊥) → second ≡ afterAll rankBy q 0 → (second ≡ 0 → ⊥) → first + second ≤ 2
-    → lows₁ ≡ afterAll raiseBy p lowest → highs₁ ≡ afterAll lowerBy p highest → lows ≡ afterAll raiseBy q lows₁ → highs ≡ afterAll lowerBy q highs₁
-    → T (all (entry 8) (atEntry (p .conditions))) → T (all (entry 8) (atEntry (q .conditions))) → r ≡ leaveValues lows highs → r ≡ enterTogether g p q
+    {t offsets lows highs ranks : List ℕ} {p q : ℕ} {r : Bool} → Placed t offsets p → Kept t lows highs ranks p → Placed t offsets q → Kept t lows highs ranks q
+    → (getD ranks p 0 ≡ 0 → ⊥) → (getD ranks q 0 ≡ 0 → ⊥) → getD ranks p 0 + getD ranks q 0 ≤ 2 → r ≡ leaveValues lows highs p q → r ≡ enterTogether (grammarIn t) (productionAt (grammarIn t) p) (productionAt (grammarIn t) q)
 unfolding raised lowered
-values-told g p q a i b j sum x y z w f k e =
-    e ∙ ap₂ leaveValues (z ∙ ap (raised (atEntry (q .conditions))) x) (w ∙ ap (lowered (atEntry (q .conditions))) y)
-    ∙ ranges-told g p q (omega arith) (omega arith) f k (omega arith)
+values-told {t} {p = p} {q = q} x kp y kq i j sum e =
+    let a = kp .rank in
+    let b = kq .rank in
+    e ∙ ranges-told (grammarIn t) (productionAt (grammarIn t) p) (productionAt (grammarIn t) q) (omega arith) (omega arith) (x .stretch .fits) (y .stretch .fits) (omega arith) (kp .low) (kq .low) (kp .high) (kq .high)
 
 pub differences-told :
     (g : Grammar) (p q : Production) {first second : ℕ} {r : Bool} → first ≡ afterAll rankBy p 0 → (first ≡ 0 → ⊥) → second ≡ afterAll rankBy q 0 → (second ≡ 0 → ⊥) → 3 ≤ first + second
@@ -148,3 +77,12 @@ pub solved-told :
     (p q : Production) {m₁ m : List ℤ} {r : Bool} → m₁ ≡ afterAll constrained p (matrixOf 8 []) → m ≡ afterAll constrained q m₁ → T (all (entry 8) (atEntry (p .conditions))) → T (all (entry 8) (atEntry (q .conditions)))
     → r ≡ noneNegative (closed m) → r ≡ solvable 8 (atEntry (p .conditions) ++ atEntry (q .conditions))
 solved-told p q x y f k e = e ∙ ap (λ z. noneNegative (closed z)) (y ∙ ap (afterAll constrained q) x) ∙ matrix-told (atEntry (p .conditions)) (atEntry (q .conditions)) f k
+
+-- ---- a left side whose sets meet
+
+module _ (seen s left : ℕ) (small : left < 64) (b : Bool) (e : b ≡ meet (setOf seen) (setOf s)) where
+  pub crossing-met : b ≡ true → (r : ℕ) → setOf r ≡ singleton left → (a : ℕ) → members r a ≡ (meet (setOf seen) (setOf s) && eqb left a)
+  crossing-met t r i a = ap (λ z. has z a) i ∙ (single-is left a small ∙ sym (ap (λ z. z && eqb left a) (sym e ∙ t)))
+
+  pub crossing-none : b ≡ false → (a : ℕ) → members 0 a ≡ (meet (setOf seen) (setOf s) && eqb left a)
+  crossing-none t a = none-in a ∙ sym (ap (λ z. z && eqb left a) (sym e ∙ t))

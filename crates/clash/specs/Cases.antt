@@ -1,19 +1,17 @@
--- 01's starred cases, and fields, by computation.
+-- 01's starred cases, by computation.
 use Prim.Native.Nat.{ℕ}
 use mathlib.Core.Path.{_≡_, refl}
 use mathlib.Core.Bool.{Bool, true, false}
-use mathlib.Core.List.{List, [], _∷_, map}
+use mathlib.Core.List.{[], _∷_, _++_}
 use lib.IntN.{pos, negsuc}
-use lib.ListN.{set}
-use mathlib.Core.Option.{none, some}
-use Rattle.meaning.specs.Grammar.{Condition, range, atmost}
-use Rattle.clash.specs.Intervals.{biased}
-use Rattle.clash.specs.Entry.{raised, lowered, leaveValues, rankBy, raiseBy, after, fieldSize, entryHere, conditionHere, offsetHere, afterField}
-use Rattle.clash.specs.Together.{lowest, highest}
+use Rattle.meaning.specs.Grammar.{Condition, range}
+use Rattle.entry_conditions.specs.Words.{biased}
+use Rattle.entry_conditions.specs.Entry.{raised, lowered, lowest, highest}
+use Rattle.clash.specs.Kept.{leaveValues}
 
 -- 01: "Ranges 0 to 4 and 5 to 9 don't clash ★; 0 to 5 and 5 to 9 do ★"
 abbrev meets : Condition ℕ → Condition ℕ → Bool
-meets c d = leaveValues (raised (c ∷ d ∷ []) lowest) (lowered (c ∷ d ∷ []) highest)
+meets c d = leaveValues (raised (c ∷ []) lowest ++ raised (d ∷ []) lowest) (lowered (c ∷ []) highest ++ lowered (d ∷ []) highest) 0 1
 
 ranges-apart : meets (range 1 (pos 0) (pos 4)) (range 1 (pos 5) (pos 9)) ≡ false
 unfolding leaveValues raised lowered biased
@@ -31,34 +29,3 @@ negative = refl
 two-attributes : meets (range 1 (pos 0) (pos 4)) (range 8 (pos 5) (pos 9)) ≡ true
 unfolding leaveValues raised lowered biased
 two-attributes = refl
-
--- the field of a range 1 to 258 of attribute 2 at position 0, at position 3, and a rule
-abbrev condition : ℕ → List ℕ
-condition k = 5 ∷ 0 ∷ 11 ∷ 0 ∷ k ∷ 2 ∷ 0 ∷ 0 ∷ 0 ∷ 1 ∷ 0 ∷ 0 ∷ 1 ∷ 2 ∷ []
-
-fields-told : map entryHere (condition 0 ∷ condition 3 ∷ (4 ∷ 0 ∷ 5 ∷ 0 ∷ 0 ∷ 1 ∷ 0 ∷ 1 ∷ []) ∷ []) ≡ true ∷ false ∷ false ∷ []
-unfolding entryHere
-fields-told = refl
-
-field-sized : fieldSize (condition 0) ≡ 14
-unfolding fieldSize
-field-sized = refl
-
-low-raised : afterField raiseBy (condition 0) lowest ≡ set lowest 1 2147483649
-unfolding afterField entryHere conditionHere biased
-low-raised = refl
-
--- comparisons at position 0, with another position, and of kind 2: attribute 2 at most attribute 1 less 3
-abbrev comparison : ℕ → List ℕ
-comparison k = 5 ∷ 0 ∷ 5 ∷ 1 ∷ 0 ∷ 2 ∷ k ∷ 1 ∷ []
-
-comparisons-told : map entryHere (comparison 0 ∷ comparison 3 ∷ []) ≡ true ∷ false ∷ []
-unfolding entryHere
-comparisons-told = refl
-
-comparisons-read : map conditionHere (comparison 0 ∷ (5 ∷ 0 ∷ 9 ∷ 2 ∷ 0 ∷ 2 ∷ 0 ∷ 1 ∷ 255 ∷ 255 ∷ 255 ∷ 253 ∷ []) ∷ []) ≡ atmost 2 1 none ∷ atmost 2 1 (some (negsuc 2)) ∷ []
-unfolding conditionHere offsetHere
-comparisons-read = refl
-
-ranks : map (λ cs. after rankBy cs 0) ([] ∷ (range 1 (pos 0) (pos 4) ∷ []) ∷ (atmost 2 1 none ∷ range 1 (pos 0) (pos 4) ∷ []) ∷ []) ≡ 0 ∷ 1 ∷ 2 ∷ []
-ranks = refl

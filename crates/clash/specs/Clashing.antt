@@ -6,8 +6,8 @@ use mathlib.Core.Path.{_≡_, refl, sym, ap, ap₂, _∙_, subst}
 use mathlib.Core.Bool.{Bool, true, false, _&&_, _||_}
 use mathlib.Core.List.{List, _++_}
 use borrow.Author.Tests.{eq-eqb, ne-eqb}
-use lib.Dec.{T, eqb, eqb→eq}
-use lib.ListN.{getD, length, replicate, set, length-set, drop}
+use lib.Dec.{T, eqb, eqb→eq, eqb-refl}
+use lib.ListN.{getD, length, replicate, set, length-set, drop, length-replicate}
 use lib.Seq.{getD-set-same, getD-set-other}
 use lib.Bits.{bitOr}
 use Rattle.meaning.specs.Base.{all, isEmpty}
@@ -15,16 +15,18 @@ use Rattle.meaning.specs.Grammar.{Production, Grammar, productionAt, inh, nonte
 use Rattle.meaning.specs.Scheme.{entryTests}
 use Rattle.meaning.specs.Sets.{starts}
 use Rattle.meaning.specs.Decide.{meet, satisfiable, clash, clashes}
-use Rattle.theory_base.specs.Members.{both, true→T, all-append}
+use Rattle.theory_base.specs.Members.{and, both, true→T, T→true, all-append}
 use Rattle.theory_sets.specs.Intervals.{entry}
 use Rattle.theory_sets.specs.Satisfiable.{satisfiable-eight}
 use Rattle.theory_sets.specs.Clashes.{meet-cases, meet-at}
 use Rattle.token_set.specs.Words.{setOf}
 use Rattle.analysis.specs.Rows.{Rows, leftAt}
 use Rattle.analysis.specs.Views.{members, sees}
-use Rattle.analysis.specs.Growth.{or-left, or-right}
-use Rattle.analysis.specs.Numbers.{Clear, clear-any, any-count}
-use Rattle.clash.specs.Entry.{Stretch}
+use Rattle.analysis.specs.Growth.{or-left, or-right, none-in}
+use Rattle.analysis.specs.Numbers.{Clear, clear-any, any-count, count-any}
+use Rattle.entry_conditions.specs.Entry.{Stretch, rankBy, raiseBy, lowerBy, lowest, highest}
+use Rattle.entry_conditions.specs.Walk.{afterAll}
+use Rattle.clash.specs.Kept.{Own, Stored, stored-own, stored-other}
 use Rattle.clash.specs.Together.{enterTogether, grammarIn}
 
 -- production p of a table stands at its offset
@@ -33,6 +35,67 @@ pub record Placed (t offsets : List ℕ) (p : ℕ) : Type 0 where
   pub stretch : Stretch (drop (getD offsets p 0) t) (productionAt (grammarIn t) p)
   pub few : inh (grammarIn t) (nonterminal (productionAt (grammarIn t) p .left)) ≤ 8
   pub fits : T (all (entry (inh (grammarIn t) (nonterminal (productionAt (grammarIn t) p .left)))) (entryTests (grammarIn t) (productionAt (grammarIn t) p)))
+
+-- what is kept of the entry conditions of production p of a table: what there are, and the ends that they leave
+pub record Kept (t lows highs ranks : List ℕ) (p : ℕ) : Type 0 where
+  pub rank : getD ranks p 0 ≡ afterAll rankBy (productionAt (grammarIn t) p) 0
+  pub low : Own (afterAll raiseBy (productionAt (grammarIn t) p) lowest) lows p
+  pub high : Own (afterAll lowerBy (productionAt (grammarIn t) p) highest) highs p
+
+-- that of production p added, and nothing else
+pub record Keeps (t : List ℕ) (p : ℕ) (lows₀ highs₀ ranks₀ lows highs ranks : List ℕ) : Type 0 where
+  pub low : Stored 8 (afterAll raiseBy (productionAt (grammarIn t) p) lowest) p lows₀ lows
+  pub high : Stored 8 (afterAll lowerBy (productionAt (grammarIn t) p) highest) p highs₀ highs
+  pub rank : ranks ≡ set ranks₀ p (afterAll rankBy (productionAt (grammarIn t) p) 0)
+
+pub record KeepsIf (wanted : Bool) (t : List ℕ) (p : ℕ) (lows₀ highs₀ ranks₀ lows highs ranks : List ℕ) : Type 0 where
+  pub taken : wanted ≡ true → Keeps t p lows₀ highs₀ ranks₀ lows highs ranks
+  pub passed : wanted ≡ false → (lows ≡ lows₀) × (highs ≡ highs₀) × (ranks ≡ ranks₀)
+
+-- that of the productions before k whose left side is in a set
+pub record KeptTo (t rows : List ℕ) (met : ℕ) (lows highs ranks : List ℕ) (k : ℕ) : Type 0 where
+  pub lows-all : length lows ≡ 1024
+  pub highs-all : length highs ≡ 1024
+  pub ranks-all : length ranks ≡ 128
+  pub each : (p : ℕ) → p < k → T (members met (leftAt rows p)) → Kept t lows highs ranks p
+
+module _ {t rows : List ℕ} {met : ℕ} where
+  pub kept-none : KeptTo t rows met (replicate 1024 0) (replicate 1024 0) (replicate 128 0) 0
+  kept-none =
+      let none : ℕ = 0 in
+      record { lows-all = length-replicate 1024 none; highs-all = length-replicate 1024 none; ranks-all = length-replicate 128 none; each = λ p l. absurd (omega arith) }
+
+  kept-more : {k : ℕ} {lows₀ highs₀ ranks₀ lows highs ranks : List ℕ} → k < 128 → KeptTo t rows met lows₀ highs₀ ranks₀ k → Keeps t k lows₀ highs₀ ranks₀ lows highs ranks → KeptTo t rows met lows highs ranks (k + 1)
+  kept-more {k} {ranks₀ = ranks₀} {lows = lows} {highs = highs} {ranks = ranks} l o n = record {
+    lows-all = n .low .size ∙ o .lows-all;
+    highs-all = n .high .size ∙ o .highs-all;
+    ranks-all = ap length (n .rank) ∙ length-set ranks₀ k rank ∙ o .ranks-all;
+    each = λ p m w. go p m w (ℕ-discrete p k);
+  }
+    where
+      rank : ℕ
+      rank = afterAll rankBy (productionAt (grammarIn t) k) 0
+
+      go : (p : ℕ) → p < k + 1 → T (members met (leftAt rows p)) → Dec (p ≡ k) → Kept t lows highs ranks p
+      go p m w (yes e) = subst (Kept t lows highs ranks) (sym e) (record { rank = ap (λ z. getD z k 0) (n .rank) ∙ getD-set-same ranks₀ k rank 0 (omega (arith, o .ranks-all)); low = stored-own (n .low); high = stored-own (n .high) })
+      go p m w (no e) =
+          let y = o .each p (omega arith) w in
+          record { rank = ap (λ z. getD z p 0) (n .rank) ∙ (getD-set-other ranks₀ k p rank 0 e ∙ y .rank); low = stored-other (n .low) (y .low) (omega arith); high = stored-other (n .high) (y .high) (omega arith) }
+
+  kept-same : {k : ℕ} {lows highs ranks : List ℕ} → KeptTo t rows met lows highs ranks k → members met (leftAt rows k) ≡ false → KeptTo t rows met lows highs ranks (k + 1)
+  kept-same {k} {lows} {highs} {ranks} o n = record { lows-all = o .lows-all; highs-all = o .highs-all; ranks-all = o .ranks-all; each = λ p m w. go p m w (ℕ-discrete p k) }
+    where
+      go : (p : ℕ) → p < k + 1 → T (members met (leftAt rows p)) → Dec (p ≡ k) → Kept t lows highs ranks p
+      go p m w (yes e) = absurd (subst T n (subst (λ j. T (members met (leftAt rows j))) e w))
+      go p m w (no e) = o .each p (omega arith) w
+
+  pub kept-next :
+      {k : ℕ} {lows₀ highs₀ ranks₀ lows highs ranks : List ℕ} → k < 128 → KeptTo t rows met lows₀ highs₀ ranks₀ k → (wanted : Bool) → wanted ≡ members met (leftAt rows k)
+      → KeepsIf wanted t k lows₀ highs₀ ranks₀ lows highs ranks → KeptTo t rows met lows highs ranks (k + 1)
+  kept-next l o true e n = kept-more l o (n .taken refl)
+  kept-next {k} {lows₀} {highs₀} {lows = lows} {highs = highs} {ranks = ranks} l o false e n =
+      let y = n .passed refl in
+      kept-same (subst (λ z. KeptTo t rows met z highs ranks k) (sym (y .0)) (subst (λ z. KeptTo t rows met lows₀ z ranks k) (sym (y .1)) (subst (λ z. KeptTo t rows met lows₀ highs₀ z k) (sym (y .2)) o))) (sym e)
 
 -- rows, offsets and FIRST-then-FOLLOW sets of the productions of a table
 pub record Given (t rows offsets sets : List ℕ) (count : ℕ) : Type 0 where
@@ -45,6 +108,25 @@ abbrev pub clashIn : List ℕ → ℕ → ℕ → Bool
 clashIn t p q = clash (grammarIn t) (productionAt (grammarIn t) p) (productionAt (grammarIn t) q)
 
 -- ---- two productions
+
+-- one left side and sets that meet
+unfoldable pub startTogether : List ℕ → List ℕ → ℕ → ℕ → Bool
+startTogether rows sets p q = eqb (leftAt rows p) (leftAt rows q) && meet (setOf (getD sets p 0)) (setOf (getD sets q 0))
+
+module _ (rows sets : List ℕ) (p q : ℕ) where
+  pub start-other : (leftAt rows p ≡ leftAt rows q → ⊥) → false ≡ startTogether rows sets p q
+  unfolding startTogether
+  start-other n = sym (ap (λ b. b && meet (setOf (getD sets p 0)) (setOf (getD sets q 0))) (ne-eqb (leftAt rows p) (leftAt rows q) n))
+
+  pub start-same : leftAt rows p ≡ leftAt rows q → (r : Bool) → r ≡ meet (setOf (getD sets p 0)) (setOf (getD sets q 0)) → r ≡ startTogether rows sets p q
+  unfolding startTogether
+  start-same e r h = h ∙ sym (ap (λ b. b && meet (setOf (getD sets p 0)) (setOf (getD sets q 0))) (eq-eqb (leftAt rows p) (leftAt rows q) e))
+
+  pub start-tells : startTogether rows sets p q ≡ true → (leftAt rows p ≡ leftAt rows q) × T (meet (setOf (getD sets p 0)) (setOf (getD sets q 0)))
+  unfolding startTogether
+  start-tells e =
+      let u = both (eqb (leftAt rows p) (leftAt rows q)) (meet (setOf (getD sets p 0)) (setOf (getD sets q 0))) (true→T _ e) in
+      (eqb→eq (leftAt rows p) (leftAt rows q) (u .0), u .1)
 
 -- the last part of a clash
 abbrev entersWith : Grammar → Production → Production → Bool
@@ -63,32 +145,29 @@ module _ {t rows offsets sets : List ℕ} {count : ℕ} (x : Given t rows offset
   meet-is : meet (setOf (getD sets p 0)) (setOf (getD sets q 0)) ≡ meet (starts g (pr p)) (starts g (pr q))
   meet-is = ap₂ meet (x .starting p l) (x .starting q m)
 
-  pub clash-other : (leftAt rows p ≡ leftAt rows q → ⊥) → false ≡ clashIn t p q
-  clash-other n = sym (rw (sym left-is ∙ ne-eqb (leftAt rows p) (leftAt rows q) n) refl)
+  same-test : startTogether rows sets p q ≡ (eqb (pr p .left) (pr q .left) && meet (starts g (pr p)) (starts g (pr q)))
+  unfolding startTogether
+  same-test = ap₂ _&&_ left-is meet-is
 
-  module _ (e : leftAt rows p ≡ leftAt rows q) where
-    pub clash-apart : meet (setOf (getD sets p 0)) (setOf (getD sets q 0)) ≡ false → false ≡ clashIn t p q
-    clash-apart n = sym (rw (sym left-is ∙ eq-eqb (leftAt rows p) (leftAt rows q) e, sym meet-is ∙ n) refl)
+  pub clash-apart : (r : Bool) → r ≡ startTogether rows sets p q → r ≡ false → clashIn t p q ≡ false
+  clash-apart r e n = ap (λ b. b && entersWith g (pr p) (pr q)) (sym same-test ∙ (sym e ∙ n))
 
-    pub clash-met : meet (setOf (getD sets p 0)) (setOf (getD sets q 0)) ≡ true → (r : Bool) → r ≡ enterTogether g (pr p) (pr q) → r ≡ clashIn t p q
-    unfolding enterTogether
-    clash-met n r h = h ∙ (together ∙ sym (rw (sym left-is ∙ eq-eqb (leftAt rows p) (leftAt rows q) e, sym meet-is ∙ n) refl))
-      where
-        same : pr q .left ≡ pr p .left
-        same = sym (x .rowsOf .left q m) ∙ (sym e ∙ x .rowsOf .left p l)
+  pub clash-met : (r : Bool) → r ≡ startTogether rows sets p q → r ≡ true → (s : Bool) → s ≡ enterTogether g (pr p) (pr q) → (c : Bool) → s ≡ c → clashIn t p q ≡ c
+  unfolding enterTogether startTogether
+  clash-met r e n s h c k = ap (λ b. b && entersWith g (pr p) (pr q)) (sym same-test ∙ (sym e ∙ n)) ∙ (sym together ∙ (sym h ∙ k))
+    where
+      same : pr q .left ≡ pr p .left
+      same = sym (x .rowsOf .left q m) ∙ (sym (start-tells rows sets p q (sym e ∙ n) .0) ∙ x .rowsOf .left p l)
 
-        fits : T (all (entry (inh g (nonterminal (pr p .left)))) (entryTests g (pr p) ++ entryTests g (pr q)))
-        fits = all-append (entry (inh g (nonterminal (pr p .left)))) (entryTests g (pr p)) (entryTests g (pr q)) (x .placed p l .fits) (subst (λ n. T (all (entry (inh g (nonterminal n))) (entryTests g (pr q)))) same (x .placed q m .fits))
+      fits : T (all (entry (inh g (nonterminal (pr p .left)))) (entryTests g (pr p) ++ entryTests g (pr q)))
+      fits = all-append (entry (inh g (nonterminal (pr p .left)))) (entryTests g (pr p)) (entryTests g (pr q)) (x .placed p l .fits) (subst (λ n. T (all (entry (inh g (nonterminal n))) (entryTests g (pr q)))) same (x .placed q m .fits))
 
-        together : enterTogether g (pr p) (pr q) ≡ entersWith g (pr p) (pr q)
-        together = ap (λ b. isEmpty (entryTests g (pr p)) || isEmpty (entryTests g (pr q)) || b) (satisfiable-eight (inh g (nonterminal (pr p .left))) (x .placed p l .few) (entryTests g (pr p) ++ entryTests g (pr q)) fits)
+      together : enterTogether g (pr p) (pr q) ≡ entersWith g (pr p) (pr q)
+      together = ap (λ b. isEmpty (entryTests g (pr p)) || isEmpty (entryTests g (pr q)) || b) (satisfiable-eight (inh g (nonterminal (pr p .left))) (x .placed p l .few) (entryTests g (pr p) ++ entryTests g (pr q)) fits)
 
   -- what a clash tells of the rows and the sets
-  clash-tells : T (clashIn t p q) → (leftAt rows p ≡ leftAt rows q) × T (meet (setOf (getD sets p 0)) (setOf (getD sets q 0)))
-  clash-tells c =
-      let u = both (eqb (pr p .left) (pr q .left) && meet (starts g (pr p)) (starts g (pr q))) (entersWith g (pr p) (pr q)) c .0 in
-      let v = both (eqb (pr p .left) (pr q .left)) (meet (starts g (pr p)) (starts g (pr q))) u in
-      (x .rowsOf .left p l ∙ eqb→eq (pr p .left) (pr q .left) (v .0) ∙ sym (x .rowsOf .left q m), subst T (sym meet-is) (v .1))
+  clash-tells : T (clashIn t p q) → startTogether rows sets p q ≡ true
+  clash-tells c = same-test ∙ T→true _ (both (eqb (pr p .left) (pr q .left) && meet (starts g (pr p)) (starts g (pr q))) (entersWith g (pr p) (pr q)) c .0)
 
 -- ---- a production and those before it
 
@@ -123,14 +202,53 @@ module _ (rows sets : List ℕ) where
       go p m u t (no e) (yes d) = rw (d, getD-set-same seen (leftAt rows k) (bitOr (getD seen (leftAt rows k) 0) (getD sets k 0)) 0 lt) (or-left (getD seen (leftAt rows k) 0) (getD sets k 0) u (rw d at (s .has p (omega arith) u t)))
       go p m u t (no e) (no d) = rw (getD-set-other seen (leftAt rows k) (leftAt rows p) (bitOr (getD seen (leftAt rows k) 0) (getD sets k 0)) 0 d) (s .has p (omega arith) u t)
 
+-- a set that meets that of an earlier production with its left side meets what that left side has had
+seen-met : (rows sets : List ℕ) (k j : ℕ) (seen : List ℕ) → Seen rows sets k seen → j < k → startTogether rows sets k j ≡ true → T (meet (setOf (getD seen (leftAt rows k) 0)) (setOf (getD sets k 0)))
+seen-met rows sets k j seen s l e =
+    let c = start-tells rows sets k j e in
+    let w = meet-cases (setOf (getD sets k 0)) (setOf (getD sets j 0)) (c .1) in
+    let i : T (sees seen (w .0) (leftAt rows k)) = subst (λ (n : ℕ). T (sees seen (w .0) n)) (sym (c .0)) (s .has j l (w .0) (w .2)) in
+    meet-at (setOf (getD seen (leftAt rows k) 0)) (setOf (getD sets k 0)) (w .0) i (w .1)
+
 -- before the place to begin there is no clash
 pub rivals-clear :
     {t rows offsets sets : List ℕ} {count : ℕ} → Given t rows offsets sets count → (k r : ℕ) (seen : List ℕ) → k < count → Seen rows sets k seen
     → Rivals (getD seen (leftAt rows k) 0) (getD sets k 0) k r → Clear (clashIn t k) r
-rivals-clear {t} {rows} {offsets} {sets} x k r seen l s v = record { clear = λ j h c. away j h (clash-tells x k j l (omega (arith, v .upto)) c) }
+rivals-clear {t} {rows} {offsets} {sets} x k r seen l s v = record { clear = λ j h c. rw (v .apart (omega arith)) at (seen-met rows sets k j seen s (omega (arith, v .upto)) (clash-tells x k j l (omega (arith, v .upto)) c)) }
+
+-- ---- left sides with productions whose sets meet
+pub record Meeting (rows sets : List ℕ) (k met : ℕ) : Type 0 where
+  pub covers : (p : ℕ) → p < k → (q : ℕ) → q < p → startTogether rows sets p q ≡ true → T (members met (leftAt rows p))
+
+pub meeting-none : (rows sets : List ℕ) → Meeting rows sets 0 0
+meeting-none rows sets = record { covers = λ p l. absurd (omega arith) }
+
+pub meeting-next :
+    {rows sets : List ℕ} {k met : ℕ} {seen : List ℕ} → Seen rows sets k seen → Meeting rows sets k met → (x : ℕ)
+    → ((a : ℕ) → members x a ≡ (meet (setOf (getD seen (leftAt rows k) 0)) (setOf (getD sets k 0)) && eqb (leftAt rows k) a)) → Meeting rows sets (k + 1) (bitOr met x)
+meeting-next {rows} {sets} {k} {met} {seen} s m x f = record { covers = λ p l q h e. go p l q h e (ℕ-discrete p k) }
   where
-    away : (j : ℕ) → j < r → (leftAt rows k ≡ leftAt rows j) × T (meet (setOf (getD sets k 0)) (setOf (getD sets j 0))) → ⊥
-    away j h c =
-        let w = meet-cases (setOf (getD sets k 0)) (setOf (getD sets j 0)) (c .1) in
-        let i : T (sees seen (w .0) (leftAt rows k)) = subst (λ (n : ℕ). T (sees seen (w .0) n)) (sym (c .0)) (s .has j (omega (arith, v .upto)) (w .0) (w .2)) in
-        rw (v .apart (omega arith)) at (meet-at (setOf (getD seen (leftAt rows k) 0)) (setOf (getD sets k 0)) (w .0) i (w .1))
+    go : (p : ℕ) → p < k + 1 → (q : ℕ) → q < p → startTogether rows sets p q ≡ true → Dec (p ≡ k) → T (members (bitOr met x) (leftAt rows p))
+    go p l q h e (yes i) =
+        let u = seen-met rows sets k q seen s (omega arith) (subst (λ n. startTogether rows sets n q ≡ true) i e) in
+        let v = and (meet (setOf (getD seen (leftAt rows k) 0)) (setOf (getD sets k 0))) (eqb (leftAt rows k) (leftAt rows k)) u (eqb-refl (leftAt rows k)) in
+        subst (λ n. T (members (bitOr met x) (leftAt rows n))) (sym i) (or-right met x (leftAt rows k) (subst T (sym (f (leftAt rows k))) v))
+    go p l q h e (no i) = or-left met x (leftAt rows p) (m .covers p (omega arith) q h e)
+
+-- where there is none, nothing clashes
+pub meeting-clear : {t rows offsets sets : List ℕ} {count met : ℕ} → Given t rows offsets sets count → Meeting rows sets count met → met ≡ 0 → Clear (clashes (grammarIn t)) count
+meeting-clear {t} {rows} {count = count} x m e = record { clear = λ p l c. away p l (count-any (clashIn t p) 0 p c) }
+  where
+    away : (p : ℕ) → p < count → (q : ℕ) × (0 ≤ q) × (q < 0 + p) × T (clashIn t p q) → ⊥
+    away p l w =
+        let u = m .covers p l (w .0) (omega (arith, w .2)) (clash-tells x p (w .0) l (omega (arith, w .2)) (w .3)) in
+        subst T (ap (λ n. members n (leftAt rows p)) e ∙ none-in (leftAt rows p)) u
+
+-- of two productions that start together the entry conditions are kept
+pub both-kept :
+    {t rows sets : List ℕ} {count met : ℕ} {lows highs ranks : List ℕ} → Meeting rows sets count met → (p q : ℕ) → KeptTo t rows met lows highs ranks (p + 1) → p < count → q < p → (r : Bool) → r ≡ startTogether rows sets p q → r ≡ true
+    → Kept t lows highs ranks p × Kept t lows highs ranks q
+both-kept {rows = rows} {sets = sets} {met = met} m p q k l h r i t =
+    let e = sym i ∙ t in
+    let u = m .covers p l q h e in
+    (k .each p (omega arith) u, k .each q (omega arith) (subst (λ n. T (members met n)) (start-tells rows sets p q e .0) u))

@@ -1,15 +1,12 @@
 -- The interval that entry conditions leave to each attribute, and that ranges agree by twos exactly where no interval is empty. Comparisons leave the intervals as they are.
--- Bounds are kept as words that order as they do: the bound plus 2,147,483,648. A bound has four bytes; a value may have more.
-use Prim.Native.Nat.{ℕ, zero, suc, _+_, _-_, _%_, _≤_, _<_, min, max}
-use native.Mathlib.Decide.{decLt}
+use Prim.Native.Nat.{ℕ, zero, suc, _+_, _≤_, _<_, min, max}
 use native.Mathlib.Omega.{arith}
-use mathlib.Core.Path.{_≡_, sym, ap, _∙_}
+use mathlib.Core.Path.{_≡_, sym, _∙_}
 use mathlib.Core.Logic.{_⊎_, inl, inr}
 use mathlib.Core.Bool.{Bool, true, false, _&&_, _||_, not}
 use mathlib.Core.List.{List, [], _∷_, _++_}
 use mathlib.Core.Option.{none}
-use borrow.Author.Tests.{lt-ltb, le-ltb}
-use lib.Dec.{T, eqb, ltb, leb, eqb→eq, eqb-refl, leb→le, le→leb, T-not, not-T}
+use lib.Dec.{T, eqb, leb, eqb→eq, eqb-refl, leb→le, le→leb, T-not, not-T}
 use lib.IntN.{ℤ, pos, negsuc}
 use lib.ListN.{getD, length}
 use lib.Signed.{leZ}
@@ -20,19 +17,14 @@ use Rattle.theory_base.specs.Members.{and, both, or-cases, or-left, or-right}
 use Rattle.theory_sets.specs.Tests.{decide, all-at, all-map, all-map₂}
 use Rattle.theory_sets.specs.Intervals.{onRange, entry, entered}
 use Rattle.meaning.specs.Rules.{lowestConstant, highestConstant, fourBytes}
-use Rattle.meaning.specs.Table.{signed}
 use Rattle.theory_sets.specs.Widths.{both-true}
+use Rattle.entry_conditions.specs.Words.{biased}
 use Rattle.analysis.specs.Numbers.{all-count, count-all}
 
 -- a test that passes at each place passes of all
 all-intro : {A : Type 0} (f : A → Bool) (xs : List A) (d : A) → ((i : ℕ) → i < length xs → T (f (getD xs i d))) → T (all f xs)
 all-intro f [] d k = tt
 all-intro f (x ∷ xs) d k = and (f x) (all f xs) (k 0 (omega arith)) (all-intro f xs d (λ i l. k (suc i) (omega arith)))
-
--- a bound as a word
-unfoldable pub biased : ℤ → ℕ
-biased (pos n) = n + 2147483648
-biased (negsuc n) = 2147483647 - n
 
 -- the greatest low end of attribute a's ranges, and the least high end
 unfoldable pub lowEnd : ℕ → List (Condition ℕ) → ℕ
@@ -64,18 +56,6 @@ biased-word : (a : ℤ) → T (fourBytes a) → biased a ≤ 4294967295
 unfolding biased
 biased-word (pos a) i = let m = leb→le a 2147483647 (both (leZ lowestConstant (pos a)) (leZ (pos a) highestConstant) i .1) in omega arith
 biased-word (negsuc a) i = omega arith
-
--- a four-byte constant, with its highest bit turned over
-pub biased-signed : (n : ℕ) → n < 4294967296 → biased (signed n) ≡ (n + 2147483648) % 4294967296
-unfolding biased
-biased-signed n l = go (decLt n 2147483648)
-  where
-    at : (b : Bool) → ltb n 2147483648 ≡ b → signed n ≡ elim b [ true ↦ pos n | false ↦ negsuc (4294967295 - n) ]
-    at b e = rw (sym e)
-
-    go : Dec (n < 2147483648) → biased (signed n) ≡ (n + 2147483648) % 4294967296
-    go (yes h) = ap biased (at true (lt-ltb n 2147483648 h)) ∙ omega arith
-    go (no h) = ap biased (at false (le-ltb n 2147483648 (omega arith))) ∙ omega arith
 
 -- ---- conditions one after another
 module _ (a : ℕ) where

@@ -1,7 +1,6 @@
 pub mod Intervals
-pub mod Entry
+pub mod Kept
 pub mod Together
-pub mod Walk
 pub mod Clashing
 pub mod Placing
 pub mod Cases

@@ -21,7 +21,7 @@ use Rattle.theory_sets.specs.Tests.{all-map}
 use Rattle.theory_table.specs.Places.{Places, read-places}
 use Rattle.theory_table.specs.ReadLaidOut.{read-stretch}
 use Rattle.theory_table.specs.ReadWellFormed.{read-well-formed}
-use Rattle.clash.specs.Entry.{atEntry, entry-tests, Stretch}
+use Rattle.entry_conditions.specs.Entry.{atEntry, entry-tests, Stretch}
 use Rattle.clash.specs.Together.{grammarIn, grammar-read}
 use Rattle.clash.specs.Clashing.{Placed}
 

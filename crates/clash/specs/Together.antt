@@ -1,5 +1,5 @@
 -- Whether two productions can be entered with the same values: the last part of a clash, and what the intervals tell of it.
-use Prim.Native.Nat.{ℕ, suc, _+_, _-_, _≤_, _<_, min, max}
+use Prim.Native.Nat.{ℕ, suc, _+_, _-_, _*_, _≤_, _<_, min, max}
 use native.Mathlib.Decide.{ℕ-discrete, decLt}
 use native.Mathlib.Omega.{arith}
 use mathlib.Core.Path.{_≡_, refl, sym, ap, ap₂, _∙_}
@@ -8,7 +8,7 @@ use mathlib.Core.Bool.{Bool, true, false, _&&_, _||_}
 use mathlib.Core.List.{List, [], _∷_, _++_}
 use borrow.Author.Tests.{eq-eqb, ne-eqb}
 use lib.Dec.{T, eqb, leb}
-use lib.ListN.{getD, length, set, length-set, replicate, getD-replicate}
+use lib.ListN.{getD, length, set, length-set, getD-replicate}
 use lib.Seq.{getD-set-same, getD-set-other}
 use Rattle.meaning.specs.Base.{In, all, isEmpty}
 use Rattle.meaning.specs.Grammar.{Condition, range, atmost, Production, Grammar}
@@ -21,8 +21,10 @@ use Rattle.theory_differences.specs.Graph.{AllKnown}
 use Rattle.theory_differences.specs.Building.{solvable-same}
 use Rattle.theory_sets.specs.Intervals.{entry, entered, entry-known}
 use Rattle.analysis.specs.Numbers.{all-count-same}
-use Rattle.clash.specs.Intervals.{biased, lowEnd, highEnd, low-append, high-append, high-word, pairwise-is}
-use Rattle.clash.specs.Entry.{atEntry, entry-tests, after, rankBy, raised, lowered, leaveValues}
+use Rattle.entry_conditions.specs.Words.{biased}
+use Rattle.clash.specs.Kept.{Own, leaveValues}
+use Rattle.clash.specs.Intervals.{lowEnd, highEnd, low-append, high-append, high-word, pairwise-is}
+use Rattle.entry_conditions.specs.Entry.{atEntry, entry-tests, after, rankBy, raised, lowered, lowest, highest}
 
 -- 01: "unless both have entry conditions and no values of the inherited attributes satisfy both". (Attributes that no condition reads play no part, so they are taken as 8)
 unfoldable pub enterTogether : Grammar → Production → Production → Bool
@@ -88,50 +90,31 @@ module _ (a : ℕ) (few : a < 8) where
       go false = refl
   high-at (atmost b c d ∷ cs) f ends e w = high-at cs (both (entry 8 (atmost b c d)) (all (entry 8) cs) f .1) ends e w
 
-pub raised-length : (cs : List (Condition ℕ)) (ends : List ℕ) → length (raised cs ends) ≡ length ends
-unfolding raised
-raised-length [] ends = refl
-raised-length (range a l h ∷ cs) ends = raised-length cs (set ends (a - 1) (max (biased l) (getD ends (a - 1) 0))) ∙ length-set ends (a - 1) (max (biased l) (getD ends (a - 1) 0))
-raised-length (atmost a b c ∷ cs) ends = raised-length cs ends
+-- ---- the conditions of two productions, by the ends that are kept of each
 
-pub lowered-length : (cs : List (Condition ℕ)) (ends : List ℕ) → length (lowered cs ends) ≡ length ends
-unfolding lowered
-lowered-length [] ends = refl
-lowered-length (range a l h ∷ cs) ends = lowered-length cs (set ends (a - 1) (min (biased h) (getD ends (a - 1) 0))) ∙ length-set ends (a - 1) (min (biased h) (getD ends (a - 1) 0))
-lowered-length (atmost a b c ∷ cs) ends = lowered-length cs ends
-
--- ---- the conditions of two productions
-
-abbrev pub lowest : List ℕ
-lowest = replicate 8 0
-
-abbrev pub highest : List ℕ
-highest = replicate 8 4294967295
-
-module _ (cs ds : List (Condition ℕ)) (f : T (all (entry 8) cs)) (k : T (all (entry 8) ds)) where
-  pairwise-ends : leaveValues (raised ds (raised cs lowest)) (lowered ds (lowered cs highest)) ≡ pairwise (cs ++ ds)
+module _ (cs ds : List (Condition ℕ)) (f : T (all (entry 8) cs)) (k : T (all (entry 8) ds)) {lows highs : List ℕ} {p q : ℕ}
+    (lp : Own (raised cs lowest) lows p) (lq : Own (raised ds lowest) lows q) (hp : Own (lowered cs highest) highs p) (hq : Own (lowered ds highest) highs q) where
+  pairwise-ends : leaveValues lows highs p q ≡ pairwise (cs ++ ds)
   unfolding leaveValues
   pairwise-ends =
-      all-count-same (λ a. leb (getD (raised ds (raised cs lowest)) a 0) (getD (lowered ds (lowered cs highest)) a 0)) (λ a. leb (lowEnd (suc a) (cs ++ ds)) (highEnd (suc a) (cs ++ ds))) 8 each
+      all-count-same (λ a. leb (max (getD lows (8 * p + a) 0) (getD lows (8 * q + a) 0)) (min (getD highs (8 * p + a) 0) (getD highs (8 * q + a) 0))) (λ a. leb (lowEnd (suc a) (cs ++ ds)) (highEnd (suc a) (cs ++ ds))) 8 each
       ∙ sym (pairwise-is 8 (cs ++ ds) (all-append (entry 8) cs ds f k) (omega arith))
     where
-      low : (a : ℕ) → a < 8 → getD (raised ds (raised cs lowest)) a 0 ≡ lowEnd (suc a) (cs ++ ds)
+      low : (a : ℕ) → a < 8 → max (getD lows (8 * p + a) 0) (getD lows (8 * q + a) 0) ≡ lowEnd (suc a) (cs ++ ds)
       low a l =
           let none : ℕ = 0 in
-          let i = low-at a l cs f lowest refl in
-          let j = low-at a l ds k (raised cs lowest) (raised-length cs lowest) in
-          omega (arith, i, j, getD-replicate 8 a none 0 l, low-append (suc a) cs ds)
+          ap₂ max (lp .at a l ∙ low-at a l cs f lowest refl) (lq .at a l ∙ low-at a l ds k lowest refl)
+          ∙ omega (arith, getD-replicate 8 a none 0 l, low-append (suc a) cs ds)
 
-      high : (a : ℕ) → a < 8 → getD (lowered ds (lowered cs highest)) a 0 ≡ highEnd (suc a) (cs ++ ds)
+      high : (a : ℕ) → a < 8 → min (getD highs (8 * p + a) 0) (getD highs (8 * q + a) 0) ≡ highEnd (suc a) (cs ++ ds)
       high a l =
           let full : ℕ = 4294967295 in
           let s = getD-replicate 8 a full 0 l in
-          let i = high-at a l cs f highest refl (omega (arith, s)) in
-          let j = high-at a l ds k (lowered cs highest) (lowered-length cs highest) (omega (arith, s, i)) in
-          omega (arith, i, j, s, high-word (suc a) cs, high-append (suc a) cs ds)
+          ap₂ min (hp .at a l ∙ high-at a l cs f highest refl (omega (arith, s))) (hq .at a l ∙ high-at a l ds k highest refl (omega (arith, s)))
+          ∙ omega (arith, s, high-word (suc a) cs, high-word (suc a) ds, high-append (suc a) cs ds)
 
-      each : (a : ℕ) → a < 8 → leb (getD (raised ds (raised cs lowest)) a 0) (getD (lowered ds (lowered cs highest)) a 0) ≡ leb (lowEnd (suc a) (cs ++ ds)) (highEnd (suc a) (cs ++ ds))
-      each a l = rw (low a l, high a l) refl
+      each : (a : ℕ) → a < 8 → leb (max (getD lows (8 * p + a) 0) (getD lows (8 * q + a) 0)) (min (getD highs (8 * p + a) 0) (getD highs (8 * q + a) 0)) ≡ leb (lowEnd (suc a) (cs ++ ds)) (highEnd (suc a) (cs ++ ds))
+      each a l = ap₂ leb (low a l) (high a l)
 
 -- ---- what there has been, by the rank of the conditions
 
@@ -268,9 +251,11 @@ module _ (g : Grammar) (p q : Production) where
     both-have : enterTogether g p q ≡ satisfiable 8 (ofP ++ ofQ)
     both-have = told ∙ ap₂ (λ x y. x || y || satisfiable 8 (ofP ++ ofQ)) (rank-some ofP d) (rank-some ofQ e)
 
-    pub ranges-told : T (all (entry 8) ofP) → T (all (entry 8) ofQ) → after rankBy ofP 0 + after rankBy ofQ 0 ≤ 2 → leaveValues (raised ofQ (raised ofP lowest)) (lowered ofQ (lowered ofP highest)) ≡ enterTogether g p q
-    ranges-told f k l =
-        pairwise-ends ofP ofQ f k
+    pub ranges-told :
+        T (all (entry 8) ofP) → T (all (entry 8) ofQ) → after rankBy ofP 0 + after rankBy ofQ 0 ≤ 2 → {lows highs : List ℕ} {i j : ℕ}
+        → Own (raised ofP lowest) lows i → Own (raised ofQ lowest) lows j → Own (lowered ofP highest) highs i → Own (lowered ofQ highest) highs j → leaveValues lows highs i j ≡ enterTogether g p q
+    ranges-told f k l lp lq hp hq =
+        pairwise-ends ofP ofQ f k lp lq hp hq
         ∙ sym (both-have ∙ ap (λ b. satisfiableBy b 8 (ofP ++ ofQ)) (both-ranges ofP ofQ (omega arith) (omega arith)))
 
     pub compared-told : 3 ≤ after rankBy ofP 0 + after rankBy ofQ 0 → solvable 8 (ofP ++ ofQ) ≡ enterTogether g p q

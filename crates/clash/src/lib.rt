@@ -1,36 +1,32 @@
 // Refusal 13: the lowest production that clashes with an earlier one.
-pub mod compare;
-pub mod entry;
+pub mod kept;
+pub mod together;
 
-use crate::entry::enters_together;
+use crate::kept::keep;
+use crate::together::enters_together;
 use token_set::TokenSet;
 ghost use mathlib.Core.Path.{_≡_};
-ghost use Prim.Native.Nat.{_<_};
+ghost use mathlib.Core.Bool.{_&&_};
+ghost use Prim.Native.Nat.{ℕ, _<_};
+ghost use lib.Dec.{eqb};
 ghost use Rattle.meaning.specs.Decide as Decide;
+ghost use Rattle.meaning.specs.Decide.{meet};
+ghost use Rattle.token_set.specs.Words.{setOf};
+ghost use Rattle.analysis.specs.Rows.{Image};
+ghost use Rattle.analysis.specs.Views.{members};
 ghost use Rattle.analysis.specs.Numbers.{Found};
 ghost use Rattle.clash.specs.Together.{grammarIn};
-ghost use Rattle.clash.specs.Clashing.{Given, Rivals, clashIn};
+ghost use Rattle.clash.specs.Clashing.{Given, Meeting, Rivals, startTogether};
 
-// Whether productions p and q clash. Conditions are read only where both have one left side and their sets meet.
-fn is_clash(
-    table: &[u8],
-    rows: &[u8; 2048],
-    offsets: &[u32; 128],
-    sets: &[u64; 128],
-    count: usize,
-    p: usize,
-    q: usize,
-) -> bool
-    requires { ⌜ Given (now table) (now rows) (now offsets) (now sets) count × (p < count) × (q < count) ⌝ }
-    ensures { λ r. ⌜ r ≡ clashIn (now (table .entry)) p q ⌝ }
+// Whether productions p and q have one left side and sets that meet.
+fn starts_together(rows: &[u8; 2048], sets: &[u64; 128], p: usize, q: usize) -> bool
+    requires { ⌜ (p < 128) × (q < 128) ⌝ }
+    ensures { λ r. ⌜ r ≡ startTogether (now (rows .entry)) (now (sets .entry)) p q ⌝ }
 {
     if rows[p * 16] != rows[q * 16] {
         return false;
     }
-    if !TokenSet(sets[p]).meets(TokenSet(sets[q])) {
-        return false;
-    }
-    enters_together(table, offsets, p, q)
+    TokenSet(sets[p]).meets(TokenSet(sets[q]))
 }
 
 // Where to begin among the productions before `later`: behind them all where its set meets nothing that they have.
@@ -43,8 +39,82 @@ fn rivals(seen: u64, set: u64, later: usize) -> usize
     later
 }
 
+// A left side where a set meets what its productions have had before; else none.
+fn crossing(seen: u64, set: u64, left: u8) -> u64
+    requires { ⌜ left < 64 ⌝ }
+    ensures { λ r. ⌜ ((a : ℕ) → members r a ≡ (meet (setOf seen) (setOf set) && eqb left a)) ⌝ }
+{
+    if TokenSet(seen).meets(TokenSet(set)) {
+        return TokenSet::of_token(left).0;
+    }
+    0
+}
+
+// The left sides with productions whose sets meet.
+fn meeting(rows: &[u8; 2048], sets: &[u64; 128], count: usize) -> u64
+    requires { ⌜ Image (now rows) count ⌝ }
+    ensures { λ r. ⌜ Meeting (now (rows .entry)) (now (sets .entry)) count r ⌝ }
+{
+    let mut seen = [0u64; 48];
+    let mut met: u64 = 0;
+    let mut k: usize = 0;
+    while k < count {
+        let left = rows[k * 16];
+        let at = left as usize;
+        met = met | crossing(seen[at], sets[k], left);
+        seen[at] = seen[at] | sets[k];
+        k += 1;
+    }
+    met
+}
+
+// The lowest clash, where sets of productions with left sides `met` meet. Their entry conditions are read once.
+fn lowest_by_entry(
+    table: &[u8],
+    rows: &[u8; 2048],
+    offsets: &[u32; 128],
+    sets: &[u64; 128],
+    count: usize,
+    met: u64,
+) -> usize
+    requires { ⌜ Given (now table) (now rows) (now offsets) (now sets) count × Meeting (now rows) (now sets) count met ⌝ }
+    ensures { λ r. ⌜ Found (Decide.clashes (grammarIn (now (table .entry)))) count r ⌝ }
+{
+    let mut lows = [0u32; 1024];
+    let mut highs = [0u32; 1024];
+    let mut ranks = [0u8; 128];
+    let mut seen = [0u64; 48];
+    let mut later: usize = 0;
+    'pairs: while later < count {
+        let left = rows[later * 16];
+        let at = left as usize;
+        let wanted = TokenSet(met).has(left);
+        keep(
+            table,
+            offsets,
+            later,
+            wanted,
+            &mut lows,
+            &mut highs,
+            &mut ranks,
+        );
+        let mut earlier = rivals(seen[at], sets[later], later);
+        while earlier < later {
+            if starts_together(rows, sets, later, earlier) {
+                if enters_together(table, offsets, &lows, &highs, &ranks, later, earlier) {
+                    break 'pairs;
+                }
+            }
+            earlier += 1;
+        }
+        seen[at] = seen[at] | sets[later];
+        later += 1;
+    }
+    later
+}
+
 // The lowest production that clashes with an earlier one; `count` where there is none.
-// A pair reads the fields of both productions, so each of at most 1,024 rules and 512 conditions is passed at most 127 times.
+// Entry conditions are read only of nonterminals with productions whose sets meet.
 pub fn lowest_clash(
     table: &[u8],
     rows: &[u8; 2048],
@@ -55,19 +125,9 @@ pub fn lowest_clash(
     requires { ⌜ Given (now table) (now rows) (now offsets) (now sets) count ⌝ }
     ensures { λ r. ⌜ Found (Decide.clashes (grammarIn (now (table .entry)))) count r ⌝ }
 {
-    let mut seen = [0u64; 48];
-    let mut later: usize = 0;
-    'pairs: while later < count {
-        let left = rows[later * 16] as usize;
-        let mut earlier = rivals(seen[left], sets[later], later);
-        while earlier < later {
-            if is_clash(table, rows, offsets, sets, count, later, earlier) {
-                break 'pairs;
-            }
-            earlier += 1;
-        }
-        seen[left] = seen[left] | sets[later];
-        later += 1;
+    let met = meeting(rows, sets, count);
+    if met == 0 {
+        return count;
     }
-    later
+    lowest_by_entry(table, rows, offsets, sets, count, met)
 }

@@ -1,0 +1,223 @@
+use Prim.Native.Nat.{_≤_, _<_, _-_, _+_}
+use native.Mathlib.Omega.{arith}
+use borrow.Author.Needs.{needs}
+use mathlib.Core.Path.{_≡_}
+use mathlib.Core.Logic.{⊎-elim}
+use mathlib.Core.Bool.{false}
+use Rattle.meaning.specs.Decide.{clashes}
+use Rattle.analysis.specs.Rows.{leftAt, image-of}
+use Rattle.analysis.specs.Numbers.{Clear, clear-none, clear-more, found-here, found-none}
+use Rattle.clash.specs.Together.{grammarIn}
+use Rattle.clash.specs.Clashing.{clashIn, KeptTo, kept-none, kept-next, both-kept, clash-apart, clash-met, clashes-one, clashes-none, Seen, seen-none, seen-next, rivals-clear}
+use Rattle.clash.proofs.lowest_by_entry.Statement.{statement}
+use Rattle.clash.proofs.lowest_by_entry.Tie as tie
+
+abbrev Inv-loop : tie.InvT-loop
+Inv-loop table rows offsets sets count met lows highs ranks seen later left at wanted earlier₀ earlier = (earlier ≤ later) × Clear (clashIn table later) earlier
+
+abbrev μ-loop : tie.MeasureT-loop
+μ-loop table rows offsets sets count met lows highs ranks seen later left at wanted earlier₀ earlier = later - earlier
+
+abbrev Inv-pairs : tie.InvT-pairs
+Inv-pairs table rows offsets sets count met lows₀ highs₀ ranks₀ seen₀ later₀ lows highs ranks seen later = (later ≤ count) × Seen rows sets later seen × Clear (clashes (grammarIn table)) later × KeptTo table rows met lows highs ranks later
+
+abbrev μ-pairs : tie.MeasureT-pairs
+μ-pairs table rows offsets sets count met lows₀ highs₀ ranks₀ seen₀ later₀ lows highs ranks seen later = count - later
+
+abbrev start : tie.At-pairs Inv-loop μ-loop Inv-pairs μ-pairs → tie.Start Inv-loop μ-loop Inv-pairs μ-pairs
+start c = c .before .before
+
+abbrev kept-at : tie.At-loop Inv-loop μ-loop Inv-pairs μ-pairs → tie.After-keep Inv-loop μ-loop Inv-pairs μ-pairs
+kept-at c = c .before .before .before
+
+abbrev in-pairs : tie.In-loop Inv-loop μ-loop Inv-pairs μ-pairs → tie.In-pairs Inv-loop μ-loop Inv-pairs μ-pairs
+in-pairs c = kept-at (c .before) .before .before .before .before .before .before
+
+-- after the inner loop
+full : (c : tie.After-loop Inv-loop μ-loop Inv-pairs μ-pairs) → c .before .loop .earlier ≡ kept-at (c .before) .before .before .before .before .before .before .before .pairs .later
+full c = omega arith
+
+-- the left side is a nonterminal
+below : (c : tie.In-pairs Inv-loop μ-loop Inv-pairs μ-pairs) → leftAt (start (c .before) .args .rows .now) (c .before .pairs .later) < 48
+below c = image-of (start (c .before) .pre .0 .rowsOf) .lefts _ (c .pairs-test .taken)
+
+few : (c : tie.In-pairs Inv-loop μ-loop Inv-pairs μ-pairs) → start (c .before) .args .count ≤ 128
+few c = image-of (start (c .before) .pre .0 .rowsOf) .few
+
+-- what is kept with the later production
+keeping :
+    (c : tie.After-keep Inv-loop μ-loop Inv-pairs μ-pairs)
+    → let pr = c .before .before .before .before .before .before in
+    let st = start (pr .before) in
+    let x = c .keep .last .1 .1 .1 .1 in
+    KeptTo (st .args .table .now) (st .args .rows .now) (st .args .met) (x .0) (x .1 .0) (x .1 .1 .0) (pr .before .pairs .later + 1)
+keeping c =
+    let h = c .before .before .before .before in
+    let pr = h .before .before in
+    let n = few pr in
+    let l = pr .pairs-test .taken in
+    kept-next (omega arith) (pr .before .pairs .inv .3) _ (h .has .ensures) (c .keep .ensures)
+
+-- the earlier production is one of the table
+listed : (c : tie.In-loop Inv-loop μ-loop Inv-pairs μ-pairs) → c .before .loop .earlier < start (in-pairs c .before) .args .count
+listed c = omega (arith, in-pairs c .pairs-test .taken, c .loop-test .taken)
+
+-- no clash with it
+passed : (c : tie.Joined1 Inv-loop μ-loop Inv-pairs μ-pairs) → let lp = c .before .before in let pr = in-pairs lp in clashIn (start (pr .before) .args .table .now) (pr .before .pairs .later) (lp .before .loop .earlier) ≡ false
+passed c =
+    let lp = c .before .before in
+    let pr = in-pairs lp in
+    let x = start (pr .before) .pre .0 in
+    let s = c .before .starts-together .ensures in
+    ⊎-elim
+    (λ w. clash-met x _ _ (pr .pairs-test .taken) (listed lp) _ s (w .0 .taken) _ (w .4 .ensures) _ (w .5 .left))
+    (λ w. clash-apart x _ _ (pr .pairs-test .taken) (listed lp) _ s (w .left))
+    (c .if1 .came)
+
+pairs-holds : tie.Need-pairs-holds Inv-loop μ-loop Inv-pairs μ-pairs
+pairs-holds c = (omega arith, seen-none _ _, clear-none _, kept-none)
+
+mul-left : tie.Need-mul-left Inv-loop μ-loop Inv-pairs μ-pairs
+mul-left c = omega (arith, few c)
+
+element-copy-out-left : tie.Need-element-copy-out-left Inv-loop μ-loop Inv-pairs μ-pairs
+element-copy-out-left c = omega (arith, few c)
+
+cast-at : tie.Need-cast-at Inv-loop μ-loop Inv-pairs μ-pairs
+cast-at c = omega (arith, below (c .before))
+
+has-requires : tie.Need-has-requires Inv-loop μ-loop Inv-pairs μ-pairs
+has-requires c κs = search needs
+
+keep-requires : tie.Need-keep-requires Inv-loop μ-loop Inv-pairs μ-pairs
+keep-requires c κs =
+    let pr = c .before .before .before .before .before in
+    let k = pr .before .pairs .inv .3 in
+    let n = few pr in
+    let l = pr .pairs-test .taken in
+    (omega arith, start (pr .before) .pre .0 .placed _ l, k .lows-all, k .highs-all)
+
+mul-rivals : tie.Need-mul-rivals Inv-loop μ-loop Inv-pairs μ-pairs
+mul-rivals c = omega (arith, below (c .before .before .before .before .before .before))
+
+array-read-rivals : tie.Need-array-read-rivals Inv-loop μ-loop Inv-pairs μ-pairs
+array-read-rivals c = omega (arith, below (c .before .before .before .before .before .before))
+
+mul-rivals-2 : tie.Need-mul-rivals-2 Inv-loop μ-loop Inv-pairs μ-pairs
+mul-rivals-2 c = omega (arith, few (c .before .before .before .before .before .before))
+
+element-copy-out-rivals : tie.Need-element-copy-out-rivals Inv-loop μ-loop Inv-pairs μ-pairs
+element-copy-out-rivals c = omega (arith, few (c .before .before .before .before .before .before))
+
+rivals-requires : tie.Need-rivals-requires Inv-loop μ-loop Inv-pairs μ-pairs
+rivals-requires c κs = search needs
+
+loop-holds : tie.Need-loop-holds Inv-loop μ-loop Inv-pairs μ-pairs
+loop-holds c =
+    let pr = c .before .before .before .before .before .before .before .before in
+    (c .rivals .ensures .upto, rivals-clear (start (pr .before) .pre .0) _ _ _ (pr .pairs-test .taken) (pr .before .pairs .inv .1) (c .rivals .ensures))
+
+starts-together-requires : tie.Need-starts-together-requires Inv-loop μ-loop Inv-pairs μ-pairs
+starts-together-requires c κs = let n = few (in-pairs c) in let m = listed c in (omega (arith, in-pairs c .pairs-test .taken), omega arith)
+
+enters-together-requires : tie.Need-enters-together-requires Inv-loop μ-loop Inv-pairs μ-pairs
+enters-together-requires c κs =
+    let t1 = c .before .before .before in
+    let lp = t1 .before .before in
+    let pr = in-pairs lp in
+    let st = start (pr .before) in
+    let n = few pr in
+    let l = pr .pairs-test .taken in
+    let m = listed lp in
+    let k = both-kept (st .pre .1) _ _ (keeping (kept-at (lp .before))) l (lp .loop-test .taken) _ (t1 .before .starts-together .ensures) (t1 .if1 .taken) in
+    ((omega arith, st .pre .0 .placed _ l, k .0), (omega arith, st .pre .0 .placed _ m, k .1))
+
+add-earlier : tie.Need-add-earlier Inv-loop μ-loop Inv-pairs μ-pairs
+add-earlier c = omega arith
+
+loop-less : tie.Need-loop-less Inv-loop μ-loop Inv-pairs μ-pairs
+loop-less c = omega arith
+
+loop-again : tie.Need-loop-again Inv-loop μ-loop Inv-pairs μ-pairs
+loop-again c = (omega arith, clear-more _ _ (c .before .before .before .loop .inv .1) (λ t. rw (passed c) at t))
+
+mul-seen : tie.Need-mul-seen Inv-loop μ-loop Inv-pairs μ-pairs
+mul-seen c = omega (arith, below (kept-at (c .before) .before .before .before .before .before .before))
+
+array-read-seen : tie.Need-array-read-seen Inv-loop μ-loop Inv-pairs μ-pairs
+array-read-seen c = omega (arith, below (kept-at (c .before) .before .before .before .before .before .before))
+
+mul-seen-2 : tie.Need-mul-seen-2 Inv-loop μ-loop Inv-pairs μ-pairs
+mul-seen-2 c = omega (arith, few (kept-at (c .before) .before .before .before .before .before .before))
+
+element-copy-out-seen : tie.Need-element-copy-out-seen Inv-loop μ-loop Inv-pairs μ-pairs
+element-copy-out-seen c = omega (arith, few (kept-at (c .before) .before .before .before .before .before .before))
+
+mul-seen-3 : tie.Need-mul-seen-3 Inv-loop μ-loop Inv-pairs μ-pairs
+mul-seen-3 c = omega (arith, below (kept-at (c .before .before) .before .before .before .before .before .before))
+
+array-write-seen : tie.Need-array-write-seen Inv-loop μ-loop Inv-pairs μ-pairs
+array-write-seen c = omega (arith, below (kept-at (c .before .before) .before .before .before .before .before .before))
+
+add-later : tie.Need-add-later Inv-loop μ-loop Inv-pairs μ-pairs
+add-later c = omega (arith, few (kept-at (c .before .before) .before .before .before .before .before .before))
+
+pairs-less : tie.Need-pairs-less Inv-loop μ-loop Inv-pairs μ-pairs
+pairs-less c = omega arith
+
+pairs-again : tie.Need-pairs-again Inv-loop μ-loop Inv-pairs μ-pairs
+pairs-again c =
+    let en = c .before in
+    let kp = kept-at (en .before) in
+    let pr = kp .before .before .before .before .before .before in
+    let inv = pr .before .pairs .inv in
+    (omega arith, seen-next _ _ _ _ (below pr) (inv .1), clear-more _ _ (inv .2) (clashes-none _ _ (rw (full en) at (en .before .loop .inv .1))), keeping kp)
+
+returns : tie.Need-returns Inv-loop μ-loop Inv-pairs μ-pairs
+returns c = found-none _ _ _ (omega arith) (c .before .pairs .inv .2)
+
+returns-2 : tie.Need-returns-2 Inv-loop μ-loop Inv-pairs μ-pairs
+returns-2 c =
+    let t1 = c .before .before .before .before .before in
+    let lp = t1 .before .before in
+    let pr = in-pairs lp in
+    let x = start (pr .before) .pre .0 in
+    let e = clash-met x _ _ (pr .pairs-test .taken) (listed lp) _ (t1 .before .starts-together .ensures) (t1 .if1 .taken) _ (c .before .enters-together .ensures) _ (c .if2 .taken) in
+    found-here _ _ _ (pr .pairs-test .taken) (pr .before .pairs .inv .2) (clashes-one _ _ _ (lp .loop-test .taken) e)
+
+pub lowest-by-entry-spec : {M : Type 1} → statement M
+lowest-by-entry-spec =
+    tie.close
+    (tie.spec
+    Inv-loop
+    μ-loop
+    Inv-pairs
+    μ-pairs
+    pairs-holds
+    mul-left
+    element-copy-out-left
+    cast-at
+    has-requires
+    keep-requires
+    mul-rivals
+    array-read-rivals
+    mul-rivals-2
+    element-copy-out-rivals
+    rivals-requires
+    loop-holds
+    starts-together-requires
+    enters-together-requires
+    add-earlier
+    loop-less
+    loop-again
+    mul-seen
+    array-read-seen
+    mul-seen-2
+    element-copy-out-seen
+    mul-seen-3
+    array-write-seen
+    add-later
+    pairs-less
+    pairs-again
+    returns
+    returns-2)

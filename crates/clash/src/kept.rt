@@ -1,0 +1,43 @@
+// What the entry conditions of each production leave: a low and a high end for each inherited attribute, production p's
+// from 8 p on, and what there are of them: 0 none, 1 ranges, 2 a comparison.
+ghost use mathlib.Core.Path.{_≡_};
+ghost use Prim.Native.Nat.{_<_};
+ghost use lib.ListN.{length};
+ghost use Rattle.clash.specs.Kept.{Stored};
+ghost use Rattle.clash.specs.Clashing.{Placed, KeepsIf};
+
+// Production p's ends among those of all.
+fn store(ends: &mut [u32; 1024], p: usize, own: &[u32; 8])
+    requires { ⌜ (p < 128) × (length (now ends) ≡ 1024) ⌝ }
+    ensures { λ r. ⌜ Stored 8 (now (own .entry)) p (now (ends .entry)) (now (ends .exit)) ⌝ }
+{
+    let mut a: usize = 0;
+    while a < 8 {
+        ends[8 * p + a] = own[a];
+        a += 1;
+    }
+}
+
+// One pass over the fields of production p, if it is wanted.
+pub fn keep(
+    table: &[u8],
+    offsets: &[u32; 128],
+    p: usize,
+    wanted: bool,
+    lows: &mut [u32; 1024],
+    highs: &mut [u32; 1024],
+    ranks: &mut [u8; 128],
+)
+    requires { ⌜ (p < 128) × Placed (now table) (now offsets) p × (length (now lows) ≡ 1024) × (length (now highs) ≡ 1024) ⌝ }
+    ensures { λ r. ⌜ KeepsIf wanted (now (table .entry)) p (now (lows .entry)) (now (highs .entry)) (now (ranks .entry)) (now (lows .exit)) (now (highs .exit)) (now (ranks .exit)) ⌝ }
+{
+    if !wanted {
+        return;
+    }
+    let mut low = [0u32; 8];
+    let mut high = [4294967295u32; 8];
+    let from = offsets[p] as usize;
+    ranks[p] = entry_conditions::entry::narrow_by(&table[from..], &mut low, &mut high);
+    store(lows, p, &low);
+    store(highs, p, &high);
+}

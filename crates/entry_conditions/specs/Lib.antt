@@ -1,0 +1,4 @@
+pub mod Words
+pub mod Entry
+pub mod Walk
+pub mod Cases
