@@ -26,7 +26,7 @@ fn judge_grammar(
     let productions = sizes.productions;
     let nonterminals = sizes.nonterminals;
     let start = sizes.start as u8;
-    let a = analysis::analyse(rows, productions, nonterminals, start, sets);
+    let a = analysed::analyse(rows, productions, nonterminals, start, sets);
     let number = a.number;
     if number != 0 {
         let offset = (7 + 5 * a.index) as u32;

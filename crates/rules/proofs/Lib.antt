@@ -1,10 +1,3 @@
-pub mod Bits
 pub mod Laws
 pub mod Order
-pub mod Noting
 pub mod Uses
-pub mod RuleJudged
-pub mod ConditionJudged
-pub mod Complete
-pub mod Gaps
-pub mod Sound

@@ -1,13 +1,9 @@
-// Occurrences, rules and conditions of a production, judged by the counts at its positions.
+// Occurrences of attributes in a production, judged by the counts at its positions, and the note of those that have a rule. Beside them the
+// definitions by which rules and conditions are judged.
 ghost use mathlib.Core.Path.{_≡_};
-ghost use Prim.Native.Nat.{_+_, _≤_};
-ghost use lib.ListN.{length};
-ghost use Rattle.rules.specs.Rule.{classAt, classIn};
-
-pub mod condition;
-pub mod gather;
-pub mod note;
-pub mod rule;
+ghost use Prim.Native.Nat.{_+_, _-_, _<_, _≤_};
+ghost use lib.ListN.{length, getD};
+ghost use Rattle.rules.specs.Rule.{classAt, classIn, fourAt, bit};
 
 // What an occurrence is in its production. 0: unknown; 1: an input; 2: an output.
 pub fn class_of(
@@ -51,4 +47,23 @@ pub fn class_in(width: usize, inh: &[u8; 13], syn: &[u8; 13], body: &[u8], at: u
     let position = fields::wide(body[at]);
     let attribute = fields::wide(body[at + 1]);
     class_of(width, inh, syn, position, attribute)
+}
+
+// The big-endian number in four bytes.
+pub fn four_at(body: &[u8], at: usize) -> usize
+    requires { ⌜ at + 4 ≤ length (now body) ⌝ }
+    ensures { λ r. ⌜ (r ≡ fourAt (now (body .entry)) at) × (r < 4294967296) ⌝ }
+{
+    let a = fields::wide(body[at]);
+    let b = fields::wide(body[at + 1]);
+    let c = fields::wide(body[at + 2]);
+    let d = fields::wide(body[at + 3]);
+    ((a * 256 + b) * 256 + c) * 256 + d
+}
+
+pub fn is_noted(note: &[u8; 13], position: usize, attribute: usize) -> bool
+    requires { ⌜ (position < 13) × (1 ≤ attribute) × (attribute ≤ 8) ⌝ }
+    ensures { λ r. ⌜ r ≡ bit (getD (now (note .entry)) position 0) (attribute - 1) ⌝ }
+{
+    (fields::wide(note[position]) >> (attribute - 1)) % 2 == 1
 }

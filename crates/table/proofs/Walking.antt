@@ -16,9 +16,9 @@ use Rattle.fields.proofs.Rest.{rest-end, rest-missing, judged-fine, judged-refu
 use Rattle.fields.proofs.Judged.{judge-not, stage-later}
 use Rattle.rules.specs.Rule.{Small, ruleFault, conditionFault}
 use Rattle.rules.specs.Note.{Notes, rulesAfter, GapsAnswered}
-use Rattle.rules.proofs.RuleJudged.{rule-judged}
-use Rattle.rules.proofs.ConditionJudged.{condition-judged}
-use Rattle.rules.proofs.Noting.{notes-fine}
+use Rattle.rule_fields.proofs.RuleJudged.{rule-judged}
+use Rattle.rule_conditions.proofs.ConditionJudged.{condition-judged}
+use Rattle.rule_note.proofs.Noting.{notes-fine}
 use Rattle.table.specs.declared.Uses.{Uses}
 use Rattle.table.specs.Progress.{Over, Setting, settingOf, Around, stateIn, UseTaken, Walked, UsesRead, Next, endOf}
 use Rattle.table.proofs.Steps.{endBy}

@@ -42,10 +42,10 @@ pub fn take_use(
     let from = at + 3;
     let end = from + size;
     if tag == 4 {
-        return rules::gather::take_rule(r, width, inh, syn, note, &table[from..end]);
+        return rule_fields::take_rule(r, width, inh, syn, note, &table[from..end]);
     }
     if tag == 5 {
-        return rules::condition::condition_fault(c, width, inh, syn, &table[from..end]);
+        return rule_conditions::condition_fault(c, width, inh, syn, &table[from..end]);
     }
     3
 }
@@ -86,13 +86,13 @@ pub fn read_uses(
     ensures next { λ u. ⌜ (u .number ≡ 0 → Next (now (table .entry)) from u) ⌝ }
     ensures inside { λ u. ⌜ u .at ≤ length (now (table .entry)) ⌝ }
 {
-    let mut note = rules::gather::begin();
+    let mut note = rule_note::begin();
     let mut at = from;
     let mut r = rules;
     let mut c = conditions;
     loop {
         if is_over(table, at) {
-            let gap = rules::gather::has_gap(width, inh, syn, &note);
+            let gap = rule_note::has_gap(width, inh, syn, &note);
             return finish(gap, offset, at, r, c);
         }
         let size = fields::size_at(table, at);

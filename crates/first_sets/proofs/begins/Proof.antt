@@ -1,0 +1,126 @@
+use Prim.Native.Nat.{_<_, _-_}
+use native.Mathlib.Omega.{arith}
+use borrow.Author.Needs.{needs}
+use borrow.Author.Tests.{not-true, not-false}
+use lib.ListN.{drop}
+use mathlib.Core.Path.{sym, _∙_}
+use Rattle.analysis.specs.Rows.{rightAt, byteAt, right-token, right-nonterminal, right-end}
+use Rattle.analysis.specs.Views.{members}
+use Rattle.analysis.specs.Fronts.{Scanned, scan-start, scan-token, scan-silent, scan-next, scan-stop, scan-end}
+use Rattle.first_sets.proofs.begins.Statement.{statement}
+use Rattle.first_sets.proofs.begins.Tie as tie
+
+abbrev Inv-loop : tie.InvT-loop
+Inv-loop rows count k null table after tokens at n out₀ i₀ out i = Scanned tokens (members null) table after (rightAt rows k) out (drop i (rightAt rows k))
+
+abbrev μ-loop : tie.MeasureT-loop
+μ-loop rows count k null table after tokens at n out₀ i₀ out i = n - i
+
+-- in a turn the symbol is one
+symbol : (c : tie.In-loop Inv-loop μ-loop) → byteAt (c .before .before .before .args .rows .now) (c .before .before .before .args .k) (c .before .loop .i) < 176
+symbol c = let st = c .before .before .before in st .pre .0 .symbols _ _ (st .pre .1) (c .loop-test .taken)
+
+mul-at : tie.Need-mul-at Inv-loop μ-loop
+mul-at c = omega arith
+
+add-n : tie.Need-add-n Inv-loop μ-loop
+add-n c = omega arith
+
+element-copy-out-n : tie.Need-element-copy-out-n Inv-loop μ-loop
+element-copy-out-n c = omega arith
+
+cast-n : tie.Need-cast-n Inv-loop μ-loop
+cast-n c = let st = c .before in omega (arith, st .pre .0 .sizes _ (st .pre .1))
+
+loop-holds : tie.Need-loop-holds Inv-loop μ-loop
+loop-holds c = scan-start _ _ _ _ _
+
+add-s : tie.Need-add-s Inv-loop μ-loop
+add-s c = omega arith
+
+add-s-2 : tie.Need-add-s-2 Inv-loop μ-loop
+add-s-2 c = let st = c .before .before .before in omega (arith, st .pre .0 .sizes _ (st .pre .1))
+
+element-copy-out-s : tie.Need-element-copy-out-s Inv-loop μ-loop
+element-copy-out-s c = let st = c .before .before .before in omega (arith, st .pre .0 .few, st .pre .0 .sizes _ (st .pre .1))
+
+of-token-requires : tie.Need-of-token-requires Inv-loop μ-loop
+of-token-requires c κs = search needs
+
+returns : tie.Need-returns Inv-loop μ-loop
+returns c =
+    let th = c .before .before .before in
+    let lp = th .before .before in
+    let st = lp .before .before .before in
+    scan-token _ _ _ _ _ _ _ (lp .before .loop .inv) _ _ _ (right-token (st .pre .0) _ (st .pre .1) _ (lp .loop-test .taken) (th .if1 .taken)) (c .before .before .if2 .taken) (c .before .of-token .ensures)
+
+returns-2 : tie.Need-returns-2 Inv-loop μ-loop
+returns-2 c =
+    let th = c .before in
+    let lp = th .before .before in
+    let st = lp .before .before .before in
+    scan-silent _ _ _ _ _ _ _ (lp .before .loop .inv) _ _ (right-token (st .pre .0) _ (st .pre .1) _ (lp .loop-test .taken) (th .if1 .taken)) (c .if2 .left)
+
+cast-a : tie.Need-cast-a Inv-loop μ-loop
+cast-a c = omega (arith, symbol (c .before .before))
+
+mul-out : tie.Need-mul-out Inv-loop μ-loop
+mul-out c = omega (arith, symbol (c .before .before))
+
+element-copy-out-out : tie.Need-element-copy-out-out Inv-loop μ-loop
+element-copy-out-out c = omega (arith, symbol (c .before .before))
+
+has-requires : tie.Need-has-requires Inv-loop μ-loop
+has-requires c κs = search needs
+
+returns-3 : tie.Need-returns-3 Inv-loop μ-loop
+returns-3 c =
+    let el = c .before .before .before in
+    let lp = el .before .before in
+    let st = lp .before .before .before in
+    scan-stop _ _ _ _ _ _ _ (lp .before .loop .inv) _ _ (right-nonterminal (st .pre .0) _ (st .pre .1) _ (lp .loop-test .taken) (el .if1 .left)) (sym (c .before .has .ensures) ∙ not-true _ (c .if3 .taken))
+
+add-i : tie.Need-add-i Inv-loop μ-loop
+add-i c = let st = c .before .before .before .before .before .before .before .before in omega (arith, st .pre .0 .sizes _ (st .pre .1))
+
+loop-less : tie.Need-loop-less Inv-loop μ-loop
+loop-less c = omega arith
+
+loop-again : tie.Need-loop-again Inv-loop μ-loop
+loop-again c =
+    let el = c .before .before .before in
+    let lp = el .before .before in
+    let st = lp .before .before .before in
+    scan-next _ _ _ _ _ _ _ (lp .before .loop .inv) _ _ (right-nonterminal (st .pre .0) _ (st .pre .1) _ (lp .loop-test .taken) (el .if1 .left)) (sym (c .before .has .ensures) ∙ not-false _ (c .if3 .left))
+
+returns-4 : tie.Need-returns-4 Inv-loop μ-loop
+returns-4 c =
+    let st = c .before .before .before in
+    scan-end _ _ _ _ _ _ _ (c .before .loop .inv) (right-end (st .pre .0) _ (st .pre .1) _ (c .loop-test .left))
+
+pub begins-spec : {M : Type 1} → statement M
+begins-spec =
+    tie.close
+    (tie.spec
+    Inv-loop
+    μ-loop
+    mul-at
+    add-n
+    element-copy-out-n
+    cast-n
+    loop-holds
+    add-s
+    add-s-2
+    element-copy-out-s
+    of-token-requires
+    returns
+    returns-2
+    cast-a
+    mul-out
+    element-copy-out-out
+    has-requires
+    returns-3
+    add-i
+    loop-less
+    loop-again
+    returns-4)

@@ -1,4 +1,0 @@
-pub mod Lent
-pub mod Listed
-pub mod Passed
-pub mod Windows

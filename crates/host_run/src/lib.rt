@@ -1,0 +1,59 @@
+// The calls on a run over lent numbers.
+ghost use mathlib.Core.Path.{_≡_};
+ghost use Rattle.meaning.specs.Program.{programOf};
+ghost use Rattle.meaning.specs.PublicCalls.{opens, performs, feed, finish};
+ghost use Rattle.meaning.specs.PublicCalls.{stacksOf};
+ghost use Rattle.host_numbers.specs.Lent.{broughtIn, valueOf, PassedOn};
+use engine::Record;
+
+// Opens a run. A refusal hands back a closed record, all zero.
+pub fn open(
+    table: &[u8],
+    record: &mut [u64; 5],
+    registers: &mut [i64],
+    places: &mut [u32],
+    program: &mut [u32],
+    number: &mut u32,
+    count: &mut u64,
+)
+    ensures { λ r. ⌜ PassedOn (now («record» .exit)) (now (number .exit)) (now (count .exit)) (now (registers .exit)) (now (places .exit)) (now (program .exit)) (opens programOf (now (table .entry)) (now (program .entry)) (stacksOf (now (registers .entry)) (now (places .entry)))) ⌝ }
+{
+    let called = Record::open(table, registers, places, program);
+    host_numbers::pass_on(called, record, number, count);
+}
+
+// Feeds a list of tokens.
+pub fn feed(
+    table: &[u8],
+    record: &mut [u64; 5],
+    registers: &mut [i64],
+    places: &mut [u32],
+    program: &mut [u32],
+    tokens: &[u8],
+    number: &mut u32,
+    count: &mut u64,
+)
+    ensures { λ r. ⌜ PassedOn (now («record» .exit)) (now (number .exit)) (now (count .exit)) (now (registers .exit)) (now (places .exit)) (now (program .exit)) (performs programOf (now (table .entry)) (now (program .entry)) (broughtIn (now («record» .entry))) (stacksOf (now (registers .entry)) (now (places .entry))) (feed (now (tokens .entry)))) ⌝ }
+{
+    let called = host_numbers::brought(record).feed(table, registers, places, program, tokens);
+    host_numbers::pass_on(called, record, number, count);
+}
+
+// Finishes the segment.
+pub fn finish(
+    table: &[u8],
+    record: &mut [u64; 5],
+    registers: &mut [i64],
+    places: &mut [u32],
+    program: &mut [u32],
+    number: &mut u32,
+    value: &mut i64,
+    count: &mut u64,
+)
+    ensures { λ r. ⌜ PassedOn (now («record» .exit)) (now (number .exit)) (now (count .exit)) (now (registers .exit)) (now (places .exit)) (now (program .exit)) (performs programOf (now (table .entry)) (now (program .entry)) (broughtIn (now («record» .entry))) (stacksOf (now (registers .entry)) (now (places .entry))) finish) × (now (value .exit) ≡ valueOf (performs programOf (now (table .entry)) (now (program .entry)) (broughtIn (now («record» .entry))) (stacksOf (now (registers .entry)) (now (places .entry))) finish .answer)) ⌝ }
+{
+    let called = host_numbers::brought(record).finish(table, registers, places, program);
+    let answer = called.answer;
+    *value = host_numbers::value_of(answer);
+    host_numbers::pass_on(called, record, number, count);
+}

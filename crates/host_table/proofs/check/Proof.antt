@@ -1,0 +1,22 @@
+use borrow.Author.Needs.{needs}
+use Rattle.host_table.specs.Passed.{accepts, refuses}
+use Rattle.host_table.proofs.check.Statement.{statement}
+use Rattle.host_table.proofs.check.Tie as tie
+
+check-requires : tie.Need-check-requires
+check-requires c κs = search needs
+
+enum-told : tie.Need-enum-told
+enum-told c = search needs
+
+enum-known-n : tie.Need-enum-known-n
+enum-known-n c = search needs
+
+returns : tie.Need-returns
+returns c = accepts _ _ (c .before .before .check .ensures) (c .enum-told .given .1)
+
+returns-2 : tie.Need-returns-2
+returns-2 c = refuses _ _ (c .before .before .before .check .ensures) _ _ (c .before .n .given .1)
+
+pub check-spec : {M : Type 1} → statement M
+check-spec = tie.close (tie.spec check-requires enum-told enum-known-n returns returns-2)

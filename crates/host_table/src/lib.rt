@@ -1,0 +1,83 @@
+// The calls on a table over lent numbers.
+ghost use mathlib.Core.Path.{_≡_};
+ghost use Rattle.meaning.specs.Decide.{verdictOf};
+ghost use Rattle.host_table.specs.Passed.{checked, Stretched};
+ghost use Rattle.host_table.specs.Listed.{listed, listedOf};
+use checker::Verdict;
+use checker::spans::Span;
+
+// The verdict on a table: number and offset of its refusal, or 0 and 0.
+pub fn check(table: &[u8], number: &mut u32, offset: &mut u32)
+    ensures { λ r. ⌜ checked (now (number .exit)) (now (offset .exit)) (verdictOf (now (table .entry))) ⌝ }
+{
+    match checker::check(table) {
+        Verdict::Accepted => {
+            *number = 0;
+            *offset = 0;
+        }
+        Verdict::Refused {
+            number: n,
+            offset: o,
+        } => {
+            *number = n;
+            *offset = o;
+        }
+    }
+}
+
+// A production's stretch of the table, as its start and length; number and offset are then 0. On a refusal these are the
+// refusal's, and start and length are 0.
+pub fn stretch(
+    table: &[u8],
+    production: usize,
+    start: &mut usize,
+    length: &mut usize,
+    number: &mut u32,
+    offset: &mut u32,
+)
+    ensures { λ r. ⌜ Stretched (now (table .entry)) production (now (start .exit)) (now (length .exit)) (now (number .exit)) (now (offset .exit)) ⌝ }
+{
+    match checker::spans::span_of(table, production) {
+        Span::Within { from, to } => {
+            *start = from;
+            *length = to - from;
+            *number = 0;
+            *offset = 0;
+        }
+        Span::Nowhere {
+            number: n,
+            offset: o,
+        } => {
+            *start = 0;
+            *length = 0;
+            *number = n;
+            *offset = o;
+        }
+    }
+}
+
+// 01: "A program area of at least 16,384 32-bit words is lent".
+const AREA: usize = 16384;
+
+// A line has at most 64 bytes.
+const LINE: usize = 64;
+
+// The first page of what the listing program prints for a table, as many whole lines as there is room for: its length, and 1 where that is
+// all. The table's program comes into the area. With a shorter area, or without room for a line, nothing is written and both are 0.
+pub fn list(table: &[u8], program: &mut [u32], out: &mut [u8], length: &mut usize, over: &mut u32)
+    ensures { λ r. ⌜ listed (now (out .exit)) (now (length .exit)) (now (over .exit)) (now (program .exit)) ≡ listedOf (now (table .entry)) (now (program .entry)) (now (out .entry)) ⌝ }
+{
+    *length = 0;
+    *over = 0;
+    if program.len() < AREA {
+        return;
+    }
+    if out.len() < LINE {
+        return;
+    }
+    let page = listing_pages::first_page(table, program, out);
+    *length = page.length;
+    if page.over {
+        *over = 1;
+    }
+}

@@ -1,0 +1,4 @@
+pub mod Bits
+pub mod Noting
+pub mod Complete
+pub mod Gaps
