@@ -1,7 +1,8 @@
 /* The segment engine for C programs: link with libhost.a, which `rt staticlib host` writes to target/staticlib.
  *
- * A table describes a grammar; a run evaluates one segment, a list of one-byte tokens, under it. A run is opened, fed any number of
- * times and finished. The library keeps nothing between calls and allocates nothing: all memory is lent by the caller.
+ * A table describes a grammar; a run evaluates one segment, a list of tokens, under it. A token is a one-byte kind and, where its kind
+ * carries one, a value. A run is opened, fed any number of times and finished. The library keeps nothing between calls and allocates
+ * nothing: all memory is lent by the caller.
  *
  * Every function may be called with any content in the lent memory; what does not fit is turned back with a number. What each
  * function hands back is fixed for every input: each lent number, each field of the record, each register, place and program word.
@@ -13,6 +14,7 @@
  *    1 to 14: the table (or the production asked for) is refused; with the byte offset of its field
  *   20 to 24: the segment is refused; with the tokens read
  *   30 to 35: the state of the run or the memory is refused; with the tokens read, or 0 for 30, 33 and 34
+ *         38: the lists of kinds and values are of unequal length; with 0
  *         42: a window's size, buffer or value is refused; no cell of the buffer is written
  * The numbers have names, SEGMENT_..., and segment_reason gives their words. On 1 to 13 and on 30 no register, place or program word is
  * written. */
@@ -28,8 +30,8 @@ extern "C" {
 
 /* The version of this header and its library. */
 #define SEGMENT_VERSION_MAJOR 0
-#define SEGMENT_VERSION_MINOR 2
-#define SEGMENT_VERSION "0.2.0"
+#define SEGMENT_VERSION_MINOR 3
+#define SEGMENT_VERSION "0.3.0"
 
 /* A run uses at most so many registers and places; cells past these are neither read nor written. */
 #define SEGMENT_REGISTERS 4096
@@ -71,6 +73,7 @@ enum segment_number {
     SEGMENT_RUN_CLOSED = 33,
     SEGMENT_STACKS_UNFIT = 34,
     SEGMENT_TOO_MUCH = 35,
+    SEGMENT_LISTS_UNEQUAL = 38,
     SEGMENT_WINDOW_UNFIT = 42
 };
 
@@ -106,13 +109,14 @@ void segment_list(const uint8_t *table, size_t table_length, uint32_t *program, 
 void segment_open(const uint8_t *table, size_t table_length, segment_record *record, int64_t *registers, size_t registers_length,
                   uint32_t *places, size_t places_length, uint32_t *program, size_t program_length, uint32_t *number, uint64_t *count);
 
-/* Feeds tokens to an open run, on the record and the stacks as the call before left them.
- * *number: 0, or 1 to 13, 20 to 23, 30 to 35. 20 to 23, 31, 32 and 35 close the record, with the moves made until then standing; the
+/* Feeds tokens to an open run, on the record and the stacks as the call before left them: their kinds, and for each a value, which is
+ * ignored where the kind carries none.
+ * *number: 0, or 1 to 13, 20 to 23, 30 to 35, 38. 20 to 23, 31, 32 and 35 close the record, with the moves made until then standing; the
  * others leave record and stacks as brought, but that an open record is handed back with open = 1.
  * *count: the moves made since opening; on a refusal the tokens read, or the table's offset. */
 void segment_feed(const uint8_t *table, size_t table_length, segment_record *record, int64_t *registers, size_t registers_length,
-                  uint32_t *places, size_t places_length, uint32_t *program, size_t program_length, const uint8_t *tokens,
-                  size_t tokens_length, uint32_t *number, uint64_t *count);
+                  uint32_t *places, size_t places_length, uint32_t *program, size_t program_length, const uint8_t *kinds,
+                  size_t kinds_length, const int32_t *values, size_t values_length, uint32_t *number, uint64_t *count);
 
 /* Finishes the segment and closes the record.
  * *number: 0, or 1 to 13, 22 to 24, 30 to 35, as for a feed.
@@ -206,6 +210,8 @@ SEGMENT_INLINE const char *segment_reason(uint32_t number) {
         return "the stacks do not fit";
     case SEGMENT_TOO_MUCH:
         return "a token after 65,535, or a move after 4,294,967,295 or after the budget";
+    case SEGMENT_LISTS_UNEQUAL:
+        return "the lists of kinds and values are of unequal length";
     case SEGMENT_WINDOW_UNFIT:
         return "the window's size, buffer or value does not fit";
     default:
@@ -261,6 +267,11 @@ SEGMENT_INLINE segment_memory segment_memory_of(segment_room *room) {
 SEGMENT_INLINE const uint8_t *segment_bytes(const uint8_t *bytes) {
     static const uint8_t none[1] = {0};
     return bytes ? bytes : none;
+}
+
+SEGMENT_INLINE const int32_t *segment_values(const int32_t *values) {
+    static const int32_t none[1] = {0};
+    return values ? values : none;
 }
 
 SEGMENT_INLINE segment_memory segment_lent(segment_memory m) {
@@ -325,15 +336,31 @@ SEGMENT_INLINE segment_answer segment_run_open(segment_run *run, const uint8_t *
     return segment_run_open_with_budget(run, table, table_length, memory, SEGMENT_MOVES);
 }
 
-/* Feeds tokens. Each call judges the table anew: feed in large pieces. */
-SEGMENT_INLINE segment_answer segment_run_feed(segment_run *run, const uint8_t *tokens, size_t tokens_length) {
+/* Feeds tokens with their values. Each call judges the table anew: feed in large pieces. */
+SEGMENT_INLINE segment_answer segment_run_feed_values(segment_run *run, const uint8_t *kinds, size_t kinds_length, const int32_t *values,
+                                                      size_t values_length) {
     segment_answer a = {0, 0, 0};
     const segment_memory *m = &run->memory;
     segment_feed(run->table, run->table_length, &run->record, m->registers, m->registers_length, m->places, m->places_length, m->program,
-                 m->program_length, segment_bytes(tokens), tokens_length, &a.number, &a.count);
+                 m->program_length, segment_bytes(kinds), kinds_length, segment_values(values), values_length, &a.number, &a.count);
     if (a.number == SEGMENT_OK) {
         a.count = segment_moves(run);
     }
+    return a;
+}
+
+/* Feeds tokens whose values are all 0, SEGMENT_PIECE of them in a call: for tables whose tokens carry none. */
+#define SEGMENT_PIECE 4096
+SEGMENT_INLINE segment_answer segment_run_feed(segment_run *run, const uint8_t *tokens, size_t tokens_length) {
+    static const int32_t zeros[SEGMENT_PIECE] = {0};
+    segment_answer a;
+    tokens = segment_bytes(tokens);
+    do {
+        size_t piece = tokens_length < SEGMENT_PIECE ? tokens_length : SEGMENT_PIECE;
+        a = segment_run_feed_values(run, tokens, piece, zeros, piece);
+        tokens_length -= piece;
+        tokens += piece;
+    } while (a.number == SEGMENT_OK && tokens_length > 0);
     return a;
 }
 

@@ -7,6 +7,9 @@
 static const uint8_t words[] = {
 #include "words.inc"
 };
+static const uint8_t lengths[] = {
+#include "lengths.inc"
+};
 static segment_room room;
 static segment_run run;
 static int failed;
@@ -48,6 +51,32 @@ static void a_run(void) {
     MUST(is(segment_run_finish(&run), SEGMENT_RUN_CLOSED, 0));
 }
 
+static void values(void) {
+    static const uint8_t kinds[] = {0, 1, 0, 2};
+    static const int32_t values[] = {4, 99, 7, -1};
+    segment_answer a;
+    MUST(is(segment_run_open(&run, lengths, sizeof lengths, segment_memory_of(&room)), SEGMENT_OK, 0));
+    MUST(is(segment_run_feed_values(&run, kinds, 2, values, 2), SEGMENT_OK, 12) && segment_register(&run, 5) == 4);
+    MUST(is(segment_run_feed_values(&run, kinds, 2, values, 1), SEGMENT_LISTS_UNEQUAL, 0));
+    MUST(is(segment_run_feed_values(&run, NULL, 0, values, 1), SEGMENT_LISTS_UNEQUAL, 0));
+    MUST(is(segment_run_feed_values(&run, kinds, 1, NULL, 0), SEGMENT_LISTS_UNEQUAL, 0));
+    MUST(is(segment_run_feed_values(&run, NULL, 0, NULL, 0), SEGMENT_OK, 12));
+    MUST(segment_run_feed_values(&run, kinds + 2, 2, values + 2, 2).number == SEGMENT_OK);
+    a = segment_run_finish(&run);
+    MUST(a.number == SEGMENT_OK && a.value == 11);
+    segment_run_restart(&run);
+    MUST(is(segment_run_feed(&run, kinds, 1), SEGMENT_CONDITION_FALSE, 1));
+}
+
+/* Tokens without values go in pieces: more of them than a piece has. */
+static void many_tokens(void) {
+    static uint8_t tokens[3 * SEGMENT_PIECE];
+    uint64_t read = SEGMENT_PLACES - 2;
+    MUST(is(segment_run_open(&run, words, sizeof words, segment_memory_of(&room)), SEGMENT_OK, 0));
+    MUST(is(segment_run_feed(&run, tokens, sizeof tokens), SEGMENT_NEEDS_PLACES, read) && run.record.tokens == read);
+    MUST(is(segment_run_feed(&run, tokens, 0), SEGMENT_RUN_CLOSED, 0));
+}
+
 static void budgets(void) {
     static const uint8_t tokens[] = {0, 1, 0, 2};
     uint64_t budget;
@@ -82,12 +111,14 @@ int main(void) {
     uint32_t number;
     nothing_lent();
     a_run();
+    values();
+    many_tokens();
     budgets();
     windows();
     for (number = 0; number <= 43; number++) {
         MUST(segment_reason(number)[0] != 0);
     }
     MUST(strcmp(segment_reason(15), segment_reason(99)) == 0 && strcmp(segment_reason(14), segment_reason(15)) != 0);
-    MUST(segment_sum(words, sizeof words) == UINT64_C(0xd30e9953d2057f43) && strcmp(SEGMENT_VERSION, "0.2.0") == 0);
+    MUST(segment_sum(words, sizeof words) == UINT64_C(0xd30e9953d2057f43) && strcmp(SEGMENT_VERSION, "0.3.0") == 0);
     return failed;
 }

@@ -14,12 +14,13 @@ and found as SEGMENT_LIBRARY, or beside this file.
     print(run.finish())
 """
 
+import array
 import ctypes
 import enum
 import json
 import os
 
-VERSION = "0.2.0"
+VERSION = "0.3.0"
 REGISTERS = 4096
 PLACES = 1024
 PROGRAM = 16384
@@ -57,6 +58,7 @@ class Kind(enum.IntEnum):
     RUN_CLOSED = 33
     STACKS_UNFIT = 34
     TOO_MUCH = 35
+    LISTS_UNEQUAL = 38
     WINDOW_UNFIT = 42
 
 
@@ -86,6 +88,7 @@ REASONS = {
     Kind.RUN_CLOSED: "the run is closed",
     Kind.STACKS_UNFIT: "the stacks do not fit",
     Kind.TOO_MUCH: "a token after 65,535, or a move after 4,294,967,295 or after the budget",
+    Kind.LISTS_UNEQUAL: "the lists of kinds and values are of unequal length",
     Kind.WINDOW_UNFIT: "the window's size, buffer or value does not fit",
 }
 
@@ -115,8 +118,8 @@ class Refusal(Exception):
 
     @property
     def tokens(self):
-        """The tokens read. The refusals 30, 33, 34 and 42 tell none."""
-        return self.count if self.number > 14 and self.number not in (30, 33, 34, 42) else None
+        """The tokens read. The refusals 30, 33, 34, 38 and 42 tell none."""
+        return self.count if self.number > 14 and self.number not in (30, 33, 34, 38, 42) else None
 
     def _words(self):
         where = ""
@@ -151,6 +154,12 @@ def _bytes(data):
     """A list of bytes as the library takes it: pointer and length."""
     data = bytes(data)
     return ctypes.c_char_p(data), ctypes.c_size_t(len(data))
+
+
+def _values(data):
+    """A list of values likewise; OverflowError for one that is outside 32 bits."""
+    cells = array.array("i", data)
+    return (ctypes.c_int32 * len(cells)).from_buffer(cells), ctypes.c_size_t(len(cells))
 
 
 def check(table):
@@ -207,6 +216,11 @@ class Names:
             return bytes(self._numbers[word] for word in words)
         except KeyError as error:
             raise ValueError(f"{error.args[0]!r} is not a token; the tokens: {' '.join(self.tokens)}") from None
+
+    def lists(self, words):
+        """Kinds and values of tokens written like `word=4`; 0 where none is written."""
+        parts = [word.partition("=") for word in words]
+        return self.numbers(name for name, _, _ in parts), [int(value or 0) for _, _, value in parts]
 
 
 class Table:
@@ -302,9 +316,10 @@ class Run:
         self._called("segment_open")
         self.record.moves = self._spent
 
-    def feed(self, tokens):
-        """Feeds the next tokens; answers the moves made since opening."""
-        self._called("segment_feed", *_bytes(tokens))
+    def feed(self, tokens, values=None):
+        """Feeds the next tokens, their kinds and values; without values each is 0. Answers the moves made since opening."""
+        kinds = bytes(tokens)
+        self._called("segment_feed", *_bytes(kinds), *_values([0] * len(kinds) if values is None else values))
         return self.moves
 
     def finish(self):
@@ -314,10 +329,10 @@ class Run:
         self.value = value.value
         return self.value
 
-    def evaluate(self, tokens):
+    def evaluate(self, tokens, values=None):
         """Opens the run, feeds the whole segment and finishes it."""
         self.open()
-        self.feed(tokens)
+        self.feed(tokens, values)
         return self.finish()
 
     @property

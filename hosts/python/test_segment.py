@@ -16,6 +16,7 @@ def read(name, mode="r"):
 
 
 WORDS = read("../grammars/words.table", "rb")
+LENGTHS = read("../grammars/lengths.table", "rb")
 
 
 class Words(unittest.TestCase):
@@ -48,6 +49,17 @@ class Words(unittest.TestCase):
         self.refused(31, 0, segment.Table(WORDS).run, 0, 3)
         self.refused(32, 1022, run.evaluate, [0] * 1022)
 
+    def test_tokens_with_values(self):
+        run = segment.Table(LENGTHS).run()
+        self.assertEqual((run.feed([0, 1], [4, 99]), run.registers), (12, [None, None, 0, 4, None, 0, None, 1]))
+        unequal = self.refused(38, 0, run.feed, [0], [])
+        self.assertEqual((unequal.kind, unequal.tokens, run.is_open), (segment.Kind.LISTS_UNEQUAL, None, True))
+        run.feed([0, 2], [7, -1])
+        self.assertEqual((run.finish(), run.evaluate([]), run.evaluate([0], (40,))), (11, 0, 40))
+        self.refused(22, 1, run.evaluate, [0])
+        self.refused(22, 2, run.evaluate, [0, 0], [1, 41])
+        self.assertRaises(OverflowError, run.evaluate, [0], [2**31])
+
     def test_budget(self):
         run = segment.Table(WORDS).run(budget=31)
         self.refused(35, 4, run.evaluate, [0, 1, 0, 2])
@@ -64,6 +76,7 @@ class Words(unittest.TestCase):
         names = segment.Names(text % "d30e9953d2057f43")
         run = segment.Table(WORDS, names).run()
         self.assertEqual(run.evaluate(names.numbers("word open word close".split())), 2)
+        self.assertEqual(names.lists("word=4 open word=-7 close".split()), (bytes([0, 1, 0, 2]), [4, 0, -7, 0]))
         self.assertRaises(ValueError, names.numbers, ["wrod"])
         self.assertRaises(ValueError, segment.Table, WORDS, segment.Names(text % "0"))
 
@@ -99,7 +112,7 @@ class Names(unittest.TestCase):
         kinds = re.findall(r'^    (\w+) = (\d+), "(.*)";$', read("rust/src/refusal.rs"), re.M)
         upper = lambda name: re.sub(r"(?<!^)([A-Z])", r"_\1", name).upper()
         self.kinds = [(upper(name), int(number), words) for name, number, words in kinds]
-        self.assertEqual(len(self.kinds), 26)
+        self.assertEqual(len(self.kinds), 27)
 
     def test_python(self):
         self.assertEqual([(k.name, k.value, segment.REASONS[k]) for k in segment.Kind], self.kinds)

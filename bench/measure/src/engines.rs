@@ -27,7 +27,7 @@ pub trait Engine: 'static {
     /// Number and offset of a table's refusal, 0 and 0 where it is accepted.
     fn check(table: &[u8]) -> (u32, u32);
     fn open(&mut self, table: &[u8]) -> Answer<()>;
-    fn feed(&mut self, table: &[u8], tokens: &[u8]) -> Answer<u64>;
+    fn feed(&mut self, table: &[u8], kinds: &[u8], values: &[i32]) -> Answer<u64>;
     fn finish(&mut self, table: &[u8]) -> Answer<(i64, u64)>;
 }
 
@@ -49,8 +49,8 @@ impl Engine for Proved {
         lent::open(table, &mut self.record, &mut self.buffers.lent()).map(drop).map_err(|r| (r.number(), r.count()))
     }
 
-    fn feed(&mut self, table: &[u8], tokens: &[u8]) -> Answer<u64> {
-        lent::feed(table, &mut self.record, &mut self.buffers.lent(), tokens).map_err(|r| (r.number(), r.count()))
+    fn feed(&mut self, table: &[u8], kinds: &[u8], values: &[i32]) -> Answer<u64> {
+        lent::feed(table, &mut self.record, &mut self.buffers.lent(), kinds, values).map_err(|r| (r.number(), r.count()))
     }
 
     fn finish(&mut self, table: &[u8]) -> Answer<(i64, u64)> {
@@ -91,9 +91,9 @@ impl Engine for Plain {
         self.keep(called).map(drop)
     }
 
-    fn feed(&mut self, table: &[u8], tokens: &[u8]) -> Answer<u64> {
+    fn feed(&mut self, table: &[u8], kinds: &[u8], values: &[i32]) -> Answer<u64> {
         let m = self.buffers.lent();
-        let called = plain::run::feed(table, self.record, m.registers, m.places, m.program, tokens);
+        let called = plain::run::feed(table, self.record, m.registers, m.places, m.program, (kinds, values));
         self.keep(called).map(|(_, moves)| moves)
     }
 

@@ -45,23 +45,29 @@ fn opening<E: Engine>(table: &[u8]) -> impl FnMut() -> f64 + '_ {
 fn empty_feed<'a, E: Engine>(table: &'a [u8], before: &[u8]) -> impl FnMut() -> f64 + 'a + use<'a, E> {
     let mut engine = E::new();
     engine.open(table).unwrap();
-    engine.feed(table, before).unwrap();
+    engine.feed(table, before, &values(before.len())).unwrap();
     move || {
         round(table, || {
-            black_box(engine.feed(black_box(table), &[])).unwrap();
+            black_box(engine.feed(black_box(table), &[], &[])).unwrap();
         })
     }
+}
+
+/// A value for each of so many tokens.
+fn values(tokens: usize) -> Vec<i32> {
+    (1..=9).cycle().take(tokens).collect()
 }
 
 /// The feeds of a run, in pieces of so many tokens, on buffers made anew and opened before the clock starts: in nanoseconds. What
 /// `made` holds then is the moves of the feeds and the segment's value.
 fn feeds<'a, E: Engine>(table: &'a [u8], tokens: &'a [u8], piece: usize, made: &'a Cell<(u64, i64)>) -> impl FnMut() -> f64 + 'a {
+    let values = values(tokens.len());
     move || {
         let (mut engine, mut moves) = (E::new(), 0);
         engine.open(table).unwrap();
         let start = Instant::now();
-        for part in tokens.chunks(piece) {
-            moves = black_box(engine.feed(black_box(table), black_box(part))).unwrap();
+        for (part, values) in tokens.chunks(piece).zip(values.chunks(piece)) {
+            moves = black_box(engine.feed(black_box(table), black_box(part), black_box(values))).unwrap();
         }
         let time = start.elapsed().as_nanos() as f64;
         made.set((moves, engine.finish(table).unwrap().0));
@@ -72,6 +78,7 @@ fn feeds<'a, E: Engine>(table: &'a [u8], tokens: &'a [u8], piece: usize, made: &
 fn judge_tables() {
     let tables = [
         ("words and tags, accepted", samples::words()),
+        ("words that carry their lengths, accepted", samples::lengths()),
         ("refused late by 13", samples::refused_late(1, 0, 0)),
         ("chain of 4, accepted", samples::chain(4, 2, 8)),
         ("chain of 4, refused late", samples::refused_late(4, 2, 8)),
@@ -134,6 +141,7 @@ fn call_without_tokens() {
     let tables = [
         ("words and tags", words.clone(), vec![]),
         ("words and tags, 1,000 words on the stacks", words, vec![0; 1000]),
+        ("words that carry their lengths, 1,000 on the stacks", samples::lengths(), vec![0; 1000]),
         ("chain of 4", samples::chain(4, 2, 8), vec![]),
         ("chain of 47", samples::chain(47, 33, 512), vec![]),
     ];
@@ -154,11 +162,14 @@ fn run_segments() {
     let mixed = [0, 1, 0, 1, 0, 2, 0, 2].repeat(110);
     let segments = [
         ("words and tags, 1,000 words", samples::words(), vec![0; 1000], usize::MAX),
-        ("words and tags, tags two deep", samples::words(), mixed, usize::MAX),
+        ("words and tags, tags two deep", samples::words(), mixed.clone(), usize::MAX),
+        ("words that carry their lengths, 1,000 words", samples::lengths(), vec![0; 1000], usize::MAX),
+        ("words that carry their lengths, tags two deep", samples::lengths(), mixed, usize::MAX),
         ("lines, the most tokens", samples::lines(), samples::lines_segment(), usize::MAX),
         ("brackets, 1,000 deep", samples::brackets(), samples::brackets_segment(1000), usize::MAX),
         ("chain of 47, many rules and conditions", samples::chain(47, 33, 512), samples::chain_segment(10), usize::MAX),
         ("words and tags, 1,000 words, one token a feed", samples::words(), vec![0; 1000], 1),
+        ("words that carry their lengths, one token a feed", samples::lengths(), vec![0; 1000], 1),
         ("chain of 47, one token a feed", samples::chain(47, 33, 512), samples::chain_segment(3), 1),
     ];
     println!("\n| segment | tokens | moves | plain Rust, ns a token | proved, ns a token | plain Rust, ns a move | proved, ns a move | proved / plain |");
@@ -174,7 +185,7 @@ fn run_segments() {
 }
 
 /// A later call on a window, in nanoseconds: values brought to a window that is full.
-fn values(size: usize, mut bring: impl FnMut(i64)) -> impl FnMut() -> f64 {
+fn window_values(size: usize, mut bring: impl FnMut(i64)) -> impl FnMut() -> f64 {
     let values: Vec<i64> = (0..4096u64).map(|i| (i.wrapping_mul(0x9e37_79b9_7f4a_7c15) >> 40) as i64).collect();
     values[..size].iter().for_each(|&v| bring(v));
     move || {
@@ -192,8 +203,8 @@ fn windows() {
         let (mut a, mut b) = (vec![0; cells], vec![0; cells]);
         plain::window::open(size as u64, &mut a).unwrap();
         segment::window::open(size as u64, &mut b).unwrap();
-        let plain = values(size, |v| assert!(black_box(plain::window::value(v, &mut a)).is_some()));
-        let proved = values(size, |v| assert!(black_box(segment::window::bring(Ok((v, 0)), &mut b)).is_ok()));
+        let plain = window_values(size, |v| assert!(black_box(plain::window::value(v, &mut a)).is_some()));
+        let proved = window_values(size, |v| assert!(black_box(segment::window::bring(Ok((v, 0)), &mut b)).is_ok()));
         let (x, y) = beside(plain, proved);
         assert_eq!(a, b, "size {size}");
         println!("| of the last {size} | {cells} | {x:.0} | {y:.0} | {:.2} |", y / x);

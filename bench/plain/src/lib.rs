@@ -34,6 +34,7 @@ mod tests {
     #[test]
     fn samples_are_what_they_say() {
         assert!(check(&samples::words()).is_ok());
+        assert!(check(&samples::lengths()).is_ok());
         for (n, third, conditions) in [(1, 0, 0), (4, 2, 8), (47, 33, 512)] {
             let table = samples::chain(n, third, conditions);
             assert!(check(&table).is_ok(), "{n}");
@@ -43,11 +44,13 @@ mod tests {
         let longest = samples::longest_refused();
         assert_eq!((longest.len(), check(&longest).err().unwrap().number), (32768, 5));
     }
-    /// The value of a segment with as much memory as a run can use.
+
+    /// The value of a segment with as much memory as a run can use; the tokens carry 1, 2, 3 and so on.
     fn value(table: &[u8], tokens: &[u8]) -> run::Answer {
+        let values: Vec<i32> = (1..).take(tokens.len()).collect();
         let (mut registers, mut places, mut program) = (vec![0; 4096], vec![0; 1024], vec![0; 16384]);
         let (record, _) = run::open(table, &mut registers, &mut places, &mut program);
-        let (record, _) = run::feed(table, record, &mut registers, &mut places, &mut program, tokens);
+        let (record, _) = run::feed(table, record, &mut registers, &mut places, &mut program, (tokens, &values));
         run::finish(table, record, &mut registers, &mut places, &mut program).1
     }
 
@@ -55,6 +58,7 @@ mod tests {
     fn segments_are_what_they_say() {
         let is = |answer, v| matches!(answer, run::Answer::Value(found, _) if found == v);
         assert!(is(value(&samples::words(), &[0, 1, 0, 2]), 2));
+        assert!(is(value(&samples::lengths(), &[0, 1, 0, 2]), 1 + 3));
         assert!(is(value(&samples::lines(), &samples::lines_segment()), 65535 + 559));
         assert!(is(value(&samples::brackets(), &samples::brackets_segment(1000)), 1000));
         assert!(matches!(value(&samples::chain(47, 33, 512), &samples::chain_segment(10)), run::Answer::Value(..)));

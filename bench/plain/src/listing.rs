@@ -1,6 +1,6 @@
 //! The listing, from the program's words.
 use crate::judge::Sets;
-use crate::program::{build, AREA};
+use crate::program::{build, records, AREA};
 use crate::table::Outline;
 use std::fmt::Write;
 
@@ -35,7 +35,7 @@ pub fn listing(table: &[u8], o: &Outline, sets: &Sets) -> String {
     build(table, o, sets, &mut words);
     let mut out = String::new();
     for p in 0..o.productions {
-        let r = 8 + 64 * o.nonterminals as usize + 8 * p;
+        let r = records(o) + 8 * p;
         let (entries, mut at, symbols) = (words[r + 5] as usize, words[r + 6] as usize, words[r + 7] as usize);
         for i in 0..entries {
             condition(&mut out, p, 0, &words[at - 3 * entries + 3 * i..]);

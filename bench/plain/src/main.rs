@@ -9,6 +9,10 @@ fn hex(s: &str) -> Vec<u8> {
     (0..s.len()).step_by(2).map(|i| u8::from_str_radix(&s[i..i + 2], 16).unwrap()).collect()
 }
 
+fn list(s: &str) -> impl Iterator<Item = &str> {
+    s.split(',').filter(move |_| s != "-")
+}
+
 fn joined<T>(items: &[T], text: impl Fn(&T) -> String) -> String {
     if items.is_empty() {
         return "-".into();
@@ -58,15 +62,8 @@ fn main() {
                     registers: w[4].parse().unwrap(),
                     places: w[5].parse().unwrap(),
                 };
-                let list = |s: &str| -> Vec<String> {
-                    if s == "-" {
-                        vec![]
-                    } else {
-                        s.split(',').map(String::from).collect()
-                    }
-                };
-                registers = list(w[7]).iter().map(|v| if v == "m" { MARK } else { v.parse().unwrap() }).collect();
-                places = list(w[9]).iter().map(|v| v.parse().unwrap()).collect();
+                registers = list(w[7]).map(|v| if v == "m" { MARK } else { v.parse().unwrap() }).collect();
+                places = list(w[9]).map(|v| v.parse().unwrap()).collect();
                 writeln!(out, "ok").unwrap();
                 continue;
             }
@@ -75,7 +72,11 @@ fn main() {
                 places = vec![9; number(3)];
                 open(&hex(w[1]), &mut registers, &mut places, &mut vec![0; number(4)])
             }
-            "feed" => feed(&hex(w[1]), record, &mut registers, &mut places, &mut vec![0; number(3)], &hex(w[2])),
+            "feed" | "feedv" => {
+                let (kinds, last) = (hex(w[2]), w.len() - 1);
+                let values = if w[0] == "feed" { vec![0; kinds.len()] } else { list(w[3]).map(|v| v.parse().unwrap()).collect() };
+                feed(&hex(w[1]), record, &mut registers, &mut places, &mut vec![0; number(last)], (&kinds, &values))
+            }
             "finish" => finish(&hex(w[1]), record, &mut registers, &mut places, &mut vec![0; number(2)]),
             _ => {
                 writeln!(out, "bad command").unwrap();

@@ -3,6 +3,13 @@ use crate::judge::{Sets, END};
 use crate::table::{constant, Outline};
 
 pub const AREA: usize = 16384;
+/// The words for the whole segment; the directory comes behind them.
+pub const WHOLE: usize = 9;
+
+/// The address of the records.
+pub fn records(o: &Outline) -> usize {
+    WHOLE + 64 * o.nonterminals as usize
+}
 
 struct Writer<'a> {
     words: &'a mut [u32],
@@ -112,7 +119,7 @@ fn write_body(table: &[u8], o: &Outline, p: usize, w: &mut Writer) -> (u32, u32)
     let scheme = w.at as u32;
     for k in 1..=n {
         let x = row[1 + k];
-        let att = (o.inh(x) + o.syn(x)) as u32;
+        let att = (o.inh(x) + o.marked(x)) as u32;
         if att > 0 {
             w.put(8 * att);
         }
@@ -149,12 +156,24 @@ fn write_body(table: &[u8], o: &Outline, p: usize, w: &mut Writer) -> (u32, u32)
     (scheme, entries)
 }
 
+/// What a place of production p waits at, for each number of symbols passed.
+fn write_waits(o: &Outline, p: usize, waits: &mut [u32]) {
+    let (left, mut passed) = (o.rows[p][0] as u32, 0);
+    waits.fill(0);
+    for k in 1..=o.rows[p][1] {
+        let x = o.symbol(p, k);
+        let held = 8192 * o.marked(x) as u32 + 131072 * o.inh(x) as u32;
+        waits[k as usize - 1] = left + 64 * passed + held + 2097152 * x as u32 + 536870912;
+        passed += o.syn(x) as u32;
+    }
+}
+
 /// Writes the program; answers its length.
 pub fn build(table: &[u8], o: &Outline, sets: &Sets, area: &mut [u32]) -> usize {
-    let n = o.nonterminals as usize;
-    let records = 8 + 64 * n;
+    let records = records(o);
+    let waits = records + 8 * o.productions;
     let start = 128 + o.start;
-    area[..8].copy_from_slice(&[
+    area[..WHOLE].copy_from_slice(&[
         3 + 8 * o.start as u32,
         6,
         records as u32,
@@ -162,9 +181,10 @@ pub fn build(table: &[u8], o: &Outline, sets: &Sets, area: &mut [u32]) -> usize 
         o.syn(start) as u32,
         o.result as u32,
         o.productions as u32,
-        0,
+        o.carriers as u32,
+        (o.carriers >> 32) as u32,
     ]);
-    area[8..records].fill(0);
+    area[WHOLE..records].fill(0);
     let mut next = [0u32; 48];
     for p in (0..o.productions).rev() {
         let left = o.rows[p][0] as usize;
@@ -172,12 +192,13 @@ pub fn build(table: &[u8], o: &Outline, sets: &Sets, area: &mut [u32]) -> usize 
         next[left] = p as u32 + 1;
         let mut set = sets.starts[p];
         while set != 0 {
-            area[8 + 64 * left + set.trailing_zeros() as usize] = p as u32 + 1;
+            area[WHOLE + 64 * left + set.trailing_zeros() as usize] = p as u32 + 1;
             set &= set - 1;
         }
     }
-    let mut w = Writer { words: area, at: records + 8 * o.productions };
+    let mut w = Writer { words: area, at: waits + 12 * o.productions };
     for p in 0..o.productions {
+        write_waits(o, p, &mut w.words[waits + 12 * p..waits + 12 * p + 12]);
         let body = w.at as u32;
         let (scheme, entries) = write_body(table, o, p, &mut w);
         let r = records + 8 * p;

@@ -1,6 +1,5 @@
 //! Opening, feeding and finishing a run.
-use crate::program::{build, AREA};
-use crate::table::Outline;
+use crate::program::{build, AREA, WHOLE};
 
 pub const MARK: i64 = i64::MIN;
 const MOVES: u64 = u32::MAX as u64;
@@ -23,6 +22,9 @@ pub enum Answer {
     Value(i64, u64),
     Refused(u32, u64),
 }
+
+/// Kinds and values.
+pub type Tokens<'a> = (&'a [u8], &'a [i32]);
 
 struct Machine<'a> {
     program: &'a [u32],
@@ -110,7 +112,7 @@ impl Machine<'_> {
     }
 
     fn predict(&mut self, n: usize, look: usize) -> Result<(), u32> {
-        let mut p = self.program[8 + 64 * n + look];
+        let mut p = self.program[WHOLE + 64 * n + look];
         if p == 0 {
             return Err(if look == 63 { 24 } else { 21 });
         }
@@ -158,7 +160,25 @@ impl Machine<'_> {
         self.program[self.program[r + 4] as usize + (place % 256) as usize] as usize
     }
 
-    fn one(&mut self, look: usize) -> Result<(), u32> {
+    /// Reads a token: one that carries a value adds its register.
+    fn read(&mut self, n: usize, look: usize, value: i32) -> Result<(), u32> {
+        if look != n {
+            return Err(if look == 63 { 24 } else { 21 });
+        }
+        if self.program[7 + n / 32] >> (n % 32) & 1 == 1 {
+            if self.rh == self.registers.len() {
+                return Err(31);
+            }
+            self.registers[self.rh] = value.into();
+            self.rh += 1;
+        }
+        self.tokens += 1;
+        self.at += 1;
+        self.pass();
+        Ok(())
+    }
+
+    fn one(&mut self, look: usize, value: i32) -> Result<(), u32> {
         let word = self.program[self.at];
         let n = (word >> 3) as usize;
         match word & 7 {
@@ -170,14 +190,7 @@ impl Machine<'_> {
                 self.at += 1;
             }
             1 => self.evaluate(n)?,
-            2 => {
-                if look != n {
-                    return Err(if look == 63 { 24 } else { 21 });
-                }
-                self.tokens += 1;
-                self.at += 1;
-                self.pass();
-            }
+            2 => self.read(n, look, value)?,
             3 => self.predict(n, look)?,
             4 => self.test(n)?,
             _ => self.remove(n),
@@ -186,7 +199,7 @@ impl Machine<'_> {
     }
 
     /// Moves until the token is read, or the start symbol is left, and all that needs no next token is done.
-    fn advance(&mut self, look: usize) -> Result<(), u32> {
+    fn advance(&mut self, look: usize, value: i32) -> Result<(), u32> {
         let before = self.tokens;
         loop {
             let op = self.program[self.at] & 7;
@@ -199,21 +212,21 @@ impl Machine<'_> {
             if self.moves == MOVES {
                 return Err(35);
             }
-            self.one(look)?;
+            self.one(look, value)?;
             self.moves += 1;
         }
     }
 
-    fn feed(&mut self, tokens: &[u8]) -> Result<(), u32> {
+    fn feed(&mut self, tokens: Tokens) -> Result<(), u32> {
         let terminals = self.program[3];
-        for &t in tokens {
+        for (&t, &value) in tokens.0.iter().zip(tokens.1) {
             if self.tokens == TOKENS {
                 return Err(35);
             }
             if t as u32 >= terminals {
                 return Err(20);
             }
-            self.advance(t as usize)?;
+            self.advance(t as usize, value)?;
         }
         Ok(())
     }
@@ -224,50 +237,43 @@ impl Machine<'_> {
 }
 
 /// 34: whether record and stacks are such as a run leaves.
-fn fits(o: &Outline, r: &Record, registers: &[i64], places: &[u32]) -> bool {
+fn fits(program: &[u32], r: &Record, registers: &[i64], places: &[u32]) -> bool {
     let (rh, ph) = (r.registers as usize, r.places as usize);
-    if r.tokens > TOKENS
-        || r.moves > MOVES
-        || r.registers > registers.len() as u64
-        || r.places > places.len() as u64
-        || rh > registers.len()
-        || ph > places.len()
-        || ph == 0
-    {
+    if r.tokens > TOKENS || r.moves > MOVES || r.registers > registers.len() as u64 || r.places > places.len() as u64 || ph == 0 {
         return false;
     }
     if registers[rh..].iter().any(|&v| v != MARK) || places[ph..].iter().any(|&p| p != 0) {
         return false;
     }
-    let value = in_range;
     let mut at = 0;
-    let mut take = |n: usize, valued: bool| {
+    let mut take = |n: u32, valued: bool| {
+        let n = n as usize;
         if rh - at < n {
             return false;
         }
         at += n;
-        registers[at - n..at].iter().all(|&v| if valued { value(v) } else { v == MARK })
+        registers[at - n..at].iter().all(|&v| if valued { in_range(v) } else { v == MARK })
     };
-    let start = 128 + o.start;
+    let (records, start, productions) = (program[2], program[4], program[6]);
     if places[0] == SEGMENT + 1 {
-        return ph == 1 && take(o.syn(start) as usize, true) && at == rh;
+        return ph == 1 && take(start, true) && at == rh;
     }
-    if places[0] != SEGMENT || !take(o.syn(start) as usize, false) {
+    if places[0] != SEGMENT || !take(start, false) {
         return false;
     }
-    let mut awaited = start;
+    let waits = (records + 8 * productions) as usize;
+    let mut awaited = 128 + (program[0] >> 3);
     for &place in &places[1..ph] {
-        let (p, k) = ((place / 256) as usize, (place % 256) as usize);
-        if p >= o.productions || k >= o.rows[p][1] as usize || 128 + o.rows[p][0] != awaited {
+        let (p, k) = (place / 256, place % 256);
+        if p >= productions || k >= 12 {
             return false;
         }
-        for &x in &o.rows[p][2..2 + k] {
-            if !take(o.syn(x) as usize, true) {
-                return false;
-            }
+        let word = program[waits + (12 * p + k) as usize];
+        if word == 0 || 128 + (word & 63) != awaited {
+            return false;
         }
-        awaited = o.rows[p][2 + k];
-        if !take(o.syn(awaited) as usize, false) || !take(o.inh(awaited) as usize, true) {
+        awaited = word >> 21 & 255;
+        if !take(word >> 6 & 127, true) || !take(word >> 13 & 15, false) || !take(word >> 17 & 15, true) {
             return false;
         }
     }
@@ -280,23 +286,22 @@ fn lend<'a>(registers: &'a mut [i64], places: &'a mut [u32]) -> (&'a mut [i64], 
 }
 
 /// What each call begins with: 30, the table, and its program written.
-fn prepare(table: &[u8], program: &mut [u32]) -> Result<Outline, Answer> {
+fn prepare(table: &[u8], program: &mut [u32]) -> Result<(), Answer> {
     if program.len() < AREA {
         return Err(Answer::Refused(30, 0));
     }
     let (o, sets) = crate::check(table).map_err(|r| Answer::Refused(r.number, r.offset as u64))?;
     build(table, &o, &sets, program);
-    Ok(o)
+    Ok(())
 }
 
 pub fn open(table: &[u8], registers: &mut [i64], places: &mut [u32], program: &mut [u32]) -> (Record, Answer) {
     let none = Record::default();
-    let o = match prepare(table, program) {
-        Ok(o) => o,
-        Err(answer) => return (none, answer),
-    };
+    if let Err(answer) = prepare(table, program) {
+        return (none, answer);
+    }
     let (registers, places) = lend(registers, places);
-    let n = o.syn(128 + o.start) as usize;
+    let n = program[4] as usize;
     if registers.len() < n {
         return (none, Answer::Refused(31, 0));
     }
@@ -315,18 +320,20 @@ fn call(
     registers: &mut [i64],
     places: &mut [u32],
     program: &mut [u32],
-    tokens: Option<&[u8]>,
+    tokens: Option<Tokens>,
 ) -> (Record, Answer) {
-    let o = match prepare(table, program) {
-        Ok(o) => o,
-        Err(answer) => return (record, answer),
-    };
+    if let Err(answer) = prepare(table, program) {
+        return (record, answer);
+    }
     if !record.open {
         return (record, Answer::Refused(33, 0));
     }
     let (registers, places) = lend(registers, places);
-    if !fits(&o, &record, registers, places) {
+    if !fits(program, &record, registers, places) {
         return (record, Answer::Refused(34, 0));
+    }
+    if tokens.is_some_and(|(kinds, values)| kinds.len() != values.len()) {
+        return (record, Answer::Refused(38, 0));
     }
     let mut m = Machine {
         program,
@@ -337,17 +344,17 @@ fn call(
         tokens: record.tokens,
         moves: record.moves,
         at: 0,
-        records: 8 + 64 * o.nonterminals as usize,
+        records: program[2] as usize,
     };
     m.at = m.expect_of(m.places[m.ph - 1]);
     let outcome = match tokens {
         Some(ts) => m.feed(ts),
-        None => m.advance(63),
+        None => m.advance(63, 0),
     };
     match (outcome, tokens) {
         (Err(k), _) => (m.record(false), Answer::Refused(k, m.tokens)),
         (Ok(()), Some(_)) => (m.record(true), Answer::More(m.moves)),
-        (Ok(()), None) => (m.record(false), Answer::Value(m.register(o.result as u32), m.moves)),
+        (Ok(()), None) => (m.record(false), Answer::Value(m.register(m.program[5]), m.moves)),
     }
 }
 
@@ -357,7 +364,7 @@ pub fn feed(
     registers: &mut [i64],
     places: &mut [u32],
     program: &mut [u32],
-    tokens: &[u8],
+    tokens: Tokens,
 ) -> (Record, Answer) {
     call(table, record, registers, places, program, Some(tokens))
 }

@@ -5,24 +5,26 @@ fn field(table: &mut Vec<u8>, tag: u8, body: &[u8]) {
     table.extend(body);
 }
 
-/// How a table with three tokens begins: S to L, to which 0 is handed down, and whose result is that of S.
-fn start() -> Vec<u8> {
+/// How a table with three tokens begins, some of which carry a value: S to L, to which 0 is handed down, and whose result is that of S.
+fn start(carriers: &[u8]) -> Vec<u8> {
     let mut t = Vec::new();
     field(&mut t, 1, &[3, 2, 0, 1]);
     field(&mut t, 2, &[0, 1]);
     field(&mut t, 2, &[1, 1]);
+    for &terminal in carriers {
+        field(&mut t, 6, &[terminal]);
+    }
     field(&mut t, 3, &[0, 1, 129]);
     field(&mut t, 4, &[1, 1, 0, 0, 0, 0, 0]);
     field(&mut t, 4, &[0, 1, 1, 1, 2]);
     t
 }
 
-/// Document 01's grammar of words and tags.
-pub fn words() -> Vec<u8> {
-    let mut t = start();
+/// A grammar of words and tags: how it begins, and what a word adds to the value.
+fn words_and_tags(mut t: Vec<u8>, word: &[u8]) -> Vec<u8> {
     field(&mut t, 3, &[1, 2, 0, 129]);
     field(&mut t, 4, &[2, 1, 1, 0, 1]);
-    field(&mut t, 4, &[0, 2, 7, 2, 2, 0, 0, 0, 1]);
+    field(&mut t, 4, word);
     field(&mut t, 3, &[1, 4, 1, 129, 2, 129]);
     field(&mut t, 4, &[2, 1, 7, 0, 1, 0, 0, 0, 1]);
     field(&mut t, 4, &[4, 1, 1, 0, 1]);
@@ -31,6 +33,16 @@ pub fn words() -> Vec<u8> {
     field(&mut t, 3, &[1, 0]);
     field(&mut t, 4, &[0, 2, 0, 0, 0, 0, 0]);
     t
+}
+
+/// Document 01's grammar of words and tags.
+pub fn words() -> Vec<u8> {
+    words_and_tags(start(&[]), &[0, 2, 7, 2, 2, 0, 0, 0, 1])
+}
+
+/// The same with words that carry their lengths, which are added up.
+pub fn lengths() -> Vec<u8> {
+    words_and_tags(start(&[0]), &[0, 2, 2, 1, 1, 2, 2])
 }
 
 /// A chain of n nonterminals, 1 to 47, behind the start symbol; each has a production of tokens only, one that goes on to the next
@@ -230,7 +242,7 @@ pub fn lines_segment() -> Vec<u8> {
 
 /// Brackets around one token: 0 opens, 1 closes, 2 is inside; the value is the depth.
 pub fn brackets() -> Vec<u8> {
-    let mut t = start();
+    let mut t = start(&[]);
     field(&mut t, 3, &[1, 3, 0, 129, 1]);
     field(&mut t, 4, &[2, 1, 7, 0, 1, 0, 0, 0, 1]);
     field(&mut t, 4, &[0, 2, 1, 2, 2]);

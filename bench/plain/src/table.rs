@@ -16,6 +16,8 @@ pub struct Outline {
     pub result: u8,
     pub inherited: [u8; 48],
     pub synthesized: [u8; 48],
+    /// The terminals that carry a value: a bit each.
+    pub carriers: u64,
     pub productions: usize,
     pub offsets: [u32; 128],
     /// 16 bytes a production: left side, length, symbols.
@@ -33,6 +35,7 @@ impl Outline {
             result: 0,
             inherited: [0; 48],
             synthesized: [0; 48],
+            carriers: 0,
             productions: 0,
             offsets: [0; 128],
             rows: [[0; 16]; 128],
@@ -51,9 +54,18 @@ impl Outline {
 
     pub fn syn(&self, symbol: u8) -> u8 {
         if symbol < 128 {
-            0
+            (self.carriers >> symbol & 1) as u8
         } else {
             self.synthesized[(symbol - 128) as usize]
+        }
+    }
+
+    /// The marked registers of a symbol that is waited at: none for a terminal, whose register comes with its read.
+    pub fn marked(&self, symbol: u8) -> u8 {
+        if symbol < 128 {
+            0
+        } else {
+            self.syn(symbol)
         }
     }
 
@@ -140,6 +152,18 @@ impl Reader {
         o.inherited[self.counts] = b[0];
         o.synthesized[self.counts] = b[1];
         self.counts += 1;
+        0
+    }
+
+    fn carrier(&mut self, b: &[u8]) -> u32 {
+        if b.len() != 1 {
+            return 4;
+        }
+        let o = &mut self.outline;
+        if b[0] >= o.terminals || o.carriers >> b[0] != 0 {
+            return 5;
+        }
+        o.carriers |= 1 << b[0];
         0
     }
 
@@ -233,6 +257,7 @@ impl Reader {
         }
         match tag {
             3 => self.production(b, at),
+            6 if self.outline.productions == 0 => self.carrier(b),
             4 if self.outline.productions > 0 => self.rule(b),
             5 if self.outline.productions > 0 => self.condition(b),
             _ => 3,

@@ -88,6 +88,13 @@ wrote-then {old} {mid} {new} {a} {b} {c} {xs} {ys} v w =
       address = omega (arith, v .address, w .address, length-append xs ys);
     }
 
+-- the words behind are written first
+pub wrote-ahead : {old mid new : List ℕ} {a b c : ℕ} {xs ys : List ℕ} → Wrote old mid b c ys → Wrote mid new a b xs → Wrote old new a c (xs ++ ys)
+wrote-ahead {old} {mid} {new} {a} {b} {c} {xs} {ys} w v =
+    wrote-then
+    (record { memory = refl; address = v .address })
+    (record { memory = v .memory ∙ (ap (λ m. patch m a xs) (w .memory) ∙ sym (patch-swap old a xs b ys (omega (arith, v .address)))); address = w .address })
+
 pub wrote-length : {old new : List ℕ} {a next : ℕ} {ws : List ℕ} → Wrote old new a next ws → length new ≡ length old
 wrote-length {old} {new} {a} {next} {ws} w = ap length (w .memory) ∙ patch-length old a ws
 

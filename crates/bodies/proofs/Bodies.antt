@@ -1,12 +1,12 @@
 -- The body of a production, part by part.
 use Prim.Native.Nat.{ℕ, _+_, _*_, _≤_, _<_}
 use native.Mathlib.Omega.{arith}
-use mathlib.Core.Path.{_≡_, refl, sym, ap, ap₂, _∙_}
+use mathlib.Core.Path.{_≡_, sym, ap, _∙_}
 use mathlib.Core.Bool.{true, false}
 use mathlib.Core.List.{List, _++_, append-assoc}
 use lib.ListN.{length, getD, length-append}
 use Rattle.meaning.specs.Grammar.{Production, Grammar}
-use Rattle.meaning.specs.Scheme.{synBetween, scheme, entryTests}
+use Rattle.meaning.specs.Scheme.{scheme, entryTests}
 use Rattle.meaning.specs.Program.{entryWords, schemeOffset, bodyWords}
 use Rattle.meaning.specs.Table.{byte}
 use Rattle.theory_base.specs.Selectors.{syn-none}
@@ -16,10 +16,10 @@ use Rattle.blocks.specs.Patch.{Wrote, wrote-as, wrote-then, wrote-length}
 use Rattle.blocks.specs.Walk.{ItemsFit, Counted, itemCount, itemWords, wordsOf}
 use Rattle.bodies.specs.Levels.{Leveled, tests-words}
 use Rattle.bodies.specs.Words.{endWords}
-use Rattle.bodies.specs.Given.{Given, rightOf, listedOf, Prepared, SymbolsFit, restWords, EndFits, ExpectsFit, restExpects, body-words, body-size, BodyFits}
+use Rattle.bodies.specs.Given.{Given, listedOf, Carried, Prepared, SymbolsFit, restWords, EndFits, ExpectsFit, restExpects, body-words, body-size, BodyFits}
 use Rattle.bodies.proofs.Symbols.{tests-count}
 
-module _ {row fields inherited synthesized tests area : List ℕ} {a : ℕ} (x : BodyFits row fields inherited synthesized tests area a) where
+module _ {row fields inherited synthesized tests area : List ℕ} {carrying a : ℕ} (x : BodyFits row fields inherited synthesized carrying tests area a) where
   abbrev g : Grammar
   g = x .given .grammar
 
@@ -29,10 +29,13 @@ module _ {row fields inherited synthesized tests area : List ℕ} {a : ℕ} (x :
   pub counted : Counted fields
   counted = record { listed = listedOf (x .given); short = x .given .short }
 
-  module _ (rules levels : List ℕ) {n t : ℕ} (er : (y : Counted fields) (k : ℕ) → k < 13 → getD rules k 0 ≡ itemCount true k (y .listed)) (el : (y : Given row fields inherited synthesized) → Leveled (y .grammar) (y .production) levels) (en : n ≡ byte row 1) (et : t ≡ getD tests 0 0) where
+  module _ (rules levels : List ℕ) {n t : ℕ}
+      (er : (y : Counted fields) (k : ℕ) → k < 13 → getD rules k 0 ≡ itemCount true k (y .listed))
+      (el : (y : Given row fields inherited synthesized) → Carried carrying (y .grammar) → Leveled (y .grammar) (y .production) levels)
+      (en : n ≡ byte row 1) (et : t ≡ getD tests 0 0) where
     prepared : Prepared row fields inherited synthesized rules tests levels
     unfolding counted
-    prepared = record { given = x .given; ruleCounts = er counted; testCounts = x .testCounts; leveled = el (x .given) }
+    prepared = record { given = x .given; ruleCounts = er counted; testCounts = x .testCounts; leveled = el (x .given) (x .carried) }
 
     tests-is : length (entryTests g p) ≡ t
     tests-is = tests-count g p 0 ∙ sym (et ∙ x .testCounts 0 (omega arith))
@@ -65,7 +68,7 @@ module _ {row fields inherited synthesized tests area : List ℕ} {a : ℕ} (x :
       module _ {m2 : List ℕ} {first : ℕ} (f2 : (y : ItemsFit fields false 0 m1 entry) → t ≡ itemCount false 0 (y .listed) → Wrote m1 m2 entry first (itemWords false 0 levels 0 (y .listed))) where
         w2 : Wrote area m2 a first (restExpects g p 0 (a + schemeOffset g p) ++ entryWords g p)
         unfolding items-fit
-        w2 = wrote-then w1 (wrote-as (ap (λ z. wordsOf false z levels 0 (p .rules) (p .conditions)) (sym (syn-none g p 0)) ∙ tests-words g p (x .given .ofGrammar) levels (el (x .given)) 0 (omega arith)) (f2 items-fit (et ∙ x .testCounts 0 (omega arith))))
+        w2 = wrote-then w1 (wrote-as (ap (λ z. wordsOf false z levels 0 (p .rules) (p .conditions)) (sym (syn-none g p 0)) ∙ tests-words g p (x .given .ofGrammar) levels (el (x .given) (x .carried)) 0 (omega arith)) (f2 items-fit (et ∙ x .testCounts 0 (omega arith))))
 
         first-is : first ≡ a + length (p .right) + 3 * length (entryTests g p)
         first-is = omega (arith, w2 .address, length-append (restExpects g p 0 (a + schemeOffset g p)) (entryWords g p), expects-count (a + schemeOffset g p), conditions-length (entryTests g p))

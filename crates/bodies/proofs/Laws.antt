@@ -1,17 +1,18 @@
 -- The definitions of specs/ by the tests that the code makes.
-use Prim.Native.Nat.{ℕ, zero, suc, _+_, _-_, _*_, _≤_, _<_}
-use native.Mathlib.Omega.{arith}
-use mathlib.Core.Path.{_≡_, refl, sym, ap, _∙_}
-use mathlib.Core.Bool.{Bool, true, false}
-use mathlib.Core.List.{List, [], _∷_}
+use Prim.Native.Nat.{ℕ, _+_, _-_, _*_, _≤_, _<_}
+use mathlib.Core.Path.{_≡_, sym, ap, _∙_}
+use mathlib.Core.Bool.{Bool}
+use mathlib.Core.List.{List}
 use lib.ListN.{length, set, getD, List·getD-eq-default}
-use lib.Dec.{eqb}
 use borrow.Author.Tests.{lt-ltb, le-ltb, eq-eqb, ne-eqb}
+use Rattle.meaning.specs.Grammar.{attributeIf}
+use Rattle.meaning.specs.Sets.{has}
 use Rattle.meaning.specs.Table.{byte}
+use Rattle.token_set.specs.Words.{setOf}
 use Rattle.blocks.specs.Items.{itemSize}
-use Rattle.blocks.specs.Patch.{Wrote, wrote-none, wrote-one, wrote-as}
+use Rattle.blocks.specs.Patch.{Wrote, wrote-none, wrote-one}
 use Rattle.bodies.specs.Words.{addWords, addSize, blockSize}
-use Rattle.bodies.specs.Given.{countAt, headOf}
+use Rattle.bodies.specs.Given.{countAt, synthesizedAt, headOf}
 
 pub past-end : (l : List ℕ) (i : ℕ) → length l ≤ i → 0 ≡ getD l i 0
 past-end l i h = sym (List·getD-eq-default l 0 {n = i} h)
@@ -23,6 +24,14 @@ count-terminal counts b l = rw (lt-ltb b 128 l)
 pub count-nonterminal : (counts : List ℕ) (b r : ℕ) → 128 ≤ b → r ≡ byte counts (b - 128) → r ≡ countAt counts b
 unfolding countAt
 count-nonterminal counts b r l e = rw (le-ltb b 128 l) e
+
+pub synthesized-nonterminal : (carrying : ℕ) (counts : List ℕ) (b r : ℕ) → 128 ≤ b → r ≡ countAt counts b → r ≡ synthesizedAt carrying counts b
+unfolding countAt synthesizedAt
+synthesized-nonterminal carrying counts b r l e = rw (le-ltb b 128 l) (rw (le-ltb b 128 l) at e)
+
+pub synthesized-terminal : (carrying : ℕ) (counts : List ℕ) (b : ℕ) {c d : Bool} → b < 128 → c ≡ has (setOf carrying) b → c ≡ d → attributeIf d ≡ synthesizedAt carrying counts b
+unfolding synthesizedAt
+synthesized-terminal carrying counts b l e q = rw (lt-ltb b 128 l) (ap attributeIf (sym q ∙ e))
 
 pub head-terminal : (b : ℕ) → b < 128 → 2 + 8 * b ≡ headOf b
 unfolding headOf

@@ -1,20 +1,20 @@
 -- All symbols of a production, the end of its scheme, and the addresses of its expects.
-use Prim.Native.Nat.{ℕ, zero, suc, _+_, _-_, _*_, _≤_, _<_}
+use Prim.Native.Nat.{ℕ, suc, _+_, _-_, _*_, _≤_, _<_}
 use native.Mathlib.Omega.{arith}
 use mathlib.Core.Path.{_≡_, refl, sym, ap, ap₂, _∙_}
-use mathlib.Core.Bool.{Bool, true, false}
-use mathlib.Core.List.{List, [], _∷_, _++_}
+use mathlib.Core.Bool.{true, false}
+use mathlib.Core.List.{List, [], _∷_}
 use lib.ListN.{length, set, getD, length-append}
-use Rattle.meaning.specs.Grammar.{Production, Grammar, nonterminal, inh, syn, att, symbolAt}
-use Rattle.meaning.specs.Scheme.{synBetween, removed, inheritedRules, synthesizedRules, testsAfter}
+use Rattle.meaning.specs.Grammar.{Production, Grammar, nonterminal, inh, addedFor, symbolAt}
+use Rattle.meaning.specs.Scheme.{synBetween, removed, synthesizedRules}
 use Rattle.meaning.specs.Table.{byte}
 use Rattle.theory_base.specs.Selectors.{syn-none}
-use Rattle.theory_program.specs.Proper.{att-most, syn-most}
+use Rattle.theory_program.specs.Proper.{syn-most}
 use Rattle.blocks.specs.Patch.{Wrote, wrote-as, wrote-one, wrote-then, wrote-length, Onward, onward-start, onward-as, onward-then, onward-end}
-use Rattle.blocks.specs.Walk.{Listed, BlockFits, itemCount, wordsOf, blockWords, block, count-few}
-use Rattle.bodies.specs.Levels.{level, synthesized-words}
-use Rattle.bodies.specs.Words.{addSize, blockSize, aheadSize, symbolWords, symbol-length, evaluateWords, evaluate-length, endWords}
-use Rattle.bodies.specs.Given.{Given, rightOf, listedOf, countAt, inherited-at, synthesized-at, left-inherited, Prepared, wordsAt, SymbolFits, SymbolsFit, restWords, words-turn, words-end, EndFits, ExpectsFit, restExpects, expects-turn, expects-over}
+use Rattle.blocks.specs.Walk.{BlockFits, itemCount, wordsOf, blockWords, block, count-few}
+use Rattle.bodies.specs.Levels.{synthesized-words}
+use Rattle.bodies.specs.Words.{addSize, blockSize, aheadSize, symbol-length, evaluateWords, evaluate-length, endWords}
+use Rattle.bodies.specs.Given.{Given, rightOf, listedOf, countAt, inherited-at, marked-at, left-inherited, Prepared, wordsAt, SymbolFits, SymbolsFit, restWords, words-turn, words-end, EndFits, ExpectsFit, restExpects, expects-turn, expects-over}
 use Rattle.bodies.proofs.Symbols.{inherited-count, synthesized-count, tests-count, block-fits}
 
 -- ---- all symbols
@@ -192,8 +192,8 @@ module _ {row fields inherited synthesized rules tests levels old : List ℕ} {a
 
       module _ {b own out q t u v w : ℕ} (eb : b ≡ byte row (k + 2)) (eo : own ≡ countAt inherited b) (es : out ≡ countAt synthesized b) (eq : q ≡ getD rules (k + 1) 0) (et : t ≡ getD tests (k + 1) 0) (eu : u ≡ addSize (own + out)) (ev : v ≡ blockSize true q) (ew : w ≡ blockSize false t) where
         module _ (x : ExpectsFit row fields inherited synthesized rules tests levels old address scheme) where
-          all-is : own + out ≡ att (gg x) (symbolAt (gp x) (suc k))
-          all-is = ap₂ (λ y z. y + z) (eo ∙ (ap (countAt inherited) eb ∙ inherited-at (gi x) k (here x))) (es ∙ (ap (countAt synthesized) eb ∙ synthesized-at (gi x) k (here x)))
+          all-is : own + out ≡ addedFor (gg x) (symbolAt (gp x) (suc k))
+          all-is = ap₂ (λ y z. y + z) (eo ∙ (ap (countAt inherited) eb ∙ inherited-at (gi x) k (here x))) (es ∙ (ap (countAt synthesized) eb ∙ marked-at (gi x) k (here x)))
 
           more : k + 1 ≡ suc k
           more = omega arith

@@ -1,23 +1,20 @@
 -- The instructions of one symbol.
-use Prim.Native.Nat.{ℕ, zero, suc, _+_, _-_, _*_, _≤_, _<_}
-use native.Mathlib.Decide.{ℕ-discrete}
-use native.Mathlib.Numerals.{add-one}
+use Prim.Native.Nat.{ℕ, suc, _+_, _-_, _≤_, _<_}
 use native.Mathlib.Omega.{arith}
-use mathlib.Core.Path.{_≡_, refl, sym, ap, ap₂, _∙_}
+use mathlib.Core.Path.{_≡_, sym, ap, ap₂, _∙_}
 use mathlib.Core.Bool.{Bool, true, false}
-use mathlib.Core.List.{List, [], _∷_, _++_, map, append-assoc}
+use mathlib.Core.List.{List, _∷_, _++_, append-assoc}
 use lib.ListN.{length, set, getD, length-append, length-map, length-set}
-use Rattle.meaning.specs.Grammar.{Production, Grammar, inh, syn, att, symbolAt}
+use Rattle.meaning.specs.Grammar.{Production, Grammar, inh, addedFor, symbolAt}
 use Rattle.meaning.specs.Scheme.{synBetween, mapRule, mapCondition, selectInherited, selectAfter, rulesFor, conditionsAt, inheritedRules, synthesizedRules, testsAfter}
 use Rattle.meaning.specs.Program.{symbolHead}
 use Rattle.meaning.specs.Table.{byte}
-use Rattle.theory_program.specs.Proper.{att-most, syn-most}
-use Rattle.blocks.specs.Items.{itemSize}
+use Rattle.theory_program.specs.Proper.{added-most, syn-most}
 use Rattle.blocks.specs.Patch.{Wrote, wrote-as, wrote-one, wrote-then, wrote-length}
 use Rattle.blocks.specs.Walk.{Listed, BlockFits, countOf, wordsOf, itemCount, blockWords, block, count-few}
-use Rattle.bodies.specs.Levels.{level, inherited-words, synthesized-words, tests-words}
+use Rattle.bodies.specs.Levels.{level, inherited-words, tests-words}
 use Rattle.bodies.specs.Words.{addWords, addSize, blockSize, add-length, aheadSize, symbolWords, symbol-length, evaluateWords, evaluate-length, testWords}
-use Rattle.bodies.specs.Given.{Given, rightOf, listedOf, countAt, headOf, inherited-at, synthesized-at, head-at, Prepared, SymbolFits, wordsAt}
+use Rattle.bodies.specs.Given.{Given, listedOf, countAt, headOf, inherited-at, marked-at, head-at, SymbolFits, wordsAt}
 use Rattle.bodies.proofs.Laws.{size-some}
 
 -- ---- how many
@@ -53,7 +50,7 @@ module _ {row fields inherited synthesized rules tests levels : List ℕ} {k : �
   short : length (p .right) ≤ 12
   short = given .ofGrammar .short
 
-  words-size : length (wordsAt given k) ≡ addSize (att g (symbolAt p (suc k))) + blockSize true (length (inheritedRules g p (suc k))) + 1 + blockSize false (length (testsAfter g p (suc k)))
+  words-size : length (wordsAt given k) ≡ addSize (addedFor g (symbolAt p (suc k))) + blockSize true (length (inheritedRules g p (suc k))) + 1 + blockSize false (length (testsAfter g p (suc k)))
   unfolding aheadSize
   words-size = symbol-length g p (suc k) (symbolAt p (suc k))
 
@@ -64,18 +61,18 @@ module _ {row fields inherited synthesized rules tests levels : List ℕ} {k : �
     own-is : own ≡ inh g (symbolAt p (suc k))
     own-is = eo ∙ (ap (countAt inherited) eb ∙ inherited-at given k (x .here))
 
-    all-is : own + out ≡ att g (symbolAt p (suc k))
-    all-is = ap₂ (λ y z. y + z) own-is (es ∙ (ap (countAt synthesized) eb ∙ synthesized-at given k (x .here)))
+    all-is : own + out ≡ addedFor g (symbolAt p (suc k))
+    all-is = ap₂ (λ y z. y + z) own-is (es ∙ (ap (countAt synthesized) eb ∙ marked-at given k (x .here)))
 
     pub add-fits : (own + out < 512) × (a + addSize (own + out) ≤ length area)
-    add-fits = (omega (arith, all-is, att-most g (given .wellFormed) (symbolAt p (suc k))), omega (arith, ap addSize all-is, words-size, x .room, x .long))
+    add-fits = (omega (arith, all-is, added-most g (given .wellFormed) (symbolAt p (suc k))), omega (arith, ap addSize all-is, words-size, x .room, x .long))
 
     module _ {top n : ℕ} (et : top ≡ getD levels (k + 1) 0) (en : n ≡ getD rules (k + 1) 0) where
       top-is : top ≡ level g p (suc k)
       top-is = let e : k + 1 ≡ suc k = omega arith in et ∙ (ap (λ z. getD levels z 0) e ∙ x .prepared .leveled (suc k) (omega (arith, x .here)))
 
       pub top-small : top ≤ 1024
-      top-small = omega (arith, top-is, syn-most g (given .wellFormed) p short 0 (suc k), att-most g (given .wellFormed) (symbolAt p (suc k)))
+      top-small = omega (arith, top-is, syn-most g (given .wellFormed) p short 0 (suc k), added-most g (given .wellFormed) (symbolAt p (suc k)))
 
       pub own-below : own ≤ top
       own-below = omega (arith, own-is, top-is)
@@ -99,12 +96,12 @@ module _ {row fields inherited synthesized rules tests levels : List ℕ} {k : �
         evaluate-fits = block-fits (listedOf given) (given .short) true (k + 1) n rules-is (omega (arith, w .address, add-length (own + out), ap addSize all-is, wrote-length w, words-size, x .room, x .long, ap (blockSize true) rules-length))
 
         module _ {then : List ℕ} {next : ℕ} (f : (y : BlockFits fields true (k + 1) n mid at) → Wrote mid then at next (blockWords true top levels (k + 1) n (y .listed))) where
-          so-far : Wrote area then a next (addWords (att g (symbolAt p (suc k))) ++ evaluateWords (inheritedRules g p (suc k)))
+          so-far : Wrote area then a next (addWords (addedFor g (symbolAt p (suc k))) ++ evaluateWords (inheritedRules g p (suc k)))
           unfolding evaluate-fits
           so-far = wrote-then (wrote-as (ap addWords all-is) w) (wrote-as evaluate-words (f evaluate-fits))
 
-          next-is : next ≡ a + (addSize (att g (symbolAt p (suc k))) + blockSize true (length (inheritedRules g p (suc k))))
-          next-is = omega (arith, so-far .address, length-append (addWords (att g (symbolAt p (suc k)))) (evaluateWords (inheritedRules g p (suc k))), add-length (att g (symbolAt p (suc k))), evaluate-length (inheritedRules g p (suc k)))
+          next-is : next ≡ a + (addSize (addedFor g (symbolAt p (suc k))) + blockSize true (length (inheritedRules g p (suc k))))
+          next-is = omega (arith, so-far .address, length-append (addWords (addedFor g (symbolAt p (suc k)))) (evaluateWords (inheritedRules g p (suc k))), add-length (addedFor g (symbolAt p (suc k))), evaluate-length (inheritedRules g p (suc k)))
 
           pub next-small : next < 16384
           next-small = omega (arith, next-is, words-size, x .room)
@@ -132,4 +129,4 @@ module _ {row fields inherited synthesized rules tests levels : List ℕ} {k : �
             symbol-written q =
                 let here : h ≡ symbolHead (symbolAt p (suc k)) = eh ∙ (ap headOf eb ∙ head-at given k (x .here)) in
                 let last = wrote-then (wrote-one then next h) (wrote-as test-words (q test-fits)) in
-                wrote-as (append-assoc (addWords (att g (symbolAt p (suc k)))) (evaluateWords (inheritedRules g p (suc k))) (symbolHead (symbolAt p (suc k)) ∷ testWords (testsAfter g p (suc k)))) (wrote-then so-far (wrote-as (ap (λ z. z ∷ testWords (testsAfter g p (suc k))) here) last))
+                wrote-as (append-assoc (addWords (addedFor g (symbolAt p (suc k)))) (evaluateWords (inheritedRules g p (suc k))) (symbolHead (symbolAt p (suc k)) ∷ testWords (testsAfter g p (suc k)))) (wrote-then so-far (wrote-as (ap (λ z. z ∷ testWords (testsAfter g p (suc k))) here) last))

@@ -1,22 +1,24 @@
 -- What is brought of one production: its row (left side, length, symbols as the table has them), the bytes of its rules and conditions, and the attribute counts of all nonterminals.
-use Prim.Native.Nat.{ℕ, zero, suc, _+_, _-_, _*_, _≤_, _<_}
+use Prim.Native.Nat.{ℕ, suc, _+_, _-_, _*_, _≤_, _<_}
 use native.Mathlib.Omega.{arith}
-use mathlib.Core.Path.{_≡_, refl, sym, ap, ap₂, _∙_, subst}
+use mathlib.Core.Path.{_≡_, refl, sym, ap, _∙_, subst}
 use mathlib.Core.Bool.{Bool, true, false}
 use mathlib.Core.List.{List, [], _∷_, _++_, append-assoc}
 use lib.ListN.{length, getD, drop, length-append, drop-of-length-le}
 use lib.Seq.{drop-cons}
-use lib.Dec.{ltb, T}
-use Rattle.meaning.specs.Grammar.{Symbol, terminal, nonterminal, Production, Grammar, inh, syn, att, symbolAt, nonterminalCount}
+use lib.Dec.{ltb}
+use Rattle.meaning.specs.Grammar.{Symbol, terminal, nonterminal, Production, Grammar, inh, syn, markedFor, attributeIf, symbolAt, nonterminalCount}
 use Rattle.meaning.specs.Rules.{Known, WellFormed, WellFormedProduction}
 use Rattle.meaning.specs.Layout.{RulesAndConditions}
 use Rattle.meaning.specs.Scheme.{Instruction, choose, scheme, symbolsScheme, entryTests}
+use Rattle.meaning.specs.Sets.{has}
 use Rattle.meaning.specs.Program.{symbolHead, schemeWords, expectsAt, entryWords, schemeOffset, bodyWords, bodySize}
 use Rattle.meaning.specs.Table.{byte, symbolOf}
 use Rattle.theory_base.specs.Members.{getD-in}
 use Rattle.theory_program.specs.Code.{conditions-length}
+use Rattle.token_set.specs.Words.{setOf}
 use Rattle.blocks.specs.Walk.{Listed, itemCount}
-use Rattle.bodies.specs.Levels.{Leveled, level}
+use Rattle.bodies.specs.Levels.{Leveled}
 use Rattle.bodies.specs.Words.{symbolWords, aheadSize, scheme-symbol, expects-symbol, endScheme, endWords, scheme-end, expects-end}
 
 pub record Given (row fields inherited synthesized : List ℕ) : Type 0 where
@@ -40,9 +42,17 @@ listedOf x = record { rules = x .production .rules; conditions = x .production .
 
 -- ---- symbols by their bytes
 
--- a count of a symbol, 0 for a terminal
+-- a count of a symbol by its byte, 0 for a terminal
 unfoldable pub countAt : List ℕ → ℕ → ℕ
 countAt counts b = choose (ltb b 128) 0 (byte counts (b - 128))
+
+-- a symbol's synthesized count, where a word holds the terminals that have one
+unfoldable pub synthesizedAt : ℕ → List ℕ → ℕ → ℕ
+synthesizedAt carrying counts b = choose (ltb b 128) (attributeIf (has (setOf carrying) b)) (byte counts (b - 128))
+
+-- a word holds the terminals of a grammar that have an attribute
+abbrev pub Carried : ℕ → Grammar → Type 0
+Carried carrying g = (t : ℕ) → attributeIf (has (setOf carrying) t) ≡ syn g (terminal t)
 
 unfoldable pub headOf : ℕ → ℕ
 headOf b = choose (ltb b 128) (2 + 8 * b) (3 + 8 * (b - 128))
@@ -58,26 +68,40 @@ head-is b = go (ltb b 128)
     go true = refl
     go false = refl
 
+pub count-by : (g : Grammar) (counts : List ℕ) (f : Symbol → ℕ) → ((t : ℕ) → f (terminal t) ≡ 0) → ((n : ℕ) → n < nonterminalCount g → byte counts n ≡ f (nonterminal n)) → (b : ℕ) → Known g (symbolOf b) → countAt counts b ≡ f (symbolOf b)
+unfolding countAt
+count-by g counts f ft fn b kn = go (ltb b 128) kn
+  where
+    go : (c : Bool) → Known g (symbolBy c b) → choose c 0 (byte counts (b - 128)) ≡ f (symbolBy c b)
+    go true h = sym (ft b)
+    go false h = fn (b - 128) h
+
+pub synthesized-by : (g : Grammar) (carrying : ℕ) → Carried carrying g → (counts : List ℕ) → ((n : ℕ) → n < nonterminalCount g → byte counts n ≡ syn g (nonterminal n)) → (b : ℕ) → Known g (symbolOf b) → synthesizedAt carrying counts b ≡ syn g (symbolOf b)
+unfolding synthesizedAt
+synthesized-by g carrying ft counts fn b kn = go (ltb b 128) kn
+  where
+    go : (c : Bool) → Known g (symbolBy c b) → choose c (attributeIf (has (setOf carrying) b)) (byte counts (b - 128)) ≡ syn g (symbolBy c b)
+    go true h = ft b
+    go false h = fn (b - 128) h
+
 module _ {row fields inherited synthesized : List ℕ} (x : Given row fields inherited synthesized) where
   known : (k : ℕ) → k < length (rightOf x) → Known (x .grammar) (symbolAt (x .production) (suc k))
   known k l = x .ofGrammar .symbols (symbolAt (x .production) (suc k)) (getD-in (rightOf x) k (terminal 0) l)
 
-  count-by : (counts : List ℕ) (f : Symbol → ℕ) → ((t : ℕ) → f (terminal t) ≡ 0) → ((n : ℕ) → n < nonterminalCount (x .grammar) → byte counts n ≡ f (nonterminal n)) → (b : ℕ) → Known (x .grammar) (symbolOf b) → countAt counts b ≡ f (symbolOf b)
-  unfolding countAt
-  count-by counts f ft fn b kn = go (ltb b 128) kn
-    where
-      go : (c : Bool) → Known (x .grammar) (symbolBy c b) → choose c 0 (byte counts (b - 128)) ≡ f (symbolBy c b)
-      go true h = sym (ft b)
-      go false h = fn (b - 128) h
+  known-byte : (k : ℕ) → k < length (rightOf x) → Known (x .grammar) (symbolOf (byte row (k + 2)))
+  known-byte k l = subst (Known (x .grammar)) (sym (x .symbols k l)) (known k l)
 
   count-at : (counts : List ℕ) (f : Symbol → ℕ) → ((t : ℕ) → f (terminal t) ≡ 0) → ((n : ℕ) → n < nonterminalCount (x .grammar) → byte counts n ≡ f (nonterminal n)) → (k : ℕ) → k < length (rightOf x) → countAt counts (byte row (k + 2)) ≡ f (symbolAt (x .production) (suc k))
-  count-at counts f ft fn k l = count-by counts f ft fn (byte row (k + 2)) (subst (Known (x .grammar)) (sym (x .symbols k l)) (known k l)) ∙ ap f (x .symbols k l)
+  count-at counts f ft fn k l = count-by (x .grammar) counts f ft fn (byte row (k + 2)) (known-byte k l) ∙ ap f (x .symbols k l)
 
   pub inherited-at : (k : ℕ) → k < length (rightOf x) → countAt inherited (byte row (k + 2)) ≡ inh (x .grammar) (symbolAt (x .production) (suc k))
   inherited-at k l = count-at inherited (inh (x .grammar)) (λ t. refl) (x .inherit) k l
 
-  pub synthesized-at : (k : ℕ) → k < length (rightOf x) → countAt synthesized (byte row (k + 2)) ≡ syn (x .grammar) (symbolAt (x .production) (suc k))
-  synthesized-at k l = count-at synthesized (syn (x .grammar)) (λ t. refl) (x .synthesize) k l
+  pub marked-at : (k : ℕ) → k < length (rightOf x) → countAt synthesized (byte row (k + 2)) ≡ markedFor (x .grammar) (symbolAt (x .production) (suc k))
+  marked-at k l = count-at synthesized (markedFor (x .grammar)) (λ t. refl) (x .synthesize) k l
+
+  pub synthesized-at : (carrying : ℕ) → Carried carrying (x .grammar) → (k : ℕ) → k < length (rightOf x) → synthesizedAt carrying synthesized (byte row (k + 2)) ≡ syn (x .grammar) (symbolAt (x .production) (suc k))
+  synthesized-at carrying c k l = synthesized-by (x .grammar) carrying c synthesized (x .synthesize) (byte row (k + 2)) (known-byte k l) ∙ ap (syn (x .grammar)) (x .symbols k l)
 
   pub head-at : (k : ℕ) → k < length (rightOf x) → headOf (byte row (k + 2)) ≡ symbolHead (symbolAt (x .production) (suc k))
   head-at k l = head-is (byte row (k + 2)) ∙ ap symbolHead (x .symbols k l)
@@ -135,8 +159,9 @@ pub record ExpectsFit (row fields inherited synthesized rules tests levels area 
 
 -- ---- the whole body
 
-pub record BodyFits (row fields inherited synthesized tests area : List ℕ) (a : ℕ) : Type 0 where
+pub record BodyFits (row fields inherited synthesized : List ℕ) (carrying : ℕ) (tests area : List ℕ) (a : ℕ) : Type 0 where
   pub given : Given row fields inherited synthesized
+  pub carried : Carried carrying (given .grammar)
   pub testCounts : (k : ℕ) → k < 13 → getD tests k 0 ≡ itemCount false k (listedOf given)
   pub room : a + bodySize (given .grammar) (given .production) ≤ 16384
   pub long : 16384 ≤ length area

@@ -1,17 +1,17 @@
 -- Selectors by levels: how many registers above the left side's stand below those of each position. Register `top + attribute - level` is the occurrence's.
 use Prim.Native.Nat.{ℕ, zero, suc, _+_, _-_, _≤_, _<_}
 use native.Mathlib.Omega.{arith}
-use mathlib.Core.Path.{_≡_, refl, sym, ap, ap₂, _∙_, subst}
+use mathlib.Core.Path.{_≡_, refl, ap, ap₂, subst}
 use mathlib.Core.Logic.{inl, inr}
-use mathlib.Core.Bool.{Bool, true, false}
+use mathlib.Core.Bool.{true, false}
 use mathlib.Core.List.{List, [], _∷_, map}
 use lib.ListN.{length, getD}
 use lib.Dec.{eqb→eq, eqb·suc-zero}
 use borrow.Author.Tests.{eq-eqb, ne-eqb}
 use Rattle.meaning.specs.Base.{In}
-use Rattle.meaning.specs.Grammar.{Occurrence, Function, const, copy, sum, diff, prod, maxi, mini, addc, quot, Rule, Condition, range, atmost, Production, Grammar, inh, syn, att, symbolAt, conditionPosition}
+use Rattle.meaning.specs.Grammar.{Symbol, terminal, nonterminal, Occurrence, Function, const, copy, sum, diff, prod, maxi, mini, addc, quot, Rule, Condition, range, atmost, Production, Grammar, inh, syn, markedFor, symbolAt, conditionPosition}
 use Rattle.meaning.specs.Rules.{Operands, Reads, InputAt, OutputAt, WellFormedProduction}
-use Rattle.meaning.specs.Scheme.{mapFunction, mapRule, mapCondition, synBetween, choose, selectInherited, selectAfter, rulesFor, conditionsAt, inheritedRules, synthesizedRules, testsAfter}
+use Rattle.meaning.specs.Scheme.{mapFunction, mapRule, mapCondition, synBetween, selectInherited, selectAfter, rulesFor, conditionsAt, inheritedRules, synthesizedRules, testsAfter}
 use Rattle.meaning.specs.Program.{concat, ruleWords, conditionWords}
 use Rattle.theory_base.specs.Agree.{operands-map, reads-map, reads-available}
 use Rattle.theory_base.specs.Members.{in-keep}
@@ -42,6 +42,11 @@ syn-parts g p i k h l =
     let e : i + (k - i) ≡ k = omega arith in
     subst (λ z. synBetween g p 0 z ≡ synBetween g p 0 i + synBetween g p i z) e (syn-split g p i (k - i) (omega arith))
 
+-- a symbol that inherits is a nonterminal: what stands marked for it is what it synthesizes
+marked-own : (g : Grammar) (x : Symbol) → 1 ≤ inh g x → markedFor g x ≡ syn g x
+marked-own g (terminal t) h = absurd (omega arith)
+marked-own g (nonterminal n) h = refl
+
 module _ (g : Grammar) (p : Production) (levels : List ℕ) (is : Leveled g p levels) where
   -- after the first k symbols
   after-at : (k : ℕ) → k ≤ length (p .right) → (i a : ℕ) → InputAt g p i a → i ≤ k → selector (synBetween g p 0 k) levels i a ≡ selectAfter g p k (record { position = i; attribute = a })
@@ -54,17 +59,17 @@ module _ (g : Grammar) (p : Production) (levels : List ℕ) (is : Leveled g p le
   after-selects k l o h = after-at k l (o .position) (o .attribute) (h .0) (h .1)
 
   -- where the inherited attributes of symbol k + 1 are evaluated
-  before-at : (k : ℕ) → k < length (p .right) → (i a : ℕ) → InputAt g p i a → i ≤ k → selector (level g p (suc k)) levels i a ≡ selectInherited g p (suc k) (record { position = i; attribute = a })
+  before-at : (k : ℕ) → k < length (p .right) → markedFor g (symbolAt p (suc k)) ≡ syn g (symbolAt p (suc k)) → (i a : ℕ) → InputAt g p i a → i ≤ k → selector (level g p (suc k)) levels i a ≡ selectInherited g p (suc k) (record { position = i; attribute = a })
   unfolding selector
-  before-at k l zero a h m =
+  before-at k l own zero a h m =
       let e : suc k - 1 ≡ k = omega arith in
-      rw (ne-eqb 0 (suc k) (λ z. omega arith), e) (omega (arith, is 0 (omega arith), syn-more g p 0 k (omega arith) l))
-  before-at k l (suc i) a h m =
+      rw (ne-eqb 0 (suc k) (λ z. omega arith), e) (omega (arith, own, is 0 (omega arith), syn-more g p 0 k (omega arith) l))
+  before-at k l own (suc i) a h m =
       let e : suc k - 1 ≡ k = omega arith in
-      rw (ne-eqb (suc i) (suc k) (λ z. omega arith), eqb·suc-zero i, e) (omega (arith, is (suc i) (omega arith), syn-more g p 0 k (omega arith) l, syn-parts g p (suc i) k m (omega arith), h .1))
+      rw (ne-eqb (suc i) (suc k) (λ z. omega arith), eqb·suc-zero i, e) (omega (arith, own, is (suc i) (omega arith), syn-more g p 0 k (omega arith) l, syn-parts g p (suc i) k m (omega arith), h .1))
 
-  before-selects : (k : ℕ) → k < length (p .right) → (o : Occurrence) → Available g p k o → selectorOf (level g p (suc k)) levels o ≡ selectInherited g p (suc k) o
-  before-selects k l o h = before-at k l (o .position) (o .attribute) (h .0) (h .1)
+  before-selects : (k : ℕ) → k < length (p .right) → markedFor g (symbolAt p (suc k)) ≡ syn g (symbolAt p (suc k)) → (o : Occurrence) → Available g p k o → selectorOf (level g p (suc k)) levels o ≡ selectInherited g p (suc k) o
+  before-selects k l own o h = before-at k l own (o .position) (o .attribute) (h .0) (h .1)
 
   own-selects : (k : ℕ) → k < length (p .right) → (o : Occurrence) → o .position ≡ suc k → selectorOf (level g p (suc k)) levels o ≡ selectInherited g p (suc k) o
   unfolding selector
@@ -109,7 +114,9 @@ module _ (g : Grammar) (p : Production) (w : WellFormedProduction g p) (levels :
       each r i =
           let j = in-keep _ (p .rules) r i in
           let e : r .target .position ≡ suc k = eqb→eq (r .target .position) (suc k) (j .0) in
-          rule-agree _ _ r (own-selects g p levels is k l (r .target) e) (operands-map (λ o h. before-selects g p levels is k l o h) (r .function) (operands-available g p (evaluable w) k r (j .1) (omega (arith, e)) (λ z. absurd (omega (arith, e)))))
+          let t : OutputAt g p (suc k) (r .target .attribute) = subst (λ z. OutputAt g p z (r .target .attribute)) e (w .targets r (j .1)) in
+          let own = marked-own g (symbolAt p (suc k)) (omega (arith, t .1, t .2)) in
+          rule-agree _ _ r (own-selects g p levels is k l (r .target) e) (operands-map (λ o h. before-selects g p levels is k l own o h) (r .function) (operands-available g p (evaluable w) k r (j .1) (omega (arith, e)) (λ z. absurd (omega (arith, e)))))
 
   pub synthesized-words : wordsOf true (synBetween g p 0 (length (p .right))) levels 0 (p .rules) (p .conditions) ≡ concat (map ruleWords (synthesizedRules g p))
   unfolding wordsOf

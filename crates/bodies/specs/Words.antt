@@ -1,5 +1,5 @@
 -- The words of a scheme, symbol by symbol: an add, an evaluate, an expect, a test.
-use Prim.Native.Nat.{ℕ, zero, suc, _+_, _*_, _≤_}
+use Prim.Native.Nat.{ℕ, zero, suc, _+_, _*_}
 use native.Mathlib.Omega.{arith}
 use mathlib.Core.Path.{_≡_, refl, sym, ap, ap₂, _∙_}
 use mathlib.Core.Bool.{Bool, true, false, not}
@@ -8,8 +8,8 @@ use lib.ListN.{length, length-append}
 use lib.Dec.{eqb, ltb, eqb·suc-zero}
 use borrow.Author.Tests.{lt-ltb}
 use Rattle.meaning.specs.Base.{consIf, isEmpty}
-use Rattle.meaning.specs.Grammar.{Symbol, Rule, Condition, Production, Grammar, att}
-use Rattle.meaning.specs.Scheme.{Instruction, add, evaluate, expect, test, remove, choose, removed, inheritedRules, synthesizedRules, testsAfter, symbolScheme, symbolsScheme}
+use Rattle.meaning.specs.Grammar.{Symbol, Rule, Condition, Production, Grammar, addedFor}
+use Rattle.meaning.specs.Scheme.{Instruction, add, evaluate, expect, test, remove, choose, removed, inheritedRules, synthesizedRules, testsAfter, symbolScheme}
 use Rattle.meaning.specs.Program.{concat, ruleWords, conditionWords, instructionWords, symbolHead, schemeWords, expectsAt}
 use Rattle.theory_program.specs.Code.{rules-length, conditions-length}
 use Rattle.blocks.specs.Items.{chooseWords, itemSize}
@@ -76,26 +76,26 @@ test-here (c ∷ cs) rest = rw (eqb·suc-zero (length cs))
 -- ---- one symbol
 
 unfoldable pub symbolWords : Grammar → Production → ℕ → Symbol → List ℕ
-symbolWords g p k x = addWords (att g x) ++ (evaluateWords (inheritedRules g p k) ++ (symbolHead x ∷ testWords (testsAfter g p k)))
+symbolWords g p k x = addWords (addedFor g x) ++ (evaluateWords (inheritedRules g p k) ++ (symbolHead x ∷ testWords (testsAfter g p k)))
 
 -- the words before its expect
 unfoldable pub aheadSize : Grammar → Production → ℕ → Symbol → ℕ
-aheadSize g p k x = addSize (att g x) + blockSize true (length (inheritedRules g p k))
+aheadSize g p k x = addSize (addedFor g x) + blockSize true (length (inheritedRules g p k))
 
 pub symbol-length : (g : Grammar) (p : Production) (k : ℕ) (x : Symbol) → length (symbolWords g p k x) ≡ aheadSize g p k x + 1 + blockSize false (length (testsAfter g p k))
 unfolding symbolWords aheadSize
 symbol-length g p k x =
     let e = evaluateWords (inheritedRules g p k) in
     let t = testWords (testsAfter g p k) in
-    omega (arith, length-append (addWords (att g x)) (e ++ (symbolHead x ∷ t)), length-append e (symbolHead x ∷ t), add-length (att g x), evaluate-length (inheritedRules g p k), test-length (testsAfter g p k))
+    omega (arith, length-append (addWords (addedFor g x)) (e ++ (symbolHead x ∷ t)), length-append e (symbolHead x ∷ t), add-length (addedFor g x), evaluate-length (inheritedRules g p k), test-length (testsAfter g p k))
 
 pub scheme-symbol : (g : Grammar) (p : Production) (k : ℕ) (x : Symbol) (rest : List Instruction) → schemeWords (symbolScheme g p k x rest) ≡ symbolWords g p k x ++ schemeWords rest
 unfolding symbolWords
 scheme-symbol g p k x rest =
-    let a = addWords (att g x) in
+    let a = addWords (addedFor g x) in
     let e = evaluateWords (inheritedRules g p k) in
     let t = testWords (testsAfter g p k) in
-    add-here (att g x) _
+    add-here (addedFor g x) _
     ∙ (ap (λ z. a ++ z) (evaluate-here (inheritedRules g p k) _ ∙ ap (λ z. e ++ (symbolHead x ∷ z)) (test-here (testsAfter g p k) rest))
     ∙ simp append-assoc)
 
@@ -115,10 +115,10 @@ module _ (g : Grammar) (p : Production) (k : ℕ) (x : Symbol) (rest : List Inst
   expects-symbol a =
       let rules = inheritedRules g p k in
       let tests = testsAfter g p k in
-      let m = addSize (att g x) in
+      let m = addSize (addedFor g x) in
       let n = blockSize true (length rules) in
       let behind = consIf (not (isEmpty tests)) (test tests) rest in
-      let first = expects-if (ltb 0 (att g x)) (add (att g x)) a m (consIf (not (isEmpty rules)) (evaluate rules) (expect x ∷ behind)) (λ s. refl) (ap length (add-here (att g x) []) ∙ simp append-nil (add-length (att g x))) in
+      let first = expects-if (ltb 0 (addedFor g x)) (add (addedFor g x)) a m (consIf (not (isEmpty rules)) (evaluate rules) (expect x ∷ behind)) (λ s. refl) (ap length (add-here (addedFor g x) []) ∙ simp append-nil (add-length (addedFor g x))) in
       let second = expects-if (not (isEmpty rules)) (evaluate rules) (a + m) n (expect x ∷ behind) (λ s. refl) (ap length (evaluate-here rules []) ∙ simp append-nil (evaluate-length rules)) in
       let here : a + m + n ≡ a + (m + n) = omega arith in
       let third = expects-if (not (isEmpty tests)) (test tests) (suc (a + m + n)) (blockSize false (length tests)) rest (λ s. refl) (ap length (test-here tests []) ∙ simp append-nil (test-length tests)) in

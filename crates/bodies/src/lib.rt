@@ -1,5 +1,5 @@
 // The body of a production: the addresses of its expects, its entry tests, its scheme.
-ghost use Prim.Native.Nat.{ℕ, suc, _+_, _≤_, _<_};
+ghost use Prim.Native.Nat.{_+_, _≤_, _<_};
 ghost use mathlib.Core.Path.{_≡_};
 ghost use lib.ListN.{length, getD};
 ghost use Rattle.meaning.specs.Scheme.{synBetween};
@@ -7,7 +7,8 @@ ghost use Rattle.meaning.specs.Program.{bodyWords};
 ghost use Rattle.blocks.specs.Patch.{Wrote};
 ghost use Rattle.bodies.specs.Levels.{Leveled};
 ghost use Rattle.bodies.specs.Words.{addWords, addSize, blockSize, endWords};
-ghost use Rattle.bodies.specs.Given.{Given, rightOf, countAt, headOf, Prepared, SymbolFits, wordsAt, SymbolsFit, restWords, EndFits, ExpectsFit, restExpects, BodyFits};
+ghost use Rattle.bodies.specs.Given.{Given, rightOf, countAt, synthesizedAt, Carried, headOf, Prepared, SymbolFits, wordsAt, SymbolsFit, restWords, EndFits, ExpectsFit, restExpects, BodyFits};
+use token_set::TokenSet;
 
 // ---- numbers
 
@@ -21,14 +22,27 @@ pub fn number_at(numbers: &[u32], at: usize) -> u32
     numbers[at]
 }
 
-// A symbol's count by its byte; a terminal has no attributes.
-fn count_at(counts: &[u8], symbol: u32) -> u32
+// A symbol's count by its byte, 0 for a terminal: it inherits nothing, and nothing stands marked for it.
+pub fn count_at(counts: &[u8], symbol: u32) -> u32
     ensures { λ r. ⌜ (r ≡ countAt (now (counts .entry)) symbol) × (r < 256) ⌝ }
 {
     if symbol < 128 {
         return 0;
     }
     value::byte_at(counts, (symbol - 128) as usize)
+}
+
+// A symbol's synthesized count by its byte: 1 for a terminal that carries a value, 0 for another.
+pub fn synthesized_at(carrying: u64, counts: &[u8], symbol: u32) -> u32
+    ensures { λ r. ⌜ (r ≡ synthesizedAt carrying (now (counts .entry)) symbol) × (r < 256) ⌝ }
+{
+    if 128 <= symbol {
+        return count_at(counts, symbol);
+    }
+    if TokenSet(carrying).has(symbol as u8) {
+        return 1;
+    }
+    0
 }
 
 // The expect of a symbol, by its byte.
@@ -66,9 +80,15 @@ fn block_size(rules: bool, n: u32) -> usize
 
 // ---- levels
 
-pub fn find_levels(row: &[u8], fields: &[u8], inherited: &[u8], synthesized: &[u8]) -> [u32; 13]
+pub fn find_levels(
+    row: &[u8],
+    fields: &[u8],
+    inherited: &[u8],
+    synthesized: &[u8],
+    carrying: u64,
+) -> [u32; 13]
     requires { ⌜ Given (now row) (now fields) (now inherited) (now synthesized) ⌝ }
-    ensures { λ r. ⌜ (length r ≡ 13) × ((x : Given (now (row .entry)) (now (fields .entry)) (now (inherited .entry)) (now (synthesized .entry))) → Leveled (x .grammar) (x .production) r) ⌝ }
+    ensures { λ r. ⌜ (length r ≡ 13) × ((x : Given (now (row .entry)) (now (fields .entry)) (now (inherited .entry)) (now (synthesized .entry))) → Carried carrying (x .grammar) → Leveled (x .grammar) (x .production) r) ⌝ }
 {
     let mut levels = [0u32; 13];
     let size = value::byte_at(row, 1) as usize;
@@ -76,7 +96,7 @@ pub fn find_levels(row: &[u8], fields: &[u8], inherited: &[u8], synthesized: &[u
     let mut k: usize = 0;
     while k < size {
         let symbol = value::byte_at(row, k + 2);
-        sum = sum + count_at(synthesized, symbol);
+        sum = sum + synthesized_at(carrying, synthesized, symbol);
         levels[k + 1] = sum + count_at(inherited, symbol);
         k += 1;
     }
@@ -260,15 +280,16 @@ pub fn write_body(
     fields: &[u8],
     inherited: &[u8],
     synthesized: &[u8],
+    carrying: u64,
     tests: &[u32],
     area: &mut [u32],
     address: usize,
 ) -> usize
-    requires { ⌜ BodyFits (now row) (now fields) (now inherited) (now synthesized) (now tests) (now area) address ⌝ }
-    ensures { λ r. ⌜ ((x : BodyFits (now (row .entry)) (now (fields .entry)) (now (inherited .entry)) (now (synthesized .entry)) (now (tests .entry)) (now (area .entry)) address) → Wrote (now (area .entry)) (now (area .exit)) address r (bodyWords (x .given .grammar) address (x .given .production))) ⌝ }
+    requires { ⌜ BodyFits (now row) (now fields) (now inherited) (now synthesized) carrying (now tests) (now area) address ⌝ }
+    ensures { λ r. ⌜ ((x : BodyFits (now (row .entry)) (now (fields .entry)) (now (inherited .entry)) (now (synthesized .entry)) carrying (now (tests .entry)) (now (area .entry)) address) → Wrote (now (area .entry)) (now (area .exit)) address r (bodyWords (x .given .grammar) address (x .given .production))) ⌝ }
 {
     let rules = blocks::count_items(fields, true);
-    let levels = find_levels(row, fields, inherited, synthesized);
+    let levels = find_levels(row, fields, inherited, synthesized, carrying);
     let size = value::byte_at(row, 1) as usize;
     let entries = number_at(tests, 0);
     let scheme = address + size + 3 * entries as usize;

@@ -1,6 +1,6 @@
 -- What each call begins with: 30, the table, and its program written. 01: "Order: 30, table, 33, 34, then the moves".
 use Prim.Native.Nat.{ℕ, _≤_, _<_}
-use mathlib.Core.Path.{_≡_, sym, ap, _∙_, subst}
+use mathlib.Core.Path.{_≡_, sym, ap, _∙_}
 use mathlib.Core.Bool.{Bool, true, false}
 use mathlib.Core.List.{List}
 use lib.ListN.{length}
@@ -10,25 +10,23 @@ use Rattle.meaning.specs.Table.{State, grammarOf}
 use Rattle.meaning.specs.Program.{programOf}
 use Rattle.meaning.specs.Calls.{Record, Stacks, Called, refused, tableRefused, asBrought}
 use Rattle.meaning.specs.PublicCalls.{Checked, usable, unusable, check, areaLength, written, Effect, effect, called}
-use Rattle.theory_program.specs.Addresses.{Begins, written-begins}
-use Rattle.table.specs.declared.Sizes.{Sizes}
-use Rattle.prepare.specs.Preparing.{Accepting}
+use Rattle.prepare.specs.Making.{Standing}
+use Rattle.fit.specs.Shown.{Shown, Readable}
 use Rattle.engine.specs.declared.Begun.{Begun}
 use Rattle.engine.specs.declared.Begun.the-variants.{Turned, Ready}
 use Rattle.engine.specs.declared.Answer.{Answer}
 use Rattle.engine.specs.Records.{answerIs}
-use Rattle.engine.specs.Judging.{Brought}
 
 -- whatever a call brings and would make, it is turned back with answer a
 abbrev pub TurnedBack : List ℕ → List ℕ → Answer → Type 0
 TurnedBack t area a = (r : Record) (m : Stacks) (made : Grammar → Called) → called programOf t area r m made ≡ effect (asBrought (answerIs a) r m) area
 
-abbrev pub Case : List ℕ → List ℕ → List ℕ → List ℕ → List ℕ → List ℕ → Begun → Type 0
-Case t area area′ rows inherited synthesized (Turned a) = TurnedBack t area a × (area′ ≡ area)
-Case t area area′ rows inherited synthesized (Ready sizes) = (size : ℕ) × Accepting t area area′ rows inherited synthesized sizes size
+abbrev pub Case : List ℕ → List ℕ → List ℕ → Begun → Type 0
+Case t area area′ (Turned a) = TurnedBack t area a × (area′ ≡ area)
+Case t area area′ Ready = (size : ℕ) × Standing t area area′ size
 
-pub record BegunAs (t area area′ rows inherited synthesized : List ℕ) (b : Begun) : Type 0 where
-  pub case : Case t area area′ rows inherited synthesized b
+pub record BegunAs (t area area′ : List ℕ) (b : Begun) : Type 0 where
+  pub case : Case t area area′ b
 
 -- ---- the call of each case
 
@@ -54,12 +52,12 @@ module _ (t area : List ℕ) (r : Record) (m : Stacks) (made : Grammar → Calle
 
 -- ---- what an accepted table brings
 
-module _ {t area area′ rows inherited synthesized : List ℕ} {sizes : Sizes} {size : ℕ} (a : Accepting t area area′ rows inherited synthesized sizes size) where
-  pub accepting-begins : Begins (grammarOf (a .state)) area′
-  accepting-begins = subst (Begins (grammarOf (a .state))) (sym (a .isWritten)) (written-begins (grammarOf (a .state)) area)
+module _ {t area area′ : List ℕ} {size : ℕ} (a : Standing t area area′ size) where
+  pub standing-shown : Shown (grammarOf (a .state)) area′
+  standing-shown = record { formed = a .formed; begins = a .begins }
 
-  pub accepting-brought : Brought area′ rows inherited synthesized (sizes .productions) (sizes .start)
-  accepting-brought = record { grammar = grammarOf (a .state); begins = accepting-begins; shown = a .shown }
+  pub standing-readable : Readable area′
+  standing-readable = record { grammar = grammarOf (a .state); shown = standing-shown }
 
-  pub accepting-called : (r : Record) (m : Stacks) (made : Grammar → Called) (k : Called) → k ≡ made (grammarOf (a .state)) → effect k area′ ≡ called programOf t area r m made
-  accepting-called r m made k e = (λ i. effect (e i) (a .isWritten i)) ∙ sym (called-usable t area r m made (a .long) (a .state) (a .isUsable))
+  pub standing-called : (r : Record) (m : Stacks) (made : Grammar → Called) (k : Called) → k ≡ made (grammarOf (a .state)) → effect k area′ ≡ called programOf t area r m made
+  standing-called r m made k e = (λ i. effect (e i) (a .isWritten i)) ∙ sym (called-usable t area r m made (a .long) (a .state) (a .isUsable))

@@ -6,15 +6,15 @@ use mathlib.Core.Bool.{Bool, true, false}
 use mathlib.Core.List.{List, [], _∷_, _++_, append-nil, map, reverse}
 use lib.ListN.{length, take, drop, replicate, length-take, take-append-drop, drop-of-length-le}
 use lib.Seq.{take-take}
-use lib.Dec.{T, ltb}
+use lib.Dec.{T, eqb, ltb}
 use lib.IntN.{ℤ}
-use Rattle.meaning.specs.Grammar.{Grammar}
+use Rattle.meaning.specs.Grammar.{Grammar, leaves}
 use Rattle.meaning.specs.Value.{mark}
 use Rattle.meaning.specs.Fit.{Fit}
 use Rattle.meaning.specs.Machine.{Config, Lent, Settled, stopped, failed, opening, placeOf, feedAll, finishAll}
 use Rattle.meaning.specs.Part.{config}
 use Rattle.meaning.specs.Calls as Calls
-use Rattle.meaning.specs.Calls.{Record, Stacks, Called, lay, lentOf, layAll, frameOf, configOf, recordOf, closedRecord, asBrought, refused, more, stacksFit, whenFit, afterFeed, afterFinish, openOf, feedOf, finishOf}
+use Rattle.meaning.specs.Calls.{Record, Stacks, Called, lay, lentOf, layAll, frameOf, configOf, recordOf, closedRecord, asBrought, refused, more, stacksFit, whenFit, whenEven, tokensFrom, afterFeed, afterFinish, openOf, feedOf, finishOf}
 use Rattle.theory_answers.specs.FitTest.{fit-exactly}
 use Rattle.meaning.specs.PublicCalls.{stacksOf}
 use Rattle.fit.specs.Cut.{fits-cut}
@@ -107,9 +107,18 @@ module _ (g : Grammar) (vs : List ℤ) (ps : List ℕ) where
     finished-cut (stopped c) = ap (asBrought (Calls.value (Calls.result g c) (c .moves)) (recordOf false c)) (lay-all-cut c)
     finished-cut (failed c j) = ap (asBrought (refused j (c .tokens)) (recordOf false c)) (lay-all-cut c)
 
-    pub feed-cut : (ts : List ℕ) → uncut n k vs ps (feedOf g r cells ts) ≡ feedOf g r m ts
-    feed-cut ts = when-cut (afterFeed g cells (feedAll g (lentOf cells) ts (configOf g r cells))) (afterFeed g m (feedAll g (lentOf m) ts (configOf g r m)))
-        (λ f. ap₂ (λ l c. uncut n k vs ps (afterFeed g cells (feedAll g l ts c))) lent-same (same-config f) ∙ fed-cut (feedAll g (lentOf m) ts (configOf g r m)))
+    even-cut : (b : Bool) (x y : Called) → uncut n k vs ps x ≡ y → uncut n k vs ps (whenEven b r cells x) ≡ whenEven b r m y
+    even-cut true x y h = h
+    even-cut false x y h = ap (asBrought (refused 38 0) r) put-back
+
+    pub feed-cut : (ks : List ℕ) (us : List ℤ) → uncut n k vs ps (feedOf g r cells ks us) ≡ feedOf g r m ks us
+    feed-cut ks us =
+        let ts = leaves g (tokensFrom ks us) in
+        let b = eqb (length ks) (length us) in
+        let inside = afterFeed g cells (feedAll g (lentOf cells) ts (configOf g r cells)) in
+        let whole = afterFeed g m (feedAll g (lentOf m) ts (configOf g r m)) in
+        when-cut (whenEven b r cells inside) (whenEven b r m whole)
+        (λ f. even-cut b inside whole (ap₂ (λ l c. uncut n k vs ps (afterFeed g cells (feedAll g l ts c))) lent-same (same-config f) ∙ fed-cut (feedAll g (lentOf m) ts (configOf g r m))))
 
     pub finish-cut : uncut n k vs ps (finishOf g r cells) ≡ finishOf g r m
     finish-cut = when-cut (afterFinish g cells (finishAll g (lentOf cells) (configOf g r cells))) (afterFinish g m (finishAll g (lentOf m) (configOf g r m)))

@@ -10,14 +10,6 @@ use Rattle.meaning.specs.Grammar.{Grammar}
 use Rattle.meaning.specs.Fit.{Fit}
 use Rattle.meaning.specs.Calls.{Record, Stacks, Called, refused, asBrought, whenFit, stacksFit}
 use Rattle.theory_answers.specs.FitTest.{fit-exactly}
-use Rattle.theory_program.specs.Addresses.{Begins}
-use Rattle.fit.specs.Shown.{Shown}
-
--- what the code relies on: the program and the rows of one grammar
-pub record Brought (ws rows inherited synthesized : List ℕ) (productions start : ℕ) : Type 0 where
-  pub grammar : Grammar
-  pub begins : Begins grammar ws
-  pub shown : Shown grammar rows inherited synthesized productions start
 
 abbrev pub numberBy : Bool → Bool → ℕ
 numberBy false f = 33

@@ -6,10 +6,10 @@ ghost use Rattle.meaning.specs.Value.{mark};
 ghost use Rattle.meaning.specs.Grammar.{Grammar};
 ghost use Rattle.meaning.specs.Calls.{openOf, feedOf, finishOf};
 ghost use Rattle.theory_program.specs.Addresses.{Begins};
-ghost use Rattle.fit.specs.Shown.{Shown};
+ghost use Rattle.fit.specs.Shown.{Shown, Readable};
 ghost use Rattle.meaning.specs.PublicCalls.{stacksOf};
 ghost use Rattle.engine.specs.Records.{recordIs, calledIs};
-ghost use Rattle.engine.specs.Judging.{Brought, turnedBack};
+ghost use Rattle.engine.specs.Judging.{turnedBack};
 use crate::Answer;
 use crate::Called;
 use crate::Record;
@@ -80,18 +80,9 @@ fn open_lent(registers: &mut [i64], places: &mut [u32], program: &[u32]) -> Call
 }
 
 // 33 or 34; 0 where the call goes on to its moves.
-fn turned_back(
-    registers: &[i64],
-    places: &[u32],
-    rows: &[u8; 2048],
-    inherited: &[u8; 48],
-    synthesized: &[u8; 48],
-    productions: usize,
-    start: usize,
-    brought: Record,
-) -> u32
-    requires { ⌜ (length (now registers) ≤ 4096) × (length (now places) ≤ 1024) × ((g : Grammar) × Shown g (now rows) (now inherited) (now synthesized) productions start) ⌝ }
-    ensures { λ r. ⌜ ((g : Grammar) → Shown g (now (rows .entry)) (now (inherited .entry)) (now (synthesized .entry)) productions start → r ≡ turnedBack g (recordIs brought) (stacksOf (now (registers .entry)) (now (places .entry)))) ⌝ }
+fn turned_back(registers: &[i64], places: &[u32], program: &[u32], brought: Record) -> u32
+    requires { ⌜ (length (now registers) ≤ 4096) × (length (now places) ≤ 1024) × Readable (now program) ⌝ }
+    ensures { λ r. ⌜ ((g : Grammar) → Shown g (now (program .entry)) → r ≡ turnedBack g (recordIs brought) (stacksOf (now (registers .entry)) (now (places .entry)))) ⌝ }
 {
     if !brought.open {
         return 33;
@@ -103,48 +94,40 @@ fn turned_back(
         brought.moves,
         brought.registers,
         brought.places,
-        rows,
-        inherited,
-        synthesized,
-        productions,
-        start,
+        program,
     ) {
         return 0;
     }
     34
 }
 
-// A feed: the tokens of the list, one after the other.
+// A feed: the tokens of the lists, one after the other. 02 (e): "Lists of unequal length are turned back as 38, after 34".
 fn feed_lent(
     registers: &mut [i64],
     places: &mut [u32],
     program: &[u32],
-    rows: &[u8; 2048],
-    inherited: &[u8; 48],
-    synthesized: &[u8; 48],
-    productions: usize,
-    start: usize,
     brought: Record,
-    tokens: &[u8],
+    kinds: &[u8],
+    values: &[i32],
 ) -> Called
-    requires { ⌜ (length (now registers) ≤ 4096) × (length (now places) ≤ 1024) × Brought (now program) (now rows) (now inherited) (now synthesized) productions start ⌝ }
-    ensures { λ r. ⌜ ((g : Grammar) → Begins g (now (program .entry)) → Shown g (now (rows .entry)) (now (inherited .entry)) (now (synthesized .entry)) productions start → calledIs r (now (registers .exit)) (now (places .exit)) ≡ feedOf g (recordIs brought) (stacksOf (now (registers .entry)) (now (places .entry))) (now (tokens .entry))) ⌝ }
+    requires { ⌜ (length (now registers) ≤ 4096) × (length (now places) ≤ 1024) × Readable (now program) ⌝ }
+    ensures { λ r. ⌜ ((g : Grammar) → Shown g (now (program .entry)) → calledIs r (now (registers .exit)) (now (places .exit)) ≡ feedOf g (recordIs brought) (stacksOf (now (registers .entry)) (now (places .entry))) (now (kinds .entry)) (now (values .entry))) ⌝ }
 {
-    let number = turned_back(
-        registers,
-        places,
-        rows,
-        inherited,
-        synthesized,
-        productions,
-        start,
-        brought,
-    );
+    let number = turned_back(registers, places, program, brought);
     if number != 0 {
         return as_brought(brought, Answer::Refused { number, tokens: 0 });
     }
+    if kinds.len() != values.len() {
+        return as_brought(
+            brought,
+            Answer::Refused {
+                number: 38,
+                tokens: 0,
+            },
+        );
+    }
     let run = run_of(places, program, brought);
-    fed(machine::feed(registers, places, program, run, tokens))
+    fed(machine::feed(registers, places, program, run, kinds, values))
 }
 
 // A finish: the moves that the end of the segment brings about.
@@ -152,31 +135,17 @@ fn finish_lent(
     registers: &mut [i64],
     places: &mut [u32],
     program: &[u32],
-    rows: &[u8; 2048],
-    inherited: &[u8; 48],
-    synthesized: &[u8; 48],
-    productions: usize,
-    start: usize,
     brought: Record,
 ) -> Called
-    requires { ⌜ (length (now registers) ≤ 4096) × (length (now places) ≤ 1024) × Brought (now program) (now rows) (now inherited) (now synthesized) productions start ⌝ }
-    ensures { λ r. ⌜ ((g : Grammar) → Begins g (now (program .entry)) → Shown g (now (rows .entry)) (now (inherited .entry)) (now (synthesized .entry)) productions start → calledIs r (now (registers .exit)) (now (places .exit)) ≡ finishOf g (recordIs brought) (stacksOf (now (registers .entry)) (now (places .entry)))) ⌝ }
+    requires { ⌜ (length (now registers) ≤ 4096) × (length (now places) ≤ 1024) × Readable (now program) ⌝ }
+    ensures { λ r. ⌜ ((g : Grammar) → Shown g (now (program .entry)) → calledIs r (now (registers .exit)) (now (places .exit)) ≡ finishOf g (recordIs brought) (stacksOf (now (registers .entry)) (now (places .entry)))) ⌝ }
 {
-    let number = turned_back(
-        registers,
-        places,
-        rows,
-        inherited,
-        synthesized,
-        productions,
-        start,
-        brought,
-    );
+    let number = turned_back(registers, places, program, brought);
     if number != 0 {
         return as_brought(brought, Answer::Refused { number, tokens: 0 });
     }
     let run = run_of(places, program, brought);
-    let ended = machine::advance(registers, places, program, run, 63);
+    let ended = machine::finish(registers, places, program, run);
     finished(registers, program, ended)
 }
 
@@ -209,16 +178,12 @@ pub fn feed_cells(
     registers: &mut [i64],
     places: &mut [u32],
     program: &[u32],
-    rows: &[u8; 2048],
-    inherited: &[u8; 48],
-    synthesized: &[u8; 48],
-    productions: usize,
-    start: usize,
     brought: Record,
-    tokens: &[u8],
+    kinds: &[u8],
+    values: &[i32],
 ) -> Called
-    requires { ⌜ Brought (now program) (now rows) (now inherited) (now synthesized) productions start ⌝ }
-    ensures { λ r. ⌜ ((g : Grammar) → Begins g (now (program .entry)) → Shown g (now (rows .entry)) (now (inherited .entry)) (now (synthesized .entry)) productions start → calledIs r (now (registers .exit)) (now (places .exit)) ≡ feedOf g (recordIs brought) (stacksOf (now (registers .entry)) (now (places .entry))) (now (tokens .entry))) ⌝ }
+    requires { ⌜ Readable (now program) ⌝ }
+    ensures { λ r. ⌜ ((g : Grammar) → Shown g (now (program .entry)) → calledIs r (now (registers .exit)) (now (places .exit)) ≡ feedOf g (recordIs brought) (stacksOf (now (registers .entry)) (now (places .entry))) (now (kinds .entry)) (now (values .entry))) ⌝ }
 {
     let n = smaller(registers.len(), REGISTERS);
     let k = smaller(places.len(), PLACES);
@@ -226,13 +191,9 @@ pub fn feed_cells(
         &mut registers[..n],
         &mut places[..k],
         program,
-        rows,
-        inherited,
-        synthesized,
-        productions,
-        start,
         brought,
-        tokens,
+        kinds,
+        values,
     )
 }
 
@@ -240,27 +201,12 @@ pub fn finish_cells(
     registers: &mut [i64],
     places: &mut [u32],
     program: &[u32],
-    rows: &[u8; 2048],
-    inherited: &[u8; 48],
-    synthesized: &[u8; 48],
-    productions: usize,
-    start: usize,
     brought: Record,
 ) -> Called
-    requires { ⌜ Brought (now program) (now rows) (now inherited) (now synthesized) productions start ⌝ }
-    ensures { λ r. ⌜ ((g : Grammar) → Begins g (now (program .entry)) → Shown g (now (rows .entry)) (now (inherited .entry)) (now (synthesized .entry)) productions start → calledIs r (now (registers .exit)) (now (places .exit)) ≡ finishOf g (recordIs brought) (stacksOf (now (registers .entry)) (now (places .entry)))) ⌝ }
+    requires { ⌜ Readable (now program) ⌝ }
+    ensures { λ r. ⌜ ((g : Grammar) → Shown g (now (program .entry)) → calledIs r (now (registers .exit)) (now (places .exit)) ≡ finishOf g (recordIs brought) (stacksOf (now (registers .entry)) (now (places .entry)))) ⌝ }
 {
     let n = smaller(registers.len(), REGISTERS);
     let k = smaller(places.len(), PLACES);
-    finish_lent(
-        &mut registers[..n],
-        &mut places[..k],
-        program,
-        rows,
-        inherited,
-        synthesized,
-        productions,
-        start,
-        brought,
-    )
+    finish_lent(&mut registers[..n], &mut places[..k], program, brought)
 }

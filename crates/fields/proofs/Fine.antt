@@ -8,7 +8,7 @@ use lib.ListN.{length}
 use borrow.Author.Tests.{eqb-true, leb-true, ltb-true, eqb-false}
 use Rattle.meaning.specs.Table.{byte}
 use Rattle.fields.specs.Demand.{holds, equal, atMost, below, differs}
-use Rattle.fields.specs.Judge.{headerFault, countsFault, productionFault, symbolsKnown}
+use Rattle.fields.specs.Judge.{headerFault, countsFault, productionFault, carrierFault, symbolsKnown}
 use Rattle.fields.proofs.Cases.{nonzero}
 
 -- a demand with number n that is met, and the demands after it
@@ -42,20 +42,26 @@ module _ {n r : ℕ} (h : n ≡ 0 → ⊥) where
   holds-fine b e = by-test b n r e h
 
 module _ (b : List ℕ) where
-  pub header-fine : headerFault b ≡ 0 → (length b ≡ 4) × (byte b 1 ≤ 48)
+  pub header-fine : headerFault b ≡ 0 → (length b ≡ 4) × (byte b 1 ≤ 48) × (byte b 0 ≤ 63)
   unfolding headerFault
   header-fine e =
       let q = equal-fine (nonzero 3) (length b) 4 e in
       let u = atMost-fine (nonzero 3) 1 (byte b 0) (q .1) in
       let v = atMost-fine (nonzero 3) (byte b 0) 63 (u .1) in
       let w = atMost-fine (nonzero 3) 1 (byte b 1) (v .1) in
-      (q .0, atMost-fine (nonzero 3) (byte b 1) 48 (w .1) .0)
+      (q .0, atMost-fine (nonzero 3) (byte b 1) 48 (w .1) .0, v .0)
 
   pub counts-fine : (n start result : ℕ) → countsFault n start result b ≡ 0 → (length b ≡ 2) × (byte b 0 + byte b 1 ≤ 8)
   unfolding countsFault
   counts-fine n start result e =
       let q = equal-fine (nonzero 3) (length b) 2 e in
       (q .0, atMost-fine (nonzero 3) (byte b 0 + byte b 1) 8 (q .1) .0)
+
+  pub carrier-fine : (terminals least : ℕ) → carrierFault terminals least b ≡ 0 → (length b ≡ 1) × (byte b 0 < terminals)
+  unfolding carrierFault
+  carrier-fine terminals least e =
+      let q = equal-fine (nonzero 3) (length b) 1 e in
+      (q .0, below-fine (nonzero 4) (byte b 0) terminals (q .1) .0)
 
   pub record ProductionFine (terminals nonterminals p : ℕ) : Type 0 where
     pub short : byte b 1 ≤ 12

@@ -1,7 +1,7 @@
--- The faults of the fields of tags 1 to 3, as lists of demands on their bytes.
-use Prim.Native.Nat.{ℕ, _+_, _-_}
+-- The faults of the fields of tags 1 to 3 and 6, as lists of demands on their bytes.
+use Prim.Native.Nat.{ℕ, suc, _+_, _-_}
 use mathlib.Core.Bool.{Bool}
-use mathlib.Core.List.{List}
+use mathlib.Core.List.{List, [], _∷_}
 use lib.ListN.{length, drop}
 use lib.Dec.{ltb}
 use Rattle.meaning.specs.Base.{all}
@@ -49,3 +49,16 @@ productionFault terminals nonterminals p b =
     (below (byte b 0) nonterminals 5
     (holds (symbolsKnown terminals nonterminals b 2) 5
     0)))))
+
+-- the least number above the terminal named last, of a list with the latest first
+abbrev pub leastAfter : List ℕ → ℕ
+leastAfter [] = 0
+leastAfter (u ∷ us) = suc u
+
+-- a terminal that carries a value, where the numbers from `least` on rise
+unfoldable pub carrierFault : ℕ → ℕ → List ℕ → ℕ
+carrierFault terminals least b =
+    equal (length b) 1 4
+    (below (byte b 0) terminals 5
+    (atMost least (byte b 0) 5
+    0))

@@ -1,9 +1,9 @@
-// The fields of a table, and the faults of tags 1 to 3.
+// The fields of a table, and the faults of tags 1 to 3 and 6.
 ghost use mathlib.Core.Path.{_≡_};
 ghost use Prim.Native.Nat.{_+_, _<_, _≤_};
 ghost use lib.ListN.{length};
 ghost use Rattle.fields.specs.Field.{Whole, Short};
-ghost use Rattle.fields.specs.Judge.{headerFault, countsFault, symbolsKnown, productionFault};
+ghost use Rattle.fields.specs.Judge.{headerFault, countsFault, symbolsKnown, productionFault, carrierFault};
 
 pub fn wide(x: u8) -> usize
     ensures { λ r. ⌜ (r ≡ x) × (r < 256) ⌝ }
@@ -127,6 +127,23 @@ pub fn production_fault(terminals: usize, nonterminals: usize, p: usize, body: &
         return 5;
     }
     if !symbols_known(terminals, nonterminals, body) {
+        return 5;
+    }
+    0
+}
+
+// The lowest number that applies to the body of a tag 6 field, or 0. The terminals from `least` on are above the one before.
+pub fn carrier_fault(terminals: usize, least: usize, body: &[u8]) -> u8
+    ensures { λ r. ⌜ r ≡ carrierFault terminals least (now (body .entry)) ⌝ }
+{
+    if body.len() != 1 {
+        return 4;
+    }
+    let terminal = wide(body[0]);
+    if terminals <= terminal {
+        return 5;
+    }
+    if terminal < least {
         return 5;
     }
     0

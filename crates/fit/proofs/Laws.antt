@@ -20,7 +20,6 @@ use Rattle.meaning.specs.Calls.{Cell, cellFits, isMark}
 use Rattle.theory_base.specs.Members.{true→T, apart}
 use Rattle.theory_answers.specs.FitTest.{mark-is}
 use Rattle.fit.specs.Upward.{Passes, passes-met, passes-not}
-use Rattle.fit.specs.Shown.{RowTo, countOf, countsFrom}
 
 module _ {A : Type 0} (f : A → Bool) (xs : List A) (i : ℕ) where
   pub all-turn : (d : A) → i < length xs → all f (drop i xs) ≡ f (getD xs i d) && all f (drop (i + 1) xs)
@@ -50,27 +49,6 @@ module _ (vs : List ℤ) (c : Cell) (at n : ℕ) (fits : at + n ≤ length vs) (
 
   pub stretch-not : b ≡ false → Passes vs (replicate n c) at (length vs + 1)
   stretch-not q = passes-not vs c at n fits (sym tested ∙ q)
-
--- ---- the symbols passed
-
-module _ (rows counts : List ℕ) (from n i : ℕ) where
-  pub counts-turn : i < n → countsFrom rows counts (from + i) (n - i) ≡ countOf counts (getD rows (from + i) 0) + countsFrom rows counts (from + (i + 1)) (n - (i + 1))
-  unfolding countsFrom
-  counts-turn l =
-      let e : n - i ≡ suc (n - (i + 1)) = omega arith in
-      let d : from + i + 1 ≡ from + (i + 1) = omega arith in
-      rw (e, d) refl
-
-  pub counts-end : n ≤ i → countsFrom rows counts (from + i) (n - i) ≡ 0
-  unfolding countsFrom
-  counts-end l =
-      let e : n - i ≡ 0 = omega arith in
-      rw e refl
-
-pub row-symbol : {rows : List ℕ} {p k : ℕ} → RowTo rows p k → (i : ℕ) → i < k → getD rows (16 * p + 2 + i) 0 < 176
-row-symbol {rows} {p} {k} r i l =
-    let e : 16 * p + 2 + i ≡ 16 * p + (i + 2) = omega arith in
-    rw e (r .symbols i (omega arith))
 
 -- ---- bits that are gathered: none where none of the cells has any
 

@@ -15,48 +15,29 @@ use Rattle.meaning.specs.Table.{symbolOf}
 use Rattle.meaning.specs.Calls.{valued, marked, cellsFit, awaited}
 use Rattle.theory_base.specs.Members.{true→T, both}
 use Rattle.fit.specs.Upward.{Passes, stretches, fitsFrom, from-start, from-end, standsFit, placesAbove, cellsOf, cellsAbove}
-use Rattle.fit.specs.Shown.{Shown, Readable, RowTo, countOf, countsFrom, rowOn, cellsAt, row-on, start-count, symbol-awaited, cells-of}
-
--- the registers of a place, by their counts
-pub place-passes : (vs : List ℤ) (rows inherited synthesized : List ℕ) (p k at : ℕ) {x a b c r : ℕ} → x ≡ getD rows (16 * p + (k + 2)) 0 → a ≡ countsFrom rows synthesized (16 * p + 2) k → b ≡ countOf synthesized x → c ≡ countOf inherited x
-    → Passes vs (stretches a b c) at r → Passes vs (cellsAt rows inherited synthesized p k) at r
-place-passes vs rows inherited synthesized p k at ex ea eb ec l = rw (← ex, ← ea, ← eb, ← ec) l
-
--- a place that passed its test has a row, and a symbol left
-module _ (rows : List ℕ) (productions x p : ℕ) (e : rowOn rows productions x p ≡ true) where
-  tests : T (ltb (p / 256) productions) × T (ltb (p % 256) (getD rows (16 * (p / 256) + 1) 0) && eqb (128 + getD rows (16 * (p / 256)) 0) x)
-  tests = both (ltb (p / 256) productions) (ltb (p % 256) (getD rows (16 * (p / 256) + 1) 0) && eqb (128 + getD rows (16 * (p / 256)) 0) x) (true→T (rowOn rows productions x p) e)
-
-  pub row-listed : p / 256 < productions
-  row-listed = ltb→lt (p / 256) productions (tests .0)
-
-  pub row-waits : p % 256 < getD rows (16 * (p / 256) + 1) 0
-  row-waits = ltb→lt (p % 256) (getD rows (16 * (p / 256) + 1) 0) (both (ltb (p % 256) (getD rows (16 * (p / 256) + 1) 0)) (eqb (128 + getD rows (16 * (p / 256)) 0) x) (tests .1) .0)
-
-  pub row-readable : {start : ℕ} → Readable rows productions start → RowTo rows (p / 256) (p % 256)
-  row-readable r = r .each (p / 256) (p % 256) row-listed row-waits
+use Rattle.fit.specs.Shown.{Shown, waitAt, wordOn, cellsIn, on-word, start-count, symbol-awaited, cells-of}
 
 -- the places above one that waits at x stand, and the registers from `at` up are theirs
 abbrev pub stands : Grammar → Symbol → List ℕ → List ℤ → ℕ → Bool
 stands g x ps vs at = placesAbove g x ps && fitsFrom vs at (cellsAbove g ps)
 
-module _ {g : Grammar} {rows inherited synthesized : List ℕ} {productions start : ℕ} (s : Shown g rows inherited synthesized productions start) (vs : List ℤ) (places : List ℕ) (i at x : ℕ) (l : i < length places) where
+module _ {g : Grammar} {ws : List ℕ} (s : Shown g ws) (vs : List ℤ) (places : List ℕ) (i at x : ℕ) (l : i < length places) where
   abbrev here : ℕ
   here = getD places i 0
 
-  stands-here : stands g (symbolOf x) (drop i places) vs at ≡ (rowOn rows productions x here && placesAbove g (awaited g here) (drop (i + 1) places)) && fitsFrom vs at (cellsOf g here ++ cellsAbove g (drop (i + 1) places))
-  unfolding placesAbove cellsAbove
-  stands-here = rw (add-one i, drop-cons places i 0 l, row-on s x here) refl
+  abbrev word : ℕ
+  word = waitAt ws here
 
-  pub stands-not : rowOn rows productions x here ≡ false → stands g (symbolOf x) (drop i places) vs at ≡ false
+  stands-here : stands g (symbolOf x) (drop i places) vs at ≡ (wordOn word x && placesAbove g (awaited g here) (drop (i + 1) places)) && fitsFrom vs at (cellsOf g here ++ cellsAbove g (drop (i + 1) places))
+  unfolding placesAbove cellsAbove
+  stands-here = rw (add-one i, drop-cons places i 0 l, ← on-word s here x) refl
+
+  pub stands-not : wordOn word x ≡ false → stands g (symbolOf x) (drop i places) vs at ≡ false
   stands-not e = stands-here ∙ rw e refl
 
-  pub stands-turn : {r : ℕ} → rowOn rows productions x here ≡ true → Passes vs (cellsAt rows inherited synthesized (here / 256) (here % 256)) at r
-      → stands g (symbolOf x) (drop i places) vs at ≡ stands g (symbolOf (getD rows (16 * (here / 256) + (here % 256 + 2)) 0)) (drop (i + 1) places) vs r
+  pub stands-turn : {r : ℕ} → wordOn word x ≡ true → Passes vs (cellsIn word) at r → stands g (symbolOf x) (drop i places) vs at ≡ stands g (symbolOf (word / 2097152 % 256)) (drop (i + 1) places) vs r
   stands-turn e p =
-      let m = row-listed rows productions x here e in
-      let k : here % 256 < length (productionAt g (here / 256) .right) = omega (arith, row-waits rows productions x here e, s .size (here / 256) m) in
-      stands-here ∙ rw (e, symbol-awaited s here m k, ← cells-of s here m k) (ap (λ b. placesAbove g (awaited g here) (drop (i + 1) places) && b) (p .same (cellsAbove g (drop (i + 1) places))))
+      stands-here ∙ rw (e, symbol-awaited s here x e, ← cells-of s here x e) (ap (λ b. placesAbove g (awaited g here) (drop (i + 1) places) && b) (p .same (cellsAbove g (drop (i + 1) places))))
 
 pub stands-end : (g : Grammar) (x : Symbol) (places : List ℕ) (vs : List ℤ) (i at : ℕ) → length places ≤ i → stands g x (drop i places) vs at ≡ eqb at (length vs)
 unfolding placesAbove cellsAbove
@@ -64,7 +45,7 @@ stands-end g x places vs i at l = rw (drop-of-length-le places {i = i} l) (from-
 
 -- ---- from the bottom place on
 
-module _ {g : Grammar} {rows inherited synthesized : List ℕ} {productions start : ℕ} (s : Shown g rows inherited synthesized productions start) (vs : List ℤ) (places : List ℕ) where
+module _ {g : Grammar} {ws : List ℕ} (s : Shown g ws) (vs : List ℤ) (places : List ℕ) where
   pub bottom-none : length places ≡ 0 → standsFit g places vs ≡ false
   unfolding standsFit
   bottom-none e = by places e
@@ -85,14 +66,14 @@ module _ {g : Grammar} {rows inherited synthesized : List ℕ} {productions star
     unfolding standsFit
     bottom-other m n = ap (λ ps. standsFit g ps vs) split ∙ rw (ne-eqb (getD places 0 0) 32768 n, ne-eqb (getD places 0 0) 32769 m) refl
 
-    pub bottom-waits : {n r : ℕ} {b : Bool} → getD places 0 0 ≡ 32768 → n ≡ getD synthesized start 0 → Passes vs (replicate n marked) 0 r → b ≡ stands g (nonterminal (g .start)) (drop 1 places) vs r → b ≡ standsFit g places vs
+    pub bottom-waits : {n r : ℕ} {b : Bool} → getD places 0 0 ≡ 32768 → n ≡ getD ws 4 0 → Passes vs (replicate n marked) 0 r → b ≡ stands g (nonterminal (g .start)) (drop 1 places) vs r → b ≡ standsFit g places vs
     unfolding standsFit above
     bottom-waits {n} {r} {b} e d p q =
         let k : n ≡ syn g (nonterminal (g .start)) = d ∙ start-count s in
         let t : fitsFrom vs r (cellsAbove g (drop 1 places)) ≡ cellsFit (replicate n marked ++ cellsAbove g (drop 1 places)) vs = sym (p .same (cellsAbove g (drop 1 places))) ∙ sym (from-start vs (replicate n marked ++ cellsAbove g (drop 1 places))) in
         q ∙ (ap (λ t. placesAbove g (nonterminal (g .start)) (drop 1 places) && t) (rw k at t) ∙ sym (ap (λ ps. standsFit g ps vs) split ∙ rw e (or-false _)))
 
-    pub bottom-left : {n r : ℕ} → getD places 0 0 ≡ 32769 → length places ≡ 1 → n ≡ getD synthesized start 0 → Passes vs (replicate n valued) 0 r → eqb r (length vs) ≡ standsFit g places vs
+    pub bottom-left : {n r : ℕ} → getD places 0 0 ≡ 32769 → length places ≡ 1 → n ≡ getD ws 4 0 → Passes vs (replicate n valued) 0 r → eqb r (length vs) ≡ standsFit g places vs
     unfolding standsFit above
     bottom-left {n} {r} e l d p =
         let k : n ≡ syn g (nonterminal (g .start)) = d ∙ start-count s in

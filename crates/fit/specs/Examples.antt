@@ -1,5 +1,5 @@
 -- Rows: 01's grammar of words and tags, stopped after word open.
-use Prim.Native.Nat.{ℕ}
+use Prim.Native.Nat.{ℕ, _/_, _%_}
 use mathlib.Core.Path.{_≡_, refl}
 use mathlib.Core.Bool.{true, false}
 use mathlib.Core.List.{List, [], _∷_, _++_}
@@ -9,7 +9,8 @@ use Rattle.meaning.specs.Value.{mark}
 use Rattle.meaning.specs.Words.{words}
 use Rattle.meaning.specs.Calls.{stacksFit}
 use Rattle.fit.specs.Upward.{kind, fitsFrom, placesAbove, cellsAbove, standsFit}
-use Rattle.fit.specs.Shown.{countOf, countsFrom, rowOn, cellsAt}
+use Rattle.meaning.specs.Program.{programOf}
+use Rattle.fit.specs.Shown.{waitAt, wordOn, cellsIn}
 use Rattle.meaning.specs.PublicCalls.{stacksOf}
 use Rattle.fit.specs.Cut.{numbers}
 
@@ -43,27 +44,28 @@ from-two : fitsFrom (registers mark) 3 (cellsAbove words (257 ∷ 513 ∷ [])) �
 unfolding fitsFrom cellsAbove
 from-two = refl
 
--- the rows of productions 0 and 1, and the counts
-abbrev rows : List ℕ
-rows = 0 ∷ 1 ∷ 129 ∷ replicate 13 0 ++ (1 ∷ 2 ∷ 0 ∷ 129 ∷ [])
+-- 257: production 1 waits at its second symbol, L again (byte 129), with no register passed, one marked and one inherited
+abbrev word : ℕ
+word = waitAt (programOf words) 257
 
-abbrev inherited : List ℕ
-inherited = 0 ∷ 1 ∷ []
-
-abbrev synthesized : List ℕ
-synthesized = 1 ∷ 1 ∷ []
-
-on-first : rowOn rows 2 129 257 ≡ true
+on-first : wordOn word 129 ≡ true
+unfolding waitAt
 on-first = refl
 
-on-start : rowOn rows 2 128 257 ≡ false
+on-start : wordOn word 128 ≡ false
+unfolding waitAt
 on-start = refl
 
-no-symbol-left : rowOn rows 2 129 258 ≡ false
+waits-again : word / 2097152 % 256 ≡ 129
+unfolding waitAt
+waits-again = refl
+
+no-symbol-left : waitAt (programOf words) 258 ≡ 0
+unfolding waitAt
 no-symbol-left = refl
 
-cells : cellsAt rows inherited synthesized 1 1 ≡ kind true ∷ kind false ∷ []
-unfolding countOf countsFrom
+cells : cellsIn word ≡ kind true ∷ kind false ∷ []
+unfolding waitAt
 cells = refl
 
 -- 34 on lent cells, all above the heights cleared, and one not

@@ -1,86 +1,78 @@
--- What the table reader leaves of an accepted table: 16 bytes for each production, its left side, the length of its right side and its symbols as the table has them; and the counts of each nonterminal.
-use Prim.Native.Nat.{ℕ, zero, suc, _+_, _-_, _*_, _/_, _%_, _≤_, _<_}
+-- What the program says of a grammar's places: one word a place, and the start symbol's registers.
+use Prim.Native.Nat.{ℕ, _+_, _-_, _*_, _/_, _%_, _≤_, _<_}
 use native.Mathlib.Omega.{arith}
 use mathlib.Core.Path.{_≡_, refl, sym, ap, ap₂, _∙_, subst}
-use mathlib.Core.Bool.{Bool, true, false, _&&_, cond}
-use mathlib.Core.List.{List, _++_, map}
+use mathlib.Core.Bool.{Bool, true, false, _&&_, not, cond}
+use mathlib.Core.List.{List, _++_}
 use borrow.Author.Tests.{lt-ltb, le-ltb, ltb-true, ltb-false, eq-eqb, ne-eqb, eqb-true, eqb-false}
-use lib.ListN.{getD, length, take, drop, replicate}
-use lib.Seq.{drop-cons}
-use lib.Dec.{eqb, ltb}
-use Rattle.meaning.specs.Base.{total}
-use Rattle.meaning.specs.Grammar.{Symbol, terminal, nonterminal, Grammar, productionAt, nonterminalCount, isNonterminal, inh, syn}
-use Rattle.meaning.specs.Rules.{Known, WellFormed}
+use lib.ListN.{getD, length, replicate}
+use lib.Dec.{T, eqb, ltb, ltb→lt}
+use Rattle.meaning.specs.Grammar.{terminal, nonterminal, Symbol, Grammar, productionAt, syn, isNonterminal}
+use Rattle.meaning.specs.Rules.{WellFormed}
 use Rattle.meaning.specs.Table.{symbolOf}
 use Rattle.meaning.specs.Calls.{Cell, valued, marked, awaited}
-use Rattle.theory_base.specs.Members.{getD-in}
+use Rattle.theory_base.specs.Members.{true→T, both}
 use Rattle.theory_base.specs.WellFormed.{well-formed-at}
-use Rattle.fit.specs.Upward.{placeOn, cellsOf}
+use Rattle.theory_program.specs.Stands.{stands-within}
+use Rattle.theory_program.specs.Addresses.{Begins, waitAddress, wait-row-at, wait-row-length, segment-at}
+use Rattle.theory_program.specs.Records.{segment-words}
+use Rattle.theory_program.specs.Proper.{att-most}
+use Rattle.theory_program.specs.Waits.{Waits, place-waits, place-rests}
+use Rattle.fit.specs.Upward.{stretches, placeOn, cellsOf}
 
-pub record Shown (g : Grammar) (rows inherited synthesized : List ℕ) (productions start : ℕ) : Type 0 where
+-- the program of a well-formed grammar
+pub record Shown (g : Grammar) (ws : List ℕ) : Type 0 where
   pub formed : WellFormed g
-  pub counted : length (g .productions) ≡ productions
-  pub begins : g .start ≡ start
-  pub inheritedOf : (n : ℕ) → n < nonterminalCount g → getD inherited n 0 ≡ inh g (nonterminal n)
-  pub synthesizedOf : (n : ℕ) → n < nonterminalCount g → getD synthesized n 0 ≡ syn g (nonterminal n)
-  pub left : (p : ℕ) → p < productions → getD rows (16 * p) 0 ≡ productionAt g p .left
-  pub size : (p : ℕ) → p < productions → getD rows (16 * p + 1) 0 ≡ length (productionAt g p .right)
-  pub symbols : (p k : ℕ) → p < productions → k < length (productionAt g p .right) → symbolOf (getD rows (16 * p + (k + 2)) 0) ≡ getD (productionAt g p .right) k (terminal 0)
+  pub begins : Begins g ws
 
--- ---- what the code asks of the bytes
+pub record Readable (ws : List ℕ) : Type 0 where
+  pub grammar : Grammar
+  pub shown : Shown grammar ws
 
--- the symbols of production p up to position k stand in its row and are known
-pub record RowTo (rows : List ℕ) (p k : ℕ) : Type 0 where
-  pub few : p < 128
-  pub short : k < 12
-  pub symbols : (i : ℕ) → i ≤ k → getD rows (16 * p + (i + 2)) 0 < 176
+-- ---- what the code reads
 
-pub record Readable (rows : List ℕ) (productions start : ℕ) : Type 0 where
-  pub few : productions ≤ 128
-  pub begins : start < 48
-  pub each : (p k : ℕ) → p < productions → k < getD rows (16 * p + 1) 0 → RowTo rows p k
+-- the address of the word of place p
+abbrev pub wordAddress : List ℕ → ℕ → ℕ
+wordAddress ws p = getD ws 2 0 + 8 * getD ws 6 0 + 12 * (p / 256) + p % 256
 
--- ---- what the code reads from them
+-- the word of place p; 0 where it has no production, or more symbols passed than any right side has
+unfoldable pub waitAt : List ℕ → ℕ → ℕ
+waitAt ws p = cond (ltb (p / 256) (getD ws 6 0)) (cond (ltb (p % 256) 12) (getD ws (wordAddress ws p) 0) 0) 0
 
--- a symbol's count by its byte: a terminal has none
-unfoldable pub countOf : List ℕ → ℕ → ℕ
-countOf counts n = cond (ltb n 128) 0 (getD counts (n - 128) 0)
+-- a place with word v waits, and its left side is the symbol with byte x
+abbrev pub wordOn : ℕ → ℕ → Bool
+wordOn v x = not (eqb v 0) && eqb (128 + v % 64) x
 
--- the counts of n symbols from `at` on
-unfoldable pub countsFrom : List ℕ → List ℕ → ℕ → ℕ → ℕ
-countsFrom rows counts at zero = 0
-countsFrom rows counts at (suc n) = countOf counts (getD rows at 0) + countsFrom rows counts (at + 1) n
+-- the registers of a place with word v, the lowest first
+abbrev pub cellsIn : ℕ → List Cell
+cellsIn v = stretches (v / 64 % 128) (v / 8192 % 16) (v / 131072 % 16)
 
--- place p on one that waits at the symbol with byte x
-abbrev pub rowOn : List ℕ → ℕ → ℕ → ℕ → Bool
-rowOn rows productions x p = ltb (p / 256) productions && (ltb (p % 256) (getD rows (16 * (p / 256) + 1) 0) && eqb (128 + getD rows (16 * (p / 256)) 0) x)
+module _ (ws : List ℕ) (p : ℕ) where
+  pub wait-unlisted : getD ws 6 0 ≤ p / 256 → waitAt ws p ≡ 0
+  unfolding waitAt
+  wait-unlisted l = rw (le-ltb (p / 256) (getD ws 6 0) l) refl
 
-abbrev pub waitingCellsAt : List ℕ → List ℕ → ℕ → List Cell
-waitingCellsAt inherited synthesized x = replicate (countOf synthesized x) marked ++ replicate (countOf inherited x) valued
+  pub wait-passed : 12 ≤ p % 256 → waitAt ws p ≡ 0
+  unfolding waitAt
+  wait-passed l = by (ltb (p / 256) (getD ws 6 0))
+    where
+      by : (b : Bool) → cond b (cond (ltb (p % 256) 12) (getD ws (wordAddress ws p) 0) 0) 0 ≡ 0
+      by true = rw (le-ltb (p % 256) 12 l) refl
+      by false = refl
 
--- the registers of production p with k symbols passed, the lowest first
-abbrev pub cellsAt : List ℕ → List ℕ → List ℕ → ℕ → ℕ → List Cell
-cellsAt rows inherited synthesized p k = replicate (countsFrom rows synthesized (16 * p + 2) k) valued ++ waitingCellsAt inherited synthesized (getD rows (16 * p + (k + 2)) 0)
+  pub wait-word : p / 256 < getD ws 6 0 → p % 256 < 12 → waitAt ws p ≡ getD ws (wordAddress ws p) 0
+  unfolding waitAt
+  wait-word l m = rw (lt-ltb (p / 256) (getD ws 6 0) l, lt-ltb (p % 256) 12 m) refl
 
--- ---- bytes and symbols
+-- ---- symbols by their bytes
 
 symbol-by : (b : Bool) (n : ℕ) → ltb n 128 ≡ b → symbolOf n ≡ elim b [ true ↦ terminal n | false ↦ nonterminal (n - 128) ]
-symbol-by b n e = rw (sym e)
+symbol-by b n e = ap (λ t. elim t [ true ↦ terminal n | false ↦ nonterminal (n - 128) ]) e
 
 pub symbol-high : (n : ℕ) → symbolOf (128 + n) ≡ nonterminal n
 symbol-high n = symbol-by false (128 + n) (le-ltb (128 + n) 128 (omega arith)) ∙ ap nonterminal (omega arith)
 
--- a terminal has none of any count, a nonterminal the one of its number
-module _ (counts : List ℕ) (x : ℕ) where
-  pub count-low : x < 128 → countOf counts x ≡ 0
-  unfolding countOf
-  count-low l = rw (lt-ltb x 128 l) refl
-
-  pub count-high : 128 ≤ x → countOf counts x ≡ getD counts (x - 128) 0
-  unfolding countOf
-  count-high l = rw (le-ltb x 128 l) refl
-
--- the left side of a production is the symbol with byte x
+-- the symbol with byte x is nonterminal n
 named : (n x : ℕ) → isNonterminal n (symbolOf x) ≡ eqb (128 + n) x
 named n x = by (ltb x 128) refl
   where
@@ -92,84 +84,78 @@ named n x = by (ltb x 128) refl
     by true e = rw (symbol-by true x e) (sym (ne-eqb (128 + n) x (λ d. omega (arith, ltb-true x 128 e))))
     by false e = rw (symbol-by false x e) (high (eqb (128 + n) x) refl (ltb-false x 128 e))
 
--- ---- the bytes of a grammar
+-- ---- of a grammar
 
-module _ {g : Grammar} {rows inherited synthesized : List ℕ} {productions start : ℕ} (s : Shown g rows inherited synthesized productions start) where
-  known-at : (p k : ℕ) → p < productions → k < length (productionAt g p .right) → Known g (symbolOf (getD rows (16 * p + (k + 2)) 0))
-  known-at p k l m =
-      let f = well-formed-at g (s .formed) p (omega (arith, s .counted)) in
-      rw (s .symbols p k l m) (f .symbols (getD (productionAt g p .right) k (terminal 0)) (getD-in (productionAt g p .right) k (terminal 0) m))
+module _ {g : Grammar} {ws : List ℕ} (s : Shown g ws) where
+  pub productions-are : getD ws 6 0 ≡ length (g .productions)
+  productions-are = segment-words (s .begins) .productions
 
-  row-size : (p : ℕ) → p < productions → length (productionAt g p .right) ≤ 12
-  row-size p l = well-formed-at g (s .formed) p (omega (arith, s .counted)) .short
+  -- the words that are read stand in the program
+  pub header-inside : 9 ≤ length ws
+  header-inside = stands-within (segment-at (s .begins))
 
-  known-small : (n : ℕ) → Known g (symbolOf n) → n < 176
-  known-small n k = by (ltb n 128) refl
-    where
-      by : (b : Bool) → ltb n 128 ≡ b → n < 176
-      by true e = omega (arith, ltb-true n 128 e)
-      by false e =
-          let m : n - 128 < nonterminalCount g = subst (Known g) (symbol-by false n e) k in
-          omega (arith, ltb-false n 128 e, s .formed .nonterminals .1)
+  module _ (p : ℕ) where
+    address-is : wordAddress ws p ≡ waitAddress g (p / 256) + p % 256
+    address-is = omega (arith, segment-words (s .begins) .records, productions-are)
 
-  pub readable : Readable rows productions start
-  readable =
-      record {
-        few = omega (arith, s .counted, s .formed .productions .1);
-        begins = omega (arith, s .begins, s .formed .start, s .formed .nonterminals .1);
-        each = λ p k l m.
-            let n = s .size p l in
-            record {
-              few = omega (arith, s .counted, s .formed .productions .1);
-              short = omega (arith, row-size p l);
-              symbols = λ i h. known-small (getD rows (16 * p + (i + 2)) 0) (known-at p i l (omega arith));
-            };
-      }
+    pub word-inside : p / 256 < getD ws 6 0 → p % 256 < 12 → wordAddress ws p < length ws
+    word-inside l m =
+        let k : p / 256 < length (g .productions) = omega (arith, productions-are) in
+        let f = well-formed-at g (s .formed) (p / 256) k in
+        omega (arith, address-is, stands-within (wait-row-at (s .begins) (s .formed) (p / 256) k), wait-row-length g (productionAt g (p / 256)) (f .short))
 
-  -- a count that is kept for each nonterminal, and is 0 for a terminal
-  module _ (f : Symbol → ℕ) (none : (t : ℕ) → f (terminal t) ≡ 0) (counts : List ℕ) (each : (n : ℕ) → n < nonterminalCount g → getD counts n 0 ≡ f (nonterminal n)) where
-    count-of : (x : ℕ) → Known g (symbolOf x) → countOf counts x ≡ f (symbolOf x)
-    unfolding countOf
-    count-of x k = by (ltb x 128) refl
+    module _ (l : p / 256 < length (g .productions)) where
+      pub waits-at : p % 256 < length (productionAt g (p / 256) .right) → Waits g (productionAt g (p / 256)) (p % 256) (waitAt ws p)
+      waits-at k =
+          let f = well-formed-at g (s .formed) (p / 256) l in
+          subst (Waits g (productionAt g (p / 256)) (p % 256)) (sym (wait-word ws p (omega (arith, productions-are)) (omega (arith, f .short)) ∙ ap (λ a. getD ws a 0) address-is)) (place-waits (s .begins) (s .formed) (p / 256) l (p % 256) k)
+
+      rests-at : length (productionAt g (p / 256) .right) ≤ p % 256 → p % 256 < 12 → waitAt ws p ≡ 0
+      rests-at k m = wait-word ws p (omega (arith, productions-are)) m ∙ (ap (λ a. getD ws a 0) address-is ∙ place-rests (s .begins) (s .formed) (p / 256) l (p % 256) k m)
+
+      -- a place that waits has a word, one that does not has none
+      pub on-listed : (x : ℕ) → wordOn (waitAt ws p) x ≡ ltb (p % 256) (length (productionAt g (p / 256) .right)) && isNonterminal (productionAt g (p / 256) .left) (symbolOf x)
+      on-listed x = by (ltb (p % 256) (length (productionAt g (p / 256) .right))) refl
+        where
+          by : (b : Bool) → ltb (p % 256) (length (productionAt g (p / 256) .right)) ≡ b → wordOn (waitAt ws p) x ≡ b && isNonterminal (productionAt g (p / 256) .left) (symbolOf x)
+          by true e =
+              let v = waits-at (ltb-true (p % 256) (length (productionAt g (p / 256) .right)) e) in
+              rw (ne-eqb (waitAt ws p) 0 (λ z. omega (arith, v .some)), v .left) (sym (named (productionAt g (p / 256) .left) x))
+          by false e = rw (none (ltb-false (p % 256) (length (productionAt g (p / 256) .right)) e) (ltb (p % 256) 12) refl) refl
+            where
+              none : length (productionAt g (p / 256) .right) ≤ p % 256 → (b : Bool) → ltb (p % 256) 12 ≡ b → waitAt ws p ≡ 0
+              none k true d = rests-at k (ltb-true (p % 256) 12 d)
+              none k false d = wait-passed ws p (ltb-false (p % 256) 12 d)
+
+    pub on-word : (x : ℕ) → wordOn (waitAt ws p) x ≡ placeOn g (symbolOf x) p
+    on-word x = by (ltb (p / 256) (length (g .productions))) refl
       where
-        by : (b : Bool) → ltb x 128 ≡ b → cond b 0 (getD counts (x - 128) 0) ≡ f (symbolOf x)
-        by true e = sym (ap f (symbol-by true x e) ∙ none x)
-        by false e = each (x - 128) (subst (Known g) (symbol-by false x e) k) ∙ sym (ap f (symbol-by false x e))
+        by : (b : Bool) → ltb (p / 256) (length (g .productions)) ≡ b → wordOn (waitAt ws p) x ≡ b && (ltb (p % 256) (length (productionAt g (p / 256) .right)) && isNonterminal (productionAt g (p / 256) .left) (symbolOf x))
+        by true e = on-listed (ltb-true (p / 256) (length (g .productions)) e) x
+        by false e = rw (wait-unlisted ws p (omega (arith, productions-are, ltb-false (p / 256) (length (g .productions)) e))) refl
 
-    counts-from : (p : ℕ) → p < productions → (n i : ℕ) → i + n ≤ length (productionAt g p .right) → countsFrom rows counts (16 * p + 2 + i) n ≡ total (map f (take n (drop i (productionAt g p .right))))
-    unfolding countsFrom
-    counts-from p l zero i h = refl
-    counts-from p l (suc n) i h =
-        let e : 16 * p + 2 + i ≡ 16 * p + (i + 2) = omega arith in
-        let d : 16 * p + 2 + i + 1 ≡ 16 * p + 2 + suc i = omega arith in
-        let m : i < length (productionAt g p .right) = omega arith in
-        rw (drop-cons (productionAt g p .right) i (terminal 0) m, d)
-        (ap₂ (λ a b. a + b) (ap (λ j. countOf counts (getD rows j 0)) e ∙ (count-of (getD rows (16 * p + (i + 2)) 0) (known-at p i l m) ∙ ap f (s .symbols p i l m))) (counts-from p l n (suc i) (omega arith)))
+    -- a place that stands on another: its symbol and its registers
+    module _ (x : ℕ) (on : wordOn (waitAt ws p) x ≡ true) where
+      tests : T (ltb (p / 256) (length (g .productions))) × T (ltb (p % 256) (length (productionAt g (p / 256) .right)) && isNonterminal (productionAt g (p / 256) .left) (symbolOf x))
+      tests = both (ltb (p / 256) (length (g .productions))) (ltb (p % 256) (length (productionAt g (p / 256) .right)) && isNonterminal (productionAt g (p / 256) .left) (symbolOf x)) (true→T (placeOn g (symbolOf x) p) (sym (on-word x) ∙ on))
+
+      word-of : Waits g (productionAt g (p / 256)) (p % 256) (waitAt ws p)
+      word-of =
+          let k = both (ltb (p % 256) (length (productionAt g (p / 256) .right))) (isNonterminal (productionAt g (p / 256) .left) (symbolOf x)) (tests .1) .0 in
+          waits-at (ltb→lt (p / 256) (length (g .productions)) (tests .0)) (ltb→lt (p % 256) (length (productionAt g (p / 256) .right)) k)
+
+      pub symbol-awaited : symbolOf (waitAt ws p / 2097152 % 256) ≡ awaited g p
+      symbol-awaited = word-of .symbol
+
+      pub cells-of : cellsIn (waitAt ws p) ≡ cellsOf g p
+      cells-of = ap₂ (λ n r. replicate n valued ++ r) (word-of .passed) (ap₂ (λ m n. replicate m marked ++ replicate n valued) (word-of .marked) (word-of .inherited))
 
   -- the start symbol's
-  pub start-count : getD synthesized start 0 ≡ syn g (nonterminal (g .start))
-  start-count = rw (sym (s .begins)) (s .synthesizedOf (g .start) (s .formed .start))
+  pub start-count : getD ws 4 0 ≡ syn g (nonterminal (g .start))
+  start-count = segment-words (s .begins) .registers
 
-  pub row-on : (x p : ℕ) → rowOn rows productions x p ≡ placeOn g (symbolOf x) p
-  row-on x p = by (ltb (p / 256) productions) refl
-    where
-      by : (b : Bool) → ltb (p / 256) productions ≡ b → rowOn rows productions x p ≡ placeOn g (symbolOf x) p
-      by true e =
-          let l = ltb-true (p / 256) productions e in
-          rw (s .counted, s .size (p / 256) l, s .left (p / 256) l, named (productionAt g (p / 256) .left) x) refl
-      by false e = rw (s .counted, e) refl
+  pub start-small : getD ws 4 0 ≤ 4096
+  start-small = omega (arith, start-count, att-most g (s .formed) (nonterminal (g .start)))
 
-  module _ (p : ℕ) (l : p / 256 < productions) (k : p % 256 < length (productionAt g (p / 256) .right)) where
-    pub symbol-awaited : symbolOf (getD rows (16 * (p / 256) + (p % 256 + 2)) 0) ≡ awaited g p
-    symbol-awaited = s .symbols (p / 256) (p % 256) l k
-
-    pub cells-of : cellsAt rows inherited synthesized (p / 256) (p % 256) ≡ cellsOf g p
-    cells-of =
-        let x : ℕ = getD rows (16 * (p / 256) + (p % 256 + 2)) 0 in
-        let known = known-at (p / 256) (p % 256) l k in
-        let e : 16 * (p / 256) + 2 + 0 ≡ 16 * (p / 256) + 2 = omega arith in
-        let c : countsFrom rows synthesized (16 * (p / 256) + 2) (p % 256) ≡ total (map (syn g) (take (p % 256) (productionAt g (p / 256) .right))) =
-        ap (λ j. countsFrom rows synthesized j (p % 256)) (sym e) ∙ counts-from (syn g) (λ t. refl) synthesized (s .synthesizedOf) (p / 256) l (p % 256) 0 (omega arith) in
-        let a : countOf synthesized x ≡ syn g (awaited g p) = count-of (syn g) (λ t. refl) synthesized (s .synthesizedOf) x known ∙ ap (syn g) symbol-awaited in
-        let b : countOf inherited x ≡ inh g (awaited g p) = count-of (inh g) (λ t. refl) inherited (s .inheritedOf) x known ∙ ap (inh g) symbol-awaited in
-        ap₂ (λ n r. replicate n valued ++ r) c (ap₂ (λ m n. replicate m marked ++ replicate n valued) a b)
+  pub start-symbol : symbolOf (128 + getD ws 0 0 / 8) ≡ nonterminal (g .start)
+  start-symbol = symbol-high (getD ws 0 0 / 8) ∙ ap nonterminal (omega (arith, segment-words (s .begins) .expected))

@@ -10,7 +10,7 @@ use lib.Seq.{drop-drop}
 use lib.Dec.{eqb, ltb, leb}
 use lib.IntN.{ℤ}
 use Rattle.meaning.specs.Base.{all, total, isEmpty}
-use Rattle.meaning.specs.Grammar.{Symbol, nonterminal, Grammar, productionAt, inh, syn, isNonterminal, whole}
+use Rattle.meaning.specs.Grammar.{Symbol, nonterminal, Grammar, productionAt, inh, syn, markedFor, isNonterminal, whole}
 use Rattle.meaning.specs.Rules.{WellFormed}
 use Rattle.meaning.specs.Calls.{Cell, valued, marked, cellFits, cellsFit, waitingCells, awaited, placesFit, placeCells, stackFits}
 use Rattle.theory_answers.specs.FitTest.{syn-cells, alone}
@@ -137,7 +137,7 @@ placesAbove g x (p ∷ ps) = placeOn g x p && placesAbove g (awaited g p) ps
 
 -- the registers of a place, the lowest first
 abbrev pub cellsOf : Grammar → ℕ → List Cell
-cellsOf g p = replicate (total (map (syn g) (take (p % 256) (productionAt g (p / 256) .right)))) valued ++ (replicate (syn g (awaited g p)) marked ++ replicate (inh g (awaited g p)) valued)
+cellsOf g p = replicate (total (map (syn g) (take (p % 256) (productionAt g (p / 256) .right)))) valued ++ (replicate (markedFor g (awaited g p)) marked ++ replicate (inh g (awaited g p)) valued)
 
 unfoldable pub cellsAbove : Grammar → List ℕ → List Cell
 cellsAbove g [] = []
@@ -177,12 +177,12 @@ module _ (g : Grammar) where
       let t : ℕ = total (map (syn g) (take (p % 256) (productionAt g (p / 256) .right))) in
       let below : List Cell = placeCells g qs in
       let lower : reverse (replicate t valued ++ below) ≡ reverse below ++ replicate t valued = reverse-append (replicate t valued) below ∙ ap (λ z. reverse below ++ z) (reverse-replicate t valued) in
-      let upper : reverse (waitingCells g x) ≡ replicate (syn g x) marked ++ replicate (inh g x) valued =
-      reverse-append (replicate (inh g x) valued) (replicate (syn g x) marked) ∙ ap₂ (λ y z. y ++ z) (reverse-replicate (syn g x) marked) (reverse-replicate (inh g x) valued) in
+      let upper : reverse (waitingCells g x) ≡ replicate (markedFor g x) marked ++ replicate (inh g x) valued =
+      reverse-append (replicate (inh g x) valued) (replicate (markedFor g x) marked) ∙ ap₂ (λ y z. y ++ z) (reverse-replicate (markedFor g x) marked) (reverse-replicate (inh g x) valued) in
       ap (λ z. reverse (waitingCells g x ++ z)) (syn-cells g (take (p % 256) (productionAt g (p / 256) .right)) below)
       ∙ (reverse-append (waitingCells g x) (replicate t valued ++ below)
       ∙ (ap₂ (λ y z. y ++ z) lower upper
-      ∙ append-assoc (reverse below) (replicate t valued) (replicate (syn g x) marked ++ replicate (inh g x) valued)))
+      ∙ append-assoc (reverse below) (replicate t valued) (replicate (markedFor g x) marked ++ replicate (inh g x) valued)))
 
   cells-up : (ps qs : List ℕ) → reverse (placeCells g (reverseAux ps qs)) ≡ reverse (placeCells g qs) ++ cellsAbove g ps
   unfolding cellsAbove

@@ -9,7 +9,7 @@ ghost use Rattle.meaning.specs.Grammar.{Grammar, nonterminal};
 ghost use Rattle.meaning.specs.Value.{inRange};
 ghost use Rattle.meaning.specs.Calls.{isMark, cellFits, stacksFit};
 ghost use Rattle.fit.specs.Upward.{kind, Passes, stretches, fitsFrom, placesAbove, cellsAbove, standsFit};
-ghost use Rattle.fit.specs.Shown.{Shown, Readable, RowTo, countOf, countsFrom, rowOn, cellsAt};
+ghost use Rattle.fit.specs.Shown.{Shown, Readable, waitAt, wordOn, cellsIn};
 ghost use Rattle.meaning.specs.PublicCalls.{stacksOf};
 ghost use Rattle.fit.specs.Cut.{numbers};
 
@@ -134,114 +134,65 @@ fn past_stretches(
     registers.len() + 1
 }
 
-// ---- what the rows say
+// ---- what the program says of a place
 
-fn wide(x: u8) -> usize
-    ensures { λ r. ⌜ (r ≡ x) × (r < 256) ⌝ }
+// The word that says what a place waits at; 0 where it has no production, or no symbol left.
+fn wait_word(program: &[u32], place: usize) -> usize
+    requires { ⌜ Readable (now program) × (place < 4294967296) ⌝ }
+    ensures { λ r. ⌜ (r ≡ waitAt (now (program .entry)) place) × (r < 4294967296) ⌝ }
 {
-    x as usize
-}
-
-// A symbol's count by its byte; a terminal has none.
-fn count_of(counts: &[u8; 48], symbol: usize) -> usize
-    requires { ⌜ symbol < 176 ⌝ }
-    ensures { λ r. ⌜ (r ≡ countOf (now (counts .entry)) symbol) × (r < 256) ⌝ }
-{
-    if symbol < 128 {
+    let production = place / 256;
+    let productions = moves::word_at(program, 6);
+    if productions <= production {
         return 0;
     }
-    wide(counts[symbol - 128])
+    let passed = place % 256;
+    if 12 <= passed {
+        return 0;
+    }
+    let waits = moves::word_at(program, 2) + 8 * productions;
+    moves::word_at(program, waits + 12 * production + passed)
 }
 
-// The counts of the first `passed` symbols of a production.
-fn counts_passed(rows: &[u8; 2048], counts: &[u8; 48], production: usize, passed: usize) -> usize
-    requires { ⌜ RowTo (now rows) production passed ⌝ }
-    ensures { λ r. ⌜ (r ≡ countsFrom (now (rows .entry)) (now (counts .entry)) (16 * production + 2) passed) × (r ≤ 4096) ⌝ }
+// Whether a place with this word stands on one that waits at the symbol with this byte, and waits itself.
+fn stands_on(word: usize, awaited: usize) -> bool
+    ensures { λ r. ⌜ r ≡ wordOn word awaited ⌝ }
 {
-    let from = 16 * production + 2;
-    let mut sum = 0;
-    let mut i = 0;
-    while i < passed {
-        let symbol = wide(rows[from + i]);
-        sum += count_of(counts, symbol);
-        i += 1;
-    }
-    sum
-}
-
-// Whether a place stands on one that waits at the symbol with this byte, and waits itself.
-fn stands_on(rows: &[u8; 2048], productions: usize, awaited: usize, place: u32) -> bool
-    requires { ⌜ productions ≤ 128 ⌝ }
-    ensures { λ r. ⌜ r ≡ rowOn (now (rows .entry)) productions awaited place ⌝ }
-{
-    let production = (place / 256) as usize;
-    if productions <= production {
+    if word == 0 {
         return false;
     }
-    let passed = (place % 256) as usize;
-    if wide(rows[16 * production + 1]) <= passed {
-        return false;
-    }
-    128 + wide(rows[16 * production]) == awaited
+    128 + word % 64 == awaited
 }
 
 // ---- places
 
-// Past the registers of a place: those of the symbols passed, then those of the symbol waited at, its synthesized ones marked and, above them, its inherited ones valued.
-fn past_place(
-    registers: &[i64],
-    at: usize,
-    rows: &[u8; 2048],
-    inherited: &[u8; 48],
-    synthesized: &[u8; 48],
-    production: usize,
-    passed: usize,
-) -> usize
-    requires { ⌜ (at ≤ length (now registers) + 1) × RowTo (now rows) production passed ⌝ }
-    ensures { λ r. ⌜ Passes (now (registers .entry)) (cellsAt (now (rows .entry)) (now (inherited .entry)) (now (synthesized .entry)) production passed) at r ⌝ }
+// Past the registers of a place, by its word: those of the symbols passed, then those of the symbol waited at, its synthesized ones marked and, above them, its inherited ones valued.
+fn past_place(registers: &[i64], at: usize, word: usize) -> usize
+    requires { ⌜ at ≤ length (now registers) + 1 ⌝ }
+    ensures { λ r. ⌜ Passes (now (registers .entry)) (cellsIn word) at r ⌝ }
 {
-    let symbol = wide(rows[16 * production + (passed + 2)]);
     past_stretches(
         registers,
         at,
-        counts_passed(rows, synthesized, production, passed),
-        count_of(synthesized, symbol),
-        count_of(inherited, symbol),
+        word / 64 % 128,
+        word / 8192 % 16,
+        word / 131072 % 16,
     )
 }
 
 // Whether the places above the bottom one stand on each other, and the registers from `at` up are theirs.
-fn stand_above(
-    registers: &[i64],
-    at: usize,
-    places: &[u32],
-    rows: &[u8; 2048],
-    inherited: &[u8; 48],
-    synthesized: &[u8; 48],
-    productions: usize,
-    start: usize,
-) -> bool
-    requires { ⌜ (at ≤ length (now registers) + 1) × Readable (now rows) productions start ⌝ }
-    ensures { λ r. ⌜ ((g : Grammar) → Shown g (now (rows .entry)) (now (inherited .entry)) (now (synthesized .entry)) productions start → r ≡ placesAbove g (nonterminal (g .start)) (drop 1 (now (places .entry))) && fitsFrom (now (registers .entry)) at (cellsAbove g (drop 1 (now (places .entry))))) ⌝ }
+fn stand_above(registers: &[i64], at: usize, places: &[u32], program: &[u32]) -> bool
+    requires { ⌜ (at ≤ length (now registers) + 1) × Readable (now program) ⌝ }
+    ensures { λ r. ⌜ ((g : Grammar) → Shown g (now (program .entry)) → r ≡ placesAbove g (nonterminal (g .start)) (drop 1 (now (places .entry))) && fitsFrom (now (registers .entry)) at (cellsAbove g (drop 1 (now (places .entry))))) ⌝ }
 {
     let mut reached = at;
-    let mut awaited = 128 + start;
+    let mut awaited = 128 + moves::word_at(program, 0) / 8;
     let mut i = 1;
     while i < places.len() {
-        let place = places[i];
-        if stands_on(rows, productions, awaited, place) {
-            let production = (place / 256) as usize;
-            let passed = (place % 256) as usize;
-            reached = past_place(
-                registers,
-                reached,
-                rows,
-                inherited,
-                synthesized,
-                production,
-                passed,
-            );
-            awaited = wide(rows[16 * production + (passed + 2)]);
+        let word = wait_word(program, moves::word_at(places, i));
+        if stands_on(word, awaited) {
+            reached = past_place(registers, reached, word);
+            awaited = word / 2097152 % 256;
             i += 1;
         } else {
             return false;
@@ -253,23 +204,15 @@ fn stand_above(
 // ---- the whole test
 
 // Whether the registers are those that the places tell, both without the cells above the heights.
-fn stand(
-    registers: &[i64],
-    places: &[u32],
-    rows: &[u8; 2048],
-    inherited: &[u8; 48],
-    synthesized: &[u8; 48],
-    productions: usize,
-    start: usize,
-) -> bool
-    requires { ⌜ Readable (now rows) productions start ⌝ }
-    ensures { λ r. ⌜ ((g : Grammar) → Shown g (now (rows .entry)) (now (inherited .entry)) (now (synthesized .entry)) productions start → r ≡ standsFit g (now (places .entry)) (now (registers .entry))) ⌝ }
+fn stand(registers: &[i64], places: &[u32], program: &[u32]) -> bool
+    requires { ⌜ Readable (now program) ⌝ }
+    ensures { λ r. ⌜ ((g : Grammar) → Shown g (now (program .entry)) → r ≡ standsFit g (now (places .entry)) (now (registers .entry))) ⌝ }
 {
     if places.len() == 0 {
         return false;
     }
     let bottom = places[0];
-    let count = wide(synthesized[start]);
+    let count = moves::word_at(program, 4);
     if bottom == LEFT {
         if places.len() != 1 {
             return false;
@@ -280,16 +223,7 @@ fn stand(
         return false;
     }
     let at = past(registers, 0, count, true);
-    stand_above(
-        registers,
-        at,
-        places,
-        rows,
-        inherited,
-        synthesized,
-        productions,
-        start,
-    )
+    stand_above(registers, at, places, program)
 }
 
 // 34: whether the lent cells that count fit a record's numbers.
@@ -300,14 +234,10 @@ pub fn fits(
     moves: u64,
     register_height: u64,
     place_height: u64,
-    rows: &[u8; 2048],
-    inherited: &[u8; 48],
-    synthesized: &[u8; 48],
-    productions: usize,
-    start: usize,
+    program: &[u32],
 ) -> bool
-    requires { ⌜ (length (now registers) ≤ 4096) × (length (now places) ≤ 1024) × Readable (now rows) productions start ⌝ }
-    ensures { λ r. ⌜ ((g : Grammar) → Shown g (now (rows .entry)) (now (inherited .entry)) (now (synthesized .entry)) productions start → r ≡ stacksFit g (numbers tokens moves «register_height» «place_height») (stacksOf (now (registers .entry)) (now (places .entry)))) ⌝ }
+    requires { ⌜ (length (now registers) ≤ 4096) × (length (now places) ≤ 1024) × Readable (now program) ⌝ }
+    ensures { λ r. ⌜ ((g : Grammar) → Shown g (now (program .entry)) → r ≡ stacksFit g (numbers tokens moves «register_height» «place_height») (stacksOf (now (registers .entry)) (now (places .entry)))) ⌝ }
 {
     if TOKENS_LIMIT < tokens {
         return false;
@@ -323,15 +253,7 @@ pub fn fits(
     if places.len() < top {
         return false;
     }
-    if !stand(
-        &registers[..height],
-        &places[..top],
-        rows,
-        inherited,
-        synthesized,
-        productions,
-        start,
-    ) {
+    if !stand(&registers[..height], &places[..top], program) {
         return false;
     }
     if !all_marked(&registers[height..]) {

@@ -70,7 +70,7 @@ pub extern "C" fn segment_open(
     host_run::open(table, record, registers, places, program, number, count);
 }
 
-// Feeds a list of tokens.
+// Feeds tokens, as a list of kinds and one of values.
 #[no_mangle]
 pub extern "C" fn segment_feed(
     table: &[u8],
@@ -78,11 +78,12 @@ pub extern "C" fn segment_feed(
     registers: &mut [i64],
     places: &mut [u32],
     program: &mut [u32],
-    tokens: &[u8],
+    kinds: &[u8],
+    values: &[i32],
     number: &mut u32,
     count: &mut u64,
 )
-    ensures { λ r. ⌜ PassedOn (now («record» .exit)) (now (number .exit)) (now (count .exit)) (now (registers .exit)) (now (places .exit)) (now (program .exit)) (performs programOf (now (table .entry)) (now (program .entry)) (broughtIn (now («record» .entry))) (stacksOf (now (registers .entry)) (now (places .entry))) (feed (now (tokens .entry)))) ⌝ }
+    ensures { λ r. ⌜ PassedOn (now («record» .exit)) (now (number .exit)) (now (count .exit)) (now (registers .exit)) (now (places .exit)) (now (program .exit)) (performs programOf (now (table .entry)) (now (program .entry)) (broughtIn (now («record» .entry))) (stacksOf (now (registers .entry)) (now (places .entry))) (feed (now (kinds .entry)) (now (values .entry)))) ⌝ }
 {
     host_run::feed(
         table,
@@ -90,7 +91,8 @@ pub extern "C" fn segment_feed(
         registers,
         places,
         program,
-        tokens,
+        kinds,
+        values,
         number,
         count,
     );

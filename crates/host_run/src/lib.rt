@@ -22,20 +22,28 @@ pub fn open(
     host_numbers::pass_on(called, record, number, count);
 }
 
-// Feeds a list of tokens.
+// Feeds tokens, as a list of kinds and one of values.
 pub fn feed(
     table: &[u8],
     record: &mut [u64; 5],
     registers: &mut [i64],
     places: &mut [u32],
     program: &mut [u32],
-    tokens: &[u8],
+    kinds: &[u8],
+    values: &[i32],
     number: &mut u32,
     count: &mut u64,
 )
-    ensures { λ r. ⌜ PassedOn (now («record» .exit)) (now (number .exit)) (now (count .exit)) (now (registers .exit)) (now (places .exit)) (now (program .exit)) (performs programOf (now (table .entry)) (now (program .entry)) (broughtIn (now («record» .entry))) (stacksOf (now (registers .entry)) (now (places .entry))) (feed (now (tokens .entry)))) ⌝ }
+    ensures { λ r. ⌜ PassedOn (now («record» .exit)) (now (number .exit)) (now (count .exit)) (now (registers .exit)) (now (places .exit)) (now (program .exit)) (performs programOf (now (table .entry)) (now (program .entry)) (broughtIn (now («record» .entry))) (stacksOf (now (registers .entry)) (now (places .entry))) (feed (now (kinds .entry)) (now (values .entry)))) ⌝ }
 {
-    let called = host_numbers::brought(record).feed(table, registers, places, program, tokens);
+    let called = host_numbers::brought(record).feed(
+        table,
+        registers,
+        places,
+        program,
+        kinds,
+        values,
+    );
     host_numbers::pass_on(called, record, number, count);
 }
 

@@ -159,8 +159,8 @@ shows-as {ws = ws} {before = before} {after = after} {r = r} e p = subst (λ ls.
 pub lines-refused : (t : List ℕ) (n o : ℕ) → check t ≡ unusable n o → refusalLine n o ∷ [] ≡ linesOf t
 lines-refused t n o e = sym (ap linesBy e)
 
-pub lines-listing : (t ws : List ℕ) (c : Cursor) → Standing t ws → BeforeAll ws c → linesLeft ws c ≡ linesOf t
-lines-listing t ws c s b = b (grammarOf (s .state)) (s .formed) (s .begins) ∙ sym (ap linesBy (s .isUsable))
+pub lines-listing : {t area ws : List ℕ} {size : ℕ} (c : Cursor) → Standing t area ws size → BeforeAll ws c → linesLeft ws c ≡ linesOf t
+lines-listing c s b = b (grammarOf (s .state)) (s .formed) (s .begins) ∙ sym (ap linesBy (s .isUsable))
 
 -- the only line
 pub shows-one : (l : Text) (ws before after : List ℕ) (r : Page) → 64 ≤ length before → after ≡ written l before → r .length ≡ length l → r .length ≤ 64 → r .over ≡ true → Shows (l ∷ []) ws before after r

@@ -8,7 +8,7 @@ use borrow.Author.Tests.{lt-ltb, le-ltb}
 use lib.ListN.{length}
 use lib.Dec.{ltb}
 use Rattle.meaning.specs.Base.{consIf, isEmpty}
-use Rattle.meaning.specs.Grammar.{Symbol, Rule, Condition, Production, Grammar, att}
+use Rattle.meaning.specs.Grammar.{Symbol, Rule, Condition, Production, Grammar, addedFor}
 use Rattle.meaning.specs.Scheme.{Instruction, add, evaluate, expect, test, remove, entryTests, testsAfter, inheritedRules, synthesizedRules, removed, symbolsScheme, scheme}
 use Rattle.meaning.specs.Listing.{Text, ruleLines, conditionLines, addLines, symbolLines, productionLines}
 use Rattle.listing_lines.specs.Line.{addLine, ruleLine, conditionLine, removeLine}
@@ -73,11 +73,11 @@ module _ (i n : ℕ) where
         let later = symbolsScheme g p (suc (suc k)) xs rest in
         let behind = consIf (not (isEmpty tests)) (test tests) later in
         let here : positionAt (ltb k n) k ≡ suc k = ap (λ b. positionAt b k) (lt-ltb k n (omega arith)) in
-        add-if k (att g x) (consIf (not (isEmpty rules)) (evaluate rules) (expect x ∷ behind))
-        ∙ (ap (λ l. addLines i (suc k) (att g x) ++ l) (evaluate-if k (suc k) rules (expect x ∷ behind) here
+        add-if k (addedFor g x) (consIf (not (isEmpty rules)) (evaluate rules) (expect x ∷ behind))
+        ∙ (ap (λ l. addLines i (suc k) (addedFor g x) ++ l) (evaluate-if k (suc k) rules (expect x ∷ behind) here
         ∙ ap (λ l. ruleLines i (suc k) rules ++ l) (test-if (suc k) tests later
         ∙ ap (λ l. conditionLines i (suc k) tests ++ l) (symbols-lines (suc k) m xs rest (omega arith) q)))
-        ∙ regroup (addLines i (suc k) (att g x)) (ruleLines i (suc k) rules) (conditionLines i (suc k) tests) (symbolLines g i p (suc (suc k)) xs) (codeLines i n m rest))
+        ∙ regroup (addLines i (suc k) (addedFor g x)) (ruleLines i (suc k) rules) (conditionLines i (suc k) tests) (symbolLines g i p (suc (suc k)) xs) (codeLines i n m rest))
       where
         regroup : (a b c d e : List Text) → a ++ (b ++ (c ++ (d ++ e))) ≡ (((a ++ b) ++ c) ++ d) ++ e
         regroup a b c d e = sym (simp append-assoc)

@@ -10,7 +10,7 @@ use lib.ListN.{length, getD, drop, drop-of-length-le}
 use lib.Seq.{drop-cons}
 use lib.Dec.{ltb}
 use Rattle.meaning.specs.Base.{consIf, isEmpty}
-use Rattle.meaning.specs.Grammar.{Symbol, Production, Grammar, att, productionAt, wholeProduction}
+use Rattle.meaning.specs.Grammar.{Symbol, Production, Grammar, addedFor, productionAt, wholeProduction}
 use Rattle.meaning.specs.Rules.{WellFormed}
 use Rattle.meaning.specs.Scheme.{Instruction, add, evaluate, expect, test, remove, entryTests, testsAfter, inheritedRules, synthesizedRules, removed, symbolsScheme, scheme}
 use Rattle.meaning.specs.Program.{schemeWords}
@@ -40,7 +40,7 @@ module _ (g : Grammar) (p : Production) where
       let rules = inheritedRules g p k in
       let tests = testsAfter g p k in
       let behind = consIf (not (isEmpty tests)) (test tests) (symbolsScheme g p (suc k) xs rest) in
-      ends-if (ltb 0 (att g x)) (add (att g x)) (consIf (not (isEmpty rules)) (evaluate rules) (expect x ∷ behind)) (λ e. e)
+      ends-if (ltb 0 (addedFor g x)) (add (addedFor g x)) (consIf (not (isEmpty rules)) (evaluate rules) (expect x ∷ behind)) (λ e. e)
       (ends-if (not (isEmpty rules)) (evaluate rules) (expect x ∷ behind) (λ e. e)
       (ends-if (not (isEmpty tests)) (test tests) (symbolsScheme g p (suc k) xs rest) (λ e. e)
       (ends-symbols (suc k) xs rest h)))

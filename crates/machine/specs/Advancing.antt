@@ -11,9 +11,10 @@ use borrow.Author.Tests.{le-leb}
 use Rattle.meaning.specs.Base.{isEmpty}
 use Rattle.meaning.specs.Grammar.{Grammar, terminal, nonterminal, whole}
 use Rattle.meaning.specs.Scheme.{Instruction, add, evaluate, expect, test, remove}
-use Rattle.meaning.specs.Machine.{Frame, Config, Lent, Look, blocked, chooseOutcome, next, nextOf, move, unexpected, needsLook, waits, isFinished, isDone, Settled, stopped, failed, advance, advanceFrom, movesLimit}
+use Rattle.meaning.specs.Machine.{Frame, Config, Lent, Coming, asLook, blocked, chooseOutcome, next, nextOf, move, unexpected, needsLook, waits, isFinished, isDone, Settled, stopped, failed, advance, advanceFrom, movesLimit}
 use Rattle.meaning.specs.Part.{frame}
 use Rattle.theory_answers.specs.Bounds.{counts}
+use Rattle.theory_answers.specs.ShapeMoves.{IsAhead}
 use Rattle.theory_base.specs.Steps.{advance-stopped, advance-failed, advance-moved}
 use Rattle.theory_program.specs.Code.{operation, low-operation}
 use Rattle.moves.specs.declared.Run.{Run}
@@ -21,7 +22,7 @@ use Rattle.moves.specs.declared.Step.the-variants.{Moved, Blocked}
 use Rattle.machine.specs.declared.Ended as Ended
 use Rattle.machine.specs.declared.Ended.the-variants.{Stopped, Failed}
 use Rattle.moves.specs.Held.{Held, Answers, AtHand, some, nothing, at-hand}
-use Rattle.moves.specs.Passing.{lookIf, lookOf}
+use Rattle.moves.specs.Passing.{comingIf, comingOf}
 
 -- what is answered for what the machine settles in
 abbrev pub Settles : Grammar → List ℕ → Lent → Settled → List ℤ → List ℕ → Ended.Ended → Type 0
@@ -34,6 +35,11 @@ pub record Running (ws : List ℕ) (m : List ℤ) (ps : List ℕ) (run : Run) : 
   pub lent : Lent
   pub config : Config
   pub held : Held grammar ws lent m ps run config
+
+-- and what comes next is a token of its grammar, with its values, or the end
+pub record Facing (ws : List ℕ) (m : List ℤ) (ps : List ℕ) (run : Run) (u : ℕ) (v : ℤ) : Type 0 where
+  pub running : Running ws m ps run
+  pub ahead : IsAhead (running .grammar) (comingOf u v)
 
 -- ---- whether to stop, by the operation's number
 
@@ -58,9 +64,9 @@ and-none true = refl
 and-none false = refl
 
 -- w says whether the machine waits, f whether the start symbol is left
-stops-by : (b : Bool) (k n u : ℕ) (c : Config) (w f : Bool) → looks k ≡ w → eqb k 6 ≡ w && f → waits (c .frames) ≡ w → isFinished c ≡ f → looks k && eitherWay b (eqb k 6) (ltb n (c .tokens)) ≡ waits (c .frames) && isDone (lookIf b u) n c
-stops-by true k n u c w f l e x y = ap₂ _&&_ l e ∙ (and-twice w f ∙ sym (ap₂ _&&_ x y))
-stops-by false k n u c w f l e x y = ap (λ z. z && ltb n (c .tokens)) (l ∙ sym x)
+stops-by : (b : Bool) (k n u : ℕ) (v : ℤ) (c : Config) (w f : Bool) → looks k ≡ w → eqb k 6 ≡ w && f → waits (c .frames) ≡ w → isFinished c ≡ f → looks k && eitherWay b (eqb k 6) (ltb n (c .tokens)) ≡ waits (c .frames) && isDone (comingIf b u v) n c
+stops-by true k n u v c w f l e x y = ap₂ _&&_ l e ∙ (and-twice w f ∙ sym (ap₂ _&&_ x y))
+stops-by false k n u v c w f l e x y = ap (λ z. z && ltb n (c .tokens)) (l ∙ sym x)
 
 looks-right : (i : Instruction) (is : List Instruction) → looks (operation i) ≡ needsLook (i ∷ is)
 looks-right (add n) is = refl
@@ -92,27 +98,27 @@ module _ {g : Grammar} {ws : List ℕ} {lent : Lent} {m : List ℤ} {ps : List �
       go (some i x o n) = omega (arith, o, low-operation i)
       go (nothing below e w l) = omega arith
 
-  pub stops-is : (u n : ℕ) → stopsAt number u n (run .tokens) ≡ waits (c .frames) && isDone (lookOf u) n c
-  stops-is u n = ap (stopsAt number u n) (h .tokens) ∙ go (at-hand h)
+  pub stops-is : (u : ℕ) (v : ℤ) (n : ℕ) → stopsAt number u n (run .tokens) ≡ waits (c .frames) && isDone (comingOf u v) n c
+  stops-is u v n = ap (stopsAt number u n) (h .tokens) ∙ go (at-hand h)
     where
-      go : AtHand h → stopsAt number u n (c .tokens) ≡ waits (c .frames) && isDone (lookOf u) n c
+      go : AtHand h → stopsAt number u n (c .tokens) ≡ waits (c .frames) && isDone (comingOf u v) n c
       go (some i x o k) =
           ap (λ j. stopsAt j u n (c .tokens)) o
-          ∙ stops-by (eqb u 63) (operation i) n u c (needsLook (i ∷ x .rest)) (eqb (x .production) whole && false) (looks-right i (x .rest)) (not-left i (x .rest) (eqb (x .production) whole)) (ap waits (x .frames)) (ap finishedOf (x .frames))
+          ∙ stops-by (eqb u 63) (operation i) n u v c (needsLook (i ∷ x .rest)) (eqb (x .production) whole && false) (looks-right i (x .rest)) (not-left i (x .rest) (eqb (x .production) whole)) (ap waits (x .frames)) (ap finishedOf (x .frames))
       go (nothing below e w l) =
           let z : number ≡ 6 = omega arith in
-          ap (λ j. stopsAt j u n (c .tokens)) z ∙ stops-by (eqb u 63) 6 n u c true true refl refl (ap waits e) (ap finishedOf e)
+          ap (λ j. stopsAt j u n (c .tokens)) z ∙ stops-by (eqb u 63) 6 n u v c true true refl refl (ap waits e) (ap finishedOf e)
 
   -- nothing is left
-  pub blocked-over : (look : Look) → number ≡ 6 → next g lent look c ≡ blocked (unexpected look)
+  pub blocked-over : (look : Coming) → number ≡ 6 → next g lent look c ≡ blocked (unexpected (asLook look))
   blocked-over look z = go (at-hand h)
     where
-      go : AtHand h → next g lent look c ≡ blocked (unexpected look)
+      go : AtHand h → next g lent look c ≡ blocked (unexpected (asLook look))
       go (some i x o n) = absurd (omega (arith, o, low-operation i))
       go (nothing below e w l) = ap (nextOf g lent look c) e
 
   -- 01: "35 .. a move after 4,294,967,295"
-  pub blocked-limit : (look : Look) → (number ≡ 6 → ⊥) → run .moves ≡ movesLimit → next g lent look c ≡ blocked 35
+  pub blocked-limit : (look : Coming) → (number ≡ 6 → ⊥) → run .moves ≡ movesLimit → next g lent look c ≡ blocked 35
   blocked-limit look z e = go (at-hand h)
     where
       go : AtHand h → next g lent look c ≡ blocked 35
@@ -122,55 +128,62 @@ module _ {g : Grammar} {ws : List ℕ} {lent : Lent} {m : List ℤ} {ps : List �
 -- ---- the loop
 
 -- from entry memory m₀ and ps₀ and run₀, the machine settles as it does from what is held now
-pub record Going (ws : List ℕ) (u : ℕ) (m₀ : List ℤ) (ps₀ : List ℕ) (run₀ : Run) (m : List ℤ) (ps : List ℕ) (run : Run) : Type 0 where
-  pub from : (g : Grammar) (lent : Lent) (c : Config) → Held g ws lent m₀ ps₀ run₀ c
-      → (d : Config) × Held g ws lent m ps run d × (advanceFrom g lent (lookOf u) c ≡ advance (movesLimit - d .moves) g lent (lookOf u) (c .tokens) d)
+pub record Going (ws : List ℕ) (u : ℕ) (v : ℤ) (m₀ : List ℤ) (ps₀ : List ℕ) (run₀ : Run) (m : List ℤ) (ps : List ℕ) (run : Run) : Type 0 where
+  pub from : (g : Grammar) (lent : Lent) (c : Config) → Held g ws lent m₀ ps₀ run₀ c → IsAhead g (comingOf u v)
+      → (d : Config) × Held g ws lent m ps run d × (advanceFrom g lent (comingOf u v) c ≡ advance (movesLimit - d .moves) g lent (comingOf u v) (c .tokens) d)
 
 -- what is answered for any configuration held at entry
-abbrev pub Advances : List ℕ → ℕ → List ℤ → List ℕ → Run → List ℤ → List ℕ → Ended.Ended → Type 0
-Advances ws u m₀ ps₀ run₀ m ps e = (g : Grammar) (lent : Lent) (c : Config) → Held g ws lent m₀ ps₀ run₀ c → Settles g ws lent (advanceFrom g lent (lookOf u) c) m ps e
+abbrev pub Advances : List ℕ → ℕ → ℤ → List ℤ → List ℕ → Run → List ℤ → List ℕ → Ended.Ended → Type 0
+Advances ws u v m₀ ps₀ run₀ m ps e = (g : Grammar) (lent : Lent) (c : Config) → Held g ws lent m₀ ps₀ run₀ c → IsAhead g (comingOf u v) → Settles g ws lent (advanceFrom g lent (comingOf u v) c) m ps e
 
-pub going-start : (ws : List ℕ) (u : ℕ) (m : List ℤ) (ps : List ℕ) (run : Run) → Going ws u m ps run m ps run
-going-start ws u m ps run = record { from = λ g lent c h. (c, h, refl) }
+pub going-start : (ws : List ℕ) (u : ℕ) (v : ℤ) (m : List ℤ) (ps : List ℕ) (run : Run) → Going ws u v m ps run m ps run
+going-start ws u v m ps run = record { from = λ g lent c h ok. (c, h, refl) }
 
-module _ {ws : List ℕ} {u : ℕ} {m₀ : List ℤ} {ps₀ : List ℕ} {run₀ : Run} {m : List ℤ} {ps : List ℕ} {run : Run} (k : Going ws u m₀ ps₀ run₀ m ps run) where
-  pub going-held : Running ws m₀ ps₀ run₀ → Running ws m ps run
-  going-held r = record { grammar = r .grammar; lent = r .lent; config = k .from (r .grammar) (r .lent) (r .config) (r .held) .0; held = k .from (r .grammar) (r .lent) (r .config) (r .held) .1 }
+module _ {ws : List ℕ} {u : ℕ} {v : ℤ} {m₀ : List ℤ} {ps₀ : List ℕ} {run₀ : Run} {m : List ℤ} {ps : List ℕ} {run : Run} (k : Going ws u v m₀ ps₀ run₀ m ps run) where
+  going-held : Facing ws m₀ ps₀ run₀ u v → Running ws m ps run
+  going-held f =
+      let r = f .running in
+      let ok = f .ahead in
+      record { grammar = r .grammar; lent = r .lent; config = k .from (r .grammar) (r .lent) (r .config) (r .held) ok .0; held = k .from (r .grammar) (r .lent) (r .config) (r .held) ok .1 }
 
-  pub going-stop : stopsAt (getD ws (run .at) 0 % 8) u (run₀ .tokens) (run .tokens) ≡ true → Advances ws u m₀ ps₀ run₀ m ps (Stopped run)
-  going-stop e g lent c h =
-      let q = k .from g lent c h in
-      let s : waits (q .0 .frames) && isDone (lookOf u) (c .tokens) (q .0) ≡ true = sym (stops-is (q .1) u (c .tokens)) ∙ subst (λ n. stopsAt (getD ws (run .at) 0 % 8) u n (run .tokens) ≡ true) (h .tokens) e in
-      (q .0, q .2 ∙ advance-stopped g lent (lookOf u) (c .tokens) (movesLimit - q .0 .moves) (q .0) s, q .1)
+  pub going-faced : Facing ws m₀ ps₀ run₀ u v → Facing ws m ps run u v
+  unfolding going-held
+  going-faced f = record { running = going-held f; ahead = f .ahead }
+
+  pub going-stop : stopsAt (getD ws (run .at) 0 % 8) u (run₀ .tokens) (run .tokens) ≡ true → Advances ws u v m₀ ps₀ run₀ m ps (Stopped run)
+  going-stop e g lent c h ok =
+      let q = k .from g lent c h ok in
+      let s : waits (q .0 .frames) && isDone (comingOf u v) (c .tokens) (q .0) ≡ true = sym (stops-is (q .1) u v (c .tokens)) ∙ subst (λ n. stopsAt (getD ws (run .at) 0 % 8) u n (run .tokens) ≡ true) (h .tokens) e in
+      (q .0, q .2 ∙ advance-stopped g lent (comingOf u v) (c .tokens) (movesLimit - q .0 .moves) (q .0) s, q .1)
 
   module _ (e : stopsAt (getD ws (run .at) 0 % 8) u (run₀ .tokens) (run .tokens) ≡ false) where
-    goes-on : (g : Grammar) (lent : Lent) (c : Config) (h : Held g ws lent m₀ ps₀ run₀ c) → let d = k .from g lent c h .0 in waits (d .frames) && isDone (lookOf u) (c .tokens) d ≡ false
-    goes-on g lent c h = let q = k .from g lent c h in sym (stops-is (q .1) u (c .tokens)) ∙ subst (λ n. stopsAt (getD ws (run .at) 0 % 8) u n (run .tokens) ≡ false) (h .tokens) e
+    goes-on : (g : Grammar) (lent : Lent) (c : Config) (h : Held g ws lent m₀ ps₀ run₀ c) (ok : IsAhead g (comingOf u v)) → let d = k .from g lent c h ok .0 in waits (d .frames) && isDone (comingOf u v) (c .tokens) d ≡ false
+    goes-on g lent c h ok = let q = k .from g lent c h ok in sym (stops-is (q .1) u v (c .tokens)) ∙ subst (λ n. stopsAt (getD ws (run .at) 0 % 8) u n (run .tokens) ≡ false) (h .tokens) e
 
     -- a move that is refused, in memory as it was
-    pub going-fail : (j : ℕ) → ((g : Grammar) (lent : Lent) (d : Config) → Held g ws lent m ps run d → next g lent (lookOf u) d ≡ blocked j) → Advances ws u m₀ ps₀ run₀ m ps (Failed run j)
-    going-fail j f g lent c h =
-        let q = k .from g lent c h in
-        (q .0, q .2 ∙ advance-failed g lent (lookOf u) (c .tokens) (movesLimit - q .0 .moves) (q .0) j (goes-on g lent c h) (f g lent (q .0) (q .1)), q .1)
+    pub going-fail : (j : ℕ) → ((g : Grammar) (lent : Lent) (d : Config) → Held g ws lent m ps run d → next g lent (comingOf u v) d ≡ blocked j) → Advances ws u v m₀ ps₀ run₀ m ps (Failed run j)
+    going-fail j f g lent c h ok =
+        let q = k .from g lent c h ok in
+        (q .0, q .2 ∙ advance-failed g lent (comingOf u v) (c .tokens) (movesLimit - q .0 .moves) (q .0) j (goes-on g lent c h ok) (f g lent (q .0) (q .1)), q .1)
 
-    pub going-blocked : (m′ : List ℤ) (ps′ : List ℕ) (j : ℕ) → Answers ws m ps run (lookOf u) m′ ps′ (Blocked j) → Advances ws u m₀ ps₀ run₀ m′ ps′ (Failed run j)
-    going-blocked m′ ps′ j a g lent c h =
-        let q = k .from g lent c h in
-        let s = a g lent (q .0) (q .1) in
-        (q .0, q .2 ∙ advance-failed g lent (lookOf u) (c .tokens) (movesLimit - q .0 .moves) (q .0) j (goes-on g lent c h) (s .0), subst₂ (λ x y. Held g ws lent x y run (q .0)) (sym (s .1)) (sym (s .2)) (q .1))
+    pub going-blocked : (m′ : List ℤ) (ps′ : List ℕ) (j : ℕ) → Answers ws m ps run (comingOf u v) m′ ps′ (Blocked j) → Advances ws u v m₀ ps₀ run₀ m′ ps′ (Failed run j)
+    going-blocked m′ ps′ j a g lent c h ok =
+        let q = k .from g lent c h ok in
+        let s = a g lent (q .0) (q .1) ok in
+        (q .0, q .2 ∙ advance-failed g lent (comingOf u v) (c .tokens) (movesLimit - q .0 .moves) (q .0) j (goes-on g lent c h ok) (s .0), subst₂ (λ x y. Held g ws lent x y run (q .0)) (sym (s .1)) (sym (s .2)) (q .1))
 
-    pub going-on : (m′ : List ℤ) (ps′ : List ℕ) (run′ : Run) → run .moves < movesLimit → Answers ws m ps run (lookOf u) m′ ps′ (Moved run′) → Going ws u m₀ ps₀ run₀ m′ ps′ run′
-    going-on m′ ps′ run′ limit a = record { from = λ g lent c h. more g lent c h (k .from g lent c h .0) (k .from g lent c h .1) (k .from g lent c h .2) (goes-on g lent c h) }
+    pub going-on : (m′ : List ℤ) (ps′ : List ℕ) (run′ : Run) → run .moves < movesLimit → Answers ws m ps run (comingOf u v) m′ ps′ (Moved run′) → Going ws u v m₀ ps₀ run₀ m′ ps′ run′
+    going-on m′ ps′ run′ limit a = record { from = λ g lent c h ok. more g lent c h ok (k .from g lent c h ok .0) (k .from g lent c h ok .1) (k .from g lent c h ok .2) (goes-on g lent c h ok) }
       where
-        more : (g : Grammar) (lent : Lent) (c : Config) → Held g ws lent m₀ ps₀ run₀ c → (d : Config) → Held g ws lent m ps run d → advanceFrom g lent (lookOf u) c ≡ advance (movesLimit - d .moves) g lent (lookOf u) (c .tokens) d → waits (d .frames) && isDone (lookOf u) (c .tokens) d ≡ false
-            → (f : Config) × Held g ws lent m′ ps′ run′ f × (advanceFrom g lent (lookOf u) c ≡ advance (movesLimit - f .moves) g lent (lookOf u) (c .tokens) f)
-        more g lent c h d q z n =
-            let s = a g lent d q in
-            let left : movesLimit - d .moves ≡ suc (movesLimit - s .0 .moves) = omega (arith, counts g lent (lookOf u) d (s .0) (s .1) .moves, q .moves) in
-            (s .0, s .2, z ∙ (ap (λ j. advance j g lent (lookOf u) (c .tokens) d) left ∙ advance-moved g lent (lookOf u) (c .tokens) (movesLimit - s .0 .moves) d (s .0) n (s .1)))
+        more : (g : Grammar) (lent : Lent) (c : Config) → Held g ws lent m₀ ps₀ run₀ c → IsAhead g (comingOf u v) → (d : Config) → Held g ws lent m ps run d → advanceFrom g lent (comingOf u v) c ≡ advance (movesLimit - d .moves) g lent (comingOf u v) (c .tokens) d → waits (d .frames) && isDone (comingOf u v) (c .tokens) d ≡ false
+            → (f : Config) × Held g ws lent m′ ps′ run′ f × (advanceFrom g lent (comingOf u v) c ≡ advance (movesLimit - f .moves) g lent (comingOf u v) (c .tokens) f)
+        more g lent c h ok d q z n =
+            let s = a g lent d q ok in
+            let left : movesLimit - d .moves ≡ suc (movesLimit - s .0 .moves) = omega (arith, counts g lent (comingOf u v) d (s .0) (s .1) .moves, q .moves) in
+            (s .0, s .2, z ∙ (ap (λ j. advance j g lent (comingOf u v) (c .tokens) d) left ∙ advance-moved g lent (comingOf u v) (c .tokens) (movesLimit - s .0 .moves) d (s .0) n (s .1)))
 
 -- each move counts
-pub counts-one : {ws : List ℕ} {m : List ℤ} {ps : List ℕ} {run : Run} (look : Look) (m′ : List ℤ) (ps′ : List ℕ) (run′ : Run) → Answers ws m ps run look m′ ps′ (Moved run′) → Running ws m ps run → run′ .moves ≡ suc (run .moves)
-counts-one look m′ ps′ run′ a r =
-    let s = a (r .grammar) (r .lent) (r .config) (r .held) in
+pub counts-one : {ws : List ℕ} {m : List ℤ} {ps : List ℕ} {run : Run} (look : Coming) (m′ : List ℤ) (ps′ : List ℕ) (run′ : Run) → Answers ws m ps run look m′ ps′ (Moved run′) → (r : Running ws m ps run) → IsAhead (r .grammar) look → run′ .moves ≡ suc (run .moves)
+counts-one look m′ ps′ run′ a r ok =
+    let s = a (r .grammar) (r .lent) (r .config) (r .held) ok in
     s .2 .moves ∙ (counts (r .grammar) (r .lent) look (r .config) (s .0) (s .1) .moves ∙ ap suc (sym (r .held .moves)))

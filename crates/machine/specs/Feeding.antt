@@ -1,100 +1,204 @@
 -- What comes next, one after the other: tokens that are fed, or the end; as memory and the program's words hold the configuration.
-use Prim.Native.Nat.{ℕ, suc, _+_, _-_, _≤_, _<_}
+use Prim.Native.Nat.{ℕ, zero, suc, _+_, _-_, _/_, _%_, _^_, _≤_, _<_}
 use native.Mathlib.Omega.{arith}
 use mathlib.Core.Path.{_≡_, refl, sym, ap, ap₂, _∙_, subst}
-use mathlib.Core.Bool.{Bool, true, false}
+use mathlib.Core.Bool.{Bool, true, false, not}
 use mathlib.Core.List.{List, [], _∷_}
 use lib.ListN.{length, getD, drop, drop-of-length-le}
-use lib.Seq.{drop-cons}
-use lib.Dec.{ltb}
-use lib.IntN.{ℤ}
-use borrow.Author.Tests.{lt-ltb, le-ltb, ltb-true, ne-eqb}
-use Rattle.meaning.specs.Grammar.{Grammar}
-use Rattle.meaning.specs.Rules.{WellFormed}
-use Rattle.meaning.specs.Machine.{Config, Lent, Settled, stopped, failed, token, advanceFrom, feedToken, feedAll, tokensLimit}
-use Rattle.theory_program.specs.Records.{segment-words}
+use lib.Dec.{T, eqb, eqb→eq, ltb, le→leb}
+use lib.IntN.{ℤ, pos, negsuc}
+use lib.Signed.{leZ}
+use mir.Syntax.{w32}
+use mir.Val.{SFits}
+use borrow.Author.Tests.{lt-ltb, le-ltb, ltb-true, eq-eqb, ne-eqb}
+use Rattle.meaning.specs.Base.{any}
+use Rattle.meaning.specs.Grammar.{Grammar, Token, carried, leafOf, leaves}
+use Rattle.meaning.specs.Rules.{fourBytes, WellFormed}
+use Rattle.meaning.specs.Value.{mark}
+use Rattle.meaning.specs.Calls.{isMark, tokensFrom}
+use Rattle.meaning.specs.Machine.{Config, Lent, Coming, comes, ends, Settled, stopped, failed, advanceFrom, feedToken, feedAll, finishAll, tokensLimit}
+use Rattle.theory_base.specs.Members.{true→T, and}
+use Rattle.theory_base.specs.Feeds.{leaf-of}
+use Rattle.theory_sets.specs.Widths.{both-true}
+use Rattle.theory_answers.specs.FitTest.{mark-is}
+use Rattle.theory_answers.specs.ShapeMoves.{IsAhead}
+use Rattle.theory_program.specs.Addresses.{Begins}
+use Rattle.theory_program.specs.Records.{segment-words, carrier-word}
 use Rattle.moves.specs.declared.Run.{Run}
 use Rattle.machine.specs.declared.Ended as Ended
 use Rattle.machine.specs.declared.Ended.the-variants.{Stopped, Failed}
 use Rattle.moves.specs.Held.{Held}
-use Rattle.moves.specs.Passing.{lookIf, lookOf}
-use Rattle.machine.specs.Advancing.{Settles, Running, Advances}
+use Rattle.moves.specs.Passing.{comingIf, comingOf}
+use Rattle.machine.specs.Advancing.{Settles, Running, Facing, Advances}
+
+-- ---- what comes next, as a grammar sees it
+
+-- a token of kind u and value v; 63 is the end
+abbrev comesIf : Bool → Grammar → ℕ → ℤ → Coming
+comesIf true g u v = ends
+comesIf false g u v = comes (leafOf g (record { kind = u; value = v }))
+
+abbrev pub comesTo : Grammar → ℕ → ℤ → Coming
+comesTo g u v = comesIf (eqb u 63) g u v
+
+-- the program's bit of terminal u
+abbrev pub carriesAt : List ℕ → ℕ → Bool
+carriesAt ws u = eqb (getD ws (7 + u / 32) 0 / 2 ^ (u % 32) % 2) 1
+
+abbrev valueIf : Bool → ℤ → ℤ
+valueIf true v = v
+valueIf false v = mark
+
+-- its value, or the mark where it carries none
+abbrev pub valueAt : List ℕ → ℕ → ℤ → ℤ
+valueAt ws u v = valueIf (carriesAt ws u) v
+
+module _ (ws : List ℕ) (u : ℕ) (v : ℤ) where
+  pub value-there : carriesAt ws u ≡ true → v ≡ valueAt ws u v
+  value-there e = sym (ap (λ b. valueIf b v) e)
+
+  pub value-none : carriesAt ws u ≡ false → mark ≡ valueAt ws u v
+  value-none e = sym (ap (λ b. valueIf b v) e)
+
+-- a signed 32-bit value has four bytes
+pub four-of : (v : ℤ) → SFits w32 v → T (fourBytes v)
+four-of (pos n) f = le→leb n 2147483647 (omega (arith, f .sfits))
+four-of (negsuc n) f = and (leZ (negsuc 2147483647) (negsuc n)) true (le→leb n 2147483647 (omega (arith, f .sfits))) tt
+
+not-mark : (v : ℤ) → T (fourBytes v) → isMark v ≡ false
+not-mark v h = go (isMark v) refl
+  where
+    go : (b : Bool) → isMark v ≡ b → isMark v ≡ false
+    go false e = e
+    go true e = absurd (subst (λ z. T (fourBytes z)) (mark-is v (true→T (isMark v) e)) h)
+
+module _ {g : Grammar} {ws : List ℕ} (b : Begins g ws) (u : ℕ) (v : ℤ) (small : u < 64) (four : T (fourBytes v)) where
+  carries-is : carriesAt ws u ≡ any (eqb u) (g .carrying)
+  carries-is =
+      let n : ℕ = getD ws (7 + u / 32) 0 / 2 ^ (u % 32) % 2 in
+      let h = carrier-word b u small in
+      both-true (carriesAt ws u) (any (eqb u) (g .carrying)) (λ t. h .0 (eqb→eq n 1 t)) (λ t. true→T (carriesAt ws u) (eq-eqb n 1 (h .1 t)))
+
+  abbrev seen : Bool → Bool → Coming
+  seen true c = ends
+  seen false c = comes (record { kind = u; values = carried c v })
+
+  seen-is : (e : Bool) → seen e (any (eqb u) (g .carrying)) ≡ comesIf e g u v
+  seen-is true = refl
+  seen-is false = refl
+
+  -- what the code brings is what comes
+  pub comes-is : comingOf u (valueAt ws u v) ≡ comesTo g u v
+  comes-is = go (eqb u 63) (any (eqb u) (g .carrying)) (ap (λ z. valueIf z v) carries-is) ∙ seen-is (eqb u 63)
+    where
+      go : (e c : Bool) → valueAt ws u v ≡ valueIf c v → comingIf e u (valueAt ws u v) ≡ seen e c
+      go true c q = refl
+      go false true q = ap (λ z. comes (record { kind = u; values = carried (not (isMark z)) z })) q ∙ ap (λ z. comes (record { kind = u; values = carried (not z) v })) (not-mark v four)
+      go false false q = ap (λ z. comes (record { kind = u; values = carried (not (isMark z)) z })) q
+
+  pub comes-ahead : IsAhead g (comesTo g u v)
+  comes-ahead = go (eqb u 63)
+    where
+      go : (e : Bool) → IsAhead g (comesIf e g u v)
+      go true = tt
+      go false = leaf-of g (record { kind = u; value = v }) four
+
+-- what the code faces
+pub facing : {ws : List ℕ} {m : List ℤ} {ps : List ℕ} {run : Run} → Running ws m ps run → (u : ℕ) (v : ℤ) → u < 64 → T (fourBytes v) → Facing ws m ps run u (valueAt ws u v)
+facing r u v small four =
+    let b = r .held .begins in
+    record { running = r; ahead = subst (IsAhead (r .grammar)) (sym (comes-is b u v small four)) (comes-ahead b u v small four) }
 
 -- ---- with a limit on the tokens read before, and a bound on what comes next
 
-abbrev chosen : Grammar → Lent → ℕ → Config → Bool → Bool → Settled
-chosen g lent u c a b = elim a [ true ↦ failed c 35 | false ↦ elim b [ true ↦ advanceFrom g lent (lookOf u) c | false ↦ failed c 20 ] ]
+abbrev chosen : Grammar → Lent → ℕ → ℤ → Config → Bool → Bool → Settled
+chosen g lent u v c a b = elim a [ true ↦ failed c 35 | false ↦ elim b [ true ↦ advanceFrom g lent (comesTo g u v) c | false ↦ failed c 20 ] ]
 
-abbrev pub takeLook : ℕ → ℕ → Grammar → Lent → ℕ → Config → Settled
-takeLook bound most g lent u c = chosen g lent u c (ltb most (c .tokens)) (ltb u bound)
+abbrev pub takeLook : ℕ → ℕ → Grammar → Lent → ℕ → ℤ → Config → Settled
+takeLook bound most g lent u v c = chosen g lent u v c (ltb most (c .tokens)) (ltb u bound)
 
 abbrev goingOn : Settled → (Config → Settled) → Settled
 goingOn (failed d k) f = failed d k
 goingOn (stopped d) f = f d
 
-abbrev pub takeLooks : ℕ → ℕ → Grammar → Lent → List ℕ → Config → Settled
+abbrev pub takeLooks : ℕ → ℕ → Grammar → Lent → List Token → Config → Settled
 takeLooks bound most g lent [] c = stopped c
-takeLooks bound most g lent (u ∷ us) c = goingOn (takeLook bound most g lent u c) (takeLooks bound most g lent us)
+takeLooks bound most g lent (t ∷ ts) c = goingOn (takeLook bound most g lent (t .kind) (t .value) c) (takeLooks bound most g lent ts)
 
 -- what is answered, whatever configuration is held at entry
 abbrev pub Answered : List ℕ → (Grammar → Lent → Config → Settled) → List ℤ → List ℕ → Run → List ℤ → List ℕ → Ended.Ended → Type 0
 Answered ws f m₀ ps₀ run₀ m ps e = (g : Grammar) (lent : Lent) (c : Config) → Held g ws lent m₀ ps₀ run₀ c → Settles g ws lent (f g lent c) m ps e
 
-abbrev pub Takes : ℕ → ℕ → List ℕ → ℕ → List ℤ → List ℕ → Run → List ℤ → List ℕ → Ended.Ended → Type 0
-Takes bound most ws u = Answered ws (λ g lent c. takeLook bound most g lent u c)
+abbrev pub Takes : ℕ → ℕ → List ℕ → ℕ → ℤ → List ℤ → List ℕ → Run → List ℤ → List ℕ → Ended.Ended → Type 0
+Takes bound most ws u v = Answered ws (λ g lent c. takeLook bound most g lent u v c)
 
-abbrev pub TakesAll : ℕ → ℕ → List ℕ → List ℕ → List ℤ → List ℕ → Run → List ℤ → List ℕ → Ended.Ended → Type 0
-TakesAll bound most ws us = Answered ws (λ g lent c. takeLooks bound most g lent us c)
+abbrev pub TakesAll : ℕ → ℕ → List ℕ → List ℕ → List ℤ → List ℤ → List ℕ → Run → List ℤ → List ℕ → Ended.Ended → Type 0
+TakesAll bound most ws us vs = Answered ws (λ g lent c. takeLooks bound most g lent (tokensFrom us vs) c)
 
-abbrev pub Feeds : List ℕ → List ℕ → List ℤ → List ℕ → Run → List ℤ → List ℕ → Ended.Ended → Type 0
-Feeds ws ts = Answered ws (λ g lent c. feedAll g lent ts c)
+abbrev pub Feeds : List ℕ → List ℕ → List ℤ → List ℤ → List ℕ → Run → List ℤ → List ℕ → Ended.Ended → Type 0
+Feeds ws ks vs = Answered ws (λ g lent c. feedAll g lent (leaves g (tokensFrom ks vs)) c)
 
 -- ---- one look
 
-module _ {ws : List ℕ} {m : List ℤ} {ps : List ℕ} {run : Run} (bound most u : ℕ) where
-  pub take-last : most < run .tokens → Takes bound most ws u m ps run m ps (Failed run 35)
-  take-last l g lent c h = (c, ap (λ a. chosen g lent u c a (ltb u bound)) (lt-ltb most (c .tokens) (omega (arith, h .tokens))), h)
+module _ {ws : List ℕ} {m : List ℤ} {ps : List ℕ} {run : Run} (bound most u : ℕ) (v : ℤ) where
+  pub take-last : most < run .tokens → Takes bound most ws u v m ps run m ps (Failed run 35)
+  take-last l g lent c h = (c, ap (λ a. chosen g lent u v c a (ltb u bound)) (lt-ltb most (c .tokens) (omega (arith, h .tokens))), h)
 
-  pub take-unknown : run .tokens ≤ most → bound ≤ u → Takes bound most ws u m ps run m ps (Failed run 20)
-  take-unknown l b g lent c h = (c, ap₂ (chosen g lent u c) (le-ltb most (c .tokens) (omega (arith, h .tokens))) (le-ltb u bound b), h)
+  pub take-unknown : run .tokens ≤ most → bound ≤ u → Takes bound most ws u v m ps run m ps (Failed run 20)
+  take-unknown l b g lent c h = (c, ap₂ (chosen g lent u v c) (le-ltb most (c .tokens) (omega (arith, h .tokens))) (le-ltb u bound b), h)
 
-  pub take-known : (m′ : List ℤ) (ps′ : List ℕ) (e : Ended.Ended) → run .tokens ≤ most → u < bound → Advances ws u m ps run m′ ps′ e → Takes bound most ws u m ps run m′ ps′ e
-  take-known m′ ps′ e l b a g lent c h = subst (λ o. Settles g ws lent o m′ ps′ e) (sym (ap₂ (chosen g lent u c) (le-ltb most (c .tokens) (omega (arith, h .tokens))) (lt-ltb u bound b))) (a g lent c h)
+  pub take-known : (m′ : List ℤ) (ps′ : List ℕ) (e : Ended.Ended) → run .tokens ≤ most → u < bound → u < 64 → T (fourBytes v) → Advances ws u (valueAt ws u v) m ps run m′ ps′ e → Takes bound most ws u v m ps run m′ ps′ e
+  take-known m′ ps′ e l b small four a g lent c h =
+      let same = comes-is (h .begins) u v small four in
+      let ok = subst (IsAhead g) (sym same) (comes-ahead (h .begins) u v small four) in
+      subst (λ o. Settles g ws lent o m′ ps′ e) (ap (λ x. advanceFrom g lent x c) same ∙ sym (ap₂ (chosen g lent u v c) (le-ltb most (c .tokens) (omega (arith, h .tokens))) (lt-ltb u bound b))) (a g lent c h ok)
 
 -- ---- a list of them
 
+-- kinds and values beside each other
+tokens-few : (us : List ℕ) (vs : List ℤ) → length (tokensFrom us vs) ≤ length us
+tokens-few [] vs = omega arith
+tokens-few (u ∷ us) [] = omega arith
+tokens-few (u ∷ us) (v ∷ vs) = omega (arith, tokens-few us vs)
+
+tokens-turn : (us : List ℕ) (vs : List ℤ) (i : ℕ) → length us ≡ length vs → i < length us → drop i (tokensFrom us vs) ≡ record { kind = getD us i 0; value = getD vs i (pos 0) } ∷ drop (suc i) (tokensFrom us vs)
+tokens-turn [] vs i e l = absurd (omega arith)
+tokens-turn (u ∷ us) [] i e l = absurd (omega arith)
+tokens-turn (u ∷ us) (v ∷ vs) zero e l = refl
+tokens-turn (u ∷ us) (v ∷ vs) (suc i) e l = tokens-turn us vs i (omega arith) (omega arith)
+
 -- the first i are taken, and the rest are to come
-pub record TakenTo (bound most : ℕ) (ws us : List ℕ) (m₀ : List ℤ) (ps₀ : List ℕ) (run₀ : Run) (i : ℕ) (m : List ℤ) (ps : List ℕ) (run : Run) : Type 0 where
-  pub from : (g : Grammar) (lent : Lent) (c : Config) → Held g ws lent m₀ ps₀ run₀ c → (d : Config) × Held g ws lent m ps run d × (takeLooks bound most g lent us c ≡ takeLooks bound most g lent (drop i us) d)
+pub record TakenTo (bound most : ℕ) (ws us : List ℕ) (vs m₀ : List ℤ) (ps₀ : List ℕ) (run₀ : Run) (i : ℕ) (m : List ℤ) (ps : List ℕ) (run : Run) : Type 0 where
+  pub from : (g : Grammar) (lent : Lent) (c : Config) → Held g ws lent m₀ ps₀ run₀ c → (d : Config) × Held g ws lent m ps run d × (takeLooks bound most g lent (tokensFrom us vs) c ≡ takeLooks bound most g lent (drop i (tokensFrom us vs)) d)
 
-pub taken-start : (bound most : ℕ) (ws us : List ℕ) (m : List ℤ) (ps : List ℕ) (run : Run) → TakenTo bound most ws us m ps run 0 m ps run
-taken-start bound most ws us m ps run = record { from = λ g lent c h. (c, h, refl) }
+pub taken-start : (bound most : ℕ) (ws us : List ℕ) (vs m : List ℤ) (ps : List ℕ) (run : Run) → TakenTo bound most ws us vs m ps run 0 m ps run
+taken-start bound most ws us vs m ps run = record { from = λ g lent c h. (c, h, refl) }
 
-module _ {bound most : ℕ} {ws us : List ℕ} {m₀ : List ℤ} {ps₀ : List ℕ} {run₀ : Run} {i : ℕ} {m : List ℤ} {ps : List ℕ} {run : Run} (k : TakenTo bound most ws us m₀ ps₀ run₀ i m ps run) where
+module _ {bound most : ℕ} {ws us : List ℕ} {vs m₀ : List ℤ} {ps₀ : List ℕ} {run₀ : Run} {i : ℕ} {m : List ℤ} {ps : List ℕ} {run : Run} (k : TakenTo bound most ws us vs m₀ ps₀ run₀ i m ps run) where
   pub taken-held : Running ws m₀ ps₀ run₀ → Running ws m ps run
   taken-held r = record { grammar = r .grammar; lent = r .lent; config = k .from (r .grammar) (r .lent) (r .config) (r .held) .0; held = k .from (r .grammar) (r .lent) (r .config) (r .held) .1 }
 
-  pub taken-all : length us ≤ i → TakesAll bound most ws us m₀ ps₀ run₀ m ps (Stopped run)
+  pub taken-all : length us ≤ i → TakesAll bound most ws us vs m₀ ps₀ run₀ m ps (Stopped run)
   taken-all l g lent c h =
       let q = k .from g lent c h in
-      (q .0, q .2 ∙ ap (λ vs. takeLooks bound most g lent vs (q .0)) (drop-of-length-le us l), q .1)
+      (q .0, q .2 ∙ ap (λ ts. takeLooks bound most g lent ts (q .0)) (drop-of-length-le (tokensFrom us vs) {i = i} (omega (arith, tokens-few us vs))), q .1)
 
-  module _ (l : i < length us) where
-    turn : (g : Grammar) (lent : Lent) (c : Config) (h : Held g ws lent m₀ ps₀ run₀ c) (o : Settled) → takeLook bound most g lent (getD us i 0) (k .from g lent c h .0) ≡ o → takeLooks bound most g lent us c ≡ goingOn o (takeLooks bound most g lent (drop (i + 1) us))
+  module _ (even : length us ≡ length vs) (l : i < length us) where
+    turn : (g : Grammar) (lent : Lent) (c : Config) (h : Held g ws lent m₀ ps₀ run₀ c) (o : Settled) → takeLook bound most g lent (getD us i 0) (getD vs i (pos 0)) (k .from g lent c h .0) ≡ o → takeLooks bound most g lent (tokensFrom us vs) c ≡ goingOn o (takeLooks bound most g lent (drop (i + 1) (tokensFrom us vs)))
     turn g lent c h o e =
         let s : suc i ≡ i + 1 = omega arith in
         let q = k .from g lent c h in
         q .2
-        ∙ (ap (λ vs. takeLooks bound most g lent vs (q .0)) (drop-cons us i 0 l ∙ ap (λ j. getD us i 0 ∷ drop j us) s)
-        ∙ ap (λ z. goingOn z (takeLooks bound most g lent (drop (i + 1) us))) e)
+        ∙ (ap (λ ts. takeLooks bound most g lent ts (q .0)) (tokens-turn us vs i even l ∙ ap (λ j. record { kind = getD us i 0; value = getD vs i (pos 0) } ∷ drop j (tokensFrom us vs)) s)
+        ∙ ap (λ z. goingOn z (takeLooks bound most g lent (drop (i + 1) (tokensFrom us vs)))) e)
 
-    pub taken-fail : (m′ : List ℤ) (ps′ : List ℕ) (run′ : Run) (j : ℕ) → Takes bound most ws (getD us i 0) m ps run m′ ps′ (Failed run′ j) → TakesAll bound most ws us m₀ ps₀ run₀ m′ ps′ (Failed run′ j)
+    pub taken-fail : (m′ : List ℤ) (ps′ : List ℕ) (run′ : Run) (j : ℕ) → Takes bound most ws (getD us i 0) (getD vs i (pos 0)) m ps run m′ ps′ (Failed run′ j) → TakesAll bound most ws us vs m₀ ps₀ run₀ m′ ps′ (Failed run′ j)
     taken-fail m′ ps′ run′ j a g lent c h =
         let q = k .from g lent c h in
         let s = a g lent (q .0) (q .1) in
         (s .0, turn g lent c h (failed (s .0) j) (s .1), s .2)
 
-    pub taken-on : (m′ : List ℤ) (ps′ : List ℕ) (run′ : Run) → Takes bound most ws (getD us i 0) m ps run m′ ps′ (Stopped run′) → TakenTo bound most ws us m₀ ps₀ run₀ (i + 1) m′ ps′ run′
+    pub taken-on : (m′ : List ℤ) (ps′ : List ℕ) (run′ : Run) → Takes bound most ws (getD us i 0) (getD vs i (pos 0)) m ps run m′ ps′ (Stopped run′) → TakenTo bound most ws us vs m₀ ps₀ run₀ (i + 1) m′ ps′ run′
     taken-on m′ ps′ run′ a =
         record {
           from = λ g lent c h.
@@ -106,38 +210,44 @@ module _ {bound most : ℕ} {ws us : List ℕ} {m₀ : List ℤ} {ps₀ : List �
 -- ---- tokens, and one look alone
 
 -- 01: "35 a token after 65,535", "20 token not below T"
-token-taken : (g : Grammar) (lent : Lent) (t : ℕ) (c : Config) → WellFormed g → takeLook (g .terminals) (tokensLimit - 1) g lent t c ≡ feedToken g lent t c
-token-taken g lent t c w = go (ltb (tokensLimit - 1) (c .tokens)) (ltb t (g .terminals)) refl
+token-taken : (g : Grammar) (lent : Lent) (t : Token) (c : Config) → WellFormed g → takeLook (g .terminals) (tokensLimit - 1) g lent (t .kind) (t .value) c ≡ feedToken g lent (leafOf g t) c
+token-taken g lent t c w = go (ltb (tokensLimit - 1) (c .tokens)) (ltb (t .kind) (g .terminals)) refl
   where
-    go : (a b : Bool) → ltb t (g .terminals) ≡ b → chosen g lent t c a b ≡ elim a as (λ z. Settled) [ true ↦ failed c 35 | false ↦ elim b as (λ z. Settled) [ true ↦ advanceFrom g lent (token t) c | false ↦ failed c 20 ] ]
+    go : (a b : Bool) → ltb (t .kind) (g .terminals) ≡ b → chosen g lent (t .kind) (t .value) c a b ≡ elim a as (λ z. Settled) [ true ↦ failed c 35 | false ↦ elim b as (λ z. Settled) [ true ↦ advanceFrom g lent (comes (leafOf g t)) c | false ↦ failed c 20 ] ]
     go true b e = refl
     go false false e = refl
-    go false true e = ap (λ x. advanceFrom g lent (lookIf x t) c) (ne-eqb t 63 (λ z. omega (arith, ltb-true t (g .terminals) e, w .terminals .1)))
+    go false true e = ap (λ x. advanceFrom g lent (comesIf x g (t .kind) (t .value)) c) (ne-eqb (t .kind) 63 (λ z. omega (arith, ltb-true (t .kind) (g .terminals) e, w .terminals .1)))
 
-tokens-taken : (g : Grammar) (lent : Lent) (ts : List ℕ) (c : Config) → WellFormed g → takeLooks (g .terminals) (tokensLimit - 1) g lent ts c ≡ feedAll g lent ts c
+tokens-taken : (g : Grammar) (lent : Lent) (ts : List Token) (c : Config) → WellFormed g → takeLooks (g .terminals) (tokensLimit - 1) g lent ts c ≡ feedAll g lent (leaves g ts) c
 tokens-taken g lent [] c w = refl
-tokens-taken g lent (t ∷ ts) c w = ap (λ o. goingOn o (takeLooks (g .terminals) (tokensLimit - 1) g lent ts)) (token-taken g lent t c w) ∙ go (feedToken g lent t c) (λ d. tokens-taken g lent ts d w)
+tokens-taken g lent (t ∷ ts) c w = ap (λ o. goingOn o (takeLooks (g .terminals) (tokensLimit - 1) g lent ts)) (token-taken g lent t c w) ∙ go (feedToken g lent (leafOf g t) c) (λ d. tokens-taken g lent ts d w)
   where
-    go : (o : Settled) → ((d : Config) → takeLooks (g .terminals) (tokensLimit - 1) g lent ts d ≡ feedAll g lent ts d)
-        → goingOn o (takeLooks (g .terminals) (tokensLimit - 1) g lent ts) ≡ elim o as (λ z. Settled) [ failed d k ↦ failed d k | stopped d ↦ feedAll g lent ts d ]
+    go : (o : Settled) → ((d : Config) → takeLooks (g .terminals) (tokensLimit - 1) g lent ts d ≡ feedAll g lent (leaves g ts) d)
+        → goingOn o (takeLooks (g .terminals) (tokensLimit - 1) g lent ts) ≡ elim o as (λ z. Settled) [ failed d k ↦ failed d k | stopped d ↦ feedAll g lent (leaves g ts) d ]
     go (failed d k) f = refl
     go (stopped d) f = f d
 
-look-taken : (g : Grammar) (lent : Lent) (most u : ℕ) (c : Config) → c .tokens ≤ most → u < 64 → takeLooks 64 most g lent (u ∷ []) c ≡ advanceFrom g lent (lookOf u) c
-look-taken g lent most u c l b = ap (λ o. goingOn o stopped) (ap₂ (chosen g lent u c) (le-ltb most (c .tokens) l) (lt-ltb u 64 b)) ∙ go (advanceFrom g lent (lookOf u) c)
+-- the end of the segment, whatever value stands beside it
+end-taken : (g : Grammar) (lent : Lent) (most : ℕ) (v : ℤ) (c : Config) → c .tokens ≤ most → takeLooks 64 most g lent (record { kind = 63; value = v } ∷ []) c ≡ finishAll g lent c
+end-taken g lent most v c l = ap (λ o. goingOn o stopped) (ap (λ a. chosen g lent 63 v c a true) (le-ltb most (c .tokens) l)) ∙ go (finishAll g lent c)
   where
     go : (o : Settled) → goingOn o stopped ≡ o
     go (failed d k) = refl
     go (stopped d) = refl
 
+-- what the end of the segment brings about
+abbrev pub Finishes : List ℕ → List ℤ → List ℕ → Run → List ℤ → List ℕ → Ended.Ended → Type 0
+Finishes ws = Answered ws (λ g lent c. finishAll g lent c)
+
 module _ {ws : List ℕ} {m : List ℤ} {ps : List ℕ} {run : Run} (m′ : List ℤ) (ps′ : List ℕ) (e : Ended.Ended) where
-  pub tokens-fed : (bound : ℕ) (ts : List ℕ) → bound ≡ getD ws 3 0 → TakesAll bound (tokensLimit - 1) ws ts m ps run m′ ps′ e → Feeds ws ts m ps run m′ ps′ e
-  tokens-fed bound ts b a g lent c h =
-      let same : takeLooks bound (tokensLimit - 1) g lent ts c ≡ feedAll g lent ts c = ap (λ k. takeLooks k (tokensLimit - 1) g lent ts c) (b ∙ segment-words (h .begins) .terminals) ∙ tokens-taken g lent ts c (h .wellFormed) in
+  pub tokens-fed : (bound : ℕ) (ks : List ℕ) (vs : List ℤ) → bound ≡ getD ws 3 0 → TakesAll bound (tokensLimit - 1) ws ks vs m ps run m′ ps′ e → Feeds ws ks vs m ps run m′ ps′ e
+  tokens-fed bound ks vs b a g lent c h =
+      let ts = tokensFrom ks vs in
+      let same : takeLooks bound (tokensLimit - 1) g lent ts c ≡ feedAll g lent (leaves g ts) c = ap (λ k. takeLooks k (tokensLimit - 1) g lent ts c) (b ∙ segment-words (h .begins) .terminals) ∙ tokens-taken g lent ts c (h .wellFormed) in
       subst (λ o. Settles g ws lent o m′ ps′ e) same (a g lent c h)
 
-  pub look-advanced : (most u : ℕ) → run .tokens ≤ most → u < 64 → TakesAll 64 most ws (u ∷ []) m ps run m′ ps′ e → Advances ws u m ps run m′ ps′ e
-  look-advanced most u l b a g lent c h = subst (λ o. Settles g ws lent o m′ ps′ e) (look-taken g lent most u c (omega (arith, h .tokens)) b) (a g lent c h)
+  pub end-finished : (most : ℕ) (v : ℤ) → run .tokens ≤ most → TakesAll 64 most ws (63 ∷ []) (v ∷ []) m ps run m′ ps′ e → Finishes ws m ps run m′ ps′ e
+  end-finished most v l a g lent c h = subst (λ o. Settles g ws lent o m′ ps′ e) (end-taken g lent most v c (omega (arith, h .tokens))) (a g lent c h)
 
 -- T is at most 63
 pub terminals-few : {ws : List ℕ} {m : List ℤ} {ps : List ℕ} {run : Run} → Running ws m ps run → getD ws 3 0 ≤ 64

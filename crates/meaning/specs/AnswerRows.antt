@@ -16,20 +16,20 @@ numbers made may = keep (λ k. may (made k)) (countFrom 0 40)
 opening-refusals : numbers (λ k. refused k 0) openingAnswer ≡ 30 ∷ 31 ∷ 32 ∷ []
 opening-refusals = refl
 
-feed-refusals : numbers (λ k. refused k 0) (callAnswer (feed [])) ≡ 20 ∷ 21 ∷ 22 ∷ 23 ∷ 30 ∷ 31 ∷ 32 ∷ 33 ∷ 34 ∷ 35 ∷ []
+feed-refusals : numbers (λ k. refused k 0) (callAnswer (feed [] [])) ≡ 20 ∷ 21 ∷ 22 ∷ 23 ∷ 30 ∷ 31 ∷ 32 ∷ 33 ∷ 34 ∷ 35 ∷ 38 ∷ []
 feed-refusals = refl
 
 finish-refusals : numbers (λ k. refused k 0) (callAnswer finish) ≡ 22 ∷ 23 ∷ 24 ∷ 30 ∷ 31 ∷ 32 ∷ 33 ∷ 34 ∷ 35 ∷ []
 finish-refusals = refl
 
-table-refusals : map (numbers (λ k. tableRefused k 0)) (openingAnswer ∷ callAnswer (feed []) ∷ callAnswer finish ∷ []) ≡ (countFrom 1 13) ∷ (countFrom 1 13) ∷ (countFrom 1 13) ∷ []
+table-refusals : map (numbers (λ k. tableRefused k 0)) (openingAnswer ∷ callAnswer (feed [] []) ∷ callAnswer finish ∷ []) ≡ (countFrom 1 13) ∷ (countFrom 1 13) ∷ (countFrom 1 13) ∷ []
 table-refusals = refl
 
 -- opened with 0 moves, fed with any number, finished with a value in range
 going-on : map openingAnswer (more 0 ∷ more 1 ∷ value (pos 0) 0 ∷ []) ≡ true ∷ false ∷ false ∷ []
 going-on = refl
 
-fed : map (callAnswer (feed [])) (more 9 ∷ value (pos 0) 0 ∷ []) ≡ true ∷ false ∷ []
+fed : map (callAnswer (feed [] [])) (more 9 ∷ value (pos 0) 0 ∷ []) ≡ true ∷ false ∷ []
 fed = refl
 
 finished : map (callAnswer finish) (more 9 ∷ value (pos 1000000000000) 9 ∷ value (pos 1000000000001) 9 ∷ []) ≡ false ∷ true ∷ false ∷ []

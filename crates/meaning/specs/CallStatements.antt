@@ -7,15 +7,16 @@ use mathlib.Core.Bool.{Bool, true, false}
 use mathlib.Core.List.{List, [], _∷_, _++_}
 use lib.ListN.{length, take, drop}
 use lib.Dec.{T, eqb}
-use Rattle.meaning.specs.Base.{any, In}
-use Rattle.meaning.specs.Grammar.{Grammar, Look, token, over, nonterminal, Rule, Condition, syn, productionAt}
-use Rattle.meaning.specs.Rules.{Operands, Reads}
+use Rattle.meaning.specs.Base.{any, all, In}
+use Rattle.meaning.specs.Grammar.{Grammar, Token, Leaf, nonterminal, Rule, Condition, syn, leaves, productionAt}
+use Rattle.meaning.specs.Rules.{Operands, Reads, fourBytes}
 use Rattle.meaning.specs.Judgement.{Accepted, Judged, rejected}
 use Rattle.meaning.specs.Value.{inRange}
 use Rattle.meaning.specs.Scheme.{Instruction, add, evaluate, expect, test, remove, entryTests}
-use Rattle.meaning.specs.Machine.{Frame, Config, Lent, blocked, opening, next, waits, isFinished, readRegister, movesLimit, tokensLimit}
+use Rattle.meaning.specs.Machine.{Frame, Config, Lent, Coming, comes, ends, blocked, opening, next, waits, isFinished, readRegister, movesLimit, tokensLimit}
+use Rattle.meaning.specs.Tree.{isLeafOf}
 use Rattle.meaning.specs.Walk.{Act, Makes}
-use Rattle.meaning.specs.Calls.{Record, Stacks, Answer, more, value, refused, tableRefused, closedRecord, lentOf, recordOf, layAll, configOf, stacksFit, result}
+use Rattle.meaning.specs.Calls.{Record, Stacks, Answer, more, value, refused, tableRefused, closedRecord, lentOf, recordOf, layAll, configOf, stacksFit, result, tokensFrom}
 use Rattle.meaning.specs.Fit.{Fit}
 use Rattle.meaning.specs.PublicCalls.{Call, feed, finish, areaLength, written, Effect, opens, performs}
 
@@ -35,10 +36,10 @@ openingAnswer (refused k n) = among (30 ∷ 31 ∷ 32 ∷ []) k
 openingAnswer (tableRefused k o) = isTableNumber k
 
 abbrev pub callAnswer : Call → Answer → Bool
-callAnswer (feed ts) (more n) = true
-callAnswer (feed ts) (value v n) = false
-callAnswer (feed ts) (refused k n) = among (20 ∷ 21 ∷ 22 ∷ 23 ∷ 30 ∷ 31 ∷ 32 ∷ 33 ∷ 34 ∷ 35 ∷ []) k
-callAnswer (feed ts) (tableRefused k o) = isTableNumber k
+callAnswer (feed ks vs) (more n) = true
+callAnswer (feed ks vs) (value v n) = false
+callAnswer (feed ks vs) (refused k n) = among (20 ∷ 21 ∷ 22 ∷ 23 ∷ 30 ∷ 31 ∷ 32 ∷ 33 ∷ 34 ∷ 35 ∷ 38 ∷ []) k
+callAnswer (feed ks vs) (tableRefused k o) = isTableNumber k
 callAnswer finish (more n) = false
 callAnswer finish (value v n) = inRange v
 callAnswer finish (refused k n) = among (22 ∷ 23 ∷ 24 ∷ 30 ∷ 31 ∷ 32 ∷ 33 ∷ 34 ∷ 35 ∷ []) k
@@ -52,35 +53,35 @@ AlwaysAnswers =
 
 -- ==== calls that are turned back before their moves, and openings: "exactly one numbered refusal with the record and lent memory stated for it"
 
-abbrev pub leaves : Answer → Record → Stacks → List ℕ → Effect
-leaves a r m area = record { answer = a; state = r; stacks = m; area = area }
+abbrev pub handedBack : Answer → Record → Stacks → List ℕ → Effect
+handedBack a r m area = record { answer = a; state = r; stacks = m; area = area }
 
 -- 30, before all else: nothing is written; the record comes back as brought, or closed and all zero from an opening
 abbrev pub ShortArea : Type 0
 ShortArea =
     (program : Grammar → List ℕ) (bs area : List ℕ) (r : Record) (m : Stacks) (c : Call) → length area < areaLength
-    → (opens program bs area m ≡ leaves (refused 30 0) closedRecord m area) × (performs program bs area r m c ≡ leaves (refused 30 0) r m area)
+    → (opens program bs area m ≡ handedBack (refused 30 0) closedRecord m area) × (performs program bs area r m c ≡ handedBack (refused 30 0) r m area)
 
 -- then the table: its own verdict's number and offset, nothing is written
 abbrev pub BadTable : Type 0
 BadTable =
     (program : Grammar → List ℕ) (bs area : List ℕ) (r : Record) (m : Stacks) (c : Call) (n o : ℕ) → areaLength ≤ length area → Judged bs (rejected n o)
-    → (opens program bs area m ≡ leaves (tableRefused n o) closedRecord m area) × (performs program bs area r m c ≡ leaves (tableRefused n o) r m area)
+    → (opens program bs area m ≡ handedBack (tableRefused n o) closedRecord m area) × (performs program bs area r m c ≡ handedBack (tableRefused n o) r m area)
 
 -- then 33 and 34: record and stacks as brought, the program written
 abbrev pub BadState : Type 0
 BadState =
     (program : Grammar → List ℕ) (bs area : List ℕ) (g : Grammar) (r : Record) (m : Stacks) (c : Call) → areaLength ≤ length area → Accepted bs g
-    → (r .isOpen ≡ false → performs program bs area r m c ≡ leaves (refused 33 0) r m (written (program g) area))
-    × (r .isOpen ≡ true → (Fit g r m → ⊥) → performs program bs area r m c ≡ leaves (refused 34 0) r m (written (program g) area))
+    → (r .isOpen ≡ false → performs program bs area r m c ≡ handedBack (refused 33 0) r m (written (program g) area))
+    × (r .isOpen ≡ true → (Fit g r m → ⊥) → performs program bs area r m c ≡ handedBack (refused 34 0) r m (written (program g) area))
 
 -- an opening under an accepted table: 31 where the start symbol's results have no room, then 32 where no place is lent; otherwise it "gives what it is for". (Said of any engine, as the moves below: so it can be shown which engines it excludes)
 abbrev pub OpeningOf : ((Grammar → List ℕ) → List ℕ → List ℕ → Stacks → Effect) → Type 0
 OpeningOf engine =
     (program : Grammar → List ℕ) (bs area : List ℕ) (g : Grammar) (m : Stacks) → areaLength ≤ length area → Accepted bs g
-    → (lentOf m .maxRegisters < syn g (nonterminal (g .start)) → engine program bs area m ≡ leaves (refused 31 0) closedRecord m (written (program g) area))
-    × (syn g (nonterminal (g .start)) ≤ lentOf m .maxRegisters → lentOf m .maxPlaces < 1 → engine program bs area m ≡ leaves (refused 32 0) closedRecord m (written (program g) area))
-    × (syn g (nonterminal (g .start)) ≤ lentOf m .maxRegisters → 1 ≤ lentOf m .maxPlaces → engine program bs area m ≡ leaves (more 0) (recordOf true (opening g)) (layAll g (opening g) m) (written (program g) area))
+    → (lentOf m .maxRegisters < syn g (nonterminal (g .start)) → engine program bs area m ≡ handedBack (refused 31 0) closedRecord m (written (program g) area))
+    × (syn g (nonterminal (g .start)) ≤ lentOf m .maxRegisters → lentOf m .maxPlaces < 1 → engine program bs area m ≡ handedBack (refused 32 0) closedRecord m (written (program g) area))
+    × (syn g (nonterminal (g .start)) ≤ lentOf m .maxRegisters → 1 ≤ lentOf m .maxPlaces → engine program bs area m ≡ handedBack (more 0) (recordOf true (opening g)) (layAll g (opening g) m) (written (program g) area))
 
 abbrev pub Opening : Type 0
 Opening = OpeningOf opens
@@ -89,21 +90,40 @@ Opening = OpeningOf opens
 abbrev pub FitExactly : Type 0
 FitExactly = (g : Grammar) (r : Record) (m : Stacks) → T (stacksFit g r m) ↔ Fit g r m
 
--- ==== calls that are not: their moves
+-- ---- then 38
 
+-- 02 (e): "a kind and a signed 32-bit value": the type of the values that a caller lends. (The definitions take any whole number)
+abbrev pub Lendable : Call → Type 0
+Lendable (feed ks vs) = T (all fourBytes vs)
+Lendable finish = Unit {0}
+
+-- as many values as kinds
+abbrev pub Even : Call → Type 0
+Even (feed ks vs) = length ks ≡ length vs
+Even finish = Unit {0}
+
+-- a call that is not turned back by 30, its table, 33 or 34
 pub record Met (bs : List ℕ) (g : Grammar) (area : List ℕ) (r : Record) (m : Stacks) : Type 0 where
   pub long : areaLength ≤ length area
   pub accepts : Accepted bs g
   pub isOpen : r .isOpen ≡ true
   pub fits : Fit g r m
 
-abbrev pub tokensOf : Call → List ℕ
-tokensOf (feed ts) = ts
+-- 02 (e): "Lists of unequal length are turned back as 38, after 34 .. and before 31, 32 or any move": record and stacks as brought, the program written
+abbrev pub UnevenLists : Type 0
+UnevenLists =
+    (program : Grammar → List ℕ) (bs area : List ℕ) (g : Grammar) (r : Record) (m : Stacks) (c : Call) → Met bs g area r m → (Even c → ⊥)
+    → performs program bs area r m c ≡ handedBack (refused 38 0) r m (written (program g) area)
+
+-- ==== calls that are not: their moves
+
+abbrev pub tokensOf : Call → List Token
+tokensOf (feed ks vs) = tokensFrom ks vs
 tokensOf finish = []
 
 -- what may come behind these tokens: after a feed anything, after a finish nothing
-abbrev pub Follows : Call → List ℕ → Type 0
-Follows (feed ts) = λ us. Unit {0}
+abbrev pub Follows : Call → List Leaf → Type 0
+Follows (feed ks vs) = λ us. Unit {0}
 Follows finish = λ us. us ≡ []
 
 abbrev pub staysOpen : Answer → Bool
@@ -113,37 +133,37 @@ staysOpen (refused k n) = false
 staysOpen (tableRefused k o) = false
 
 -- moves on these tokens that lead from c to d with `left` still to come, and none of which has looked at what is left
-pub record Unseen (g : Grammar) (lent : Lent) (tokens : List ℕ) (c : Config) (moves : List Act) (left : List ℕ) (d : Config) : Type 0 where
-  pub read : List ℕ
+pub record Unseen (g : Grammar) (lent : Lent) (tokens : List Leaf) (c : Config) (moves : List Act) (left : List Leaf) (d : Config) : Type 0 where
+  pub read : List Leaf
   pub split : tokens ≡ read ++ left
-  pub made : (us : List ℕ) → Makes g lent (read ++ us) c moves us d
+  pub made : (us : List Leaf) → Makes g lent (read ++ us) c moves us d
 
 -- why a call whose moves lead from c to d, with `left` still to come, is refused by k. Behind is what may come behind its tokens
-pub data Refuses (g : Grammar) (lent : Lent) (Behind : List ℕ → Type 0) (tokens : List ℕ) (c : Config) (moves : List Act) (left : List ℕ) (d : Config) (k : ℕ) : Type 0 where
+pub data Refuses (g : Grammar) (lent : Lent) (Behind : List Leaf → Type 0) (tokens : List Leaf) (c : Config) (moves : List Act) (left : List Leaf) (d : Config) (k : ℕ) : Type 0 where
   -- 01: "35 a token after 65,535"
-  tooMany : k ≡ 35 → (t : ℕ) (us : List ℕ) → left ≡ t ∷ us → d .tokens ≡ tokensLimit → T (waits (d .frames)) → Unseen g lent tokens c moves left d → Refuses g lent Behind tokens c moves left d k
+  tooMany : k ≡ 35 → (t : Leaf) (us : List Leaf) → left ≡ t ∷ us → d .tokens ≡ tokensLimit → T (waits (d .frames)) → Unseen g lent tokens c moves left d → Refuses g lent Behind tokens c moves left d k
   -- 01: "20 token not below T, judged before its moves"
-  notToken : k ≡ 20 → (t : ℕ) (us : List ℕ) → left ≡ t ∷ us → d .tokens < tokensLimit → g .terminals ≤ t → T (waits (d .frames)) → Unseen g lent tokens c moves left d → Refuses g lent Behind tokens c moves left d k
+  notToken : k ≡ 20 → (t : Leaf) (us : List Leaf) → left ≡ t ∷ us → d .tokens < tokensLimit → g .terminals ≤ t .kind → T (waits (d .frames)) → Unseen g lent tokens c moves left d → Refuses g lent Behind tokens c moves left d k
   -- the move at hand is blocked by k: for the next token, which was let through; for the end, the start symbol not being left; or one that needs neither
-  atToken : (t : ℕ) (us : List ℕ) → left ≡ t ∷ us → d .tokens < tokensLimit → t < g .terminals → next g lent (token t) d ≡ blocked k → Refuses g lent Behind tokens c moves left d k
-  atEnd : left ≡ [] → isFinished d ≡ false → ((us : List ℕ) → Behind us → us ≡ []) → next g lent over d ≡ blocked k → Refuses g lent Behind tokens c moves left d k
-  between : waits (d .frames) ≡ false → Unseen g lent tokens c moves left d → ((l : Look) → next g lent l d ≡ blocked k) → Refuses g lent Behind tokens c moves left d k
+  atToken : (t : Leaf) (us : List Leaf) → left ≡ t ∷ us → d .tokens < tokensLimit → t .kind < g .terminals → next g lent (comes t) d ≡ blocked k → Refuses g lent Behind tokens c moves left d k
+  atEnd : left ≡ [] → isFinished d ≡ false → ((us : List Leaf) → Behind us → us ≡ []) → next g lent ends d ≡ blocked k → Refuses g lent Behind tokens c moves left d k
+  between : waits (d .frames) ≡ false → Unseen g lent tokens c moves left d → ((l : Coming) → next g lent l d ≡ blocked k) → Refuses g lent Behind tokens c moves left d k
 
 -- what each answer says of the moves from c to d.
 -- 01: "The answer carries the moves made since opening"; "Everything that needs no next token is done before a stop"; a refusal of the segment carries the tokens read
-abbrev pub Says : Grammar → Lent → Call → Config → List Act → List ℕ → Config → Answer → Type 0
+abbrev pub Says : Grammar → Lent → Call → Config → List Act → List Leaf → Config → Answer → Type 0
 Says g lent call c moves left d (more n) = (left ≡ []) × T (waits (d .frames)) × (n ≡ d .moves)
 Says g lent call c moves left d (value v n) = T (isFinished d) × (v ≡ result g d) × (n ≡ d .moves)
-Says g lent call c moves left d (refused k o) = (o ≡ d .tokens) × Refuses g lent (Follows call) (tokensOf call) c moves left d k
+Says g lent call c moves left d (refused k o) = (o ≡ d .tokens) × Refuses g lent (Follows call) (leaves g (tokensOf call)) c moves left d k
 Says g lent call c moves left d (tableRefused k o) = ⊥
 
 -- the moves of a call: what it leaves is the configuration that they lead to, whatever the answer. 01: "The failing move changes nothing, earlier ones stand, the record is closed."
 pub record MovesTo (program : Grammar → List ℕ) (area : List ℕ) (g : Grammar) (m : Stacks) (c : Config) (call : Call) (e : Effect) : Type 0 where
   pub moves : List Act
-  pub left : List ℕ
+  pub left : List Leaf
   pub to : Config
   -- no move of a feed looks past its tokens
-  pub made : (us : List ℕ) → Follows call us → Makes g (lentOf m) (tokensOf call ++ us) c moves (left ++ us) to
+  pub made : (us : List Leaf) → Follows call us → Makes g (lentOf m) (leaves g (tokensOf call) ++ us) c moves (left ++ us) to
   -- 01: "35 a token after 65,535"
   pub few : to .tokens ≤ tokensLimit
   pub says : Says g (lentOf m) call c moves left to (e .answer)
@@ -155,7 +175,7 @@ pub record MovesTo (program : Grammar → List ℕ) (area : List ℕ) (g : Gramm
 
 abbrev pub CallsMoveOf : ((Grammar → List ℕ) → List ℕ → List ℕ → Record → Stacks → Call → Effect) → Type 0
 CallsMoveOf engine =
-    (program : Grammar → List ℕ) (bs area : List ℕ) (g : Grammar) (r : Record) (m : Stacks) (c : Call) → Met bs g area r m
+    (program : Grammar → List ℕ) (bs area : List ℕ) (g : Grammar) (r : Record) (m : Stacks) (c : Call) → Lendable c → Even c → Met bs g area r m
     → MovesTo program area g m (configOf g r m) c (engine program bs area r m c)
 
 abbrev pub CallsMove : Type 0
@@ -164,39 +184,42 @@ CallsMove = CallsMoveOf performs
 -- "exactly one": whatever answers as a call may and does what is said of its moves is the call's own effect
 abbrev pub MovesOnce : Type 0
 MovesOnce =
-    (program : Grammar → List ℕ) (bs area : List ℕ) (g : Grammar) (r : Record) (m : Stacks) (c : Call) → Met bs g area r m
+    (program : Grammar → List ℕ) (bs area : List ℕ) (g : Grammar) (r : Record) (m : Stacks) (c : Call) → Lendable c → Even c → Met bs g area r m
     → (e : Effect) → T (callAnswer c (e .answer)) → MovesTo program area g m (configOf g r m) c e → e ≡ performs program bs area r m c
 
 -- ==== these are all: "each call gives what it is for, or exactly one numbered refusal"
 
-pub data Case (bs area : List ℕ) (r : Record) (m : Stacks) : Type 0 where
+pub data Case (bs area : List ℕ) (r : Record) (m : Stacks) (c : Call) : Type 0 where
   -- ShortArea
-  short : length area < areaLength → Case bs area r m
+  short : length area < areaLength → Case bs area r m c
   -- BadTable
-  badTable : areaLength ≤ length area → (n o : ℕ) → Judged bs (rejected n o) → Case bs area r m
+  badTable : areaLength ≤ length area → (n o : ℕ) → Judged bs (rejected n o) → Case bs area r m c
   -- BadState: 33
-  closed : areaLength ≤ length area → (g : Grammar) → Accepted bs g → r .isOpen ≡ false → Case bs area r m
+  closed : areaLength ≤ length area → (g : Grammar) → Accepted bs g → r .isOpen ≡ false → Case bs area r m c
   -- BadState: 34
-  unfit : areaLength ≤ length area → (g : Grammar) → Accepted bs g → r .isOpen ≡ true → (Fit g r m → ⊥) → Case bs area r m
+  unfit : areaLength ≤ length area → (g : Grammar) → Accepted bs g → r .isOpen ≡ true → (Fit g r m → ⊥) → Case bs area r m c
+  -- UnevenLists: 38
+  uneven : (g : Grammar) → Met bs g area r m → (Even c → ⊥) → Case bs area r m c
   -- CallsMove
-  met : (g : Grammar) → Met bs g area r m → Case bs area r m
+  met : (g : Grammar) → Met bs g area r m → Even c → Case bs area r m c
 
-abbrev pub whichCase : {bs area : List ℕ} {r : Record} {m : Stacks} → Case bs area r m → ℕ
+abbrev pub whichCase : {bs area : List ℕ} {r : Record} {m : Stacks} {c : Call} → Case bs area r m c → ℕ
 whichCase (short l) = 1
 whichCase (badTable l n o j) = 2
 whichCase (closed l g a o) = 3
 whichCase (unfit l g a o f) = 4
-whichCase (met g x) = 5
+whichCase (uneven g x e) = 5
+whichCase (met g x e) = 6
 
--- every call is one of the five, and only that one. (An opening is one of the first two, or `Opening` says by the lent numbers what it does)
+-- every call is one of the six, and only that one. (An opening is one of the first two, or `Opening` says by the lent numbers what it does)
 abbrev pub AllCases : Type 0
-AllCases = (bs area : List ℕ) (r : Record) (m : Stacks) → (x : Case bs area r m) × ((y : Case bs area r m) → whichCase y ≡ whichCase x)
+AllCases = (bs area : List ℕ) (r : Record) (m : Stacks) (c : Call) → (x : Case bs area r m c) × ((y : Case bs area r m c) → whichCase y ≡ whichCase x)
 
 -- ==== more of the moves
 
 -- an empty feed changes nothing but the program area
 abbrev pub EmptyFeed : Type 0
-EmptyFeed = (program : Grammar → List ℕ) (bs area : List ℕ) (g : Grammar) (r : Record) (m : Stacks) → Met bs g area r m → performs program bs area r m (feed []) ≡ leaves (more (r .moves)) r m (written (program g) area)
+EmptyFeed = (program : Grammar → List ℕ) (bs area : List ℕ) (g : Grammar) (r : Record) (m : Stacks) → Met bs g area r m → performs program bs area r m (feed [] []) ≡ handedBack (more (r .moves)) r m (written (program g) area)
 
 -- 01: "35 a token after 65,535, or a move after 4,294,967,295"
 abbrev pub LimitsOnly : Type 0
@@ -218,11 +241,11 @@ Handles g c (test cs) = (t : Condition ℕ) → In t cs → Reads (Valued c) t
 Handles g c (remove n) = n ≤ length (c .registers)
 Handles g c (expect x) = (p : ℕ) → p < length (g .productions) → x ≡ nonterminal (productionAt g p .left) → (t : Condition ℕ) → In t (entryTests g (productionAt g p)) → Reads (Valued c) t
 
--- whatever fits, at every move: selectors stand between 1 and the height, every register read holds a value in range
+-- whatever fits, at every move: selectors stand between 1 and the height, every register read holds a value in range. (The tokens have values in range: those of a caller are signed 32-bit numbers, by their type)
 abbrev pub HandlesAlways : Type 0
 HandlesAlways =
     (bs : List ℕ) (g : Grammar) (r : Record) (m : Stacks) → Accepted bs g → Fit g r m
-    → (ws : List Act) (us vs : List ℕ) (c : Config) → Makes g (lentOf m) us (configOf g r m) ws vs c
+    → (ws : List Act) (us vs : List Leaf) (c : Config) → T (all (isLeafOf g) us) → Makes g (lentOf m) us (configOf g r m) ws vs c
     → (p : ℕ) (i : Instruction) (is : List Instruction) (fs : List Frame) → c .frames ≡ record { production = p; rest = i ∷ is } ∷ fs → Handles g c i
 
 -- ==== the lent memory. 01: "At most 4,096 registers and 1,024 places are used; cells past these are neither read nor written and don't count as lent"
@@ -235,7 +258,7 @@ pastLent m = record { registers = drop 4096 (m .registers); places = drop 1024 (
 
 -- an effect without the cells past what is lent
 abbrev pub onLent : Effect → Effect
-onLent e = leaves (e .answer) (e .state) (lentPart (e .stacks)) (e .area)
+onLent e = handedBack (e .answer) (e .state) (lentPart (e .stacks)) (e .area)
 
 -- not read: on stacks with the same lent cells a call does the same
 abbrev pub NeverRead : Type 0

@@ -20,7 +20,7 @@ use Rattle.meaning.specs.Machine.{Settled, stopped, failed, opening, fee
 use Rattle.meaning.specs.Program.{conditionWords}
 use Rattle.meaning.specs.Listing.{conditionText}
 use Rattle.meaning.specs.ListingRows.{codes}
-use Rattle.meaning.specs.Words.{occ, rule, lent}
+use Rattle.meaning.specs.Words.{occ, rule, lent, plain}
 use Rattle.meaning.specs.Samples.{handDown, handUp, inFirst}
 use Rattle.meaning.specs.SetRows.{low-high, entries}
 
@@ -175,6 +175,7 @@ abbrev chosen : ℤ → Grammar
 chosen e = record {
   terminals = 1;
   counts = record { inherited = 0; synthesized = 1 } ∷ record { inherited = 2; synthesized = 1 } ∷ [];
+  carrying = [];
   start = 0;
   result = 1;
   productions =
@@ -189,7 +190,7 @@ results (stopped c) = c .registers
 results (failed c k) = pos k ∷ []
 
 abbrev run : ℤ → List ℤ
-run e = elim (feedAll (chosen e) (lent 20 20) (0 ∷ []) (opening (chosen e))) as (λ x. List ℤ) [ stopped c ↦ results (finishAll (chosen e) (lent 20 20) c) | failed c k ↦ results (failed c k) ]
+run e = elim (feedAll (chosen e) (lent 20 20) (plain (0 ∷ [])) (opening (chosen e))) as (λ x. List ℤ) [ stopped c ↦ results (finishAll (chosen e) (lent 20 20) c) | failed c k ↦ results (failed c k) ]
 
 chosen-runs : map run (pos 4 ∷ pos 3 ∷ negsuc 8 ∷ []) ≡ (pos 1 ∷ []) ∷ (pos 2 ∷ []) ∷ (pos 2 ∷ []) ∷ []
 chosen-runs = refl

@@ -48,6 +48,7 @@ recursive : Grammar
 recursive = record {
   terminals = 1;
   counts = record { inherited = 0; synthesized = 1 } ∷ record { inherited = 0; synthesized = 0 } ∷ [];
+  carrying = [];
   start = 0;
   result = 1;
   productions =
@@ -67,6 +68,7 @@ ranges : ℤ → ℤ → Grammar
 ranges a b = record {
   terminals = 1;
   counts = record { inherited = 0; synthesized = 1 } ∷ record { inherited = 1; synthesized = 1 } ∷ [];
+  carrying = [];
   start = 0;
   result = 1;
   productions =

@@ -3,7 +3,7 @@ use Prim.Native.Nat.{ℕ, suc, _+_, _≤_, max}
 use mathlib.Core.Bool.{Bool, true, false, not}
 use mathlib.Core.List.{List}
 use lib.ListN.{length}
-use Rattle.meaning.specs.Grammar.{Grammar, att, syn, nonterminal, productionAt, symbolAt}
+use Rattle.meaning.specs.Grammar.{Grammar, addedFor, syn, nonterminal, productionAt, symbolAt}
 use Rattle.meaning.specs.Value.{mark}
 use Rattle.meaning.specs.Tree.{Tree, Forest, leaf, node, noTrees, treeAnd, yield, Picture, picture, width}
 use Rattle.meaning.specs.Walk.{Act, walk, walkTo}
@@ -13,19 +13,19 @@ use Rattle.meaning.specs.Calls.{Record, Stacks, lentOf, lay}
 -- ---- "its walk fits the lent stacks and it keeps to the limits"
 
 abbrev mutual
-  -- the most registers that stand at once in the walk of a tree whose own registers are the topmost of `base`
+  -- the most registers that stand at once in the walk of a tree whose own registers are the topmost of `base`; a token's own come with its read
   pub registersFor : Grammar → ℕ → Tree → ℕ
-  registersFor g base (leaf t) = base
+  registersFor g base (leaf u) = base + length (u .values)
   registersFor g base (node p vs f) = registersIn g p 1 base f
 
   pub registersIn : Grammar → ℕ → ℕ → ℕ → Forest → ℕ
   registersIn g p k base noTrees = base
-  registersIn g p k base (treeAnd t f) = max (registersFor g (base + att g (symbolAt (productionAt g p) k)) t) (registersIn g p (suc k) (base + syn g (symbolAt (productionAt g p) k)) f)
+  registersIn g p k base (treeAnd t f) = max (registersFor g (base + addedFor g (symbolAt (productionAt g p) k)) t) (registersIn g p (suc k) (base + syn g (symbolAt (productionAt g p) k)) f)
 
 abbrev mutual
   -- the most places that stand at once on the one below
   pub depth : Tree → ℕ
-  depth (leaf t) = 0
+  depth (leaf u) = 0
   depth (node p vs f) = suc (depths f)
 
   pub depths : Forest → ℕ

@@ -7,7 +7,7 @@ use lib.ListN.{getD, length, take, replicate}
 use lib.Dec.{T}
 use lib.IntN.{ℤ}
 use Rattle.meaning.specs.Base.{all, total}
-use Rattle.meaning.specs.Grammar.{Symbol, nonterminal, Grammar, productionAt, symbolAt, inh, syn}
+use Rattle.meaning.specs.Grammar.{Symbol, nonterminal, Grammar, productionAt, symbolAt, inh, syn, markedFor}
 use Rattle.meaning.specs.Value.{inRange, mark}
 use Rattle.meaning.specs.Machine.{movesLimit, tokensLimit}
 use Rattle.meaning.specs.Calls.{Record, Stacks, lentOf}
@@ -17,7 +17,7 @@ pub record Values (n : ℕ) (vs : List ℤ) : Type 0 where
   pub size : length vs ≡ n
   pub ranged : T (all inRange vs)
 
--- places and registers, top first, of which the top place waits at symbol x: x's inherited registers valued, its synthesized ones marked; below them the synthesized registers of the symbols already passed, all valued
+-- places and registers, top first, of which the top place waits at symbol x: x's inherited registers valued, its synthesized ones marked (none for a terminal: 02 (e)); below them the synthesized registers of the symbols already passed, all valued
 pub data WaitsAt (g : Grammar) : List ℕ → List ℤ → Symbol → Type 0 where
   segment : (vs : List ℤ) → Values (inh g (nonterminal (g .start))) vs
       → WaitsAt g (32768 ∷ []) (vs ++ replicate (syn g (nonterminal (g .start))) mark) (nonterminal (g .start))
@@ -26,7 +26,7 @@ pub data WaitsAt (g : Grammar) : List ℕ → List ℤ → Symbol → Type 0 whe
       → Values (inh g (symbolAt (productionAt g p) (suc k))) vs
       → Values (total (map (syn g) (take k (productionAt g p .right)))) ss
       → WaitsAt g ps rs (nonterminal (productionAt g p .left))
-      → WaitsAt g ((p * 256 + k) ∷ ps) ((vs ++ replicate (syn g (symbolAt (productionAt g p) (suc k))) mark) ++ (ss ++ rs)) (symbolAt (productionAt g p) (suc k))
+      → WaitsAt g ((p * 256 + k) ∷ ps) ((vs ++ replicate (markedFor g (symbolAt (productionAt g p) (suc k))) mark) ++ (ss ++ rs)) (symbolAt (productionAt g p) (suc k))
 
 -- the start symbol is left: only its values stand
 pub record Left (g : Grammar) (ps : List ℕ) (rs : List ℤ) : Type 0 where

@@ -9,11 +9,11 @@ use lib.ListN.{replicate}
 use lib.IntN.{ℤ, pos, negsuc}
 use lib.Dec.{lit<, lit≤}
 use Rattle.meaning.specs.Grammar.{nonterminal}
-use Rattle.meaning.specs.Calls.{more, refused, stacksFit, openOf, feedOf, finishOf}
+use Rattle.meaning.specs.Calls.{more, refused, stacksFit, openOf, finishOf}
 use Rattle.meaning.specs.Fit.{Fit, segment, inside}
 use Rattle.meaning.specs.Words.{words}
 use Rattle.meaning.specs.SchemeRows.{wide}
-use Rattle.meaning.specs.CallRows.{m, state, stacks, called}
+use Rattle.meaning.specs.CallRows.{m, state, stacks, called, feedKinds}
 
 -- ---- what a run leaves after word open: 7 registers and 4 places, 8 and 5 lent
 
@@ -138,24 +138,24 @@ place-not-cleared-to-caps = refl
 
 -- ---- the call: record and stacks as brought, 0 tokens
 
-unfit-feed : map (λ ts. feedOf words (state true 2 11 7 4) (stacks (m ∷ m ∷ m ∷ []) (32768 ∷ 0 ∷ [])) ts) ([] ∷ (0 ∷ []) ∷ (255 ∷ []) ∷ []) ≡ replicate 3 (called (refused 34 0) (state true 2 11 7 4) (stacks (m ∷ m ∷ m ∷ []) (32768 ∷ 0 ∷ [])))
+unfit-feed : map (λ ts. feedKinds words (state true 2 11 7 4) (stacks (m ∷ m ∷ m ∷ []) (32768 ∷ 0 ∷ [])) ts) ([] ∷ (0 ∷ []) ∷ (255 ∷ []) ∷ []) ≡ replicate 3 (called (refused 34 0) (state true 2 11 7 4) (stacks (m ∷ m ∷ m ∷ []) (32768 ∷ 0 ∷ [])))
 unfit-feed = refl
 
 unfit-finish : finishOf words (state true 2 11 7 4) (stacks (m ∷ m ∷ m ∷ []) (32768 ∷ 0 ∷ [])) ≡ called (refused 34 0) (state true 2 11 7 4) (stacks (m ∷ m ∷ m ∷ []) (32768 ∷ 0 ∷ []))
 unfit-finish = refl
 
 -- forged stacks go on from where they stand: at the token word, with d = 9, L to open L close L is not entered
-forged-at-word : feedOf words (state true 0 0 3 3) (stacks (m ∷ m ∷ pos 9 ∷ m ∷ m ∷ []) (32768 ∷ 0 ∷ 256 ∷ [])) (0 ∷ []) ≡ called (more 3) (state true 1 3 5 3) (stacks (m ∷ m ∷ pos 9 ∷ m ∷ pos 9 ∷ []) (32768 ∷ 0 ∷ 257 ∷ []))
+forged-at-word : feedKinds words (state true 0 0 3 3) (stacks (m ∷ m ∷ pos 9 ∷ m ∷ m ∷ []) (32768 ∷ 0 ∷ 256 ∷ [])) (0 ∷ []) ≡ called (more 3) (state true 1 3 5 3) (stacks (m ∷ m ∷ pos 9 ∷ m ∷ pos 9 ∷ []) (32768 ∷ 0 ∷ 257 ∷ []))
 forged-at-word = refl
 
-forged-condition : feedOf words (state true 0 0 5 3) (stacks (m ∷ m ∷ pos 9 ∷ m ∷ pos 9 ∷ []) (32768 ∷ 0 ∷ 257 ∷ [])) (1 ∷ []) .answer ≡ refused 22 0
+forged-condition : feedKinds words (state true 0 0 5 3) (stacks (m ∷ m ∷ pos 9 ∷ m ∷ pos 9 ∷ []) (32768 ∷ 0 ∷ 257 ∷ [])) (1 ∷ []) .answer ≡ refused 22 0
 forged-condition = refl
 
 -- another table: 34 alone decides
-other-table : map (λ g. feedOf g (openOf words (stacks (pos 7 ∷ []) (9 ∷ [])) .state) (openOf words (stacks (pos 7 ∷ []) (9 ∷ [])) .stacks) [] .answer) (words ∷ wide ∷ []) ≡ more 0 ∷ more 0 ∷ []
+other-table : map (λ g. feedKinds g (openOf words (stacks (pos 7 ∷ []) (9 ∷ [])) .state) (openOf words (stacks (pos 7 ∷ []) (9 ∷ [])) .stacks) [] .answer) (words ∷ wide ∷ []) ≡ more 0 ∷ more 0 ∷ []
 other-table = refl
 
-other-table-unfit : feedOf wide (state true 2 11 7 4) (stacks after-open (32768 ∷ 0 ∷ 257 ∷ 513 ∷ [])) [] .answer ≡ refused 34 0
+other-table-unfit : feedKinds wide (state true 2 11 7 4) (stacks after-open (32768 ∷ 0 ∷ 257 ∷ 513 ∷ [])) [] .answer ≡ refused 34 0
 other-table-unfit = refl
 
 -- ---- the declarative form

@@ -80,10 +80,15 @@ abbrev pub countsFields : List Counts → List ℕ
 countsFields [] = []
 countsFields (c ∷ cs) = field 2 (countsBytes c) ++ countsFields cs
 
+-- 02 (e): "tag 6, one byte, after the tag 2 fields .., names a terminal"
+abbrev pub carryingFields : List ℕ → List ℕ
+carryingFields [] = []
+carryingFields (t ∷ ts) = field 6 (t ∷ []) ++ carryingFields ts
+
 pub record LaidOut (g : Grammar) (bs : List ℕ) : Type 0 where
   pub rest : List ℕ
   pub productions : Productions (g .productions) rest
-  pub isTable : bs ≡ field 1 (headerBytes g) ++ (countsFields (g .counts) ++ rest)
+  pub isTable : bs ≡ field 1 (headerBytes g) ++ (countsFields (g .counts) ++ (carryingFields (g .carrying) ++ rest))
 
 -- a table is a list of bytes
 abbrev pub Bytes : List ℕ → Type 0

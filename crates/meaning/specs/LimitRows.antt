@@ -56,7 +56,7 @@ entry = record { offset = 12; left = 0; right = []; rules = []; conditions = [] 
 
 -- n productions, of which the last has no rules
 counted : ℕ → ℕ → ℕ → State
-counted productions rules conditions = record { header = some (record { terminals = 1; nonterminals = 1; start = 0; result = 1 }); counts = record { inherited = 0; synthesized = 8 } ∷ []; countsOffsets = 7 ∷ []; entries = replicate productions entry; rules = rules; conditions = conditions }
+counted productions rules conditions = record { header = some (record { terminals = 1; nonterminals = 1; start = 0; result = 1 }); counts = record { inherited = 0; synthesized = 8 } ∷ []; countsOffsets = 7 ∷ []; carrying = []; entries = replicate productions entry; rules = rules; conditions = conditions }
 
 field-of : ℕ → List ℕ → Field
 field-of tag body = record { offset = 17; tag = tag; body = body }

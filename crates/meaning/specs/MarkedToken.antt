@@ -4,11 +4,13 @@ use mathlib.Core.Path.{_≡_}
 use mathlib.Core.Bool.{Bool, false}
 use mathlib.Core.List.{List, _++_, map}
 use lib.ListN.{length, take}
-use Rattle.meaning.specs.Grammar.{Grammar, Look, terminal, productionAt}
+use lib.IntN.{ℤ}
+use Rattle.meaning.specs.Grammar.{Grammar, Look, Token, terminal, productionAt}
 use Rattle.meaning.specs.Derivation.{Derives, Listed, Starts, startForm, entryConditional}
 use Rattle.meaning.specs.Judgement.{Accepted}
 use Rattle.meaning.specs.Calls.{Record, Stacks, refused}
 use Rattle.meaning.specs.PublicCalls.{feed, finish, performs}
+use Rattle.meaning.specs.CallStatements.{Lendable}
 use Rattle.meaning.specs.Statements.{History}
 
 -- 02: "some token string of the underlying grammar, conditions aside"
@@ -35,12 +37,16 @@ Unconditional g = (p : ℕ) → Listed g p → entryConditional g p ≡ false
 abbrev pub OneStart : Grammar → Type 0
 OneStart g = (l : Look) (p q : ℕ) → Listed g p → Listed g q → productionAt g p .left ≡ productionAt g q .left → Starts g p l → Starts g q l → p ≡ q
 
--- after any list of calls (demand 3's premise): ts are the tokens fed before, us those of the feed at hand
+-- of tokens with values their kinds alone matter
+abbrev pub kinds : List Token → List ℕ
+kinds ts = map (λ t. t .kind) ts
+
+-- after any list of calls (demand 3's premise): ts are the tokens fed before, ks the kinds of the feed at hand, vs its values, signed 32-bit numbers by their type
 abbrev pub MarkedWhere : (Grammar → Type 0) → Type 0
 MarkedWhere Premise =
-    (program : Grammar → List ℕ) (bs area : List ℕ) (g : Grammar) (m₀ : Stacks) (ts : List ℕ) (isOver : Bool) (r : Record) (m : Stacks) → Accepted bs g → Premise g → History program bs m₀ ts isOver r m
-    → ((us : List ℕ) (n : ℕ) → performs program bs area r m (feed us) .answer ≡ refused 21 n → FirstImpossible g (ts ++ us) n)
-    × ((n : ℕ) → performs program bs area r m finish .answer ≡ refused 24 n → Unfinished g ts)
+    (program : Grammar → List ℕ) (bs area : List ℕ) (g : Grammar) (m₀ : Stacks) (ts : List Token) (isOver : Bool) (r : Record) (m : Stacks) → Accepted bs g → Premise g → History program bs m₀ ts isOver r m
+    → ((ks : List ℕ) (vs : List ℤ) (n : ℕ) → Lendable (feed ks vs) → performs program bs area r m (feed ks vs) .answer ≡ refused 21 n → FirstImpossible g (kinds ts ++ ks) n)
+    × ((n : ℕ) → performs program bs area r m finish .answer ≡ refused 24 n → Unfinished g (kinds ts))
 
 abbrev pub MarkedToken : Type 0
 MarkedToken = MarkedWhere Unconditional
@@ -51,6 +57,6 @@ MarkedByStart = MarkedWhere OneStart
 -- the first half, for every accepted table
 abbrev pub MarkedBegins : Type 0
 MarkedBegins =
-    (program : Grammar → List ℕ) (bs area : List ℕ) (g : Grammar) (m₀ : Stacks) (ts : List ℕ) (isOver : Bool) (r : Record) (m : Stacks) → Accepted bs g → History program bs m₀ ts isOver r m
-    → ((us : List ℕ) (n : ℕ) → performs program bs area r m (feed us) .answer ≡ refused 21 n → (n < length (ts ++ us)) × Begins g (take n (ts ++ us)))
-    × ((n : ℕ) → performs program bs area r m finish .answer ≡ refused 24 n → Begins g ts)
+    (program : Grammar → List ℕ) (bs area : List ℕ) (g : Grammar) (m₀ : Stacks) (ts : List Token) (isOver : Bool) (r : Record) (m : Stacks) → Accepted bs g → History program bs m₀ ts isOver r m
+    → ((ks : List ℕ) (vs : List ℤ) (n : ℕ) → Lendable (feed ks vs) → performs program bs area r m (feed ks vs) .answer ≡ refused 21 n → (n < length (kinds ts ++ ks)) × Begins g (take n (kinds ts ++ ks)))
+    × ((n : ℕ) → performs program bs area r m finish .answer ≡ refused 24 n → Begins g (kinds ts))

@@ -16,7 +16,7 @@ use Rattle.meaning.specs.Part.{fresh, added, valued, left, closing, Ance
 use Rattle.meaning.specs.Selectors.{partAt, Finds, Found, SelectorsFind}
 use Rattle.meaning.specs.CallStatements.{Handles}
 use Rattle.meaning.specs.Statements.{Returned}
-use Rattle.meaning.specs.Words.{occ, rule}
+use Rattle.meaning.specs.Words.{occ, rule, bare, plain}
 use Rattle.meaning.specs.SchemeRows.{wide, wide1}
 use Rattle.meaning.specs.WalkRows.{wideTree, wide-tree}
 use Rattle.meaning.specs.CallRows.{m}
@@ -46,7 +46,7 @@ abbrev under-X : List Ancestor
 under-X = waits-at (open-node 0 [] []) X [] ∷ waits-at (open-node whole [] []) (nonterminal 0) [] ∷ []
 
 abbrev short : Tree
-short = node 3 (pos 7 ∷ []) (treeAnd (leaf 2) noTrees)
+short = node 3 (pos 7 ∷ []) (treeAnd (leaf (bare 2)) noTrees)
 
 -- at a test: register 3 is not the left side's first attribute
 found-not-at-test : Found wide (open-node 1 (pos 3 ∷ pos 4 ∷ []) (short ∷ [])) under-X (left (terminal 0 ∷ X ∷ Y ∷ [])) → ⊥
@@ -55,7 +55,7 @@ found-not-at-test f = omega (arith, ap number (f (atmost (occ 0 1) (occ 1 2) non
 found-not-at-evaluation : Found wide (open-node 1 (pos 3 ∷ []) []) under-X (added Y (terminal 0 ∷ X ∷ Y ∷ [])) → ⊥
 found-not-at-evaluation f = omega (arith, ap number (f (rule (occ 1 1) (sum (occ 0 1) (occ 0 2))) (inl refl) .0 .1 .held))
 
-found-not-at-results : Found wide (open-node 1 (pos 3 ∷ pos 4 ∷ []) (y4 ∷ x3 ∷ leaf 0 ∷ short ∷ [])) under-X (fresh []) → ⊥
+found-not-at-results : Found wide (open-node 1 (pos 3 ∷ pos 4 ∷ []) (y4 ∷ x3 ∷ leaf (bare 0) ∷ short ∷ [])) under-X (fresh []) → ⊥
 found-not-at-results f = omega (arith, ap number (f (rule (occ 0 3) (sum (occ 4 2) (occ 1 3))) (inl refl) .0 .1 .held))
 
 -- at a predict: the second entry condition's attribute is not there
@@ -63,7 +63,7 @@ found-not-at-predict : Found wide (open-node 0 [] []) (waits-at (open-node whole
 found-not-at-predict f = omega (arith, ap number (f 1 (lit< tt) refl (range (occ 0 2) (pos 0) (pos 5)) (inl refl) .held))
 
 -- the tree is that of all the tokens, those to come too
-of-tree-to-come : (c : Config) (i : Instruction) (s : SelectorsFind wide (2 ∷ []) (0 ∷ 1 ∷ 2 ∷ []) c i) → PartOf wide wideTree (partAt (s .node) (s .point) (s .below))
+of-tree-to-come : (c : Config) (i : Instruction) (s : SelectorsFind wide (plain (2 ∷ [])) (plain (0 ∷ 1 ∷ 2 ∷ [])) c i) → PartOf wide wideTree (partAt (s .node) (s .point) (s .below))
 of-tree-to-come c i s = s .ofTree wideTree wide-tree
 
 -- ---- what a rule and a condition say of a part
@@ -73,7 +73,7 @@ handed-other : Handed wide wide1 (pos 3 ∷ pos 4 ∷ []) [] Y (pos 8 ∷ []) �
 handed-other h = omega (arith, ap number (h .rules (rule (occ 1 1) (sum (occ 0 1) (occ 0 2))) (inl refl) refl))
 
 -- X's result is -1 + 8
-results-other : Results wide wide1 (pos 3 ∷ pos 4 ∷ []) (y4 ∷ x3 ∷ leaf 0 ∷ y1 ∷ []) (pos 8 ∷ []) → ⊥
+results-other : Results wide wide1 (pos 3 ∷ pos 4 ∷ []) (y4 ∷ x3 ∷ leaf (bare 0) ∷ y1 ∷ []) (pos 8 ∷ []) → ⊥
 results-other h = omega (arith, ap number (h .rules (rule (occ 0 3) (sum (occ 4 2) (occ 1 3))) (inr (inl refl)) refl))
 
 -- 9 is not from 0 to 5
@@ -86,10 +86,10 @@ good-not-tested : Good wide (partAt (open-node 1 (pos 3 ∷ pos 9 ∷ []) []) (f
 good-not-tested q = tested-not (q .node .1 .1)
 
 -- a left child whose own rule does not hold, and one whose inherited value is not what the parent's rule says
-good-not-child : Good wide (in-X (node 3 (pos 7 ∷ pos 8 ∷ pos 8 ∷ []) (treeAnd (leaf 2) noTrees) ∷ []) (left (terminal 0 ∷ X ∷ Y ∷ []))) → ⊥
+good-not-child : Good wide (in-X (node 3 (pos 7 ∷ pos 8 ∷ pos 8 ∷ []) (treeAnd (leaf (bare 2)) noTrees) ∷ []) (left (terminal 0 ∷ X ∷ Y ∷ []))) → ⊥
 good-not-child q = omega (arith, ap number (q .node .0 .lefts .1 .0 .rules .0))
 
-good-not-rule : Good wide (in-X (node 3 (pos 8 ∷ pos 8 ∷ pos 9 ∷ []) (treeAnd (leaf 2) noTrees) ∷ []) (left (terminal 0 ∷ X ∷ Y ∷ []))) → ⊥
+good-not-rule : Good wide (in-X (node 3 (pos 8 ∷ pos 8 ∷ pos 9 ∷ []) (treeAnd (leaf (bare 2)) noTrees) ∷ []) (left (terminal 0 ∷ X ∷ Y ∷ []))) → ⊥
 good-not-rule q = omega (arith, ap number (q .node .0 .rules (rule (occ 1 1) (sum (occ 0 1) (occ 0 2))) (inl refl) (lit≤ tt) (lit≤ tt)))
 
 -- inherited values other than the ancestor hands down, an ancestor that waits at another symbol, a production that stands on nothing
@@ -114,13 +114,13 @@ good-not-value q = stands-other-value (q .stands)
 part-other-inherited : PartOf wide wideTree (partAt (open-node 1 (pos 3 ∷ pos 5 ∷ []) []) (fresh (Y ∷ terminal 0 ∷ X ∷ Y ∷ [])) under-X) → ⊥
 part-other-inherited q = omega (arith, ap (at 1) (q .node .isInherited))
 
-part-other-child : PartOf wide wideTree (in-X (x3 ∷ leaf 0 ∷ y4 ∷ []) (added Y [])) → ⊥
+part-other-child : PartOf wide wideTree (in-X (x3 ∷ leaf (bare 0) ∷ y4 ∷ []) (added Y [])) → ⊥
 part-other-child q = omega (arith, ap (λ u. at 0 (values (child (childrenOf u) 0))) (q .node .isNode))
 
 part-other-handed : PartOf wide wideTree (in-X [] (valued Y (pos 8 ∷ []) (terminal 0 ∷ X ∷ Y ∷ []))) → ⊥
 part-other-handed q = omega (arith, ap (at 0) (q .point))
 
-part-other-results : PartOf wide wideTree (in-X (y4 ∷ x3 ∷ leaf 0 ∷ y1 ∷ []) (closing (pos 8 ∷ []))) → ⊥
+part-other-results : PartOf wide wideTree (in-X (y4 ∷ x3 ∷ leaf (bare 0) ∷ y1 ∷ []) (closing (pos 8 ∷ []))) → ⊥
 part-other-results q = omega (arith, ap (at 0) (q .point))
 
 part-other-below : PartOf wide wideTree (partAt (open-node 1 (pos 3 ∷ pos 4 ∷ []) []) (fresh (Y ∷ terminal 0 ∷ X ∷ Y ∷ [])) (waits-at (open-node 0 (pos 1 ∷ []) []) X [] ∷ waits-at (open-node whole [] []) (nonterminal 0) [] ∷ [])) → ⊥

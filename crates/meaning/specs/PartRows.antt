@@ -5,12 +5,12 @@ use mathlib.Core.Path.{_≡_, refl, ap}
 use mathlib.Core.List.{List, [], _∷_, map, reverse}
 use lib.IntN.{ℤ, pos, negsuc}
 use lib.Dec.{lit≤}
-use Rattle.meaning.specs.Grammar.{Grammar, Symbol, terminal, nonterminal, Occurrence, whole}
+use Rattle.meaning.specs.Grammar.{Grammar, Leaf, Symbol, terminal, nonterminal, Occurrence, whole}
 use Rattle.meaning.specs.Machine.{Config, moved, blocked, opening, next, lookAt, unread, placeOf, feedAll, stopped}
 use Rattle.meaning.specs.Tree.{Tree, leaf, node, noTrees, treeAnd}
 use Rattle.meaning.specs.Part.{Open, Point, fresh, added, valued, left, closing, Ancestor, Part, yieldPart, valueIn, drawFrames, drawRegisters, drawPart, forestOnto, Good, PartOf}
 use Rattle.meaning.specs.Selectors.{partAt, partNames, FindsTarget, Finds}
-use Rattle.meaning.specs.Words.{words, occ, lent}
+use Rattle.meaning.specs.Words.{words, bare, plain, occ, lent}
 use Rattle.meaning.specs.SchemeRows.{wide}
 use Rattle.meaning.specs.WalkRows.{wideTree, wideSegment}
 use Rattle.meaning.specs.CallRows.{m}
@@ -25,13 +25,13 @@ waits-at o x xs = record { node = o; symbol = x; ahead = xs }
 
 walked : Part
 walked =
-    partAt (open-node 2 (pos 0 ∷ []) (leaf 1 ∷ [])) (valued (nonterminal 1) (pos 1 ∷ []) (terminal 2 ∷ nonterminal 1 ∷ []))
-    (waits-at (open-node 1 (pos 0 ∷ []) (leaf 0 ∷ [])) (nonterminal 1) []
+    partAt (open-node 2 (pos 0 ∷ []) (leaf (bare 1) ∷ [])) (valued (nonterminal 1) (pos 1 ∷ []) (terminal 2 ∷ nonterminal 1 ∷ []))
+    (waits-at (open-node 1 (pos 0 ∷ []) (leaf (bare 0) ∷ [])) (nonterminal 1) []
     ∷ waits-at (open-node 0 [] []) (nonterminal 1) []
     ∷ waits-at (open-node whole [] []) (nonterminal 0) []
     ∷ [])
 
-walked-tokens : yieldPart walked ≡ 0 ∷ 1 ∷ []
+walked-tokens : yieldPart walked ≡ plain (0 ∷ 1 ∷ [])
 unfolding walked
 walked-tokens = refl
 
@@ -43,7 +43,7 @@ walked-places : reverse (map (placeOf words) (drawFrames words walked)) ≡ 3276
 unfolding walked
 walked-places = refl
 
-walked-by-machine : feedAll words (lent 9 9) (0 ∷ 1 ∷ []) (opening words) ≡ stopped (drawPart words walked 2 11)
+walked-by-machine : feedAll words (lent 9 9) (plain (0 ∷ 1 ∷ [])) (opening words) ≡ stopped (drawPart words walked 2 11)
 unfolding walked
 walked-by-machine = refl
 
@@ -51,13 +51,13 @@ walked-by-machine = refl
 
 walked-second : Part
 walked-second =
-    partAt (open-node 1 (pos 0 ∷ []) (leaf 0 ∷ [])) (valued (nonterminal 1) (pos 0 ∷ []) [])
-    (waits-at (open-node 2 (pos 0 ∷ []) (leaf 2 ∷ node 3 (pos 1 ∷ pos 5 ∷ []) noTrees ∷ leaf 1 ∷ [])) (nonterminal 1) []
+    partAt (open-node 1 (pos 0 ∷ []) (leaf (bare 0) ∷ [])) (valued (nonterminal 1) (pos 0 ∷ []) [])
+    (waits-at (open-node 2 (pos 0 ∷ []) (leaf (bare 2) ∷ node 3 (pos 1 ∷ pos 5 ∷ []) noTrees ∷ leaf (bare 1) ∷ [])) (nonterminal 1) []
     ∷ waits-at (open-node 0 [] []) (nonterminal 1) []
     ∷ waits-at (open-node whole [] []) (nonterminal 0) []
     ∷ [])
 
-second-tokens : yieldPart walked-second ≡ 1 ∷ 2 ∷ 0 ∷ []
+second-tokens : yieldPart walked-second ≡ plain (1 ∷ 2 ∷ 0 ∷ [])
 unfolding walked-second
 second-tokens = refl
 
@@ -73,12 +73,12 @@ second-places = refl
 -- ---- X to Y 0 X Y, at each point
 
 -- after n moves on these tokens
-abbrev after : ℕ → Grammar → List ℕ → Config → Config
+abbrev pub after : ℕ → Grammar → List Leaf → Config → Config
 after zero g us c = c
 after (suc n) g us c = elim (next g (lent 12 5) (lookAt us) c) [ blocked k ↦ c | moved d ↦ after n g (unread c d us) d ]
 
 abbrev machine : ℕ → Config
-machine n = after n wide wideSegment (opening wide)
+machine n = after n wide (plain wideSegment) (opening wide)
 
 abbrev pub X : Symbol
 X = nonterminal 1
@@ -87,13 +87,13 @@ abbrev pub Y : Symbol
 Y = nonterminal 2
 
 abbrev pub y1 : Tree
-y1 = node 3 (pos 7 ∷ pos 7 ∷ pos 8 ∷ []) (treeAnd (leaf 2) noTrees)
+y1 = node 3 (pos 7 ∷ pos 7 ∷ pos 8 ∷ []) (treeAnd (leaf (bare 2)) noTrees)
 
 abbrev pub x3 : Tree
-x3 = node 2 (pos 7 ∷ pos 3 ∷ pos 7 ∷ []) (treeAnd (leaf 1) noTrees)
+x3 = node 2 (pos 7 ∷ pos 3 ∷ pos 7 ∷ []) (treeAnd (leaf (bare 1)) noTrees)
 
 abbrev pub y4 : Tree
-y4 = node 3 (negsuc 0 ∷ negsuc 0 ∷ pos 0 ∷ []) (treeAnd (leaf 2) noTrees)
+y4 = node 3 (negsuc 0 ∷ negsuc 0 ∷ pos 0 ∷ []) (treeAnd (leaf (bare 2)) noTrees)
 
 -- the node of X with these left children, the latest first, at a point
 abbrev pub in-X : List Tree → Point → Part
@@ -114,13 +114,13 @@ at-left = refl
 at-tested : machine 11 ≡ drawPart wide (in-X (y1 ∷ []) (fresh (terminal 0 ∷ X ∷ Y ∷ []))) 1 11
 at-tested = refl
 
-at-last-added : machine 20 ≡ drawPart wide (in-X (x3 ∷ leaf 0 ∷ y1 ∷ []) (added Y [])) 3 20
+at-last-added : machine 20 ≡ drawPart wide (in-X (x3 ∷ leaf (bare 0) ∷ y1 ∷ []) (added Y [])) 3 20
 at-last-added = refl
 
-at-end : machine 26 ≡ drawPart wide (in-X (y4 ∷ x3 ∷ leaf 0 ∷ y1 ∷ []) (fresh [])) 4 26
+at-end : machine 26 ≡ drawPart wide (in-X (y4 ∷ x3 ∷ leaf (bare 0) ∷ y1 ∷ []) (fresh [])) 4 26
 at-end = refl
 
-at-closing : machine 27 ≡ drawPart wide (in-X (y4 ∷ x3 ∷ leaf 0 ∷ y1 ∷ []) (closing (pos 7 ∷ []))) 4 27
+at-closing : machine 27 ≡ drawPart wide (in-X (y4 ∷ x3 ∷ leaf (bare 0) ∷ y1 ∷ []) (closing (pos 7 ∷ []))) 4 27
 at-closing = refl
 
 at-closing-registers : machine 27 .registers ≡ (negsuc 0) ∷ pos 0 ∷ pos 7 ∷ pos 7 ∷ pos 8 ∷ pos 3 ∷ pos 4 ∷ pos 7 ∷ m ∷ []
@@ -129,9 +129,9 @@ at-closing-registers = refl
 -- ---- values of occurrences
 
 abbrev pub last-added : Part
-last-added = in-X (x3 ∷ leaf 0 ∷ y1 ∷ []) (added Y [])
+last-added = in-X (x3 ∷ leaf (bare 0) ∷ y1 ∷ []) (added Y [])
 
-values : map (valueIn (pos 3 ∷ pos 4 ∷ []) (x3 ∷ leaf 0 ∷ y1 ∷ [])) (occ 0 1 ∷ occ 0 2 ∷ occ 1 1 ∷ occ 1 2 ∷ occ 1 3 ∷ occ 3 2 ∷ occ 3 3 ∷ []) ≡ (pos 3) ∷ pos 4 ∷ pos 7 ∷ pos 7 ∷ pos 8 ∷ pos 3 ∷ pos 7 ∷ []
+values : map (valueIn (pos 3 ∷ pos 4 ∷ []) (x3 ∷ leaf (bare 0) ∷ y1 ∷ [])) (occ 0 1 ∷ occ 0 2 ∷ occ 1 1 ∷ occ 1 2 ∷ occ 1 3 ∷ occ 3 2 ∷ occ 3 3 ∷ []) ≡ (pos 3) ∷ pos 4 ∷ pos 7 ∷ pos 7 ∷ pos 8 ∷ pos 3 ∷ pos 7 ∷ []
 values = refl
 
 -- ---- what a selector finds: registers 1 to 9 of the node
@@ -158,7 +158,7 @@ part-of-tree : PartOf wide wideTree last-added
 part-of-tree = record {
   node = record { values = pos 3 ∷ pos 4 ∷ pos 7 ∷ []; ahead = treeAnd y4 noTrees; isNode = refl; isInherited = refl };
   point = tt;
-  below = (record { values = pos 7 ∷ []; ahead = treeAnd (node 1 (pos 3 ∷ pos 4 ∷ pos 7 ∷ []) (forestOnto (y4 ∷ x3 ∷ leaf 0 ∷ y1 ∷ []) noTrees)) noTrees; isNode = refl; isInherited = refl }, (record { values = []; ahead = treeAnd wideTree noTrees; isNode = refl; isInherited = refl }, tt));
+  below = (record { values = pos 7 ∷ []; ahead = treeAnd (node 1 (pos 3 ∷ pos 4 ∷ pos 7 ∷ []) (forestOnto (y4 ∷ x3 ∷ leaf (bare 0) ∷ y1 ∷ []) noTrees)) noTrees; isNode = refl; isInherited = refl }, (record { values = []; ahead = treeAnd wideTree noTrees; isNode = refl; isInherited = refl }, tt));
 }
 
 -- what the opening leaves is a good part

@@ -1,16 +1,16 @@
 -- The program: the translation scheme of a grammar as 32-bit words, in the layout that docs/PROGRAM.md describes. 01: "Its content depends on the table alone, in a layout written in docs/"
--- Four sections: 8 words on the whole segment; the directory, 64 words for each nonterminal; a record of 8 words for each production; then each production's body: where its expects stand, its entry tests, its scheme.
-use Prim.Native.Nat.{ℕ, zero, suc, _+_, _*_}
+-- Five sections: 9 words on the whole segment; the directory, 64 words for each nonterminal; a record of 8 words for each production; 12 words for each production, what its places wait at; then each production's body: where its expects stand, its entry tests, its scheme.
+use Prim.Native.Nat.{ℕ, zero, suc, _+_, _-_, _*_}
 use mathlib.Core.Bool.{Bool, true, false, _&&_}
 use mathlib.Core.List.{List, [], _∷_, _++_, map}
 use mathlib.Core.Option.{none, some}
-use lib.ListN.{length}
+use lib.ListN.{length, replicate}
 use lib.Dec.{eqb}
-use Rattle.meaning.specs.Base.{countFrom}
-use Rattle.meaning.specs.Grammar.{Symbol, terminal, nonterminal, Function, const, copy, sum, diff, prod, maxi, mini, addc, quot, Rule, Condition, range, atmost, Production, Grammar, syn, nonterminalCount}
+use Rattle.meaning.specs.Base.{any, countFrom}
+use Rattle.meaning.specs.Grammar.{Symbol, terminal, nonterminal, Function, const, copy, sum, diff, prod, maxi, mini, addc, quot, Rule, Condition, range, atmost, Production, Grammar, inh, syn, markedFor, nonterminalCount}
 use Rattle.meaning.specs.Scheme.{Instruction, add, evaluate, expect, test, remove, scheme, entryTests}
 use Rattle.meaning.specs.Sets.{TokenSet, has, starts}
-use Rattle.meaning.specs.Layout.{unsigned}
+use Rattle.meaning.specs.Layout.{unsigned, symbolByte}
 
 abbrev pub concat : {A : Type 0} → List (List A) → List A
 concat [] = []
@@ -120,6 +120,22 @@ abbrev pub recordsFrom : Grammar → ℕ → ℕ → List Production → List �
 recordsFrom g a i [] = []
 recordsFrom g a i (p ∷ ps) = recordWords g a i p ps ++ recordsFrom g (a + bodySize g p) (suc i) ps
 
+-- ---- what a place waits at: 12 words for a production, one for each number of symbols passed; 0 where the right side has no symbol behind them
+
+-- of a production of left side l, at symbol x, when the symbols passed have n registers: left side, registers passed, those of x that stand marked, those inherited, x as in the table, and a bit that says that there is a symbol
+abbrev pub waitWord : Grammar → ℕ → ℕ → Symbol → ℕ
+waitWord g l n x = l + 64 * n + 8192 * markedFor g x + 131072 * inh g x + 2097152 * symbolByte x + 536870912
+
+abbrev pub waitsFrom : Grammar → ℕ → ℕ → List Symbol → List ℕ
+waitsFrom g l n [] = []
+waitsFrom g l n (x ∷ xs) = waitWord g l n x ∷ waitsFrom g l (n + syn g x) xs
+
+abbrev pub waitRow : Grammar → Production → List ℕ
+waitRow g p = waitsFrom g (p .left) 0 (p .right) ++ replicate (12 - length (p .right)) 0
+
+abbrev pub waits : Grammar → List ℕ
+waits g = concat (map (waitRow g) (g .productions))
+
 -- ---- the directory: for a nonterminal and what comes next (63: the end), the first production whose set holds it
 
 abbrev pub directoryWord : Grammar → ℕ → ℕ → ℕ
@@ -130,16 +146,23 @@ directory g = concat (map (λ n. map (directoryWord g n) (countFrom 0 64)) (coun
 
 -- ---- the whole
 
+-- 02 (e): the terminals that tag 6 names
+abbrev pub carriers : Grammar → TokenSet
+carriers g = map (λ t. any (eqb t) (g .carrying)) (countFrom 0 64)
+
 abbrev pub directoryAddress : ℕ
-directoryAddress = 8
+directoryAddress = 9
 
 abbrev pub recordsAddress : Grammar → ℕ
 recordsAddress g = directoryAddress + 64 * nonterminalCount g
 
-abbrev pub bodiesAddress : Grammar → ℕ
-bodiesAddress g = recordsAddress g + 8 * length (g .productions)
+abbrev pub waitsAddress : Grammar → ℕ
+waitsAddress g = recordsAddress g + 8 * length (g .productions)
 
--- the whole segment's scheme: its expect, and a word that says that nothing is left; where the records begin; the number of terminals; the start symbol's registers; the result attribute; the number of productions; a free word
+abbrev pub bodiesAddress : Grammar → ℕ
+bodiesAddress g = waitsAddress g + 12 * length (g .productions)
+
+-- the whole segment's scheme: its expect, and a word that says that nothing is left; where the records begin; the number of terminals; the start symbol's registers; the result attribute; the number of productions; the terminals that carry a value, as two words
 abbrev pub segmentWords : Grammar → List ℕ
 segmentWords g =
     symbolHead (nonterminal (g .start))
@@ -149,8 +172,9 @@ segmentWords g =
     ∷ syn g (nonterminal (g .start))
     ∷ g .result
     ∷ length (g .productions)
-    ∷ 0
+    ∷ setBits (carriers g) 0 1 32
+    ∷ setBits (carriers g) 32 1 32
     ∷ []
 
 abbrev pub programOf : Grammar → List ℕ
-programOf g = segmentWords g ++ (directory g ++ (recordsFrom g (bodiesAddress g) 0 (g .productions) ++ bodiesFrom g (bodiesAddress g) (g .productions)))
+programOf g = segmentWords g ++ (directory g ++ (recordsFrom g (bodiesAddress g) 0 (g .productions) ++ (waits g ++ bodiesFrom g (bodiesAddress g) (g .productions))))

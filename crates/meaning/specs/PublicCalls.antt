@@ -1,4 +1,4 @@
--- The calls as a caller makes them: any bytes for a table, any program area, record, stacks and tokens. 01: "Order: 30, table, 33, 34, then the moves"
+-- The calls as a caller makes them: any bytes for a table, any program area, record, stacks, kinds and values. 01: "Order: 30, table, 33, 34, then the moves"; 02 (e): 38 "after 34"
 use Prim.Native.Nat.{ℕ, suc, _-_}
 use mathlib.Core.Bool.{true, false}
 use mathlib.Core.List.{List, [], _∷_, _++_}
@@ -30,11 +30,12 @@ check bs = elim (readTable bs) [ malformed n o ↦ unusable n o | wellFormed s �
 -- ---- the calls on a run
 
 pub data Call : Type 0 where
-  feed : List ℕ → Call
+  -- kinds and values
+  feed : List ℕ → List ℤ → Call
   finish : Call
 
 abbrev pub callOf : Grammar → Record → Stacks → Call → Called
-callOf g r m (feed ts) = feedOf g r m ts
+callOf g r m (feed ks vs) = feedOf g r m ks vs
 callOf g r m finish = finishOf g r m
 
 -- 01: "A program area of at least 16,384 32-bit words is lent"

@@ -62,7 +62,7 @@ opens-without-places area h = rw (h, called)
 
 -- ---- feeding and finishing
 
-feeds : (area : List ℕ) → Long area → performs program bytes area (state true 0 0 1 1) (stacks (m ∷ m ∷ m ∷ m ∷ m ∷ []) (32768 ∷ 0 ∷ 0 ∷ [])) (feed (0 ∷ [])) ≡ effect (more 7) (state true 1 7 5 3) (stacks (m ∷ m ∷ pos 0 ∷ m ∷ pos 0 ∷ []) (32768 ∷ 0 ∷ 257 ∷ [])) (after area)
+feeds : (area : List ℕ) → Long area → performs program bytes area (state true 0 0 1 1) (stacks (m ∷ m ∷ m ∷ m ∷ m ∷ []) (32768 ∷ 0 ∷ 0 ∷ [])) (feed (0 ∷ []) (pos 0 ∷ [])) ≡ effect (more 7) (state true 1 7 5 3) (stacks (m ∷ m ∷ pos 0 ∷ m ∷ pos 0 ∷ []) (32768 ∷ 0 ∷ 257 ∷ [])) (after area)
 unfolding bytes
 feeds area h = rw (h, called)
 
@@ -71,22 +71,22 @@ unfolding bytes
 finishes area h = rw (h, called)
 
 -- an empty feed writes the program
-feeds-nothing : (area : List ℕ) → Long area → performs program bytes area (state true 3 4 1 1) (stacks (m ∷ []) (32768 ∷ [])) (feed []) ≡ effect (more 4) (state true 3 4 1 1) (stacks (m ∷ []) (32768 ∷ [])) (after area)
+feeds-nothing : (area : List ℕ) → Long area → performs program bytes area (state true 3 4 1 1) (stacks (m ∷ []) (32768 ∷ [])) (feed [] []) ≡ effect (more 4) (state true 3 4 1 1) (stacks (m ∷ []) (32768 ∷ [])) (after area)
 unfolding bytes
 feeds-nothing area h = rw (h, called)
 
 -- 30 and the table's refusals: everything as brought, also the record, open or closed; before 33 and 34
-performs-short : map (performs program [] (5 ∷ []) (state false 1 2 3 4) (used 3 2)) (feed (0 ∷ []) ∷ finish ∷ []) ≡ replicate 2 (effect (refused 30 0) (state false 1 2 3 4) (used 3 2) (5 ∷ []))
+performs-short : map (performs program [] (5 ∷ []) (state false 1 2 3 4) (used 3 2)) (feed (0 ∷ []) (pos 0 ∷ []) ∷ finish ∷ []) ≡ replicate 2 (effect (refused 30 0) (state false 1 2 3 4) (used 3 2) (5 ∷ []))
 performs-short = refl
 
 performs-refused : (area : List ℕ) → Long area → performs program (1 ∷ 0 ∷ []) area (state true 1 2 3 4) (used 3 2) finish ≡ effect (tableRefused 2 0) (state true 1 2 3 4) (used 3 2) area
 performs-refused area h = rw (h, called)
 
-performs-refused-closed : (area : List ℕ) → Long area → performs program (1 ∷ 0 ∷ []) area (state false 1 2 3 4) (used 3 2) (feed (0 ∷ [])) ≡ effect (tableRefused 2 0) (state false 1 2 3 4) (used 3 2) area
+performs-refused-closed : (area : List ℕ) → Long area → performs program (1 ∷ 0 ∷ []) area (state false 1 2 3 4) (used 3 2) (feed (0 ∷ []) (pos 0 ∷ [])) ≡ effect (tableRefused 2 0) (state false 1 2 3 4) (used 3 2) area
 performs-refused-closed area h = rw (h, called)
 
 -- 33 and 34: record and stacks as brought, but the program is written; 33 before 34
-performs-closed : (area : List ℕ) → Long area → performs program bytes area (state false 1 2 3 4) (used 3 2) (feed (0 ∷ [])) ≡ effect (refused 33 0) (state false 1 2 3 4) (used 3 2) (after area)
+performs-closed : (area : List ℕ) → Long area → performs program bytes area (state false 1 2 3 4) (used 3 2) (feed (0 ∷ []) (pos 0 ∷ [])) ≡ effect (refused 33 0) (state false 1 2 3 4) (used 3 2) (after area)
 unfolding bytes
 performs-closed area h = rw (h, called)
 
@@ -96,7 +96,7 @@ performs-unfit area h = rw (h, called)
 
 -- ---- each function, run: n of A is -7, its m is 2, and the registers of S lie the first attribute on top
 
-runs-functions : (area : List ℕ) → Long area → performs program functions area (state true 0 0 8 1) (stacks (replicate 12 m) (32768 ∷ 0 ∷ 0 ∷ [])) (feed (0 ∷ [])) .stacks ≡ stacks (pos 0 ∷ negsuc 506 ∷ negsuc 6 ∷ pos 2 ∷ negsuc 13 ∷ negsuc 8 ∷ negsuc 4 ∷ negsuc 6 ∷ m ∷ m ∷ m ∷ m ∷ []) (32769 ∷ 0 ∷ 0 ∷ [])
+runs-functions : (area : List ℕ) → Long area → performs program functions area (state true 0 0 8 1) (stacks (replicate 12 m) (32768 ∷ 0 ∷ 0 ∷ [])) (feed (0 ∷ []) (pos 0 ∷ [])) .stacks ≡ stacks (pos 0 ∷ negsuc 506 ∷ negsuc 6 ∷ pos 2 ∷ negsuc 13 ∷ negsuc 8 ∷ negsuc 4 ∷ negsuc 6 ∷ m ∷ m ∷ m ∷ m ∷ []) (32769 ∷ 0 ∷ 0 ∷ [])
 unfolding functions
 runs-functions area h = rw (h, called)
 

@@ -6,10 +6,10 @@ use mathlib.Core.List.{List, [], _∷_, map}
 use lib.ListN.{replicate}
 use lib.IntN.{ℤ, pos, negsuc}
 use Rattle.meaning.specs.Grammar.{terminal, nonterminal, const, copy, addc, range, Grammar}
-use Rattle.meaning.specs.Calls.{Called, more, value, refused, closedRecord, openOf, feedOf, finishOf}
+use Rattle.meaning.specs.Calls.{Called, more, value, refused, closedRecord, openOf, finishOf}
 use Rattle.meaning.specs.Words.{words, p0, p1, p2, occ, rule}
 use Rattle.meaning.specs.SchemeRows.{wide}
-use Rattle.meaning.specs.CallRows.{m, state, stacks, called, used, thenFeed, thenFinish}
+use Rattle.meaning.specs.CallRows.{m, state, stacks, called, used, feedKinds, thenFeed, thenFinish}
 
 -- ---- 20: not below T, judged before its moves; what was read before stands, the rest of the list is ignored
 
@@ -42,6 +42,7 @@ abbrev tested : ℤ → Grammar
 tested n = record {
   terminals = 1;
   counts = record { inherited = 0; synthesized = 1 } ∷ record { inherited = 0; synthesized = 1 } ∷ [];
+  carrying = [];
   start = 0;
   result = 1;
   productions =
@@ -62,6 +63,7 @@ abbrev twoWays : ℤ → ℤ → Grammar
 twoWays v n = record {
   terminals = 1;
   counts = record { inherited = 0; synthesized = 1 } ∷ record { inherited = 1; synthesized = 1 } ∷ record { inherited = 0; synthesized = 1 } ∷ [];
+  carrying = [];
   start = 0;
   result = 1;
   productions =
@@ -92,6 +94,7 @@ abbrev sums : ℤ → ℤ → Grammar
 sums a b = record {
   terminals = 1;
   counts = record { inherited = 0; synthesized = 2 } ∷ record { inherited = 0; synthesized = 1 } ∷ [];
+  carrying = [];
   start = 0;
   result = 1;
   productions =
@@ -112,7 +115,7 @@ great-enough = refl
 
 -- 01's grammar of words and tags with a count that starts at c
 abbrev counted : ℤ → Grammar
-counted c = record { terminals = 3; counts = words .counts; start = 0; result = 1; productions = p0 ∷ p1 ∷ p2 ∷ record { left = 1; right = []; rules = rule (occ 0 2) (const c) ∷ []; conditions = [] } ∷ [] }
+counted c = record { terminals = 3; counts = words .counts; carrying = []; start = 0; result = 1; productions = p0 ∷ p1 ∷ p2 ∷ record { left = 1; right = []; rules = rule (occ 0 2) (const c) ∷ []; conditions = [] } ∷ [] }
 
 -- 02 (d): "A count that starts at 2,147,483,647 now gives 2,147,483,648 after one word"
 past-32-bits : thenFinish (counted (pos 2147483647)) (thenFeed (counted (pos 2147483647)) (0 ∷ []) (openOf (counted (pos 2147483647)) (used 8 5))) .answer ≡ value (pos 2147483648) 14
@@ -123,7 +126,7 @@ constant-too-great : thenFeed (sums (pos 1000000000001) (pos 0)) (0 ∷ []) (ope
 constant-too-great = refl
 
 -- the result is the attribute that the header names
-second-result : thenFinish (record { terminals = 1; counts = sums (pos 5) (pos 9) .counts; start = 0; result = 2; productions = sums (pos 5) (pos 9) .productions }) (thenFeed (sums (pos 5) (pos 9)) (0 ∷ []) (openOf (sums (pos 5) (pos 9)) (used 4 4))) .answer ≡ value (pos 14) 8
+second-result : thenFinish (record { terminals = 1; counts = sums (pos 5) (pos 9) .counts; carrying = []; start = 0; result = 2; productions = sums (pos 5) (pos 9) .productions }) (thenFeed (sums (pos 5) (pos 9)) (0 ∷ []) (openOf (sums (pos 5) (pos 9)) (used 4 4))) .answer ≡ value (pos 14) 8
 second-result = refl
 
 -- ---- 24: over where a token is expected, or where no alternative holds the end
@@ -160,7 +163,7 @@ places-in-feed = refl
 
 -- inside one predict: 21 or 24, then 22, then 32. Three places are lent and stand; the top one waits at L with d = 3
 at-inner : List ℕ → Called
-at-inner ts = feedOf words (state true 1 7 5 3) (stacks (m ∷ m ∷ pos 3 ∷ m ∷ pos 3 ∷ []) (32768 ∷ 0 ∷ 257 ∷ [])) ts
+at-inner ts = feedKinds words (state true 1 7 5 3) (stacks (m ∷ m ∷ pos 3 ∷ m ∷ pos 3 ∷ []) (32768 ∷ 0 ∷ 257 ∷ [])) ts
 
 condition-before-place : at-inner (1 ∷ []) .answer ≡ refused 22 1
 unfolding at-inner
@@ -178,7 +181,7 @@ end-before-place = refl
 
 -- ---- 33: a closed record, whatever else it holds; nothing changes, and 0 tokens
 
-closed-feed : map (λ ts. feedOf words (state false 9 9 9 9) (used 1 1) ts) ([] ∷ (0 ∷ []) ∷ (255 ∷ []) ∷ []) ≡ replicate 3 (called (refused 33 0) (state false 9 9 9 9) (used 1 1))
+closed-feed : map (λ ts. feedKinds words (state false 9 9 9 9) (used 1 1) ts) ([] ∷ (0 ∷ []) ∷ (255 ∷ []) ∷ []) ≡ replicate 3 (called (refused 33 0) (state false 9 9 9 9) (used 1 1))
 closed-feed = refl
 
 closed-finish : finishOf words (state false 9 9 9 9) (used 1 1) ≡ called (refused 33 0) (state false 9 9 9 9) (used 1 1)
@@ -188,21 +191,21 @@ finished-twice : thenFinish words (thenFinish words (openOf words (used 3 3))) �
 finished-twice = refl
 
 -- 33 before 34: these stacks do not fit either
-closed-before-unfit : feedOf words (state false 0 0 0 0) (used 2 2) (0 ∷ []) .answer ≡ refused 33 0
+closed-before-unfit : feedKinds words (state false 0 0 0 0) (used 2 2) (0 ∷ []) .answer ≡ refused 33 0
 closed-before-unfit = refl
 
 -- 34 before the moves and their refusals
-unfit-before-token : map (λ ts. feedOf words (state true 65535 4294967295 0 0) (used 2 2) ts .answer) ([] ∷ (0 ∷ []) ∷ (255 ∷ []) ∷ []) ≡ replicate 3 (refused 34 0)
+unfit-before-token : map (λ ts. feedKinds words (state true 65535 4294967295 0 0) (used 2 2) ts .answer) ([] ∷ (0 ∷ []) ∷ (255 ∷ []) ∷ []) ≡ replicate 3 (refused 34 0)
 unfit-before-token = refl
 
 -- ---- 35: tokens and moves
 
 -- at an opened run with these counts; on the start symbol left with these counts
 at-start : ℕ → ℕ → List ℕ → Called
-at-start t n ts = feedOf words (state true t n 1 1) (stacks (m ∷ m ∷ m ∷ []) (32768 ∷ 0 ∷ [])) ts
+at-start t n ts = feedKinds words (state true t n 1 1) (stacks (m ∷ m ∷ m ∷ []) (32768 ∷ 0 ∷ [])) ts
 
 at-end : ℕ → ℕ → List ℕ → Called
-at-end t n ts = feedOf words (state true t n 1 1) (stacks (pos 4 ∷ []) (32769 ∷ [])) ts
+at-end t n ts = feedKinds words (state true t n 1 1) (stacks (pos 4 ∷ []) (32769 ∷ [])) ts
 
 -- the 65,536th token: before 20, before 21, before any move
 token-limit : map (λ t. at-start 65535 0 (t ∷ [])) (0 ∷ 2 ∷ 200 ∷ []) ≡ replicate 3 (called (refused 35 65535) (state false 65535 0 1 1) (stacks (m ∷ m ∷ m ∷ []) (32768 ∷ 0 ∷ [])))
@@ -235,7 +238,7 @@ move-limit : map (λ t. at-start 7 4294967295 (t ∷ [])) (0 ∷ 2 ∷ []) ≡ r
 unfolding at-start
 move-limit = refl
 
-move-limit-no-alternative : feedOf wide (state true 7 4294967295 1 1) (stacks (m ∷ []) (32768 ∷ [])) (0 ∷ []) .answer ≡ refused 35 7
+move-limit-no-alternative : feedKinds wide (state true 7 4294967295 1 1) (stacks (m ∷ []) (32768 ∷ [])) (0 ∷ []) .answer ≡ refused 35 7
 move-limit-no-alternative = refl
 
 move-limit-end : finishOf wide (state true 7 4294967295 1 1) (stacks (m ∷ []) (32768 ∷ [])) .answer ≡ refused 35 7
@@ -249,18 +252,18 @@ move-limit-finished : finishOf words (state true 7 4294967295 1 1) (stacks (pos 
 move-limit-finished = refl
 
 -- before 22 and before 32
-move-limit-condition : feedOf words (state true 1 4294967295 5 3) (stacks (m ∷ m ∷ pos 3 ∷ m ∷ pos 3 ∷ []) (32768 ∷ 0 ∷ 257 ∷ [])) (1 ∷ []) .answer ≡ refused 35 1
+move-limit-condition : feedKinds words (state true 1 4294967295 5 3) (stacks (m ∷ m ∷ pos 3 ∷ m ∷ pos 3 ∷ []) (32768 ∷ 0 ∷ 257 ∷ [])) (1 ∷ []) .answer ≡ refused 35 1
 move-limit-condition = refl
 
-move-limit-place : feedOf words (state true 1 4294967295 5 3) (stacks (m ∷ m ∷ pos 3 ∷ m ∷ pos 3 ∷ []) (32768 ∷ 0 ∷ 257 ∷ [])) (0 ∷ []) .answer ≡ refused 35 1
+move-limit-place : feedKinds words (state true 1 4294967295 5 3) (stacks (m ∷ m ∷ pos 3 ∷ m ∷ pos 3 ∷ []) (32768 ∷ 0 ∷ 257 ∷ [])) (0 ∷ []) .answer ≡ refused 35 1
 move-limit-place = refl
 
 -- the last move allowed is made; before 31: one register is lent, and the next move would be an add
-last-move : feedOf words (state true 0 4294967294 1 1) (stacks (m ∷ []) (32768 ∷ 0 ∷ [])) (0 ∷ []) ≡ called (refused 35 0) (state false 0 4294967295 1 2) (stacks (m ∷ []) (32768 ∷ 0 ∷ []))
+last-move : feedKinds words (state true 0 4294967294 1 1) (stacks (m ∷ []) (32768 ∷ 0 ∷ [])) (0 ∷ []) ≡ called (refused 35 0) (state false 0 4294967295 1 2) (stacks (m ∷ []) (32768 ∷ 0 ∷ []))
 last-move = refl
 
 -- before 23: S's value would be too great
-move-limit-value : feedOf (sums (pos 1000000000000) (pos 0)) (state true 0 4294967289 2 1) (stacks (m ∷ m ∷ m ∷ []) (32768 ∷ 0 ∷ 0 ∷ [])) (0 ∷ []) ≡ called (refused 35 1) (state false 1 4294967295 3 2) (stacks (m ∷ m ∷ pos 1000000000000 ∷ []) (32768 ∷ 1 ∷ 0 ∷ []))
+move-limit-value : feedKinds (sums (pos 1000000000000) (pos 0)) (state true 0 4294967289 2 1) (stacks (m ∷ m ∷ m ∷ []) (32768 ∷ 0 ∷ 0 ∷ [])) (0 ∷ []) ≡ called (refused 35 1) (state false 1 4294967295 3 2) (stacks (m ∷ m ∷ pos 1000000000000 ∷ []) (32768 ∷ 1 ∷ 0 ∷ []))
 move-limit-value = refl
 
 -- exactly enough moves: 8 for no tokens

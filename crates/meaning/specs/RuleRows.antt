@@ -22,6 +22,7 @@ use Rattle.meaning.specs.Samples.{header, counts, handDown, handUp, firs
 functions-read : grammar (readTable functions) ≡ record {
   terminals = 1;
   counts = record { inherited = 0; synthesized = 8 } ∷ record { inherited = 1; synthesized = 2 } ∷ [];
+  carrying = [];
   start = 0;
   result = 8;
   productions = record {

@@ -110,6 +110,11 @@ pub record WellFormedProduction (g : Grammar) (p : Production) : Type 0 where
 
 -- ---- the whole grammar
 
+-- 02 (e): "in rising order"
+abbrev pub Rising : List ℕ → Type 0
+Rising [] = Unit {0}
+Rising (t ∷ ts) = ((u : ℕ) → In u ts → t < u) × Rising ts
+
 pub record WellFormed (g : Grammar) : Type 0 where
   -- 01: "terminals T (1 to 63), nonterminals N (1 to 48), start nonterminal, index of its result attribute"
   pub terminals : (1 ≤ g .terminals) × (g .terminals ≤ 63)
@@ -117,6 +122,9 @@ pub record WellFormed (g : Grammar) : Type 0 where
   pub start : g .start < nonterminalCount g
   -- 01: "inherited count, synthesized count; together at most 8"
   pub attributes : (c : Counts) → In c (g .counts) → c .inherited + c .synthesized ≤ 8
+  -- 02 (e): "a number that is no terminal or doesn't rise is a 5"
+  pub carriers : (t : ℕ) → In t (g .carrying) → t < g .terminals
+  pub rising : Rising (g .carrying)
   -- 01: "6 start symbol with inherited attributes or without the result attribute"
   pub startAlone : inh g (nonterminal (g .start)) ≡ 0
   pub result : (1 ≤ g .result) × (g .result ≤ syn g (nonterminal (g .start)))

@@ -28,6 +28,7 @@ abbrev pub wide : Grammar
 wide = record {
   terminals = 3;
   counts = record { inherited = 0; synthesized = 1 } ∷ record { inherited = 2; synthesized = 1 } ∷ record { inherited = 1; synthesized = 2 } ∷ [];
+  carrying = [];
   start = 0;
   result = 1;
   productions =
@@ -43,7 +44,7 @@ wide = record {
 symbols : map (symbolAt wide1) (0 ∷ 1 ∷ 2 ∷ 3 ∷ 4 ∷ 5 ∷ []) ≡ X ∷ Y ∷ terminal 0 ∷ X ∷ Y ∷ terminal 0 ∷ []
 symbols = refl
 
--- terminals have no attributes
+-- terminals without tag 6 have no attributes
 attributes : map (att wide) (terminal 1 ∷ nonterminal 0 ∷ X ∷ Y ∷ []) ≡ 0 ∷ 1 ∷ 3 ∷ 3 ∷ []
 attributes = refl
 

@@ -5,7 +5,7 @@ use mathlib.Core.List.{List, [], _∷_, _++_}
 use lib.ListN.{getD, length}
 use lib.IntN.{ℤ, pos}
 use Rattle.meaning.specs.Base.{In}
-use Rattle.meaning.specs.Grammar.{Grammar, Production, Symbol, nonterminal, Occurrence, Rule, Condition, inh, syn, att, productionAt, symbolAt}
+use Rattle.meaning.specs.Grammar.{Grammar, Leaf, Production, Symbol, nonterminal, Occurrence, Rule, Condition, inh, syn, att, addedFor, productionAt, symbolAt}
 use Rattle.meaning.specs.Rules.{Operands, Reads}
 use Rattle.meaning.specs.Scheme.{Instruction, add, evaluate, expect, test, remove, removed, inheritedRules, synthesizedRules, testsAfter, rulesFor, conditionsAt, selectInherited, selectAfter}
 use Rattle.meaning.specs.Machine.{Config, readRegister}
@@ -32,8 +32,8 @@ nodeNames g p n = childNames g p n ++ names 0 1 (att g (nonterminal (p .left)))
 
 abbrev pub pointNames : Grammar → ℕ → Point → List Occurrence
 pointNames g n (fresh xs) = []
-pointNames g n (added x xs) = names (suc n) 1 (att g x)
-pointNames g n (valued x is xs) = names (suc n) 1 (att g x)
+pointNames g n (added x xs) = names (suc n) 1 (addedFor g x)
+pointNames g n (valued x is xs) = names (suc n) 1 (addedFor g x)
 pointNames g n (left xs) = []
 pointNames g n (closing ss) = []
 
@@ -61,7 +61,7 @@ partAt o pt bs = record { node = o; point = pt; below = bs }
 
 -- the instruction that a point shows
 pub data Due (g : Grammar) (o : Open) : Instruction → Point → Type 0 where
-  adds : (x : Symbol) (xs : List Symbol) → Due g o (add (att g x)) (fresh (x ∷ xs))
+  adds : (x : Symbol) (xs : List Symbol) → Due g o (add (addedFor g x)) (fresh (x ∷ xs))
   hands : (x : Symbol) (xs : List Symbol) → Due g o (evaluate (inheritedRules g (productionAt g (o .production)) (suc (length (o .children))))) (added x xs)
   waits : (x : Symbol) (is : List ℤ) (xs : List Symbol) → Due g o (expect x) (valued x is xs)
   tests : (xs : List Symbol) → Due g o (test (testsAfter g (productionAt g (o .production)) (length (o .children)))) (left xs)
@@ -84,7 +84,7 @@ Found g o bs (fresh (x ∷ xs)) = Unit {0}
 Found g o bs (closing ss) = Unit {0}
 
 -- a configuration that has read ts, with us still to come, and its next instruction i: it draws a part evaluated so far whose point shows i, every selector of i finds its attribute there, and the part is one of the segment's tree, if it has one
-pub record SelectorsFind (g : Grammar) (ts us : List ℕ) (c : Config) (i : Instruction) : Type 0 where
+pub record SelectorsFind (g : Grammar) (ts us : List Leaf) (c : Config) (i : Instruction) : Type 0 where
   pub node : Open
   pub point : Point
   pub below : List Ancestor

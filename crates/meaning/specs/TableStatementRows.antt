@@ -4,6 +4,7 @@ use native.Mathlib.Omega.{arith}
 use mathlib.Core.Path.{refl, ap}
 use mathlib.Core.List.{List, [], _∷_, _++_}
 use mathlib.Core.Bool.{Bool, true, false}
+use mathlib.Core.Logic.{inl}
 use lib.ListN.{getD, length, length-append}
 use lib.IntN.{ℤ, pos, negsuc}
 use lib.Dec.{lit<}
@@ -24,7 +25,7 @@ abbrev toToken : Production
 toToken = record { left = 1; right = terminal 0 ∷ []; rules = rule (occ 0 2) (const (pos 0)) ∷ []; conditions = [] }
 
 abbrev its : Grammar
-its = record { terminals = 1; counts = record { inherited = 0; synthesized = 1 } ∷ record { inherited = 1; synthesized = 1 } ∷ []; start = 0; result = 1; productions = toA ∷ toToken ∷ [] }
+its = record { terminals = 1; counts = record { inherited = 0; synthesized = 1 } ∷ record { inherited = 1; synthesized = 1 } ∷ []; carrying = []; start = 0; result = 1; productions = toA ∷ toToken ∷ [] }
 
 second : StretchIn small its 1 (aToToken ++ aIsZero)
 second = record {
@@ -66,6 +67,7 @@ abbrev others : Grammar
 others = record {
   terminals = 3;
   counts = words .counts;
+  carrying = [];
   start = 0;
   result = 1;
   productions =
@@ -112,7 +114,7 @@ other-instructions s = omega (arith, ap constantIn (s .instructions))
 
 -- another left side; list to nothing in the place of list to word list; list to open list in its place
 abbrev with-two : Production → Production → Grammar
-with-two p q = record { terminals = 3; counts = words .counts; start = 0; result = 1; productions = p ∷ q ∷ [] }
+with-two p q = record { terminals = 3; counts = words .counts; carrying = []; start = 0; result = 1; productions = p ∷ q ∷ [] }
 
 abbrev bare : ℕ → List Symbol → Production
 bare n xs = record { left = n; right = xs; rules = []; conditions = [] }
@@ -121,7 +123,19 @@ other-left : SameProduction words (with-two (bare 1 (nonterminal 1 ∷ [])) p1) 
 other-left s = omega (arith, s .left)
 
 other-symbols : SameProduction words (with-two p0 p3) 1 → ⊥
-other-symbols s = omega (arith, s .symbols)
+other-symbols s = omega (arith, ap length (s .right))
+
+abbrev numberOf : List Symbol → ℕ
+numberOf [] = 0
+numberOf (terminal t ∷ xs) = t
+numberOf (nonterminal n ∷ xs) = n
+
+other-right : SameProduction words (with-two p0 (bare 1 (terminal 1 ∷ nonterminal 1 ∷ []))) 1 → ⊥
+other-right s = omega (arith, ap numberOf (s .right))
+
+-- one more inherited attribute of the symbol on the right side
+other-counts : SameProduction words (record { terminals = 3; counts = record { inherited = 0; synthesized = 1 } ∷ record { inherited = 2; synthesized = 1 } ∷ []; carrying = []; start = 0; result = 1; productions = p0 ∷ p1 ∷ [] }) 0 → ⊥
+other-counts s = omega (arith, s .counts (nonterminal 1) (inl refl) .0)
 
 abbrev told : Bool → ℕ
 told true = 1

@@ -2,10 +2,11 @@
 use Prim.Native.Nat.{ℕ, suc, _≤_, _<_}
 use mathlib.Core.Path.{_≡_}
 use mathlib.Core.List.{List, [], _++_}
+use lib.Dec.{eqb}
 use lib.ListN.{length, take, drop}
-use Rattle.meaning.specs.Base.{In}
-use Rattle.meaning.specs.Grammar.{Grammar, nonterminal, syn, nonterminalCount, productionAt}
-use Rattle.meaning.specs.Layout.{field, headerBytes, countsFields, productionBytes, RulesAndConditions, Productions, Bytes}
+use Rattle.meaning.specs.Base.{any, In}
+use Rattle.meaning.specs.Grammar.{Symbol, Grammar, nonterminal, inh, syn, markedFor, nonterminalCount, productionAt}
+use Rattle.meaning.specs.Layout.{field, headerBytes, countsFields, carryingFields, productionBytes, RulesAndConditions, Productions, Bytes}
 use Rattle.meaning.specs.Judgement.{Accepted, Judged, rejected}
 use Rattle.meaning.specs.Sets.{has, starts}
 use Rattle.meaning.specs.Scheme.{scheme, entryTests}
@@ -14,7 +15,7 @@ use Rattle.meaning.specs.PublicCalls.{Stretch, stretchOf, areaLength}
 
 -- ==== the stretch. 01: "that production's stretch of the table itself, from its tag 3 to the next or the end"
 
--- production p's field, rules and conditions, in their place: after the header, the counts and the productions before it, with those after it behind
+-- production p's field, rules and conditions, in their place: after the header, the counts, the tokens that carry a value and the productions before it, with those after it behind
 pub record StretchIn (bs : List ℕ) (g : Grammar) (p : ℕ) (part : List ℕ) : Type 0 where
   pub earlier : List ℕ
   pub body : List ℕ
@@ -23,7 +24,7 @@ pub record StretchIn (bs : List ℕ) (g : Grammar) (p : ℕ) (part : List ℕ) :
   pub isBody : RulesAndConditions (productionAt g p .rules) (productionAt g p .conditions) body
   pub isPart : part ≡ field 3 (productionBytes (productionAt g p)) ++ body
   pub isLater : Productions (drop (suc p) (g .productions)) later
-  pub isTable : bs ≡ field 1 (headerBytes g) ++ (countsFields (g .counts) ++ (earlier ++ (part ++ later)))
+  pub isTable : bs ≡ field 1 (headerBytes g) ++ (countsFields (g .counts) ++ (carryingFields (g .carrying) ++ (earlier ++ (part ++ later))))
 
 abbrev pub stretch : List ℕ → ℕ → ℕ → Stretch
 stretch part number offset = record { part = part; number = number; offset = offset }
@@ -42,10 +43,11 @@ StretchExactly =
 abbrev pub ProgramFits : Type 0
 ProgramFits = (bs : List ℕ) (g : Grammar) → Accepted bs g → (length (programOf g) ≤ areaLength) × ((v : ℕ) → In v (programOf g) → v < 4294967296)
 
--- what the moves ask of a production
+-- what the moves and 34 ask of a production
 pub record SameProduction (g h : Grammar) (p : ℕ) : Type 0 where
   pub left : productionAt g p .left ≡ productionAt h p .left
-  pub symbols : length (productionAt g p .right) ≡ length (productionAt h p .right)
+  pub right : productionAt g p .right ≡ productionAt h p .right
+  pub counts : (x : Symbol) → In x (productionAt g p .right) → (inh g x ≡ inh h x) × (markedFor g x ≡ markedFor h x)
   pub entered : (u : ℕ) → u < 64 → has (starts g (productionAt g p)) u ≡ has (starts h (productionAt h p)) u
   pub tests : entryTests g (productionAt g p) ≡ entryTests h (productionAt h p)
   pub instructions : scheme g (productionAt g p) ≡ scheme h (productionAt h p)
@@ -54,12 +56,14 @@ pub record SameProduction (g h : Grammar) (p : ℕ) : Type 0 where
 pub record SameScheme (g h : Grammar) : Type 0 where
   pub terminals : g .terminals ≡ h .terminals
   pub nonterminals : nonterminalCount g ≡ nonterminalCount h
+  -- which tokens carry a value: 63 stands for the end
+  pub carrying : (t : ℕ) → t < 64 → any (eqb t) (g .carrying) ≡ any (eqb t) (h .carrying)
   pub start : g .start ≡ h .start
   pub result : g .result ≡ h .result
   pub startRegisters : syn g (nonterminal (g .start)) ≡ syn h (nonterminal (h .start))
   pub productions : length (g .productions) ≡ length (h .productions)
   pub each : (p : ℕ) → p < length (g .productions) → SameProduction g h p
 
--- the words say all of it: two grammars with the same program have the same translation scheme
+-- the words say all of it: two grammars with the same program have the same right sides, counts and translation scheme
 abbrev pub ProgramTells : Type 0
 ProgramTells = (bs cs : List ℕ) (g h : Grammar) → Accepted bs g → Accepted cs h → programOf g ≡ programOf h → SameScheme g h

@@ -2,12 +2,12 @@
 use Prim.Native.Nat.{ℕ, zero, suc, _+_}
 use mathlib.Core.Path.{_≡_}
 use mathlib.Core.List.{List, [], _∷_, _++_}
-use Rattle.meaning.specs.Grammar.{terminal, nonterminal, Grammar, productionAt}
+use Rattle.meaning.specs.Grammar.{terminal, nonterminal, Leaf, Grammar, productionAt}
 use Rattle.meaning.specs.Scheme.{Instruction, add, evaluate, expect, test, remove, scheme}
 use Rattle.meaning.specs.Machine.{Frame, Config, Lent, moved, next, lookAt, unread}
 use Rattle.meaning.specs.Tree.{Tree, Forest, leaf, node, noTrees, treeAnd}
 
--- one move by name: a predict of a production, the read of a token, or an instruction of a production's scheme (an add, evaluate, test or remove)
+-- one move by name: a predict of a production, the read of a token of some kind, or an instruction of a production's scheme (an add, evaluate, test or remove)
 pub data Act : Type 0 where
   predicts : ℕ → Act
   reads : ℕ → Act
@@ -35,7 +35,7 @@ afterExpect (remove n ∷ is) = afterExpect is
 -- a node's predict, then its scheme, with each child's walk where the child is expected
 abbrev mutual
   pub walk : Grammar → Tree → List Act
-  walk g (leaf t) = reads t ∷ []
+  walk g (leaf u) = reads (u .kind) ∷ []
   walk g (node p vs f) = predicts p ∷ walkOn g p (scheme g (productionAt g p)) f
 
   pub walkOn : Grammar → ℕ → List Instruction → Forest → List Act
@@ -67,8 +67,8 @@ actBy p (test cs) d = performs p (test cs)
 actBy p (remove n) d = performs p (remove n)
 
 -- 01: "Moves, each counted as one". The moves ws lead from c, us still to come, to d, vs still to come
-pub data Makes (g : Grammar) (lent : Lent) (us : List ℕ) (c : Config) : List Act → List ℕ → Config → Type 0 where
+pub data Makes (g : Grammar) (lent : Lent) (us : List Leaf) (c : Config) : List Act → List Leaf → Config → Type 0 where
   nothing : Makes g lent us c [] us c
-  andThen : {ws : List Act} {vs : List ℕ} {d : Config} (p : ℕ) (i : Instruction) (is : List Instruction) (fs : List Frame) (e : Config)
+  andThen : {ws : List Act} {vs : List Leaf} {d : Config} (p : ℕ) (i : Instruction) (is : List Instruction) (fs : List Frame) (e : Config)
       → Makes g lent us c ws vs d → d .frames ≡ record { production = p; rest = i ∷ is } ∷ fs → next g lent (lookAt vs) d ≡ moved e
       → Makes g lent us c (ws ++ (actBy p i e ∷ [])) (unread d e vs) e

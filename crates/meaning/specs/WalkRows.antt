@@ -7,14 +7,14 @@ use lib.ListN.{length, take}
 use lib.IntN.{pos, negsuc}
 use lib.Dec.{lit<, lit≤}
 use Rattle.meaning.specs.Base.{countFrom}
-use Rattle.meaning.specs.Grammar.{Grammar, Function, const, copy, sum, addc, Rule, nonterminal}
+use Rattle.meaning.specs.Grammar.{Grammar, Leaf, Function, const, copy, sum, addc, Rule, nonterminal}
 use Rattle.meaning.specs.Scheme.{add, evaluate, expect, remove}
 use Rattle.meaning.specs.Machine.{Config, Lent, moved, blocked, opening, next, lookAt, unread, writeAll}
 use Rattle.meaning.specs.Tree.{Tree, leaf, node, noTrees, treeAnd, TreeOf, valueOf}
 use Rattle.meaning.specs.Walk.{Act, predicts, reads, performs, walk, walkTo, actBy, Makes, nothing, andThen}
 use Rattle.meaning.specs.Drawn.{registersFor, depth, WalkFits, drawnRecord, drawnStacks, drawnMoves}
 use Rattle.meaning.specs.Calls.{Called, more, value, refused, openOf}
-use Rattle.meaning.specs.Words.{words, lent}
+use Rattle.meaning.specs.Words.{words, bare, plain, lent}
 use Rattle.meaning.specs.Pictures.{tree, segment}
 use Rattle.meaning.specs.SchemeRows.{wide}
 use Rattle.meaning.specs.CallRows.{m, called, used, thenFeed, thenFinish}
@@ -55,7 +55,7 @@ over = refl
 
 -- ---- the machine's moves by name, until it is blocked
 
-abbrev acts : ℕ → Grammar → Lent → List ℕ → Config → List Act
+abbrev pub acts : ℕ → Grammar → Lent → List Leaf → Config → List Act
 acts zero g l us c = []
 acts (suc n) g l us c = elim (c .frames) [
   | [] ↦ []
@@ -65,11 +65,11 @@ acts (suc n) g l us c = elim (c .frames) [
   ]
 ]
 
-machine-walks : acts 50 words (lent 9 6) segment (opening words) ≡ walk words tree
+machine-walks : acts 50 words (lent 9 6) (plain segment) (opening words) ≡ walk words tree
 machine-walks = refl
 
 -- its first two moves, as a sequence of moves
-two-moves : Makes words (lent 9 6) segment (opening words) (predicts 0 ∷ performs 0 (add 2) ∷ []) segment (record { frames = record { production = 0; rest = evaluate (r 1 (const (pos 0)) ∷ []) ∷ expect (nonterminal 1) ∷ evaluate (r 2 (copy 1) ∷ []) ∷ remove 1 ∷ [] } ∷ record { production = 128; rest = expect (nonterminal 0) ∷ [] } ∷ []; registers = m ∷ m ∷ m ∷ []; tokens = 0; moves = 2 })
+two-moves : Makes words (lent 9 6) (plain segment) (opening words) (predicts 0 ∷ performs 0 (add 2) ∷ []) (plain segment) (record { frames = record { production = 0; rest = evaluate (r 1 (const (pos 0)) ∷ []) ∷ expect (nonterminal 1) ∷ evaluate (r 2 (copy 1) ∷ []) ∷ remove 1 ∷ [] } ∷ record { production = 128; rest = expect (nonterminal 0) ∷ [] } ∷ []; registers = m ∷ m ∷ m ∷ []; tokens = 0; moves = 2 })
 two-moves = andThen _ _ _ _ _ (andThen _ _ _ _ _ nothing refl refl) refl refl
 
 -- the evaluations of one move read the registers as they stood before it
@@ -106,21 +106,21 @@ abbrev pub wideTree : Tree
 wideTree =
     node 0 (pos 7 ∷ []) (treeAnd
     (node 1 (pos 3 ∷ pos 4 ∷ pos 7 ∷ []) (treeAnd
-    (node 3 (pos 7 ∷ pos 7 ∷ pos 8 ∷ []) (treeAnd (leaf 2) noTrees)) (treeAnd (leaf 0) (treeAnd
-    (node 2 (pos 7 ∷ pos 3 ∷ pos 7 ∷ []) (treeAnd (leaf 1) noTrees)) (treeAnd
-    (node 3 (negsuc 0 ∷ negsuc 0 ∷ pos 0 ∷ []) (treeAnd (leaf 2) noTrees)) noTrees)))))
+    (node 3 (pos 7 ∷ pos 7 ∷ pos 8 ∷ []) (treeAnd (leaf (bare 2)) noTrees)) (treeAnd (leaf (bare 0)) (treeAnd
+    (node 2 (pos 7 ∷ pos 3 ∷ pos 7 ∷ []) (treeAnd (leaf (bare 1)) noTrees)) (treeAnd
+    (node 3 (negsuc 0 ∷ negsuc 0 ∷ pos 0 ∷ []) (treeAnd (leaf (bare 2)) noTrees)) noTrees)))))
     noTrees)
 
 abbrev pub wideSegment : List ℕ
 wideSegment = 2 ∷ 0 ∷ 1 ∷ 2 ∷ []
 
-pub wide-tree : TreeOf wide wideSegment wideTree
-wide-tree = record { evaluated = (record { listed = lit< tt; symbol = refl; size = refl; ranges = tt; rules = (refl, (refl, (refl, tt))); conditions = tt }, ((record { listed = lit< tt; symbol = refl; size = refl; ranges = tt; rules = (refl, (refl, (refl, (refl, (refl, tt))))); conditions = tt }, ((record { listed = lit< tt; symbol = refl; size = refl; ranges = tt; rules = (refl, (refl, tt)); conditions = tt }, (refl, tt)), (refl, ((record { listed = lit< tt; symbol = refl; size = refl; ranges = tt; rules = (refl, tt); conditions = tt }, (refl, tt)), ((record { listed = lit< tt; symbol = refl; size = refl; ranges = tt; rules = (refl, (refl, tt)); conditions = tt }, (refl, tt)), tt))))), tt)); read = refl }
+pub wide-tree : TreeOf wide (plain wideSegment) wideTree
+wide-tree = record { evaluated = (record { listed = lit< tt; symbol = refl; size = refl; ranges = tt; rules = (refl, (refl, (refl, tt))); conditions = tt }, ((record { listed = lit< tt; symbol = refl; size = refl; ranges = tt; rules = (refl, (refl, (refl, (refl, (refl, tt))))); conditions = tt }, ((record { listed = lit< tt; symbol = refl; size = refl; ranges = tt; rules = (refl, (refl, tt)); conditions = tt }, ((refl, tt), tt)), ((refl, tt), ((record { listed = lit< tt; symbol = refl; size = refl; ranges = tt; rules = (refl, tt); conditions = tt }, ((refl, tt), tt)), ((record { listed = lit< tt; symbol = refl; size = refl; ranges = tt; rules = (refl, (refl, tt)); conditions = tt }, ((refl, tt), tt)), tt))))), tt)); read = refl }
 
 wide-value : valueOf wide wideTree ≡ pos 7
 wide-value = refl
 
-wide-walks : acts 50 wide (lent 10 4) wideSegment (opening wide) ≡ walk wide wideTree
+wide-walks : acts 50 wide (lent 10 4) (plain wideSegment) (opening wide) ≡ walk wide wideTree
 wide-walks = refl
 
 -- the tests count, and stand before the stop
@@ -164,9 +164,9 @@ words-over = refl
 secondTree : Tree
 secondTree =
     node 0 (pos 1 ∷ []) (treeAnd
-    (node 2 (pos 0 ∷ pos 1 ∷ []) (treeAnd (leaf 1) (treeAnd
-    (node 3 (pos 1 ∷ pos 0 ∷ []) noTrees) (treeAnd (leaf 2) (treeAnd
-    (node 1 (pos 0 ∷ pos 1 ∷ []) (treeAnd (leaf 0) (treeAnd (node 3 (pos 0 ∷ pos 0 ∷ []) noTrees) noTrees)))
+    (node 2 (pos 0 ∷ pos 1 ∷ []) (treeAnd (leaf (bare 1)) (treeAnd
+    (node 3 (pos 1 ∷ pos 0 ∷ []) noTrees) (treeAnd (leaf (bare 2)) (treeAnd
+    (node 1 (pos 0 ∷ pos 1 ∷ []) (treeAnd (leaf (bare 0)) (treeAnd (node 3 (pos 0 ∷ pos 0 ∷ []) noTrees) noTrees)))
     noTrees))))) noTrees)
 
 second-drawn : ℕ → Called

@@ -8,7 +8,7 @@ use mathlib.Core.List.{List, [], _∷_, _++_, append-assoc, append-nil}
 use lib.ListN.{length, getD, drop}
 use lib.Dec.{T, eqb, eqb→eq, ltb, ltb→lt}
 use Rattle.meaning.specs.Base.{consIf, isEmpty}
-use Rattle.meaning.specs.Grammar.{Symbol, terminal, nonterminal, Condition, Production, Grammar, att, productionAt, whole}
+use Rattle.meaning.specs.Grammar.{Symbol, terminal, nonterminal, Condition, Production, Grammar, addedFor, productionAt, whole}
 use Rattle.meaning.specs.Scheme.{Instruction, add, evaluate, expect, test, remove, scheme, symbolsScheme, inheritedRules, synthesizedRules, testsAfter, removed, choose}
 use Rattle.meaning.specs.Rules.{WellFormed}
 use Rattle.meaning.specs.Machine.{Frame, schemeIf, schemeAt, isExpect, expects, pendingTest, placeOf}
@@ -56,7 +56,7 @@ ordered-symbols g p k (x ∷ xs) tail o t =
     let onTest = ordered-test (not (isEmpty (testsAfter g p k))) x (testsAfter g p k) is (r .0) (r .1) in
     let behind : List Instruction = expect x ∷ consIf (not (isEmpty (testsAfter g p k))) (test (testsAfter g p k)) is in
     let onRules = ordered-if (not (isEmpty (inheritedRules g p k))) (evaluate (inheritedRules g p k)) behind refl refl onTest refl in
-    ordered-if (ltb 0 (att g x)) (add (att g x)) (consIf (not (isEmpty (inheritedRules g p k))) (evaluate (inheritedRules g p k)) behind) refl refl (onRules .0) (onRules .1)
+    ordered-if (ltb 0 (addedFor g x)) (add (addedFor g x)) (consIf (not (isEmpty (inheritedRules g p k))) (evaluate (inheritedRules g p k)) behind) refl refl (onRules .0) (onRules .1)
 
 ordered-scheme : (g : Grammar) (p : Production) → Ordered (scheme g p) × (pendingTest (scheme g p) ≡ 0)
 ordered-scheme g p =

@@ -11,12 +11,12 @@ use Rattle.meaning.specs.Grammar.{Grammar, Rule, Condition, terminal, nontermin
 use Rattle.meaning.specs.Value.{mark}
 use Rattle.meaning.specs.Scheme.{Instruction, add, evaluate, expect, test, remove}
 use Rattle.meaning.specs.Rules.{WellFormed}
-use Rattle.meaning.specs.Machine.{Frame, Config, Lent, Look, Outcome, moved, blocked, chooseOutcome, next, nextOf, move, placeOf, movesLimit, tokensLimit}
+use Rattle.meaning.specs.Machine.{Frame, Config, Lent, Coming, Outcome, moved, blocked, chooseOutcome, next, nextOf, move, placeOf, movesLimit, tokensLimit}
 use Rattle.meaning.specs.Part.{frame, config}
 use Rattle.meaning.specs.Program.{schemeWords}
 use Rattle.meaning.specs.CallStatements.{Handles}
 use Rattle.theory_answers.specs.Shape.{Due, adds, hands, waits, tests, closes, removes, ends}
-use Rattle.theory_answers.specs.ShapeMoves.{ShapedAt}
+use Rattle.theory_answers.specs.ShapeMoves.{IsAhead, ShapedAt}
 use Rattle.theory_answers.specs.Handling.{handles}
 use Rattle.theory_program.specs.Addresses.{Begins}
 use Rattle.theory_program.specs.Stands.{stands-within}
@@ -67,8 +67,8 @@ Made g ws lent o m ps m′ ps′ (Moved run) = (d : Config) × (o ≡ moved d) �
 Made g ws lent o m ps m′ ps′ (Blocked k) = (o ≡ blocked k) × (m′ ≡ m) × (ps′ ≡ ps)
 
 -- whatever configuration is held, the step is the machine's
-abbrev pub Answers : List ℕ → List ℤ → List ℕ → Run → Look → List ℤ → List ℕ → Step → Type 0
-Answers ws m ps run look m′ ps′ s = (g : Grammar) (lent : Lent) (c : Config) → Held g ws lent m ps run c → Made g ws lent (next g lent look c) m ps m′ ps′ s
+abbrev pub Answers : List ℕ → List ℤ → List ℕ → Run → Coming → List ℤ → List ℕ → Step → Type 0
+Answers ws m ps run ahead m′ ps′ s = (g : Grammar) (lent : Lent) (c : Config) → Held g ws lent m ps run c → IsAhead g ahead → Made g ws lent (next g lent ahead c) m ps m′ ps′ s
 
 -- some configuration is held, the limit of moves is not reached, and the operation at hand has number k
 pub record Ready (ws : List ℕ) (m : List ℤ) (ps : List ℕ) (run : Run) (k : ℕ) : Type 0 where
@@ -188,8 +188,11 @@ module _ {g : Grammar} {ws : List ℕ} {lent : Lent} {m : List ℤ} {ps : List �
   pub hand-proper : {i : Instruction} → Hand g ws (run .at) c i → ProperInstruction g i
   hand-proper {i} x = x .ahead .proper i (inl refl)
 
-  -- the move is the instruction's, since the limit is not reached
-  pub next-is : {i : Instruction} (look : Look) (x : Hand g ws (run .at) c i) → run .moves < movesLimit → next g lent look c ≡ move g lent look c (frame (x .production) (i ∷ x .rest)) (x .below) i
-  next-is {i} look x l =
-      ap (nextOf g lent look c) (x .frames)
-      ∙ ap (λ b. chooseOutcome b (blocked 35) (move g lent look c (frame (x .production) (i ∷ x .rest)) (x .below) i)) (lt-leb movesLimit (c .moves) (omega (arith, h .moves)))
+  -- the move is the instruction's, since the limit is not reached; whatever is lent
+  pub next-in : {i : Instruction} (lent′ : Lent) (ahead : Coming) (x : Hand g ws (run .at) c i) → run .moves < movesLimit → next g lent′ ahead c ≡ move g lent′ ahead c (frame (x .production) (i ∷ x .rest)) (x .below) i
+  next-in {i} lent′ ahead x l =
+      ap (nextOf g lent′ ahead c) (x .frames)
+      ∙ ap (λ b. chooseOutcome b (blocked 35) (move g lent′ ahead c (frame (x .production) (i ∷ x .rest)) (x .below) i)) (lt-leb movesLimit (c .moves) (omega (arith, h .moves)))
+
+  pub next-is : {i : Instruction} (ahead : Coming) (x : Hand g ws (run .at) c i) → run .moves < movesLimit → next g lent ahead c ≡ move g lent ahead c (frame (x .production) (i ∷ x .rest)) (x .below) i
+  next-is ahead x l = next-in lent ahead x l

@@ -13,10 +13,10 @@ use Rattle.meaning.specs.Base.{all}
 use Rattle.meaning.specs.Grammar.{Grammar, Symbol, Rule, Condition, productionAt, whole}
 use Rattle.meaning.specs.Value.{mark, holds}
 use Rattle.meaning.specs.Scheme.{Instruction, add, evaluate, expect, test, remove}
-use Rattle.meaning.specs.Machine.{Config, Lent, Look, moved, blocked, chooseOutcome, step, next, readRegister, writeAll, placeOf, pendingTest, expects, movesLimit}
+use Rattle.meaning.specs.Machine.{Config, Lent, Coming, moved, blocked, chooseOutcome, step, next, readRegister, writeAll, placeOf, pendingTest, expects, movesLimit}
 use Rattle.meaning.specs.Part.{frame, config}
 use Rattle.meaning.specs.Program.{instructionWords, schemeWords}
-use Rattle.theory_answers.specs.ShapeMoves.{shape-move}
+use Rattle.theory_answers.specs.ShapeMoves.{IsAhead, shape-move}
 use Rattle.theory_program.specs.Code.{code-head, code-evaluate, code-test, rules-length, conditions-length}
 use Rattle.theory_program.specs.Stands.{stands-within}
 use Rattle.registers.specs.Stack.{stack, stack-laid}
@@ -81,18 +81,18 @@ module _ {g : Grammar} {ws : List ℕ} {lent : Lent} {m : List ℤ} {ps : List �
   abbrev pub after : {i : Instruction} → Hand g ws (run .at) c i → List ℤ → ℕ → Config
   after x rs t = config (frame (x .production) (x .rest) ∷ x .below) rs t (suc (c .moves))
 
-  pub onward-held : {i : Instruction} (look : Look) (x : Hand g ws (run .at) c i) (m′ : List ℤ) (ps′ : List ℕ) (a r k t : ℕ) (rs : List ℤ) → run .moves < movesLimit
+  pub onward-held : {i : Instruction} (look : Coming) → IsAhead g look → (x : Hand g ws (run .at) c i) (m′ : List ℤ) (ps′ : List ℕ) (a r k t : ℕ) (rs : List ℤ) → run .moves < movesLimit
       → next g lent look c ≡ moved (after x rs t) → a ≡ run .at + length (instructionWords i) → k ≡ t → t ≤ suc (c .tokens)
       → LaidIn mark (lent .maxRegisters) m′ r rs
       → LaidIn 0 (lent .maxPlaces) ps′ (run .places) (placeOf g (frame (x .production) (x .rest)) ∷ map (placeOf g) (x .below))
       → Held g ws lent m′ ps′ (record { tokens = k; moves = run .moves + 1; registers = r; places = run .places; at = a }) (after x rs t)
-  onward-held {i} look x m′ ps′ a r k t rs limit e isAt isTokens few lr lp =
+  onward-held {i} look ok x m′ ps′ a r k t rs limit e isAt isTokens few lr lp =
       let mv = h .moves in
       let ft = h .fewTokens in
       record {
         wellFormed = h .wellFormed;
         begins = h .begins;
-        shaped = shape-move g (h .wellFormed) lent look c (after x rs t) (h .shaped) e;
+        shaped = shape-move g (h .wellFormed) lent look ok c (after x rs t) (h .shaped) e;
         registers = lr;
         places = lp;
         ahead = rw isAt (ahead-next (x .production) i (x .rest) (x .ahead));
@@ -104,18 +104,18 @@ module _ {g : Grammar} {ws : List ℕ} {lent : Lent} {m : List ℤ} {ps : List �
 
   -- ---- add
 
-  pub made-add : (look : Look) → run .moves < movesLimit → getD ws (run .at) 0 % 8 ≡ 0 → run .registers + getD ws (run .at) 0 / 8 ≤ length m
+  pub made-add : (look : Coming) → IsAhead g look → run .moves < movesLimit → getD ws (run .at) 0 % 8 ≡ 0 → run .registers + getD ws (run .at) 0 / 8 ≤ length m
       → Made g ws lent (next g lent look c) m ps m ps (Moved (record { tokens = run .tokens; moves = run .moves + 1; registers = run .registers + getD ws (run .at) 0 / 8; places = run .places; at = run .at + 1 }))
-  made-add look limit o fits =
+  made-add look ok limit o fits =
       let n : ℕ = getD ws (run .at) 0 / 8 in
       let x = hand-add h o in
       let t = h .tokens in
       let z = h .registers .height in
       let size = laid-size (h .registers) in
       let e : next g lent look c ≡ moved (after x (replicate n mark ++ c .registers) (c .tokens)) = next-is h look x limit ∙ ap (λ b. chooseOutcome b (blocked 31) (step c (frame (x .production) (x .rest) ∷ x .below) (replicate n mark ++ c .registers))) (le-ltb (lent .maxRegisters) (length (c .registers) + n) (omega arith)) in
-      (after x (replicate n mark ++ c .registers) (c .tokens), e, onward-held look x m ps (run .at + 1) (run .registers + n) (run .tokens) (c .tokens) (replicate n mark ++ c .registers) limit e refl t (omega arith) (laid-add (h .registers) n (omega arith)) (rw (← (place-same g (x .production) (add n) (x .rest) refl refl (x .ahead .ordered))) (top-laid x)))
+      (after x (replicate n mark ++ c .registers) (c .tokens), e, onward-held look ok x m ps (run .at + 1) (run .registers + n) (run .tokens) (c .tokens) (replicate n mark ++ c .registers) limit e refl t (omega arith) (laid-add (h .registers) n (omega arith)) (rw (← (place-same g (x .production) (add n) (x .rest) refl refl (x .ahead .ordered))) (top-laid x)))
 
-  pub blocked-add : (look : Look) → run .moves < movesLimit → getD ws (run .at) 0 % 8 ≡ 0 → length m < run .registers + getD ws (run .at) 0 / 8 → Made g ws lent (next g lent look c) m ps m ps (Blocked 31)
+  pub blocked-add : (look : Coming) → run .moves < movesLimit → getD ws (run .at) 0 % 8 ≡ 0 → length m < run .registers + getD ws (run .at) 0 / 8 → Made g ws lent (next g lent look c) m ps m ps (Blocked 31)
   blocked-add look limit o fits =
       let n : ℕ = getD ws (run .at) 0 / 8 in
       let x = hand-add h o in
@@ -156,17 +156,17 @@ module _ {g : Grammar} {ws : List ℕ} {lent : Lent} {m : List ℤ} {ps : List �
         done = λ {b} {m′} v. evaluate-done (h .registers) (r .0) k (p .2) (subst (λ n. Evaluated (rulesFrom ws (run .at + 1) n) (run .registers) m b m′) (r .2) v);
       }
 
-  pub made-evaluate : (look : Look) → run .moves < movesLimit → getD ws (run .at) 0 % 8 ≡ 1 → (m′ : List ℤ) → Evaluated rulesHere (run .registers) m true m′
+  pub made-evaluate : (look : Coming) → IsAhead g look → run .moves < movesLimit → getD ws (run .at) 0 % 8 ≡ 1 → (m′ : List ℤ) → Evaluated rulesHere (run .registers) m true m′
       → Made g ws lent (next g lent look c) m ps m′ ps (Moved (record { tokens = run .tokens; moves = run .moves + 1; registers = run .registers; places = run .places; at = run .at + 1 + 2 * operandHere }))
-  made-evaluate look limit o m′ v =
+  made-evaluate look ok limit o m′ v =
       let r = rules-here o in
       let x = r .hand in
       let rs : List ℤ = writeAll (r .rules) (c .registers) (c .registers) in
       let d = r .done v in
       let e : next g lent look c ≡ moved (after x rs (c .tokens)) = next-is h look x limit ∙ ap (λ b. chooseOutcome b (step c (frame (x .production) (x .rest) ∷ x .below) rs) (blocked 23)) (sym (d .0)) in
-      (after x rs (c .tokens), e, onward-held look x m′ ps (run .at + 1 + 2 * operandHere) (run .registers) (run .tokens) (c .tokens) rs limit e (omega (arith, r .count, rules-length (r .rules))) (h .tokens) (omega arith) (d .1) (rw (← (place-same g (x .production) (evaluate (r .rules)) (x .rest) refl refl (x .ahead .ordered))) (top-laid x)))
+      (after x rs (c .tokens), e, onward-held look ok x m′ ps (run .at + 1 + 2 * operandHere) (run .registers) (run .tokens) (c .tokens) rs limit e (omega (arith, r .count, rules-length (r .rules))) (h .tokens) (omega arith) (d .1) (rw (← (place-same g (x .production) (evaluate (r .rules)) (x .rest) refl refl (x .ahead .ordered))) (top-laid x)))
 
-  pub blocked-evaluate : (look : Look) → run .moves < movesLimit → getD ws (run .at) 0 % 8 ≡ 1 → (m′ : List ℤ) → Evaluated rulesHere (run .registers) m false m′ → Made g ws lent (next g lent look c) m ps m′ ps (Blocked 23)
+  pub blocked-evaluate : (look : Coming) → run .moves < movesLimit → getD ws (run .at) 0 % 8 ≡ 1 → (m′ : List ℤ) → Evaluated rulesHere (run .registers) m false m′ → Made g ws lent (next g lent look c) m ps m′ ps (Blocked 23)
   blocked-evaluate look limit o m′ v =
       let r = rules-here o in
       let x = r .hand in
@@ -174,17 +174,17 @@ module _ {g : Grammar} {ws : List ℕ} {lent : Lent} {m : List ℤ} {ps : List �
       (next-is h look x limit ∙ ap (λ b. chooseOutcome b (step c (frame (x .production) (x .rest) ∷ x .below) rs) (blocked 23)) (sym (r .done v .0)), v .memory ∙ stack-laid mark (run .registers) m (bounds h .registers), refl)
 
   -- one rule, and what follows its words
-  module _ (look : Look) (limit : run .moves < movesLimit) (o : getD ws (run .at) 0 % 8 ≡ 1) (one : operandHere ≡ 1) (m′ : List ℤ) where
+  module _ (look : Coming) (limit : run .moves < movesLimit) (o : getD ws (run .at) 0 % 8 ≡ 1) (one : operandHere ≡ 1) (m′ : List ℤ) where
     abbrev EvaluatedOne : Bool → Type 0
     EvaluatedOne b = Evaluated (rulesFrom ws (run .at + 1) 1) (run .registers) m b m′
 
     here : (b : Bool) → EvaluatedOne b → Evaluated rulesHere (run .registers) m b m′
     here b v = subst (λ n. Evaluated (rulesFrom ws (run .at + 1) n) (run .registers) m b m′) (sym one) v
 
-    pub made-single : EvaluatedOne true → Made g ws lent (next g lent look c) m ps m′ ps (Moved (afterMove run (run .at + 3)))
-    made-single v =
+    pub made-single : IsAhead g look → EvaluatedOne true → Made g ws lent (next g lent look c) m ps m′ ps (Moved (afterMove run (run .at + 3)))
+    made-single ok v =
         let a : run .at + 1 + 2 * operandHere ≡ run .at + 3 = omega arith in
-        subst (λ k. Made g ws lent (next g lent look c) m ps m′ ps (Moved (afterMove run k))) a (made-evaluate look limit o m′ (here true v))
+        subst (λ k. Made g ws lent (next g lent look c) m ps m′ ps (Moved (afterMove run k))) a (made-evaluate look ok limit o m′ (here true v))
 
     pub blocked-single : EvaluatedOne false → Made g ws lent (next g lent look c) m ps m′ ps (Blocked 23)
     blocked-single v = blocked-evaluate look limit o m′ (here false v)
@@ -214,15 +214,15 @@ module _ {g : Grammar} {ws : List ℕ} {lent : Lent} {m : List ℤ} {ps : List �
         done = rw (r .2) (test-done (h .registers) (r .0) k (p .2));
       }
 
-  pub made-test : (look : Look) → run .moves < movesLimit → getD ws (run .at) 0 % 8 ≡ 4 → true ≡ all (holds (readRegister (stack (run .registers) m))) conditionsHere
+  pub made-test : (look : Coming) → IsAhead g look → run .moves < movesLimit → getD ws (run .at) 0 % 8 ≡ 4 → true ≡ all (holds (readRegister (stack (run .registers) m))) conditionsHere
       → Made g ws lent (next g lent look c) m ps m (countIf true (run .places) ps) (Moved (record { tokens = run .tokens; moves = run .moves + 1; registers = run .registers; places = run .places; at = run .at + 1 + 3 * operandHere }))
-  made-test look limit o v =
+  made-test look ok limit o v =
       let r = conditions-here o in
       let x = r .hand in
       let e : next g lent look c ≡ moved (after x (c .registers) (c .tokens)) = next-is h look x limit ∙ ap (λ b. chooseOutcome b (step c (frame (x .production) (x .rest) ∷ x .below) (c .registers)) (blocked 22)) (sym (v ∙ r .done)) in
-      (after x (c .registers) (c .tokens), e, onward-held look x m (countIf true (run .places) ps) (run .at + 1 + 3 * operandHere) (run .registers) (run .tokens) (c .tokens) (c .registers) limit e (omega (arith, r .count, conditions-length (r .conditions))) (h .tokens) (omega arith) (h .registers) (counted (placeOf g (frame (x .production) (x .rest))) (place-tested g (x .production) (r .conditions) (x .rest) (x .ahead .ordered) (omega (arith, x .ahead .few))) (top-laid x)))
+      (after x (c .registers) (c .tokens), e, onward-held look ok x m (countIf true (run .places) ps) (run .at + 1 + 3 * operandHere) (run .registers) (run .tokens) (c .tokens) (c .registers) limit e (omega (arith, r .count, conditions-length (r .conditions))) (h .tokens) (omega arith) (h .registers) (counted (placeOf g (frame (x .production) (x .rest))) (place-tested g (x .production) (r .conditions) (x .rest) (x .ahead .ordered) (omega (arith, x .ahead .few))) (top-laid x)))
 
-  pub blocked-test : (look : Look) → run .moves < movesLimit → getD ws (run .at) 0 % 8 ≡ 4 → false ≡ all (holds (readRegister (stack (run .registers) m))) conditionsHere → Made g ws lent (next g lent look c) m ps m ps (Blocked 22)
+  pub blocked-test : (look : Coming) → run .moves < movesLimit → getD ws (run .at) 0 % 8 ≡ 4 → false ≡ all (holds (readRegister (stack (run .registers) m))) conditionsHere → Made g ws lent (next g lent look c) m ps m ps (Blocked 22)
   blocked-test look limit o v =
       let r = conditions-here o in
       let x = r .hand in

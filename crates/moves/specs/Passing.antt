@@ -3,37 +3,39 @@ use Prim.Native.Nat.{ℕ, suc, _+_, _-_, _*_, _/_, _%_, _≤_, _<_}
 use native.Mathlib.Omega.{arith}
 use mathlib.Core.Path.{_≡_, refl, sym, ap, _∙_, subst}
 use mathlib.Core.Logic.{_⊎_, inl, inr}
-use mathlib.Core.Bool.{Bool, true, false}
-use mathlib.Core.List.{List, [], _∷_, map}
+use mathlib.Core.Bool.{Bool, true, false, not}
+use mathlib.Core.List.{List, [], _∷_, _++_, map}
 use lib.ListN.{length, getD, set, drop}
 use lib.Dec.{T, eqb, eqb→eq, eqb-refl, ltb, ltb→lt, lt→ltb}
-use lib.IntN.{ℤ}
-use borrow.Author.Tests.{eq-eqb, ne-eqb}
-use Rattle.meaning.specs.Grammar.{Grammar, Symbol, terminal, nonterminal, productionAt, whole}
+use lib.IntN.{ℤ, pos}
+use borrow.Author.Tests.{eq-eqb, ne-eqb, lt-ltb, le-ltb}
+use Rattle.meaning.specs.Grammar.{Grammar, Symbol, Leaf, terminal, nonterminal, productionAt, whole, carried, leafOf}
 use Rattle.meaning.specs.Value.{mark}
 use Rattle.meaning.specs.Scheme.{Instruction, expect, remove, choose}
 use Rattle.meaning.specs.Rules.{WellFormed}
-use Rattle.meaning.specs.Machine.{Frame, Config, Lent, Look, token, over, lookNumber, moved, blocked, chooseOutcome, step, next, accept, unexpected, parentOnward, placeOf, expects, movesLimit}
+use Rattle.meaning.specs.Machine.{Frame, Config, Lent, Look, Coming, token, over, comes, ends, asLook, lookNumber, moved, blocked, chooseOutcome, step, next, accept, unexpected, parentOnward, placeOf, expects, movesLimit}
 use Rattle.meaning.specs.Part.{frame, config, waitRest, leftRest}
-use Rattle.meaning.specs.Calls.{frameOf, isListed, placeWaits, lay}
+use Rattle.meaning.specs.Calls.{isMark, frameOf, isListed, placeWaits, lay}
 use Rattle.theory_base.specs.Members.{apart, and, or-left, or-right, or-cases, both}
 use Rattle.theory_base.specs.Values.{drop-head}
+use Rattle.theory_base.specs.Feeds.{leaf-of}
 use Rattle.theory_base.specs.Frames.{place-waits}
-use Rattle.theory_answers.specs.Shape.{Due, adds, hands, waits, tests, closes, removes, ends, Stands, segment, inside}
+use Rattle.theory_answers.specs.Shape as Shape
+use Rattle.theory_answers.specs.Shape.{Due, adds, hands, waits, tests, closes, removes, Stands, segment, inside}
 use Rattle.theory_answers.specs.ShapeMemory.{listed, short, place-short, place-back}
-use Rattle.theory_answers.specs.ShapeMoves.{shape-move}
+use Rattle.theory_answers.specs.ShapeMoves.{IsAhead, shape-move}
 use Rattle.theory_program.specs.Code.{operation}
 use Rattle.theory_program.specs.Stands.{stands-within}
 use Rattle.theory_program.specs.Addresses.{Begins, bodyAddress, expectAddress, record-at, body-at, body-length, expect-word}
 use Rattle.theory_program.specs.Records.{segment-words, record-words}
 use Rattle.theory_program.specs.Resuming.{placeAddress}
 use Rattle.registers.specs.Stack.{stack}
-use Rattle.registers.specs.Laid.{laid-remove}
+use Rattle.registers.specs.Laid.{laid-push, laid-remove}
 use Rattle.moves.specs.declared.Run.{Run}
 use Rattle.moves.specs.declared.Step.the-variants.{Moved, Blocked}
-use Rattle.moves.specs.Laid.{LaidIn, laid-read, laid-pop}
+use Rattle.moves.specs.Laid.{LaidIn, laid-size, laid-read, laid-pop}
 use Rattle.moves.specs.Ahead.{Ahead, ahead-next, ahead-place}
-use Rattle.moves.specs.Held.{Held, Made, Hand, topFrame, shaped-over, hand-terminal, hand-remove, hand-proper, bounds, next-is}
+use Rattle.moves.specs.Held.{Held, Made, Hand, topFrame, shaped-over, hand-terminal, hand-remove, hand-proper, bounds, next-in, next-is}
 use Rattle.moves.specs.Moves.{passed, follows, passed-laid, top-laid, after, onward-held}
 
 -- ---- what comes next, by its number: 63 is the end
@@ -51,6 +53,21 @@ look-number u = go (eqb u 63) refl
     go : (b : Bool) → eqb u 63 ≡ b → lookNumber (lookIf b u) ≡ u
     go true e = sym (eqb→eq u 63 (rw e tt))
     go false e = refl
+
+-- what comes next, with its value; the mark stands for none
+abbrev pub comingIf : Bool → ℕ → ℤ → Coming
+comingIf true u v = ends
+comingIf false u v = comes (record { kind = u; values = carried (not (isMark v)) v })
+
+abbrev pub comingOf : ℕ → ℤ → Coming
+comingOf u v = comingIf (eqb u 63) u v
+
+pub coming-look : (u : ℕ) (v : ℤ) → asLook (comingOf u v) ≡ lookOf u
+coming-look u v = go (eqb u 63)
+  where
+    go : (b : Bool) → asLook (comingIf b u v) ≡ lookIf b u
+    go true = refl
+    go false = refl
 
 -- ---- places are small
 
@@ -73,40 +90,79 @@ module _ {g : Grammar} {ws : List ℕ} {lent : Lent} {m : List ℤ} {ps : List �
   abbrev tokenHere : ℕ
   tokenHere = getD ws (run .at) 0 / 8
 
-  reads : (x : Hand g ws (run .at) c (expect (terminal tokenHere))) → run .moves < movesLimit → next g lent (token tokenHere) c ≡ moved (after h x (c .registers) (suc (c .tokens)))
-  reads x limit = next-is h (token tokenHere) x limit ∙ ap (λ b. chooseOutcome b (moved (after h x (c .registers) (suc (c .tokens)))) (blocked 21)) (eq-eqb tokenHere tokenHere refl)
+  -- the token expected is read, and leaves its values, if there is room for them
+  reads : (lent′ : Lent) (u : Leaf) (x : Hand g ws (run .at) c (expect (terminal tokenHere))) → run .moves < movesLimit → tokenHere ≡ u .kind → length (c .registers) + length (u .values) ≤ lent′ .maxRegisters → next g lent′ (comes u) c ≡ moved (after h x (u .values ++ c .registers) (suc (c .tokens)))
+  reads lent′ u x limit e room =
+      let d = after h x (u .values ++ c .registers) (suc (c .tokens)) in
+      next-in h lent′ (comes u) x limit
+      ∙ (ap (λ b. chooseOutcome b (chooseOutcome (ltb (lent′ .maxRegisters) (length (c .registers) + length (u .values))) (blocked 31) (moved d)) (blocked 21)) (eq-eqb tokenHere (u .kind) e)
+      ∙ ap (λ b. chooseOutcome b (blocked 31) (moved d)) (le-ltb (lent′ .maxRegisters) (length (c .registers) + length (u .values)) room))
 
   -- nothing is left behind it only of the whole segment
   read-over : (x : Hand g ws (run .at) c (expect (terminal tokenHere))) → run .moves < movesLimit → x .rest ≡ [] → x .production ≡ whole
   read-over x limit z =
-      let d : Config = after h x (c .registers) (suc (c .tokens)) in
-      shaped-over g d (x .production) (x .below) (shape-move g (h .wellFormed) lent (token tokenHere) c d (h .shaped) (reads x limit)) (ap (λ is. frame (x .production) is ∷ x .below) z)
+      let u : Leaf = leafOf g (record { kind = tokenHere; value = pos 0 }) in
+      let lent′ : Lent = record { maxRegisters = length (c .registers) + length (u .values); maxPlaces = 0 } in
+      let d : Config = after h x (u .values ++ c .registers) (suc (c .tokens)) in
+      let ok = leaf-of g (record { kind = tokenHere; value = pos 0 }) tt in
+      shaped-over g d (x .production) (x .below) (shape-move g (h .wellFormed) lent′ (comes u) ok c d (h .shaped) (reads lent′ u x limit refl (omega arith))) (ap (λ is. frame (x .production) is ∷ x .below) z)
 
   pub read-inside : run .moves < movesLimit → getD ws (run .at) 0 % 8 ≡ 2 → run .at + 1 < length ws
   read-inside limit o =
       let x = hand-terminal h o in
       follows (x .production) (x .rest) (read-over x limit) (ahead-next (x .production) (expect (terminal tokenHere)) (x .rest) (x .ahead)) .2
 
-  pub made-read : (u : ℕ) → run .moves < movesLimit → getD ws (run .at) 0 % 8 ≡ 2 → tokenHere ≡ u
-      → Made g ws lent (next g lent (lookOf u) c) m ps m (passed ws (run .at + 1) (run .places) ps) (Moved (record { tokens = run .tokens + 1; moves = run .moves + 1; registers = run .registers; places = run .places; at = run .at + 1 }))
-  made-read u limit o e =
+  -- what comes next is a token, if it is the expected one
+  expected-is : (u : ℕ) (v : ℤ) → getD ws (run .at) 0 % 8 ≡ 2 → tokenHere ≡ u → comingOf u v ≡ comes (record { kind = u; values = carried (not (isMark v)) v })
+  expected-is u v o e = ap (λ b. comingIf b u v) (ne-eqb u 63 (λ z. omega (arith, hand-proper h (hand-terminal h o), h .wellFormed .terminals .1)))
+
+  made-leaf : (u : ℕ) (v : ℤ) → IsAhead g (comingOf u v) → run .moves < movesLimit → getD ws (run .at) 0 % 8 ≡ 2 → tokenHere ≡ u → (vs : List ℤ) → carried (not (isMark v)) v ≡ vs → length (c .registers) + length vs ≤ lent .maxRegisters
+      → (m′ : List ℤ) (r : ℕ) → LaidIn mark (lent .maxRegisters) m′ r (vs ++ c .registers)
+      → Made g ws lent (next g lent (comingOf u v) c) m ps m′ (passed ws (run .at + 1) (run .places) ps) (Moved (record { tokens = run .tokens + 1; moves = run .moves + 1; registers = r; places = run .places; at = run .at + 1 }))
+  made-leaf u v ok limit o e vs q room m′ r l =
       let x = hand-terminal h o in
       let ps′ : List ℕ = passed ws (run .at + 1) (run .places) ps in
-      let d : Config = after h x (c .registers) (suc (c .tokens)) in
-      let look : lookOf u ≡ token tokenHere = ap (λ b. lookIf b u) (ne-eqb u 63 (λ z. omega (arith, hand-proper h x, h .wellFormed .terminals .1))) ∙ ap token (sym e) in
-      let is : next g lent (lookOf u) c ≡ moved d = ap (λ l. next g lent l c) look ∙ reads x limit in
+      let d : Config = after h x (vs ++ c .registers) (suc (c .tokens)) in
+      let t : Leaf = record { kind = u; values = vs } in
+      let is : next g lent (comingOf u v) c ≡ moved d = ap (λ a. next g lent a c) (expected-is u v o e ∙ ap (λ z. comes (record { kind = u; values = z })) q) ∙ reads lent t x limit e room in
       let few : 1 + expects (x .rest) ≤ length (productionAt g (x .production) .right) = omega (arith, x .ahead .few) in
-      let t = h .tokens in
-      (d, is, onward-held h (lookOf u) x m ps′ (run .at + 1) (run .registers) (run .tokens + 1) (suc (c .tokens)) (c .registers) limit is refl (omega arith) (omega arith) (h .registers) (passed-laid (x .production) (terminal tokenHere) (x .rest) (read-over x limit) (ahead-next (x .production) (expect (terminal tokenHere)) (x .rest) (x .ahead)) few (top-laid h x)))
+      let k = h .tokens in
+      (d, is, onward-held h (comingOf u v) ok x m′ ps′ (run .at + 1) r (run .tokens + 1) (suc (c .tokens)) (vs ++ c .registers) limit is refl (omega arith) (omega arith) l (passed-laid (x .production) (terminal tokenHere) (x .rest) (read-over x limit) (ahead-next (x .production) (expect (terminal tokenHere)) (x .rest) (x .ahead)) few (top-laid h x)))
 
-  pub blocked-read : (u : ℕ) → run .moves < movesLimit → getD ws (run .at) 0 % 8 ≡ 2 → (tokenHere ≡ u → ⊥) → Made g ws lent (next g lent (lookOf u) c) m ps m ps (Blocked (unexpected (lookOf u)))
-  blocked-read u limit o n =
+  pub made-read : (u : ℕ) (v : ℤ) → IsAhead g (comingOf u v) → run .moves < movesLimit → getD ws (run .at) 0 % 8 ≡ 2 → tokenHere ≡ u → isMark v ≡ true
+      → Made g ws lent (next g lent (comingOf u v) c) m ps m (passed ws (run .at + 1) (run .places) ps) (Moved (record { tokens = run .tokens + 1; moves = run .moves + 1; registers = run .registers; places = run .places; at = run .at + 1 }))
+  made-read u v ok limit o e q = made-leaf u v ok limit o e [] (ap (λ b. carried (not b) v) q) (omega (arith, h .registers .height, h .registers .room)) m (run .registers) (h .registers)
+
+  pub made-value : (u : ℕ) (v : ℤ) → IsAhead g (comingOf u v) → run .moves < movesLimit → getD ws (run .at) 0 % 8 ≡ 2 → tokenHere ≡ u → isMark v ≡ false → run .registers < length m
+      → Made g ws lent (next g lent (comingOf u v) c) m ps (set m (run .registers) v) (passed ws (run .at + 1) (run .places) ps) (Moved (record { tokens = run .tokens + 1; moves = run .moves + 1; registers = run .registers + 1; places = run .places; at = run .at + 1 }))
+  made-value u v ok limit o e q l =
+      let k : run .registers < lent .maxRegisters = omega (arith, laid-size (h .registers)) in
+      made-leaf u v ok limit o e (v ∷ []) (ap (λ b. carried (not b) v) q) (omega (arith, h .registers .height)) (set m (run .registers) v) (run .registers + 1) (laid-push (h .registers) v k)
+
+  -- 02 (e): "31 can occur there, after 21"
+  pub blocked-full : (u : ℕ) (v : ℤ) → run .moves < movesLimit → getD ws (run .at) 0 % 8 ≡ 2 → tokenHere ≡ u → isMark v ≡ false → length m ≤ run .registers → Made g ws lent (next g lent (comingOf u v) c) m ps m ps (Blocked 31)
+  blocked-full u v limit o e q l =
       let x = hand-terminal h o in
-      (next-is h (lookOf u) x limit ∙ go x (eqb u 63), refl, refl)
+      let d = after h x (v ∷ c .registers) (suc (c .tokens)) in
+      let size = laid-size (h .registers) in (
+        ap (λ a. next g lent a c) (expected-is u v o e ∙ ap (λ b. comes (record { kind = u; values = carried (not b) v })) q)
+            ∙ (next-is h (comes (record { kind = u; values = v ∷ [] })) x limit
+            ∙ (ap (λ b. chooseOutcome b (chooseOutcome (ltb (lent .maxRegisters) (length (c .registers) + 1)) (blocked 31) (moved d)) (blocked 21)) (eq-eqb tokenHere u e)
+            ∙ ap (λ b. chooseOutcome b (blocked 31) (moved d)) (lt-ltb (lent .maxRegisters) (length (c .registers) + 1) (omega (arith, h .registers .height))))),
+        refl,
+        refl,
+      )
+
+  pub blocked-read : (u : ℕ) (v : ℤ) → run .moves < movesLimit → getD ws (run .at) 0 % 8 ≡ 2 → (tokenHere ≡ u → ⊥) → Made g ws lent (next g lent (comingOf u v) c) m ps m ps (Blocked (unexpected (lookOf u)))
+  blocked-read u v limit o z =
+      let x = hand-terminal h o in
+      (next-is h (comingOf u v) x limit ∙ go x (eqb u 63), refl, refl)
     where
-      go : (x : Hand g ws (run .at) c (expect (terminal tokenHere))) (b : Bool) → accept c (frame (x .production) (expect (terminal tokenHere) ∷ x .rest)) (x .below) tokenHere (lookIf b u) ≡ blocked (unexpected (lookIf b u))
+      go : (x : Hand g ws (run .at) c (expect (terminal tokenHere))) (b : Bool) → accept lent c (frame (x .production) (expect (terminal tokenHere) ∷ x .rest)) (x .below) tokenHere (comingIf b u v) ≡ blocked (unexpected (lookIf b u))
       go x true = refl
-      go x false = ap (λ b. chooseOutcome b (moved (after h x (c .registers) (suc (c .tokens)))) (blocked 21)) (ne-eqb tokenHere u n)
+      go x false =
+          let vs : List ℤ = carried (not (isMark v)) v in
+          ap (λ b. chooseOutcome b (chooseOutcome (ltb (lent .maxRegisters) (length (c .registers) + length vs)) (blocked 31) (moved (after h x (vs ++ c .registers) (suc (c .tokens))))) (blocked 21)) (ne-eqb tokenHere u z)
 
 -- ---- where a place goes on
 
@@ -172,7 +228,7 @@ removes-listed (waits (nonterminal n) xs is e v) z = absurd (omega arith)
 removes-listed (tests xs e) z = absurd (omega arith)
 removes-listed (closes e w) z = w
 removes-listed (removes rs e w v) z = w
-removes-listed (ends e w) z = absurd (omega arith)
+removes-listed (Shape.ends e w) z = absurd (omega arith)
 
 -- the frame below a listed production's waits at a symbol, and its place says where
 pub record Parent (g : Grammar) (fs : List Frame) : Type 0 where
@@ -266,11 +322,11 @@ module _ {g : Grammar} {ws : List ℕ} {lent : Lent} {m : List ℤ} {ps : List �
         let is : q ≡ place = e ∙ r .isPlace in
         f g (h .begins) (h .wellFormed) (λ n. subst (λ j. T (placeWaits g j)) (sym is) (r .parent .waiting)) ∙ ap (placeAddress g) is
 
-    leaves : (look : Look) → run .moves < movesLimit → next g lent look c ≡ moved left
+    leaves : (look : Coming) → run .moves < movesLimit → next g lent look c ≡ moved left
     leaves look limit = next-is h look (r .hand) limit ∙ ap (λ fs. step c (parentOnward fs) (drop removedHere (c .registers))) (r .parent .frames)
 
     left-over : run .moves < movesLimit → r .parent .rest ≡ [] → r .parent .production ≡ whole
-    left-over limit z = shaped-over g left (r .parent .production) (r .parent .below) (shape-move g (h .wellFormed) lent over c left (h .shaped) (leaves over limit)) (ap (λ is. frame (r .parent .production) is ∷ r .parent .below) z)
+    left-over limit z = shaped-over g left (r .parent .production) (r .parent .below) (shape-move g (h .wellFormed) lent ends tt c left (h .shaped) (leaves ends limit)) (ap (λ is. frame (r .parent .production) is ∷ r .parent .below) z)
 
     parent-ahead : Ahead g ws (placeAddress g place) (frame (r .parent .production) (expect (r .parent .symbol) ∷ r .parent .rest))
     parent-ahead = subst (Ahead g ws (placeAddress g place)) (r .parent .back) (ahead-place (h .begins) (h .wellFormed) place (r .parent .waiting))
@@ -281,10 +337,10 @@ module _ {g : Grammar} {ws : List ℕ} {lent : Lent} {m : List ℤ} {ps : List �
     pub resume-inside : run .moves < movesLimit → placeAddress g place + 1 < length ws
     resume-inside limit = follows (r .parent .production) (r .parent .rest) (left-over limit) parent-next .2
 
-    pub made-remove : (look : Look) → run .moves < movesLimit → (m′ : List ℤ) (ps′ : List ℕ) (a : ℕ) → a ≡ placeAddress g place
+    pub made-remove : (look : Coming) → IsAhead g look → run .moves < movesLimit → (m′ : List ℤ) (ps′ : List ℕ) (a : ℕ) → a ≡ placeAddress g place
         → m′ ≡ lay (run .registers) mark (drop removedHere (stack (run .registers) m)) m → ps′ ≡ passed ws (a + 1) (run .places - 1) (set ps (run .places - 1) 0)
         → Made g ws lent (next g lent look c) m ps m′ ps′ (Moved (record { tokens = run .tokens; moves = run .moves + 1; registers = run .registers - removedHere; places = run .places - 1; at = a + 1 }))
-    made-remove look limit m′ ps′ a isAt isRegisters isPlaces =
+    made-remove look ok limit m′ ps′ a isAt isRegisters isPlaces =
         let y = r .parent in
         let mv = h .moves in
         let ft = h .fewTokens in
@@ -297,7 +353,7 @@ module _ {g : Grammar} {ws : List ℕ} {lent : Lent} {m : List ℤ} {ps : List �
           record {
             wellFormed = h .wellFormed;
             begins = h .begins;
-            shaped = shape-move g (h .wellFormed) lent look c left (h .shaped) e;
+            shaped = shape-move g (h .wellFormed) lent look ok c left (h .shaped) e;
             registers = subst (λ cells. LaidIn mark (lent .maxRegisters) cells (run .registers - removedHere) rs) (sym isRegisters) (laid-remove (h .registers) removedHere (r .fits));
             places = subst (λ qs. LaidIn 0 (lent .maxPlaces) qs (run .places - 1) (placeOf g (frame (y .production) (y .rest)) ∷ map (placeOf g) (y .below))) (sym isPlaces) (passed-laid (y .production) (y .symbol) (y .rest) (left-over limit) next-ahead few popped);
             ahead = next-ahead;

@@ -1,18 +1,19 @@
 // The moves of 01 on lent stacks but for the predict, by the program's words.
 ghost use Prim.Native.Nat.{ℕ, _+_, _-_, _/_, _%_, _≤_, _<_};
 ghost use mathlib.Core.Path.{_≡_};
-ghost use mathlib.Core.Bool.{true};
+ghost use mathlib.Core.Bool.{true, false};
 ghost use mathlib.Core.List.{List};
 ghost use lib.IntN.{ℤ};
 ghost use lib.ListN.{length, getD};
-ghost use Rattle.meaning.specs.Grammar.{Grammar, Look};
+ghost use Rattle.meaning.specs.Grammar.{Grammar};
 ghost use Rattle.meaning.specs.Machine as Machine;
+ghost use Rattle.meaning.specs.Calls.{isMark};
 ghost use Rattle.meaning.specs.Rules.{WellFormed};
 ghost use Rattle.theory_program.specs.Addresses.{Begins};
 ghost use Rattle.theory_program.specs.Resuming.{placeAddress};
 ghost use Rattle.moves.specs.Held.{afterMove, Ready, Answers};
 ghost use Rattle.moves.specs.Moves.{countIf, passed};
-ghost use Rattle.moves.specs.Passing.{lookOf, Waiting, Resumes};
+ghost use Rattle.moves.specs.Passing.{lookOf, comingOf, Waiting, Resumes};
 
 // What comes next, where it is the end of the segment.
 const END: usize = 63;
@@ -107,7 +108,7 @@ pub fn resume(program: &[u32], place: usize) -> usize
 // The registers of the next symbol. They are clear already.
 pub fn add(registers: &[i64], program: &[u32], run: Run) -> Step
     requires { ⌜ ((ps : List ℕ) × Ready (now program) (now registers) ps run 0) ⌝ }
-    ensures { λ r. ⌜ ((ps : List ℕ) (look : Look) → Answers (now (program .entry)) (now (registers .entry)) ps run look (now (registers .entry)) ps r) ⌝ }
+    ensures { λ r. ⌜ ((ps : List ℕ) (ahead : Machine.Coming) → Answers (now (program .entry)) (now (registers .entry)) ps run ahead (now (registers .entry)) ps r) ⌝ }
 {
     let n = word_at(program, run.at) / 8;
     if registers.len() - run.registers < n {
@@ -123,7 +124,7 @@ pub fn add(registers: &[i64], program: &[u32], run: Run) -> Step
 // One rule alone: where the next instruction stands does not wait for the head word.
 fn evaluate_single(registers: &mut [i64], program: &[u32], run: Run) -> Step
     requires { ⌜ ((ps : List ℕ) × Ready (now program) (now registers) ps run 1) × (getD (now program) (run .at) 0 / 8 ≡ 1) ⌝ }
-    ensures { λ r. ⌜ ((ps : List ℕ) (look : Look) → Answers (now (program .entry)) (now (registers .entry)) ps run look (now (registers .exit)) ps r) ⌝ }
+    ensures { λ r. ⌜ ((ps : List ℕ) (ahead : Machine.Coming) → Answers (now (program .entry)) (now (registers .entry)) ps run ahead (now (registers .exit)) ps r) ⌝ }
 {
     if registers::evaluate_one(registers, run.registers, program, run.at + 1) {
         return Step::Moved(counted(run, run.at + 3));
@@ -134,7 +135,7 @@ fn evaluate_single(registers: &mut [i64], program: &[u32], run: Run) -> Step
 // 01: "all or none".
 pub fn evaluate(registers: &mut [i64], program: &[u32], run: Run) -> Step
     requires { ⌜ ((ps : List ℕ) × Ready (now program) (now registers) ps run 1) ⌝ }
-    ensures { λ r. ⌜ ((ps : List ℕ) (look : Look) → Answers (now (program .entry)) (now (registers .entry)) ps run look (now (registers .exit)) ps r) ⌝ }
+    ensures { λ r. ⌜ ((ps : List ℕ) (ahead : Machine.Coming) → Answers (now (program .entry)) (now (registers .entry)) ps run ahead (now (registers .exit)) ps r) ⌝ }
 {
     let n = word_at(program, run.at) / 8;
     if n == 1 {
@@ -148,18 +149,52 @@ pub fn evaluate(registers: &mut [i64], program: &[u32], run: Run) -> Step
 
 // ---- read
 
-// The token that is expected.
-pub fn read(places: &mut [u32], program: &[u32], run: Run, look: usize) -> Step
-    requires { ⌜ ((m : List ℤ) × Ready (now program) m (now places) run 2) ⌝ }
-    ensures { λ r. ⌜ ((m : List ℤ) → Answers (now (program .entry)) m (now (places .entry)) run (lookOf look) m (now (places .exit)) r) ⌝ }
+// The token that is expected, which carries a value: its register is added. 02 (e): "31 can occur there, after 21".
+fn read_value(
+    registers: &mut [i64],
+    places: &mut [u32],
+    program: &[u32],
+    run: Run,
+    look: usize,
+    value: i64,
+) -> Step
+    requires { ⌜ Ready (now program) (now registers) (now places) run 2 × (getD (now program) (run .at) 0 / 8 ≡ look) × (isMark value ≡ false) ⌝ }
+    ensures { λ r. ⌜ Answers (now (program .entry)) (now (registers .entry)) (now (places .entry)) run (comingOf look value) (now (registers .exit)) (now (places .exit)) r ⌝ }
+{
+    let height = run.registers;
+    if registers.len() <= height {
+        return Step::Blocked(31);
+    }
+    registers[height] = value;
+    pass(places, run.places, program, run.at + 1);
+    let mut after = counted(run, run.at + 1);
+    after.tokens = run.tokens + 1;
+    after.registers = height + 1;
+    Step::Moved(after)
+}
+
+// The token that is expected; the mark for the value of one that carries none.
+pub fn read(
+    registers: &mut [i64],
+    places: &mut [u32],
+    program: &[u32],
+    run: Run,
+    look: usize,
+    value: i64,
+) -> Step
+    requires { ⌜ Ready (now program) (now registers) (now places) run 2 ⌝ }
+    ensures { λ r. ⌜ Answers (now (program .entry)) (now (registers .entry)) (now (places .entry)) run (comingOf look value) (now (registers .exit)) (now (places .exit)) r ⌝ }
 {
     if word_at(program, run.at) / 8 != look {
         return Step::Blocked(unexpected(look));
     }
+    if !value::is_mark(value) {
+        return read_value(registers, places, program, run, look, value);
+    }
     pass(places, run.places, program, run.at + 1);
-    let mut next = counted(run, run.at + 1);
-    next.tokens = run.tokens + 1;
-    Step::Moved(next)
+    let mut after = counted(run, run.at + 1);
+    after.tokens = run.tokens + 1;
+    Step::Moved(after)
 }
 
 // ---- test
@@ -167,7 +202,7 @@ pub fn read(places: &mut [u32], program: &[u32], run: Run, look: usize) -> Step
 // The conditions of a symbol that was left; after it the place counts the symbol.
 pub fn test(registers: &[i64], places: &mut [u32], program: &[u32], run: Run) -> Step
     requires { ⌜ Ready (now program) (now registers) (now places) run 4 ⌝ }
-    ensures { λ r. ⌜ ((look : Look) → Answers (now (program .entry)) (now (registers .entry)) (now (places .entry)) run look (now (registers .entry)) (now (places .exit)) r) ⌝ }
+    ensures { λ r. ⌜ ((ahead : Machine.Coming) → Answers (now (program .entry)) (now (registers .entry)) (now (places .entry)) run ahead (now (registers .entry)) (now (places .exit)) r) ⌝ }
 {
     let n = word_at(program, run.at) / 8;
     if registers::test(registers, run.registers, program, run.at + 1, n) {
@@ -182,7 +217,7 @@ pub fn test(registers: &[i64], places: &mut [u32], program: &[u32], run: Run) ->
 // The registers of the symbols and of the left side's inherited attributes, and the place; the one below goes on.
 pub fn remove(registers: &mut [i64], places: &mut [u32], program: &[u32], run: Run) -> Step
     requires { ⌜ Ready (now program) (now registers) (now places) run 5 ⌝ }
-    ensures { λ r. ⌜ ((look : Look) → Answers (now (program .entry)) (now (registers .entry)) (now (places .entry)) run look (now (registers .exit)) (now (places .exit)) r) ⌝ }
+    ensures { λ r. ⌜ ((ahead : Machine.Coming) → Answers (now (program .entry)) (now (registers .entry)) (now (places .entry)) run ahead (now (registers .exit)) (now (places .exit)) r) ⌝ }
 {
     let n = word_at(program, run.at) / 8;
     registers::remove(registers, run.registers, n);

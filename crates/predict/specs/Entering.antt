@@ -13,11 +13,11 @@ use Rattle.meaning.specs.Base.{In, keep, isEmpty, countFrom}
 use Rattle.meaning.specs.Grammar.{Grammar, nonterminal, productionAt}
 use Rattle.meaning.specs.Scheme.{expect}
 use Rattle.meaning.specs.Sets.{has, starts}
-use Rattle.meaning.specs.Machine.{Config, Lent, lookNumber, moved, blocked, chooseOutcome, step, next, push, unexpected, isOf, alternatives, entered, placeOf, schemeAt, movesLimit}
+use Rattle.meaning.specs.Machine.{Config, Lent, Coming, asLook, predict, lookNumber, moved, blocked, chooseOutcome, step, next, push, unexpected, isOf, alternatives, entered, placeOf, schemeAt, movesLimit}
 use Rattle.meaning.specs.Part.{frame, config}
 use Rattle.meaning.specs.Program.{directoryWord}
 use Rattle.theory_base.specs.Members.{T→true, in-keep, from-in}
-use Rattle.theory_answers.specs.ShapeMoves.{shape-move}
+use Rattle.theory_answers.specs.ShapeMoves.{IsAhead, shape-move}
 use Rattle.theory_program.specs.Stands.{stands-within}
 use Rattle.theory_program.specs.Addresses.{record-at, directory-at, schemeAddress}
 use Rattle.theory_program.specs.Search.{firstNumber, first-none, first-some, directory-none, directory-listed, found, found-start}
@@ -44,12 +44,12 @@ module _ {g : Grammar} {ws : List ℕ} {lent : Lent} {m : List ℤ} {ps : List �
   wanted = getD ws (run .at) 0 / 8
 
   abbrev first : ℕ
-  first = getD ws (8 + 64 * wanted + u) 0
+  first = getD ws (9 + 64 * wanted + u) 0
 
   hand : Hand g ws (run .at) c (expect (nonterminal wanted))
   hand = hand-nonterminal h o
 
-  pub directory-inside : 8 + 64 * wanted + u < length ws
+  pub directory-inside : 9 + 64 * wanted + u < length ws
   directory-inside = omega (arith, hand-proper h hand, stands-within (record-at (h .begins) (h .wellFormed) 0 (h .wellFormed .productions .0)))
 
   first-is : first ≡ directoryWord g wanted (lookNumber (lookOf u))
@@ -85,88 +85,90 @@ module _ {g : Grammar} {ws : List ℕ} {lent : Lent} {m : List ℤ} {ps : List �
   abbrev choice : List ℕ
   choice = keep (entered g (c .registers)) (alternatives g wanted (lookOf u))
 
-  predicts : run .moves < movesLimit → (b : Bool) → isEmpty (alternatives g wanted (lookOf u)) ≡ b → next g lent (lookOf u) c ≡ chooseOutcome b (blocked (unexpected (lookOf u))) (push g lent c choice)
-  predicts limit b e = next-is h (lookOf u) hand limit ∙ ap (λ z. chooseOutcome z (blocked (unexpected (lookOf u))) (push g lent c choice)) e
+  -- whatever comes next that token sets see as u
+  module _ (ahead : Coming) (same : asLook ahead ≡ lookOf u) where
+    predicts : run .moves < movesLimit → (b : Bool) → isEmpty (alternatives g wanted (lookOf u)) ≡ b → next g lent ahead c ≡ chooseOutcome b (blocked (unexpected (lookOf u))) (push g lent c choice)
+    predicts limit b e = next-is h ahead hand limit ∙ ap (λ l. predict g lent c wanted l) same ∙ ap (λ z. chooseOutcome z (blocked (unexpected (lookOf u))) (push g lent c choice)) e
 
-  pub blocked-unexpected : run .moves < movesLimit → first ≡ 0 → Made g ws lent (next g lent (lookOf u) c) m ps m ps (Blocked (unexpected (lookOf u)))
-  blocked-unexpected limit e = (predicts limit true (directory-none g (h .wellFormed) wanted (lookOf u) .0 (sym first-is ∙ e)), refl, refl)
+    pub blocked-unexpected : run .moves < movesLimit → first ≡ 0 → Made g ws lent (next g lent ahead c) m ps m ps (Blocked (unexpected (lookOf u)))
+    blocked-unexpected limit e = (predicts limit true (directory-none g (h .wellFormed) wanted (lookOf u) .0 (sym first-is ∙ e)), refl, refl)
 
-  module _ (limit : run .moves < movesLimit) (n : first ≡ 0 → ⊥) (p : ℕ) (is : p ≡ found g (stack (run .registers) m) wanted (lookOf u) first) where
-    chosen : p ≡ firstNumber choice
-    chosen = is ∙ (ap₂ (λ rs d. found g rs wanted (lookOf u) d) (laid-stack (h .registers)) first-is ∙ found-start g (h .wellFormed) (c .registers) wanted (lookOf u))
+    module _ (limit : run .moves < movesLimit) (n : first ≡ 0 → ⊥) (p : ℕ) (is : p ≡ found g (stack (run .registers) m) wanted (lookOf u) first) where
+      chosen : p ≡ firstNumber choice
+      chosen = is ∙ (ap₂ (λ rs d. found g rs wanted (lookOf u) d) (laid-stack (h .registers)) first-is ∙ found-start g (h .wellFormed) (c .registers) wanted (lookOf u))
 
-    pushes : next g lent (lookOf u) c ≡ push g lent c choice
-    pushes = predicts limit false (go (isEmpty (alternatives g wanted (lookOf u))) refl)
-      where
-        go : (b : Bool) → isEmpty (alternatives g wanted (lookOf u)) ≡ b → isEmpty (alternatives g wanted (lookOf u)) ≡ false
-        go true e = absurd (n (first-is ∙ directory-none g (h .wellFormed) wanted (lookOf u) .1 e))
-        go false e = e
-
-    pub blocked-none : p ≡ 0 → Made g ws lent (next g lent (lookOf u) c) m ps m ps (Blocked 22)
-    blocked-none e = (pushes ∙ empty-push g lent c choice (first-none choice .0 (sym chosen ∙ e)), refl, refl)
-
-    -- the production entered
-    record Entered : Type 0 where
-      production : ℕ
-      number : p ≡ suc production
-      listed : production < length (g .productions)
-      pushed : next g lent (lookOf u) c ≡ push g lent c (production ∷ [])
-
-    module _ (some : p ≡ 0 → ⊥) where
-      entering : Entered
-      entering = go p refl some
+      pushes : next g lent ahead c ≡ push g lent c choice
+      pushes = predicts limit false (go (isEmpty (alternatives g wanted (lookOf u))) refl)
         where
-          go : (k : ℕ) → p ≡ k → (k ≡ 0 → ⊥) → Entered
-          go zero e z = absurd (z refl)
-          go (suc q) e z =
-              let f = first-some choice q .0 (sym chosen ∙ e) in
-              let i : In q choice = subst (In q) (sym (f .1)) (inl refl) in
-              let a = in-keep (isOf g wanted (lookOf u)) (countFrom 0 (length (g .productions))) q (in-keep (entered g (c .registers)) (alternatives g wanted (lookOf u)) q i .1) in
-              record { production = q; number = e; listed = omega (arith, from-in 0 (length (g .productions)) q (a .1) .1); pushed = pushes ∙ ap (push g lent c) (f .1) }
+          go : (b : Bool) → isEmpty (alternatives g wanted (lookOf u)) ≡ b → isEmpty (alternatives g wanted (lookOf u)) ≡ false
+          go true e = absurd (n (first-is ∙ directory-none g (h .wellFormed) wanted (lookOf u) .1 e))
+          go false e = e
 
-      abbrev q : ℕ
-      q = entering .production
+      pub blocked-none : p ≡ 0 → Made g ws lent (next g lent ahead c) m ps m ps (Blocked 22)
+      blocked-none e = (pushes ∙ empty-push g lent c choice (first-none choice .0 (sym chosen ∙ e)), refl, refl)
 
-      listed : q < length (g .productions)
-      listed = entering .listed
+      -- the production entered
+      record Entered : Type 0 where
+        production : ℕ
+        number : p ≡ suc production
+        listed : production < length (g .productions)
+        pushed : next g lent ahead c ≡ push g lent c (production ∷ [])
 
-      pub entering-small : p ≤ 128
-      entering-small = omega (arith, entering .number, listed, h .wellFormed .productions .1)
+      module _ (some : p ≡ 0 → ⊥) where
+        entering : Entered
+        entering = go p refl some
+          where
+            go : (k : ℕ) → p ≡ k → (k ≡ 0 → ⊥) → Entered
+            go zero e z = absurd (z refl)
+            go (suc q) e z =
+                let f = first-some choice q .0 (sym chosen ∙ e) in
+                let i : In q choice = subst (In q) (sym (f .1)) (inl refl) in
+                let a = in-keep (isOf g wanted (lookOf u)) (countFrom 0 (length (g .productions))) q (in-keep (entered g (c .registers)) (alternatives g wanted (lookOf u)) q i .1) in
+                record { production = q; number = e; listed = omega (arith, from-in 0 (length (g .productions)) q (a .1) .1); pushed = pushes ∙ ap (push g lent c) (f .1) }
 
-      pub entering-inside : recordOf ws p + 8 ≤ length ws
-      entering-inside = rw (entering .number) (omega (arith, at-record (h .begins) (h .wellFormed) (c .registers) q listed, stands-within (record-at (h .begins) (h .wellFormed) q listed)))
+        abbrev q : ℕ
+        q = entering .production
 
-      pub blocked-full : run .places ≡ length ps → Made g ws lent (next g lent (lookOf u) c) m ps m ps (Blocked 32)
-      blocked-full e =
-          let k = h .places .height in
-          let z = length-map (c .frames) (placeOf g) in
-          let s = laid-size (h .places) in
-          (entering .pushed ∙ ap (λ b. chooseOutcome b (blocked 32) (step c (frame q (schemeAt g q) ∷ c .frames) (c .registers))) (lt-ltb (lent .maxPlaces) (suc (length (c .frames))) (omega arith)), refl, refl)
+        listed : q < length (g .productions)
+        listed = entering .listed
 
-      pub made-predict : run .places < length ps → (v : ℕ) → v ≡ 256 * (p - 1)
-          → Made g ws lent (next g lent (lookOf u) c) m ps m (set ps (run .places) v) (Moved (record { tokens = run .tokens; moves = run .moves + 1; registers = run .registers; places = run .places + 1; at = getD ws (recordOf ws p + 6) 0 }))
-      made-predict room v isPlace =
-          let k = h .places .height in
-          let z = length-map (c .frames) (placeOf g) in
-          let s = laid-size (h .places) in
-          let mv = h .moves in
-          let ft = h .fewTokens in
-          let d : Config = config (frame q (schemeAt g q) ∷ c .frames) (c .registers) (c .tokens) (suc (c .moves)) in
-          let e : next g lent (lookOf u) c ≡ moved d = entering .pushed ∙ ap (λ b. chooseOutcome b (blocked 32) (moved d)) (le-ltb (lent .maxPlaces) (suc (length (c .frames))) (omega arith)) in
-          let place : v ≡ placeOf g (frame q (schemeAt g q)) = isPlace ∙ (omega (arith, entering .number, place-begins g (h .wellFormed) q listed)) in
-          let address : schemeAddress g q ≡ getD ws (recordOf ws p + 6) 0 = sym (ap (λ j. getD ws (recordOf ws j + 6) 0) (entering .number) ∙ at-scheme (h .begins) (h .wellFormed) (c .registers) q listed) in (
-            d,
-            e,
-            record {
-              wellFormed = h .wellFormed;
-              begins = h .begins;
-              shaped = shape-move g (h .wellFormed) lent (lookOf u) c d (h .shaped) e;
-              registers = h .registers;
-              places = subst (λ y. LaidIn 0 (lent .maxPlaces) (set ps (run .places) v) (run .places + 1) (y ∷ map (placeOf g) (c .frames))) place (laid-push (h .places) v (omega arith));
-              ahead = subst (λ a. Ahead g ws a (frame q (schemeAt g q))) address (ahead-scheme (h .begins) (h .wellFormed) q listed);
-              tokens = h .tokens;
-              moves = omega arith;
-              fewMoves = omega arith;
-              fewTokens = omega arith;
-            },
-          )
+        pub entering-small : p ≤ 128
+        entering-small = omega (arith, entering .number, listed, h .wellFormed .productions .1)
+
+        pub entering-inside : recordOf ws p + 8 ≤ length ws
+        entering-inside = rw (entering .number) (omega (arith, at-record (h .begins) (h .wellFormed) (c .registers) q listed, stands-within (record-at (h .begins) (h .wellFormed) q listed)))
+
+        pub blocked-full : run .places ≡ length ps → Made g ws lent (next g lent ahead c) m ps m ps (Blocked 32)
+        blocked-full e =
+            let k = h .places .height in
+            let z = length-map (c .frames) (placeOf g) in
+            let s = laid-size (h .places) in
+            (entering .pushed ∙ ap (λ b. chooseOutcome b (blocked 32) (step c (frame q (schemeAt g q) ∷ c .frames) (c .registers))) (lt-ltb (lent .maxPlaces) (suc (length (c .frames))) (omega arith)), refl, refl)
+
+        pub made-predict : IsAhead g ahead → run .places < length ps → (v : ℕ) → v ≡ 256 * (p - 1)
+            → Made g ws lent (next g lent ahead c) m ps m (set ps (run .places) v) (Moved (record { tokens = run .tokens; moves = run .moves + 1; registers = run .registers; places = run .places + 1; at = getD ws (recordOf ws p + 6) 0 }))
+        made-predict ok room v isPlace =
+            let k = h .places .height in
+            let z = length-map (c .frames) (placeOf g) in
+            let s = laid-size (h .places) in
+            let mv = h .moves in
+            let ft = h .fewTokens in
+            let d : Config = config (frame q (schemeAt g q) ∷ c .frames) (c .registers) (c .tokens) (suc (c .moves)) in
+            let e : next g lent ahead c ≡ moved d = entering .pushed ∙ ap (λ b. chooseOutcome b (blocked 32) (moved d)) (le-ltb (lent .maxPlaces) (suc (length (c .frames))) (omega arith)) in
+            let place : v ≡ placeOf g (frame q (schemeAt g q)) = isPlace ∙ (omega (arith, entering .number, place-begins g (h .wellFormed) q listed)) in
+            let address : schemeAddress g q ≡ getD ws (recordOf ws p + 6) 0 = sym (ap (λ j. getD ws (recordOf ws j + 6) 0) (entering .number) ∙ at-scheme (h .begins) (h .wellFormed) (c .registers) q listed) in (
+              d,
+              e,
+              record {
+                wellFormed = h .wellFormed;
+                begins = h .begins;
+                shaped = shape-move g (h .wellFormed) lent ahead ok c d (h .shaped) e;
+                registers = h .registers;
+                places = subst (λ y. LaidIn 0 (lent .maxPlaces) (set ps (run .places) v) (run .places + 1) (y ∷ map (placeOf g) (c .frames))) place (laid-push (h .places) v (omega arith));
+                ahead = subst (λ a. Ahead g ws a (frame q (schemeAt g q))) address (ahead-scheme (h .begins) (h .wellFormed) q listed);
+                tokens = h .tokens;
+                moves = omega arith;
+                fewMoves = omega arith;
+                fewTokens = omega arith;
+              },
+            )

@@ -4,6 +4,7 @@ ghost use mathlib.Core.Path.{_≡_};
 ghost use mathlib.Core.Bool.{true, _&&_};
 ghost use lib.ListN.{length};
 ghost use Rattle.meaning.specs.Grammar.{Grammar};
+ghost use Rattle.meaning.specs.Machine.{Coming, asLook};
 ghost use Rattle.theory_program.specs.Search.{found};
 ghost use Rattle.registers.specs.Stack.{stack};
 ghost use Rattle.moves.specs.Held.{Ready, Answers};
@@ -94,10 +95,10 @@ pub fn predict(
     look: usize,
 ) -> Step
     requires { ⌜ Ready (now program) (now registers) (now places) run 3 × (look < 64) ⌝ }
-    ensures { λ r. ⌜ Answers (now (program .entry)) (now (registers .entry)) (now (places .entry)) run (lookOf look) (now (registers .entry)) (now (places .exit)) r ⌝ }
+    ensures { λ r. ⌜ ((ahead : Coming) → asLook ahead ≡ lookOf look → Answers (now (program .entry)) (now (registers .entry)) (now (places .entry)) run ahead (now (registers .entry)) (now (places .exit)) r) ⌝ }
 {
     let n = moves::word_at(program, run.at) / 8;
-    let first = moves::word_at(program, 8 + 64 * n + look);
+    let first = moves::word_at(program, 9 + 64 * n + look);
     if first == 0 {
         return Step::Blocked(moves::unexpected(look));
     }

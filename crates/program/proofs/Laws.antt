@@ -10,12 +10,16 @@ use lib.Count.{trailingZeros}
 use lib.Pow.{shr-shr, shr-le}
 use borrow.Author.Tests.{lt-ltb, le-ltb}
 use Rattle.meaning.specs.Grammar.{Grammar, nonterminal, syn, nonterminalCount}
-use Rattle.meaning.specs.Program.{segmentWords}
+use Rattle.meaning.specs.Sets.{has}
+use Rattle.meaning.specs.Program.{setBits, carriers, segmentWords}
 use Rattle.meaning.specs.Table.{byte}
 use Rattle.theory_program.specs.Proper.{att-most}
 use Rattle.blocks.specs.Patch.{patch, Wrote, Onward, onward-as, onward-then, onward-end, wrote-one, wrote-as, wrote-then}
+use Rattle.token_set.specs.Words.{bit, has-bit}
+use Rattle.table.specs.CarriedSet.{carried-set}
 use Rattle.program.specs.Brought.{Brought, grammarIn, well-formed, count-is, stretchEnd}
 use Rattle.program.specs.Directory.{zeros, Marked, marked-start, marked-skip, marked-set, marked-end, bits-end, zero-run, bit-there}
+use Rattle.program.specs.Records.{two-words}
 
 pub four-written : (area : List ℕ) (at a b c d : ℕ) → Wrote area (set (set (set (set area at a) (at + 1) b) (at + 2) c) (at + 3) d) at (at + 4) (a ∷ b ∷ c ∷ d ∷ [])
 unfolding patch
@@ -96,10 +100,10 @@ mark-end m e = marked-end (m .marked) (sym (m .bits) ∙ e) (m .few)
 
 -- ---- the whole segment
 
-abbrev segmentBy : ℕ → ℕ → ℕ → ℕ → ℕ → ℕ → List ℕ
-segmentBy start nonterminals terminals registers result count = (3 + 8 * start) ∷ 6 ∷ (8 + 64 * nonterminals) ∷ terminals ∷ registers ∷ result ∷ count ∷ 0 ∷ []
+abbrev segmentBy : ℕ → ℕ → ℕ → ℕ → ℕ → ℕ → ℕ → ℕ → List ℕ
+segmentBy start nonterminals terminals registers result count low high = (3 + 8 * start) ∷ 6 ∷ (9 + 64 * nonterminals) ∷ terminals ∷ registers ∷ result ∷ count ∷ low ∷ high ∷ []
 
-module _ {table rows inherited synthesized offsets sets : List ℕ} {terminals nonterminals start result count : ℕ} (x : Brought table rows inherited synthesized offsets sets terminals nonterminals start result count) where
+module _ {table rows inherited synthesized offsets sets : List ℕ} {terminals nonterminals start result count carrying : ℕ} (x : Brought table rows inherited synthesized offsets sets terminals nonterminals start result count carrying) where
   pub start-small : start < nonterminals
   start-small = omega (arith, x .isStart, x .isNonterminals, well-formed x .start)
 
@@ -111,19 +115,31 @@ module _ {table rows inherited synthesized offsets sets : List ℕ} {terminals n
     omega (arith, count-is x, well-formed x .productions .1),
   )
 
-  pub segment-written : {old mid new : List ℕ} {next end registers : ℕ} → registers ≡ byte synthesized start → Wrote old mid 0 next ((3 + 8 * start) ∷ 6 ∷ (8 + 64 * nonterminals) ∷ terminals ∷ []) → Wrote mid new next end (registers ∷ result ∷ count ∷ 0 ∷ []) → Wrote old new 0 end (segmentWords (grammarIn x))
-  segment-written {registers = registers} e v w = wrote-as same (wrote-then v w)
+  -- the carriers' two words
+  carried-words : carrying < 18446744073709551616 → (carrying % 4294967296 ≡ setBits (carriers (grammarIn x)) 0 1 32) × (carrying / 4294967296 ≡ setBits (carriers (grammarIn x)) 32 1 32)
+  unfolding bit
+  carried-words small = two-words (carriers (grammarIn x)) carrying small (λ u l. sym (has-bit carrying u l) ∙ ap (λ z. has z u) (carried-set carrying (grammarIn x) (x .carries)))
+
+  pub segment-written : {old one two : List ℕ} {next last registers : ℕ} → registers ≡ byte synthesized start → carrying < 18446744073709551616
+      → Wrote old one 0 next ((3 + 8 * start) ∷ 6 ∷ (9 + 64 * nonterminals) ∷ terminals ∷ []) → Wrote one two next last (registers ∷ result ∷ count ∷ carrying % 4294967296 ∷ [])
+      → Wrote old (set two last (carrying / 4294967296)) 0 (last + 1) (segmentWords (grammarIn x))
+  segment-written {two = two} {last = last} {registers = registers} e small v w = wrote-as same (wrote-then (wrote-then v w) (wrote-one two last (carrying / 4294967296)))
     where
       g : Grammar
       g = grammarIn x
 
+      low : ℕ
+      low = carrying % 4294967296
+
+      high : ℕ
+      high = carrying / 4294967296
+
       registers-is : registers ≡ syn g (nonterminal (g .start))
       registers-is = e ∙ (x .synthesize start start-small ∙ ap (λ n. syn g (nonterminal n)) (x .isStart))
 
-      same : segmentBy start nonterminals terminals registers result count ≡ segmentWords g
+      same : segmentBy start nonterminals terminals registers result count low high ≡ segmentWords g
       same =
-          ap (λ n. segmentBy n nonterminals terminals registers result count) (x .isStart)
-          ∙ (ap (λ n. segmentBy (g .start) n terminals registers result count) (x .isNonterminals)
-          ∙ (ap (λ n. segmentBy (g .start) (nonterminalCount g) n registers result count) (x .isTerminals)
-          ∙ (ap (λ n. segmentBy (g .start) (nonterminalCount g) (g .terminals) n result count) registers-is
-          ∙ ap₂ (λ n m. segmentBy (g .start) (nonterminalCount g) (g .terminals) (syn g (nonterminal (g .start))) n m) (x .isResult) (count-is x))))
+          ap₂ (λ n m. segmentBy n m terminals registers result count low high) (x .isStart) (x .isNonterminals)
+          ∙ (ap₂ (λ n m. segmentBy (g .start) (nonterminalCount g) n m result count low high) (x .isTerminals) registers-is
+          ∙ (ap₂ (λ n m. segmentBy (g .start) (nonterminalCount g) (g .terminals) (syn g (nonterminal (g .start))) n m low high) (x .isResult) (count-is x)
+          ∙ ap₂ (λ n m. segmentBy (g .start) (nonterminalCount g) (g .terminals) (syn g (nonterminal (g .start))) (g .result) (length (g .productions)) n m) (carried-words small .0) (carried-words small .1)))

@@ -2,3 +2,4 @@ pub mod Laws
 pub mod Sections
 pub mod Outlined
 pub mod Nexts
+pub mod Waiting

@@ -62,6 +62,7 @@ module _ {t : List ℕ} {s : State} {sizes : Sizes} {inherited synthesized rows 
         isStart = b .outline .start;
         isResult = b .outline .result;
         isCount = b .outline .productions;
+        carries = b .outline .carrying;
         inherit = inherited-of;
         synthesize = synthesized-of;
         room = omega (arith, b .outline .lengths .2, many, formed .productions .1);

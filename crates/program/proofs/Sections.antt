@@ -3,29 +3,31 @@ use Prim.Native.Nat.{ℕ, suc, _+_, _-_, _*_, _/_, _%_, _^_, _≤_, _<_}
 use native.Mathlib.Omega.{arith}
 use mathlib.Core.Path.{_≡_, refl, sym, ap, ap₂, _∙_, subst}
 use mathlib.Core.Bool.{Bool, false}
-use mathlib.Core.List.{List, [], _∷_, _++_}
+use mathlib.Core.List.{List, [], _∷_, append-assoc}
 use lib.ListN.{length, getD, drop, length-append}
 use Rattle.meaning.specs.Grammar.{Production, Grammar, nonterminalCount, productionAt}
 use Rattle.meaning.specs.Layout.{Bytes}
+use Rattle.meaning.specs.Rules.{WellFormed}
 use Rattle.meaning.specs.PublicCalls.{written}
 use Rattle.meaning.specs.Scheme.{entryTests}
 use Rattle.meaning.specs.Sets.{has, starts}
 use lib.Dec.{eqb}
-use Rattle.meaning.specs.Program.{firstOf, setBits, schemeOffset, bodyWords, recordsFrom, bodiesFrom, bodySize, directory, recordsAddress, bodiesAddress, segmentWords, programOf}
+use Rattle.meaning.specs.Program.{firstOf, setBits, schemeOffset, bodyWords, recordsFrom, bodiesFrom, bodySize, waits, directory, recordsAddress, waitsAddress, bodiesAddress, segmentWords, programOf}
 use Rattle.meaning.specs.Table.{byte}
 use Rattle.theory_base.specs.WellFormed.{well-formed-at}
-use Rattle.theory_program.specs.Addresses.{records-length, body-length, directory-length}
+use Rattle.theory_program.specs.Addresses.{records-length, body-length, bodies-length, waits-length, directory-length, short-productions}
 use Rattle.theory_program.specs.Code.{conditions-length}
-use Rattle.theory_program.specs.Sizes.{program-fits}
-use Rattle.blocks.specs.Patch.{patch, Wrote, wrote-as, wrote-then, wrote-length, patch-written}
+use Rattle.theory_program.specs.Sizes.{program-length, program-fits}
+use Rattle.blocks.specs.Patch.{patch, Wrote, wrote-as, wrote-then, wrote-ahead, wrote-length, patch-written}
 use Rattle.blocks.specs.Walk.{Counted, itemCount}
 use Rattle.bodies.specs.Given.{Given, listedOf, BodyFits}
 use Rattle.bodies.proofs.Symbols.{tests-count}
+use Rattle.table.specs.CarriedSet.{carried-count}
 use Rattle.table.specs.declared.Sizes.{Sizes}
 use Rattle.program.specs.Brought.{grammarIn, well-formed, count-is, rowAt, stretchEnd, fieldsFrom, fieldsAt, fields-place, given-at}
 use Rattle.program.specs.Directory.{Alternatives, alternatives, zeros, Marked, Filled, filled-start, filled-turn, filled-end}
 use Rattle.program.specs.Records.{two-words, sameLeft, Growing, growing-start, growing-as, growing-turn, growing-end, restRecords, restBodies, recordAt, bodyAt, records-turn, bodies-turn, records-end, bodies-end}
-use Rattle.program.specs.Built.{Outlined, RecordFits, ProductionFits, ProductionWrote, allProductions}
+use Rattle.program.specs.Built.{Outlined, RecordFits, ProductionFits, ProductionWrote, ProductionsWrote}
 
 -- ---- the directory
 
@@ -45,28 +47,28 @@ module _ {rows sets : List ℕ} {nonterminals count : ℕ} (x : Alternatives row
   left-few p b l e = omega (arith, e, x .left p l, well-formed-at (x .grammar) (x .wellFormed) p (omega (arith, x .isCount)) .left, x .wellFormed .nonterminals .1)
 
 module _ {rows sets : List ℕ} {nonterminals count : ℕ} {old : List ℕ} (long : 16384 ≤ length old) where
-  pub directory-start : {area : List ℕ} → area ≡ patch old 8 (zeros (8 + 64 * nonterminals - 8)) → DirectoryGo rows sets nonterminals count old count area
+  pub directory-start : {area : List ℕ} → area ≡ patch old 9 (zeros (9 + 64 * nonterminals - 9)) → DirectoryGo rows sets nonterminals count old count area
   directory-start e = record {
     go = λ x.
-        let same : 8 + 64 * nonterminals - 8 ≡ 64 * nonterminalCount (x .grammar) = omega (arith, x .isNonterminals) in
-        subst (λ z. Filled (x .grammar) old z count) (sym (e ∙ ap (λ z. patch old 8 (zeros z)) same)) (filled-start (x .grammar) old (omega (arith, long, x .wellFormed .nonterminals .1)) count (omega (arith, x .isCount)));
+        let same : 9 + 64 * nonterminals - 9 ≡ 64 * nonterminalCount (x .grammar) = omega (arith, x .isNonterminals) in
+        subst (λ z. Filled (x .grammar) old z count) (sym (e ∙ ap (λ z. patch old 9 (zeros z)) same)) (filled-start (x .grammar) old (omega (arith, long, x .wellFormed .nonterminals .1)) count (omega (arith, x .isCount)));
   }
 
   module _ {p : ℕ} {area : List ℕ} (d : DirectoryGo rows sets nonterminals count old p area) where
     pub directory-size : Alternatives rows sets nonterminals count → length area ≡ length old
     directory-size x = d .go x .size
 
-    pub directory-turn : {new : List ℕ} {b s : ℕ} → 0 < p → p ≤ count → b ≡ getD rows (16 * (p - 1)) 0 → s ≡ getD sets (p - 1) 0 → Marked area new (8 + 64 * b) s p 64 → DirectoryGo rows sets nonterminals count old (p - 1) new
+    pub directory-turn : {new : List ℕ} {b s : ℕ} → 0 < p → p ≤ count → b ≡ getD rows (16 * (p - 1)) 0 → s ≡ getD sets (p - 1) 0 → Marked area new (9 + 64 * b) s p 64 → DirectoryGo rows sets nonterminals count old (p - 1) new
     directory-turn {new} {b} {s} l m eb es k = record {
       go = λ x.
           let e : p ≡ p - 1 + 1 = omega arith in
-          filled-turn x (p - 1) b (omega arith) eb (subst (λ z. Filled (x .grammar) old area z) e (d .go x)) (subst (λ z. Marked area new (8 + 64 * b) (getD sets (p - 1) 0) z 64) e (subst (λ z. Marked area new (8 + 64 * b) z p 64) es k));
+          filled-turn x (p - 1) b (omega arith) eb (subst (λ z. Filled (x .grammar) old area z) e (d .go x)) (subst (λ z. Marked area new (9 + 64 * b) (getD sets (p - 1) 0) z 64) e (subst (λ z. Marked area new (9 + 64 * b) z p 64) es k));
     }
 
-    pub directory-end : p ≡ 0 → (x : Alternatives rows sets nonterminals count) → Wrote old area 8 (8 + 64 * nonterminals) (directory (x .grammar))
+    pub directory-end : p ≡ 0 → (x : Alternatives rows sets nonterminals count) → Wrote old area 9 (9 + 64 * nonterminals) (directory (x .grammar))
     directory-end z x =
-        let e : 8 + 64 * nonterminalCount (x .grammar) ≡ 8 + 64 * nonterminals = omega (arith, x .isNonterminals) in
-        subst (λ n. Wrote old area 8 n (directory (x .grammar))) e (filled-end (x .grammar) old (omega (arith, long, x .wellFormed .nonterminals .1)) (subst (λ n. Filled (x .grammar) old area n) z (d .go x)))
+        let e : 9 + 64 * nonterminalCount (x .grammar) ≡ 9 + 64 * nonterminals = omega (arith, x .isNonterminals) in
+        subst (λ n. Wrote old area 9 n (directory (x .grammar))) e (filled-end (x .grammar) old (omega (arith, long, x .wellFormed .nonterminals .1)) (subst (λ n. Filled (x .grammar) old area n) z (d .go x)))
 
 -- ---- a record
 
@@ -152,35 +154,47 @@ module _ {table rows inherited synthesized offsets sets : List ℕ} {sizes : Siz
         unfolding record-fits
         recorded = let v = w record-fits in record { memory = v .memory; address = refl }
 
-        pub body-fits : BodyFits (rowAt rows p) (fieldsAt table from to) inherited synthesized tests mid body
+        pub body-fits : BodyFits (rowAt rows p) (fieldsAt table from to) inherited synthesized (sizes .carrying) tests mid body
         unfolding given-at fields-counted
-        body-fits = record { given = here; testCounts = f fields-counted; room = x .behind; long = omega (arith, x .long, wrote-length recorded) }
+        body-fits = record { given = here; carried = carried-count (sizes .carrying) gr (x .brought .carries); testCounts = f fields-counted; room = x .behind; long = omega (arith, x .long, wrote-length recorded) }
 
-        pub production-written : {new : List ℕ} {end : ℕ} → ((y : BodyFits (rowAt rows p) (fieldsAt table from to) inherited synthesized tests mid body) → Wrote mid new body end (bodyWords (y .given .grammar) body (y .given .production))) → ProductionWrote gr p area new at body end
+        pub production-written : {new : List ℕ} {end : ℕ} → ((y : BodyFits (rowAt rows p) (fieldsAt table from to) inherited synthesized (sizes .carrying) tests mid body) → Wrote mid new body end (bodyWords (y .given .grammar) body (y .given .production))) → ProductionWrote gr p area new at body end
         unfolding body-fits given-at
         production-written v = record { between = mid; recorded = recorded; bodied = v body-fits }
 
 -- ---- all productions
 
+module _ (g : Grammar) where
+  abbrev allRecords : List ℕ
+  allRecords = recordsFrom g (bodiesAddress g) 0 (g .productions)
+
+  abbrev allBodies : List ℕ
+  allBodies = bodiesFrom g (bodiesAddress g) (g .productions)
+
+  -- an area into which both are written
+  abbrev withAll : List ℕ → List ℕ
+  withAll old = patch (patch old (recordsAddress g) allRecords) (bodiesAddress g) allBodies
+
+  -- where the bodies end is where the program ends
+  end-is : WellFormed g → bodiesAddress g + length allBodies ≡ length (programOf g)
+  end-is w = omega (arith, bodies-length g (bodiesAddress g) (g .productions), program-length g w)
+
 module _ (table rows inherited synthesized offsets sets : List ℕ) (sizes : Sizes) (old : List ℕ) where
   pub record ProductionsGo (p : ℕ) (area : List ℕ) (at body : ℕ) : Type 0 where
-    pub go : (x : Outlined table rows inherited synthesized offsets sets sizes) → Growing old (recordsAddress (grammarIn x)) (allProductions (grammarIn x)) area at body (restRecords (grammarIn x) p body) (restBodies (grammarIn x) p body)
-
--- where the bodies end is where the program ends
-end-is : (g : Grammar) → recordsAddress g + length (allProductions g) ≡ length (programOf g)
-end-is g = omega (arith, length-append (segmentWords g) (directory g ++ allProductions g), length-append (directory g) (allProductions g), directory-length g)
+    pub go : (x : Outlined table rows inherited synthesized offsets sets sizes) → Growing old (withAll (grammarIn x) old) (bodiesAddress (grammarIn x) + length (allBodies (grammarIn x))) area at body (restRecords (grammarIn x) p body) (restBodies (grammarIn x) p body)
 
 module _ {table rows inherited synthesized offsets sets : List ℕ} {sizes : Sizes} {old : List ℕ} (long : 16384 ≤ length old) where
-  pub productions-start : ProductionsGo table rows inherited synthesized offsets sets sizes old 0 old (8 + 64 * sizes .nonterminals) (8 + 64 * sizes .nonterminals + 8 * sizes .productions)
+  pub productions-start : ProductionsGo table rows inherited synthesized offsets sets sizes old 0 old (9 + 64 * sizes .nonterminals) (9 + 64 * sizes .nonterminals + 20 * sizes .productions)
   unfolding restRecords restBodies
   productions-start = record {
     go = λ x.
         let g = grammarIn x in
-        let r : recordsAddress g ≡ 8 + 64 * sizes .nonterminals = omega (arith, x .isNonterminals) in
-        let a : bodiesAddress g ≡ 8 + 64 * sizes .nonterminals + 8 * sizes .productions = omega (arith, x .isNonterminals, count-is x) in
-        subst (λ z. Growing old (recordsAddress g) (allProductions g) old z (8 + 64 * sizes .nonterminals + 8 * sizes .productions) (restRecords g 0 (8 + 64 * sizes .nonterminals + 8 * sizes .productions)) (restBodies g 0 (8 + 64 * sizes .nonterminals + 8 * sizes .productions))) r
-        (subst (λ z. Growing old (recordsAddress g) (allProductions g) old (recordsAddress g) z (restRecords g 0 z) (restBodies g 0 z)) a
-        (growing-start old (recordsAddress g) (bodiesAddress g) (recordsFrom g (bodiesAddress g) 0 (g .productions)) (bodiesFrom g (bodiesAddress g) (g .productions)) (omega (arith, records-length g (bodiesAddress g) 0 (g .productions)))));
+        let r : recordsAddress g ≡ 9 + 64 * sizes .nonterminals = omega (arith, x .isNonterminals) in
+        let a : bodiesAddress g ≡ 9 + 64 * sizes .nonterminals + 20 * sizes .productions = omega (arith, x .isNonterminals, count-is x) in
+        let end = bodiesAddress g + length (allBodies g) in
+        subst (λ z. Growing old (withAll g old) end old z (9 + 64 * sizes .nonterminals + 20 * sizes .productions) (restRecords g 0 (9 + 64 * sizes .nonterminals + 20 * sizes .productions)) (restBodies g 0 (9 + 64 * sizes .nonterminals + 20 * sizes .productions))) r
+        (subst (λ z. Growing old (withAll g old) end old (recordsAddress g) z (restRecords g 0 z) (restBodies g 0 z)) a
+        (growing-start old (recordsAddress g) (bodiesAddress g) (allRecords g) (allBodies g) (omega (arith, records-length g (bodiesAddress g) 0 (g .productions)))));
   }
 
   module _ {p : ℕ} {area : List ℕ} {at body : ℕ} (s : ProductionsGo table rows inherited synthesized offsets sets sizes old p area at body) where
@@ -203,7 +217,7 @@ module _ {table rows inherited synthesized offsets sets : List ℕ} {sizes : Siz
           record {
             brought = x;
             here = l;
-            behind = omega (arith, o .address, end-is g, program-fits g (well-formed x), bodies-left x);
+            behind = omega (arith, o .address, end-is g (well-formed x), program-fits g (well-formed x), bodies-left x);
             low = omega (arith, o .apart, ap length (records-turn g (well-formed x) p body (listed x)), length-append (recordAt g p body) (restRecords g (p + 1) (body + bodySize g (productionAt g p))));
             long = omega (arith, long, o .size);
           }
@@ -218,24 +232,35 @@ module _ {table rows inherited synthesized offsets sets : List ℕ} {sizes : Siz
             let g = grammarIn x in
             let w = f (production-fits x) in
             let e : body + bodySize g (productionAt g p) ≡ end = omega (arith, w .bodied .address, body-length g body (productionAt g p)) in
-            subst (λ z. Growing old (recordsAddress g) (allProductions g) new (at + 8) end (restRecords g (p + 1) z) (restBodies g (p + 1) z)) e
+            subst (λ z. Growing old (withAll g old) (bodiesAddress g + length (allBodies g)) new (at + 8) end (restRecords g (p + 1) z) (restBodies g (p + 1) z)) e
             (growing-turn (growing-as (records-turn g (well-formed x) p body (listed x)) (bodies-turn g (well-formed x) p body (listed x)) (s .go x)) (w .recorded) (w .bodied));
       }
 
-    pub productions-end : sizes .productions ≤ p → (x : Outlined table rows inherited synthesized offsets sets sizes) → Wrote old area (recordsAddress (grammarIn x)) body (allProductions (grammarIn x))
+    pub productions-end : sizes .productions ≤ p → (x : Outlined table rows inherited synthesized offsets sets sizes) → ProductionsWrote (grammarIn x) old area body
     productions-end l x =
         let g = grammarIn x in
         let m : length (g .productions) ≤ p = omega (arith, count-is x) in
-        growing-end (growing-as (records-end g (well-formed x) p body m) (bodies-end g (well-formed x) p body m) (s .go x))
+        let e = growing-end (growing-as (records-end g (well-formed x) p body m) (bodies-end g (well-formed x) p body m) (s .go x)) in
+        record {
+          between = patch old (recordsAddress g) (allRecords g);
+          recorded = record { memory = refl; address = omega (arith, records-length g (bodiesAddress g) 0 (g .productions)) };
+          bodied = record { memory = e .0; address = e .1 };
+        }
+
+pub productions-length : {g : Grammar} {old new : List ℕ} {next : ℕ} → ProductionsWrote g old new next → length new ≡ length old
+productions-length w = wrote-length (w .bodied) ∙ wrote-length (w .recorded)
 
 -- ---- the whole
 
-pub program-written : {table rows inherited synthesized offsets sets : List ℕ} {sizes : Sizes} (x : Outlined table rows inherited synthesized offsets sets sizes) {old a b new : List ℕ} {s d r : ℕ} → 16384 ≤ length old
-    → Wrote old a 0 s (segmentWords (grammarIn x)) → Wrote a b 8 d (directory (grammarIn x)) → Wrote b new (recordsAddress (grammarIn x)) r (allProductions (grammarIn x))
+pub program-written : {table rows inherited synthesized offsets sets : List ℕ} {sizes : Sizes} (x : Outlined table rows inherited synthesized offsets sets sizes) {old a b c new : List ℕ} {s d e r : ℕ} → 16384 ≤ length old
+    → Wrote old a 0 s (segmentWords (grammarIn x)) → Wrote a b 9 d (directory (grammarIn x)) → Wrote b c (9 + 64 * sizes .nonterminals + 8 * sizes .productions) e (waits (grammarIn x)) → ProductionsWrote (grammarIn x) c new r
     → (new ≡ written (programOf (grammarIn x)) old) × (r ≡ length (programOf (grammarIn x)))
-program-written x {old} {a} {b} {new} {s} {d} {r} long f h k =
+program-written {sizes = sizes} x {old} {a} {b} {c} {new} {s} {d} {e} {r} long f h v k =
     let g = grammarIn x in
-    let f′ : Wrote old a 0 8 (segmentWords g) = record { memory = f .memory; address = refl } in
-    let h′ : Wrote a b 8 (recordsAddress g) (directory g) = record { memory = h .memory; address = omega (arith, directory-length g) } in
-    let all = wrote-then f′ (wrote-then h′ k) in
+    let from : 9 + 64 * sizes .nonterminals + 8 * sizes .productions ≡ waitsAddress g = omega (arith, x .isNonterminals, count-is x) in
+    let f′ : Wrote old a 0 9 (segmentWords g) = record { memory = f .memory; address = refl } in
+    let h′ : Wrote a b 9 (recordsAddress g) (directory g) = record { memory = h .memory; address = omega (arith, directory-length g) } in
+    let v′ : Wrote b c (waitsAddress g) (bodiesAddress g) (waits g) = record { memory = v .memory ∙ ap (λ z. patch b z (waits g)) from; address = omega (arith, waits-length g (g .productions) (short-productions (well-formed x))) } in
+    let behind = wrote-as (append-assoc (allRecords g) (waits g) (allBodies g)) (wrote-then (wrote-ahead v′ (k .recorded)) (k .bodied)) in
+    let all = wrote-then f′ (wrote-then h′ behind) in
     (all .memory ∙ patch-written old (programOf g) (omega (arith, program-fits g (well-formed x), long)), all .address ∙ omega arith)

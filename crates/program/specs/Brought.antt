@@ -3,9 +3,8 @@ use Prim.Native.Nat.{ℕ, suc, _+_, _-_, _*_, _/_, _%_, _^_, _≤_, _<_}
 use native.Mathlib.Omega.{arith}
 use native.Mathlib.Decide.{decLt}
 use mathlib.Core.Path.{_≡_, refl, sym, ap, _∙_, subst}
-use mathlib.Core.Bool.{Bool, true, false}
-use mathlib.Core.List.{List, [], _∷_, _++_, map, reverse}
-use lib.ListN.{length, getD, take, drop, length-append, length-map, length-take, length-drop, length-reverse, List·getD-eq-default}
+use mathlib.Core.List.{List, _++_, map, reverse}
+use lib.ListN.{length, getD, take, drop, length-append, length-map, length-drop, length-reverse, List·getD-eq-default}
 use lib.Seq.{getD-take, getD-drop, take-at, drop-at, drop-drop}
 use lib.Dec.{eqb, ltb}
 use borrow.Author.Tests.{lt-ltb, le-ltb}
@@ -14,7 +13,7 @@ use Rattle.meaning.specs.Rules.{WellFormed, WellFormedProduction}
 use Rattle.meaning.specs.Layout.{Bytes, field, symbolByte, productionBytes, RulesAndConditions}
 use Rattle.meaning.specs.Scheme.{choose}
 use Rattle.meaning.specs.Sets.{has, starts}
-use Rattle.meaning.specs.Table.{byte, State, Entry, Read, wellFormed, readTable, grammarOf, noEntry, productionOf, symbolOf}
+use Rattle.meaning.specs.Table.{byte, State, Entry, wellFormed, readTable, grammarOf, noEntry, productionOf, symbolOf}
 use Rattle.theory_base.specs.Members.{map-at}
 use Rattle.theory_base.specs.WellFormed.{well-formed-at}
 use Rattle.theory_table.specs.Places.{read-places}
@@ -22,9 +21,10 @@ use Rattle.theory_table.specs.ReadLaidOut.{read-stretch}
 use Rattle.theory_table.specs.ReadWellFormed.{read-well-formed}
 use Rattle.theory_table.specs.Reading.{table-reads}
 use Rattle.theory_table.specs.Stretches.{StretchAt}
+use Rattle.table.specs.Outline.{Carries}
 use Rattle.bodies.specs.Given.{Given}
 
-pub record Brought (table rows inherited synthesized offsets sets : List ℕ) (terminals nonterminals start result count : ℕ) : Type 0 where
+pub record Brought (table rows inherited synthesized offsets sets : List ℕ) (terminals nonterminals start result count carrying : ℕ) : Type 0 where
   pub state : State
   pub read : readTable table ≡ wellFormed state
   pub isTerminals : terminals ≡ grammarOf state .terminals
@@ -32,6 +32,7 @@ pub record Brought (table rows inherited synthesized offsets sets : List ℕ) (t
   pub isStart : start ≡ grammarOf state .start
   pub isResult : result ≡ grammarOf state .result
   pub isCount : count ≡ length (state .entries)
+  pub carries : Carries carrying (grammarOf state .carrying)
   pub inherit : (n : ℕ) → n < nonterminals → getD inherited n 0 ≡ inh (grammarOf state) (nonterminal n)
   pub synthesize : (n : ℕ) → n < nonterminals → getD synthesized n 0 ≡ syn (grammarOf state) (nonterminal n)
   pub room : 16 * count ≤ length rows
@@ -41,7 +42,7 @@ pub record Brought (table rows inherited synthesized offsets sets : List ℕ) (t
   pub offset : (p : ℕ) → p < count → getD offsets p 0 ≡ getD (reverse (state .entries)) p noEntry .offset
   pub starting : (p u : ℕ) → p < count → u < 64 → eqb (getD sets p 0 / 2 ^ u % 2) 1 ≡ has (starts (grammarOf state) (productionAt (grammarOf state) p)) u
 
-abbrev pub grammarIn : {table rows inherited synthesized offsets sets : List ℕ} {terminals nonterminals start result count : ℕ} → Brought table rows inherited synthesized offsets sets terminals nonterminals start result count → Grammar
+abbrev pub grammarIn : {table rows inherited synthesized offsets sets : List ℕ} {terminals nonterminals start result count carrying : ℕ} → Brought table rows inherited synthesized offsets sets terminals nonterminals start result count carrying → Grammar
 grammarIn x = grammarOf (x .state)
 
 -- ---- one production
@@ -62,7 +63,7 @@ fieldsFrom rows offsets p = getD offsets p 0 + 5 + byte rows (16 * p + 1)
 abbrev pub fieldsAt : List ℕ → ℕ → ℕ → List ℕ
 fieldsAt table from to = take (to - from) (drop from table)
 
-module _ {table rows inherited synthesized offsets sets : List ℕ} {terminals nonterminals start result count : ℕ} (x : Brought table rows inherited synthesized offsets sets terminals nonterminals start result count) where
+module _ {table rows inherited synthesized offsets sets : List ℕ} {terminals nonterminals start result count carrying : ℕ} (x : Brought table rows inherited synthesized offsets sets terminals nonterminals start result count carrying) where
   abbrev pub g : Grammar
   g = grammarIn x
 

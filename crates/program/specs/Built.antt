@@ -1,11 +1,11 @@
 -- What the builder's functions ask and leave.
 use Prim.Native.Nat.{ℕ, _+_, _*_, _≤_, _<_}
 use mathlib.Core.Path.{_≡_}
-use mathlib.Core.List.{List, _++_}
+use mathlib.Core.List.{List}
 use lib.ListN.{length, getD}
 use Rattle.meaning.specs.Grammar.{Grammar, productionAt}
 use Rattle.meaning.specs.Scheme.{entryTests}
-use Rattle.meaning.specs.Program.{recordsFrom, bodiesFrom, bodiesAddress, schemeOffset, bodySize}
+use Rattle.meaning.specs.Program.{recordsFrom, bodiesFrom, recordsAddress, waitsAddress, bodiesAddress, schemeOffset, bodySize}
 use Rattle.blocks.specs.Patch.{Wrote}
 use Rattle.table.specs.declared.Sizes.{Sizes}
 use Rattle.program.specs.Brought.{Brought, grammarIn}
@@ -13,7 +13,7 @@ use Rattle.program.specs.Directory.{Alternatives}
 use Rattle.program.specs.Records.{recordAt, bodyAt}
 
 abbrev pub Outlined : List ℕ → List ℕ → List ℕ → List ℕ → List ℕ → List ℕ → Sizes → Type 0
-Outlined table rows inherited synthesized offsets sets sizes = Brought table rows inherited synthesized offsets sets (sizes .terminals) (sizes .nonterminals) (sizes .start) (sizes .result) (sizes .productions)
+Outlined table rows inherited synthesized offsets sets sizes = Brought table rows inherited synthesized offsets sets (sizes .terminals) (sizes .nonterminals) (sizes .start) (sizes .result) (sizes .productions) (sizes .carrying)
 
 pub record RecordFits (rows sets : List ℕ) (nonterminals count p body entries : ℕ) (area : List ℕ) (at : ℕ) : Type 0 where
   pub alternatives : Alternatives rows sets nonterminals count
@@ -37,5 +37,8 @@ pub record ProductionWrote (g : Grammar) (p : ℕ) (old new : List ℕ) (at body
   pub recorded : Wrote old between at (at + 8) (recordAt g p body)
   pub bodied : Wrote between new body next (bodyAt g p body)
 
-abbrev pub allProductions : Grammar → List ℕ
-allProductions g = recordsFrom g (bodiesAddress g) 0 (g .productions) ++ bodiesFrom g (bodiesAddress g) (g .productions)
+-- all records are written, and all bodies
+pub record ProductionsWrote (g : Grammar) (old new : List ℕ) (next : ℕ) : Type 0 where
+  pub between : List ℕ
+  pub recorded : Wrote old between (recordsAddress g) (waitsAddress g) (recordsFrom g (bodiesAddress g) 0 (g .productions))
+  pub bodied : Wrote between new (bodiesAddress g) next (bodiesFrom g (bodiesAddress g) (g .productions))

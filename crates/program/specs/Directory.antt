@@ -5,10 +5,10 @@ use native.Mathlib.Numerals.{one-add}
 use lib.Count.{trailingZeros, under}
 use native.Mathlib.Omega.{arith}
 use native.Mathlib.Decide.{decLt, ℕ-discrete}
-use mathlib.Core.Path.{_≡_, refl, sym, ap, ap₂, _∙_, subst}
+use mathlib.Core.Path.{_≡_, refl, sym, ap, _∙_, subst}
 use mathlib.Core.Logic.{_⊎_, inl, inr}
 use mathlib.Core.Bool.{Bool, true, false, _&&_}
-use mathlib.Core.List.{List, [], _∷_, _++_}
+use mathlib.Core.List.{List, _∷_}
 use lib.ListN.{length, getD, set, drop, replicate, length-set, length-replicate, getD-replicate, drop-of-length-le}
 use lib.Seq.{drop-cons, getD-set-same, getD-set-other, ext-getD}
 use lib.Pow.{shr-shr, pow-mono}
@@ -33,7 +33,7 @@ pub record Alternatives (rows sets : List ℕ) (nonterminals count : ℕ) : Type
   pub left : (p : ℕ) → p < count → getD rows (16 * p) 0 ≡ productionAt grammar p .left
   pub starting : (p u : ℕ) → p < count → u < 64 → eqb (getD sets p 0 / 2 ^ u % 2) 1 ≡ has (starts grammar (productionAt grammar p)) u
 
-abbrev pub alternatives : {table rows inherited synthesized offsets sets : List ℕ} {terminals nonterminals start result count : ℕ} → Brought table rows inherited synthesized offsets sets terminals nonterminals start result count → Alternatives rows sets nonterminals count
+abbrev pub alternatives : {table rows inherited synthesized offsets sets : List ℕ} {terminals nonterminals start result count carrying : ℕ} → Brought table rows inherited synthesized offsets sets terminals nonterminals start result count carrying → Alternatives rows sets nonterminals count
 alternatives x = record { grammar = grammarIn x; wellFormed = well-formed x; isNonterminals = x .isNonterminals; isCount = count-is x; left = x .left; starting = x .starting }
 
 abbrev pub zeros : ℕ → List ℕ
@@ -132,14 +132,14 @@ startsOf g n u q = eqb (q .left) n && has (starts g q) u
 
 pub record Filled (g : Grammar) (old area : List ℕ) (p : ℕ) : Type 0 where
   pub size : length area ≡ length old
-  pub words : (n u : ℕ) → n < nonterminalCount g → u < 64 → getD area (8 + 64 * n + u) 0 ≡ firstOf (startsOf g n u) p (drop p (g .productions))
-  pub outside : (i : ℕ) → (i < 8) ⊎ (8 + 64 * nonterminalCount g ≤ i) → getD area i 0 ≡ getD old i 0
+  pub words : (n u : ℕ) → n < nonterminalCount g → u < 64 → getD area (9 + 64 * n + u) 0 ≡ firstOf (startsOf g n u) p (drop p (g .productions))
+  pub outside : (i : ℕ) → (i < 9) ⊎ (9 + 64 * nonterminalCount g ≤ i) → getD area i 0 ≡ getD old i 0
 
-module _ (g : Grammar) (old : List ℕ) (room : 8 + 64 * nonterminalCount g ≤ length old) where
-  pub filled-start : (p : ℕ) → length (g .productions) ≤ p → Filled g old (patch old 8 (zeros (64 * nonterminalCount g))) p
+module _ (g : Grammar) (old : List ℕ) (room : 9 + 64 * nonterminalCount g ≤ length old) where
+  pub filled-start : (p : ℕ) → length (g .productions) ≤ p → Filled g old (patch old 9 (zeros (64 * nonterminalCount g))) p
   filled-start p l = record {
-    size = patch-length old 8 (zeros (64 * nonterminalCount g));
-    words = λ n u m h. ap (λ i. getD (patch old 8 (zeros (64 * nonterminalCount g))) i 0) (place n u) ∙ (patch-inside old 8 (zeros (64 * nonterminalCount g)) (64 * n + u) (omega (arith, wide)) (omega (arith, wide)) ∙ (getD-replicate (64 * nonterminalCount g) (64 * n + u) nought 0 (omega arith) ∙ sym (ap (firstOf (startsOf g n u) p) (drop-of-length-le (g .productions) {i = p} l))));
+    size = patch-length old 9 (zeros (64 * nonterminalCount g));
+    words = λ n u m h. ap (λ i. getD (patch old 9 (zeros (64 * nonterminalCount g))) i 0) (place n u) ∙ (patch-inside old 9 (zeros (64 * nonterminalCount g)) (64 * n + u) (omega (arith, wide)) (omega (arith, wide)) ∙ (getD-replicate (64 * nonterminalCount g) (64 * n + u) nought 0 (omega arith) ∙ sym (ap (firstOf (startsOf g n u) p) (drop-of-length-le (g .productions) {i = p} l))));
     outside = go;
   }
     where
@@ -149,32 +149,32 @@ module _ (g : Grammar) (old : List ℕ) (room : 8 + 64 * nonterminalCount g ≤ 
       wide : length (zeros (64 * nonterminalCount g)) ≡ 64 * nonterminalCount g
       wide = length-replicate (64 * nonterminalCount g) nought
 
-      place : (n u : ℕ) → 8 + 64 * n + u ≡ 8 + (64 * n + u)
+      place : (n u : ℕ) → 9 + 64 * n + u ≡ 9 + (64 * n + u)
       place n u = omega arith
 
-      go : (i : ℕ) → (i < 8) ⊎ (8 + 64 * nonterminalCount g ≤ i) → getD (patch old 8 (zeros (64 * nonterminalCount g))) i 0 ≡ getD old i 0
-      go i (inl h) = patch-before old 8 (zeros (64 * nonterminalCount g)) i h
-      go i (inr h) = patch-behind old 8 (zeros (64 * nonterminalCount g)) i (omega (arith, wide))
+      go : (i : ℕ) → (i < 9) ⊎ (9 + 64 * nonterminalCount g ≤ i) → getD (patch old 9 (zeros (64 * nonterminalCount g))) i 0 ≡ getD old i 0
+      go i (inl h) = patch-before old 9 (zeros (64 * nonterminalCount g)) i h
+      go i (inr h) = patch-behind old 9 (zeros (64 * nonterminalCount g)) i (omega (arith, wide))
 
   module _ {area : List ℕ} where
-    pub filled-end : Filled g old area 0 → Wrote old area 8 (8 + 64 * nonterminalCount g) (directory g)
-    filled-end f = record { memory = ext-getD 0 area (patch old 8 (directory g)) (f .size ∙ sym (patch-length old 8 (directory g))) (λ i l. go i (decLt i 8) (decLt i (8 + 64 * nonterminalCount g))); address = omega (arith, directory-length g) }
+    pub filled-end : Filled g old area 0 → Wrote old area 9 (9 + 64 * nonterminalCount g) (directory g)
+    filled-end f = record { memory = ext-getD 0 area (patch old 9 (directory g)) (f .size ∙ sym (patch-length old 9 (directory g))) (λ i l. go i (decLt i 9) (decLt i (9 + 64 * nonterminalCount g))); address = omega (arith, directory-length g) }
       where
-        go : (i : ℕ) → Dec (i < 8) → Dec (i < 8 + 64 * nonterminalCount g) → getD area i 0 ≡ getD (patch old 8 (directory g)) i 0
-        go i (yes h) k = f .outside i (inl h) ∙ sym (patch-before old 8 (directory g) i h)
-        go i (no h) (no k) = f .outside i (inr (omega arith)) ∙ sym (patch-behind old 8 (directory g) i (omega (arith, directory-length g)))
+        go : (i : ℕ) → Dec (i < 9) → Dec (i < 9 + 64 * nonterminalCount g) → getD area i 0 ≡ getD (patch old 9 (directory g)) i 0
+        go i (yes h) k = f .outside i (inl h) ∙ sym (patch-before old 9 (directory g) i h)
+        go i (no h) (no k) = f .outside i (inr (omega arith)) ∙ sym (patch-behind old 9 (directory g) i (omega (arith, directory-length g)))
         go i (no h) (yes k) =
-            let n : ℕ = (i - 8) / 64 in
-            let u : ℕ = (i - 8) % 64 in
-            let e : 8 + 64 * n + u ≡ i = omega arith in
-            let d : 8 + (64 * n + u) ≡ i = omega arith in
+            let n : ℕ = (i - 9) / 64 in
+            let u : ℕ = (i - 9) % 64 in
+            let e : 9 + 64 * n + u ≡ i = omega arith in
+            let d : 9 + (64 * n + u) ≡ i = omega arith in
             let m : n < nonterminalCount g = omega arith in
             let left : getD area i 0 ≡ directoryWord g n u = ap (λ j. getD area j 0) (sym e) ∙ f .words n u m (omega arith) in
-            let right : getD (patch old 8 (directory g)) i 0 ≡ directoryWord g n u = ap (λ j. getD (patch old 8 (directory g)) j 0) (sym d) ∙ (patch-inside old 8 (directory g) (64 * n + u) (omega (arith, directory-length g)) (omega (arith, directory-length g)) ∙ (row-at (directoryWord g) 64 0 (nonterminalCount g) n u m (omega arith) ∙ ap (λ j. directoryWord g j u) (from-none n))) in
+            let right : getD (patch old 9 (directory g)) i 0 ≡ directoryWord g n u = ap (λ j. getD (patch old 9 (directory g)) j 0) (sym d) ∙ (patch-inside old 9 (directory g) (64 * n + u) (omega (arith, directory-length g)) (omega (arith, directory-length g)) ∙ (row-at (directoryWord g) 64 0 (nonterminalCount g) n u m (omega arith) ∙ ap (λ j. directoryWord g j u) (from-none n))) in
             left ∙ sym right
 
 -- one production more
-pub filled-turn : {rows sets : List ℕ} {nonterminals count : ℕ} (x : Alternatives rows sets nonterminals count) {old area new : List ℕ} (p b : ℕ) → p < count → b ≡ getD rows (16 * p) 0 → Filled (x .grammar) old area (p + 1) → Marked area new (8 + 64 * b) (getD sets p 0) (p + 1) 64 → Filled (x .grammar) old new p
+pub filled-turn : {rows sets : List ℕ} {nonterminals count : ℕ} (x : Alternatives rows sets nonterminals count) {old area new : List ℕ} (p b : ℕ) → p < count → b ≡ getD rows (16 * p) 0 → Filled (x .grammar) old area (p + 1) → Marked area new (9 + 64 * b) (getD sets p 0) (p + 1) 64 → Filled (x .grammar) old new p
 filled-turn {rows} {sets} {nonterminals} {count} x {old} {area} {new} p b l eb f m = record { size = m .size ∙ f .size; words = λ n u k h. go n u k h (ℕ-discrete n b); outside = λ i k. m .outside i (beyond i k) ∙ f .outside i k }
   where
     g : Grammar
@@ -192,7 +192,7 @@ filled-turn {rows} {sets} {nonterminals} {count} x {old} {area} {new} p b l eb f
     left-small : b < nonterminalCount g
     left-small = omega (arith, left-is, well-formed-at g (x .wellFormed) p listed .left)
 
-    beyond : (i : ℕ) → (i < 8) ⊎ (8 + 64 * nonterminalCount g ≤ i) → (i < 8 + 64 * b) ⊎ (8 + 64 * b + 64 ≤ i)
+    beyond : (i : ℕ) → (i < 9) ⊎ (9 + 64 * nonterminalCount g ≤ i) → (i < 9 + 64 * b) ⊎ (9 + 64 * b + 64 ≤ i)
     beyond i (inl k) = inl (omega arith)
     beyond i (inr k) = inr (omega (arith, left-small))
 
@@ -210,14 +210,14 @@ filled-turn {rows} {sets} {nonterminals} {count} x {old} {area} {new} p b l eb f
         by true = refl
         by false = refl
 
-    away : (n u : ℕ) → u < 64 → (n ≡ b → ⊥) → Dec (n < b) → (8 + 64 * n + u < 8 + 64 * b) ⊎ (8 + 64 * b + 64 ≤ 8 + 64 * n + u)
+    away : (n u : ℕ) → u < 64 → (n ≡ b → ⊥) → Dec (n < b) → (9 + 64 * n + u < 9 + 64 * b) ⊎ (9 + 64 * b + 64 ≤ 9 + 64 * n + u)
     away n u h d (yes k) = inl (omega arith)
     away n u h d (no k) = inr (omega arith)
 
-    go : (n u : ℕ) → n < nonterminalCount g → u < 64 → Dec (n ≡ b) → getD new (8 + 64 * n + u) 0 ≡ firstOf (startsOf g n u) p (drop p (g .productions))
+    go : (n u : ℕ) → n < nonterminalCount g → u < 64 → Dec (n ≡ b) → getD new (9 + 64 * n + u) 0 ≡ firstOf (startsOf g n u) p (drop p (g .productions))
     go n u k h (yes e) =
         let c : startsOf g n u pr ≡ eqb (getD sets p 0 / 2 ^ u % 2) 1 = rw (eq-eqb (pr .left) n (sym left-is ∙ sym e)) (sym (x .starting p u l h)) in
-        rw (word n u, c) (ap (λ j. getD new (8 + 64 * j + u) 0) e ∙ (m .inside u h ∙ (rw (lt-ltb u 64 h) (ap (choose (eqb (getD sets p 0 / 2 ^ u % 2) 1) (p + 1)) (ap (λ j. getD area (8 + 64 * j + u) 0) (sym e) ∙ f .words n u k h)))))
+        rw (word n u, c) (ap (λ j. getD new (9 + 64 * j + u) 0) e ∙ (m .inside u h ∙ (rw (lt-ltb u 64 h) (ap (choose (eqb (getD sets p 0 / 2 ^ u % 2) 1) (p + 1)) (ap (λ j. getD area (9 + 64 * j + u) 0) (sym e) ∙ f .words n u k h)))))
     go n u k h (no d) =
         let c : startsOf g n u pr ≡ false = rw (ne-eqb (pr .left) n (λ q. d (sym q ∙ sym left-is))) refl in
-        rw (word n u, c) (m .outside (8 + 64 * n + u) (away n u h d (decLt n b)) ∙ f .words n u k h)
+        rw (word n u, c) (m .outside (9 + 64 * n + u) (away n u h d (decLt n b)) ∙ f .words n u k h)

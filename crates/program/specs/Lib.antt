@@ -1,4 +1,5 @@
 pub mod Brought
 pub mod Directory
 pub mod Records
+pub mod Waits
 pub mod Built

@@ -97,31 +97,25 @@ NextOf rows sets nonterminals count p next = (x : Alternatives rows sets nonterm
 abbrev pub Nexts : List ℕ → List ℕ → ℕ → ℕ → List ℕ → Type 0
 Nexts rows sets nonterminals count nexts = (x : Alternatives rows sets nonterminals count) (p : ℕ) → p < count → getD nexts p 0 ≡ firstOf (sameLeft (getD rows (16 * p) 0)) (p + 1) (drop (p + 1) (x .grammar .productions))
 
--- ---- two regions that grow: records from r on, bodies from a on
+-- ---- two regions that grow: records from r on, bodies from a on. What will be written there at last is in the goal, which ends before `end`
 
-pub record Growing (old : List ℕ) (r₀ : ℕ) (all area : List ℕ) (r a : ℕ) (records bodies : List ℕ) : Type 0 where
-  pub memory : patch old r₀ all ≡ patch (patch area r records) a bodies
-  pub address : r₀ + length all ≡ a + length bodies
+pub record Growing (old goal : List ℕ) (end : ℕ) (area : List ℕ) (r a : ℕ) (records bodies : List ℕ) : Type 0 where
+  pub memory : goal ≡ patch (patch area r records) a bodies
+  pub address : end ≡ a + length bodies
   pub apart : r + length records ≤ a
   pub size : length area ≡ length old
 
-pub growing-start : (old : List ℕ) (r a : ℕ) (records bodies : List ℕ) → r + length records ≡ a → Growing old r (records ++ bodies) old r a records bodies
-growing-start old r a records bodies e =
-    record {
-      memory = patch-append old r records bodies ∙ ap (λ z. patch (patch old r records) z bodies) e;
-      address = omega (arith, length-append records bodies);
-      apart = omega arith;
-      size = refl;
-    }
+pub growing-start : (old : List ℕ) (r a : ℕ) (records bodies : List ℕ) → r + length records ≤ a → Growing old (patch (patch old r records) a bodies) (a + length bodies) old r a records bodies
+growing-start old r a records bodies l = record { memory = refl; address = refl; apart = l; size = refl }
 
-pub growing-end : {old : List ℕ} {r₀ : ℕ} {all area : List ℕ} {r a : ℕ} → Growing old r₀ all area r a [] [] → Wrote old area r₀ a all
-growing-end {area = area} {r = r} {a = a} o = record { memory = sym (o .memory ∙ (patch-none (patch area r []) a ∙ patch-none area r)); address = omega (arith, o .address) }
+pub growing-end : {old goal : List ℕ} {end : ℕ} {area : List ℕ} {r a : ℕ} → Growing old goal end area r a [] [] → (area ≡ goal) × (a ≡ end)
+growing-end {area = area} {r = r} {a = a} o = (sym (o .memory ∙ (patch-none (patch area r []) a ∙ patch-none area r)), omega (arith, o .address))
 
-pub growing-as : {old : List ℕ} {r₀ : ℕ} {all area : List ℕ} {r a : ℕ} {records records′ bodies bodies′ : List ℕ} → records ≡ records′ → bodies ≡ bodies′ → Growing old r₀ all area r a records bodies → Growing old r₀ all area r a records′ bodies′
+pub growing-as : {old goal : List ℕ} {end : ℕ} {area : List ℕ} {r a : ℕ} {records records′ bodies bodies′ : List ℕ} → records ≡ records′ → bodies ≡ bodies′ → Growing old goal end area r a records bodies → Growing old goal end area r a records′ bodies′
 growing-as e f o = rw (e, f) at o
 
-pub growing-turn : {old : List ℕ} {r₀ : ℕ} {all area : List ℕ} {r a : ℕ} {w v records bodies : List ℕ} → Growing old r₀ all area r a (w ++ records) (v ++ bodies) → {mid new : List ℕ} {r′ a′ : ℕ} → Wrote area mid r r′ w → Wrote mid new a a′ v → Growing old r₀ all new r′ a′ records bodies
-growing-turn {old} {r₀} {all} {area} {r} {a} {w} {v} {records} {bodies} o {mid} {new} {r′} {a′} f h =
+pub growing-turn : {old goal : List ℕ} {end : ℕ} {area : List ℕ} {r a : ℕ} {w v records bodies : List ℕ} → Growing old goal end area r a (w ++ records) (v ++ bodies) → {mid new : List ℕ} {r′ a′ : ℕ} → Wrote area mid r r′ w → Wrote mid new a a′ v → Growing old goal end new r′ a′ records bodies
+growing-turn {old} {goal} {end} {area} {r} {a} {w} {v} {records} {bodies} o {mid} {new} {r′} {a′} f h =
     record {
       memory =
           o .memory

@@ -17,7 +17,7 @@ pub fn set_at(sets: &[u64], at: usize) -> u64
 }
 
 // 0 in the words of a range.
-fn clear(area: &mut [u32], from: usize, to: usize)
+pub fn clear(area: &mut [u32], from: usize, to: usize)
     requires { ⌜ (from ≤ to) × (to ≤ length (now area)) ⌝ }
     ensures { λ r. ⌜ now (area .exit) ≡ patch (now (area .entry)) from (zeros (to - from)) ⌝ }
 {
@@ -52,14 +52,14 @@ pub fn write_directory(
     area: &mut [u32],
 ) -> usize
     requires { ⌜ Alternatives (now rows) (now sets) nonterminals count × (16384 ≤ length (now area)) ⌝ }
-    ensures { λ r. ⌜ ((x : Alternatives (now (rows .entry)) (now (sets .entry)) nonterminals count) → Wrote (now (area .entry)) (now (area .exit)) 8 r (directory (x .grammar))) ⌝ }
+    ensures { λ r. ⌜ ((x : Alternatives (now (rows .entry)) (now (sets .entry)) nonterminals count) → Wrote (now (area .entry)) (now (area .exit)) 9 r (directory (x .grammar))) ⌝ }
 {
-    let end = 8 + 64 * nonterminals;
-    clear(area, 8, end);
+    let end = 9 + 64 * nonterminals;
+    clear(area, 9, end);
     let mut p = count;
     while 0 < p {
         let left = value::byte_at(rows, 16 * (p - 1)) as usize;
-        mark(set_at(sets, p - 1), p as u32, area, 8 + 64 * left);
+        mark(set_at(sets, p - 1), p as u32, area, 9 + 64 * left);
         p -= 1;
     }
     end

@@ -1,5 +1,5 @@
 // The builder: it writes the program of an accepted table, in the layout of docs/PROGRAM.md.
-ghost use Prim.Native.Nat.{_+_, _≤_, _<_};
+ghost use Prim.Native.Nat.{_+_, _≤_};
 ghost use mathlib.Core.Path.{_≡_};
 ghost use mathlib.Core.List.{[], _∷_};
 ghost use lib.ListN.{length};
@@ -14,6 +14,7 @@ use table::Sizes;
 
 pub mod directory;
 pub mod records;
+pub mod waits;
 
 // Four words; answers the address behind them.
 pub fn put_four(area: &mut [u32], at: usize, a: u32, b: u32, c: u32, d: u32) -> usize
@@ -42,13 +43,17 @@ fn write_segment(
     ensures { λ r. ⌜ ((x : Outlined (now (table .entry)) (now (rows .entry)) (now (inherited .entry)) (now (synthesized .entry)) (now (offsets .entry)) (now (sets .entry)) sizes) → Wrote (now (area .entry)) (now (area .exit)) 0 r (segmentWords (grammarIn x))) ⌝ }
 {
     let start = sizes.start as u32;
-    let records = (8 + 64 * sizes.nonterminals) as u32;
+    let records = (9 + 64 * sizes.nonterminals) as u32;
     let terminals = sizes.terminals as u32;
     let registers = value::byte_at(synthesized, sizes.start);
     let result = sizes.result as u32;
     let productions = sizes.productions as u32;
+    let low = (sizes.carrying % 4294967296) as u32;
+    let high = (sizes.carrying / 4294967296) as u32;
     let next = put_four(area, 0, 3 + 8 * start, 6, records, terminals);
-    put_four(area, next, registers, result, productions, 0)
+    let last = put_four(area, next, registers, result, productions, low);
+    area[last] = high;
+    last + 1
 }
 
 // Writes the program; answers its length. Words beyond it stay as they are.
@@ -76,6 +81,16 @@ pub fn build(
         area,
     );
     directory::write_directory(rows, sets, sizes.nonterminals, sizes.productions, area);
+    let from = 9 + 64 * sizes.nonterminals + 8 * sizes.productions;
+    waits::write_waits(
+        rows,
+        inherited,
+        synthesized,
+        sizes.carrying,
+        sizes.productions,
+        area,
+        from,
+    );
     records::write_productions(
         table,
         rows,

@@ -1,13 +1,12 @@
-// The records and the bodies of the productions.
+// The records and the bodies of the productions, with room between for what places wait at.
 ghost use Prim.Native.Nat.{_+_, _≤_, _<_};
 ghost use mathlib.Core.Path.{_≡_};
 ghost use lib.ListN.{length};
-ghost use Rattle.meaning.specs.Program.{recordsAddress};
 ghost use Rattle.blocks.specs.Patch.{Wrote};
 ghost use Rattle.program.specs.Brought.{grammarIn, fieldsFrom, stretchEnd};
 ghost use Rattle.program.specs.Directory.{Alternatives};
 ghost use Rattle.program.specs.Records.{NextOf, Nexts, recordAt};
-ghost use Rattle.program.specs.Built.{Outlined, RecordFits, ProductionFits, ProductionWrote, allProductions};
+ghost use Rattle.program.specs.Built.{Outlined, RecordFits, ProductionFits, ProductionWrote, ProductionsWrote};
 use table::Sizes;
 
 // For each production the number plus 1 of the next one with the same left side, or 0: the last production first, with the first
@@ -114,7 +113,16 @@ fn write_production(
         area,
         at,
     );
-    bodies::write_body(row, fields, inherited, synthesized, &tests, area, body)
+    bodies::write_body(
+        row,
+        fields,
+        inherited,
+        synthesized,
+        sizes.carrying,
+        &tests,
+        area,
+        body,
+    )
 }
 
 // All records and bodies; answers the address behind the last body.
@@ -129,11 +137,11 @@ pub fn write_productions(
     area: &mut [u32],
 ) -> usize
     requires { ⌜ Outlined (now table) (now rows) (now inherited) (now synthesized) (now offsets) (now sets) sizes × (16384 ≤ length (now area)) ⌝ }
-    ensures { λ r. ⌜ ((x : Outlined (now (table .entry)) (now (rows .entry)) (now (inherited .entry)) (now (synthesized .entry)) (now (offsets .entry)) (now (sets .entry)) sizes) → Wrote (now (area .entry)) (now (area .exit)) (recordsAddress (grammarIn x)) r (allProductions (grammarIn x))) ⌝ }
+    ensures { λ r. ⌜ ((x : Outlined (now (table .entry)) (now (rows .entry)) (now (inherited .entry)) (now (synthesized .entry)) (now (offsets .entry)) (now (sets .entry)) sizes) → ProductionsWrote (grammarIn x) (now (area .entry)) (now (area .exit)) r) ⌝ }
 {
     let count = sizes.productions;
-    let mut at = 8 + 64 * sizes.nonterminals;
-    let mut body = at + 8 * count;
+    let mut at = 9 + 64 * sizes.nonterminals;
+    let mut body = at + 20 * count;
     let nexts = find_nexts(rows, sets, sizes.nonterminals, count);
     let mut p: usize = 0;
     while p < count {

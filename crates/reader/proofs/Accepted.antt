@@ -9,7 +9,7 @@ use borrow.Author.Tests.{lt-ltb, le-ltb}
 use lib.Dec.{ltb}
 use lib.ListN.{length, getD, drop, length-append, length-drop, length-map, length-reverse, List·getD-eq-default}
 use lib.Seq.{drop-drop, drop-append-seam, getD-drop}
-use Rattle.meaning.specs.Table.{byte, State, Entry, noEntry, Kind, header, counts, production, rule, condition, withRule, withCondition, onCurrent, ruleOf, conditionOf, readField, wellFormed, readTable}
+use Rattle.meaning.specs.Table.{byte, State, Entry, noEntry, Kind, header, counts, production, rule, condition, carrier, withRule, withCondition, onCurrent, ruleOf, conditionOf, readField, wellFormed, readTable}
 use Rattle.meaning.specs.Judgement.{entryOffset}
 use Rattle.meaning.specs.PublicCalls.{stretchEnd}
 use Rattle.theory_base.specs.Members.{map-at, map-one-more}
@@ -57,6 +57,7 @@ module _ (t : List ℕ) (s : State) (o : ℕ) (inside : o < length t) (body : Li
   one-more production e = map-one-more (λ x. x .offset) _ (s .entries) (productionsFrom t (past t o)) ∙ ap (λ xs. offsets (s .entries) ++ xs) (sym (here t o inside e))
   one-more rule e = same-current (λ x. withRule x (ruleOf body)) (λ x. refl) (s .entries) _ ∙ ap (λ xs. offsets (s .entries) ++ xs) (sym (not-here t o inside (λ q. omega arith)))
   one-more condition e = same-current (λ x. withCondition x (conditionOf body)) (λ x. refl) (s .entries) _ ∙ ap (λ xs. offsets (s .entries) ++ xs) (sym (not-here t o inside (λ q. omega arith)))
+  one-more carrier e = ap (λ xs. offsets (s .entries) ++ xs) (sym (not-here t o inside (λ q. omega arith)))
 
 still-to-come : (t : List ℕ) {s u : State} {o : ℕ} {bs : List ℕ} → Reads s o bs u → drop o t ≡ bs → offsets (u .entries) ≡ offsets (s .entries) ++ productionsFrom t o
 still-to-come t {s} (over {o = o} f l c) d = sym (append-nil (offsets (s .entries))) ∙ ap (λ xs. offsets (s .entries) ++ xs) (sym (none-left t o (omega (arith, length-drop o t, ap length d))))

@@ -16,6 +16,11 @@ not-in-a-body : productionsFrom (1 ∷ 0 ∷ 2 ∷ 3 ∷ 3 ∷ 3 ∷ 0 ∷ 1 ∷
 unfolding productionsFrom ifBelow lengthAt
 not-in-a-body = refl
 
+-- a terminal that carries a value is one more field to pass, also terminal 3
+past-a-carrier : productionsFrom (2 ∷ 0 ∷ 2 ∷ 0 ∷ 1 ∷ 6 ∷ 0 ∷ 1 ∷ 3 ∷ 3 ∷ 0 ∷ 2 ∷ 0 ∷ 0 ∷ []) 0 ≡ 9 ∷ []
+unfolding productionsFrom ifBelow lengthAt
+past-a-carrier = refl
+
 -- a field that is cut short is the last, and the table's end follows it
 cut-short : productionsFrom (4 ∷ 0 ∷ 0 ∷ 3 ∷ 1 ∷ 0 ∷ 3 ∷ 3 ∷ []) 0 ≡ 3 ∷ []
 unfolding productionsFrom ifBelow lengthAt

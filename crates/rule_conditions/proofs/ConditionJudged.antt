@@ -56,12 +56,12 @@ far-by false q v k l = refl
 far-by true false v k l = refl
 far-by true true v k l = refl
 
-module _ (h : Header) (cs : List Counts) (os : List ℕ) (es : List Entry) (r c o l : ℕ) (xs : List Symbol) (rs : List (Rule Occurrence)) (cds : List (Condition Occurrence)) (width : ℕ) (inh syn : List ℕ) (pl : Placed cs l xs width inh syn) (b : List ℕ) where
+module _ (h : Header) (cs : List Counts) (os ws : List ℕ) (es : List Entry) (r c o l : ℕ) (xs : List Symbol) (rs : List (Rule Occurrence)) (cds : List (Condition Occurrence)) (width : ℕ) (inh syn : List ℕ) (pl : Placed cs ws l xs width inh syn) (b : List ℕ) where
   abbrev e : Entry
-  e = entry h cs os es r c o l xs rs cds
+  e = entry h cs os ws es r c o l xs rs cds
 
   abbrev s : State
-  s = state h cs os es r c o l xs rs cds
+  s = state h cs os ws es r c o l xs rs cds
 
   abbrev kind : ℕ
   kind = byte b 0
@@ -74,7 +74,7 @@ module _ (h : Header) (cs : List Counts) (os : List ℕ) (es : List Entry) (r c 
 
   class-of : (i : ℕ) → Classed (K (occurrenceAt b i)) (I (occurrenceAt b i)) (classIn width inh syn b i)
   unfolding classIn
-  class-of i = classed h cs os es r c o l xs rs cds width inh syn pl (byte b i) (byte b (i + 1))
+  class-of i = classed h cs os ws es r c o l xs rs cds width inh syn pl (byte b i) (byte b (i + 1))
 
   abbrev conditionBy : Bool → Condition Occurrence
   conditionBy x = elim x [

@@ -126,12 +126,12 @@ place-same : (x : Bool) (m t : ℕ) → eqb t 0 ≡ false → cond x (ltb m t) t
 place-same true m t e = refl
 place-same false m t e = sym (lt-ltb 0 t (let n = eqb-false t 0 e in omega arith))
 
-module _ (h : Header) (cs : List Counts) (os : List ℕ) (es : List Entry) (r c o l : ℕ) (xs : List Symbol) (rs : List (Rule Occurrence)) (cds : List (Condition Occurrence)) (width : ℕ) (inh syn note : List ℕ) (pl : Placed cs l xs width inh syn) (small : Small width inh syn) (nt : Notes note rs) (b : List ℕ) where
+module _ (h : Header) (cs : List Counts) (os ws : List ℕ) (es : List Entry) (r c o l : ℕ) (xs : List Symbol) (rs : List (Rule Occurrence)) (cds : List (Condition Occurrence)) (width : ℕ) (inh syn note : List ℕ) (pl : Placed cs ws l xs width inh syn) (small : Small width inh syn) (nt : Notes note rs) (b : List ℕ) where
   abbrev e : Entry
-  e = entry h cs os es r c o l xs rs cds
+  e = entry h cs os ws es r c o l xs rs cds
 
   abbrev s : State
-  s = state h cs os es r c o l xs rs cds
+  s = state h cs os ws es r c o l xs rs cds
 
   abbrev f : ℕ
   f = byte b 2
@@ -148,7 +148,7 @@ module _ (h : Header) (cs : List Counts) (os : List ℕ) (es : List Entry) (r c 
 
   class-of : (i : ℕ) → Classed (K (occurrenceAt b i)) (I (occurrenceAt b i)) (classIn width inh syn b i)
   unfolding classIn
-  class-of i = classed h cs os es r c o l xs rs cds width inh syn pl (byte b i) (byte b (i + 1))
+  class-of i = classed h cs os ws es r c o l xs rs cds width inh syn pl (byte b i) (byte b (i + 1))
 
   first-class : Classed (given 0 (operandCount f) (K (occurrenceAt b 3))) (given 0 (operandCount f) (I (occurrenceAt b 3))) (operandClass width inh syn b (operandCount f) 0)
   unfolding operandClass ifBelow

@@ -67,12 +67,12 @@ all-mapped f g (x ∷ l) = ap (λ y. f (g x) && y) (all-mapped f g l)
 
 -- ---- every output of a production is noted
 
-module _ (h : Header) (cs : List Counts) (os : List ℕ) (es : List Entry) (r c o l : ℕ) (xs : List Symbol) (rs : List (Rule Occurrence)) (cds : List (Condition Occurrence)) (width : ℕ) (inh syn note : List ℕ) (pl : Placed cs l xs width inh syn) (small : Small width inh syn) (nt : Notes note rs) where
+module _ (h : Header) (cs : List Counts) (os ws : List ℕ) (es : List Entry) (r c o l : ℕ) (xs : List Symbol) (rs : List (Rule Occurrence)) (cds : List (Condition Occurrence)) (width : ℕ) (inh syn note : List ℕ) (pl : Placed cs ws l xs width inh syn) (small : Small width inh syn) (nt : Notes note rs) where
   abbrev e : Entry
-  e = entry h cs os es r c o l xs rs cds
+  e = entry h cs os ws es r c o l xs rs cds
 
   abbrev s : State
-  s = state h cs os es r c o l xs rs cds
+  s = state h cs os ws es r c o l xs rs cds
 
   module _ (k : ℕ) (inside : k ≤ width) where
     abbrev i : ℕ
@@ -131,8 +131,8 @@ module _ (h : Header) (cs : List Counts) (os : List ℕ) (es : List Entry) (r c 
         all-mapped (λ x. isInput s e x || hasRule e x) (λ a. occurrence k a) (countFrom 1 (countsAt s (entrySymbol e k) .inherited + countsAt s (entrySymbol e k) .synthesized))
         ∙ ap₂
         (λ u v. all (test (eqb k 0) u) (countFrom 1 (u + v)))
-        (inherited-in h cs os es r c o l xs rs cds width inh syn pl k inside)
-        (synthesized-in h cs os es r c o l xs rs cds width inh syn pl k inside)
+        (inherited-in h cs os ws es r c o l xs rs cds width inh syn pl k inside)
+        (synthesized-in h cs os ws es r c o l xs rs cds width inh syn pl k inside)
         ∙ by-side (eqb k 0)
 
   pub complete-judged : complete s e ≡ completeNote width inh syn note

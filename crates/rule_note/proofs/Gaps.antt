@@ -123,4 +123,4 @@ module _ (s : State) (e : Entry) where
 pub gaps-answered : (width : ℕ) (inh syn note : List ℕ) → Small width inh syn → (gap : Bool) → gap ≡ not (completeNote width inh syn note) → GapsAnswered width inh syn note gap
 gaps-answered width inh syn note small gap q s e pl nt =
     gap-answered s e gap
-    (q ∙ ap not (sym (complete-judged noHeader (s .counts) [] [] 0 0 (e .offset) (e .left) (e .right) (e .rules) (e .conditions) width inh syn note pl small nt)))
+    (q ∙ ap not (sym (complete-judged noHeader (s .counts) [] (s .carrying) [] 0 0 (e .offset) (e .left) (e .right) (e .rules) (e .conditions) width inh syn note pl small nt)))

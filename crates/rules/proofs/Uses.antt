@@ -38,23 +38,23 @@ class-by true true true false = output
 class-by true true false true = output
 class-by true true false false = input
 
-module _ (h : Header) (cs : List Counts) (os : List ℕ) (es : List Entry) (r c o l : ℕ) (xs : List Symbol) (rs : List (Rule Occurrence)) (cds : List (Condition Occurrence)) where
+module _ (h : Header) (cs : List Counts) (os ws : List ℕ) (es : List Entry) (r c o l : ℕ) (xs : List Symbol) (rs : List (Rule Occurrence)) (cds : List (Condition Occurrence)) where
   abbrev pub entry : Entry
   entry = entryOf o l xs rs cds
 
   abbrev pub state : State
-  state = stateOf h cs os (entry ∷ es) r c
+  state = stateOf h cs os ws (entry ∷ es) r c
 
   pub symbol-in : (k : ℕ) → entrySymbol entry k ≡ symbolIn l xs k
   symbol-in zero = refl
   symbol-in (suc k) = refl
 
-  module _ (width : ℕ) (inh syn : List ℕ) (pl : Placed cs l xs width inh syn) where
+  module _ (width : ℕ) (inh syn : List ℕ) (pl : Placed cs ws l xs width inh syn) where
     pub inherited-in : (k : ℕ) → k ≤ width → countsAt state (entrySymbol entry k) .inherited ≡ getD inh k 0
-    inherited-in k w = ap (λ x. countsIn (reverse cs) x .inherited) (symbol-in k) ∙ sym (pl .inherits k w)
+    inherited-in k w = ap (λ x. countsIn (reverse cs) (reverse ws) x .inherited) (symbol-in k) ∙ sym (pl .inherits k w)
 
     pub synthesized-in : (k : ℕ) → k ≤ width → countsAt state (entrySymbol entry k) .synthesized ≡ getD syn k 0
-    synthesized-in k w = ap (λ x. countsIn (reverse cs) x .synthesized) (symbol-in k) ∙ sym (pl .synthesizes k w)
+    synthesized-in k w = ap (λ x. countsIn (reverse cs) (reverse ws) x .synthesized) (symbol-in k) ∙ sym (pl .synthesizes k w)
 
     module _ (k a : ℕ) where
       abbrev i : ℕ

@@ -16,11 +16,11 @@ abbrev pub symbolIn : ℕ → List Symbol → ℕ → Symbol
 symbolIn l xs zero = nonterminal l
 symbolIn l xs (suc k) = getD xs k (terminal 0)
 
--- the counts at each position of a production, of counts read latest first
-pub record Placed (cs : List Counts) (l : ℕ) (xs : List Symbol) (width : ℕ) (inh syn : List ℕ) : Type 0 where
+-- the counts at each position of a production, of counts and terminals that carry a value, both read latest first
+pub record Placed (cs : List Counts) (ws : List ℕ) (l : ℕ) (xs : List Symbol) (width : ℕ) (inh syn : List ℕ) : Type 0 where
   pub wide : width ≡ length xs
-  pub inherits : (k : ℕ) → k ≤ width → getD inh k 0 ≡ countsIn (reverse cs) (symbolIn l xs k) .inherited
-  pub synthesizes : (k : ℕ) → k ≤ width → getD syn k 0 ≡ countsIn (reverse cs) (symbolIn l xs k) .synthesized
+  pub inherits : (k : ℕ) → k ≤ width → getD inh k 0 ≡ countsIn (reverse cs) (reverse ws) (symbolIn l xs k) .inherited
+  pub synthesizes : (k : ℕ) → k ≤ width → getD syn k 0 ≡ countsIn (reverse cs) (reverse ws) (symbolIn l xs k) .synthesized
 
 abbrev pub occurrence : ℕ → ℕ → Occurrence
 occurrence k a = record { position = k; attribute = a }
@@ -62,7 +62,7 @@ pub record GapAnswered (s : State) (e : Entry) (gap : Bool) : Type 0 where
 -- 02: "Gaps are answered from the notes, the symbols and the attribute counts": for every production whose symbols have these counts at their positions and whose rules are noted
 abbrev pub GapsAnswered : ℕ → List ℕ → List ℕ → List ℕ → Bool → Type 0
 GapsAnswered width inh syn note gap =
-    (s : State) (e : Entry) → Placed (s .counts) (e .left) (e .right) width inh syn → Notes note (e .rules) → GapAnswered s e gap
+    (s : State) (e : Entry) → Placed (s .counts) (s .carrying) (e .left) (e .right) width inh syn → Notes note (e .rules) → GapAnswered s e gap
 
 -- ---- computed
 

@@ -2,7 +2,8 @@
 use Prim.Native.Nat.{ℕ, _≤_}
 use native.Mathlib.Omega.{arith}
 use mathlib.Core.Path.{_≡_, refl}
-use mathlib.Core.List.{List}
+use mathlib.Core.List.{List, map}
+use lib.IntN.{pos}
 use lib.ListN.{length, drop, length-append, length-drop}
 use Rattle.meaning.specs.Grammar.{Grammar}
 use Rattle.meaning.specs.Table.{State, Read, wellFormed, malformed, readTable, nothingRead}
@@ -29,7 +30,7 @@ next program bs e c = performs program bs (e .area) (e .state) (e .stacks) c
 
 -- opened and fed
 abbrev pub fed : (Grammar → List ℕ) → List ℕ → List ℕ → Stacks → List ℕ → Effect
-fed program bs area m ts = next program bs (opens program bs area m) (feed ts)
+fed program bs area m ts = next program bs (opens program bs area m) (feed ts (map (λ t. pos 0) ts))
 
 -- and finished
 abbrev pub finished : (Grammar → List ℕ) → List ℕ → List ℕ → Stacks → List ℕ → Effect
@@ -44,7 +45,7 @@ abbrev pub nextBy : Grammar → Called → Call → Called
 nextBy g k c = callOf g (k .state) (k .stacks) c
 
 abbrev pub fedBy : Grammar → Stacks → List ℕ → Called
-fedBy g m ts = nextBy g (openOf g m) (feed ts)
+fedBy g m ts = nextBy g (openOf g m) (feed ts (map (λ t. pos 0) ts))
 
 abbrev pub finishedBy : Grammar → Stacks → List ℕ → Called
 finishedBy g m ts = nextBy g (fedBy g m ts) finish
@@ -59,7 +60,7 @@ module _ (program : Grammar → List ℕ) (area : List ℕ) (l : areaLength ≤ 
   pub fed-words : fed program bytes area m ts ≡ effect (fedBy words m ts) (after (after area))
   fed-words =
       let l₁ = long (program words) area l in
-      rw (called-is program bytes words words-accepted area l closedRecord m (λ g. openOf g m)) (next-words (effect (openOf words m) (after area)) (feed ts) l₁)
+      rw (called-is program bytes words words-accepted area l closedRecord m (λ g. openOf g m)) (next-words (effect (openOf words m) (after area)) (feed ts (map (λ t. pos 0) ts)) l₁)
 
   pub finished-words : finished program bytes area m ts ≡ effect (finishedBy words m ts) (after (after (after area)))
   finished-words =

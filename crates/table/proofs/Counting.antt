@@ -47,7 +47,7 @@ module _ (t : List ℕ) (n : ℕ) (inh syn : List ℕ) (c : Counting t n inh syn
     abbrev after : Read
     after =
         rest t
-        (stateOf (headerIn t) (record { inherited = byte t (at + 3); synthesized = byte t (at + 4) } ∷ countsUpTo inh syn n) (at ∷ offsetsUpTo n) [] 0 0)
+        (stateOf (headerIn t) (record { inherited = byte t (at + 3); synthesized = byte t (at + 4) } ∷ countsUpTo inh syn n) (at ∷ offsetsUpTo n) [] [] 0 0)
         (at + 5)
 
     step : rest t (headed t) 7 ≡ judged number at after
@@ -103,7 +103,7 @@ module _ (t : List ℕ) (n : ℕ) (inh syn : List ℕ) (c : Counting t n inh syn
           let e : at + 5 ≡ 7 + 5 * (n + 1) = omega arith in
           record {
             read = step ∙ judged-fine number at after fine
-                ∙ ap₂ (λ cs os. rest t (stateOf (headerIn t) cs os [] 0 0) (at + 5)) counts-more offsets-more
+                ∙ ap₂ (λ cs os. rest t (stateOf (headerIn t) cs os [] [] 0 0) (at + 5)) counts-more offsets-more
                 ∙ ap (λ i. rest t (counted t inh′ syn′ (n + 1)) i) e;
             long = omega (arith, j .long fine);
             small = small-more;

@@ -1,5 +1,6 @@
 pub mod Steps
 pub mod Counting
+pub mod Carrying
 pub mod Placing
 pub mod Walking
 pub mod Producing

@@ -8,59 +8,41 @@ use native.Mathlib.Nat.{not-suc-le-zero}
 use lib.ListN.{length, getD, set, length-set}
 use lib.Seq.{getD-set-same, getD-set-other}
 use Rattle.meaning.specs.Table.{byte}
-use Rattle.table.specs.Outline.{countOf, Blank, symbolByte, Copied}
-use Rattle.fields.proofs.Demands.{below-yes}
+use Rattle.table.specs.Outline.{symbolByte, Copied}
 use Rattle.fields.proofs.Cases.{lt-or-le}
 
--- the counts of positions below k are written, those behind are 0
-pub record Placing (b counts places : List ℕ) (k : ℕ) : Type 0 where
-  pub each : (j : ℕ) → j < k → getD places j 0 ≡ countOf counts (symbolByte b j)
-  pub later : (j : ℕ) → k ≤ j → getD places j 0 ≡ 0
+-- the counts of positions below k are written, where f gives the count of a symbol's byte
+pub record Placing (f : ℕ → ℕ) (b places : List ℕ) (k : ℕ) : Type 0 where
+  pub each : (j : ℕ) → j < k → getD places j 0 ≡ f (symbolByte b j)
   pub kept : length places ≡ 13
 
-pub placing-start : (b counts places : List ℕ) (x : ℕ) → Blank places → x ≡ countOf counts (128 + byte b 0) → Placing b counts (set places 0 x) 1
-placing-start b counts places x l e =
-    record {
-      each = first;
-      later = λ j h. getD-set-other places 0 j x 0 (λ q. omega arith) ∙ l .zero j;
-      kept = length-set places 0 x ∙ l .kept;
-    }
+pub placing-start : (f : ℕ → ℕ) (b places : List ℕ) (x : ℕ) → length places ≡ 13 → x ≡ f (128 + byte b 0) → Placing f b (set places 0 x) 1
+placing-start f b places x l e = record { each = first; kept = length-set places 0 x ∙ l }
   where
-    first : (j : ℕ) → j < 1 → getD (set places 0 x) j 0 ≡ countOf counts (symbolByte b j)
-    first zero h = getD-set-same places 0 x 0 (omega (arith, l .kept)) ∙ e
+    first : (j : ℕ) → j < 1 → getD (set places 0 x) j 0 ≡ f (symbolByte b j)
+    first zero h = getD-set-same places 0 x 0 (omega (arith, l)) ∙ e
     first (suc j) h = absurd (omega arith)
 
 symbol-byte : (b : List ℕ) (k : ℕ) → 1 ≤ k → byte b (k + 1) ≡ symbolByte b k
 symbol-byte b zero h = absurd (not-suc-le-zero h)
 symbol-byte b (suc k) h = ap (byte b) {x = suc k + 1} {y = k + 2} (omega arith)
 
-module _ (b counts places : List ℕ) (k : ℕ) (p : Placing b counts places k) (one : 1 ≤ k) where
+module _ (f : ℕ → ℕ) (b places : List ℕ) (k : ℕ) (p : Placing f b places k) (one : 1 ≤ k) where
   -- position k is written in `now`, and the positions before it stay
-  next-each : (now : List ℕ) → getD now k 0 ≡ countOf counts (byte b (k + 1)) → ((j : ℕ) → j < k → getD now j 0 ≡ getD places j 0) → (j : ℕ) → j < k + 1 → getD now j 0 ≡ countOf counts (symbolByte b j)
+  next-each : (now : List ℕ) → getD now k 0 ≡ f (byte b (k + 1)) → ((j : ℕ) → j < k → getD now j 0 ≡ getD places j 0) → (j : ℕ) → j < k + 1 → getD now j 0 ≡ f (symbolByte b j)
   next-each now e same j h =
       ⊎-elim
       (λ l. same j l ∙ p .each j l)
       (λ l.
       let q : j ≡ k = omega arith in
-      ap (λ (i : ℕ). getD now i 0) q ∙ e ∙ ap (countOf counts) (symbol-byte b k one ∙ ap (symbolByte b) (sym q)))
+      ap (λ (i : ℕ). getD now i 0) q ∙ e ∙ ap f (symbol-byte b k one ∙ ap (symbolByte b) (sym q)))
       (lt-or-le j k)
 
-  pub placing-more : (x : ℕ) → k < 13 → x ≡ countOf counts (byte b (k + 1)) → Placing b counts (set places k x) (k + 1)
+  pub placing-more : (x : ℕ) → k < 13 → x ≡ f (byte b (k + 1)) → Placing f b (set places k x) (k + 1)
   placing-more x room e =
       record {
         each = next-each (set places k x) (getD-set-same places k x 0 (omega (arith, p .kept)) ∙ e) (λ j l. getD-set-other places k j x 0 (λ q. omega arith));
-        later = λ j h. getD-set-other places k j x 0 (λ q. omega arith) ∙ p .later j (omega arith);
         kept = length-set places k x ∙ p .kept;
-      }
-
-  -- a token has no counts
-  pub placing-token : byte b (k + 1) < 128 → Placing b counts places (k + 1)
-  unfolding countOf
-  placing-token l =
-      record {
-        each = next-each places (p .later k (omega arith) ∙ below-yes _ _ _ _ l refl) (λ j h. refl);
-        later = λ j h. p .later j (omega arith);
-        kept = p .kept;
       }
 
 pub copying-start : (rows : List ℕ) (p : ℕ) (b : List ℕ) → length rows ≡ 2048 → Copied rows p b rows 0

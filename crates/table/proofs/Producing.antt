@@ -10,7 +10,9 @@ use lib.Dec.{ltb}
 use lib.ListN.{length, getD, take, drop, length-drop, length-take, length-map, List·getD-map}
 use lib.Seq.{getD-drop}
 use borrow.Author.Tests.{ltb-true, ltb-false, le-ltb}
-use Rattle.meaning.specs.Grammar.{Counts, noCounts, Symbol, terminal, nonterminal, countsIn}
+use Rattle.meaning.specs.Sets.{has}
+use Rattle.token_set.specs.Words.{setOf}
+use Rattle.meaning.specs.Grammar.{Counts, noCounts, attributeIf, Symbol, terminal, nonterminal, countsIn}
 use Rattle.meaning.specs.Table.{byte, Header, Entry, production, readField, kindOf, judgeField, symbolOf}
 use Rattle.fields.specs.Demand.{ifBelow}
 use Rattle.fields.specs.Field.{Whole, Short, rest, bodyAt}
@@ -24,7 +26,7 @@ use Rattle.fields.proofs.Walks.{all-each}
 use Rattle.rules.specs.Rule.{Small}
 use Rattle.rules.specs.Note.{symbolIn}
 use Rattle.table.specs.declared.Uses.{Uses}
-use Rattle.table.specs.Outline.{SmallCounts, Numbered, countOf, symbolByte, countsUpTo, Written}
+use Rattle.table.specs.Outline.{SmallCounts, Numbered, Carries, countOf, synthesizedOf, symbolByte, countsUpTo, Written}
 use Rattle.table.specs.Progress.{settingOf, Around, UsesRead, Next}
 use Rattle.table.specs.Productions.{widthIn, bodyIn, leftIn, rightIn, ProductionKnown, ProductionJudged, SmallBody, CountsAgree, BodyRead}
 use Rattle.table.proofs.Counting.{length-counts}
@@ -38,7 +40,7 @@ module _ (t : List ℕ) (at p terminals nonterminals : ℕ) (inside : at < lengt
   pub production-cut : Short t at → ProductionJudged t at p terminals nonterminals 2
   production-cut s =
       record {
-        read = λ h cs os es r c tm nt all len done. step-short t (stateOf h cs os es r c) at inside (calm-complete (stateOf h cs os es r c) (byte t at) done) _ s;
+        read = λ h cs os ws es r c tm nt all len done. step-short t (stateOf h cs os ws es r c) at inside (calm-complete (stateOf h cs os ws es r c) (byte t at) done) _ s;
         known = λ z. absurd (nonzero 1 z);
       }
 
@@ -46,12 +48,12 @@ module _ (t : List ℕ) (at p terminals nonterminals : ℕ) (inside : at < lengt
     abbrev b : List ℕ
     b = bodyAt t at size
 
-    pub production-other : (byte t at ≡ 3 → ⊥) → (0 < p → byte t at ≡ 3) → ProductionJudged t at p terminals nonterminals 3
-    production-other n f =
+    pub production-other : (byte t at ≡ 3 → ⊥) → (0 < p → byte t at ≡ 3) → (byte t at ≡ 6 → ⊥) → ProductionJudged t at p terminals nonterminals 3
+    production-other n f m =
         record {
-          read = λ h cs os es r c tm nt all len done.
-              step-field t (stateOf h cs os es r c) at inside (calm-complete (stateOf h cs os es r c) (byte t at) done) _ size w 3
-              (first-not h cs os es r c at b (byte t at) (omega (arith, all, nt)) (none-of es (⊎-elim (λ l. absurd (n (f l))) (λ l. omega arith) (lt-or-le 0 p))) n)
+          read = λ h cs os ws es r c tm nt all len done.
+              step-field t (stateOf h cs os ws es r c) at inside (calm-complete (stateOf h cs os ws es r c) (byte t at) done) _ size w 3
+              (first-not h cs os ws es r c at b (byte t at) (omega (arith, all, nt)) (none-of es (⊎-elim (λ l. absurd (n (f l))) (λ l. omega arith) (lt-or-le 0 p))) n m)
               (λ e. absurd (nonzero 2 e));
           known = λ z. absurd (nonzero 2 z);
         }
@@ -85,13 +87,13 @@ module _ (t : List ℕ) (at p terminals nonterminals : ℕ) (inside : at < lengt
           }
 
       after-same :
-          (h : Header) (cs : List Counts) (os : List ℕ) (es : List Entry) (r c : ℕ) → byte t at ≡ 3
-          → rest t (readField (stateOf h cs os es r c) at (kindOf (byte t at)) b) (at + 3 + size)
-          ≡ rest t (stateOf h cs os (entryOf at (leftIn t at) (rightIn t at) [] [] ∷ es) r c) (at + 5 + widthIn t at)
-      after-same h cs os es r c tag =
+          (h : Header) (cs : List Counts) (os ws : List ℕ) (es : List Entry) (r c : ℕ) → byte t at ≡ 3
+          → rest t (readField (stateOf h cs os ws es r c) at (kindOf (byte t at)) b) (at + 3 + size)
+          ≡ rest t (stateOf h cs os ws (entryOf at (leftIn t at) (rightIn t at) [] [] ∷ es) r c) (at + 5 + widthIn t at)
+      after-same h cs os ws es r c tag =
           let n : at + 3 + size ≡ at + 5 + widthIn t at = omega (arith, size-is) in
-          ap₂ (λ (x i : ℕ). rest t (readField (stateOf h cs os es r c) at (kindOf x) b) i) tag n
-          ∙ ap₂ (λ x y. rest t (stateOf h cs os (entryOf at x (map symbolOf (drop 2 y)) [] [] ∷ es) r c) (at + 5 + widthIn t at)) first body-is
+          ap₂ (λ (x i : ℕ). rest t (readField (stateOf h cs os ws es r c) at (kindOf x) b) i) tag n
+          ∙ ap₂ (λ x y. rest t (stateOf h cs os ws (entryOf at x (map symbolOf (drop 2 y)) [] [] ∷ es) r c) (at + 5 + widthIn t at)) first body-is
 
     fault-same : (x y z : ℕ) → x ≡ terminals → y ≡ nonterminals → z ≡ p → productionFault x y z b ≡ productionFault terminals nonterminals p b
     fault-same x y z q r s = cc
@@ -102,11 +104,11 @@ module _ (t : List ℕ) (at p terminals nonterminals : ℕ) (inside : at < lengt
     production-right part number tag is e =
         let q : number ≡ productionFault terminals nonterminals p b = e ∙ ap (productionFault terminals nonterminals p) is in
         record {
-          read = λ h cs os es r c tm nt all len done.
-              step-field t (stateOf h cs os es r c) at inside (calm-complete (stateOf h cs os es r c) (byte t at) done) _ size w number
-              (ap (λ (x : ℕ). judgeField (stateOf h cs os es r c) (fieldOf at x b)) tag
-              ∙ production-judged h cs os es r c at b (omega (arith, all, nt)) ∙ fault-same (h .terminals) (h .nonterminals) (length es) tm nt len ∙ sym q)
-              (λ z. after-same (production-fine b terminals nonterminals p (sym q ∙ z)) h cs os es r c tag);
+          read = λ h cs os ws es r c tm nt all len done.
+              step-field t (stateOf h cs os ws es r c) at inside (calm-complete (stateOf h cs os ws es r c) (byte t at) done) _ size w number
+              (ap (λ (x : ℕ). judgeField (stateOf h cs os ws es r c) (fieldOf at x b)) tag
+              ∙ production-judged h cs os ws es r c at b (omega (arith, all, nt)) ∙ fault-same (h .terminals) (h .nonterminals) (length es) tm nt len ∙ sym q)
+              (λ z. after-same (production-fine b terminals nonterminals p (sym q ∙ z)) h cs os ws es r c tag);
           known = λ z. is-known (production-fine b terminals nonterminals p (sym q ∙ z));
         }
 
@@ -139,6 +141,11 @@ module _ {A : Type 0} (d : A) where
   pub numbered : (P : ℕ → A → Type 0) (xs : List A) → Numbered P xs → (m : ℕ) → m < length xs → P m (getD (reverse xs) m d)
   numbered P xs e m h = reverse-onto P xs [] e m h
 
+-- a terminal has at most one attribute
+one-most : (b : Bool) → attributeIf b ≤ 1
+one-most true = omega arith
+one-most false = omega arith
+
 module _ (inh syn : List ℕ) where
   abbrev Right : ℕ → Counts → Type 0
   Right m x = x ≡ record { inherited = getD inh m 0; synthesized = getD syn m 0 }
@@ -150,54 +157,58 @@ module _ (inh syn : List ℕ) where
   pub counts-at : (n m : ℕ) → m < n → getD (reverse (countsUpTo inh syn n)) m noCounts ≡ record { inherited = getD inh m 0; synthesized = getD syn m 0 }
   counts-at n m h = numbered noCounts Right (countsUpTo inh syn n) (each-right n) m (omega (arith, length-counts inh syn n))
 
-  -- a symbol's counts, by its byte
-  module _ (n : ℕ) where
+  -- a symbol's counts, by its byte, where a word holds the terminals that carry a value
+  module _ (carrying : ℕ) (ws : List ℕ) (n : ℕ) where
     abbrev cs : List Counts
     cs = countsUpTo inh syn n
 
     pub record SymbolCounts (x : Symbol) (k : ℕ) : Type 0 where
-      pub first : countOf inh k ≡ countsIn (reverse cs) x .inherited
-      pub second : countOf syn k ≡ countsIn (reverse cs) x .synthesized
+      pub first : countOf inh k ≡ countsIn (reverse cs) (reverse ws) x .inherited
+      pub second : synthesizedOf carrying syn k ≡ countsIn (reverse cs) (reverse ws) x .synthesized
 
-    of-terminal : (m k : ℕ) → k < 128 → SymbolCounts (terminal m) k
-    unfolding countOf
-    of-terminal m k l = record { first = sym (below-yes k 128 _ _ l refl); second = sym (below-yes k 128 _ _ l refl) }
+    of-terminal : Carries carrying (reverse ws) → (k : ℕ) → k < 128 → SymbolCounts (terminal k) k
+    unfolding countOf synthesizedOf
+    of-terminal held k l = record { first = sym (below-yes k 128 _ _ l refl); second = sym (below-yes k 128 _ _ l (ap attributeIf (sym (held .each k)))) }
 
     of-nonterminal : (k : ℕ) → 128 ≤ k → k - 128 < n → SymbolCounts (nonterminal (k - 128)) k
-    unfolding countOf
+    unfolding countOf synthesizedOf
     of-nonterminal k l h =
         record {
           first = sym (below-no k 128 _ _ l (ap (λ x. x .inherited) (counts-at n (k - 128) h)));
           second = sym (below-no k 128 _ _ l (ap (λ x. x .synthesized) (counts-at n (k - 128) h)));
         }
 
-    of-symbol : (terminals k : ℕ) → symbolKnown terminals n k ≡ true → SymbolCounts (symbolOf k) k
+    of-symbol : Carries carrying (reverse ws) → (terminals k : ℕ) → symbolKnown terminals n k ≡ true → SymbolCounts (symbolOf k) k
     unfolding symbolKnown ifBelow
-    of-symbol terminals k e = go (ltb k 128) refl
+    of-symbol held terminals k e = go (ltb k 128) refl
       where
         go : (b : Bool) → ltb k 128 ≡ b → SymbolCounts (elim b [ true ↦ terminal k | false ↦ nonterminal (k - 128) ]) k
-        go true q = of-terminal k k (ltb-true k 128 q)
+        go true q = of-terminal held k (ltb-true k 128 q)
         go false q =
             of-nonterminal k (ltb-false k 128 q)
             (ltb-true (k - 128) n (sym (ap (λ (b : Bool). cond b (ltb k terminals) (ltb (k - 128) n)) q) ∙ e))
 
-    small-count : SmallCounts inh syn n → (k : ℕ) → (128 ≤ k → k - 128 < n) → countOf inh k + countOf syn k ≤ 8
-    unfolding countOf
+    small-count : SmallCounts inh syn n → (k : ℕ) → (128 ≤ k → k - 128 < n) → countOf inh k + synthesizedOf carrying syn k ≤ 8
+    unfolding countOf synthesizedOf
     small-count small k h = ⊎-elim low high (lt-or-le k 128)
       where
-        low : k < 128 → countOf inh k + countOf syn k ≤ 8
-        low l = omega (arith, below-yes {A = ℕ} k 128 0 (getD inh (k - 128) 0) l refl, below-yes {A = ℕ} k 128 0 (getD syn (k - 128) 0) l refl)
+        own : ℕ
+        own = attributeIf (has (setOf carrying) k)
 
-        high : 128 ≤ k → countOf inh k + countOf syn k ≤ 8
+        low : k < 128 → countOf inh k + synthesizedOf carrying syn k ≤ 8
+        low l =
+            omega (arith, below-yes {A = ℕ} k 128 0 (getD inh (k - 128) 0) l refl, below-yes {A = ℕ} k 128 own (getD syn (k - 128) 0) l refl, one-most (has (setOf carrying) k))
+
+        high : 128 ≤ k → countOf inh k + synthesizedOf carrying syn k ≤ 8
         high l =
-            omega (arith, below-no {A = ℕ} k 128 0 (getD inh (k - 128) 0) l refl, below-no {A = ℕ} k 128 0 (getD syn (k - 128) 0) l refl, small (k - 128) (h l))
+            omega (arith, below-no {A = ℕ} k 128 0 (getD inh (k - 128) 0) l refl, below-no {A = ℕ} k 128 own (getD syn (k - 128) 0) l refl, small (k - 128) (h l))
 
 -- the nonterminals among known symbols
 known-below : (terminals n k : ℕ) → symbolKnown terminals n k ≡ true → 128 ≤ k → k - 128 < n
 unfolding symbolKnown ifBelow
 known-below terminals n k e l = ltb-true (k - 128) n (sym (ap (λ (b : Bool). cond b (ltb k terminals) (ltb (k - 128) n)) (le-ltb k 128 l)) ∙ e)
 
-module _ (t : List ℕ) (at p terminals nonterminals : ℕ) (inh syn : List ℕ) (known : ProductionKnown t at p terminals nonterminals) where
+module _ (t : List ℕ) (at p terminals nonterminals carrying : ℕ) (inh syn : List ℕ) (known : ProductionKnown t at p terminals nonterminals) where
   pub long-in : length (bodyIn t at) ≡ 2 + widthIn t at
   long-in = body-length t at (2 + widthIn t at) (omega (arith, known .long))
 
@@ -209,63 +220,64 @@ module _ (t : List ℕ) (at p terminals nonterminals : ℕ) (inh syn : List ℕ)
       List·getD-map symbolOf (drop 2 (bodyIn t at)) k 0
       ∙ ap symbolOf (getD-drop 2 (bodyIn t at) k 0 ∙ ap (byte (bodyIn t at)) {x = 2 + k} {y = k + 2} (omega arith))
 
-  each-position : (k : ℕ) → k ≤ widthIn t at → SymbolCounts inh syn nonterminals (symbolIn (leftIn t at) (rightIn t at) k) (symbolByte (bodyIn t at) k)
-  each-position zero l =
-      subst₂ (SymbolCounts inh syn nonterminals)
+  each-position : (ws : List ℕ) → Carries carrying (reverse ws) → (k : ℕ) → k ≤ widthIn t at → SymbolCounts inh syn carrying ws nonterminals (symbolIn (leftIn t at) (rightIn t at) k) (symbolByte (bodyIn t at) k)
+  each-position ws held zero l =
+      subst₂ (SymbolCounts inh syn carrying ws nonterminals)
       (ap nonterminal {x = 128 + leftIn t at - 128} {y = leftIn t at} (omega arith))
       (ap (λ (x : ℕ). 128 + x) (sym left-byte))
-      (of-nonterminal inh syn nonterminals (128 + leftIn t at) (omega arith) (omega (arith, known .left)))
-  each-position (suc k) l =
-      subst (λ x. SymbolCounts inh syn nonterminals x (byte (bodyIn t at) (k + 2))) (sym (right-symbol k))
-      (of-symbol inh syn nonterminals terminals (byte (bodyIn t at) (k + 2)) (known .symbols k (omega arith)))
+      (of-nonterminal inh syn carrying ws nonterminals (128 + leftIn t at) (omega arith) (omega (arith, known .left)))
+  each-position ws held (suc k) l =
+      subst (λ x. SymbolCounts inh syn carrying ws nonterminals x (byte (bodyIn t at) (k + 2))) (sym (right-symbol k))
+      (of-symbol inh syn carrying ws nonterminals held terminals (byte (bodyIn t at) (k + 2)) (known .symbols k (omega arith)))
 
-  pub counts-agree : CountsAgree t at inh syn (countsUpTo inh syn nonterminals)
-  counts-agree = record { inherits = λ k l. each-position k l .first; synthesizes = λ k l. each-position k l .second }
+  pub counts-agree : (ws : List ℕ) → Carries carrying (reverse ws) → CountsAgree t at carrying inh syn (countsUpTo inh syn nonterminals) ws
+  counts-agree ws held = record { inherits = λ k l. each-position ws held k l .first; synthesizes = λ k l. each-position ws held k l .second }
 
-  small-position : SmallCounts inh syn nonterminals → (k : ℕ) → k ≤ widthIn t at → countOf inh (symbolByte (bodyIn t at) k) + countOf syn (symbolByte (bodyIn t at) k) ≤ 8
-  small-position small zero l = small-count inh syn nonterminals small (128 + byte (bodyIn t at) 0) (λ h. omega (arith, left-byte, known .left))
+  small-position : SmallCounts inh syn nonterminals → (k : ℕ) → k ≤ widthIn t at → countOf inh (symbolByte (bodyIn t at) k) + synthesizedOf carrying syn (symbolByte (bodyIn t at) k) ≤ 8
+  small-position small zero l = small-count inh syn carrying [] nonterminals small (128 + byte (bodyIn t at) 0) (λ h. omega (arith, left-byte, known .left))
   small-position small (suc k) l =
-      small-count inh syn nonterminals small (byte (bodyIn t at) (k + 2)) (known-below terminals nonterminals (byte (bodyIn t at) (k + 2)) (known .symbols k (omega arith)))
+      small-count inh syn carrying [] nonterminals small (byte (bodyIn t at) (k + 2)) (known-below terminals nonterminals (byte (bodyIn t at) (k + 2)) (known .symbols k (omega arith)))
 
-  pub small-body : SmallCounts inh syn nonterminals → SmallBody t at inh syn
+  pub small-body : SmallCounts inh syn nonterminals → SmallBody t at carrying inh syn
   small-body small = (known .short, small-position small)
 
 -- ---- the lists of counts that the code makes of the body
 
-module _ (t : List ℕ) (at w : ℕ) (inherited synthesized inh syn part : List ℕ) (is-width : w ≡ widthIn t at) (is-body : part ≡ bodyIn t at) (long : at + 5 + widthIn t at ≤ length t) (p : Written part inherited inh) (q : Written part synthesized syn) where
+module _ (t : List ℕ) (at w carrying : ℕ) (inherited synthesized inh syn part : List ℕ) (is-width : w ≡ widthIn t at) (is-body : part ≡ bodyIn t at) (long : at + 5 + widthIn t at ≤ length t) (p : Written (countOf inherited) part inh) (q : Written (synthesizedOf carrying synthesized) part syn) where
   body-long : length (bodyIn t at) ≡ 2 + widthIn t at
   body-long = body-length t at (2 + widthIn t at) (omega arith)
 
-  at-place : (counts places : List ℕ) → Written part counts places → (k : ℕ) → k ≤ w → getD places k 0 ≡ countOf counts (symbolByte (bodyIn t at) k)
-  at-place counts places f k l = subst (λ x. Written x counts places) is-body f .each k (omega (arith, body-long))
+  at-place : (f : ℕ → ℕ) (places : List ℕ) → Written f part places → (k : ℕ) → k ≤ w → getD places k 0 ≡ f (symbolByte (bodyIn t at) k)
+  at-place f places g k l = subst (λ x. Written f x places) is-body g .each k (omega (arith, body-long))
 
-  pub body-small : SmallBody t at inherited synthesized → Small w inh syn
+  pub body-small : SmallBody t at carrying inherited synthesized → Small w inh syn
   body-small small =
-      (omega (arith, small .0), λ k l. omega (arith, small .1 k (omega arith), at-place inherited inh p k l, at-place synthesized syn q k l))
+      (omega (arith, small .0), λ k l. omega (arith, small .1 k (omega arith), at-place (countOf inherited) inh p k l, at-place (synthesizedOf carrying synthesized) syn q k l))
 
   right-long : length (rightIn t at) ≡ w
   right-long = length-map (drop 2 (bodyIn t at)) symbolOf ∙ length-drop 2 (bodyIn t at) ∙ omega (arith, body-long)
 
-  pub body-read : (r₀ c₀ : ℕ) (u : Uses) → UsesRead (settingOf t at w inh syn) (at + 5 + w) r₀ c₀ u → BodyRead t at inherited synthesized r₀ c₀ u
-  body-read r₀ c₀ u f h cs os es all agree =
+  pub body-read : (r₀ c₀ : ℕ) (u : Uses) → UsesRead (settingOf t at w inh syn) (at + 5 + w) r₀ c₀ u → BodyRead t at carrying inherited synthesized r₀ c₀ u
+  body-read r₀ c₀ u f h cs os ws es all agree =
       let a : Around (settingOf t at w inh syn) =
       record {
         header = h;
         counts = cs;
         offsets = os;
+        named = ws;
         left = leftIn t at;
         right = rightIn t at;
         others = es;
         all = all;
         placed = record {
           wide = sym right-long;
-          inherits = λ k l. at-place inherited inh p k l ∙ agree .inherits k (omega arith);
-          synthesizes = λ k l. at-place synthesized syn q k l ∙ agree .synthesizes k (omega arith);
+          inherits = λ k l. at-place (countOf inherited) inh p k l ∙ agree .inherits k (omega arith);
+          synthesizes = λ k l. at-place (synthesizedOf carrying synthesized) syn q k l ∙ agree .synthesizes k (omega arith);
         };
       }
       in
       let m = f a in
-      (m .0, m .1, ap (λ (i : ℕ). rest t (stateOf h cs os (entryOf at (leftIn t at) (rightIn t at) [] [] ∷ es) r₀ c₀) (at + 5 + i)) (sym is-width) ∙ m .2, m .3)
+      (m .0, m .1, ap (λ (i : ℕ). rest t (stateOf h cs os ws (entryOf at (leftIn t at) (rightIn t at) [] [] ∷ es) r₀ c₀) (at + 5 + i)) (sym is-width) ∙ m .2, m .3)
 
 pub next-sooner : (t : List ℕ) (a b : ℕ) (u : Uses) → a ≤ b → Next t b u → Next t a u
 next-sooner t a b u l n = record { after = omega (arith, n .after); inside = n .inside; over = n .over; rules = n .rules; conditions = n .conditions }

@@ -32,7 +32,7 @@ endBy s o x = elim x [
 ]
 
 abbrev headerOf4 : ℕ → ℕ → ℕ → ℕ → State
-headerOf4 x y z w = stateOf (record { terminals = x; nonterminals = y; start = z; result = w }) [] [] [] 0 0
+headerOf4 x y z w = stateOf (record { terminals = x; nonterminals = y; start = z; result = w }) [] [] [] [] 0 0
 
 four-same : {x x′ y y′ z z′ w w′ : ℕ} → x ≡ x′ → y ≡ y′ → z ≡ z′ → w ≡ w′ → headerOf4 x y z w ≡ headerOf4 x′ y′ z′ w′
 four-same p q r t = cc
@@ -71,23 +71,26 @@ module _ (t : List ℕ) where
           (ap (λ (x : ℕ). judgeField nothingRead (fieldOf 0 x b)) tag ∙ header-judged 0 b ∙ sym e)
           (λ z. header-after (header-size (sym e ∙ z)) tag)
 
-      pub header-known : headerFault b ≡ 0 → (7 ≤ length t) × (byte t 4 ≤ 48)
+      pub header-known : headerFault b ≡ 0 → (7 ≤ length t) × (byte t 4 ≤ 48) × (byte t 3 ≤ 63)
       header-known e =
-          let k = header-size e in
-          (omega (arith, w .inside), omega (arith, header-fine b e .1, body-byte t 0 size 1 (omega arith)))
+          let k = header-size e in (
+            omega (arith, w .inside),
+            omega (arith, header-fine b e .1, body-byte t 0 size 1 (omega arith)),
+            omega (arith, header-fine b e .2, body-byte t 0 size 0 (omega arith)),
+          )
 
 -- ---- counts
 
 module _ (t : List ℕ) (h : Header) (cs : List Counts) (os : List ℕ) (at : ℕ) (few : length cs < h .nonterminals) where
   abbrev s : State
-  s = stateOf h cs os [] 0 0
+  s = stateOf h cs os [] [] 0 0
 
   calm : (eqb (byte t at) 3 && not (lastComplete s)) ≡ false
   calm = calm-complete s (byte t at) refl
 
   pub counts-end : length t ≤ at → (after : Read) → rest t s at ≡ judged 3 at after
   counts-end e after =
-      rest-end t s at e ∙ ap (endBy s at) (stage-counts h cs os [] 0 0 few) ∙ sym (judged-refused 3 at after (nonzero 2))
+      rest-end t s at e ∙ ap (endBy s at) (stage-counts h cs os [] [] 0 0 few) ∙ sym (judged-refused 3 at after (nonzero 2))
 
   module _ (inside : at < length t) where
     pub counts-short : Short t at → (after : Read) → rest t s at ≡ judged 2 at after
@@ -102,7 +105,7 @@ module _ (t : List ℕ) (h : Header) (cs : List Counts) (os : List ℕ) (at : �
       b′ = bodyAt t at size
 
       abbrev next : State
-      next = stateOf h (record { inherited = byte t (at + 3); synthesized = byte t (at + 4) } ∷ cs) (at ∷ os) [] 0 0
+      next = stateOf h (record { inherited = byte t (at + 3); synthesized = byte t (at + 4) } ∷ cs) (at ∷ os) [] [] 0 0
 
       counts-after : size ≡ 2 → byte t at ≡ 2 → rest t (readField s at (kindOf (byte t at)) b′) (at + 3 + size) ≡ rest t next (at + 5)
       counts-after e tag =
@@ -111,7 +114,7 @@ module _ (t : List ℕ) (h : Header) (cs : List Counts) (os : List ℕ) (at : �
           let j : at + 3 + 1 ≡ at + 4 = omega arith in
           ap₂ (λ (x k : ℕ). rest t (readField s at (kindOf x) b′) k) tag n
           ∙ ap₂
-          (λ (x y : ℕ). rest t (stateOf h (record { inherited = x; synthesized = y } ∷ cs) (at ∷ os) [] 0 0) (at + 5))
+          (λ (x y : ℕ). rest t (stateOf h (record { inherited = x; synthesized = y } ∷ cs) (at ∷ os) [] [] 0 0) (at + 5))
           (body-byte t at size 0 (omega arith) ∙ ap (byte t) i)
           (body-byte t at size 1 (omega arith) ∙ ap (byte t) j)
 
@@ -130,14 +133,14 @@ module _ (t : List ℕ) (h : Header) (cs : List Counts) (os : List ℕ) (at : �
 
 module _ (t : List ℕ) where
   pub header-over : length t ≡ 0 → HeaderJudged t 3
-  header-over e = record { read = header-end t e _; long = λ z. absurd (nonzero 2 z); few = λ z. absurd (nonzero 2 z) }
+  header-over e = record { read = header-end t e _; long = λ z. absurd (nonzero 2 z); few = λ z. absurd (nonzero 2 z); tokens = λ z. absurd (nonzero 2 z) }
 
   module _ (inside : 0 < length t) where
     pub header-cut : Short t 0 → HeaderJudged t 2
-    header-cut h = record { read = header-short t inside h _; long = λ z. absurd (nonzero 1 z); few = λ z. absurd (nonzero 1 z) }
+    header-cut h = record { read = header-short t inside h _; long = λ z. absurd (nonzero 1 z); few = λ z. absurd (nonzero 1 z); tokens = λ z. absurd (nonzero 1 z) }
 
     pub header-other : (size : ℕ) → Whole t 0 size → (byte t 0 ≡ 1 → ⊥) → HeaderJudged t 3
-    header-other size w n = record { read = header-tag t inside size w n _; long = λ z. absurd (nonzero 2 z); few = λ z. absurd (nonzero 2 z) }
+    header-other size w n = record { read = header-tag t inside size w n _; long = λ z. absurd (nonzero 2 z); few = λ z. absurd (nonzero 2 z); tokens = λ z. absurd (nonzero 2 z) }
 
     pub header-right : (size : ℕ) (part : List ℕ) (number : ℕ) → Whole t 0 size → byte t 0 ≡ 1 → part ≡ bodyAt t 0 size → number ≡ headerFault part → HeaderJudged t number
     header-right size part number w tag p e =
@@ -146,6 +149,7 @@ module _ (t : List ℕ) where
           read = header-whole t inside size w tag number q;
           long = λ z. header-known t inside size w (sym q ∙ z) .0;
           few = λ z. header-known t inside size w (sym q ∙ z) .1;
+          tokens = λ z. header-known t inside size w (sym q ∙ z) .2;
         }
 
 module _ (t : List ℕ) (at n start result : ℕ) where

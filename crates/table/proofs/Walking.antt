@@ -24,9 +24,9 @@ use Rattle.table.specs.Progress.{Over, Setting, settingOf, Around, state
 use Rattle.table.proofs.Steps.{endBy}
 use Rattle.fields.proofs.Cases.{lt-or-le, nonzero}
 
-pub stage-any : (h : Header) (cs : List Counts) (os : List ℕ) (e : Entry) (es : List Entry) (r c : ℕ) → h .nonterminals ≤ length cs → stage (stateOf h cs os (e ∷ es) r c) ≡ atAny
-stage-any h cs os e es r c l =
-    stage-later h cs os (e ∷ es) r c l ∙ ap (λ x. elim x [ true ↦ atAny | false ↦ atFirst ]) (lt-ltb 0 (suc (length es)) (omega arith))
+pub stage-any : (h : Header) (cs : List Counts) (os ws : List ℕ) (e : Entry) (es : List Entry) (r c : ℕ) → h .nonterminals ≤ length cs → stage (stateOf h cs os ws (e ∷ es) r c) ≡ atAny
+stage-any h cs os ws e es r c l =
+    stage-later h cs os ws (e ∷ es) r c l ∙ ap (λ x. elim x [ true ↦ atAny | false ↦ atFirst ]) (lt-ltb 0 (suc (length es)) (omega arith))
 
 or-none : (x y z : Bool) → x ≡ false → y ≡ false → z ≡ false → x || y || z ≡ false
 or-none false false false p q r = refl
@@ -60,7 +60,7 @@ module _ (t : List ℕ) (at size r c width : ℕ) (inh syn note : List ℕ) (ins
         step-field t (stateIn (g o) a rs cds r c) at inside (calm-other (stateIn (g o) a rs cds r c) (byte t at) other) _ size w number e (λ z. refl)
 
     any-stage : (o : ℕ) (a : Around (g o)) (rs : List (Rule Occurrence)) (cds : List (Condition Occurrence)) → stage (stateIn (g o) a rs cds r c) ≡ atAny
-    any-stage o a rs cds = stage-any (a .header) (a .counts) (a .offsets) (entryOf o (a .left) (a .right) rs cds) (a .others) r c (a .all)
+    any-stage o a rs cds = stage-any (a .header) (a .counts) (a .offsets) (a .named) (entryOf o (a .left) (a .right) rs cds) (a .others) r c (a .all)
 
     pub use-other : (byte t at ≡ 4 → ⊥) → (byte t at ≡ 5 → ⊥) → UseTaken t at size r c width inh syn note note 3
     use-other n m =
@@ -91,7 +91,7 @@ module _ (t : List ℕ) (at size r c width : ℕ) (inh syn note : List ℕ) (ins
             read = λ o a rs cds nt.
                 by-judgement number o a rs cds
                 (ap (λ (x : ℕ). judgeField (stateIn (g o) a rs cds r c) (fieldOf at x b)) tag
-                ∙ rule-judged (a .header) (a .counts) (a .offsets) (a .others) r c o (a .left) (a .right) rs cds width inh syn note (a .placed) small nt b at (any-stage o a rs cds)
+                ∙ rule-judged (a .header) (a .counts) (a .offsets) (a .named) (a .others) r c o (a .left) (a .right) rs cds width inh syn note (a .placed) small nt b at (any-stage o a rs cds)
                 ∙ sym q);
             notes = λ o a rs cds nt z.
                 subst
@@ -110,7 +110,7 @@ module _ (t : List ℕ) (at size r c width : ℕ) (inh syn note : List ℕ) (ins
             read = λ o a rs cds nt.
                 by-judgement number o a rs cds
                 (ap (λ (x : ℕ). judgeField (stateIn (g o) a rs cds r c) (fieldOf at x b)) tag
-                ∙ condition-judged (a .header) (a .counts) (a .offsets) (a .others) r c o (a .left) (a .right) rs cds width inh syn (a .placed) b at (any-stage o a rs cds)
+                ∙ condition-judged (a .header) (a .counts) (a .offsets) (a .named) (a .others) r c o (a .left) (a .right) rs cds width inh syn (a .placed) b at (any-stage o a rs cds)
                 ∙ sym q);
             notes = λ o a rs cds nt z. subst (λ (x : ℕ). Notes note (rulesBy o a rs cds x)) (sym tag) nt;
             same = λ n. refl;
@@ -223,7 +223,7 @@ module _ (t : List ℕ) (from offset width : ℕ) (inh syn : List ℕ) (r₀ c�
           ended : length t ≤ at → rest t (stateIn s a rs cds r c) at ≡ malformed 8 offset
           ended l =
               rest-end t (stateIn s a rs cds r c) at l
-              ∙ ap (endBy (stateIn s a rs cds r c) at) (stage-any (a .header) (a .counts) (a .offsets) (entryOf offset (a .left) (a .right) rs cds) (a .others) r c (a .all))
+              ∙ ap (endBy (stateIn s a rs cds r c) at) (stage-any (a .header) (a .counts) (a .offsets) (a .named) (entryOf offset (a .left) (a .right) rs cds) (a .others) r c (a .all))
               ∙ ap (λ x. elim x [ true ↦ wellFormed (stateIn s a rs cds r c) | false ↦ malformed 8 offset ]) e
 
       pub record Ended (u : Uses) : Type 0 where

@@ -1,7 +1,7 @@
 -- The reader with a note of the occurrences set: 8 is asked of the note, the symbols and the counts, never of the rules read before. For every table it says what `readTable` says, which knows no note.
 use Prim.Native.Nat.{ℕ, zero, suc, _+_, _-_, _*_}
 use mathlib.Core.Path.{_≡_, refl, sym, _∙_, ap, ap₂, subst}
-use mathlib.Core.Bool.{Bool, true, false, _&&_, _||_, not}
+use mathlib.Core.Bool.{Bool, true, false, _&&_, _||_, not, true≢false}
 use mathlib.Core.Option.{Option}
 use mathlib.Core.List.{List, [], _∷_, map}
 use native.Mathlib.Omega.{arith}
@@ -10,7 +10,7 @@ use lib.ListN.{length, drop, take}
 use borrow.Author.Tests.{eqb-true}
 use Rattle.meaning.specs.Base.{all, any, countFrom}
 use Rattle.meaning.specs.Grammar.{Occurrence, Rule, Counts}
-use Rattle.meaning.specs.Table.{byte, Header, headerOf, Field, Entry, State, nothingRead, current, isSome, atHeader, atCounts, atFirst, atAny, stage, tagStands, Kind, header, counts, production, rule, condition, kindOf}
+use Rattle.meaning.specs.Table.{byte, Header, headerOf, Field, Entry, State, nothingRead, current, isSome, atHeader, atCounts, atFirst, atAny, stage, tagStands, Kind, header, counts, production, rule, condition, carrier, kindOf}
 use Rattle.meaning.specs.Table.{limitsHold, known, startRight, directionsRight, ruleOf, isInput, sameOccurrence, setOnce, occurrencesAt, complete, lastComplete, leftToRight, boundsRight, lowestOf, judgeField, readField, Read, wellFormed, malformed, readAll, readTable}
 use Rattle.rules.specs.Note.{isNoted, Notes}
 use Rattle.table.specs.declared.Reading.{Reading}
@@ -28,6 +28,7 @@ noteAfter counts b note = note
 noteAfter production b note = []
 noteAfter rule b note = ruleOf b .target ∷ note
 noteAfter condition b note = note
+noteAfter carrier b note = note
 
 -- ---- 8 by the note
 
@@ -38,6 +39,7 @@ setOnceBy note counts b = true
 setOnceBy note production b = true
 setOnceBy note rule b = not (inNote note (ruleOf b .target))
 setOnceBy note condition b = true
+setOnceBy note carrier b = true
 
 -- no output without a rule
 abbrev pub completeBy : State → List Occurrence → Entry → Bool
@@ -114,6 +116,7 @@ once-same s counts b = refl
 once-same s production b = refl
 once-same s rule b = ap not (in-targets (current s .rules) (ruleOf b .target))
 once-same s condition b = refl
+once-same s carrier b = refl
 
 complete-same : (s : State) (e : Entry) → completeBy s (targets (e .rules)) e ≡ complete s e
 complete-same s e =
@@ -121,9 +124,9 @@ complete-same s e =
     (λ k. all-same _ _ (λ o. ap (λ x. isInput s e o || x) (in-targets (e .rules) o)) (occurrencesAt s e k))
     (countFrom 0 (suc (length (e .right))))
 
-module _ (h : Option Header) (cs : List Counts) (os : List ℕ) (r c : ℕ) where
+module _ (h : Option Header) (cs : List Counts) (os ws : List ℕ) (r c : ℕ) where
   abbrev stateWith : List Entry → State
-  stateWith es = record { header = h; counts = cs; countsOffsets = os; entries = es; rules = r; conditions = c }
+  stateWith es = record { header = h; counts = cs; countsOffsets = os; carrying = ws; entries = es; rules = r; conditions = c }
 
   last-same : (es : List Entry) → lastCompleteBy (stateWith es) (noteOf (stateWith es)) ≡ lastComplete (stateWith es)
   last-same [] = refl
@@ -138,7 +141,12 @@ module _ (h : Option Header) (cs : List Counts) (os : List ℕ) (r c : ℕ) wher
     after-none : (x y : Bool) → tagStands (elim x [ false ↦ atHeader | true ↦ elim y [ true ↦ atCounts | false ↦ atFirst ] ]) t ≡ true → Right [] t
     after-none false y e = subst (Right []) (sym (eqb-true t 1 e)) refl
     after-none true true e = subst (Right []) (sym (eqb-true t 2 e)) refl
-    after-none true false e = subst (Right []) (sym (eqb-true t 3 e)) refl
+    after-none true false e = first (eqb t 3) (eqb t 6) refl refl e
+      where
+        first : (x y : Bool) → eqb t 3 ≡ x → eqb t 6 ≡ y → x || y ≡ true → Right [] t
+        first true y p q z = subst (Right []) (sym (eqb-true t 3 p)) refl
+        first false true p q z = subst (Right []) (sym (eqb-true t 6 q)) refl
+        first false false p q z = absurd (true≢false (sym z))
 
     after-some : (e : Entry) (es : List Entry) (k : Kind) → noteAfter k b (targets (e .rules)) ≡ noteOf (readField (stateWith (e ∷ es)) o k b)
     after-some e es header = refl
@@ -146,6 +154,7 @@ module _ (h : Option Header) (cs : List Counts) (os : List ℕ) (r c : ℕ) wher
     after-some e es production = refl
     after-some e es rule = refl
     after-some e es condition = refl
+    after-some e es carrier = refl
 
     next-in : (es : List Entry) → tagStands (stage (stateWith es)) t ≡ true → Right es t
     next-in [] q = after-none (isSome h) (ltb (length cs) (headerOf (stateWith []) .nonterminals)) q
@@ -185,10 +194,10 @@ module _ (s : State) where
   judge-same f = ap (judgeWith s f (tagStands (stage s) (f .tag))) (once-same s (kindOf (f .tag)) (f .body))
 
   done-same : lastCompleteBy s (noteOf s) ≡ lastComplete s
-  done-same = last-same (s .header) (s .counts) (s .countsOffsets) (s .rules) (s .conditions) (s .entries)
+  done-same = last-same (s .header) (s .counts) (s .countsOffsets) (s .carrying) (s .rules) (s .conditions) (s .entries)
 
   next-same : (o t : ℕ) (b : List ℕ) → judgeField s (record { offset = o; tag = t; body = b }) ≡ 0 → noteAfter (kindOf t) b (noteOf s) ≡ noteOf (readField s o (kindOf t) b)
-  next-same o t b q = next-in (s .header) (s .counts) (s .countsOffsets) (s .rules) (s .conditions) o t b (s .entries) (stands (tagStands (stage s) t) q)
+  next-same o t b q = next-in (s .header) (s .counts) (s .countsOffsets) (s .carrying) (s .rules) (s .conditions) o t b (s .entries) (stands (tagStands (stage s) t) q)
     where
       stands : (x : Bool) → judgeWith s (record { offset = o; tag = t; body = b }) x (setOnce s (kindOf t) b) ≡ 0 → x ≡ true
       stands true e = refl

@@ -3,3 +3,4 @@ pub mod Progress
 pub mod Productions
 pub mod Answer
 pub mod Gathered
+pub mod CarriedSet

@@ -12,8 +12,8 @@ use Rattle.fields.specs.Reads.{stateOf, entryOf}
 use Rattle.rules.specs.Note.{symbolIn}
 use Rattle.table.specs.declared.Sizes.{Sizes}
 use Rattle.table.specs.declared.Uses.{Uses}
-use Rattle.table.specs.Outline.{SmallCounts, countOf, symbolByte, countsUpTo, Laid}
-use Rattle.table.specs.Progress.{Next}
+use Rattle.table.specs.Outline.{SmallCounts, countOf, synthesizedOf, Carries, symbolByte, countsUpTo, Laid}
+use Rattle.table.specs.Progress.{Next, NoCarrier}
 
 -- the length of the right side, the body, the left and the right side of the production at an offset
 abbrev pub widthIn : List ℕ → ℕ → ℕ
@@ -39,41 +39,41 @@ pub record ProductionKnown (t : List ℕ) (at p terminals nonterminals : ℕ) : 
 -- a production field judged, after p others: its number
 pub record ProductionJudged (t : List ℕ) (at p terminals nonterminals number : ℕ) : Type 0 where
   pub read :
-      (h : Header) (cs : List Counts) (os : List ℕ) (es : List Entry) (r c : ℕ)
-      → h .terminals ≡ terminals → h .nonterminals ≡ nonterminals → nonterminals ≤ length cs → length es ≡ p → lastComplete (stateOf h cs os es r c) ≡ true
-      → rest t (stateOf h cs os es r c) at
-      ≡ judged number at (rest t (stateOf h cs os (entryOf at (leftIn t at) (rightIn t at) [] [] ∷ es) r c) (at + 5 + widthIn t at))
+      (h : Header) (cs : List Counts) (os ws : List ℕ) (es : List Entry) (r c : ℕ)
+      → h .terminals ≡ terminals → h .nonterminals ≡ nonterminals → nonterminals ≤ length cs → length es ≡ p → lastComplete (stateOf h cs os ws es r c) ≡ true
+      → rest t (stateOf h cs os ws es r c) at
+      ≡ judged number at (rest t (stateOf h cs os ws (entryOf at (leftIn t at) (rightIn t at) [] [] ∷ es) r c) (at + 5 + widthIn t at))
   pub known : number ≡ 0 → ProductionKnown t at p terminals nonterminals
 
 -- the counts that the arrays hold at the positions of a production are at most 8 together
-abbrev pub SmallBody : List ℕ → ℕ → List ℕ → List ℕ → Type 0
-SmallBody t at inherited synthesized =
+abbrev pub SmallBody : List ℕ → ℕ → ℕ → List ℕ → List ℕ → Type 0
+SmallBody t at carrying inherited synthesized =
     (widthIn t at ≤ 12)
-    × ((k : ℕ) → k ≤ widthIn t at → countOf inherited (symbolByte (bodyIn t at) k) + countOf synthesized (symbolByte (bodyIn t at) k) ≤ 8)
+    × ((k : ℕ) → k ≤ widthIn t at → countOf inherited (symbolByte (bodyIn t at) k) + synthesizedOf carrying synthesized (symbolByte (bodyIn t at) k) ≤ 8)
 
--- and those of the counts read, latest first
-pub record CountsAgree (t : List ℕ) (at : ℕ) (inherited synthesized : List ℕ) (cs : List Counts) : Type 0 where
-  pub inherits : (k : ℕ) → k ≤ widthIn t at → countOf inherited (symbolByte (bodyIn t at) k) ≡ countsIn (reverse cs) (symbolIn (leftIn t at) (rightIn t at) k) .inherited
-  pub synthesizes : (k : ℕ) → k ≤ widthIn t at → countOf synthesized (symbolByte (bodyIn t at) k) ≡ countsIn (reverse cs) (symbolIn (leftIn t at) (rightIn t at) k) .synthesized
+-- and those of the counts and terminals read, latest first
+pub record CountsAgree (t : List ℕ) (at carrying : ℕ) (inherited synthesized : List ℕ) (cs : List Counts) (ws : List ℕ) : Type 0 where
+  pub inherits : (k : ℕ) → k ≤ widthIn t at → countOf inherited (symbolByte (bodyIn t at) k) ≡ countsIn (reverse cs) (reverse ws) (symbolIn (leftIn t at) (rightIn t at) k) .inherited
+  pub synthesizes : (k : ℕ) → k ≤ widthIn t at → synthesizedOf carrying synthesized (symbolByte (bodyIn t at) k) ≡ countsIn (reverse cs) (reverse ws) (symbolIn (leftIn t at) (rightIn t at) k) .synthesized
 
 -- the rules and conditions of the production at an offset read, or a refusal
-abbrev pub BodyRead : List ℕ → ℕ → List ℕ → List ℕ → ℕ → ℕ → Uses → Type 0
-BodyRead t at inherited synthesized r₀ c₀ u =
-    (h : Header) (cs : List Counts) (os : List ℕ) (es : List Entry) → h .nonterminals ≤ length cs → CountsAgree t at inherited synthesized cs
+abbrev pub BodyRead : List ℕ → ℕ → ℕ → List ℕ → List ℕ → ℕ → ℕ → Uses → Type 0
+BodyRead t at carrying inherited synthesized r₀ c₀ u =
+    (h : Header) (cs : List Counts) (os ws : List ℕ) (es : List Entry) → h .nonterminals ≤ length cs → CountsAgree t at carrying inherited synthesized cs ws
     → (rs : List (Rule Occurrence)) × (cds : List (Condition Occurrence))
-    × (rest t (stateOf h cs os (entryOf at (leftIn t at) (rightIn t at) [] [] ∷ es) r₀ c₀) (at + 5 + widthIn t at)
-    ≡ judged (u .number) (u .at) (rest t (stateOf h cs os (entryOf at (leftIn t at) (rightIn t at) rs cds ∷ es) (u .rules) (u .conditions)) (u .at)))
-    × (u .number ≡ 0 → lastComplete (stateOf h cs os (entryOf at (leftIn t at) (rightIn t at) rs cds ∷ es) (u .rules) (u .conditions)) ≡ true)
+    × (rest t (stateOf h cs os ws (entryOf at (leftIn t at) (rightIn t at) [] [] ∷ es) r₀ c₀) (at + 5 + widthIn t at)
+    ≡ judged (u .number) (u .at) (rest t (stateOf h cs os ws (entryOf at (leftIn t at) (rightIn t at) rs cds ∷ es) (u .rules) (u .conditions)) (u .at)))
+    × (u .number ≡ 0 → lastComplete (stateOf h cs os ws (entryOf at (leftIn t at) (rightIn t at) rs cds ∷ es) (u .rules) (u .conditions)) ≡ true)
 
 -- production p with all its fields read, or a refusal; rows and offsets before and after
-pub record ProductionRead (t : List ℕ) (at p terminals nonterminals : ℕ) (inherited synthesized rows₀ offsets₀ : List ℕ) (r₀ c₀ : ℕ) (rows offsets : List ℕ) (u : Uses) : Type 0 where
+pub record ProductionRead (t : List ℕ) (at p terminals nonterminals carrying : ℕ) (inherited synthesized rows₀ offsets₀ : List ℕ) (r₀ c₀ : ℕ) (rows offsets : List ℕ) (u : Uses) : Type 0 where
   pub read :
-      (h : Header) (os : List ℕ) (es : List Entry)
-      → h .terminals ≡ terminals → h .nonterminals ≡ nonterminals → length es ≡ p → lastComplete (stateOf h (countsUpTo inherited synthesized nonterminals) os es r₀ c₀) ≡ true → Laid rows₀ offsets₀ es
+      (h : Header) (os ws : List ℕ) (es : List Entry)
+      → h .terminals ≡ terminals → h .nonterminals ≡ nonterminals → length es ≡ p → lastComplete (stateOf h (countsUpTo inherited synthesized nonterminals) os ws es r₀ c₀) ≡ true → Laid rows₀ offsets₀ es → Carries carrying (reverse ws)
       → (e : Entry)
-      × (rest t (stateOf h (countsUpTo inherited synthesized nonterminals) os es r₀ c₀) at
-      ≡ judged (u .number) (u .at) (rest t (stateOf h (countsUpTo inherited synthesized nonterminals) os (e ∷ es) (u .rules) (u .conditions)) (u .at)))
-      × (u .number ≡ 0 → lastComplete (stateOf h (countsUpTo inherited synthesized nonterminals) os (e ∷ es) (u .rules) (u .conditions)) ≡ true)
+      × (rest t (stateOf h (countsUpTo inherited synthesized nonterminals) os ws es r₀ c₀) at
+      ≡ judged (u .number) (u .at) (rest t (stateOf h (countsUpTo inherited synthesized nonterminals) os ws (e ∷ es) (u .rules) (u .conditions)) (u .at)))
+      × (u .number ≡ 0 → lastComplete (stateOf h (countsUpTo inherited synthesized nonterminals) os ws (e ∷ es) (u .rules) (u .conditions)) ≡ true)
       × (u .number ≡ 0 → Laid rows offsets (e ∷ es))
   pub next : u .number ≡ 0 → Next t (at + 5) u
   pub few : u .number ≡ 0 → p < 128
@@ -87,8 +87,15 @@ pub record Ready (t : List ℕ) (sizes : Sizes) (inherited synthesized : List �
   pub start : sizes .start ≡ byte t 5
   pub result : sizes .result ≡ byte t 6
   pub few : sizes .nonterminals ≤ 48
+  pub tokens : sizes .terminals ≤ 63
   pub long : 7 + 5 * sizes .nonterminals ≤ length t
   pub short : length t ≤ 32768
   pub small : SmallCounts inherited synthesized (sizes .nonterminals)
   pub first : length inherited ≡ 48
   pub second : length synthesized ≡ 48
+
+-- and after its tag 6 fields, which end at an offset
+pub record Begun (t : List ℕ) (from : ℕ) (sizes : Sizes) (inherited synthesized : List ℕ) : Type 0 where
+  pub ready : Ready t sizes inherited synthesized
+  pub inside : from ≤ length t
+  pub other : NoCarrier t from

@@ -2,29 +2,32 @@
 use Prim.Native.Nat.{ℕ, _+_, _*_, _≤_, _<_}
 use mathlib.Core.Path.{_≡_}
 use mathlib.Core.Bool.{Bool, true, false}
-use mathlib.Core.List.{List, [], _∷_}
+use mathlib.Core.List.{List, [], _∷_, reverse}
 use lib.ListN.{length}
 use Rattle.meaning.specs.Grammar.{Counts, Symbol, Rule, Condition, Occurrence}
 use Rattle.meaning.specs.Table.{byte, Header, Entry, State, nothingRead, current, lastComplete, readField, kindOf}
 use Rattle.fields.specs.Field.{Whole, Short, rest, judged, bodyAt}
+use Rattle.fields.specs.Judge.{leastAfter}
 use Rattle.fields.specs.Reads.{stateOf, entryOf}
 use Rattle.rules.specs.Note.{Placed, Notes}
 use Rattle.table.specs.declared.Uses.{Uses}
 use Rattle.table.specs.declared.Refusal.{Refusal}
-use Rattle.table.specs.Outline.{headed, counted, SmallCounts}
+use Rattle.table.specs.declared.Carried.{Carried}
+use Rattle.table.specs.Outline.{headed, counted, Carries, SmallCounts}
 
 -- the header judged: its number
 pub record HeaderJudged (t : List ℕ) (number : ℕ) : Type 0 where
   pub read : rest t nothingRead 0 ≡ judged number 0 (rest t (headed t) 7)
   pub long : number ≡ 0 → 7 ≤ length t
   pub few : number ≡ 0 → byte t 4 ≤ 48
+  pub tokens : number ≡ 0 → byte t 3 ≤ 63
 
 -- the counts of nonterminal n judged: their number
 pub record CountsJudged (t : List ℕ) (at n start result number : ℕ) : Type 0 where
   pub read :
       (h : Header) (cs : List Counts) (os : List ℕ) → length cs ≡ n → n < h .nonterminals → h .start ≡ start → h .result ≡ result
-      → rest t (stateOf h cs os [] 0 0) at
-      ≡ judged number at (rest t (stateOf h (record { inherited = byte t (at + 3); synthesized = byte t (at + 4) } ∷ cs) (at ∷ os) [] 0 0) (at + 5))
+      → rest t (stateOf h cs os [] [] 0 0) at
+      ≡ judged number at (rest t (stateOf h (record { inherited = byte t (at + 3); synthesized = byte t (at + 4) } ∷ cs) (at ∷ os) [] [] 0 0) (at + 5))
   pub long : number ≡ 0 → at + 5 ≤ length t
   pub small : number ≡ 0 → byte t (at + 3) + byte t (at + 4) ≤ 8
 
@@ -34,6 +37,28 @@ pub record CountsRead (t : List ℕ) (n : ℕ) (inherited synthesized : List ℕ
   pub long : r .number ≡ 0 → 7 + 5 * n ≤ length t
   pub small : r .number ≡ 0 → SmallCounts inherited synthesized n
   pub inside : r .offset ≤ length t
+
+-- a tag 6 field judged, where the numbers from `least` on are above the one before: its number
+pub record CarrierJudged (t : List ℕ) (at terminals least number : ℕ) : Type 0 where
+  pub read :
+      (h : Header) (cs : List Counts) (os ws : List ℕ) → h .terminals ≡ terminals → h .nonterminals ≤ length cs → leastAfter ws ≡ least
+      → rest t (stateOf h cs os ws [] 0 0) at ≡ judged number at (rest t (stateOf h cs os (byte t (at + 3) ∷ ws) [] 0 0) (at + 4))
+  pub long : number ≡ 0 → at + 4 ≤ length t
+  pub known : number ≡ 0 → byte t (at + 3) < terminals
+
+-- no tag 6 field stands at an offset
+abbrev pub NoCarrier : List ℕ → ℕ → Type 0
+NoCarrier t at = at < length t → byte t at ≡ 6 → ⊥
+
+-- all tag 6 fields from an offset on read, with the terminals that they name, the latest first; or a refusal
+pub record CarriersRead (t : List ℕ) (from terminals : ℕ) (r : Carried) : Type 0 where
+  pub list : List ℕ
+  pub read :
+      (h : Header) (cs : List Counts) (os : List ℕ) → h .terminals ≡ terminals → h .nonterminals ≤ length cs
+      → rest t (stateOf h cs os [] [] 0 0) from ≡ judged (r .number) (r .at) (rest t (stateOf h cs os list [] 0 0) (r .at))
+  pub held : Carries (r .carrying) (reverse list)
+  pub inside : r .at ≤ length t
+  pub other : r .number ≡ 0 → NoCarrier t (r .at)
 
 -- the size that `size_at` gives
 abbrev pub Sized : List ℕ → ℕ → ℕ → Type 0
@@ -59,14 +84,15 @@ pub record Around (g : Setting) : Type 0 where
   pub header : Header
   pub counts : List Counts
   pub offsets : List ℕ
+  pub named : List ℕ
   pub left : ℕ
   pub right : List Symbol
   pub others : List Entry
   pub all : header .nonterminals ≤ length counts
-  pub placed : Placed counts left right (g .width) (g .inh) (g .syn)
+  pub placed : Placed counts named left right (g .width) (g .inh) (g .syn)
 
 abbrev pub stateIn : (g : Setting) → Around g → List (Rule Occurrence) → List (Condition Occurrence) → ℕ → ℕ → State
-stateIn g a rs cds r c = stateOf (a .header) (a .counts) (a .offsets) (entryOf (g .offset) (a .left) (a .right) rs cds ∷ a .others) r c
+stateIn g a rs cds r c = stateOf (a .header) (a .counts) (a .offsets) (a .named) (entryOf (g .offset) (a .left) (a .right) rs cds ∷ a .others) r c
 
 -- the state after the field at an offset, of a size
 abbrev pub fieldRead : (g : Setting) → Around g → List (Rule Occurrence) → List (Condition Occurrence) → ℕ → ℕ → ℕ → ℕ → State

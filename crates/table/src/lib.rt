@@ -4,6 +4,7 @@ ghost use lib.ListN.{length};
 ghost use Rattle.meaning.specs.Table.{readTable};
 ghost use Rattle.table.specs.Answer.{Answers};
 
+pub mod carriers;
 pub mod counts;
 pub mod header;
 pub mod production;
@@ -16,6 +17,8 @@ pub struct Sizes {
     pub start: usize,
     pub result: usize,
     pub productions: usize,
+    // the terminals that carry a value, as a token set
+    pub carrying: u64,
 }
 
 pub enum Reading {
@@ -29,6 +32,13 @@ pub struct Uses {
     pub at: usize,
     pub rules: usize,
     pub conditions: usize,
+}
+
+// The end of the tag 6 fields (number 0) and the set of the terminals that they name, or the field that is refused.
+pub struct Carried {
+    pub number: u8,
+    pub at: usize,
+    pub carrying: u64,
 }
 
 // A refusal by its number and offset; 0 for none.
@@ -78,6 +88,7 @@ pub fn read_table(
         start,
         result,
         productions: 0,
+        carrying: 0,
     };
-    production::read_productions(table, sizes, inherited, synthesized, rows, offsets)
+    carriers::read_after_counts(table, sizes, inherited, synthesized, rows, offsets)
 }

@@ -6,19 +6,23 @@ use mathlib.Core.Logic.{_⊎_, inl, inr}
 use mathlib.Core.Bool.{Bool, true, false}
 use mathlib.Core.List.{List, [], reverse}
 use lib.ListN.{length, take}
-use lib.Dec.{T, ltb}
-use Rattle.meaning.specs.Grammar.{Grammar, Look, token, over}
+use lib.Dec.{T, eqb, ltb}
+use lib.IntN.{ℤ}
+use Rattle.meaning.specs.Grammar.{Grammar, Leaf, leaves}
 use Rattle.meaning.specs.Rules.{WellFormed}
 use Rattle.meaning.specs.Table.{State, Read, wellFormed, malformed, readTable, grammarOf}
 use Rattle.meaning.specs.Judgement.{Verdict, accepted, rejected}
 use Rattle.meaning.specs.Decide.{judge}
-use Rattle.meaning.specs.Machine.{Config, Settled, stopped, failed, waits, opening, feedAll, finishAll, tokensLimit, movesLimit}
+use Rattle.meaning.specs.Machine.{Coming, comes, ends, Config, Settled, stopped, failed, waits, opening, feedAll, finishAll, tokensLimit, movesLimit}
+use Rattle.meaning.specs.Base.{all}
+use Rattle.meaning.specs.Tree.{isLeafOf}
 use Rattle.meaning.specs.Walk.{nothing}
-use Rattle.meaning.specs.Calls.{Record, Stacks, Called, Answer, closedRecord, more, refused, tableRefused, lentOf, recordOf, layAll, configOf, stacksFit, asBrought, openOf, afterFeed, afterFinish, whenFit}
+use Rattle.meaning.specs.Calls.{Record, Stacks, Called, Answer, closedRecord, more, refused, tableRefused, lentOf, recordOf, layAll, configOf, stacksFit, asBrought, openOf, afterFeed, afterFinish, whenFit, whenEven, tokensFrom}
 use Rattle.meaning.specs.Fit.{Fit}
 use Rattle.meaning.specs.PublicCalls.{Checked, usable, unusable, checkedAs, check, Call, feed, finish, callOf, areaLength, written, Effect, effect, opens, performs}
-use Rattle.meaning.specs.CallStatements.{isTableNumber, openingAnswer, callAnswer, AlwaysAnswers, Met, MovesTo, CallsMove, EmptyFeed, LimitsOnly, HandlesAlways}
-use Rattle.theory_base.specs.Members.{T→true}
+use Rattle.meaning.specs.CallStatements.{isTableNumber, openingAnswer, callAnswer, AlwaysAnswers, Lendable, Even, Met, UnevenLists, MovesTo, CallsMove, EmptyFeed, LimitsOnly, HandlesAlways}
+use Rattle.theory_base.specs.Members.{T→true, same-true, differ-false}
+use Rattle.theory_base.specs.Feeds.{leaves-of}
 use Rattle.theory_table.specs.ReadWellFormed.{read-well-formed}
 use Rattle.theory_table.specs.AcceptedTable.{accepted-well-formed}
 use Rattle.theory_answers.specs.FitTest.{fit-exactly}
@@ -27,7 +31,7 @@ use Rattle.theory_answers.specs.ShapeMemory.{fit-shaped, fit-waits, at-s
 use Rattle.theory_answers.specs.Handling.{handles}
 use Rattle.theory_answers.specs.Memory.{Within, read-back, laid-fits, fit-within, same-record, same-stacks}
 use Rattle.theory_answers.specs.Bounds.{Blocks, atLimit, notExpected, conditionFalse, outOfRange, noRegister, noPlace, within-move}
-use Rattle.theory_answers.specs.Runs.{makes-keep, Led, Leads, Anything, with-nothing, with-end, FeedBlocks, manyTokens, unknownToken, blockedMove, Fed, fed, Finished, finished}
+use Rattle.theory_answers.specs.Runs.{makes-keep, makes-keep-leaves, Led, Leads, Anything, with-nothing, with-end, FeedBlocks, manyTokens, unknownToken, blockedMove, Fed, fed, Finished, finished}
 use Rattle.theory_answers.specs.TableNumbers.{CheckedRight, check-number}
 use Rattle.theory_answers.specs.Called.{called-is}
 
@@ -50,11 +54,11 @@ checked-formed bs s h = read-well-formed bs s (check-reads bs s h)
 -- ---- the moves of a call on what fits
 
 abbrev pub made : Grammar → Record → Stacks → Call → Called
-made g r m (feed ts) = afterFeed g m (feedAll g (lentOf m) ts (configOf g r m))
+made g r m (feed ks vs) = whenEven (eqb (length ks) (length vs)) r m (afterFeed g m (feedAll g (lentOf m) (leaves g (tokensFrom ks vs)) (configOf g r m)))
 made g r m finish = afterFinish g m (finishAll g (lentOf m) (configOf g r m))
 
 pub call-is : (g : Grammar) (r : Record) (m : Stacks) (c : Call) → callOf g r m c ≡ whenFit g r m (made g r m c)
-call-is g r m (feed ts) = refl
+call-is g r m (feed ks vs) = refl
 call-is g r m finish = refl
 
 -- whatever holds of each way a call may go holds of the call
@@ -98,17 +102,17 @@ module _ (g : Grammar) (wf : WellFormed g) (r : Record) (m : Stacks) (f : Fit g 
   start : Leads g (lentOf m) Anything [] (configOf g r m) [] (configOf g r m)
   start = record { moves = []; made = λ us b. nothing; few = f .moves }
 
-  led-shaped : (us vs : List ℕ) (e : Config) → Led g (lentOf m) us (configOf g r m) vs e → ShapedAt g e
-  led-shaped us vs e l = makes-keep g (lentOf m) (ShapedAt g) (λ k a b s h. shape-move g wf (lentOf m) k a b s h) (l .made) fits-shaped
+  led-shaped : (us vs : List Leaf) (e : Config) → T (all (isLeafOf g) us) → Led g (lentOf m) us (configOf g r m) vs e → ShapedAt g e
+  led-shaped us vs e t l = makes-keep-leaves g (lentOf m) (ShapedAt g) (λ k u a b s h. shape-move g wf (lentOf m) k u a b s h) t (l .made) fits-shaped
 
-  pub led-within : (us vs : List ℕ) (e : Config) → Led g (lentOf m) us (configOf g r m) vs e → Within (lentOf m) e
+  pub led-within : (us vs : List Leaf) (e : Config) → Led g (lentOf m) us (configOf g r m) vs e → Within (lentOf m) e
   led-within us vs e l = makes-keep g (lentOf m) (Within (lentOf m)) (λ k a b s h. within-move g (lentOf m) k a b s h) (l .made) (fit-within g wf r m f)
 
   -- what a feed, and a finish, leads to, as plain moves
-  pub fed-led : (us vs : List ℕ) (e : Config) → Leads g (lentOf m) Anything us (configOf g r m) vs e → Led g (lentOf m) us (configOf g r m) vs e
+  pub fed-led : (us vs : List Leaf) (e : Config) → Leads g (lentOf m) Anything us (configOf g r m) vs e → Led g (lentOf m) us (configOf g r m) vs e
   fed-led us vs e l = with-nothing g (lentOf m) us (configOf g r m) vs e (with-end g (lentOf m) us (configOf g r m) vs e l)
 
-  pub feed-leads : (ts : List ℕ) → Fed g (lentOf m) (configOf g r m) ts (feedAll g (lentOf m) ts (configOf g r m))
+  pub feed-leads : (ts : List Leaf) → Fed g (lentOf m) (configOf g r m) ts (feedAll g (lentOf m) ts (configOf g r m))
   feed-leads ts = fed g (lentOf m) (configOf g r m) ts [] (configOf g r m) start fits-wait (f .tokens)
 
   pub finish-leads : Finished g (lentOf m) (configOf g r m) [] (r .tokens) (finishAll g (lentOf m) (configOf g r m))
@@ -116,20 +120,20 @@ module _ (g : Grammar) (wf : WellFormed g) (r : Record) (m : Stacks) (f : Fit g 
 
 -- ---- 01's numbers
 
-token-number : (t : ℕ) (e : Config) {k : ℕ} → Blocks (token t) e k → (ts : List ℕ) (n : ℕ) → T (callAnswer (feed ts) (refused k n))
-token-number t e (atLimit l) ts n = tt
-token-number t e notExpected ts n = tt
-token-number t e conditionFalse ts n = tt
-token-number t e outOfRange ts n = tt
-token-number t e noRegister ts n = tt
-token-number t e noPlace ts n = tt
+token-number : (t : Leaf) (e : Config) {k : ℕ} → Blocks (comes t) e k → (ks : List ℕ) (vs : List ℤ) (n : ℕ) → T (callAnswer (feed ks vs) (refused k n))
+token-number t e (atLimit l) ks vs n = tt
+token-number t e notExpected ks vs n = tt
+token-number t e conditionFalse ks vs n = tt
+token-number t e outOfRange ks vs n = tt
+token-number t e noRegister ks vs n = tt
+token-number t e noPlace ks vs n = tt
 
-feed-number : (e : Config) {k : ℕ} → FeedBlocks e k → (ts : List ℕ) (n : ℕ) → T (callAnswer (feed ts) (refused k n))
-feed-number e (manyTokens l) ts n = tt
-feed-number e unknownToken ts n = tt
-feed-number e (blockedMove t b) ts n = token-number t e b ts n
+feed-number : (e : Config) {k : ℕ} → FeedBlocks e k → (ks : List ℕ) (vs : List ℤ) (n : ℕ) → T (callAnswer (feed ks vs) (refused k n))
+feed-number e (manyTokens l) ks vs n = tt
+feed-number e unknownToken ks vs n = tt
+feed-number e (blockedMove t b) ks vs n = token-number t e b ks vs n
 
-end-number : (e : Config) {k : ℕ} → Blocks over e k → (n : ℕ) → T (callAnswer finish (refused k n))
+end-number : (e : Config) {k : ℕ} → Blocks ends e k → (n : ℕ) → T (callAnswer finish (refused k n))
 end-number e (atLimit l) n = tt
 end-number e notExpected n = tt
 end-number e conditionFalse n = tt
@@ -139,23 +143,30 @@ end-number e noPlace n = tt
 
 -- before the moves
 early : (c : Call) → T (callAnswer c (refused 30 0)) × T (callAnswer c (refused 33 0)) × T (callAnswer c (refused 34 0))
-early (feed ts) = (tt, tt, tt)
+early (feed ks vs) = (tt, tt, tt)
 early finish = (tt, tt, tt)
 
 turned-back : (c : Call) (n o : ℕ) → T (isTableNumber n) → T (callAnswer c (tableRefused n o))
-turned-back (feed ts) n o t = t
+turned-back (feed ks vs) n o t = t
 turned-back finish n o t = t
 
 fit-answers : (g : Grammar) → WellFormed g → (r : Record) (m : Stacks) → Fit g r m → (c : Call) → T (callAnswer c (made g r m c .answer))
-fit-answers g wf r m f (feed ts) = go (feedAll g (lentOf m) ts (configOf g r m)) (feed-leads g wf r m f ts)
+fit-answers g wf r m f (feed ks vs) = even (eqb (length ks) (length vs)) (feedAll g (lentOf m) us (configOf g r m)) (feed-leads g wf r m f us)
   where
-    go : (o : Settled) → Fed g (lentOf m) (configOf g r m) ts o → T (callAnswer (feed ts) (afterFeed g m o .answer))
+    us : List Leaf
+    us = leaves g (tokensFrom ks vs)
+
+    go : (o : Settled) → Fed g (lentOf m) (configOf g r m) us o → T (callAnswer (feed ks vs) (afterFeed g m o .answer))
     go (stopped e) v = tt
-    go (failed e k) v = feed-number e (v .3) ts (e .tokens)
+    go (failed e k) v = feed-number e (v .3) ks vs (e .tokens)
+
+    even : (b : Bool) (o : Settled) → Fed g (lentOf m) (configOf g r m) us o → T (callAnswer (feed ks vs) (whenEven b r m (afterFeed g m o) .answer))
+    even true o v = go o v
+    even false o v = tt
 fit-answers g wf r m f finish = go (finishAll g (lentOf m) (configOf g r m)) (finish-leads g wf r m f)
   where
     go : (o : Settled) → Finished g (lentOf m) (configOf g r m) [] (r .tokens) o → T (callAnswer finish (afterFinish g m o .answer))
-    go (stopped e) v = result-ranged g wf e (led-shaped g wf r m f [] [] e (with-nothing g (lentOf m) [] (configOf g r m) [] e (v .0))) (v .1)
+    go (stopped e) v = result-ranged g wf e (led-shaped g wf r m f [] [] e tt (with-nothing g (lentOf m) [] (configOf g r m) [] e (v .0))) (v .1)
     go (failed e k) v = end-number e (v .1) (e .tokens)
 
 opens-right : (program : Grammar → List ℕ) (bs area : List ℕ) (m : Stacks) → T (openingAnswer (opens program bs area m .answer))
@@ -188,10 +199,10 @@ always-answers = (opens-right, performs-right)
 refused-is : (a b c d : ℕ) → refused a b ≡ refused c d → a ≡ c
 refused-is a b c d e = cc
 
-move-limit : (l : Look) (e : Config) {k : ℕ} → Blocks l e k → k ≡ 35 → movesLimit ≤ e .moves
+move-limit : (l : Coming) (e : Config) {k : ℕ} → Blocks l e k → k ≡ 35 → movesLimit ≤ e .moves
 move-limit l e (atLimit m) q = m
-move-limit (token t) e notExpected q = absurd (omega arith)
-move-limit over e notExpected q = absurd (omega arith)
+move-limit (comes t) e notExpected q = absurd (omega arith)
+move-limit ends e notExpected q = absurd (omega arith)
 move-limit l e conditionFalse q = absurd (omega arith)
 move-limit l e outOfRange q = absurd (omega arith)
 move-limit l e noRegister q = absurd (omega arith)
@@ -200,22 +211,29 @@ move-limit l e noPlace q = absurd (omega arith)
 feed-limit : (e : Config) {k : ℕ} → FeedBlocks e k → e .moves ≤ movesLimit → k ≡ 35 → (e .tokens ≡ tokensLimit) ⊎ (e .moves ≡ movesLimit)
 feed-limit e (manyTokens l) m q = inl l
 feed-limit e unknownToken m q = absurd (omega arith)
-feed-limit e (blockedMove t b) m q = inr (omega (arith, move-limit (token t) e b q))
+feed-limit e (blockedMove t b) m q = inr (omega (arith, move-limit (comes t) e b q))
 
 abbrev AtLimit : ℕ → Answer → Record → Type 0
 AtLimit n a r = a ≡ refused 35 n → (r .tokens ≡ tokensLimit) ⊎ (r .moves ≡ movesLimit)
 
 fit-limits : (g : Grammar) → WellFormed g → (r : Record) (m : Stacks) → Fit g r m → (c : Call) (n : ℕ) → AtLimit n (made g r m c .answer) (made g r m c .state)
-fit-limits g wf r m f (feed ts) n = go (feedAll g (lentOf m) ts (configOf g r m)) (feed-leads g wf r m f ts)
+fit-limits g wf r m f (feed ks vs) n = even (eqb (length ks) (length vs)) (feedAll g (lentOf m) us (configOf g r m)) (feed-leads g wf r m f us)
   where
-    go : (o : Settled) → Fed g (lentOf m) (configOf g r m) ts o → AtLimit n (afterFeed g m o .answer) (afterFeed g m o .state)
+    us : List Leaf
+    us = leaves g (tokensFrom ks vs)
+
+    go : (o : Settled) → Fed g (lentOf m) (configOf g r m) us o → AtLimit n (afterFeed g m o .answer) (afterFeed g m o .state)
     go (stopped e) v q = absurd (let z : _≡_ {A = ℕ} 0 1 = cc in omega arith)
     go (failed e k) v q = feed-limit e (v .3) (v .1 .few) (refused-is k (e .tokens) 35 n q)
+
+    even : (b : Bool) (o : Settled) → Fed g (lentOf m) (configOf g r m) us o → AtLimit n (whenEven b r m (afterFeed g m o) .answer) (whenEven b r m (afterFeed g m o) .state)
+    even true o v q = go o v q
+    even false o v q = absurd (omega (arith, refused-is 38 0 35 n q))
 fit-limits g wf r m f finish n = go (finishAll g (lentOf m) (configOf g r m)) (finish-leads g wf r m f)
   where
     go : (o : Settled) → Finished g (lentOf m) (configOf g r m) [] (r .tokens) o → AtLimit n (afterFinish g m o .answer) (afterFinish g m o .state)
     go (stopped e) v q = absurd (let z : _≡_ {A = ℕ} 0 1 = cc in omega arith)
-    go (failed e k) v q = inr (omega (arith, v .0 .few, move-limit over e (v .1) (refused-is k (e .tokens) 35 n q)))
+    go (failed e k) v q = inr (omega (arith, v .0 .few, move-limit ends e (v .1) (refused-is k (e .tokens) 35 n q)))
 
 pub limits-only : LimitsOnly
 limits-only program bs area r m c n = by-cases (λ a u v. AtLimit n a u) program bs area r m c
@@ -236,7 +254,7 @@ when-met g r m k o f = go (r .isOpen) (stacksFit g r m) o (T→true (stacksFit g
     go true false x y = absurd (subst T (sym y) tt)
 
 module _ (program : Grammar → List ℕ) (bs area : List ℕ) (g : Grammar) (r : Record) (m : Stacks) (met : Met bs g area r m) where
-  performs-met : (c : Call) → performs program bs area r m c ≡ effect (made g r m c) (written (program g) area)
+  pub performs-met : (c : Call) → performs program bs area r m c ≡ effect (made g r m c) (written (program g) area)
   performs-met c = called-is program bs g (met .accepts) area (met .long) r m (λ h. callOf h r m c) ∙ ap (λ k. effect k (written (program g) area)) (call-is g r m c ∙ when-met g r m (made g r m c) (met .isOpen) (met .fits))
 
   wf : WellFormed g
@@ -245,35 +263,45 @@ module _ (program : Grammar → List ℕ) (bs area : List ℕ) (g : Grammar) (r 
   abbrev To : Call → Effect → Type 0
   To c e = MovesTo program area g m (configOf g r m) c e
 
-  fed-to : (ts : List ℕ) (o : Settled) → Fed g (lentOf m) (configOf g r m) ts o → To (feed ts) (effect (afterFeed g m o) (written (program g) area))
-  fed-to ts (stopped e) v =
-      let l = fed-led g wf r m (met .fits) ts [] e (v .0) in
-      let s = at-stop g wf (e .frames) (e .registers) (led-shaped g wf r m (met .fits) ts [] e l) (v .1) in
-      let w = led-within g wf r m (met .fits) ts [] e l in
+  fed-to : (ks : List ℕ) (vs : List ℤ) → Lendable (feed ks vs) → (o : Settled) → Fed g (lentOf m) (configOf g r m) (leaves g (tokensFrom ks vs)) o → To (feed ks vs) (effect (afterFeed g m o) (written (program g) area))
+  fed-to ks vs t (stopped e) v =
+      let us : List Leaf = leaves g (tokensFrom ks vs) in
+      let l = fed-led g wf r m (met .fits) us [] e (v .0) in
+      let s = at-stop g wf (e .frames) (e .registers) (led-shaped g wf r m (met .fits) us [] e (leaves-of g ks vs t) l) (v .1) in
+      let w = led-within g wf r m (met .fits) us [] e l in
       record { moves = v .0 .moves; left = []; to = e; made = v .0 .made; few = v .2; says = (refl, v .1, refl); isRecord = refl; isStacks = refl; isArea = refl; readBack = λ z. (laid-fits g true e m s w (v .2), read-back g true e m s w) }
-  fed-to ts (failed e k) v = record { moves = v .1 .moves; left = v .0; to = e; made = v .1 .made; few = v .2; says = (refl, v .4); isRecord = refl; isStacks = refl; isArea = refl; readBack = λ z. absurd (subst T (sym z) tt) }
+  fed-to ks vs t (failed e k) v = record { moves = v .1 .moves; left = v .0; to = e; made = v .1 .made; few = v .2; says = (refl, v .4); isRecord = refl; isStacks = refl; isArea = refl; readBack = λ z. absurd (subst T (sym z) tt) }
 
   finished-to : (o : Settled) → Finished g (lentOf m) (configOf g r m) [] (r .tokens) o → To finish (effect (afterFinish g m o) (written (program g) area))
   finished-to (stopped e) v = record { moves = v .0 .moves; left = []; to = e; made = v .0 .made; few = omega (arith, v .2, met .fits .tokens); says = (v .1, refl, refl); isRecord = refl; isStacks = refl; isArea = refl; readBack = λ z. absurd (subst T (sym z) tt) }
   finished-to (failed e k) v = record { moves = v .0 .moves; left = []; to = e; made = v .0 .made; few = omega (arith, v .3, met .fits .tokens); says = (refl, v .2); isRecord = refl; isStacks = refl; isArea = refl; readBack = λ z. absurd (subst T (sym z) tt) }
 
-  made-to : (c : Call) → To c (effect (made g r m c) (written (program g) area))
-  made-to (feed ts) = fed-to ts (feedAll g (lentOf m) ts (configOf g r m)) (feed-leads g wf r m (met .fits) ts)
-  made-to finish = finished-to (finishAll g (lentOf m) (configOf g r m)) (finish-leads g wf r m (met .fits))
+  made-to : (c : Call) → Lendable c → Even c → To c (effect (made g r m c) (written (program g) area))
+  made-to (feed ks vs) t e =
+      let us : List Leaf = leaves g (tokensFrom ks vs) in
+      let k : Called = afterFeed g m (feedAll g (lentOf m) us (configOf g r m)) in
+      subst (λ b. To (feed ks vs) (effect (whenEven b r m k) (written (program g) area))) (sym (same-true (length ks) (length vs) e)) (fed-to ks vs t (feedAll g (lentOf m) us (configOf g r m)) (feed-leads g wf r m (met .fits) us))
+  made-to finish t e = finished-to (finishAll g (lentOf m) (configOf g r m)) (finish-leads g wf r m (met .fits))
 
 pub calls-move : CallsMove
-calls-move program bs area g r m c met = subst (λ e. MovesTo program area g m (configOf g r m) c e) (sym (performs-met program bs area g r m met c)) (made-to program bs area g r m met c)
+calls-move program bs area g r m c t e met = subst (λ e. MovesTo program area g m (configOf g r m) c e) (sym (performs-met program bs area g r m met c)) (made-to program bs area g r m met c t e)
+
+pub uneven-lists : UnevenLists
+uneven-lists program bs area g r m (feed ks vs) met u =
+    performs-met program bs area g r m met (feed ks vs)
+    ∙ ap (λ b. effect (whenEven b r m (afterFeed g m (feedAll g (lentOf m) (leaves g (tokensFrom ks vs)) (configOf g r m)))) (written (program g) area)) (differ-false (length ks) (length vs) u)
+uneven-lists program bs area g r m finish met u = absurd (u tt)
 
 pub empty-feed : EmptyFeed
 empty-feed program bs area g r m met =
     let f : WellFormed g = accepted-well-formed bs g (met .accepts) in
     let state : recordOf true (configOf g r m) ≡ r = ap (λ o. recordOf o (configOf g r m)) (sym (met .isOpen)) ∙ same-record g f r m (met .fits) in
     let stacks : layAll g (configOf g r m) m ≡ m = same-stacks g f r m (met .fits) in
-    performs-met program bs area g r m met (feed []) ∙ (λ i. record { answer = more (r .moves); state = state i; stacks = stacks i; area = written (program g) area })
+    performs-met program bs area g r m met (feed [] []) ∙ (λ i. record { answer = more (r .moves); state = state i; stacks = stacks i; area = written (program g) area })
 
 -- ---- what fits is handled, whatever tokens come
 
 pub handles-always : HandlesAlways
-handles-always bs g r m a f ws us vs c mk p i is fs e =
+handles-always bs g r m a f ws us vs c t mk p i is fs e =
     let wf : WellFormed g = accepted-well-formed bs g a in
-    handles g wf c (makes-keep g (lentOf m) (ShapedAt g) (λ l x y s h. shape-move g wf (lentOf m) l x y s h) mk (fits-shaped g wf r m f)) p i is fs e
+    handles g wf c (makes-keep-leaves g (lentOf m) (ShapedAt g) (λ l u x y s h. shape-move g wf (lentOf m) l u x y s h) t mk (fits-shaped g wf r m f)) p i is fs e

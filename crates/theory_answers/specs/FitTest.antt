@@ -10,7 +10,7 @@ use lib.Seq.{getD-take, getD-drop}
 use lib.Dec.{T, eqb, eqb→eq, eqb-refl, ltb, ltb→lt, lt→ltb, leb, leb→le, le→leb}
 use lib.IntN.{ℤ, pos, negsuc}
 use Rattle.meaning.specs.Base.{all, total}
-use Rattle.meaning.specs.Grammar.{Symbol, terminal, nonterminal, Grammar, productionAt, symbolAt, inh, syn, isNonterminal, whole}
+use Rattle.meaning.specs.Grammar.{Symbol, terminal, nonterminal, Grammar, productionAt, symbolAt, inh, syn, markedFor, isNonterminal, whole}
 use Rattle.meaning.specs.Value.{inRange, mark}
 use Rattle.meaning.specs.Machine.{movesLimit, tokensLimit}
 use Rattle.meaning.specs.Calls.{Record, Stacks, lentOf, Cell, valued, marked, isMark, cellFits, cellsFit, synCells, waitingCells, isListed, placeWaits, awaited, placesFit, placeCells, stackFits, stacksFit}
@@ -82,8 +82,8 @@ syn-cells g (x ∷ xs) below =
     ∙ (sym (append-assoc (replicate (total (map (syn g) xs)) valued) (replicate (syn g x) valued) below)
     ∙ ap (λ z. z ++ below) (replicate-append-replicate (total (map (syn g) xs)) (syn g x) valued ∙ ap (λ n. replicate n valued) e))
 
-waiting-fit : (g : Grammar) (x : Symbol) (vs : List ℤ) → Values (inh g x) vs → T (cellsFit (waitingCells g x) (vs ++ replicate (syn g x) mark))
-waiting-fit g x vs v = fit-append (replicate (inh g x) valued) (replicate (syn g x) marked) vs (replicate (syn g x) mark) (values-fit (inh g x) vs v) (marks-fit (syn g x))
+waiting-fit : (g : Grammar) (x : Symbol) (vs : List ℤ) → Values (inh g x) vs → T (cellsFit (waitingCells g x) (vs ++ replicate (markedFor g x) mark))
+waiting-fit g x vs v = fit-append (replicate (inh g x) valued) (replicate (markedFor g x) marked) vs (replicate (markedFor g x) mark) (values-fit (inh g x) vs v) (marks-fit (markedFor g x))
 
 -- ---- places
 
@@ -151,13 +151,13 @@ module _ (g : Grammar) (p k : ℕ) (cells : List Cell) where
     pub lower : List ℤ
     pub inheritedFit : Values (inh g x) inherited
     pub passedFit : Values passedCount passed
-    pub joined : rs ≡ (inherited ++ replicate (syn g x) mark) ++ (passed ++ lower)
+    pub joined : rs ≡ (inherited ++ replicate (markedFor g x) mark) ++ (passed ++ lower)
     pub lowerFit : T (cellsFit cells lower)
 
   fit-place : (rs : List ℤ) → T (cellsFit cellsAt rs) → AtPlace rs
   fit-place rs t =
       let a = fit-parts (waitingCells g x) (synCells g (take k (productionAt g p .right)) cells) rs t in
-      let b = fit-parts (replicate (inh g x) valued) (replicate (syn g x) marked) (a .upper) (a .first) in
+      let b = fit-parts (replicate (inh g x) valued) (replicate (markedFor g x) marked) (a .upper) (a .first) in
       let c = fit-parts (replicate passedCount valued) cells (a .lower) (subst (λ z. T (cellsFit z (a .lower))) (syn-cells g (take k (productionAt g p .right)) cells) (a .second)) in
       record {
         inherited = b .upper;
@@ -165,13 +165,13 @@ module _ (g : Grammar) (p k : ℕ) (cells : List Cell) where
         lower = c .lower;
         inheritedFit = fit-values (inh g x) (b .upper) (b .first);
         passedFit = fit-values passedCount (c .upper) (c .first);
-        joined = a .joined ∙ ap₂ (λ y z. y ++ z) (b .joined ∙ ap (λ z. b .upper ++ z) (fit-marks (syn g x) (b .lower) (b .second))) (c .joined);
+        joined = a .joined ∙ ap₂ (λ y z. y ++ z) (b .joined ∙ ap (λ z. b .upper ++ z) (fit-marks (markedFor g x) (b .lower) (b .second))) (c .joined);
         lowerFit = c .second;
       }
 
-  place-fit : (vs ss rs : List ℤ) → Values (inh g x) vs → Values passedCount ss → T (cellsFit cells rs) → T (cellsFit cellsAt ((vs ++ replicate (syn g x) mark) ++ (ss ++ rs)))
+  place-fit : (vs ss rs : List ℤ) → Values (inh g x) vs → Values passedCount ss → T (cellsFit cells rs) → T (cellsFit cellsAt ((vs ++ replicate (markedFor g x) mark) ++ (ss ++ rs)))
   place-fit vs ss rs v s t =
-      fit-append (waitingCells g x) (synCells g (take k (productionAt g p .right)) cells) (vs ++ replicate (syn g x) mark) (ss ++ rs) (waiting-fit g x vs v)
+      fit-append (waitingCells g x) (synCells g (take k (productionAt g p .right)) cells) (vs ++ replicate (markedFor g x) mark) (ss ++ rs) (waiting-fit g x vs v)
       (subst (λ z. T (cellsFit z (ss ++ rs))) (sym (syn-cells g (take k (productionAt g p .right)) cells)) (fit-append (replicate passedCount valued) cells ss rs (values-fit passedCount ss s) t))
 
 no-cells : (vs : List ℤ) → T (cellsFit [] vs) → vs ≡ []

@@ -7,7 +7,7 @@ use lib.ListN.{length, drop, length-append, length-replicate}
 use lib.Dec.{T, eqb, eqb→eq}
 use lib.IntN.{ℤ}
 use Rattle.meaning.specs.Base.{In, all}
-use Rattle.meaning.specs.Grammar.{Symbol, terminal, nonterminal, Occurrence, Condition, Production, Grammar, inh, syn, att, productionAt, conditionPosition}
+use Rattle.meaning.specs.Grammar.{Symbol, terminal, nonterminal, Occurrence, Condition, Production, Grammar, inh, markedFor, addedFor, productionAt, conditionPosition}
 use Rattle.meaning.specs.Value.{inRange, mark}
 use Rattle.meaning.specs.Scheme.{Instruction, evaluate, expect, remove, mapRule, mapCondition, inheritedRules, synthesizedRules, testsAfter, rulesFor, conditionsAt, removed, synBetween, selectInherited, selectAfter}
 use Rattle.meaning.specs.Rules.{Operands, Reads, OutputAt, WellFormed}
@@ -58,7 +58,7 @@ module _ (g : Grammar) (wf : WellFormed g) (c : Config) (p k : ℕ) (vs ss : Lis
       subst (Valued c) e (value-under [] rest r o a)
 
   -- evaluate the inherited attributes of the symbol at hand
-  hands-handle : (x : Symbol) (xs : List Symbol) → drop k (productionAt g p .right) ≡ x ∷ xs → c .registers ≡ marks (att g x) ++ nodeRegisters ss vs (marks (synLeft g p)) base → Handles g c (evaluate (inheritedRules g (productionAt g p) (suc k)))
+  hands-handle : (x : Symbol) (xs : List Symbol) → drop k (productionAt g p .right) ≡ x ∷ xs → c .registers ≡ marks (addedFor g x) ++ nodeRegisters ss vs (marks (synLeft g p)) base → Handles g c (evaluate (inheritedRules g (productionAt g p) (suc k)))
   hands-handle x xs e r q i =
       let pr : Production = productionAt g p in
       let fp : Evaluable g pr = evaluable g wf st in
@@ -69,10 +69,10 @@ module _ (g : Grammar) (wf : WellFormed g) (c : Config) (p k : ℕ) (vs ss : Lis
       let o : OutputAt g pr (suc k) (a .0 .target .attribute) = rw (b .0) at (fp .targets (a .0) (b .1)) in
       let top : a .0 .target .attribute ≤ inh g x = rw (h .1) at (o .2) in
       let t : q .target ≡ a .0 .target .attribute = ap (λ z. z .target) (a .2) ∙ target-of-inherited g pr (suc k) (a .0 .target) (b .0) in
-      let size : length (c .registers) ≡ att g x + length (nodeRegisters ss vs (marks (synLeft g p)) base) = ap length r ∙ (length-append (marks (att g x)) (nodeRegisters ss vs (marks (synLeft g p)) base) ∙ ap (λ n. n + length (nodeRegisters ss vs (marks (synLeft g p)) base)) (length-replicate (att g x) mark)) in
+      let size : length (c .registers) ≡ addedFor g x + length (nodeRegisters ss vs (marks (synLeft g p)) base) = ap length r ∙ (length-append (marks (addedFor g x)) (nodeRegisters ss vs (marks (synLeft g p)) base) ∙ ap (λ n. n + length (nodeRegisters ss vs (marks (synLeft g p)) base)) (length-replicate (addedFor g x) mark)) in
       let read : (u : Occurrence) → Available g pr k u → Valued c (sel u) = λ u w.
-      let s : sel u ≡ length (marks (att g x)) + selectAfter g pr k u = inherited-at g pr k (u .position) (u .attribute) (w .0) (w .1) .0 ∙ ap (λ n. n + selectAfter g pr k u) (ap (att g) (h .1) ∙ sym (length-replicate (att g x) mark)) in
-      subst (Valued c) (sym s) (value-under (marks (att g x)) (marks (synLeft g p)) r u w) in
+      let s : sel u ≡ length (marks (addedFor g x)) + selectAfter g pr k u = inherited-at g pr k (u .position) (u .attribute) (w .0) (w .1) .0 ∙ ap (λ n. n + selectAfter g pr k u) (ap (addedFor g) (h .1) ∙ sym (length-replicate (addedFor g x) mark)) in
+      subst (Valued c) (sym s) (value-under (marks (addedFor g x)) (marks (synLeft g p)) r u w) in
       ((omega (arith, t, o .1), omega (arith, t, top, size)), subst (λ z. Operands (Valued c) (z .function)) (sym (a .2)) (operands-through (Valued c) sel read (a .0 .function) (operands-available g pr fp k (a .0) (b .1) (omega (arith, b .0)) (λ z. absurd (omega (arith, b .0))))))
 
   -- evaluate the left side's synthesized attributes
@@ -109,7 +109,7 @@ module _ (g : Grammar) (wf : WellFormed g) (c : Config) (p k : ℕ) (vs ss : Lis
   handles-due : {rest : List Instruction} {top results : List ℤ} → Due g p k rest top results → c .registers ≡ top ++ nodeRegisters ss vs results base → (i : Instruction) (is : List Instruction) → rest ≡ i ∷ is → Handles g c i
   handles-due (adds x xs e) r i is q = subst (Handles g c) (head-eq-of-cons-eq q) tt
   handles-due (hands x xs e) r i is q = subst (Handles g c) (head-eq-of-cons-eq q) (hands-handle x xs e r)
-  handles-due (waits x xs vals e v) r i is q = subst (Handles g c) (head-eq-of-cons-eq q) (waits-handle x vals (marks (syn g x) ++ nodeRegisters ss vs (marks (synLeft g p)) base) v (r ∙ append-assoc vals (marks (syn g x)) (nodeRegisters ss vs (marks (synLeft g p)) base)))
+  handles-due (waits x xs vals e v) r i is q = subst (Handles g c) (head-eq-of-cons-eq q) (waits-handle x vals (marks (markedFor g x) ++ nodeRegisters ss vs (marks (synLeft g p)) base) v (r ∙ append-assoc vals (marks (markedFor g x)) (nodeRegisters ss vs (marks (synLeft g p)) base)))
   handles-due (tests xs e) r i is q = subst (Handles g c) (head-eq-of-cons-eq q) (λ t j. conditions-read g (productionAt g p) (evaluable g wf st) c k (value-of (marks (synLeft g p)) r) t j)
   handles-due (closes e w) r i is q = subst (Handles g c) (head-eq-of-cons-eq q) (closes-handle e r)
   handles-due (removes rs e w v) r i is q = subst (Handles g c) (head-eq-of-cons-eq q) (removes-handle rs e r)

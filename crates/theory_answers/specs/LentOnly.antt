@@ -7,14 +7,14 @@ use mathlib.Core.Bool.{Bool, true, false}
 use mathlib.Core.List.{List, [], _++_, map, reverse, append-nil}
 use lib.ListN.{getD, length, take, drop, replicate, length-append, length-replicate, length-reverse, length-take, length-drop, length-map}
 use lib.Seq.{take-take, drop-drop, take-append-add, drop-append-add, getD-take}
-use lib.Dec.{T, ltb, nltb→le}
-use Rattle.meaning.specs.Grammar.{Grammar, Symbol}
+use lib.Dec.{T, eqb, ltb, nltb→le}
+use Rattle.meaning.specs.Grammar.{Grammar, Symbol, Leaf, leaves}
 use Rattle.meaning.specs.Value.{mark}
 use Rattle.meaning.specs.Rules.{WellFormed}
 use Rattle.meaning.specs.Table.{State, grammarOf}
 use Rattle.meaning.specs.Machine.{Config, Lent, Settled, stopped, failed, opening, feedAll, finishAll, placeOf}
 use Rattle.meaning.specs.Part.{config}
-use Rattle.meaning.specs.Calls.{Record, Stacks, Called, more, refused, tableRefused, closedRecord, asBrought, lentOf, lay, layAll, frameOf, configOf, recordOf, stacksFit, afterFeed, afterFinish, whenFit, openOf}
+use Rattle.meaning.specs.Calls.{Record, Stacks, Called, more, refused, tableRefused, closedRecord, asBrought, lentOf, lay, layAll, frameOf, configOf, recordOf, stacksFit, afterFeed, afterFinish, whenFit, whenEven, tokensFrom, openOf}
 use Rattle.meaning.specs.Fit.{WaitsAt, Left, Fit}
 use Rattle.meaning.specs.PublicCalls.{Checked, usable, unusable, check, Call, feed, finish, callOf, areaLength, written, Effect, effect, opens}
 use Rattle.meaning.specs.CallStatements.{lentPart, pastLent, onLent, NeverRead, NeverWritten}
@@ -72,7 +72,7 @@ module _ (g : Grammar) (wf : WellFormed g) (r : Record) (m : Stacks) (f : Fit g 
   abbrev from : Config
   from = configOf g r m
 
-  feed-ends : (ts : List ℕ) → Ends (lentOf m) (feedAll g (lentOf m) ts from)
+  feed-ends : (ts : List Leaf) → Ends (lentOf m) (feedAll g (lentOf m) ts from)
   feed-ends ts = go (feedAll g (lentOf m) ts from) (feed-leads g wf r m f ts)
     where
       go : (o : Settled) → Fed g (lentOf m) from ts o → Ends (lentOf m) o
@@ -87,11 +87,15 @@ module _ (g : Grammar) (wf : WellFormed g) (r : Record) (m : Stacks) (f : Fit g 
       go (failed e k) v = led-within g wf r m f [] [] e (with-nothing g (lentOf m) [] from [] e (v .0))
 
   made-past : (c : Call) → pastLent (made g r m c .stacks) ≡ pastLent m
-  made-past (feed ts) = go (feedAll g (lentOf m) ts from) (feed-ends ts)
+  made-past (feed ks vs) = even (eqb (length ks) (length vs)) (feedAll g (lentOf m) (leaves g (tokensFrom ks vs)) from) (feed-ends (leaves g (tokensFrom ks vs)))
     where
       go : (o : Settled) → Ends (lentOf m) o → pastLent (afterFeed g m o .stacks) ≡ pastLent m
       go (stopped e) w = laid-past g e m w
       go (failed e k) w = laid-past g e m w
+
+      even : (b : Bool) (o : Settled) → Ends (lentOf m) o → pastLent (whenEven b r m (afterFeed g m o) .stacks) ≡ pastLent m
+      even true o w = go o w
+      even false o w = refl
   made-past finish = go (finishAll g (lentOf m) from) finish-ends
     where
       go : (o : Settled) → Ends (lentOf m) o → pastLent (afterFinish g m o .stacks) ≡ pastLent m
@@ -203,11 +207,18 @@ module _ (m n : Stacks) (same : lentPart m ≡ lentPart n) (g : Grammar) (r : Re
   brought-same k = λ i. record { answer = refused k 0; state = r; stacks = same i }
 
   made-same : WellFormed g → Fit g r m → (c : Call) → calledLent (made g r m c) ≡ calledLent (made g r n c)
-  made-same wf f (feed ts) = go (feedAll g (lentOf m) ts (configOf g r m)) (feed-ends g wf r m f ts) ∙ ap₂ (λ l d. calledLent (afterFeed g n (feedAll g l ts d))) (lent-same m n same) (config-same m n same g r f)
+  made-same wf f (feed ks vs) = even (eqb (length ks) (length vs))
     where
+      ts : List Leaf
+      ts = leaves g (tokensFrom ks vs)
+
       go : (o : Settled) → Ends (lentOf m) o → calledLent (afterFeed g m o) ≡ calledLent (afterFeed g n o)
       go (stopped e) w = ap (λ z. record { answer = more (e .moves); state = recordOf true e; stacks = z }) (laid-same m n same g e w)
       go (failed e k) w = ap (λ z. record { answer = refused k (e .tokens); state = recordOf false e; stacks = z }) (laid-same m n same g e w)
+
+      even : (b : Bool) → calledLent (whenEven b r m (afterFeed g m (feedAll g (lentOf m) ts (configOf g r m)))) ≡ calledLent (whenEven b r n (afterFeed g n (feedAll g (lentOf n) ts (configOf g r n))))
+      even true = go (feedAll g (lentOf m) ts (configOf g r m)) (feed-ends g wf r m f ts) ∙ ap₂ (λ l d. calledLent (afterFeed g n (feedAll g l ts d))) (lent-same m n same) (config-same m n same g r f)
+      even false = brought-same 38
   made-same wf f finish = go (finishAll g (lentOf m) (configOf g r m)) (finish-ends g wf r m f) ∙ ap₂ (λ l d. calledLent (afterFinish g n (finishAll g l d))) (lent-same m n same) (config-same m n same g r f)
     where
       go : (o : Settled) → Ends (lentOf m) o → calledLent (afterFinish g m o) ≡ calledLent (afterFinish g n o)

@@ -10,6 +10,7 @@ pub mod Runs
 pub mod TableNumbers
 pub mod Called
 pub mod TurnedBack
+pub mod Ignored
 pub mod Answers
 pub mod LentOnly
 pub mod Once

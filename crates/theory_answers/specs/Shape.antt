@@ -8,7 +8,7 @@ use lib.ListN.{length, drop}
 use lib.Dec.{eqb, eqb→eq, ltb, nltb→le}
 use lib.IntN.{ℤ}
 use Rattle.meaning.specs.Base.{consIf, isEmpty}
-use Rattle.meaning.specs.Grammar.{Symbol, terminal, nonterminal, Grammar, inh, syn, att, productionAt, whole}
+use Rattle.meaning.specs.Grammar.{Symbol, terminal, nonterminal, Grammar, inh, syn, markedFor, addedFor, productionAt, whole}
 use Rattle.meaning.specs.Scheme.{Instruction, add, evaluate, test, remove, inheritedRules, synthesizedRules, testsAfter, removed, synBetween}
 use Rattle.meaning.specs.Rules.{WellFormed}
 use Rattle.meaning.specs.Machine.{Frame}
@@ -55,11 +55,11 @@ addedRest g p k x xs = consIf (not (isEmpty (inheritedRules g (productionAt g p)
 
 pub data Due (g : Grammar) (p k : ℕ) : List Instruction → List ℤ → List ℤ → Type 0 where
   adds : (x : Symbol) (xs : List Symbol) → drop k (productionAt g p .right) ≡ x ∷ xs
-      → Due g p k (add (att g x) ∷ addedRest g p k x xs) [] (marks (synLeft g p))
+      → Due g p k (add (addedFor g x) ∷ addedRest g p k x xs) [] (marks (synLeft g p))
   hands : (x : Symbol) (xs : List Symbol) → drop k (productionAt g p .right) ≡ x ∷ xs
-      → Due g p k (evaluate (inheritedRules g (productionAt g p) (suc k)) ∷ waitRest g p k x xs) (marks (att g x)) (marks (synLeft g p))
+      → Due g p k (evaluate (inheritedRules g (productionAt g p) (suc k)) ∷ waitRest g p k x xs) (marks (addedFor g x)) (marks (synLeft g p))
   waits : (x : Symbol) (xs : List Symbol) (is : List ℤ) → drop k (productionAt g p .right) ≡ x ∷ xs → Values (inh g x) is
-      → Due g p k (waitRest g p k x xs) (is ++ marks (syn g x)) (marks (synLeft g p))
+      → Due g p k (waitRest g p k x xs) (is ++ marks (markedFor g x)) (marks (synLeft g p))
   tests : (xs : List Symbol) → drop k (productionAt g p .right) ≡ xs
       → Due g p k (test (testsAfter g (productionAt g p) k) ∷ freshRest g p k xs) [] (marks (synLeft g p))
   closes : drop k (productionAt g p .right) ≡ [] → eqb p whole ≡ false
@@ -116,26 +116,26 @@ module _ (g : Grammar) (wf : WellFormed g) (p k : ℕ) (vs ss : List ℤ) (fs : 
   }
 
   -- the registers of the symbol at hand are added
-  pub at-added : (x : Symbol) (xs : List Symbol) → drop k (productionAt g p .right) ≡ x ∷ xs → Shaped g (frame p (addedRest g p k x xs) ∷ fs) (marks (att g x) ++ own)
+  pub at-added : (x : Symbol) (xs : List Symbol) → drop k (productionAt g p .right) ≡ x ∷ xs → Shaped g (frame p (addedRest g p k x xs) ∷ fs) (marks (addedFor g x) ++ own)
   at-added x xs e = go (isEmpty (inheritedRules g (productionAt g p) (suc k))) refl
     where
-      go : (b : Bool) → isEmpty (inheritedRules g (productionAt g p) (suc k)) ≡ b → Shaped g (frame p (consIf (not b) (evaluate (inheritedRules g (productionAt g p) (suc k))) (waitRest g p k x xs)) ∷ fs) (marks (att g x) ++ own)
-      go false q = shaped (evaluate (inheritedRules g (productionAt g p) (suc k)) ∷ waitRest g p k x xs) (marks (att g x)) (marks (synLeft g p)) (hands x xs e)
+      go : (b : Bool) → isEmpty (inheritedRules g (productionAt g p) (suc k)) ≡ b → Shaped g (frame p (consIf (not b) (evaluate (inheritedRules g (productionAt g p) (suc k))) (waitRest g p k x xs)) ∷ fs) (marks (addedFor g x) ++ own)
+      go false q = shaped (evaluate (inheritedRules g (productionAt g p) (suc k)) ∷ waitRest g p k x xs) (marks (addedFor g x)) (marks (synLeft g p)) (hands x xs e)
       go true q =
           let h = drop-head k (productionAt g p .right) x (terminal 0) xs e in
           let z : inh g x ≡ 0 = absent (inheritedRules g (productionAt g p) (suc k)) (inh g x) (inherited-present g (productionAt g p) (evaluable g wf st) k (h .0) ∙ ap (λ y. ltb 0 (inh g y)) (h .1)) q in
-          let m : syn g x ≡ att g x = omega (arith, z) in
+          let m : markedFor g x ≡ addedFor g x = omega (arith, z) in
           let v : Values (inh g x) [] = rw z no-values in
-          subst (λ n. Shaped g (frame p (waitRest g p k x xs) ∷ fs) (marks n ++ own)) m (shaped (waitRest g p k x xs) (marks (syn g x)) (marks (synLeft g p)) (waits x xs [] e v))
+          subst (λ n. Shaped g (frame p (waitRest g p k x xs) ∷ fs) (marks n ++ own)) m (shaped (waitRest g p k x xs) (marks (markedFor g x)) (marks (synLeft g p)) (waits x xs [] e v))
 
   -- nothing is added for the symbol at hand
   pub at-fresh : (xs : List Symbol) → drop k (productionAt g p .right) ≡ xs → Shaped g (frame p (freshRest g p k xs) ∷ fs) own
-  at-fresh (x ∷ xs) e = go (ltb 0 (att g x)) refl
+  at-fresh (x ∷ xs) e = go (ltb 0 (addedFor g x)) refl
     where
-      go : (b : Bool) → ltb 0 (att g x) ≡ b → Shaped g (frame p (consIf b (add (att g x)) (addedRest g p k x xs)) ∷ fs) own
-      go true q = shaped (add (att g x) ∷ addedRest g p k x xs) [] (marks (synLeft g p)) (adds x xs e)
+      go : (b : Bool) → ltb 0 (addedFor g x) ≡ b → Shaped g (frame p (consIf b (add (addedFor g x)) (addedRest g p k x xs)) ∷ fs) own
+      go true q = shaped (add (addedFor g x) ∷ addedRest g p k x xs) [] (marks (synLeft g p)) (adds x xs e)
       go false q =
-          let z : att g x ≡ 0 = omega (arith, nltb→le 0 (att g x) (rw q tt)) in
+          let z : addedFor g x ≡ 0 = omega (arith, nltb→le 0 (addedFor g x) (rw q tt)) in
           subst (λ n. Shaped g (frame p (addedRest g p k x xs) ∷ fs) (marks n ++ own)) z (at-added x xs e)
   at-fresh [] e = go (eqb p whole) refl
     where

@@ -10,7 +10,7 @@ use lib.Seq.{drop-cons}
 use lib.Dec.{T, eqb}
 use lib.IntN.{ℤ}
 use Rattle.meaning.specs.Base.{total, isEmpty}
-use Rattle.meaning.specs.Grammar.{Symbol, terminal, nonterminal, Production, Grammar, inh, syn, productionAt, symbolAt, whole, wholeProduction}
+use Rattle.meaning.specs.Grammar.{Symbol, terminal, nonterminal, Production, Grammar, inh, syn, markedFor, productionAt, symbolAt, whole, wholeProduction}
 use Rattle.meaning.specs.Value.{inRange, mark}
 use Rattle.meaning.specs.Scheme.{Instruction, synBetween}
 use Rattle.meaning.specs.Rules.{WellFormed}
@@ -71,7 +71,7 @@ pub record Waiting (g : Grammar) (fs : List Frame) (rs : List ℤ) (x : Symbol) 
   pub symbols : drop passed (productionAt g production .right) ≡ x ∷ ahead
   pub ranged : Values (inh g x) handed
   pub isFrames : frame production (waitRest g production passed x ahead) ∷ below ≡ fs
-  pub isRegisters : (handed ++ marks (syn g x)) ++ nodeRegisters values inherited (marks (synLeft g production)) base ≡ rs
+  pub isRegisters : (handed ++ marks (markedFor g x)) ++ nodeRegisters values inherited (marks (synLeft g production)) base ≡ rs
 
 pub waiting-shaped : (g : Grammar) → WellFormed g → {fs : List Frame} {rs : List ℤ} {x : Symbol} → Waiting g fs rs x → Shaped g fs rs
 waiting-shaped g wf {x = x} w = record {
@@ -82,7 +82,7 @@ waiting-shaped g wf {x = x} w = record {
   below = w .below;
   base = w .base;
   rest = waitRest g (w .production) (w .passed) x (w .ahead);
-  top = w .handed ++ marks (syn g x);
+  top = w .handed ++ marks (markedFor g x);
   results = marks (synLeft g (w .production));
   stands = w .stands;
   node = w .node;
@@ -131,7 +131,7 @@ waiting g wf (Fit.inside p k vs ss {ps} {rs} l s m v u w) =
       symbols = e;
       ranged = v;
       isFrames = ap₂ (λ y ys. y ∷ ys) (sym (frame-back g wf p k x (drop (suc k) right) (inr l) m e)) (b .isFrames);
-      isRegisters = ap (λ z. (vs ++ marks (syn g x)) ++ (ss ++ z)) (sym (append-assoc (b .handed) (marks (synLeft g p)) (nodeRegisters (b .values) (b .inherited) (marks (synLeft g (b .production))) (b .base))) ∙ b .isRegisters);
+      isRegisters = ap (λ z. (vs ++ marks (markedFor g x)) ++ (ss ++ z)) (sym (append-assoc (b .handed) (marks (synLeft g p)) (nodeRegisters (b .values) (b .inherited) (marks (synLeft g (b .production))) (b .base))) ∙ b .isRegisters);
     }
 
 -- the start symbol is left
@@ -185,7 +185,7 @@ module _ (g : Grammar) (wf : WellFormed g) {p : ℕ} {fs : List Frame} {base : L
 
 -- the whole segment waits at the start symbol
 segment-waits : (g : Grammar) → WellFormed g → (k : ℕ) (vs ss : List ℤ) → Node g whole k vs ss → (x : Symbol) (xs : List Symbol) → drop k (productionAt g whole .right) ≡ x ∷ xs → (is : List ℤ) → Values (inh g x) is
-    → WaitsAt g (placeOf g (frame whole (waitRest g whole k x xs)) ∷ []) ((is ++ marks (syn g x)) ++ nodeRegisters ss vs (marks (synLeft g whole)) []) x
+    → WaitsAt g (placeOf g (frame whole (waitRest g whole k x xs)) ∷ []) ((is ++ marks (markedFor g x)) ++ nodeRegisters ss vs (marks (synLeft g whole)) []) x
 segment-waits g wf (suc k) vs ss nd x xs e is v = absurd (omega (arith, drop-head (suc k) (productionAt g whole .right) x (terminal 0) xs e .0))
 segment-waits g wf zero vs ss nd x xs e is v =
     let named : nonterminal (g .start) ≡ x = drop-head 0 (productionAt g whole .right) x (terminal 0) xs e .1 in
@@ -193,11 +193,11 @@ segment-waits g wf zero vs ss nd x xs e is v =
     let noInh : vs ≡ [] = none-of (inhLeft g whole) vs (whole-inh g wf) (nd .inherited) in
     let own : nodeRegisters ss vs (marks (synLeft g whole)) [] ≡ [] = ap₂ (λ a b. a ++ (b ++ (marks (synLeft g whole) ++ []))) noSyn noInh ∙ ap (λ n. marks n ++ []) (whole-syn g wf) in
     let place : 32768 ≡ placeOf g (frame whole (waitRest g whole 0 x xs)) = sym (place-waits g whole 0 x xs e) in
-    let registers : is ++ marks (syn g x) ≡ (is ++ marks (syn g x)) ++ nodeRegisters ss vs (marks (synLeft g whole)) [] = sym (append-nil (is ++ marks (syn g x))) ∙ ap (λ z. (is ++ marks (syn g x)) ++ z) (sym own) in
-    subst₂ (λ n z. WaitsAt g (n ∷ []) z x) place registers (subst (λ y. Values (inh g y) is → WaitsAt g (32768 ∷ []) (is ++ marks (syn g y)) y) named (Fit.segment is) v)
+    let registers : is ++ marks (markedFor g x) ≡ (is ++ marks (markedFor g x)) ++ nodeRegisters ss vs (marks (synLeft g whole)) [] = sym (append-nil (is ++ marks (markedFor g x))) ∙ ap (λ z. (is ++ marks (markedFor g x)) ++ z) (sym own) in
+    subst₂ (λ n z. WaitsAt g (n ∷ []) z x) place registers (subst (λ y. Values (inh g y) is → WaitsAt g (32768 ∷ []) (is ++ marks (markedFor g y)) y) named (Fit.segment is) v)
 
 waits-on : (g : Grammar) → WellFormed g → {p : ℕ} {fs : List Frame} {base : List ℤ} → Stands g p fs base → (k : ℕ) (vs ss : List ℤ) → Node g p k vs ss → (x : Symbol) (xs : List Symbol) → drop k (productionAt g p .right) ≡ x ∷ xs → (is : List ℤ) → Values (inh g x) is
-    → Waits g (frame p (waitRest g p k x xs) ∷ fs) ((is ++ marks (syn g x)) ++ nodeRegisters ss vs (marks (synLeft g p)) base) x
+    → Waits g (frame p (waitRest g p k x xs) ∷ fs) ((is ++ marks (markedFor g x)) ++ nodeRegisters ss vs (marks (synLeft g p)) base) x
 waits-on g wf segment k vs ss nd x xs e is v = record { places = segment-waits g wf k vs ss nd x xs e is v; back = ap (λ f. f ∷ []) (place-back g wf segment k x xs e) }
 waits-on g wf (inside {p} q j ys us ts {fs} {base} l d n s) k vs ss nd x xs e is v =
     let st : Stands g p (frame q (waitRest g q j (nonterminal (productionAt g p .left)) ys) ∷ fs) (nodeRegisters ts us (marks (synLeft g q)) base) = inside q j ys us ts l d n s in
@@ -208,10 +208,10 @@ waits-on g wf (inside {p} q j ys us ts {fs} {base} l d n s) k vs ss nd x xs e is
     let under : List Frame = frame q (waitRest g q j (nonterminal (productionAt g p .left)) ys) ∷ fs in
     let y : Symbol = symbolAt (productionAt g p) (suc k) in
     let handed : Values (inh g y) is = subst (λ z. Values (inh g z) is) (sym named) v in
-    let w : WaitsAt g ((p * 256 + k) ∷ map (placeOf g) under) ((is ++ marks (syn g y)) ++ (ss ++ ((vs ++ marks (synLeft g p)) ++ lower))) y = Fit.inside p k is ss l (h .0) (place-short g wf st k x xs e) handed (subst (λ n. Values n ss) (syn-from g (productionAt g p) k) (nd .passed)) (r .places) in
-    let registers : (is ++ marks (syn g y)) ++ (ss ++ ((vs ++ marks (synLeft g p)) ++ lower)) ≡ (is ++ marks (syn g x)) ++ (ss ++ (vs ++ (marks (synLeft g p) ++ lower))) = ap₂ (λ z zs. (is ++ marks (syn g z)) ++ (ss ++ zs)) named (append-assoc vs (marks (synLeft g p)) lower) in
+    let w : WaitsAt g ((p * 256 + k) ∷ map (placeOf g) under) ((is ++ marks (markedFor g y)) ++ (ss ++ ((vs ++ marks (synLeft g p)) ++ lower))) y = Fit.inside p k is ss l (h .0) (place-short g wf st k x xs e) handed (subst (λ n. Values n ss) (syn-from g (productionAt g p) k) (nd .passed)) (r .places) in
+    let registers : (is ++ marks (markedFor g y)) ++ (ss ++ ((vs ++ marks (synLeft g p)) ++ lower)) ≡ (is ++ marks (markedFor g x)) ++ (ss ++ (vs ++ (marks (synLeft g p) ++ lower))) = ap₂ (λ z zs. (is ++ marks (markedFor g z)) ++ (ss ++ zs)) named (append-assoc vs (marks (synLeft g p)) lower) in
     record {
-      places = subst₂ (λ n z. WaitsAt g (n ∷ map (placeOf g) under) z x) (sym (place-waits g p k x xs e)) registers (subst (λ z. WaitsAt g ((p * 256 + k) ∷ map (placeOf g) under) ((is ++ marks (syn g y)) ++ (ss ++ ((vs ++ marks (synLeft g p)) ++ lower))) z) named w);
+      places = subst₂ (λ n z. WaitsAt g (n ∷ map (placeOf g) under) z x) (sym (place-waits g p k x xs e)) registers (subst (λ z. WaitsAt g ((p * 256 + k) ∷ map (placeOf g) under) ((is ++ marks (markedFor g y)) ++ (ss ++ ((vs ++ marks (synLeft g p)) ++ lower))) z) named w);
       back = ap₂ (λ y ys. y ∷ ys) (place-back g wf st k x xs e) (r .back);
     }
 

@@ -1,6 +1,7 @@
 -- Every call that is turned back before its moves, and every opening: answer, record, stacks and area; and with the calls that move these are all.
 use Prim.Native.Nat.{ℕ, _≤_, _<_}
 use native.Mathlib.Omega.{arith}
+use native.Mathlib.Decide.{ℕ-discrete}
 use mathlib.Core.Path.{_≡_, refl, sym, ap, _∙_, subst}
 use mathlib.Core.Bool.{Bool, true, false}
 use mathlib.Core.List.{List}
@@ -14,7 +15,7 @@ use Rattle.meaning.specs.Machine.{opening}
 use Rattle.meaning.specs.Calls.{Record, Stacks, Called, refused, closedRecord, asBrought, lentOf, stacksFit, openOf, whenFit}
 use Rattle.meaning.specs.Fit.{Fit}
 use Rattle.meaning.specs.PublicCalls.{Checked, unusable, checkedAs, check, Call, feed, finish, callOf, areaLength, written, effect, called}
-use Rattle.meaning.specs.CallStatements.{ShortArea, BadTable, BadState, Opening, Case, short, badTable, closed, unfit, met, whichCase, AllCases}
+use Rattle.meaning.specs.CallStatements.{ShortArea, BadTable, BadState, Opening, Even, Met, Case, short, badTable, closed, unfit, uneven, met, whichCase, AllCases}
 use Rattle.theory_sets.specs.Accepted.{judged-is, verdict→accepted, accepted→verdict}
 use Rattle.theory_answers.specs.Called.{called-is, long-enough}
 use Rattle.theory_answers.specs.FitTest.{fit-exactly}
@@ -73,11 +74,11 @@ module _ (g : Grammar) (r : Record) (m : Stacks) where
   turned-unfit k e f = ap (λ (b : Bool). judged k b (stacksFit g r m)) e ∙ ap (λ (b : Bool). judged k true b) f
 
   closed-33 : (c : Call) → r .isOpen ≡ false → callOf g r m c ≡ asBrought (refused 33 0) r m
-  closed-33 (feed ts) e = turned-closed _ e
+  closed-33 (feed ks vs) e = turned-closed _ e
   closed-33 finish e = turned-closed _ e
 
   unfit-34 : (c : Call) → r .isOpen ≡ true → stacksFit g r m ≡ false → callOf g r m c ≡ asBrought (refused 34 0) r m
-  unfit-34 (feed ts) e f = turned-unfit _ e f
+  unfit-34 (feed ks vs) e f = turned-unfit _ e f
   unfit-34 finish e f = turned-unfit _ e f
 
 pub bad-state : BadState
@@ -98,26 +99,34 @@ opening-is program bs area g m l a =
 
 -- ---- all the cases
 
-module _ (bs area : List ℕ) (r : Record) (m : Stacks) where
-  long : areaLength ≤ length area → Case bs area r m
+is-even : (c : Call) → Dec (Even c)
+is-even (feed ks vs) = ℕ-discrete (length ks) (length vs)
+is-even finish = yes tt
+
+module _ (bs area : List ℕ) (r : Record) (m : Stacks) (c : Call) where
+  long : areaLength ≤ length area → Case bs area r m c
   long l = by (verdictOf bs) refl
     where
-      fits : (g : Grammar) → Accepted bs g → r .isOpen ≡ true → (b : Bool) → stacksFit g r m ≡ b → Case bs area r m
-      fits g a o true e = met g (record { long = l; accepts = a; isOpen = o; fits = fit-exactly g r m .0 (rw e tt) })
+      even : (g : Grammar) → Met bs g area r m → Dec (Even c) → Case bs area r m c
+      even g x (yes e) = met g x e
+      even g x (no e) = uneven g x e
+
+      fits : (g : Grammar) → Accepted bs g → r .isOpen ≡ true → (b : Bool) → stacksFit g r m ≡ b → Case bs area r m c
+      fits g a o true e = let x : Met bs g area r m = record { long = l; accepts = a; isOpen = o; fits = fit-exactly g r m .0 (rw e tt) } in even g x (is-even c)
       fits g a o false e = unfit l g a o (λ f. subst T e (fit-exactly g r m .1 f))
 
-      opened : (g : Grammar) → Accepted bs g → (b : Bool) → r .isOpen ≡ b → Case bs area r m
+      opened : (g : Grammar) → Accepted bs g → (b : Bool) → r .isOpen ≡ b → Case bs area r m c
       opened g a false e = closed l g a e
       opened g a true e = fits g a e (stacksFit g r m) refl
 
-      by : (v : Verdict) → verdictOf bs ≡ v → Case bs area r m
+      by : (v : Verdict) → verdictOf bs ≡ v → Case bs area r m c
       by (rejected n o) e = badTable l n o (judged-is bs (rejected n o) .1 e)
       by accepted e = let a = verdict→accepted bs e in opened (a .0) (a .1) (r .isOpen) refl
 
-  some-case : Case bs area r m
+  some-case : Case bs area r m c
   some-case = go (ltb (length area) areaLength) refl
     where
-      go : (b : Bool) → ltb (length area) areaLength ≡ b → Case bs area r m
+      go : (b : Bool) → ltb (length area) areaLength ≡ b → Case bs area r m c
       go true e = short (ltb→lt (length area) areaLength (rw e tt))
       go false e = long (nltb→le (length area) areaLength (rw e tt))
 
@@ -133,32 +142,43 @@ module _ (bs area : List ℕ) (r : Record) (m : Stacks) where
   not-closed : {A : Type 0} → r .isOpen ≡ false → r .isOpen ≡ true → A
   not-closed x y = absurd (subst T (sym y ∙ x) tt)
 
-  one-case : (x y : Case bs area r m) → whichCase y ≡ whichCase x
+  one-case : (x y : Case bs area r m c) → whichCase y ≡ whichCase x
   one-case (short l) (short k) = refl
   one-case (short l) (badTable k n o j) = absurd (omega arith)
   one-case (short l) (closed k g a e) = absurd (omega arith)
   one-case (short l) (unfit k g a e f) = absurd (omega arith)
-  one-case (short l) (met g x) = absurd (omega (arith, x .long))
+  one-case (short l) (uneven g x i) = absurd (omega (arith, x .long))
+  one-case (short l) (met g x i) = absurd (omega (arith, x .long))
   one-case (badTable k n o j) (short l) = absurd (omega arith)
   one-case (badTable k n o j) (badTable l p q i) = refl
   one-case (badTable k n o j) (closed l g a e) = not-both g n o a j
   one-case (badTable k n o j) (unfit l g a e f) = not-both g n o a j
-  one-case (badTable k n o j) (met g x) = not-both g n o (x .accepts) j
+  one-case (badTable k n o j) (uneven g x i) = not-both g n o (x .accepts) j
+  one-case (badTable k n o j) (met g x i) = not-both g n o (x .accepts) j
   one-case (closed k g a e) (short l) = absurd (omega arith)
   one-case (closed k g a e) (badTable l n o j) = not-both g n o a j
   one-case (closed k g a e) (closed l h b d) = refl
   one-case (closed k g a e) (unfit l h b d f) = not-closed e d
-  one-case (closed k g a e) (met h x) = not-closed e (x .isOpen)
+  one-case (closed k g a e) (uneven h x i) = not-closed e (x .isOpen)
+  one-case (closed k g a e) (met h x i) = not-closed e (x .isOpen)
   one-case (unfit k g a e f) (short l) = absurd (omega arith)
   one-case (unfit k g a e f) (badTable l n o j) = not-both g n o a j
   one-case (unfit k g a e f) (closed l h b d) = not-closed d e
   one-case (unfit k g a e f) (unfit l h b d i) = refl
-  one-case (unfit k g a e f) (met h x) = absurd (f (subst (λ z. Fit z r m) (one-grammar h g (x .accepts) a) (x .fits)))
-  one-case (met g x) (short l) = absurd (omega (arith, x .long))
-  one-case (met g x) (badTable l n o j) = not-both g n o (x .accepts) j
-  one-case (met g x) (closed l h b d) = not-closed d (x .isOpen)
-  one-case (met g x) (unfit l h b d i) = absurd (i (subst (λ z. Fit z r m) (one-grammar g h (x .accepts) b) (x .fits)))
-  one-case (met g x) (met h y) = refl
+  one-case (unfit k g a e f) (uneven h x i) = absurd (f (subst (λ z. Fit z r m) (one-grammar h g (x .accepts) a) (x .fits)))
+  one-case (unfit k g a e f) (met h x i) = absurd (f (subst (λ z. Fit z r m) (one-grammar h g (x .accepts) a) (x .fits)))
+  one-case (uneven g x e) (short l) = absurd (omega (arith, x .long))
+  one-case (uneven g x e) (badTable l n o j) = not-both g n o (x .accepts) j
+  one-case (uneven g x e) (closed l h b d) = not-closed d (x .isOpen)
+  one-case (uneven g x e) (unfit l h b d i) = absurd (i (subst (λ z. Fit z r m) (one-grammar g h (x .accepts) b) (x .fits)))
+  one-case (uneven g x e) (uneven h y i) = refl
+  one-case (uneven g x e) (met h y i) = absurd (e i)
+  one-case (met g x e) (short l) = absurd (omega (arith, x .long))
+  one-case (met g x e) (badTable l n o j) = not-both g n o (x .accepts) j
+  one-case (met g x e) (closed l h b d) = not-closed d (x .isOpen)
+  one-case (met g x e) (unfit l h b d i) = absurd (i (subst (λ z. Fit z r m) (one-grammar g h (x .accepts) b) (x .fits)))
+  one-case (met g x e) (uneven h y i) = absurd (i e)
+  one-case (met g x e) (met h y i) = refl
 
 pub all-cases : AllCases
-all-cases bs area r m = (some-case bs area r m, λ y. one-case bs area r m (some-case bs area r m) y)
+all-cases bs area r m c = (some-case bs area r m c, λ y. one-case bs area r m c (some-case bs area r m c) y)

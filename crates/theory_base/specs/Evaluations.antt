@@ -7,7 +7,7 @@ use lib.ListN.{getD, length, drop, length-append, replicate-append-replicate}
 use lib.Dec.{T, eqb}
 use lib.IntN.{ℤ, pos}
 use Rattle.meaning.specs.Base.{all, In}
-use Rattle.meaning.specs.Grammar.{Symbol, terminal, nonterminal, Occurrence, Rule, Production, Grammar, inh, syn, att}
+use Rattle.meaning.specs.Grammar.{Symbol, terminal, nonterminal, Occurrence, Rule, Production, Grammar, inh, syn, addedFor, markedFor}
 use Rattle.meaning.specs.Value.{apply, inRange, mark}
 use Rattle.meaning.specs.Scheme.{mapFunction, rulesFor, inheritedRules, synthesizedRules, selectInherited, selectAfter, synBetween}
 use Rattle.meaning.specs.Machine.{readRegister, writeAll}
@@ -29,25 +29,25 @@ pub record InheritedMade (g : Grammar) (p : Production) (k : ℕ) (x : Symbol) (
   pub made : List ℤ
   pub sized : length made ≡ inh g x
   pub ranged : T (all inRange made)
-  pub rules : (r : Rule Occurrence) → In r (p .rules) → r .target .position ≡ suc k → getD made (r .target .attribute - 1) (pos 0) ≡ apply (readRegister (marks (att g x) ++ rest)) (mapFunction (selectInherited g p (suc k)) (r .function))
-  pub registers : writeAll (inheritedRules g p (suc k)) (marks (att g x) ++ rest) (marks (att g x) ++ rest) ≡ (made ++ marks (syn g x)) ++ rest
+  pub rules : (r : Rule Occurrence) → In r (p .rules) → r .target .position ≡ suc k → getD made (r .target .attribute - 1) (pos 0) ≡ apply (readRegister (marks (addedFor g x) ++ rest)) (mapFunction (selectInherited g p (suc k)) (r .function))
+  pub registers : writeAll (inheritedRules g p (suc k)) (marks (addedFor g x) ++ rest) (marks (addedFor g x) ++ rest) ≡ (made ++ marks (markedFor g x)) ++ rest
 
 pub inherited-made : (g : Grammar) (p : Production) → Evaluable g p → (k : ℕ) (x : Symbol) (xs : List Symbol) (rest : List ℤ) → drop k (p .right) ≡ x ∷ xs
-    → T (all (λ r. inRange (apply (readRegister (marks (att g x) ++ rest)) (r .function))) (inheritedRules g p (suc k)))
+    → T (all (λ r. inRange (apply (readRegister (marks (addedFor g x) ++ rest)) (r .function))) (inheritedRules g p (suc k)))
     → InheritedMade g p k x rest
 inherited-made g p fp k x xs rest d t = record {
   made = w .made;
   sized = w .sized;
   ranged = w .ranged;
   rules = λ r i e. w .rules r (for-in p n r i e);
-  registers = ap (λ z. writeAll (inheritedRules g p n) old z) split ∙ (w .registers ∙ sym (append-assoc (w .made) (marks (syn g x)) rest));
+  registers = ap (λ z. writeAll (inheritedRules g p n) old z) split ∙ (w .registers ∙ sym (append-assoc (w .made) (marks (markedFor g x)) rest));
 }
   where
     n : ℕ
     n = suc k
 
     old : List ℤ
-    old = marks (att g x) ++ rest
+    old = marks (addedFor g x) ++ rest
 
     slot : Occurrence → ℕ
     slot o = o .attribute - 1
@@ -55,8 +55,8 @@ inherited-made g p fp k x xs rest d t = record {
     head : (k < length (p .right)) × (getD (p .right) k (terminal 0) ≡ x) × (drop (suc k) (p .right) ≡ xs)
     head = drop-head k (p .right) x (terminal 0) xs d
 
-    split : old ≡ marks (inh g x) ++ (marks (syn g x) ++ rest)
-    split = rw (← (replicate-append-replicate (inh g x) (syn g x) mark)) (append-assoc (marks (inh g x)) (marks (syn g x)) rest)
+    split : old ≡ marks (inh g x) ++ (marks (markedFor g x) ++ rest)
+    split = rw (← (replicate-append-replicate (inh g x) (markedFor g x) mark)) (append-assoc (marks (inh g x)) (marks (markedFor g x)) rest)
 
     out : (r : Rule Occurrence) → In r (rulesFor p n) → (r .target .position ≡ n) × (1 ≤ r .target .attribute) × (r .target .attribute ≤ inh g x)
     out r i =
@@ -64,8 +64,8 @@ inherited-made g p fp k x xs rest d t = record {
         let o : OutputAt g p n (r .target .attribute) = rw (h .0) at (fp .targets r (h .1)) in
         (h .0, o .1, rw (head .1) at (o .2))
 
-    w : Written slot (selectInherited g p n) old (rulesFor p n) (inh g x) [] (marks (syn g x) ++ rest)
-    w = written slot (selectInherited g p n) old (rulesFor p n) (inh g x) [] (marks (syn g x) ++ rest)
+    w : Written slot (selectInherited g p n) old (rulesFor p n) (inh g x) [] (marks (markedFor g x) ++ rest)
+    w = written slot (selectInherited g p n) old (rulesFor p n) (inh g x) [] (marks (markedFor g x) ++ rest)
         (distinct-keep (λ q. eqb (q .target .position) n) (p .rules) (fp .distinct))
         (λ q r i j e. let a = out q i in let b = out r j in occ-eq (q .target) (r .target) (a .0 ∙ sym (b .0)) (omega arith))
         (λ r i. let a = out r i in (omega (arith, target-of-inherited g p n (r .target) (a .0), a .1), omega arith))

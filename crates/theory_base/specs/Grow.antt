@@ -9,7 +9,7 @@ use lib.Seq.{ext-getD}
 use lib.Dec.{T, eqb, eqb-refl, eqb→eq}
 use lib.IntN.{ℤ, pos}
 use Rattle.meaning.specs.Base.{all, In}
-use Rattle.meaning.specs.Grammar.{Symbol, terminal, nonterminal, Occurrence, Rule, Production, Grammar, inh, syn, att, symbolAt, conditionPosition, Condition}
+use Rattle.meaning.specs.Grammar.{Symbol, terminal, nonterminal, Occurrence, Rule, Production, Grammar, inh, syn, addedFor, markedFor, symbolAt, conditionPosition, Condition}
 use Rattle.meaning.specs.Value.{apply, holds, inRange, mark}
 use Rattle.meaning.specs.Scheme.{mapFunction, mapCondition, conditionsAt, inheritedRules, synthesizedRules, testsAfter, selectInherited, selectAfter, synBetween}
 use Rattle.meaning.specs.Machine.{readRegister, writeAll}
@@ -29,19 +29,19 @@ use Rattle.theory_base.specs.Values.{drop-head, drop-over, lefts-length,
 pub record Hand (g : Grammar) (p : Production) (vs : List ℤ) (ts : List Tree) (x : Symbol) (rest : List ℤ) : Type 0 where
   pub made : List ℤ
   pub handed : Handed g p vs ts x made
-  pub registers : writeAll (inheritedRules g p (suc (length ts))) (marks (att g x) ++ rest) (marks (att g x) ++ rest) ≡ (made ++ marks (syn g x)) ++ rest
+  pub registers : writeAll (inheritedRules g p (suc (length ts))) (marks (addedFor g x) ++ rest) (marks (addedFor g x) ++ rest) ≡ (made ++ marks (markedFor g x)) ++ rest
 
 -- what a rule for the child's inherited attributes computes of the registers
 pub value-inherited : (g : Grammar) (p : Production) → Evaluable g p → (vs : List ℤ) (ts : List Tree) (x : Symbol) (xs : List Symbol) (base : List ℤ) → Front g p vs ts → drop (length ts) (p .right) ≡ x ∷ xs → (r : Rule Occurrence) → In r (p .rules) → r .target .position ≡ suc (length ts)
-    → apply (readRegister (marks (att g x) ++ (synsOf g ts ++ (vs ++ base)))) (mapFunction (selectInherited g p (suc (length ts))) (r .function)) ≡ apply (valueIn vs ts) (r .function)
+    → apply (readRegister (marks (addedFor g x) ++ (synsOf g ts ++ (vs ++ base)))) (mapFunction (selectInherited g p (suc (length ts))) (r .function)) ≡ apply (valueIn vs ts) (r .function)
 value-inherited g p fp vs ts x xs base f d r i e =
     let n : ℕ = suc (length ts) in
-    let old : List ℤ = marks (att g x) ++ (synsOf g ts ++ (vs ++ base)) in
-    let size : length (marks (att g x)) ≡ att g (symbolAt p n) = length-replicate (att g x) mark ∙ rw (drop-head (length ts) (p .right) x (terminal 0) xs d .1) refl in
-    apply-map (readRegister old) (selectInherited g p n) (r .function) ∙ apply-agree (λ o. readRegister old (selectInherited g p n o)) (valueIn vs ts) (r .function) (operands-map (λ o u. found-inherited g p ts (f .lefts) vs base (marks (att g x)) (f .sized) size o u) (r .function) (operands-available g p fp (length ts) r i (omega arith) (λ z. absurd (omega arith))))
+    let old : List ℤ = marks (addedFor g x) ++ (synsOf g ts ++ (vs ++ base)) in
+    let size : length (marks (addedFor g x)) ≡ addedFor g (symbolAt p n) = length-replicate (addedFor g x) mark ∙ rw (drop-head (length ts) (p .right) x (terminal 0) xs d .1) refl in
+    apply-map (readRegister old) (selectInherited g p n) (r .function) ∙ apply-agree (λ o. readRegister old (selectInherited g p n o)) (valueIn vs ts) (r .function) (operands-map (λ o u. found-inherited g p ts (f .lefts) vs base (marks (addedFor g x)) (f .sized) size o u) (r .function) (operands-available g p fp (length ts) r i (omega arith) (λ z. absurd (omega arith))))
 
 pub hand : (g : Grammar) (p : Production) → Evaluable g p → (vs : List ℤ) (ts : List Tree) (x : Symbol) (xs : List Symbol) (base : List ℤ) → Front g p vs ts → drop (length ts) (p .right) ≡ x ∷ xs
-    → T (all (λ r. inRange (apply (readRegister (marks (att g x) ++ (synsOf g ts ++ (vs ++ base)))) (r .function))) (inheritedRules g p (suc (length ts))))
+    → T (all (λ r. inRange (apply (readRegister (marks (addedFor g x) ++ (synsOf g ts ++ (vs ++ base)))) (r .function))) (inheritedRules g p (suc (length ts))))
     → Hand g p vs ts x (synsOf g ts ++ (vs ++ base))
 hand g p fp vs ts x xs base f d t =
     let w = inherited-made g p fp (length ts) x xs (synsOf g ts ++ (vs ++ base)) d t in

@@ -11,6 +11,7 @@ pub mod Grow
 pub mod Frames
 pub mod MoveCounts
 pub mod WalkCounts
+pub mod Feeds
 pub mod CallsUnder
 pub mod Walks
 pub mod Steps

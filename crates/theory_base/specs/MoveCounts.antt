@@ -3,7 +3,7 @@ use Prim.Native.Nat.{ℕ, suc, _+_}
 use mathlib.Core.Bool.{Bool, true, false, not}
 use lib.Dec.{ltb}
 use Rattle.meaning.specs.Base.{isEmpty}
-use Rattle.meaning.specs.Grammar.{Grammar, nonterminal, productionAt, symbolAt, inh, syn, att}
+use Rattle.meaning.specs.Grammar.{Grammar, nonterminal, productionAt, symbolAt, inh, syn, addedFor}
 use Rattle.meaning.specs.Scheme.{conditionsAt}
 use Rattle.meaning.specs.Tree.{Tree, Forest, leaf, node, noTrees, treeAnd, width, isOpened, isLeft}
 
@@ -28,7 +28,7 @@ abbrev mutual
   pub movesIn : Grammar → ℕ → ℕ → ℕ → ℕ → Forest → ℕ
   movesIn g j b p k noTrees = oneIf (ltb 0 (syn g (nonterminal (productionAt g p .left)))) + 1
   movesIn g j b p k (treeAnd t f) =
-      oneIf (ltb 0 (att g (symbolAt (productionAt g p) k)))
+      oneIf (ltb 0 (addedFor g (symbolAt (productionAt g p) k)))
       + oneIf (ltb 0 (inh g (symbolAt (productionAt g p) k)))
       + movesOf g j b t
       + countIf (isLeft j b t) (oneIf (not (isEmpty (conditionsAt (productionAt g p) k))) + movesIn g j (b + width t) p (suc k) f)

@@ -9,10 +9,10 @@ use lib.ListN.{length, drop}
 use lib.Dec.{T, ltb, leb, eqb, eqb→eq, nltb→le, nleb→lt}
 use lib.IntN.{ℤ}
 use Rattle.meaning.specs.Base.{In, all, isEmpty, keep, countFrom}
-use Rattle.meaning.specs.Grammar.{Grammar, terminal, nonterminal, productionAt, Look, token, over}
+use Rattle.meaning.specs.Grammar.{Grammar, Leaf, terminal, nonterminal, productionAt, Look}
 use Rattle.meaning.specs.Value.{apply, holds, inRange}
 use Rattle.meaning.specs.Scheme.{Instruction, add, evaluate, expect, test, remove}
-use Rattle.meaning.specs.Machine.{Frame, Config, Lent, Outcome, moved, blocked, chooseOutcome, next, nextOf, move, readRegister, writeAll, movesLimit, onward, parentOnward, accept, predict, push, alternatives, entered, isOf, unexpected, schemeAt, Settled, stopped, failed, waits, isDone, advance}
+use Rattle.meaning.specs.Machine.{Frame, Config, Lent, Coming, comes, ends, asLook, Outcome, moved, blocked, chooseOutcome, next, nextOf, move, readRegister, writeAll, movesLimit, onward, parentOnward, accept, predict, push, alternatives, entered, isOf, unexpected, schemeAt, Settled, stopped, failed, waits, isDone, advance}
 use Rattle.meaning.specs.Sets.{lookNumber, starts, has}
 use Rattle.meaning.specs.Part.{marks, frame, config}
 use Rattle.theory_base.specs.Members.{both, in-keep, from-in}
@@ -37,7 +37,7 @@ below-limit moves o d h = let u = unless (leb movesLimit moves) 35 o d h in (nle
 
 -- ---- the instruction of a move
 
-pub record AtHand (g : Grammar) (lent : Lent) (l : Look) (c d : Config) : Type 0 where
+pub record AtHand (g : Grammar) (lent : Lent) (l : Coming) (c d : Config) : Type 0 where
   pub production : ℕ
   pub below : List Frame
   pub instruction : Instruction
@@ -47,10 +47,10 @@ pub record AtHand (g : Grammar) (lent : Lent) (l : Look) (c d : Config) : Type 0
   pub makes : move g lent l c (frame production (instruction ∷ rest)) below instruction ≡ moved d
 
 -- the instruction known
-pub move-of : (g : Grammar) (lent : Lent) (l : Look) (c d : Config) (p : ℕ) (i : Instruction) (is : List Instruction) (fs : List Frame) → c .frames ≡ frame p (i ∷ is) ∷ fs → next g lent l c ≡ moved d → (c .moves < movesLimit) × (move g lent l c (frame p (i ∷ is)) fs i ≡ moved d)
+pub move-of : (g : Grammar) (lent : Lent) (l : Coming) (c d : Config) (p : ℕ) (i : Instruction) (is : List Instruction) (fs : List Frame) → c .frames ≡ frame p (i ∷ is) ∷ fs → next g lent l c ≡ moved d → (c .moves < movesLimit) × (move g lent l c (frame p (i ∷ is)) fs i ≡ moved d)
 move-of g lent l c d p i is fs e h = below-limit (c .moves) (move g lent l c (frame p (i ∷ is)) fs i) d (subst (λ z. nextOf g lent l c z ≡ moved d) e h)
 
-pub at-hand : (g : Grammar) (lent : Lent) (l : Look) (c d : Config) → next g lent l c ≡ moved d → AtHand g lent l c d
+pub at-hand : (g : Grammar) (lent : Lent) (l : Coming) (c d : Config) → next g lent l c ≡ moved d → AtHand g lent l c d
 at-hand g lent l c d h = go (c .frames) refl h
   where
     at : (p : ℕ) (fs : List Frame) (is : List Instruction) → c .frames ≡ frame p is ∷ fs → nextOf g lent l c (frame p is ∷ fs) ≡ moved d → AtHand g lent l c d
@@ -65,12 +65,22 @@ at-hand g lent l c d h = go (c .frames) refl h
 
 -- ---- the read and the predict
 
-must-accept : (c : Config) (f : Frame) (fs : List Frame) (t : ℕ) (l : Look) (d : Config) → accept c f fs t l ≡ moved d → (l ≡ token t) × (config (onward f ∷ fs) (c .registers) (suc (c .tokens)) (suc (c .moves)) ≡ d)
-must-accept c f fs t over d h = not-moved h
-must-accept c f fs t (token u) d h =
-    let e : Config = config (onward f ∷ fs) (c .registers) (suc (c .tokens)) (suc (c .moves)) in
-    let v = provided (eqb t u) 21 (moved e) d h in
-    (ap token (sym (eqb→eq t u (v .0))), moved-is e d (v .1))
+-- a token of kind t read: its values are added
+pub record Accepted (lent : Lent) (c : Config) (f : Frame) (fs : List Frame) (t : ℕ) (l : Coming) (d : Config) : Type 0 where
+  pub leaf : Leaf
+  pub ahead : l ≡ comes leaf
+  pub kind : leaf .kind ≡ t
+  pub fits : length (c .registers) + length (leaf .values) ≤ lent .maxRegisters
+  pub result : config (onward f ∷ fs) (leaf .values ++ c .registers) (suc (c .tokens)) (suc (c .moves)) ≡ d
+
+must-accept : (lent : Lent) (c : Config) (f : Frame) (fs : List Frame) (t : ℕ) (l : Coming) (d : Config) → accept lent c f fs t l ≡ moved d → Accepted lent c f fs t l d
+must-accept lent c f fs t ends d h = not-moved h
+must-accept lent c f fs t (comes u) d h =
+    let e : Config = config (onward f ∷ fs) (u .values ++ c .registers) (suc (c .tokens)) (suc (c .moves)) in
+    let full : Bool = ltb (lent .maxRegisters) (length (c .registers) + length (u .values)) in
+    let v = provided (eqb t (u .kind)) 21 (chooseOutcome full (blocked 31) (moved e)) d h in
+    let w = unless full 31 (moved e) d (v .1) in
+    record { leaf = u; ahead = refl; kind = sym (eqb→eq t (u .kind) (v .0)); fits = nltb→le (lent .maxRegisters) (length (c .registers) + length (u .values)) (w .0); result = moved-is e d (w .1) }
 
 -- the production predicted
 pub record Predicted (g : Grammar) (lent : Lent) (n : ℕ) (l : Look) (fs : List Frame) (rs : List ℤ) (tokens moves : ℕ) (d : Config) : Type 0 where
@@ -108,15 +118,15 @@ must-foresee g lent n l c d h =
 
 -- ---- what a move leads to, by its instruction
 
-abbrev pub Result : Grammar → Lent → Look → Config → Frame → List Frame → Instruction → Config → Type 0
+abbrev pub Result : Grammar → Lent → Coming → Config → Frame → List Frame → Instruction → Config → Type 0
 Result g lent l c f fs (add n) d = (length (c .registers) + n ≤ lent .maxRegisters) × (config (onward f ∷ fs) (marks n ++ c .registers) (c .tokens) (suc (c .moves)) ≡ d)
 Result g lent l c f fs (evaluate rules) d = T (all (λ r. inRange (apply (readRegister (c .registers)) (r .function))) rules) × (config (onward f ∷ fs) (writeAll rules (c .registers) (c .registers)) (c .tokens) (suc (c .moves)) ≡ d)
 Result g lent l c f fs (test cs) d = T (all (holds (readRegister (c .registers))) cs) × (config (onward f ∷ fs) (c .registers) (c .tokens) (suc (c .moves)) ≡ d)
 Result g lent l c f fs (remove n) d = config (parentOnward fs) (drop n (c .registers)) (c .tokens) (suc (c .moves)) ≡ d
-Result g lent l c f fs (expect (terminal t)) d = (l ≡ token t) × (config (onward f ∷ fs) (c .registers) (suc (c .tokens)) (suc (c .moves)) ≡ d)
-Result g lent l c f fs (expect (nonterminal n)) d = Predicted g lent n l (c .frames) (c .registers) (c .tokens) (c .moves) d
+Result g lent l c f fs (expect (terminal t)) d = Accepted lent c f fs t l d
+Result g lent l c f fs (expect (nonterminal n)) d = Predicted g lent n (asLook l) (c .frames) (c .registers) (c .tokens) (c .moves) d
 
-pub result : (g : Grammar) (lent : Lent) (l : Look) (c : Config) (f : Frame) (fs : List Frame) (i : Instruction) (d : Config) → move g lent l c f fs i ≡ moved d → Result g lent l c f fs i d
+pub result : (g : Grammar) (lent : Lent) (l : Coming) (c : Config) (f : Frame) (fs : List Frame) (i : Instruction) (d : Config) → move g lent l c f fs i ≡ moved d → Result g lent l c f fs i d
 result g lent l c f fs (add n) d h =
     let e : Config = config (onward f ∷ fs) (marks n ++ c .registers) (c .tokens) (suc (c .moves)) in
     let u = unless (ltb (lent .maxRegisters) (length (c .registers) + n)) 31 (moved e) d h in
@@ -130,12 +140,12 @@ result g lent l c f fs (test cs) d h =
     let u = provided (all (holds (readRegister (c .registers))) cs) 22 (moved e) d h in
     (u .0, moved-is e d (u .1))
 result g lent l c f fs (remove n) d h = moved-is (config (parentOnward fs) (drop n (c .registers)) (c .tokens) (suc (c .moves))) d h
-result g lent l c f fs (expect (terminal t)) d h = must-accept c f fs t l d h
-result g lent l c f fs (expect (nonterminal n)) d h = must-foresee g lent n l c d h
+result g lent l c f fs (expect (terminal t)) d h = must-accept lent c f fs t l d h
+result g lent l c f fs (expect (nonterminal n)) d h = must-foresee g lent n (asLook l) c d h
 
 -- ---- one turn of `advance`
 
-module _ (g : Grammar) (lent : Lent) (look : Look) (n : ℕ) where
+module _ (g : Grammar) (lent : Lent) (look : Coming) (n : ℕ) where
   -- whether to stop, and the outcome of the move at hand; a move leads on
   abbrev turn : (Config → Settled) → Config → Bool → Outcome → Settled
   turn on c b o = elim b as (λ x. Settled) [ true ↦ stopped c | false ↦ elim o as (λ x. Settled) [ blocked k ↦ failed c k | moved d ↦ on d ] ]

@@ -8,7 +8,7 @@ use lib.ListN.{length, drop, length-append, length-drop}
 use lib.Seq.{drop-cons}
 use lib.Dec.{ltb, ltb→lt, lt→ltb}
 use Rattle.meaning.specs.Base.{consIf, isEmpty}
-use Rattle.meaning.specs.Grammar.{Symbol, terminal, Grammar, inh, att, productionAt, symbolAt}
+use Rattle.meaning.specs.Grammar.{Symbol, terminal, Grammar, inh, addedFor, productionAt, symbolAt}
 use Rattle.meaning.specs.Rules.{WellFormedProduction, WellFormed}
 use Rattle.meaning.specs.Scheme.{Instruction, add, evaluate, expect, test, remove, conditionsAt, inheritedRules, synthesizedRules, testsAfter, removed, symbolScheme, symbolsScheme, scheme}
 use Rattle.meaning.specs.Machine.{isExpect}
@@ -105,16 +105,16 @@ module _ (g : Grammar) (j : ℕ) where
       let rules = inheritedRules g r (suc k) in
       let tests = testsAfter g r (suc k) in
       let behind = consIf (not (isEmpty tests)) (test tests) is in
-      let a = walk-if g (j - b) p ws (ltb 0 (att g x)) (add (att g x)) (consIf (not (isEmpty rules)) (evaluate rules) (expect x ∷ behind)) (treeAnd t f) refl in
+      let a = walk-if g (j - b) p ws (ltb 0 (addedFor g x)) (add (addedFor g x)) (consIf (not (isEmpty rules)) (evaluate rules) (expect x ∷ behind)) (treeAnd t f) refl in
       let e = walk-if g (j - b) p ws (not (isEmpty rules)) (evaluate rules) (expect x ∷ behind) (treeAnd t f) refl in
       let c = ap (made (j - b)) (append-assoc (walk g t) (walkOn g p behind f) ws) ∙ tree (walkOn g p behind f ++ ws) in
       let d = walk-if g (j - (b + width t)) p ws (not (isEmpty tests)) (test tests) is f refl in
-      a ∙ rw (e, c, d, others, inherited-present g r (evaluable q) k l, tests-present g r (suc k)) (sum-if (isLeft j b t) (areLeft j (b + width t) f) (oneIf (ltb 0 (att g x))) (oneIf (ltb 0 (inh g x))) (movesOf g j b t) (oneIf (not (isEmpty (conditionsAt r (suc k))))) (movesIn g j (b + width t) p (suc (suc k)) f) z)
+      a ∙ rw (e, c, d, others, inherited-present g r (evaluable q) k l, tests-present g r (suc k)) (sum-if (isLeft j b t) (areLeft j (b + width t) f) (oneIf (ltb 0 (addedFor g x))) (oneIf (ltb 0 (inh g x))) (movesOf g j b t) (oneIf (not (isEmpty (conditionsAt r (suc k))))) (movesIn g j (b + width t) p (suc (suc k)) f) z)
 
 module _ (g : Grammar) (w : WellFormed g) (j : ℕ) where
   mutual
     made-tree : (b : ℕ) (x : Symbol) (t : Tree) (ws : List Act) → WellEvaluated g t x → made (j - b) (walk g t ++ ws) ≡ movesOf g j b t + countIf (isLeft j b t) (made (j - (b + width t)) ws)
-    made-tree b x (leaf t) ws e = made-read j b t ws
+    made-tree b x (leaf t) ws e = made-read j b (t .kind) ws
     made-tree b x (node p vs f) ws e =
         made-predict j b p (walkOn g p (scheme g (productionAt g p)) f ++ ws)
         ∙ (ap (λ n. countIf (isOpened j b) (suc n)) (made-in b p 0 f (productionAt g p .right) ws (well-formed-at g w p (e .0 .listed)) refl (e .1))

@@ -6,7 +6,7 @@ use mathlib.Core.Bool.{Bool, true, false, not}
 use lib.ListN.{length, length-append}
 use lib.Dec.{ltb, lt→ltb, ltb→lt}
 use Rattle.meaning.specs.Base.{isEmpty}
-use Rattle.meaning.specs.Grammar.{nonterminal, Grammar, inh, syn, att, productionAt, symbolAt}
+use Rattle.meaning.specs.Grammar.{nonterminal, Grammar, inh, syn, addedFor, productionAt, symbolAt}
 use Rattle.meaning.specs.Scheme.{conditionsAt}
 use Rattle.meaning.specs.Tree.{Tree, Forest, leaf, node, noTrees, treeAnd, yield, yields, width, isOpened, isLeft, areLeft}
 use Rattle.theory_base.specs.MoveCounts.{oneIf, countIf, movesOf, movesIn}
@@ -21,7 +21,7 @@ abbrev mutual
   pub allMovesIn : Grammar → ℕ → ℕ → Forest → ℕ
   allMovesIn g p k noTrees = oneIf (ltb 0 (syn g (nonterminal (productionAt g p .left)))) + 1
   allMovesIn g p k (treeAnd t f) =
-      oneIf (ltb 0 (att g (symbolAt (productionAt g p) k)))
+      oneIf (ltb 0 (addedFor g (symbolAt (productionAt g p) k)))
       + oneIf (ltb 0 (inh g (symbolAt (productionAt g p) k)))
       + allMoves g t
       + (oneIf (not (isEmpty (conditionsAt (productionAt g p) k))) + allMovesIn g p (suc k) f)

@@ -10,7 +10,7 @@ use lib.Seq.{drop-cons, drop-length, drop-at, getD-take}
 use lib.Dec.{T, eqb, eqb→eq, eqb-refl}
 use lib.IntN.{ℤ, pos}
 use Rattle.meaning.specs.Base.{all, In}
-use Rattle.meaning.specs.Grammar.{Symbol, terminal, nonterminal, Occurrence, Rule, Condition, Production, Grammar, inh, syn, att, productionAt, symbolAt, conditionPosition}
+use Rattle.meaning.specs.Grammar.{Symbol, terminal, nonterminal, Occurrence, Rule, Condition, Production, Grammar, inh, syn, addedFor, productionAt, symbolAt, conditionPosition, markedFor}
 use Rattle.meaning.specs.Value.{apply, holds, inRange}
 use Rattle.meaning.specs.Scheme.{mapRule, mapCondition, rulesFor, conditionsAt, inheritedRules, synthesizedRules, testsAfter, selectInherited, selectAfter, synBetween, removed}
 use Rattle.meaning.specs.Machine.{readRegister, writeAll}
@@ -72,13 +72,18 @@ rules-in vs f (q ∷ rs) h r (inl e) = rw e (h .0)
 rules-in vs f (q ∷ rs) h r (inr i) = rules-in vs f rs (h .1) r i
 
 pub length-inherited : (g : Grammar) (t : Tree) (x : Symbol) → WellEvaluated g t x → length (inheritedOf g t) ≡ inh g x
-length-inherited g (leaf t) x w = rw w refl
+length-inherited g (leaf t) x w = rw (w .0) refl
 length-inherited g (node p vs f) x w =
     let e = rw (w .0 .symbol) at (w .0 .size) in
     rw (w .0 .symbol, length-take) (omega arith)
 
+-- what is drawn for a child that is waited at
+pub waiting-is : (g : Grammar) (t : Tree) (x : Symbol) → WellEvaluated g t x → waiting g t ≡ inheritedOf g t ++ marks (markedFor g x)
+waiting-is g (leaf t) x w = rw (w .0) refl
+waiting-is g (node p vs f) x w = ap (λ n. inheritedOf g (node p vs f) ++ marks n) (syn-size g (node p vs f) x w ∙ ap (syn g) (w .0 .symbol) ∙ ap (markedFor g) (sym (w .0 .symbol)))
+
 inherited-at : (g : Grammar) (t : Tree) (x : Symbol) (a : ℕ) → WellEvaluated g t x → 1 ≤ a → a ≤ inh g x → getD (inheritedOf g t) (a - 1) (pos 0) ≡ getD (values t) (a - 1) (pos 0)
-inherited-at g (leaf t) x a w l h = let z : a ≤ 0 = rw w at h in absurd (omega arith)
+inherited-at g (leaf t) x a w l h = let z : a ≤ 0 = rw (w .0) at h in absurd (omega arith)
 inherited-at g (node p vs f) x a w l h = rw (← (w .0 .symbol)) (getD-take (inh g x) vs (a - 1) (pos 0) (omega arith))
 
 inherited-range : (g : Grammar) (t : Tree) (x : Symbol) → WellEvaluated g t x → T (all inRange (inheritedOf g t))
@@ -90,7 +95,7 @@ inherited-range g (node p vs f) x w = all-take inRange (inh g (nonterminal (prod
 pub record Evaluated (g : Grammar) (p : Production) (vs : List ℤ) (f : Forest) : Type 0 where
   pub formed : Evaluable g p
   pub children : WellEvaluateds g f (p .right)
-  pub size : length vs ≡ att g (symbolAt p 0)
+  pub size : length vs ≡ addedFor g (symbolAt p 0)
   pub ranges : T (all inRange vs)
   pub rules : RulesHold vs f (p .rules)
   pub conditions : T (all (holds (valueAt vs f)) (p .conditions))
@@ -167,7 +172,7 @@ under g p vs f tail k = synsOf g (firsts k f) ++ (inheritedIn g p vs ++ tail)
 
 -- and with the registers of symbol k + 1 added
 abbrev pub added : Grammar → Production → List ℤ → Forest → List ℤ → ℕ → List ℤ
-added g p vs f tail k = marks (att g (symbolAt p (suc k))) ++ under g p vs f tail k
+added g p vs f tail k = marks (addedFor g (symbolAt p (suc k))) ++ under g p vs f tail k
 
 pub under-next : (g : Grammar) (p : Production) (vs : List ℤ) (f : Forest) (tail : List ℤ) (k : ℕ) → under g p vs f tail (suc k) ≡ synthesizedOf g (child f k) ++ under g p vs f tail k
 under-next g p vs f tail k = append-assoc (synthesizedOf g (child f k)) (synsOf g (firsts k f)) (inheritedIn g p vs ++ tail)
@@ -210,7 +215,7 @@ module _ (g : Grammar) (p : Production) (vs : List ℤ) (f : Forest) (e : Evalua
       let same : a .made ≡ inheritedOf g (child f k) = handed-one g p (e .formed) (inheritedIn g p vs) (firsts k f) x (drop (suc k) (p .right)) (a .made) (inheritedOf g (child f k)) next-symbol (a .handed) (handed g p vs f e k h) in
       ap (λ j. writeAll (inheritedRules g p (suc j)) (added g p vs f tail k) (added g p vs f tail k)) (sym (length-firsts k f))
       ∙ (a .registers
-      ∙ (λ i. (same i ++ marks (sym (syn-size g (child f k) x child-fits) i)) ++ u))
+      ∙ (ap (λ z. (z ++ marks (markedFor g x)) ++ u) same ∙ ap (λ z. z ++ u) (sym (waiting-is g (child f k) x child-fits))))
 
 module _ (g : Grammar) (p : Production) (vs : List ℤ) (f : Forest) (e : Evaluated g p vs f) (tail : List ℤ) (k : ℕ) (h : k ≤ length (p .right)) where
   -- after the first k children are left, the conditions of position k hold of the registers; at 0 they are the entry conditions

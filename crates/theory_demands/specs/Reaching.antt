@@ -1,5 +1,5 @@
 -- Demand 3 for any tokens: every list of calls stands at a configuration that so many moves from the opening lead to.
-use Prim.Native.Nat.{ℕ, _+_}
+use Prim.Native.Nat.{_+_}
 use native.Mathlib.Omega.{arith}
 use mathlib.Core.Path.{_≡_, sym, ap, _∙_, subst}
 use mathlib.Core.Logic.{inl, inr}
@@ -7,7 +7,7 @@ use mathlib.Core.Bool.{Bool, true, false}
 use mathlib.Core.List.{List, [], _∷_, append-nil}
 use lib.ListN.{length, length-append}
 use lib.Dec.{T}
-use Rattle.meaning.specs.Grammar.{Grammar}
+use Rattle.meaning.specs.Grammar.{Grammar, Leaf, leaves}
 use Rattle.meaning.specs.Machine.{Config, Lent, opening, lookAt}
 use Rattle.meaning.specs.Walk.{Act, actBy, Makes, nothing, andThen}
 use Rattle.meaning.specs.Calls.{lentOf, recordOf}
@@ -20,7 +20,7 @@ use Rattle.theory_demands.specs.ByGrammar.{by-grammar}
 -- ---- the counter counts the moves
 
 module _ (g : Grammar) (lent : Lent) where
-  pub counted : {us vs : List ℕ} {c d : Config} {ws : List Act} → Makes g lent us c ws vs d → d .moves ≡ length ws + c .moves
+  pub counted : {us vs : List Leaf} {c d : Config} {ws : List Act} → Makes g lent us c ws vs d → d .moves ≡ length ws + c .moves
   counted {c = c} nothing = omega arith
   counted (andThen {ws = ws} {vs = vs} {d = d} p i is fs e m f h) =
       let n = counts g lent (lookAt vs) d e h .moves in
@@ -28,17 +28,17 @@ module _ (g : Grammar) (lent : Lent) where
       omega (arith, n, k, counted m)
 
 pub reached-always : ReachedAlways
-reached-always program bs g m₀ ts isOver r m a h = go (runs g (accepted-well-formed bs g a) m₀ ts isOver r m (by-grammar program bs g a h))
+reached-always program bs g m₀ ts isOver r m a h = go (runs g (accepted-well-formed bs g a) m₀ (leaves g ts) isOver r m (by-grammar program bs g a h))
   where
-    count : {us vs : List ℕ} {c : Config} {ws : List Act} → Makes g (lentOf m₀) us (opening g) ws vs c → length ws ≡ c .moves
+    count : {us vs : List Leaf} {c : Config} {ws : List Act} → Makes g (lentOf m₀) us (opening g) ws vs c → length ws ≡ c .moves
     count {c = c} k = omega (arith, counted g (lentOf m₀) k)
 
     same-record : (b : Bool) (c : Config) → r ≡ recordOf b c → r ≡ recordOf (r .isOpen) c
     same-record b c e = e ∙ ap (λ z. recordOf z c) (sym (ap (λ z. z .isOpen) e))
 
-    go : Run g m₀ ts r m → Reached g m₀ ts r m
+    go : Run g m₀ (leaves g ts) r m → Reached g m₀ ts r m
     go (inl o) =
-        let one : Makes g (lentOf m₀) ts (opening g) (o .leads .moves) [] (o .config) = subst (λ z. Makes g (lentOf m₀) z (opening g) (o .leads .moves) [] (o .config)) (append-nil ts) (o .leads .made [] tt) in
+        let one : Makes g (lentOf m₀) (leaves g ts) (opening g) (o .leads .moves) [] (o .config) = subst (λ z. Makes g (lentOf m₀) z (opening g) (o .leads .moves) [] (o .config)) (append-nil (leaves g ts)) (o .leads .made [] tt) in
         record {
           moves = o .leads .moves;
           unread = [];

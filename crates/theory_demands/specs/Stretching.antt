@@ -1,5 +1,5 @@
 -- The stretch of a production, for every list of bytes and every number.
-use Prim.Native.Nat.{ℕ, zero, suc, _+_, _-_, _*_, _≤_, _<_}
+use Prim.Native.Nat.{ℕ, zero, suc, _+_, _-_, _≤_, _<_}
 use native.Mathlib.Omega.{arith}
 use mathlib.Core.Path.{_≡_, refl, sym, ap, _∙_, subst}
 use mathlib.Core.Bool.{Bool, true, false}
@@ -9,13 +9,14 @@ use lib.Seq.{drop-drop, drop-append-seam, take-append-seam}
 use lib.Dec.{ltb, ltb→lt, lt→ltb, nltb→le}
 use Rattle.meaning.specs.Grammar.{Grammar, Production, productionAt, wholeProduction}
 use Rattle.meaning.specs.Layout as Layout
-use Rattle.meaning.specs.Layout.{field, headerBytes, countsFields, productionBytes, RulesAndConditions, Productions, Bytes}
+use Rattle.meaning.specs.Layout.{field, headerBytes, countsFields, carryingFields, productionBytes, RulesAndConditions, Productions, Bytes}
 use Rattle.meaning.specs.Table.{State, Entry, Read, noEntry, wellFormed, malformed, readTable, productionOf, grammarOf}
 use Rattle.meaning.specs.Judgement.{Verdict, Accepted, Judged, rejected, entryOffset}
 use Rattle.meaning.specs.Decide.{judge}
 use Rattle.meaning.specs.PublicCalls.{Checked, usable, unusable, checkedAs, Stretch, cut, stretchEnd, stretchOf}
 use Rattle.meaning.specs.TableStatements.{StretchIn, stretch, StretchExactly}
 use Rattle.theory_table.specs.Stretches.{Stretches, nothing, stretch as stretched, first-offset, stretched-productions}
+use Rattle.theory_table.specs.Places.{productionsAt}
 use Rattle.theory_table.specs.ReadLaidOut.{read-stretches, read-front, read-length}
 use Rattle.theory_base.specs.Members.{map-at, T→true}
 use Rattle.theory_base.specs.WellFormed.{listed-at}
@@ -86,7 +87,7 @@ module _ (bs : List ℕ) (s : State) (r : readTable bs ≡ wellFormed s) (p : �
 
   module _ (h : Bytes bs) where
     abbrev from : ℕ
-    from = 7 + 5 * length (s .counts)
+    from = productionsAt s
 
     abbrev grammar : Grammar
     grammar = grammarOf s
@@ -117,7 +118,7 @@ module _ (bs : List ℕ) (s : State) (r : readTable bs ≡ wellFormed s) (p : �
       isBody = subst (λ q. RulesAndConditions (q .rules) (q .conditions) (split .body)) (sym named) (split .isBody);
       isPart = ap (λ q. field 3 (productionBytes q) ++ split .body) (sym named);
       isLater = split .isLater;
-      isTable = read-front bs s h r ∙ ap (λ z. field 1 (headerBytes grammar) ++ (countsFields (grammar .counts) ++ z)) (split .isRest);
+      isTable = read-front bs s h r ∙ ap (λ z. field 1 (headerBytes grammar) ++ (countsFields (grammar .counts) ++ (carryingFields (grammar .carrying) ++ z))) (split .isRest);
     }
 
 -- ---- by the table

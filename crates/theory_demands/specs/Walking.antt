@@ -8,10 +8,13 @@ use mathlib.Core.List.{List, [], _∷_, _++_, append-nil}
 use lib.ListN.{length, take, length-append}
 use lib.Seq.{take-at, take-length}
 use lib.Dec.{T}
-use Rattle.meaning.specs.Grammar.{Grammar}
+use Rattle.meaning.specs.Base.{all}
+use Rattle.theory_base.specs.Feeds.{leaves-append, leaves-length}
+use Rattle.theory_complete.specs.Segment.{leaves-known}
+use Rattle.meaning.specs.Grammar.{Grammar, Leaf, leaves, nonterminal}
 use Rattle.meaning.specs.Judgement.{Accepted}
 use Rattle.meaning.specs.Machine.{Config, Lent, opening}
-use Rattle.meaning.specs.Tree.{Tree, TreeOf}
+use Rattle.meaning.specs.Tree.{Tree, TreeOf, isLeafOf}
 use Rattle.meaning.specs.Walk.{Act, predicts, reads, performs, walk, walkTo, Makes}
 use Rattle.meaning.specs.Calls.{lentOf, layAll, recordOf}
 use Rattle.meaning.specs.Drawn.{drawnMoves, drawnRecord}
@@ -40,34 +43,49 @@ drawn-first g t j false = walk-first j (walk g t)
 
 -- ---- what the opening leads to
 
-module _ (bs : List ℕ) (g : Grammar) (a : Accepted bs g) (lent : Lent) (stream : List ℕ) where
+module _ (bs : List ℕ) (g : Grammar) (a : Accepted bs g) (lent : Lent) (stream : List Leaf) where
+  -- a segment that has a tree is made of leaves
+  pub tree-known : (t : Tree) → TreeOf g stream t → T (all (isLeafOf g) stream)
+  tree-known t w = subst (λ z. T (all (isLeafOf g) z)) (w .read) (leaves-known g (accepted-well-formed bs g a) t (nonterminal (g .start)) (w .evaluated))
+
   -- so many moves as are drawn are the moves drawn
-  pub moves-drawn : (t : Tree) → TreeOf g stream t → (j : ℕ) (isOver : Bool) {ws : List Act} {us : List ℕ} {c : Config} → Makes g lent stream (opening g) ws us c → c .moves ≡ length (drawnMoves g t j isOver) → ws ≡ drawnMoves g t j isOver
+  pub moves-drawn : (t : Tree) → TreeOf g stream t → (j : ℕ) (isOver : Bool) {ws : List Act} {us : List Leaf} {c : Config} → Makes g lent stream (opening g) ws us c → c .moves ≡ length (drawnMoves g t j isOver) → ws ≡ drawnMoves g t j isOver
   moves-drawn t w j isOver {ws} {us} {c} m n =
-      let k = accepted-made bs g a lent stream m .walked t w in
+      let k = accepted-made bs g a lent stream (tree-known t w) m .walked t w in
       let size : length ws ≡ length (drawnMoves g t j isOver) = omega (arith, counted g lent m, n) in
       sym (take-at ws _ (length ws) refl) ∙ (ap (take (length ws)) k ∙ (ap (λ z. take z (walk g t)) size ∙ drawn-first g t j isOver))
 
 -- ---- the whole list
 
 pub walk-always : WalkAlways
-walk-always program bs g m₀ ts us isOver r m t a h k f over = go isOver over (picture-always program bs g m₀ ts us isOver r m t a h k f over .0) (runs g (accepted-well-formed bs g a) m₀ ts isOver r m (by-grammar program bs g a h))
+walk-always program bs g m₀ ts us isOver r m t a h k f over = go isOver over (picture-always program bs g m₀ ts us isOver r m t a h k f over .0) (runs g (accepted-well-formed bs g a) m₀ (leaves g ts) isOver r m (by-grammar program bs g a h))
   where
+    -- as the grammar sees them
+    us′ : List Leaf
+    us′ = leaves g us
+
+    all : List Leaf
+    all = leaves g (ts ++ us)
+
+    joined : leaves g ts ++ us′ ≡ all
+    joined = sym (leaves-append g ts us)
+
     Found : Bool → Type 0
-    Found b = (c : Config) × Makes g (lentOf m₀) (ts ++ us) (opening g) (drawnMoves g t (length ts) b) us c × (r ≡ recordOf (r .isOpen) c) × (m ≡ layAll g c m₀)
+    Found b = (c : Config) × Makes g (lentOf m₀) all (opening g) (drawnMoves g t (length ts) b) us′ c × (r ≡ recordOf (r .isOpen) c) × (m ≡ layAll g c m₀)
 
     same-record : (b : Bool) (c : Config) → r ≡ recordOf b c → r ≡ recordOf (r .isOpen) c
     same-record b c e = e ∙ ap (λ z. recordOf z c) (sym (ap (λ z. z .isOpen) e))
 
-    at : (b : Bool) (ws : List Act) (c : Config) → r ≡ drawnRecord g t (length ts) b → (o : Bool) → r ≡ recordOf o c → m ≡ layAll g c m₀ → Makes g (lentOf m₀) (ts ++ us) (opening g) ws us c → Found b
-    at b ws c d o e x y =
+    at : (b : Bool) (ws : List Act) (c : Config) → r ≡ drawnRecord g t (length ts) b → (o : Bool) → r ≡ recordOf o c → m ≡ layAll g c m₀ → Makes g (lentOf m₀) (leaves g ts ++ us′) (opening g) ws us′ c → Found b
+    at b ws c d o e x z =
+        let y : Makes g (lentOf m₀) all (opening g) ws us′ c = subst (λ q. Makes g (lentOf m₀) q (opening g) ws us′ c) joined z in
         let n : c .moves ≡ length (drawnMoves g t (length ts) b) = ap (λ z. z .moves) (sym e ∙ d) in
-        (c, subst (λ z. Makes g (lentOf m₀) (ts ++ us) (opening g) z us c) (moves-drawn bs g a (lentOf m₀) (ts ++ us) t k (length ts) b y n) y, same-record o c e, x)
+        (c, subst (λ z. Makes g (lentOf m₀) all (opening g) z us′ c) (moves-drawn bs g a (lentOf m₀) all t k (length ts) b y n) y, same-record o c e, x)
 
-    go : (b : Bool) → (b ≡ true → us ≡ []) → r ≡ drawnRecord g t (length ts) b → Run g m₀ ts r m → Found b
-    go b u d (inl o) = at b (o .leads .moves) (o .config) d true (o .isRecord) (o .isStacks) (o .leads .made us tt)
+    go : (b : Bool) → (b ≡ true → us ≡ []) → r ≡ drawnRecord g t (length ts) b → Run g m₀ (leaves g ts) r m → Found b
+    go b u d (inl o) = at b (o .leads .moves) (o .config) d true (o .isRecord) (o .isStacks) (o .leads .made us′ tt)
     go true u d (inr o) =
-        let none : o .unread ≡ [] = no-elements (o .unread) (omega (arith, ap length (o .joined), length-append (o .before) (o .unread), o .held .shows .tokens, ap (λ z. z .tokens) (sym (o .isRecord) ∙ d))) in
-        let e : us ≡ [] = u refl in
-        at true (o .led .moves) (o .config) d false (o .isRecord) (o .isStacks) (subst (λ z. Makes g (lentOf m₀) (ts ++ z) (opening g) (o .led .moves) z (o .config)) (sym e) (subst (λ z. Makes g (lentOf m₀) z (opening g) (o .led .moves) [] (o .config)) (sym (append-nil ts)) (subst (λ z. Makes g (lentOf m₀) ts (opening g) (o .led .moves) z (o .config)) none (o .led .made))))
+        let none : o .unread ≡ [] = no-elements (o .unread) (omega (arith, ap length (o .joined), leaves-length g ts, length-append (o .before) (o .unread), o .held .shows .tokens, ap (λ z. z .tokens) (sym (o .isRecord) ∙ d))) in
+        let e : us′ ≡ [] = ap (leaves g) (u refl) in
+        at true (o .led .moves) (o .config) d false (o .isRecord) (o .isStacks) (subst (λ z. Makes g (lentOf m₀) (leaves g ts ++ z) (opening g) (o .led .moves) z (o .config)) (sym e) (subst (λ z. Makes g (lentOf m₀) z (opening g) (o .led .moves) [] (o .config)) (sym (append-nil (leaves g ts))) (subst (λ z. Makes g (lentOf m₀) (leaves g ts) (opening g) (o .led .moves) z (o .config)) none (o .led .made))))
     go false u d (inr o) = absurd (subst T (ap (λ z. z .isOpen) (sym d ∙ o .isRecord)) tt)

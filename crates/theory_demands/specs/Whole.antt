@@ -8,37 +8,38 @@ use mathlib.Core.Bool.{true, false}
 use mathlib.Core.List.{List}
 use lib.ListN.{length}
 use lib.IntN.{ℤ}
-use Rattle.meaning.specs.Grammar.{Grammar, syn, nonterminal}
+use Rattle.meaning.specs.Grammar.{Grammar, syn, nonterminal, leaves}
 use Rattle.meaning.specs.Judgement.{Accepted}
 use Rattle.meaning.specs.Tree.{Tree, TreeOf, valueOf}
 use Rattle.meaning.specs.Walk.{walk}
 use Rattle.meaning.specs.Drawn.{WalkFits}
-use Rattle.meaning.specs.Calls.{Stacks, more, value, closedRecord, lentOf}
+use Rattle.meaning.specs.Calls.{Stacks, more, value, closedRecord, lentOf, tokensFrom}
 use Rattle.meaning.specs.PublicCalls.{feed, finish, areaLength, Effect, opens, performs}
+use Rattle.meaning.specs.CallStatements.{Lendable, Even}
 use Rattle.meaning.specs.Statements.{opened, fed, fedAndFinished, ValueWhole}
 use Rattle.theory_base.specs.Walks.{room}
 use Rattle.theory_answers.specs.TurnedBack.{opening-is, bad-state}
 use Rattle.theory_demands.specs.Pictures.{value-always}
 
-module _ (program : Grammar → List ℕ) (bs area : List ℕ) (g : Grammar) (m : Stacks) (ts : List ℕ) (a : Accepted bs g) (l : areaLength ≤ length area) (v : ℤ) (n : ℕ) where
+module _ (program : Grammar → List ℕ) (bs area : List ℕ) (g : Grammar) (m : Stacks) (ks : List ℕ) (vs : List ℤ) (a : Accepted bs g) (l : areaLength ≤ length area) (t : Lendable (feed ks vs)) (even : Even (feed ks vs)) (v : ℤ) (n : ℕ) where
   abbrev Valued : Type 0
-  Valued = fedAndFinished program bs area ts (opens program bs area m) .answer ≡ value v n
+  Valued = fedAndFinished program bs area ks vs (opens program bs area m) .answer ≡ value v n
 
   abbrev HasTree : Type 0
-  HasTree = (t : Tree) × TreeOf g ts t × WalkFits g (lentOf m) t × (valueOf g t ≡ v) × (length (walk g t) ≡ n)
+  HasTree = (t : Tree) × TreeOf g (leaves g (tokensFrom ks vs)) t × WalkFits g (lentOf m) t × (valueOf g t ≡ v) × (length (walk g t) ≡ n)
 
   -- a closed record stays so
-  shut : (o : Effect) → o .state ≡ closedRecord → fedAndFinished program bs area ts o .answer ≡ value v n → ⊥
+  shut : (o : Effect) → o .state ≡ closedRecord → fedAndFinished program bs area ks vs o .answer ≡ value v n → ⊥
   shut o e x =
       let c : o .state .isOpen ≡ false = ap (λ z. z .isOpen) e in
-      let f = bad-state program bs area g (o .state) (o .stacks) (feed ts) l a .0 c in
-      let q = performs program bs area (o .state) (o .stacks) (feed ts) in
+      let f = bad-state program bs area g (o .state) (o .stacks) (feed ks vs) l a .0 c in
+      let q = performs program bs area (o .state) (o .stacks) (feed ks vs) in
       let d : q .state .isOpen ≡ false = ap (λ z. z .state .isOpen) f ∙ c in
       let w = ap (λ z. z .answer) (bad-state program bs area g (q .state) (q .stacks) finish l a .0 d) in
       let z : _≡_ {A = ℕ} 0 1 = cc in absurd (omega arith)
 
   answers : opens program bs area m .answer ≡ more 0 → opens program bs area m .state .isOpen ≡ true → Valued ↔ HasTree
-  answers h o = let q = performs program bs area (opens program bs area m .state) (opens program bs area m .stacks) (feed ts) in value-always program bs area g m ts (q .state) (q .stacks) a l (fed area ts (opened area h) l o) v n
+  answers h o = let q = performs program bs area (opens program bs area m .state) (opens program bs area m .stacks) (feed ks vs) in value-always program bs area g m (tokensFrom ks vs) (q .state) (q .stacks) a l (fed area ks vs t even (opened area h) l o) v n
 
   room-enough : syn g (nonterminal (g .start)) ≤ lentOf m .maxRegisters → 1 ≤ lentOf m .maxPlaces → Valued ↔ HasTree
   room-enough r p = let e = opening-is program bs area g m l a .2 r p in answers (ap (λ z. z .answer) e) (ap (λ z. z .state .isOpen) e)
@@ -57,4 +58,4 @@ module _ (program : Grammar → List ℕ) (bs area : List ℕ) (g : Grammar) (m 
   forth (no r) (no p) x = room-enough (omega arith) (omega arith) .0 x
 
 pub value-whole : ValueWhole
-value-whole program bs area g m ts a l v n = ((λ x. forth program bs area g m ts a l v n (decLt (lentOf m .maxRegisters) (syn g (nonterminal (g .start)))) (decLt (lentOf m .maxPlaces) 1) x), (λ x. back program bs area g m ts a l v n x))
+value-whole program bs area g m ks vs a l t even v n = ((λ x. forth program bs area g m ks vs a l t even v n (decLt (lentOf m .maxRegisters) (syn g (nonterminal (g .start)))) (decLt (lentOf m .maxPlaces) 1) x), (λ x. back program bs area g m ks vs a l t even v n x))

@@ -6,15 +6,15 @@ use mathlib.Core.Path.{_≡_, refl, sym, ap, _∙_, subst}
 use mathlib.Core.Logic.{inl, inr}
 use mathlib.Core.List.{List, [], _∷_, _++_, map, nil≢cons, cons≢nil, head-eq-of-cons-eq, tail-eq-of-cons-eq}
 use lib.Dec.{T}
-use Rattle.meaning.specs.Grammar.{Symbol, terminal, nonterminal, Grammar, productionAt, nonterminalCount, Look, token}
+use Rattle.meaning.specs.Grammar.{Symbol, terminal, nonterminal, Grammar, productionAt, nonterminalCount, Look}
 use Rattle.meaning.specs.Derivation.{Derives, Listed, Reachable, Starts, Clash, startForm}
 use Rattle.meaning.specs.Sets.{has, starts, lookNumber}
-use Rattle.meaning.specs.Machine.{lookAt}
 use Rattle.theory_sets.specs.Accepted.{Sane}
 use Rattle.theory_sets.specs.Derivations.{Yields, nothing, same, expand, yields→derives, derives→yields, joined, before}
 use Rattle.theory_sets.specs.Looks.{Starts→possible}
 use Rattle.theory_sets.specs.StartSets.{starts-is}
 use Rattle.meaning.specs.MarkedToken.{Unconditional, OneStart}
+use Rattle.theory_marked.specs.Remaining.{lookOf}
 
 -- ---- the first symbol of what derives a token string
 
@@ -98,17 +98,17 @@ module _ {g : Grammar} where
 -- ---- the one alternative
 
 module _ {g : Grammar} where
-  starts-of : (p : ℕ) (xs us : List ℕ) (b : List Symbol) → Derives g (productionAt g p .right) (map terminal xs) → Derives g (startForm g) (b ++ (nonterminal (productionAt g p .left) ∷ map terminal us)) → Starts g p (lookAt (xs ++ us))
+  starts-of : (p : ℕ) (xs us : List ℕ) (b : List Symbol) → Derives g (productionAt g p .right) (map terminal xs) → Derives g (startForm g) (b ++ (nonterminal (productionAt g p .left) ∷ map terminal us)) → Starts g p (lookOf (xs ++ us))
   starts-of p (u ∷ xs) us b d c = inl (map terminal xs, d)
   starts-of p [] (u ∷ us) b d c = inr (d, (b, map terminal us, c))
   starts-of p [] [] b d c = (d, (b, c))
 
   -- what is taken is an alternative of what comes next
-  pub taken-starts : (n : ℕ) (xs : List Symbol) (vs : List ℕ) (b : List Symbol) → Derives g (startForm g) (b ++ (nonterminal n ∷ xs)) → (r : Taken g n xs vs) → Starts g (r .production) (lookAt vs)
+  pub taken-starts : (n : ℕ) (xs : List Symbol) (vs : List ℕ) (b : List Symbol) → Derives g (startForm g) (b ++ (nonterminal n ∷ xs)) → (r : Taken g n xs vs) → Starts g (r .production) (lookOf vs)
   taken-starts n xs vs b c r =
       let d : Derives g (startForm g) (b ++ (nonterminal n ∷ map terminal (r .others))) = joined c (before b (before (nonterminal n ∷ []) (r .rests))) in
       let d′ : Derives g (startForm g) (b ++ (nonterminal (productionAt g (r .production) .left) ∷ map terminal (r .others))) = subst (λ m. Derives g (startForm g) (b ++ (nonterminal m ∷ map terminal (r .others)))) (sym (r .left)) d in
-      subst (λ z. Starts g (r .production) (lookAt z)) (sym (r .whole)) (starts-of (r .production) (r .first) (r .others) b (r .firsts) d′)
+      subst (λ z. Starts g (r .production) (lookOf z)) (sym (r .whole)) (starts-of (r .production) (r .first) (r .others) b (r .firsts) d′)
 
 module _ {g : Grammar} (s : Sane g) where
   -- clashes are refused, so without entry conditions no two sets meet

@@ -1,52 +1,92 @@
 -- The marked token is the first impossible one: after every list of calls.
 use Prim.Native.Nat.{ℕ, suc, _≤_, _<_}
 use native.Mathlib.Omega.{arith}
+use native.Mathlib.Decide.{ℕ-discrete}
 use mathlib.Core.Path.{_≡_, refl, sym, ap, ap₂, _∙_, subst}
 use mathlib.Core.Logic.{inl, inr}
 use mathlib.Core.Bool.{Bool, true, false}
-use mathlib.Core.List.{List, [], _∷_, _++_, append-assoc, append-nil}
-use lib.ListN.{length, take, length-append}
+use mathlib.Core.List.{List, [], _∷_, _++_, map, append-assoc, append-nil, map-append}
+use lib.ListN.{length, take, length-append, length-map}
 use lib.Seq.{take-at}
-use lib.Dec.{T, ltb, nltb→le}
-use lib.IntN.{ℤ}
-use Rattle.meaning.specs.Grammar.{Grammar, token}
+use lib.Dec.{T, eqb, ltb, nltb→le}
+use lib.IntN.{ℤ, pos}
+use Rattle.meaning.specs.Grammar.{Grammar, Token, Leaf, leafOf, leaves}
 use Rattle.meaning.specs.Table.{grammarOf}
-use Rattle.meaning.specs.Machine.{Config, Lent, Settled, stopped, failed, advanceFrom, feedAll, finishAll, opening, tokensLimit}
-use Rattle.meaning.specs.Calls.{Record, Stacks, Called, refused, value, lentOf, layAll, afterFeed, afterFinish, asBrought, whenFit, stacksFit, configOf, feedOf, finishOf}
+use Rattle.meaning.specs.Machine.{Config, Lent, comes, Settled, stopped, failed, advanceFrom, feedAll, finishAll, opening, tokensLimit}
+use Rattle.meaning.specs.Base.{all}
+use Rattle.meaning.specs.Tree.{isLeafOf}
+use Rattle.meaning.specs.Calls.{Record, Stacks, Called, refused, value, lentOf, layAll, afterFeed, afterFinish, asBrought, whenFit, whenEven, tokensFrom, stacksFit, configOf, feedOf, finishOf}
 use Rattle.meaning.specs.PublicCalls.{Call, feed, finish, callOf, areaLength, Effect, effect, written, check, usable, unusable, performs}
+use Rattle.theory_base.specs.Members.{both, and, all-append}
+use Rattle.theory_base.specs.Feeds.{feedLeaves, even-feed, uneven-feed, leaf-of, leaves-of}
 use Rattle.theory_answers.specs.Runs.{Leads, Anything, Fed, fed}
 use Rattle.theory_answers.specs.ShapeMoves.{ShapedAt}
 use Rattle.theory_sets.specs.Accepted.{Sane, accepted-sane}
+use Rattle.theory_sets.specs.Tests.{all-right}
 use Rattle.theory_sound.specs.Follow.{along}
 use Rattle.theory_sound.specs.CallSound.{feed-is, finish-is}
 use Rattle.theory_sound.specs.Histories.{OpenRun, Run, runs}
 use Rattle.theory_demands.specs.ByGrammar.{performs-is, by-grammar}
-use Rattle.meaning.specs.MarkedToken.{TokenString, Begins, Unconditional, OneStart, MarkedWhere, MarkedToken, MarkedByStart, MarkedBegins}
+use Rattle.meaning.specs.MarkedToken.{kinds, TokenString, Begins, Unconditional, OneStart, MarkedWhere, MarkedToken, MarkedByStart, MarkedBegins}
+use Rattle.theory_marked.specs.Remaining.{kindsOf}
 use Rattle.theory_marked.specs.Prefixes.{Ahead, opening-ahead, ahead-move, begins}
 use Rattle.theory_marked.specs.Choice.{unconditional-starts}
 use Rattle.theory_marked.specs.Following.{Following, opening-follows, follow-makes}
 use Rattle.theory_marked.specs.Failing.{FailedAt, failed-at, by-moves, count-kept, never}
 use Rattle.meaning.specs.Judgement.{Accepted}
+use Rattle.meaning.specs.CallStatements.{Lendable}
 use Rattle.meaning.specs.Statements.{History}
 use Rattle.meaning.specs.Calls as Calls
 
+-- ---- tokens of given kinds
+
+abbrev Known : Grammar → List Leaf → Type 0
+Known g us = T (all (isLeafOf g) us)
+
+abbrev withZero : ℕ → Token
+withZero k = record { kind = k; value = pos 0 }
+
+-- as the grammar sees them, each with 0 for its value
+abbrev ofKinds : Grammar → List ℕ → List Leaf
+ofKinds g ks = leaves g (map withZero ks)
+
+kinds-are : (g : Grammar) (ks : List ℕ) → kindsOf (ofKinds g ks) ≡ ks
+kinds-are g [] = refl
+kinds-are g (k ∷ ks) = ap (λ z. k ∷ z) (kinds-are g ks)
+
+kinds-known : (g : Grammar) (ks : List ℕ) → Known g (ofKinds g ks)
+kinds-known g [] = tt
+kinds-known g (k ∷ ks) = and (isLeafOf g (leafOf g (withZero k))) (all (isLeafOf g) (ofKinds g ks)) (leaf-of g (withZero k) tt) (kinds-known g ks)
+
+known-left : (g : Grammar) (us vs : List Leaf) → Known g (us ++ vs) → Known g us
+known-left g [] vs h = tt
+known-left g (u ∷ us) vs h =
+    let b = both (isLeafOf g u) (all (isLeafOf g) (us ++ vs)) h in
+    and (isLeafOf g u) (all (isLeafOf g) us) (b .0) (known-left g us vs (b .1))
+
+kinds-append : (us vs : List Leaf) → kindsOf (us ++ vs) ≡ kindsOf us ++ kindsOf vs
+kinds-append us vs = map-append (λ u. u .kind) us vs
+
+kinds-length : (us : List Leaf) → length (kindsOf us) ≡ length us
+kinds-length us = length-map us (λ u. u .kind)
+
 -- ---- a configuration that the opening leads to, whatever is to come behind ts
 
-module _ {g : Grammar} (s : Sane g) (lent : Lent) (ts : List ℕ) (c : Config) (leads : Leads g lent Anything ts (opening g) [] c) where
+module _ {g : Grammar} (s : Sane g) (lent : Lent) (ts : List Leaf) (known : Known g ts) (c : Config) (leads : Leads g lent Anything ts (opening g) [] c) where
   ahead : Ahead g ts c
   ahead =
-      let a = along g lent (Ahead g) (λ us d k. k .tokens) (ahead-move g (s .formed) lent) [] (leads .made [] tt) (opening-ahead g) in
+      let a = along g lent (Ahead g) (λ us d k. k .tokens) (λ l o us d e x h. ahead-move g (s .formed) lent l us d e x h) [] (all-append (isLeafOf g) ts [] known tt) (leads .made [] tt) (opening-ahead g) in
       let e : a .read ≡ ts = sym (append-nil (a .read)) ∙ (sym (a .split) ∙ append-nil ts) in
       subst (λ z. Ahead g z c) e (a .inv)
 
   pub counted : length ts ≡ c .tokens
   counted = ahead .tokens
 
-  pub first-half : Begins g ts
-  first-half = begins s ts _ (ahead .derived)
+  pub first-half : Begins g (kindsOf ts)
+  first-half = begins s (kindsOf ts) _ (ahead .derived)
 
-  pub follows : OneStart g → ShapedAt g (opening g) → (us : List ℕ) → TokenString g (ts ++ us) → Following g us c
-  follows one k us d = follow-makes s one lent (leads .made us tt) (opening-follows g k (ts ++ us) d)
+  pub follows : OneStart g → ShapedAt g (opening g) → (us : List Leaf) → Known g us → TokenString g (kindsOf (ts ++ us)) → Following g us c
+  follows one k us o d = follow-makes s one lent (leads .made us tt) (opening-follows g k (ts ++ us) (all-append (isLeafOf g) ts us known o) d)
 
 -- ---- the calls on an open run
 
@@ -59,76 +99,92 @@ more-refused e = absurd (let z : _≡_ {A = ℕ} 0 1 = cc in omega arith)
 value-refused : {A : Type 0} {v : ℤ} {n k j : ℕ} → value v n ≡ refused k j → A
 value-refused e = absurd (let z : _≡_ {A = ℕ} 0 1 = cc in omega arith)
 
-module _ {g : Grammar} (s : Sane g) (m₀ : Stacks) (ts : List ℕ) (r : Record) (m : Stacks) (o : OpenRun g m₀ ts r m) where
+module _ {g : Grammar} (s : Sane g) (m₀ : Stacks) (ts : List Leaf) (r : Record) (m : Stacks) (o : OpenRun g m₀ ts r m) where
   few : o .config .tokens ≤ tokensLimit
   few = subst (λ n. n ≤ tokensLimit) (o .stop .0 .shows .tokens) (o .stop .2)
 
   -- the run once the tokens before the marked one are fed
-  leads-on : (us : List ℕ) (d : Config) → feedAll g (lentOf m₀) us (o .config) ≡ stopped d → Leads g (lentOf m₀) Anything (ts ++ us) (opening g) [] d
+  leads-on : (us : List Leaf) (d : Config) → feedAll g (lentOf m₀) us (o .config) ≡ stopped d → Leads g (lentOf m₀) Anything (ts ++ us) (opening g) [] d
   leads-on us d q = subst (Fed g (lentOf m₀) (opening g) (ts ++ us)) q (fed g (lentOf m₀) (opening g) us ts (o .config) (o .leads) (o .stop .1) few) .0
 
   -- a feed refused 21 after its moves: the token at hand, and what was read before it
-  pub record MarkedAt (us : List ℕ) (n : ℕ) : Type 0 where
-    pub inside : n < length (ts ++ us)
-    pub begins : Begins g (take n (ts ++ us))
-    pub none : OneStart g → Begins g (take (suc n) (ts ++ us)) → ⊥
+  pub record MarkedAt (us : List Leaf) (n : ℕ) : Type 0 where
+    pub inside : n < length (kindsOf (ts ++ us))
+    pub begins : Begins g (take n (kindsOf (ts ++ us)))
+    pub none : OneStart g → Begins g (take (suc n) (kindsOf (ts ++ us))) → ⊥
 
-  marked-at : (us : List ℕ) (e : Config) → feedAll g (lentOf m₀) us (o .config) ≡ failed e 21 → MarkedAt us (e .tokens)
-  marked-at us e h = record {
-    inside = omega (arith, ap length joined, length-append xs (t ∷ f .after), size);
-    begins = subst (Begins g) (sym first) (first-half s (lentOf m₀) xs d leads);
+  marked-at : (us : List Leaf) → Known g us → (e : Config) → feedAll g (lentOf m₀) us (o .config) ≡ failed e 21 → MarkedAt us (e .tokens)
+  marked-at us seen e h = record {
+    inside = omega (arith, kinds-length (ts ++ us), ap length joined, length-append xs (t ∷ f .after), size);
+    begins = subst (Begins g) (sym first) (first-half s (lentOf m₀) xs known d leads);
     none = λ one b. impossible one (subst (Begins g) second b);
   }
     where
       f : FailedAt g (lentOf m₀) us (o .config) e 21
       f = failed-at g (lentOf m₀) us (o .config) e 21 h
 
-      t : ℕ
+      t : Leaf
       t = f .marked
 
       d : Config
       d = f .config
 
-      xs : List ℕ
+      xs : List Leaf
       xs = ts ++ f .before
-
-      leads : Leads g (lentOf m₀) Anything xs (opening g) [] d
-      leads = leads-on (f .before) d (f .fed)
-
-      moves : advanceFrom g (lentOf m₀) (token t) d ≡ failed e 21
-      moves = by-moves g (lentOf m₀) t d e (f .fails)
-
-      size : length xs ≡ e .tokens
-      size = counted s (lentOf m₀) xs d leads ∙ sym (count-kept g (lentOf m₀) t d e moves)
 
       joined : ts ++ us ≡ xs ++ (t ∷ f .after)
       joined = ap (λ z. ts ++ z) (f .whole) ∙ sym (append-assoc ts (f .before) (t ∷ f .after))
 
-      first : take (e .tokens) (ts ++ us) ≡ xs
-      first = ap (λ z. take (e .tokens) z) joined ∙ take-at xs (t ∷ f .after) (e .tokens) size
+      all-known : Known g (xs ++ (t ∷ f .after))
+      all-known = subst (Known g) joined (all-append (isLeafOf g) ts us (o .seen) seen)
 
-      second : take (suc (e .tokens)) (ts ++ us) ≡ xs ++ (t ∷ [])
-      second = ap (λ z. take (suc (e .tokens)) z) (joined ∙ sym (append-assoc xs (t ∷ []) (f .after))) ∙ take-at (xs ++ (t ∷ [])) (f .after) (suc (e .tokens)) (length-append xs (t ∷ []) ∙ omega (arith, size))
+      known : Known g xs
+      known = known-left g xs (t ∷ f .after) all-known
 
-      impossible : OneStart g → Begins g (xs ++ (t ∷ [])) → ⊥
+      marked-known : T (isLeafOf g t)
+      marked-known = both (isLeafOf g t) (all (isLeafOf g) (f .after)) (all-right (isLeafOf g) xs (t ∷ f .after) all-known) .0
+
+      leads : Leads g (lentOf m₀) Anything xs (opening g) [] d
+      leads = leads-on (f .before) d (f .fed)
+
+      moves : advanceFrom g (lentOf m₀) (comes t) d ≡ failed e 21
+      moves = by-moves g (lentOf m₀) t d e (f .fails)
+
+      size : length xs ≡ e .tokens
+      size = counted s (lentOf m₀) xs known d leads ∙ sym (count-kept g (lentOf m₀) t d e moves)
+
+      apart : kindsOf (ts ++ us) ≡ kindsOf xs ++ (t .kind ∷ kindsOf (f .after))
+      apart = ap kindsOf joined ∙ kinds-append xs (t ∷ f .after)
+
+      first : take (e .tokens) (kindsOf (ts ++ us)) ≡ kindsOf xs
+      first = ap (λ z. take (e .tokens) z) apart ∙ take-at (kindsOf xs) (t .kind ∷ kindsOf (f .after)) (e .tokens) (kinds-length xs ∙ size)
+
+      second : take (suc (e .tokens)) (kindsOf (ts ++ us)) ≡ kindsOf xs ++ (t .kind ∷ [])
+      second =
+          ap (λ z. take (suc (e .tokens)) z) (apart ∙ sym (append-assoc (kindsOf xs) (t .kind ∷ []) (kindsOf (f .after))))
+          ∙ take-at (kindsOf xs ++ (t .kind ∷ [])) (kindsOf (f .after)) (suc (e .tokens)) (length-append (kindsOf xs) (t .kind ∷ []) ∙ omega (arith, kinds-length xs, size))
+
+      impossible : OneStart g → Begins g (kindsOf xs ++ (t .kind ∷ [])) → ⊥
       impossible one b =
-          let k : TokenString g (xs ++ (t ∷ b .0)) = subst (TokenString g) (append-assoc xs (t ∷ []) (b .0)) (b .1) in
-          never s one (lentOf m₀) (t ∷ b .0) (d .tokens) d e refl (follows s (lentOf m₀) xs d leads one (o .start .shaped) (t ∷ b .0) k) moves
+          let vs : List Leaf = t ∷ ofKinds g (b .0) in
+          let same : (kindsOf xs ++ (t .kind ∷ [])) ++ b .0 ≡ kindsOf (xs ++ vs) = append-assoc (kindsOf xs) (t .kind ∷ []) (b .0) ∙ (ap (λ z. kindsOf xs ++ (t .kind ∷ z)) (sym (kinds-are g (b .0))) ∙ sym (kinds-append xs vs)) in
+          let seen-on : Known g vs = and (isLeafOf g t) (all (isLeafOf g) (ofKinds g (b .0))) marked-known (kinds-known g (b .0)) in
+          never s one (lentOf m₀) vs (d .tokens) d e refl (follows s (lentOf m₀) xs known d leads one (o .start .shaped) vs seen-on (subst (TokenString g) same (b .1))) moves
 
-  feed-marked : (us : List ℕ) (n : ℕ) → feedOf g r m us .answer ≡ refused 21 n → MarkedAt us n
-  feed-marked us n h =
+  feed-marked : (us : List Leaf) → Known g us → (n : ℕ) → feedLeaves g r m us .answer ≡ refused 21 n → MarkedAt us n
+  feed-marked us seen n h =
       let c : Config = o .config in
-      let e : feedOf g r m us ≡ afterFeed g (layAll g c m₀) (feedAll g (lentOf m₀) us c) = ap₂ (λ a b. feedOf g a b us) (o .isRecord) (o .isStacks) ∙ feed-is g (s .formed) m₀ ts c (o .stop) us in
+      let e : feedLeaves g r m us ≡ afterFeed g (layAll g c m₀) (feedAll g (lentOf m₀) us c) = ap₂ (λ a b. feedLeaves g a b us) (o .isRecord) (o .isStacks) ∙ feed-is g (s .formed) m₀ ts c (o .stop) us in
       go (feedAll g (lentOf m₀) us c) refl (sym (ap (λ z. z .answer) e) ∙ h)
     where
       go : (k : Settled) → feedAll g (lentOf m₀) us (o .config) ≡ k → afterFeed g (layAll g (o .config) m₀) k .answer ≡ refused 21 n → MarkedAt us n
       go (stopped d) q h = more-refused h
-      go (failed d j) q h = let u = refused-is h in subst (MarkedAt us) (u .1) (marked-at us d (q ∙ ap (failed d) (u .0)))
+      go (failed d j) q h = let u = refused-is h in subst (MarkedAt us) (u .1) (marked-at us seen d (q ∙ ap (failed d) (u .0)))
 
-  finish-begins : Begins g ts
-  finish-begins = first-half s (lentOf m₀) ts (o .config) (o .leads)
+  finish-begins : Begins g (kindsOf ts)
+  finish-begins = first-half s (lentOf m₀) ts (o .seen) (o .config) (o .leads)
 
-  finish-none : (n : ℕ) → finishOf g r m .answer ≡ refused 24 n → OneStart g → TokenString g ts → ⊥
+  finish-none : (n : ℕ) → finishOf g r m .answer ≡ refused 24 n → OneStart g → TokenString g (kindsOf ts) → ⊥
   finish-none n h one k =
       let c : Config = o .config in
       let e : finishOf g r m ≡ afterFinish g (layAll g c m₀) (finishAll g (lentOf m₀) c) = ap₂ (λ a b. finishOf g a b) (o .isRecord) (o .isStacks) ∙ finish-is g (s .formed) m₀ ts c (o .stop) in
@@ -137,7 +193,7 @@ module _ {g : Grammar} (s : Sane g) (m₀ : Stacks) (ts : List ℕ) (r : Record)
       go : (k : Settled) → finishAll g (lentOf m₀) (o .config) ≡ k → afterFinish g (layAll g (o .config) m₀) k .answer ≡ refused 24 n → ⊥
       go (stopped d) q h = value-refused h
       go (failed d j) q h =
-          let f = follows s (lentOf m₀) ts (o .config) (o .leads) one (o .start .shaped) [] (subst (TokenString g) (sym (append-nil ts)) k) in
+          let f = follows s (lentOf m₀) ts (o .seen) (o .config) (o .leads) one (o .start .shaped) [] tt (subst (λ z. TokenString g (kindsOf z)) (sym (append-nil ts)) k) in
           never s one (lentOf m₀) [] (o .config .tokens) (o .config) d refl f (q ∙ ap (failed d) (refused-is h .0))
 
 -- ---- any run, any area
@@ -150,6 +206,24 @@ closed-33 g r m called k n e h = go (r .isOpen) e h
     go false e h = sym (refused-is h .0)
     go true e h = absurd (subst T e tt)
 
+-- lists of unequal length answer 33, 34 or 38
+uneven-no : (g : Grammar) (r : Record) (m : Stacks) (n : ℕ) → whenFit g r m (asBrought (refused 38 0) r m) .answer ≡ refused 21 n → ⊥
+uneven-no g r m n h = go (r .isOpen) (stacksFit g r m) h
+  where
+    go : (b f : Bool) → (elim b as (λ x. Called) [ false ↦ asBrought (refused 33 0) r m | true ↦ elim f as (λ x. Called) [ false ↦ asBrought (refused 34 0) r m | true ↦ asBrought (refused 38 0) r m ] ]) .answer ≡ refused 21 n → ⊥
+    go false f h = absurd (omega (arith, refused-is h .0))
+    go true false h = absurd (omega (arith, refused-is h .0))
+    go true true h = absurd (omega (arith, refused-is h .0))
+
+kinds-of-tokens : (g : Grammar) (ts : List Token) → kindsOf (leaves g ts) ≡ kinds ts
+kinds-of-tokens g [] = refl
+kinds-of-tokens g (t ∷ ts) = ap (λ z. t .kind ∷ z) (kinds-of-tokens g ts)
+
+kinds-of-feed : (g : Grammar) (ks : List ℕ) (vs : List ℤ) → length ks ≡ length vs → kindsOf (leaves g (tokensFrom ks vs)) ≡ ks
+kinds-of-feed g [] vs e = refl
+kinds-of-feed g (k ∷ ks) [] e = absurd (omega (arith, e))
+kinds-of-feed g (k ∷ ks) (v ∷ vs) e = ap (λ z. k ∷ z) (kinds-of-feed g ks vs (omega (arith, e)))
+
 -- a short area answers 30
 long-area : (program : Grammar → List ℕ) (bs area : List ℕ) (r : Record) (m : Stacks) (c : Call) (k n : ℕ) → performs program bs area r m c .answer ≡ refused k n → (k ≡ 30 → ⊥) → areaLength ≤ length area
 long-area program bs area r m c k n h other = go (ltb (length area) areaLength) refl h
@@ -161,7 +235,7 @@ long-area program bs area r m c k n h other = go (ltb (length area) areaLength) 
     go true e h = absurd (other (sym (refused-is h .0)))
     go false e h = nltb→le (length area) areaLength (rw e tt)
 
-module _ (program : Grammar → List ℕ) (bs area : List ℕ) (g : Grammar) (m₀ : Stacks) (ts : List ℕ) (isOver : Bool) (r : Record) (m : Stacks) (a : Accepted bs g) (h : History program bs m₀ ts isOver r m) where
+module _ (program : Grammar → List ℕ) (bs area : List ℕ) (g : Grammar) (m₀ : Stacks) (ts : List Token) (isOver : Bool) (r : Record) (m : Stacks) (a : Accepted bs g) (h : History program bs m₀ ts isOver r m) where
   s : Sane g
   s = accepted-sane bs g a
 
@@ -169,35 +243,48 @@ module _ (program : Grammar → List ℕ) (bs area : List ℕ) (g : Grammar) (m�
   called c k n q other = sym (ap (λ z. z .answer) (performs-is program bs g a area r m c (long-area program bs area r m c k n q other))) ∙ q
 
   -- a 21 or a 24 is given by an open run
-  open-run : (c : Call) (k n : ℕ) → (k ≡ 33 → ⊥) → callOf g r m c .answer ≡ refused k n → OpenRun g m₀ ts r m
-  open-run c k n other q = go (runs g (s .formed) m₀ ts isOver r m (by-grammar program bs g a h))
+  open-run : (c : Call) (k n : ℕ) → (k ≡ 33 → ⊥) → callOf g r m c .answer ≡ refused k n → OpenRun g m₀ (leaves g ts) r m
+  open-run c k n other q = go (runs g (s .formed) m₀ (leaves g ts) isOver r m (by-grammar program bs g a h))
     where
       shut : (c : Call) → r .isOpen ≡ false → callOf g r m c .answer ≡ refused k n → k ≡ 33
-      shut (feed us) e q = closed-33 g r m (afterFeed g m (feedAll g (lentOf m) us (configOf g r m))) k n e q
+      shut (feed ks vs) e q = closed-33 g r m (whenEven (eqb (length ks) (length vs)) r m (afterFeed g m (feedAll g (lentOf m) (leaves g (tokensFrom ks vs)) (configOf g r m)))) k n e q
       shut finish e q = closed-33 g r m (afterFinish g m (finishAll g (lentOf m) (configOf g r m))) k n e q
 
-      go : Run g m₀ ts r m → OpenRun g m₀ ts r m
+      go : Run g m₀ (leaves g ts) r m → OpenRun g m₀ (leaves g ts) r m
       go (inl o) = o
       go (inr o) = absurd (other (shut c (ap (λ z. z .isOpen) (o .isRecord)) q))
 
-  by-feed : (us : List ℕ) (n : ℕ) → performs program bs area r m (feed us) .answer ≡ refused 21 n → (n < length (ts ++ us)) × Begins g (take n (ts ++ us)) × (OneStart g → Begins g (take (suc n) (ts ++ us)) → ⊥)
-  by-feed us n k =
-      let q = called (feed us) 21 n k (λ z. omega arith) in
-      let v = feed-marked s m₀ ts r m (open-run (feed us) 21 n (λ z. omega arith) q) us n q in
-      (v .inside, v .begins, v .none)
+  abbrev Marked : List ℕ → ℕ → Type 0
+  Marked all n = (n < length all) × Begins g (take n all) × (OneStart g → Begins g (take (suc n) all) → ⊥)
 
-  by-finish : (n : ℕ) → performs program bs area r m finish .answer ≡ refused 24 n → Begins g ts × (OneStart g → TokenString g ts → ⊥)
+  by-feed : (ks : List ℕ) (vs : List ℤ) (n : ℕ) → Lendable (feed ks vs) → performs program bs area r m (feed ks vs) .answer ≡ refused 21 n → Marked (kinds ts ++ ks) n
+  by-feed ks vs n t k = go (ℕ-discrete (length ks) (length vs))
+    where
+      us : List Leaf
+      us = leaves g (tokensFrom ks vs)
+
+      q : feedOf g r m ks vs .answer ≡ refused 21 n
+      q = called (feed ks vs) 21 n k (λ z. omega arith)
+
+      go : Dec (length ks ≡ length vs) → Marked (kinds ts ++ ks) n
+      go (yes e) =
+          let v = feed-marked s m₀ (leaves g ts) r m (open-run (feed ks vs) 21 n (λ z. omega arith) q) us (leaves-of g ks vs t) n (sym (ap (λ z. z .answer) (even-feed g r m ks vs e)) ∙ q) in
+          let same : kindsOf (leaves g ts ++ us) ≡ kinds ts ++ ks = kinds-append (leaves g ts) us ∙ ap₂ (λ x y. x ++ y) (kinds-of-tokens g ts) (kinds-of-feed g ks vs e) in
+          subst (λ z. Marked z n) same (v .inside, v .begins, v .none)
+      go (no e) = absurd (uneven-no g r m n (sym (ap (λ z. z .answer) (uneven-feed g r m ks vs e)) ∙ q))
+
+  by-finish : (n : ℕ) → performs program bs area r m finish .answer ≡ refused 24 n → Begins g (kinds ts) × (OneStart g → TokenString g (kinds ts) → ⊥)
   by-finish n k =
       let q = called finish 24 n k (λ z. omega arith) in
       let o = open-run finish 24 n (λ z. omega arith) q in
-      (finish-begins s m₀ ts r m o, finish-none s m₀ ts r m o n q)
+      subst (λ z. Begins g z × (OneStart g → TokenString g z → ⊥)) (kinds-of-tokens g ts) (finish-begins s m₀ (leaves g ts) r m o, finish-none s m₀ (leaves g ts) r m o n q)
 
 pub marked-begins : MarkedBegins
-marked-begins program bs area g m₀ ts isOver r m a h = ((λ us n k. let v = by-feed program bs area g m₀ ts isOver r m a h us n k in (v .0, v .1)), (λ n k. by-finish program bs area g m₀ ts isOver r m a h n k .0))
+marked-begins program bs area g m₀ ts isOver r m a h = ((λ ks vs n t k. let v = by-feed program bs area g m₀ ts isOver r m a h ks vs n t k in (v .0, v .1)), (λ n k. by-finish program bs area g m₀ ts isOver r m a h n k .0))
 
 pub marked-by-start : MarkedByStart
 marked-by-start program bs area g m₀ ts isOver r m a one h =
-    ((λ us n k. let v = by-feed program bs area g m₀ ts isOver r m a h us n k in (v .0, v .1, v .2 one)), (λ n k. let v = by-finish program bs area g m₀ ts isOver r m a h n k in (v .0, v .1 one)))
+    ((λ ks vs n t k. let v = by-feed program bs area g m₀ ts isOver r m a h ks vs n t k in (v .0, v .1, v .2 one)), (λ n k. let v = by-finish program bs area g m₀ ts isOver r m a h n k in (v .0, v .1 one)))
 
 pub marked-token : MarkedToken
 marked-token program bs area g m₀ ts isOver r m a plain h = marked-by-start program bs area g m₀ ts isOver r m a (unconditional-starts (accepted-sane bs g a) plain) h

@@ -3,7 +3,7 @@ use Prim.Native.Nat.{ℕ, zero, suc, _≤_, _<_}
 use native.Mathlib.Omega.{arith}
 use mathlib.Core.Path.{_≡_, refl, sym, ap, _∙_, subst}
 use mathlib.Core.Bool.{Bool, true, false, _&&_, _||_, not}
-use mathlib.Core.List.{List, [], _∷_}
+use mathlib.Core.List.{List, [], _∷_, map}
 use lib.ListN.{length, replicate}
 use lib.Dec.{T, eqb, eqb→eq, eqb-refl}
 use lib.IntN.{ℤ, pos}
@@ -19,6 +19,7 @@ use Rattle.meaning.specs.Decide.{meet}
 use Rattle.meaning.specs.Judgement.{accepted, Accepted}
 use Rattle.meaning.specs.Calls.{Stacks, Called, more, refused, openOf}
 use Rattle.meaning.specs.PublicCalls.{Call, feed, finish, callOf, areaLength, written, Effect, effect, opens, performs}
+use Rattle.meaning.specs.CallStatements.{Lendable, Even, tokensOf}
 use Rattle.meaning.specs.Statements.{History, opened, fed}
 use Rattle.meaning.specs.MarkedToken.{TokenString, Begins, FirstImpossible, Unfinished, Unconditional, OneStart, MarkedWhere}
 use Rattle.theory_base.specs.Members.{and, in-from, all-in, same-true}
@@ -58,6 +59,13 @@ stateOf (malformed n o) = nothingRead
 abbrev lent : Stacks
 lent = record { registers = replicate 20 mark; places = replicate 9 0 }
 
+-- kinds, with 0 for every value
+abbrev zeros : List ℕ → List ℤ
+zeros ks = map (λ k. pos 0) ks
+
+abbrev feedKinds : List ℕ → Call
+feedKinds ks = feed ks (zeros ks)
+
 module _ (bs : List ℕ) (g : Grammar) (a : Accepted bs g) (program : Grammar → List ℕ) (area : List ℕ) (l : areaLength ≤ length area) where
   abbrev start : Effect
   start = opens program bs area lent
@@ -72,22 +80,22 @@ module _ (bs : List ℕ) (g : Grammar) (a : Accepted bs g) (program : Grammar �
   call-by c = ap (λ z. performs program bs area (z .state) (z .stacks) c) starts-by ∙ performs-is program bs g a area (openOf g lent .state) (openOf g lent .stacks) c l
 
   abbrev last : List ℕ → Called
-  last ts = callOf g (openOf g lent .state) (openOf g lent .stacks) (feed ts)
+  last ks = callOf g (openOf g lent .state) (openOf g lent .stacks) (feedKinds ks)
 
   -- a finish behind one feed
-  finish-by : (ts : List ℕ) → performs program bs area (call (feed ts) .state) (call (feed ts) .stacks) finish ≡ effect (callOf g (last ts .state) (last ts .stacks) finish) (written (program g) area)
-  finish-by ts = ap (λ z. performs program bs area (z .state) (z .stacks) finish) (call-by (feed ts)) ∙ performs-is program bs g a area (last ts .state) (last ts .stacks) finish l
+  finish-by : (ks : List ℕ) → performs program bs area (call (feedKinds ks) .state) (call (feedKinds ks) .stacks) finish ≡ effect (callOf g (last ks .state) (last ks .stacks) finish) (written (program g) area)
+  finish-by ks = ap (λ z. performs program bs area (z .state) (z .stacks) finish) (call-by (feedKinds ks)) ∙ performs-is program bs g a area (last ks .state) (last ks .stacks) finish l
 
   begun : openOf g lent .answer ≡ more 0 → History program bs lent [] false (start .state) (start .stacks)
   begun e = opened area (ap (λ z. z .answer) starts-by ∙ e)
 
-  onward : openOf g lent .answer ≡ more 0 → openOf g lent .state .isOpen ≡ true → (ts : List ℕ) → History program bs lent ts false (call (feed ts) .state) (call (feed ts) .stacks)
-  onward e o ts = fed area ts (begun e) l (ap (λ z. z .state .isOpen) starts-by ∙ o)
+  onward : openOf g lent .answer ≡ more 0 → openOf g lent .state .isOpen ≡ true → (ks : List ℕ) → Lendable (feedKinds ks) → Even (feedKinds ks) → History program bs lent (tokensOf (feedKinds ks)) false (call (feedKinds ks) .state) (call (feedKinds ks) .stacks)
+  onward e o ks t even = fed area ks (zeros ks) t even (begun e) l (ap (λ z. z .state .isOpen) starts-by ∙ o)
 
 -- ---- words and tags without its entry condition
 
 abbrev plain : Grammar
-plain = record { terminals = 3; counts = words .counts; start = 0; result = 1; productions = p0 ∷ p1 ∷ record { left = 1; right = p2 .right; rules = p2 .rules; conditions = [] } ∷ p3 ∷ [] }
+plain = record { terminals = 3; counts = words .counts; carrying = []; start = 0; result = 1; productions = p0 ∷ p1 ∷ record { left = 1; right = p2 .right; rules = p2 .rules; conditions = [] } ∷ p3 ∷ [] }
 
 unfoldable plainTable : List ℕ
 plainTable =
@@ -124,13 +132,15 @@ module _ (program : Grammar → List ℕ) (area : List ℕ) (l : areaLength ≤ 
   word-close : FirstImpossible plain (0 ∷ 2 ∷ 0 ∷ []) 1
   word-close =
       let e = start plainTable plain plain-accepted program area l in
-      marked-token program plainTable area plain lent [] false (e .state) (e .stacks) plain-accepted no-entries (begun plainTable plain plain-accepted program area l refl) .0 (0 ∷ 2 ∷ 0 ∷ []) 1 (ap (λ z. z .answer) (call-by plainTable plain plain-accepted program area l (feed (0 ∷ 2 ∷ 0 ∷ []))))
+      let m = marked-token program plainTable area plain lent [] false (e .state) (e .stacks) plain-accepted no-entries (begun plainTable plain plain-accepted program area l refl) in
+      m .0 (0 ∷ 2 ∷ 0 ∷ []) (zeros (0 ∷ 2 ∷ 0 ∷ [])) 1 tt (ap (λ z. z .answer) (call-by plainTable plain plain-accepted program area l (feedKinds (0 ∷ 2 ∷ 0 ∷ []))))
 
   -- word, open, and the end: 24
   word-open : Unfinished plain (0 ∷ 1 ∷ [])
   word-open =
-      let e = call plainTable plain plain-accepted program area l (feed (0 ∷ 1 ∷ [])) in
-      marked-token program plainTable area plain lent (0 ∷ 1 ∷ []) false (e .state) (e .stacks) plain-accepted no-entries (onward plainTable plain plain-accepted program area l refl refl (0 ∷ 1 ∷ [])) .1 2 (ap (λ z. z .answer) (finish-by plainTable plain plain-accepted program area l (0 ∷ 1 ∷ [])))
+      let e = call plainTable plain plain-accepted program area l (feedKinds (0 ∷ 1 ∷ [])) in
+      let h = onward plainTable plain plain-accepted program area l refl refl (0 ∷ 1 ∷ []) tt refl in
+      marked-token program plainTable area plain lent (tokensOf (feedKinds (0 ∷ 1 ∷ []))) false (e .state) (e .stacks) plain-accepted no-entries h .1 2 (ap (λ z. z .answer) (finish-by plainTable plain plain-accepted program area l (0 ∷ 1 ∷ [])))
 
 -- ---- words and tags itself: it has an entry condition, and its sets never meet
 
@@ -146,7 +156,8 @@ module _ (program : Grammar → List ℕ) (area : List ℕ) (l : areaLength ≤ 
   close-close : FirstImpossible words (1 ∷ 2 ∷ 2 ∷ []) 2
   close-close =
       let e = start bytes words words-accepted program area l in
-      marked-by-start program bytes area words lent [] false (e .state) (e .stacks) words-accepted words-apart (begun bytes words words-accepted program area l refl) .0 (1 ∷ 2 ∷ 2 ∷ []) 2 (ap (λ z. z .answer) (call-by bytes words words-accepted program area l (feed (1 ∷ 2 ∷ 2 ∷ []))))
+      let m = marked-by-start program bytes area words lent [] false (e .state) (e .stacks) words-accepted words-apart (begun bytes words words-accepted program area l refl) in
+      m .0 (1 ∷ 2 ∷ 2 ∷ []) (zeros (1 ∷ 2 ∷ 2 ∷ [])) 2 tt (ap (λ z. z .answer) (call-by bytes words words-accepted program area l (feedKinds (1 ∷ 2 ∷ 2 ∷ []))))
 
 -- ---- entry conditions that choose between alternatives of one token: L to a b where d is 0, to a c where d is 1; S enters it with d = 0
 
@@ -154,6 +165,7 @@ abbrev chosen : Grammar
 chosen = record {
   terminals = 3;
   counts = words .counts;
+  carrying = [];
   start = 0;
   result = 1;
   productions =
@@ -187,7 +199,8 @@ chosen-accepted = record { state = stateOf (readTable chosenTable); isRead = ref
 premise-needed : (program : Grammar → List ℕ) (area : List ℕ) → areaLength ≤ length area → MarkedWhere (λ g. Unit {0}) → ⊥
 premise-needed program area l claim =
     let e = start chosenTable chosen chosen-accepted program area l in
-    let v = claim program chosenTable area chosen lent [] false (e .state) (e .stacks) chosen-accepted tt (begun chosenTable chosen chosen-accepted program area l refl) .0 (0 ∷ 2 ∷ []) 1 (ap (λ z. z .answer) (call-by chosenTable chosen chosen-accepted program area l (feed (0 ∷ 2 ∷ [])))) in
+    let c = claim program chosenTable area chosen lent [] false (e .state) (e .stacks) chosen-accepted tt (begun chosenTable chosen chosen-accepted program area l refl) in
+    let v = c .0 (0 ∷ 2 ∷ []) (zeros (0 ∷ 2 ∷ [])) 1 tt (ap (λ z. z .answer) (call-by chosenTable chosen chosen-accepted program area l (feedKinds (0 ∷ 2 ∷ [])))) in
     v .2 ([], step 0 [] [] (omega arith) (step 2 [] [] (omega arith) itself))
 
 -- a 22 marks a token that can stand there, conditions aside: the fourth open
@@ -201,8 +214,8 @@ abbrev L : Symbol
 L = nonterminal 1
 
 module _ (program : Grammar → List ℕ) (area : List ℕ) (l : areaLength ≤ length area) where
-  fourth-open : (call bytes words words-accepted program area l (feed (1 ∷ 1 ∷ 1 ∷ 1 ∷ [])) .answer ≡ refused 22 3) × Begins words (1 ∷ 1 ∷ 1 ∷ 1 ∷ [])
-  fourth-open = (ap (λ z. z .answer) (call-by bytes words words-accepted program area l (feed (1 ∷ 1 ∷ 1 ∷ 1 ∷ []))), (2 ∷ 2 ∷ 2 ∷ 2 ∷ [], nested))
+  fourth-open : (call bytes words words-accepted program area l (feedKinds (1 ∷ 1 ∷ 1 ∷ 1 ∷ [])) .answer ≡ refused 22 3) × Begins words (1 ∷ 1 ∷ 1 ∷ 1 ∷ [])
+  fourth-open = (ap (λ z. z .answer) (call-by bytes words words-accepted program area l (feedKinds (1 ∷ 1 ∷ 1 ∷ 1 ∷ []))), (2 ∷ 2 ∷ 2 ∷ 2 ∷ [], nested))
     where
       nested : TokenString words (1 ∷ 1 ∷ 1 ∷ 1 ∷ 2 ∷ 2 ∷ 2 ∷ 2 ∷ [])
       nested =

@@ -7,9 +7,9 @@ use mathlib.Core.List.{List, [], _∷_, _++_, map, append-assoc, map-append}
 use lib.ListN.{length, length-append}
 use lib.Dec.{T, ltb→lt, lt→ltb}
 use Rattle.meaning.specs.Base.{all}
-use Rattle.meaning.specs.Grammar.{Symbol, terminal, nonterminal, Grammar, nonterminalCount, Look, token}
+use Rattle.meaning.specs.Grammar.{Symbol, terminal, nonterminal, Grammar, nonterminalCount, Leaf}
 use Rattle.meaning.specs.Derivation.{Derives, itself, step, startForm}
-use Rattle.meaning.specs.Machine.{Config, Lent, moved, next, opening}
+use Rattle.meaning.specs.Machine.{Config, Lent, Coming, comes, moved, next, opening}
 use Rattle.meaning.specs.Rules.{WellFormed}
 use Rattle.theory_base.specs.Members.{and, both}
 use Rattle.theory_sets.specs.Accepted.{Sane}
@@ -19,7 +19,7 @@ use Rattle.theory_sets.specs.Productions.{known}
 use Rattle.theory_sets.specs.Tests.{all-right}
 use Rattle.theory_sound.specs.Follow.{Kept}
 use Rattle.meaning.specs.MarkedToken.{Begins}
-use Rattle.theory_marked.specs.Remaining.{remaining, Passes, stays, reads, predicts, passes}
+use Rattle.theory_marked.specs.Remaining.{kindsOf, remaining, Passes, stays, reads, predicts, passes}
 
 -- ---- what is derived begins a token string
 
@@ -44,26 +44,27 @@ module _ {g : Grammar} (s : Sane g) where
 -- ---- moves
 
 -- ts were read
-pub record Ahead (g : Grammar) (ts : List ℕ) (c : Config) : Type 0 where
-  pub derived : Derives g (startForm g) (map terminal ts ++ remaining (c .frames))
+pub record Ahead (g : Grammar) (ts : List Leaf) (c : Config) : Type 0 where
+  pub derived : Derives g (startForm g) (map terminal (kindsOf ts) ++ remaining (c .frames))
   pub tokens : length ts ≡ c .tokens
 
 pub opening-ahead : (g : Grammar) → Ahead g [] (opening g)
 opening-ahead g = record { derived = itself; tokens = refl }
 
-abbrev Onward : Grammar → Look → List ℕ → ℕ → List Symbol → ℕ → Type 0
+abbrev Onward : Grammar → Coming → List Leaf → ℕ → List Symbol → ℕ → Type 0
 Onward g l ts n ys m =
-    (Derives g (startForm g) (map terminal ts ++ ys) × (length ts ≡ m) × (n ≡ m))
-    ⊎ ((t : ℕ) × (l ≡ token t) × Derives g (startForm g) (map terminal (ts ++ (t ∷ [])) ++ ys) × (length (ts ++ (t ∷ [])) ≡ m))
+    (Derives g (startForm g) (map terminal (kindsOf ts) ++ ys) × (length ts ≡ m) × (n ≡ m))
+    ⊎ ((t : Leaf) × (l ≡ comes t) × Derives g (startForm g) (map terminal (kindsOf (ts ++ (t ∷ []))) ++ ys) × (length (ts ++ (t ∷ [])) ≡ m))
 
-onward : {g : Grammar} {l : Look} {xs ys : List Symbol} {n m : ℕ} (ts : List ℕ) → Passes g l xs n ys m → Derives g (startForm g) (map terminal ts ++ xs) → length ts ≡ n → Onward g l ts n ys m
+onward : {g : Grammar} {l : Coming} {xs ys : List Symbol} {n m : ℕ} (ts : List Leaf) → Passes g l xs n ys m → Derives g (startForm g) (map terminal (kindsOf ts) ++ xs) → length ts ≡ n → Onward g l ts n ys m
 onward ts stays d e = inl (d, e, refl)
 onward {g} ts (reads t {xs} {n} h) d e =
-    let j : map terminal ts ++ (terminal t ∷ xs) ≡ map terminal (ts ++ (t ∷ [])) ++ xs = sym (append-assoc (map terminal ts) (terminal t ∷ []) xs) ∙ ap (λ z. z ++ xs) (sym (map-append terminal ts (t ∷ []))) in
+    let k : map terminal (kindsOf ts) ++ (terminal (t .kind) ∷ []) ≡ map terminal (kindsOf (ts ++ (t ∷ []))) = sym (map-append terminal (kindsOf ts) (t .kind ∷ [])) ∙ ap (map terminal) (sym (map-append (λ u. u .kind) ts (t ∷ []))) in
+    let j : map terminal (kindsOf ts) ++ (terminal (t .kind) ∷ xs) ≡ map terminal (kindsOf (ts ++ (t ∷ []))) ++ xs = sym (append-assoc (map terminal (kindsOf ts)) (terminal (t .kind) ∷ []) xs) ∙ ap (λ z. z ++ xs) k in
     inr (t, h, subst (λ z. Derives g (startForm g) z) j d, length-append ts (t ∷ []) ∙ omega (arith, e))
-onward ts (predicts p {xs} l h) d e = inl (joined d (step p (map terminal ts) xs l itself), e, refl)
+onward ts (predicts p {xs} l h) d e = inl (joined d (step p (map terminal (kindsOf ts)) xs l itself), e, refl)
 
-pub ahead-move : (g : Grammar) → WellFormed g → (lent : Lent) (l : Look) (ts : List ℕ) (c d : Config) → Ahead g ts c → next g lent l c ≡ moved d → Kept (Ahead g) l ts c d
+pub ahead-move : (g : Grammar) → WellFormed g → (lent : Lent) (l : Coming) (ts : List Leaf) (c d : Config) → Ahead g ts c → next g lent l c ≡ moved d → Kept (Ahead g) l ts c d
 ahead-move g w lent l ts c d a h = go (onward ts (passes g w lent l c d h) (a .derived) (a .tokens))
   where
     go : Onward g l ts (c .tokens) (remaining (d .frames)) (d .tokens) → Kept (Ahead g) l ts c d

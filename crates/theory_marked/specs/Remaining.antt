@@ -1,21 +1,39 @@
 -- The symbols that the frames still expect, and what a move does to them.
-use Prim.Native.Nat.{ℕ, suc}
+use Prim.Native.Nat.{ℕ, zero, suc}
 use mathlib.Core.Path.{_≡_, refl, sym, ap, _∙_, subst}
 use mathlib.Core.Bool.{Bool, true, false, not}
-use mathlib.Core.List.{List, [], _∷_, _++_}
+use mathlib.Core.List.{List, [], _∷_, _++_, map}
 use lib.ListN.{length, drop}
 use lib.Dec.{T, eqb, ltb}
 use Rattle.meaning.specs.Base.{consIf, countFrom, isEmpty}
-use Rattle.meaning.specs.Grammar.{Symbol, terminal, nonterminal, Production, Grammar, productionAt, att, Look, token}
+use Rattle.meaning.specs.Grammar.{Symbol, terminal, nonterminal, Production, Grammar, productionAt, addedFor, Leaf, Look, token, over}
 use Rattle.meaning.specs.Derivation.{Listed}
 use Rattle.meaning.specs.Sets.{has, starts, lookNumber}
 use Rattle.meaning.specs.Scheme.{Instruction, add, evaluate, expect, test, remove, symbolsScheme, inheritedRules, synthesizedRules, testsAfter, removed, scheme}
-use Rattle.meaning.specs.Machine.{Frame, Config, Lent, moved, next, parentOnward, schemeAt, isOf, entered, alternatives}
+use Rattle.meaning.specs.Machine.{Frame, Config, Lent, Coming, comes, asLook, lookAt, moved, next, parentOnward, schemeAt, isOf, entered, alternatives}
 use Rattle.meaning.specs.Part.{frame}
 use Rattle.meaning.specs.Rules.{WellFormed}
 use Rattle.theory_base.specs.Members.{both, in-keep}
 use Rattle.theory_base.specs.Frames.{scheme-listed}
 use Rattle.theory_base.specs.Steps.{at-hand, Result, result, Predicted}
+
+-- ---- kinds: all that a derivation says of tokens
+
+abbrev pub kindsOf : List Leaf → List ℕ
+kindsOf us = map (λ u. u .kind) us
+
+abbrev pub lookOf : List ℕ → Look
+lookOf [] = over
+lookOf (t ∷ ts) = token t
+
+pub look-kinds : (us : List Leaf) → asLook (lookAt us) ≡ lookOf (kindsOf us)
+look-kinds [] = refl
+look-kinds (u ∷ us) = refl
+
+pub kinds-drop : (n : ℕ) (us : List Leaf) → kindsOf (drop n us) ≡ drop n (kindsOf us)
+kinds-drop zero us = refl
+kinds-drop (suc n) [] = refl
+kinds-drop (suc n) (u ∷ us) = kinds-drop n us
 
 -- ---- what is expected
 
@@ -49,7 +67,7 @@ expected-symbols g p k (x ∷ xs) tail e =
     let later : List Instruction = symbolsScheme g p (suc k) xs tail in
     let waits : List Instruction = expect x ∷ consIf (not (isEmpty (testsAfter g p k))) (test (testsAfter g p k)) later in
     let hands : List Instruction = consIf (not (isEmpty (inheritedRules g p k))) (evaluate (inheritedRules g p k)) waits in
-    skip (ltb 0 (att g x)) (add (att g x)) hands refl
+    skip (ltb 0 (addedFor g x)) (add (addedFor g x)) hands refl
     ∙ (skip (not (isEmpty (inheritedRules g p k))) (evaluate (inheritedRules g p k)) waits refl
     ∙ ap {B = List Symbol} (λ l. x ∷ l) (skip (not (isEmpty (testsAfter g p k))) (test (testsAfter g p k)) later refl ∙ expected-symbols g p (suc k) xs tail e))
 
@@ -64,26 +82,26 @@ expected-at g w p l = ap expected (scheme-listed g w p l) ∙ expected-scheme g 
 -- ---- a move
 
 -- with l to come, and so many tokens read: what is expected stays, or begins with the token that is read, or with a nonterminal for which an alternative's right side comes in
-pub data Passes (g : Grammar) (l : Look) : List Symbol → ℕ → List Symbol → ℕ → Type 0 where
+pub data Passes (g : Grammar) (l : Coming) : List Symbol → ℕ → List Symbol → ℕ → Type 0 where
   stays : {xs : List Symbol} {n : ℕ} → Passes g l xs n xs n
-  reads : (t : ℕ) {xs : List Symbol} {n : ℕ} → l ≡ token t → Passes g l (terminal t ∷ xs) n xs (suc n)
-  predicts : (p : ℕ) {xs : List Symbol} {n : ℕ} → Listed g p → T (has (starts g (productionAt g p)) (lookNumber l)) → Passes g l (nonterminal (productionAt g p .left) ∷ xs) n (productionAt g p .right ++ xs) n
+  reads : (u : Leaf) {xs : List Symbol} {n : ℕ} → l ≡ comes u → Passes g l (terminal (u .kind) ∷ xs) n xs (suc n)
+  predicts : (p : ℕ) {xs : List Symbol} {n : ℕ} → Listed g p → T (has (starts g (productionAt g p)) (lookNumber (asLook l))) → Passes g l (nonterminal (productionAt g p .left) ∷ xs) n (productionAt g p .right ++ xs) n
 
 parent : (fs : List Frame) → expectedBelow fs ≡ remaining (parentOnward fs)
 parent [] = refl
 parent (f ∷ fs) = refl
 
-module _ (g : Grammar) (w : WellFormed g) (lent : Lent) (l : Look) (c d : Config) where
+module _ (g : Grammar) (w : WellFormed g) (lent : Lent) (l : Coming) (c d : Config) where
   abbrev PassesTo : List Frame → Config → Type 0
   PassesTo fs z = Passes g l (remaining fs) (c .tokens) (remaining (z .frames)) (z .tokens)
 
-  by-predict : (p n : ℕ) (is : List Instruction) (fs : List Frame) → c .frames ≡ frame p (expect (nonterminal n) ∷ is) ∷ fs → Predicted g lent n l (c .frames) (c .registers) (c .tokens) (c .moves) d → PassesTo (frame p (expect (nonterminal n) ∷ is) ∷ fs) d
+  by-predict : (p n : ℕ) (is : List Instruction) (fs : List Frame) → c .frames ≡ frame p (expect (nonterminal n) ∷ is) ∷ fs → Predicted g lent n (asLook l) (c .frames) (c .registers) (c .tokens) (c .moves) d → PassesTo (frame p (expect (nonterminal n) ∷ is) ∷ fs) d
   by-predict p n is fs e r =
       let q : ℕ = r .production in
       let xs : List Symbol = expected is ++ expectedBelow fs in
-      let a = in-keep (entered g (c .registers)) (alternatives g n l) q (r .among) .1 in
-      let b = in-keep (isOf g n l) (countFrom 0 (length (g .productions))) q a .0 in
-      let h = both (eqb (productionAt g q .left) n) (has (starts g (productionAt g q)) (lookNumber l)) b .1 in
+      let a = in-keep (entered g (c .registers)) (alternatives g n (asLook l)) q (r .among) .1 in
+      let b = in-keep (isOf g n (asLook l)) (countFrom 0 (length (g .productions))) q a .0 in
+      let h = both (eqb (productionAt g q .left) n) (has (starts g (productionAt g q)) (lookNumber (asLook l))) b .1 in
       let v : Passes g l (nonterminal (productionAt g q .left) ∷ xs) (c .tokens) (productionAt g q .right ++ xs) (c .tokens) = predicts q (r .listed) h in
       let Expected : List Symbol → Type 0 = λ ys. Passes g l (nonterminal (productionAt g q .left) ∷ xs) (c .tokens) (ys ++ xs) (c .tokens) in
       let u : Passes g l (nonterminal n ∷ xs) (c .tokens) (expected (schemeAt g q) ++ xs) (c .tokens) = subst (λ m. Passes g l (nonterminal m ∷ xs) (c .tokens) (expected (schemeAt g q) ++ xs) (c .tokens)) (r .left) (subst Expected (sym (expected-at g w q (r .listed))) v) in
@@ -94,7 +112,7 @@ module _ (g : Grammar) (w : WellFormed g) (lent : Lent) (l : Look) (c d : Config
   by-result p (evaluate rs) is fs e r = subst (PassesTo (frame p (evaluate rs ∷ is) ∷ fs)) (r .1) stays
   by-result p (test cs) is fs e r = subst (PassesTo (frame p (test cs ∷ is) ∷ fs)) (r .1) stays
   by-result p (remove n) is fs e r = subst (PassesTo (frame p (remove n ∷ is) ∷ fs)) r (subst (λ ys. Passes g l (expectedBelow fs) (c .tokens) ys (c .tokens)) (parent fs) stays)
-  by-result p (expect (terminal t)) is fs e r = subst (PassesTo (frame p (expect (terminal t) ∷ is) ∷ fs)) (r .1) (reads t (r .0))
+  by-result p (expect (terminal t)) is fs e r = subst (λ k. PassesTo (frame p (expect (terminal k) ∷ is) ∷ fs) d) (r .kind) (subst (PassesTo (frame p (expect (terminal (r .leaf .kind)) ∷ is) ∷ fs)) (r .result) (reads (r .leaf) (r .ahead)))
   by-result p (expect (nonterminal n)) is fs e r = by-predict p n is fs e r
 
   pub passes : next g lent l c ≡ moved d → PassesTo (c .frames) d

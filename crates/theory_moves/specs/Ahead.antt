@@ -1,10 +1,10 @@
 -- The children that a node in progress still has to come, of a well evaluated tree's node.
-use Prim.Native.Nat.{ℕ, suc, _+_}
+use Prim.Native.Nat.{suc, _+_}
 use native.Mathlib.Omega.{arith}
 use mathlib.Core.Path.{_≡_, refl, sym, ap, ap₂, _∙_, subst}
 use mathlib.Core.List.{List, [], _∷_}
 use lib.ListN.{length, drop}
-use Rattle.meaning.specs.Grammar.{Grammar, Symbol}
+use Rattle.meaning.specs.Grammar.{Grammar, Symbol, Leaf}
 use Rattle.meaning.specs.Tree.{Tree, Forest, noTrees, treeAnd, child, WellEvaluated, WellEvaluateds}
 use Rattle.meaning.specs.Part.{forestOnto}
 use Rattle.theory_base.specs.Values.{child-onto, drop-head}
@@ -26,7 +26,7 @@ ahead-evaluated g (t ∷ ts) f xs w = go (drop (length ts) xs) refl (ahead-evalu
     go [] e v = absurd v
     go (y ∷ ys) e v = subst (WellEvaluateds g f) (sym (drop-head (length ts) xs y y ys e .2)) (v .1)
 
-pub ahead-foreseen : (g : Grammar) (us : List ℕ) (ts : List Tree) (f : Forest) → Foreseens g us (forestOnto ts f) → Foreseens g us f
+pub ahead-foreseen : (g : Grammar) (us : List Leaf) (ts : List Tree) (f : Forest) → Foreseens g us (forestOnto ts f) → Foreseens g us f
 ahead-foreseen g us [] f o = o
 ahead-foreseen g us (t ∷ ts) f o = ahead-foreseen g us ts (treeAnd t f) o .1
 

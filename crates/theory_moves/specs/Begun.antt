@@ -8,9 +8,10 @@ use lib.ListN.{length, drop, replicate}
 use lib.Seq.{drop-cons, drop-at, take-at}
 use lib.IntN.{ℤ}
 use Rattle.meaning.specs.Base.{keep, In}
-use Rattle.meaning.specs.Grammar.{Grammar, Production, Symbol, terminal, nonterminal, inh, syn, productionAt, symbolAt, Look}
+use Rattle.theory_answers.specs.Runs.{look-is}
+use Rattle.meaning.specs.Grammar.{Grammar, Production, Symbol, terminal, nonterminal, inh, syn, productionAt, symbolAt, Leaf}
 use Rattle.meaning.specs.Value.{mark}
-use Rattle.meaning.specs.Machine.{lookAt, alternatives, entered}
+use Rattle.meaning.specs.Machine.{lookAt, alternatives, entered, Coming, asLook, comes}
 use Rattle.meaning.specs.Tree.{Tree, Forest, leaf, node, treeAnd, child, yield, yields, inheritedOf, synthesizedOf, waiting, WellEvaluated, WellEvaluateds}
 use Rattle.meaning.specs.Rules.{WellFormed}
 use Rattle.meaning.specs.Part.{Open, Point, fresh, added, valued, left, closing, Ancestor, Part, yieldsOf, yieldBelow, forestOnto, marks, drawBelow, drawRegisters, Handed, GoodNode, Stands, Good, Reaches, PartOf}
@@ -26,7 +27,7 @@ use Rattle.theory_moves.specs.Determined.{same-handed, same-node}
 pub record Begun (g : Grammar) (t : Tree) (o : Open) (bs : List Ancestor) : Type 0 where
   pub values : List ℤ
   pub ahead : Forest
-  pub rest : List ℕ
+  pub rest : List Leaf
   pub along : Along g t bs (node (o .production) values (forestOnto (o .children) ahead)) rest
   pub inherited : inheritedOf g (node (o .production) values (forestOnto (o .children) ahead)) ≡ o .inherited
 
@@ -34,15 +35,18 @@ cancel : {A : Type 0} (xs ys zs : List A) → xs ++ ys ≡ xs ++ zs → ys ≡ z
 cancel xs ys zs e = sym (drop-at xs ys (length xs) refl) ∙ (ap (drop (length xs)) e ∙ drop-at xs zs (length xs) refl)
 
 -- what is still to come of the tree is what is still to come of the segment
-pub still : (g : Grammar) (t : Tree) (o : Open) (bs : List Ancestor) (b : Begun g t o bs) (ts us : List ℕ) → yieldBelow bs ++ yieldsOf (o .children) ≡ ts → yield t ≡ ts ++ us → yields (b .ahead) ++ b .rest ≡ us
+pub still : (g : Grammar) (t : Tree) (o : Open) (bs : List Ancestor) (b : Begun g t o bs) (ts us : List Leaf) → yieldBelow bs ++ yieldsOf (o .children) ≡ ts → yield t ≡ ts ++ us → yields (b .ahead) ++ b .rest ≡ us
 still g t o bs b ts us r y =
     let own : yields (forestOnto (o .children) (b .ahead)) ++ b .rest ≡ yieldsOf (o .children) ++ (yields (b .ahead) ++ b .rest) = ap (λ z. z ++ b .rest) (yields-onto (o .children) (b .ahead)) ∙ append-assoc (yieldsOf (o .children)) (yields (b .ahead)) (b .rest) in
     let split : yield t ≡ ts ++ (yields (b .ahead) ++ b .rest) = along-yield g t bs _ (b .rest) (b .along) ∙ (ap (λ z. yieldBelow bs ++ z) own ∙ (sym (append-assoc (yieldBelow bs) (yieldsOf (o .children)) (yields (b .ahead) ++ b .rest)) ∙ ap (λ z. z ++ (yields (b .ahead) ++ b .rest)) r)) in
     cancel ts (yields (b .ahead) ++ b .rest) us (sym split ∙ y)
 
-only-leaf : (g : Grammar) (u : Tree) (x : Symbol) (c : ℕ) → WellEvaluated g u x → x ≡ terminal c → u ≡ leaf c
-only-leaf g (leaf d) x c w e = cc
-only-leaf g (node p vs f) x c w e = let s = w .0 .symbol in let z : _≡_ {A = ℕ} 0 1 = cc in absurd (omega arith)
+same-first : (u v : Leaf) (us vs : List Leaf) → u ∷ us ≡ v ∷ vs → u ≡ v
+same-first u v us vs e = cc
+
+only-leaf : (g : Grammar) (u : Tree) (x : Symbol) (k : ℕ) → WellEvaluated g u x → x ≡ terminal k → (d : Leaf) × (u ≡ leaf d)
+only-leaf g (leaf d) x k w e = (d, refl)
+only-leaf g (node p vs f) x k w e = let s = w .0 .symbol in let z : _≡_ {A = ℕ} 0 1 = cc in absurd (omega arith)
 
 module _ (g : Grammar) (formed : WellFormed g) (t : Tree) (w : WellEvaluated g t (nonterminal (g .start))) (fore : Foreseen g [] t) where
   begun-sits : (o : Open) (bs : List Ancestor) (b : Begun g t o bs) → Sits g (o .production) (b .values) (forestOnto (o .children) (b .ahead)) (b .rest)
@@ -69,18 +73,22 @@ module _ (g : Grammar) (formed : WellFormed g) (t : Tree) (w : WellEvaluated g t
     inherited = b .inherited;
   }
 
-  begun-read : (o : Open) (bs : List Ancestor) (c : ℕ) (xs : List Symbol) → Good g (partOf (withChild o (leaf c)) (left xs) bs) → Begun g t o bs → Begun g t (withChild o (leaf c)) bs
-  begun-read o bs c xs gd b =
+  -- the token read is the tree's: its kind and its values
+  begun-read : (o : Open) (bs : List Ancestor) (c : Leaf) (xs : List Symbol) → Good g (partOf (withChild o (leaf c)) (left xs) bs) → (us : List Leaf) → lookAt us ≡ comes c → (b : Begun g t o bs) → yields (b .ahead) ++ b .rest ≡ us → Begun g t (withChild o (leaf c)) bs
+  begun-read o bs c xs gd us look b pos =
       let p : Production = productionAt g (o .production) in
       let l = gd .node .0 .lefts in
       let k = length (o .children) in
       let n = next-of o bs b (symbolAt p (suc k)) (drop (suc k) (p .right)) (drop-cons (p .right) k (terminal 0) (l .0)) in
-      begun-more o bs b (leaf c) (n .after) (n .isNext ∙ ap (λ u. treeAnd u (n .after)) (only-leaf g (n .tree) (symbolAt p (suc k)) c (n .evaluated) (l .1)))
+      let d = only-leaf g (n .tree) (symbolAt p (suc k)) (c .kind) (n .evaluated) (l .1 .0) in
+      let z : d .0 ∷ (yields (n .after) ++ b .rest) ≡ c ∷ drop 1 us = ap (λ u. yields (treeAnd u (n .after)) ++ b .rest) (sym (d .1)) ∙ (ap (λ y. yields y ++ b .rest) (sym (n .isNext)) ∙ (pos ∙ look-is us c look)) in
+      let e : d .0 ≡ c = same-first (d .0) c (yields (n .after) ++ b .rest) (drop 1 us) z in
+      begun-more o bs b (leaf c) (n .after) (n .isNext ∙ ap (λ u. treeAnd u (n .after)) (d .1 ∙ ap leaf e))
 
   -- ---- the production predicted is the tree's
 
-  same-production : (o : Open) (bs : List Ancestor) (p q : ℕ) (vs ws : List ℤ) (h f : Forest) (rest us : List ℕ) (ys xs : List Symbol) (x : Symbol) → x ≡ nonterminal (productionAt g p .left) → WellEvaluated g (node q ws h) x → Chosen g (yields f ++ rest) q ws h → inheritedOf g (node q ws h) ≡ vs → yields (treeAnd (node q ws h) f) ++ rest ≡ us
-      → In p (keep (entered g (drawRegisters g (partOf (nodeOf p vs []) (fresh ys) (waitingAt o x xs ∷ bs)))) (alternatives g (productionAt g p .left) (lookAt us))) → p ≡ q
+  same-production : (o : Open) (bs : List Ancestor) (p q : ℕ) (vs ws : List ℤ) (h f : Forest) (rest us : List Leaf) (ys xs : List Symbol) (x : Symbol) → x ≡ nonterminal (productionAt g p .left) → WellEvaluated g (node q ws h) x → Chosen g (yields f ++ rest) q ws h → inheritedOf g (node q ws h) ≡ vs → yields (treeAnd (node q ws h) f) ++ rest ≡ us
+      → In p (keep (entered g (drawRegisters g (partOf (nodeOf p vs []) (fresh ys) (waitingAt o x xs ∷ bs)))) (alternatives g (productionAt g p .left) (asLook (lookAt us)))) → p ≡ q
   same-production o bs p q vs ws h f rest us ys xs x e v c i pos pick = one (subst (In p) (same ∙ c below) pick)
     where
       below : List ℤ
@@ -102,8 +110,8 @@ module _ (g : Grammar) (formed : WellFormed g) (t : Tree) (w : WellEvaluated g t
       stream : us ≡ yields h ++ (yields f ++ rest)
       stream = sym pos ∙ append-assoc (yields h) (yields f) rest
 
-      same : keep (entered g (drawRegisters g (partOf (nodeOf p vs []) (fresh ys) (waitingAt o x xs ∷ bs)))) (alternatives g (productionAt g p .left) (lookAt us)) ≡ keep (entered g (waiting g (node q ws h) ++ below)) (alternatives g (productionAt g q .left) (lookAt (yields h ++ (yields f ++ rest))))
-      same = λ j. keep (entered g (registers j)) (alternatives g (lefts j) (lookAt (stream j)))
+      same : keep (entered g (drawRegisters g (partOf (nodeOf p vs []) (fresh ys) (waitingAt o x xs ∷ bs)))) (alternatives g (productionAt g p .left) (asLook (lookAt us))) ≡ keep (entered g (waiting g (node q ws h) ++ below)) (alternatives g (productionAt g q .left) (asLook (lookAt (yields h ++ (yields f ++ rest)))))
+      same = λ j. keep (entered g (registers j)) (alternatives g (lefts j) (asLook (lookAt (stream j))))
 
   begun-below : (o : Open) (bs : List Ancestor) (b : Begun g t o bs) (p : ℕ) (ws vs : List ℤ) (h f : Forest) (x : Symbol) (xs : List Symbol) → b .ahead ≡ treeAnd (node p ws h) f → inheritedOf g (node p ws h) ≡ vs → Begun g t (nodeOf p vs []) (waitingAt o x xs ∷ bs)
   begun-below o bs b p ws vs h f x xs e i = record {
@@ -121,8 +129,8 @@ module _ (g : Grammar) (formed : WellFormed g) (t : Tree) (w : WellEvaluated g t
     inherited = i;
   }
 
-  begun-predict : (o : Open) (bs : List Ancestor) (p : ℕ) (vs : List ℤ) (ys : List Symbol) (x : Symbol) (xs : List Symbol) (us : List ℕ) → Good g (partOf (nodeOf p vs []) (fresh ys) (waitingAt o x xs ∷ bs))
-      → In p (keep (entered g (drawRegisters g (partOf (nodeOf p vs []) (fresh ys) (waitingAt o x xs ∷ bs)))) (alternatives g (productionAt g p .left) (lookAt us)))
+  begun-predict : (o : Open) (bs : List Ancestor) (p : ℕ) (vs : List ℤ) (ys : List Symbol) (x : Symbol) (xs : List Symbol) (us : List Leaf) → Good g (partOf (nodeOf p vs []) (fresh ys) (waitingAt o x xs ∷ bs))
+      → In p (keep (entered g (drawRegisters g (partOf (nodeOf p vs []) (fresh ys) (waitingAt o x xs ∷ bs)))) (alternatives g (productionAt g p .left) (asLook (lookAt us))))
       → (b : Begun g t o bs) → yields (b .ahead) ++ b .rest ≡ us → Begun g t (nodeOf p vs []) (waitingAt o x xs ∷ bs)
   begun-predict o bs p vs ys x xs us gd pick b pos = go (n .tree) (n .isNext) (n .evaluated) (subst (Foreseens g (b .rest)) (n .isNext) (ahead-foreseen g (b .rest) (o .children) (b .ahead) (begun-sits o bs b .foreseen)) .0) (ap (inheritedOf g) (sym (ap (λ z. child (forestOnto (o .children) z) (length (o .children))) (n .isNext) ∙ ahead-child (o .children) (n .tree) (n .after))) ∙ next-handed o bs b x vs xs gn)
     where
@@ -133,7 +141,7 @@ module _ (g : Grammar) (formed : WellFormed g) (t : Tree) (w : WellEvaluated g t
       n = next-of o bs b x xs (gn .1 .0)
 
       go : (u : Tree) → b .ahead ≡ treeAnd u (n .after) → WellEvaluated g u x → Foreseen g (yields (n .after) ++ b .rest) u → inheritedOf g u ≡ vs → Begun g t (nodeOf p vs []) (waitingAt o x xs ∷ bs)
-      go (leaf c) e v k i = let s : x ≡ nonterminal (productionAt g p .left) = gd .stands .1 in let z : _≡_ {A = ℕ} 0 1 = cc in absurd (omega arith)
+      go (leaf c) e v k i = let v′ = v .0 in let s : x ≡ nonterminal (productionAt g p .left) = gd .stands .1 in let z : _≡_ {A = ℕ} 0 1 = cc in absurd (omega arith)
       go (node q ws h) e v k i =
           let same : p ≡ q = same-production o bs p q vs ws h (n .after) (b .rest) us ys xs x (gd .stands .1) v (k .0) i (ap (λ z. yields z ++ b .rest) (sym e) ∙ pos) pick in
           subst (λ z. Begun g t (nodeOf z vs []) (waitingAt o x xs ∷ bs)) (sym same) (begun-below o bs b q ws vs h (n .after) x xs e i)
@@ -154,13 +162,13 @@ module _ (g : Grammar) (formed : WellFormed g) (t : Tree) (w : WellEvaluated g t
 
   -- ---- a move
 
-  pub begun-move : {m : Look} {o : Open} {bs : List Ancestor} {q : Part} → Grown m o bs q → Good g q → length (o .inherited) ≡ inh g (nonterminal (productionAt g (o .production) .left)) → (us : List ℕ)
-      → (length bs < length (q .below) → In (q .node .production) (keep (entered g (drawRegisters g q)) (alternatives g (productionAt g (q .node .production) .left) (lookAt us))))
+  pub begun-move : {m : Coming} {o : Open} {bs : List Ancestor} {q : Part} → Grown m o bs q → Good g q → length (o .inherited) ≡ inh g (nonterminal (productionAt g (o .production) .left)) → (us : List Leaf) → lookAt us ≡ m
+      → (length bs < length (q .below) → In (q .node .production) (keep (entered g (drawRegisters g q)) (alternatives g (productionAt g (q .node .production) .left) (asLook (lookAt us)))))
       → (b : Begun g t o bs) → yields (b .ahead) ++ b .rest ≡ us → Begun g t (q .node) (q .below)
-  begun-move (within l pt) gd s us pick b pos = b
-  begun-move (reads {o} {bs} c xs) gd s us pick b pos = begun-read o bs c xs gd b
-  begun-move (predicts {o} {bs} l p vs ys x xs) gd s us pick b pos = begun-predict o bs p vs ys x xs us gd (pick (omega arith)) b pos
-  begun-move (removes {o} {b = a} {bs} l ss) gd s us pick b pos = begun-remove o a bs ss s gd b
+  begun-move (within l pt) gd s us look pick b pos = b
+  begun-move (reads {o} {bs} c xs) gd s us look pick b pos = begun-read o bs c xs gd us look b pos
+  begun-move (predicts {o} {bs} l p vs ys x xs) gd s us look pick b pos = begun-predict o bs p vs ys x xs us gd (pick (omega arith)) b pos
+  begun-move (removes {o} {b = a} {bs} l ss) gd s us look pick b pos = begun-remove o a bs ss s gd b
 
   -- ---- it is a part of the tree, wherever its point is
 

@@ -9,14 +9,15 @@ use lib.ListN.{length, drop, length-append}
 use lib.Dec.{eqb, ltb}
 use lib.IntN.{ℤ}
 use Rattle.meaning.specs.Base.{consIf, isEmpty}
-use Rattle.meaning.specs.Grammar.{Grammar, Symbol, Rule, terminal, nonterminal, att, productionAt, whole, Look, token}
+use Rattle.meaning.specs.Grammar.{Grammar, Symbol, Rule, terminal, nonterminal, addedFor, productionAt, whole, Leaf}
 use Rattle.meaning.specs.Scheme.{Instruction, add, evaluate, expect, test, remove, scheme, inheritedRules, synthesizedRules, testsAfter, removed}
-use Rattle.meaning.specs.Machine.{Frame, Config, Lent, moved, next, isExpect, parentOnward, schemeAt}
+use Rattle.meaning.specs.Machine.{Frame, Config, Lent, moved, next, isExpect, parentOnward, schemeAt, Coming}
 use Rattle.meaning.specs.Tree.{Tree, Forest, leaf, node, noTrees, treeAnd, child}
 use Rattle.meaning.specs.Rules.{WellFormed}
 use Rattle.meaning.specs.Part.{Open, Point, fresh, added, valued, left, closing, Ancestor, Part, yieldsOf, yieldBelow, yieldPart, forestOnto, tailIf, freshRest, leftRest, waitRest, drawRest, frame, drawFrames, childrenOf, nodeOn}
 use Rattle.meaning.specs.Walk.{Act, performs, walkOn, topProduction, actBy}
 use Rattle.meaning.specs.Walk as Walk
+use Rattle.meaning.specs.Machine as Machine
 use Rattle.theory_base.specs.Values.{treeOf}
 use Rattle.theory_base.specs.Frames.{scheme-listed}
 use Rattle.theory_base.specs.Steps.{move-of, Result, result}
@@ -100,7 +101,7 @@ module _ (g : Grammar) (o : Open) (n : ℕ) (is : List Instruction) where
 
   last-fresh : (k : ℕ) (xs : List Symbol) → freshRest g (o .production) k xs ≡ remove n ∷ is → is ≡ []
   last-fresh k [] e = last-tail (eqb (o .production) whole) e
-  last-fresh k (x ∷ xs) e = last-added k x xs (past (ltb 0 (att g x)) (add (att g x)) (consIf (not (isEmpty (inheritedRules g (productionAt g (o .production)) (suc k)))) (evaluate (inheritedRules g (productionAt g (o .production)) (suc k))) (waitRest g (o .production) k x xs)) is n (λ j w. let z : _≡_ {A = ℕ} 0 1 = cc in omega arith) e)
+  last-fresh k (x ∷ xs) e = last-added k x xs (past (ltb 0 (addedFor g x)) (add (addedFor g x)) (consIf (not (isEmpty (inheritedRules g (productionAt g (o .production)) (suc k)))) (evaluate (inheritedRules g (productionAt g (o .production)) (suc k))) (waitRest g (o .production) k x xs)) is n (λ j w. let z : _≡_ {A = ℕ} 0 1 = cc in omega arith) e)
 
   last-remove : (pt : Point) → drawRest g o pt ≡ remove n ∷ is → is ≡ []
   last-remove (fresh xs) e = last-fresh (length (o .children)) xs e
@@ -113,19 +114,19 @@ module _ (g : Grammar) (o : Open) (n : ℕ) (is : List Instruction) where
 
 -- ---- what a move did, by its instruction
 
-data Did (g : Grammar) (lent : Lent) (l : Look) (d e : Config) (p : ℕ) (is : List Instruction) (fs : List Frame) : Instruction → Type 0 where
+data Did (g : Grammar) (lent : Lent) (l : Coming) (d e : Config) (p : ℕ) (is : List Instruction) (fs : List Frame) : Instruction → Type 0 where
   -- add, evaluate, test
   inside : (i : Instruction) → isExpect i ≡ 0 → e .frames ≡ frame p is ∷ fs → e .tokens ≡ d .tokens → Did g lent l d e p is fs i
   popped : (n : ℕ) → e .frames ≡ parentOnward fs → Did g lent l d e p is fs (remove n)
-  accepted : (c : ℕ) → l ≡ token c → e .frames ≡ frame p is ∷ fs → e .tokens ≡ suc (d .tokens) → Did g lent l d e p is fs (expect (terminal c))
+  accepted : (u : Leaf) (c : ℕ) → u .kind ≡ c → l ≡ Machine.comes u → e .frames ≡ frame p is ∷ fs → e .tokens ≡ suc (d .tokens) → Did g lent l d e p is fs (expect (terminal c))
   pushed : (n k : ℕ) → k < length (g .productions) → e .frames ≡ frame k (schemeAt g k) ∷ d .frames → Did g lent l d e p is fs (expect (nonterminal n))
 
-did : (g : Grammar) (lent : Lent) (l : Look) (d e : Config) (p : ℕ) (i : Instruction) (is : List Instruction) (fs : List Frame) → Result g lent l d (frame p (i ∷ is)) fs i e → Did g lent l d e p is fs i
+did : (g : Grammar) (lent : Lent) (l : Coming) (d e : Config) (p : ℕ) (i : Instruction) (is : List Instruction) (fs : List Frame) → Result g lent l d (frame p (i ∷ is)) fs i e → Did g lent l d e p is fs i
 did g lent l d e p (add n) is fs r = inside (add n) refl (ap (λ z. z .frames) (sym (r .1))) (ap (λ z. z .tokens) (sym (r .1)))
 did g lent l d e p (evaluate rs) is fs r = inside (evaluate rs) refl (ap (λ z. z .frames) (sym (r .1))) (ap (λ z. z .tokens) (sym (r .1)))
 did g lent l d e p (test cs) is fs r = inside (test cs) refl (ap (λ z. z .frames) (sym (r .1))) (ap (λ z. z .tokens) (sym (r .1)))
 did g lent l d e p (remove n) is fs r = popped n (ap (λ z. z .frames) (sym r))
-did g lent l d e p (expect (terminal c)) is fs r = accepted c (r .0) (ap (λ z. z .frames) (sym (r .1))) (ap (λ z. z .tokens) (sym (r .1)))
+did g lent l d e p (expect (terminal c)) is fs r = accepted (r .leaf) c (r .kind) (r .ahead) (ap (λ z. z .frames) (sym (r .result))) (ap (λ z. z .tokens) (sym (r .result)))
 did g lent l d e p (expect (nonterminal n)) is fs r = pushed n (r .production) (r .listed) (ap (λ z. z .frames) (sym (r .result)))
 
 -- ---- the first of the remaining moves
@@ -142,13 +143,13 @@ module _ (g : Grammar) (t : Tree) (o : Open) (pt : Point) (p : ℕ) (is : List I
       let then : walkOn g p is f ++ w ≡ remaining g t (partOf o pt′ bs) = sym (ap (λ z. walkOn g (topProduction z) (topRest z) f ++ w) new) in
       at-top bs i fs old ∙ (ap (λ z. z ++ w) (performed g p i is f z) ∙ ap₂ _∷_ (sym (act-is p i e z)) then)
 
-  first-read : (bs : List Ancestor) (c : ℕ) (fs : List Frame) (xs : List Symbol) → drawFrames g (partOf o pt bs) ≡ frame p (expect (terminal c) ∷ is) ∷ fs → drawFrames g (partOf (withChild o (leaf c)) (left xs) bs) ≡ frame p is ∷ fs → Begun g t (withChild o (leaf c)) bs → remaining g t (partOf o pt bs) ≡ Walk.reads c ∷ remaining g t (partOf (withChild o (leaf c)) (left xs) bs)
+  first-read : (bs : List Ancestor) (c : Leaf) (fs : List Frame) (xs : List Symbol) → drawFrames g (partOf o pt bs) ≡ frame p (expect (terminal (c .kind)) ∷ is) ∷ fs → drawFrames g (partOf (withChild o (leaf c)) (left xs) bs) ≡ frame p is ∷ fs → Begun g t (withChild o (leaf c)) bs → remaining g t (partOf o pt bs) ≡ Walk.reads (c .kind) ∷ remaining g t (partOf (withChild o (leaf c)) (left xs) bs)
   first-read bs c fs xs old new b =
       let f = comes t bs (suc (length (o .children))) in
       let w = later g t bs in
-      at-top bs (expect (terminal c)) fs old
-      ∙ (ap (λ z. walkOn g p (expect (terminal c) ∷ is) z ++ w) (comes-child g t o (leaf c) bs b)
-      ∙ ap (λ z. Walk.reads c ∷ z) (sym (ap (λ z. walkOn g (topProduction z) (topRest z) f ++ w) new)))
+      at-top bs (expect (terminal (c .kind))) fs old
+      ∙ (ap (λ z. walkOn g p (expect (terminal (c .kind)) ∷ is) z ++ w) (comes-child g t o (leaf c) bs b)
+      ∙ ap (λ z. Walk.reads (c .kind) ∷ z) (sym (ap (λ z. walkOn g (topProduction z) (topRest z) f ++ w) new)))
 
   first-remove : (a : Ancestor) (bs : List Ancestor) (n : ℕ) (fs : List Frame) (ss : List ℤ) → drawFrames g (partOf o pt (a ∷ bs)) ≡ frame p (remove n ∷ is) ∷ fs
       → Begun g t (withChild (a .node) (treeOf (o .production) (o .inherited ++ ss) (o .children))) bs
@@ -182,39 +183,40 @@ module _ (g : Grammar) (t : Tree) (o : Open) (pt : Point) (p : ℕ) (is : List I
 
 -- ---- any move
 
-one-more : (xs ys : List ℕ) (c : ℕ) → length (xs ++ (ys ++ (c ∷ []))) ≡ suc (length (xs ++ ys))
+one-more : (xs ys : List Leaf) (c : Leaf) → length (xs ++ (ys ++ (c ∷ []))) ≡ suc (length (xs ++ ys))
 one-more xs ys c = omega (arith, length-append xs (ys ++ (c ∷ [])), length-append ys (c ∷ []), length-append xs ys)
 
-module _ (g : Grammar) (formed : WellFormed g) (lent : Lent) (l : Look) (t : Tree) (d e : Config) (pt : Point) (p : ℕ) (is : List Instruction) (fs : List Frame) where
-  first-by : {m : Look} {o : Open} {bs : List Ancestor} {q : Part} (i : Instruction) → Grown m o bs q → Did g lent l d e p is fs i → m ≡ l
+module _ (g : Grammar) (formed : WellFormed g) (lent : Lent) (l : Coming) (t : Tree) (d e : Config) (pt : Point) (p : ℕ) (is : List Instruction) (fs : List Frame) where
+  first-by : {m : Coming} {o : Open} {bs : List Ancestor} {q : Part} (i : Instruction) → Grown m o bs q → Did g lent l d e p is fs i → m ≡ l
       → drawFrames g (partOf o pt bs) ≡ frame p (i ∷ is) ∷ fs → d .frames ≡ frame p (i ∷ is) ∷ fs → drawFrames g q ≡ e .frames → length fs ≡ length bs → length (e .frames) ≡ suc (length (q .below))
       → e .tokens + length (yieldBelow bs ++ yieldsOf (o .children)) ≡ d .tokens + length (yieldPart q)
       → Begun g t (q .node) (q .below) → remaining g t (partOf o pt bs) ≡ actBy p i e ∷ remaining g t q
   first-by i (within {o} {bs} k pt′) (inside j z fr tk) m old now new high deep grew b = first-inside g t o pt p is bs i fs pt′ e z old (new ∙ fr)
   first-by i (within k pt′) (popped n fr) m old now new high deep grew b = absurd (omega (arith, high, deep, ap length fr, length-parent fs))
-  first-by i (within k pt′) (accepted c r fr tk) m old now new high deep grew b = absurd (omega (arith, grew, tk))
+  first-by i (within k pt′) (accepted u c q r fr tk) m old now new high deep grew b = absurd (omega (arith, grew, tk))
   first-by i (within k pt′) (pushed n q r fr) m old now new high deep grew b = absurd (omega (arith, high, deep, ap length fr, ap length now))
   first-by i (reads {o} {bs} c xs) (inside j z fr tk) m old now new high deep grew b = absurd (omega (arith, grew, tk, one-more (yieldBelow bs) (yieldsOf (o .children)) c))
   first-by i (reads c xs) (popped n fr) m old now new high deep grew b = absurd (omega (arith, high, deep, ap length fr, length-parent fs))
-  first-by i (reads {o} {bs} c xs) (accepted k r fr tk) m old now new high deep grew b =
-      let same : k ≡ c = cc in
-      first-read g t o pt p is bs c fs xs (old ∙ ap (λ z. frame p (expect (terminal z) ∷ is) ∷ fs) same) (new ∙ fr) b ∙ ap (λ z. Walk.reads z ∷ remaining g t (partOf (withChild o (leaf c)) (left xs) bs)) (sym same)
+  first-by i (reads {o} {bs} c xs) (accepted u k q r fr tk) m old now new high deep grew b =
+      let same : u ≡ c = cc in
+      let kinds : k ≡ c .kind = sym q ∙ ap (λ z. z .kind) same in
+      first-read g t o pt p is bs c fs xs (old ∙ ap (λ z. frame p (expect (terminal z) ∷ is) ∷ fs) kinds) (new ∙ fr) b ∙ ap (λ z. Walk.reads z ∷ remaining g t (partOf (withChild o (leaf c)) (left xs) bs)) (sym kinds)
   first-by i (reads c xs) (pushed n q r fr) m old now new high deep grew b = absurd (omega (arith, high, deep, ap length fr, ap length now))
   first-by i (predicts k q vs ys x xs) (inside j z fr tk) m old now new high deep grew b = absurd (omega (arith, high, deep, ap length fr))
   first-by i (predicts k q vs ys x xs) (popped n fr) m old now new high deep grew b = absurd (omega (arith, high, deep, ap length fr, length-parent fs))
-  first-by i (predicts k q vs ys x xs) (accepted c r fr tk) m old now new high deep grew b = absurd (omega (arith, high, deep, ap length fr))
+  first-by i (predicts k q vs ys x xs) (accepted u c z r fr tk) m old now new high deep grew b = absurd (omega (arith, high, deep, ap length fr))
   first-by i (predicts {o} {bs} k q vs ys x xs) (pushed n j r fr) m old now new high deep grew b = first-predict g t o pt p is bs n fs q j vs ys x xs e formed r old new (fr ∙ ap (λ z. frame j (schemeAt g j) ∷ z) now) b
   first-by i (removes {bs = bs} k ss) (inside j z fr tk) m old now new high deep grew b = absurd (omega (arith, high, deep, ap length fr))
   first-by i (removes {o} {b = a} {bs} k ss) (popped n fr) m old now new high deep grew b = first-remove g t o pt p is a bs n fs ss old b
-  first-by i (removes {bs = bs} k ss) (accepted c r fr tk) m old now new high deep grew b = absurd (omega (arith, high, deep, ap length fr))
+  first-by i (removes {bs = bs} k ss) (accepted u c q r fr tk) m old now new high deep grew b = absurd (omega (arith, high, deep, ap length fr))
   first-by i (removes {bs = bs} k ss) (pushed n q r fr) m old now new high deep grew b = absurd (omega (arith, high, deep, ap length fr, ap length now))
 
-grew-alike : (n k : ℕ) (m : Look) (xs ys : List ℕ) → ((n ≡ k) × (xs ≡ ys)) ⊎ ((c : ℕ) × (m ≡ token c) × (suc n ≡ k) × (xs ++ (c ∷ []) ≡ ys)) → k + length xs ≡ n + length ys
+grew-alike : (n k : ℕ) (m : Coming) (xs ys : List Leaf) → ((n ≡ k) × (xs ≡ ys)) ⊎ ((c : Leaf) × (m ≡ Machine.comes c) × (suc n ≡ k) × (xs ++ (c ∷ []) ≡ ys)) → k + length xs ≡ n + length ys
 grew-alike n k m xs ys (inl r) = omega (arith, r .0, ap length (r .1))
 grew-alike n k m xs ys (inr r) = omega (arith, r .2, ap length (r .3), length-append xs (r .0 ∷ []))
 
 -- from a configuration that shows a part, to one whose part has begun the tree
-pub first-move : (g : Grammar) → WellFormed g → (lent : Lent) (l : Look) (t : Tree) (ts : List ℕ) (d e : Config) (s : Shows g ts d) (v : Moved g l (s .part .node) (s .part .below) (d .tokens) (d .moves) e)
+pub first-move : (g : Grammar) → WellFormed g → (lent : Lent) (l : Coming) (t : Tree) (ts : List Leaf) (d e : Config) (s : Shows g ts d) (v : Moved g l (s .part .node) (s .part .below) (d .tokens) (d .moves) e)
     → (p : ℕ) (i : Instruction) (is : List Instruction) (fs : List Frame) → d .frames ≡ frame p (i ∷ is) ∷ fs → next g lent l d ≡ moved e
     → Begun g t (v .part .node) (v .part .below) → remaining g t (s .part) ≡ actBy p i e ∷ remaining g t (v .part)
 first-move g formed lent l t ts d e s v p i is fs now h b =

@@ -10,23 +10,23 @@ use Rattle.theory_program.specs.Search.{nextWord, search}
 use Rattle.theory_program.specs.Resuming.{placeAddress}
 
 -- L to open L close L is production 2
-record2 : recordAddress words 2 ≡ 152
+record2 : recordAddress words 2 ≡ 153
 record2 = refl
 
-body2 : bodyAddress words 2 ≡ 190
+body2 : bodyAddress words 2 ≡ 239
 body2 = refl
 
-entry2 : entryAddress words 2 ≡ 194
+entry2 : entryAddress words 2 ≡ 243
 entry2 = refl
 
-scheme2 : schemeAddress words 2 ≡ 197
+scheme2 : schemeAddress words 2 ≡ 246
 scheme2 = refl
 
-close2 : expectAddress words 2 2 ≡ 203
+close2 : expectAddress words 2 2 ≡ 252
 close2 = refl
 
 -- the same as a place; the whole segment's place
-place2 : placeAddress words 514 ≡ 203
+place2 : placeAddress words 514 ≡ 252
 place2 = refl
 
 placeWhole : placeAddress words 32768 ≡ 0

@@ -1,20 +1,21 @@
--- Where everything stands in a list that begins with the program: the words on the whole segment, the directory, the records, the bodies.
-use Prim.Native.Nat.{ℕ, zero, suc, _+_, _-_, _*_, _<_}
+-- Where everything stands in a list that begins with the program: the words on the whole segment, the directory, the records, what places wait at, the bodies.
+use Prim.Native.Nat.{ℕ, zero, suc, _+_, _-_, _*_, _≤_, _<_}
 use native.Mathlib.Omega.{arith}
 use mathlib.Core.Path.{_≡_, refl, sym, ap, _∙_, subst}
 use mathlib.Core.Bool.{not}
+use mathlib.Core.Logic.{inl, inr}
 use mathlib.Core.List.{List, [], _∷_, _++_, map}
-use lib.ListN.{length, getD, take, drop, length-append, length-map, List·getD-append}
+use lib.ListN.{length, getD, take, drop, length-append, length-map, length-replicate, replicate, List·getD-append}
 use lib.Seq.{getD-append-add}
-use Rattle.meaning.specs.Base.{countFrom, total, isEmpty}
-use Rattle.meaning.specs.Grammar.{nonterminal, Production, Grammar, nonterminalCount, productionAt, whole, wholeProduction}
+use Rattle.meaning.specs.Base.{In, countFrom, total, isEmpty}
+use Rattle.meaning.specs.Grammar.{Symbol, nonterminal, syn, Production, Grammar, nonterminalCount, productionAt, whole, wholeProduction}
 use Rattle.meaning.specs.Rules.{WellFormed}
 use Rattle.meaning.specs.Scheme.{evaluate, remove, removed, scheme, entryTests, synthesizedRules}
 use Rattle.meaning.specs.Machine.{expects, schemeAt}
 use Rattle.meaning.specs.Calls.{fromExpect}
 use Rattle.meaning.specs.PublicCalls.{written}
-use Rattle.meaning.specs.Program.{concat, schemeWords, expectsAt, entryWords, schemeOffset, bodyWords, bodySize, bodiesFrom, recordWords, recordsFrom, directoryWord, directory, recordsAddress, bodiesAddress, segmentWords, programOf, symbolHead}
-use Rattle.theory_base.specs.WellFormed.{listed-at}
+use Rattle.meaning.specs.Program.{concat, schemeWords, expectsAt, entryWords, schemeOffset, bodyWords, bodySize, bodiesFrom, recordWords, recordsFrom, waitsFrom, waitRow, waits, directoryWord, directory, recordsAddress, waitsAddress, bodiesAddress, segmentWords, programOf, symbolHead}
+use Rattle.theory_base.specs.WellFormed.{listed-at, well-formed-at}
 use Rattle.theory_base.specs.Frames.{expects-skip, expects-symbols}
 use Rattle.theory_sets.specs.Tests.{tabled, length-countFrom}
 use Rattle.theory_program.specs.Stands.{Stands, stands-at, stands-in, stands-first, stands-behind, stands-left, stands-right, stands-word}
@@ -28,6 +29,10 @@ bodiesBefore g p ps = total (map (bodySize g) (take p ps))
 
 abbrev pub recordAddress : Grammar → ℕ → ℕ
 recordAddress g p = recordsAddress g + 8 * p
+
+-- of the word that says what the place with no symbol passed waits at
+abbrev pub waitAddress : Grammar → ℕ → ℕ
+waitAddress g p = waitsAddress g + 12 * p
 
 abbrev pub bodyAddress : Grammar → ℕ → ℕ
 bodyAddress g p = bodiesAddress g + bodiesBefore g p (g .productions)
@@ -64,6 +69,23 @@ pub bodies-length : (g : Grammar) (a : ℕ) (ps : List Production) → length (b
 bodies-length g a [] = refl
 bodies-length g a (p ∷ ps) = length-append (bodyWords g a p) (bodiesFrom g (a + bodySize g p) ps) ∙ omega (arith, body-length g a p, bodies-length g (a + bodySize g p) ps)
 
+pub waits-from-length : (g : Grammar) (l n : ℕ) (xs : List Symbol) → length (waitsFrom g l n xs) ≡ length xs
+waits-from-length g l n [] = refl
+waits-from-length g l n (x ∷ xs) = ap suc (waits-from-length g l (n + syn g x) xs)
+
+pub wait-row-length : (g : Grammar) (p : Production) → length (p .right) ≤ 12 → length (waitRow g p) ≡ 12
+wait-row-length g p s =
+    length-append (waitsFrom g (p .left) 0 (p .right)) (replicate (12 - length (p .right)) 0)
+    ∙ omega (arith, waits-from-length g (p .left) 0 (p .right), length-replicate {A = ℕ} (12 - length (p .right)) 0)
+
+-- of productions whose right sides have at most 12 symbols
+abbrev pub Short : List Production → Type 0
+Short ps = (p : Production) → In p ps → length (p .right) ≤ 12
+
+pub waits-length : (g : Grammar) (ps : List Production) → Short ps → length (concat (map (waitRow g) ps)) ≡ 12 * length ps
+waits-length g [] h = refl
+waits-length g (p ∷ ps) h = length-append (waitRow g p) (concat (map (waitRow g) ps)) ∙ omega (arith, wait-row-length g p (h p (inl refl)), waits-length g ps (λ q i. h q (inr i)))
+
 -- ---- a table of rows of the same length
 
 module _ (f : ℕ → ℕ → ℕ) (wide : ℕ) where
@@ -96,7 +118,7 @@ module _ (f : ℕ → ℕ → ℕ) (wide : ℕ) where
 pub directory-length : (g : Grammar) → length (directory g) ≡ 64 * nonterminalCount g
 directory-length g = rows-length (directoryWord g) 64 0 (nonterminalCount g)
 
--- ---- the p-th record and the p-th body
+-- ---- the p-th record, the p-th row of what places wait at, and the p-th body
 
 record-in : (g : Grammar) (a i : ℕ) (ps : List Production) (p : ℕ) (d : Production) (b j : ℕ) → p < length ps → a + bodiesBefore g p ps ≡ b → i + p ≡ j → Stands (recordsFrom g a i ps) (8 * p) (recordWords g b j (getD ps p d) (drop (suc p) ps))
 record-in g a i [] p d b j l e q = absurd (omega arith)
@@ -107,6 +129,12 @@ record-in g a i (r ∷ ps) zero d b j l e q =
 record-in g a i (r ∷ ps) (suc p) d b j l e q =
     stands-at (8 * suc p) (omega arith) (stands-in (stands-behind (recordWords g a i r ps) (recordsFrom g (a + bodySize g r) (suc i) ps)) (record-in g (a + bodySize g r) (suc i) ps p d b j (omega arith) (omega arith) (omega arith)))
 
+wait-in : (g : Grammar) (ps : List Production) (p : ℕ) (d : Production) → Short ps → p < length ps → Stands (concat (map (waitRow g) ps)) (12 * p) (waitRow g (getD ps p d))
+wait-in g [] p d h l = absurd (omega arith)
+wait-in g (r ∷ ps) zero d h l = stands-at (12 * 0) (omega arith) (stands-first (waitRow g r) (concat (map (waitRow g) ps)))
+wait-in g (r ∷ ps) (suc p) d h l =
+    stands-at (12 * suc p) (omega (arith, wait-row-length g r (h r (inl refl)))) (stands-in (stands-behind (waitRow g r) (concat (map (waitRow g) ps))) (wait-in g ps p d (λ q i. h q (inr i)) (omega arith)))
+
 body-in : (g : Grammar) (a : ℕ) (ps : List Production) (p : ℕ) (d : Production) (b : ℕ) → p < length ps → a + bodiesBefore g p ps ≡ b → Stands (bodiesFrom g a ps) (bodiesBefore g p ps) (bodyWords g b (getD ps p d))
 body-in g a [] p d b l e = absurd (omega arith)
 body-in g a (r ∷ ps) zero d b l e =
@@ -114,6 +142,9 @@ body-in g a (r ∷ ps) zero d b l e =
     subst (λ c. Stands (bodiesFrom g a (r ∷ ps)) 0 (bodyWords g c r)) x (stands-first (bodyWords g a r) (bodiesFrom g (a + bodySize g r) ps))
 body-in g a (r ∷ ps) (suc p) d b l e =
     stands-at (bodySize g r + bodiesBefore g p ps) (omega (arith, body-length g a r)) (stands-in (stands-behind (bodyWords g a r) (bodiesFrom g (a + bodySize g r) ps)) (body-in g (a + bodySize g r) ps p d b (omega arith) (omega arith)))
+
+pub short-productions : {g : Grammar} → WellFormed g → Short (g .productions)
+short-productions w p i = w .each p i .short
 
 -- ---- in a list that begins with the program
 
@@ -131,18 +162,25 @@ module _ {g : Grammar} {ws : List ℕ} (s : Begins g ws) where
   abbrev bodies : List ℕ
   bodies = bodiesFrom g (bodiesAddress g) (g .productions)
 
+  -- what comes behind the directory
+  abbrev behind : List ℕ
+  behind = records ++ (waits g ++ bodies)
+
   pub segment-at : Stands ws 0 (segmentWords g)
-  segment-at = stands-left (segmentWords g) (directory g ++ (records ++ bodies)) (s .words)
+  segment-at = stands-left (segmentWords g) (directory g ++ behind) (s .words)
 
-  behind-segment : Stands ws 8 (directory g ++ (records ++ bodies))
-  behind-segment = stands-right (segmentWords g) (directory g ++ (records ++ bodies)) (s .words)
+  behind-segment : Stands ws 9 (directory g ++ behind)
+  behind-segment = stands-right (segmentWords g) (directory g ++ behind) (s .words)
 
-  behind-directory : Stands ws (recordsAddress g) (records ++ bodies)
-  behind-directory = stands-at (recordsAddress g) (omega (arith, directory-length g)) (stands-right (directory g) (records ++ bodies) behind-segment)
+  behind-directory : Stands ws (recordsAddress g) behind
+  behind-directory = stands-at (recordsAddress g) (omega (arith, directory-length g)) (stands-right (directory g) behind behind-segment)
 
-  pub directory-at : (n u : ℕ) → n < nonterminalCount g → u < 64 → getD ws (8 + 64 * n + u) 0 ≡ directoryWord g n u
+  behind-records : Stands ws (waitsAddress g) (waits g ++ bodies)
+  behind-records = stands-at (waitsAddress g) (omega (arith, records-length g (bodiesAddress g) 0 (g .productions))) (stands-right records (waits g ++ bodies) behind-directory)
+
+  pub directory-at : (n u : ℕ) → n < nonterminalCount g → u < 64 → getD ws (9 + 64 * n + u) 0 ≡ directoryWord g n u
   directory-at n u l m =
-      let here = stands-left (directory g) (records ++ bodies) behind-segment in
+      let here = stands-left (directory g) behind behind-segment in
       ap (λ a. getD ws a 0) (omega arith)
       ∙ (stands-word here (64 * n + u) (omega (arith, directory-length g))
       ∙ (row-at (directoryWord g) 64 0 (nonterminalCount g) n u l m ∙ ap (λ k. directoryWord g k u) (omega arith)))
@@ -155,13 +193,22 @@ module _ {g : Grammar} {ws : List ℕ} (s : Begins g ws) where
     pub record-at : Stands ws (recordAddress g p) (recordWords g (bodyAddress g p) p (productionAt g p) (drop (suc p) (g .productions)))
     record-at =
         let here = record-in g (bodiesAddress g) 0 (g .productions) p (wholeProduction g) (bodyAddress g p) p l refl (omega arith) in
-        subst (λ q. Stands ws (recordAddress g p) (recordWords g (bodyAddress g p) p q (drop (suc p) (g .productions)))) (sym (listed-at g w p l)) (stands-in (stands-left records bodies behind-directory) here)
+        subst (λ q. Stands ws (recordAddress g p) (recordWords g (bodyAddress g p) p q (drop (suc p) (g .productions)))) (sym (listed-at g w p l)) (stands-in (stands-left records (waits g ++ bodies) behind-directory) here)
+
+    -- what its places wait at
+    pub wait-row-at : Stands ws (waitAddress g p) (waitRow g (productionAt g p))
+    wait-row-at =
+        let here = wait-in g (g .productions) p (wholeProduction g) (short-productions w) l in
+        subst (λ q. Stands ws (waitAddress g p) (waitRow g q)) (sym (listed-at g w p l)) (stands-in (stands-left (waits g) bodies behind-records) here)
+
+    pub wait-at : (k : ℕ) → k < 12 → getD ws (waitAddress g p + k) 0 ≡ getD (waitRow g (productionAt g p)) k 0
+    wait-at k m = stands-word wait-row-at k (omega (arith, wait-row-length g (productionAt g p) (well-formed-at g w p l .short)))
 
     pub body-at : Stands ws (bodyAddress g p) (bodyWords g (bodyAddress g p) (productionAt g p))
     body-at =
         let here = body-in g (bodiesAddress g) (g .productions) p (wholeProduction g) (bodyAddress g p) l refl in
-        let all = stands-right records bodies behind-directory in
-        subst (λ q. Stands ws (bodyAddress g p) (bodyWords g (bodyAddress g p) q)) (sym (listed-at g w p l)) (stands-at (bodyAddress g p) (omega (arith, records-length g (bodiesAddress g) 0 (g .productions))) (stands-in all here))
+        let all = stands-right (waits g) bodies behind-records in
+        subst (λ q. Stands ws (bodyAddress g p) (bodyWords g (bodyAddress g p) q)) (sym (listed-at g w p l)) (stands-at (bodyAddress g p) (omega (arith, waits-length g (g .productions) (short-productions w))) (stands-in all here))
 
     abbrev addresses : List ℕ
     addresses = expectsAt (schemeAddress g p) (scheme g (productionAt g p))

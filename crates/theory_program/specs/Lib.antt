@@ -9,6 +9,7 @@ pub mod Search
 pub mod Records
 pub mod Resuming
 pub mod Sizes
+pub mod Waits
 pub mod SmallWords
 pub mod AddressRows
 pub mod Telling

@@ -1,16 +1,15 @@
 -- What the instructions of a well-formed grammar's schemes hold: selectors from 1 to 127, constants in 32 bits, counts that are small.
 use Prim.Native.Nat.{ℕ, zero, suc, _+_, _-_, _*_, _≤_, _<_}
 use native.Mathlib.Omega.{arith}
-use native.Mathlib.Decide.{decLt}
 use mathlib.Core.Path.{_≡_, refl, sym, ap, subst}
 use mathlib.Core.Logic.{inl, inr}
 use mathlib.Core.Bool.{Bool, true, false, not}
 use mathlib.Core.Option.{none, some}
 use mathlib.Core.List.{List, [], _∷_, map}
-use lib.ListN.{length, getD, take, drop, length-map, length-take, length-drop, List·getD-eq-default}
+use lib.ListN.{length, take, drop, length-map, length-take, length-drop}
 use lib.Dec.{T, eqb, ltb, ltb→lt, eqb·suc-zero}
-use Rattle.meaning.specs.Base.{In, keep, consIf, total, isEmpty}
-use Rattle.meaning.specs.Grammar.{Symbol, terminal, nonterminal, Occurrence, Function, const, copy, sum, diff, prod, maxi, mini, addc, quot, Rule, Condition, range, atmost, Production, Grammar, noCounts, syn, att, symbolAt, productionAt, wholeProduction, conditionPosition}
+use Rattle.meaning.specs.Base.{In, keep, consIf, total, isEmpty, any}
+use Rattle.meaning.specs.Grammar.{Symbol, terminal, nonterminal, Occurrence, Function, const, copy, sum, diff, prod, maxi, mini, addc, quot, Rule, Condition, range, atmost, Production, Grammar, syn, att, symbolAt, productionAt, wholeProduction, conditionPosition, addedFor, attributeIf}
 use Rattle.meaning.specs.Rules.{Operands, Reads, Input, InputAt, Output, OutputAt, Operand, Known, InFourBytes, Constant, Proper, WellFormedProduction, WellFormed}
 use Rattle.meaning.specs.Selectors.{occurrence}
 use Rattle.meaning.specs.Scheme.{Instruction, add, evaluate, expect, test, remove, mapFunction, mapCondition, mapRule, synBetween, selectInherited, selectAfter, rulesFor, conditionsAt, entryTests, testsAfter, inheritedRules, synthesizedRules, removed, symbolScheme, symbolsScheme, scheme}
@@ -76,11 +75,19 @@ proper-bounds (atmost a b (some c)) p = p
 
 -- ---- counts of attributes
 
+attribute-most : (b : Bool) → attributeIf b ≤ 1
+attribute-most true = omega arith
+attribute-most false = omega arith
+
 pub att-most : (g : Grammar) → WellFormed g → (x : Symbol) → att g x ≤ 8
-att-most g w (terminal t) = omega arith
+att-most g w (terminal t) = omega (arith, attribute-most (any (eqb t) (g .carrying)))
 att-most g w (nonterminal n) = counts-most g w n
 
-total-most : {A : Type 0} (f : A → ℕ) (m : ℕ) → ((x : A) → f x ≤ m) → (xs : List A) → total (map f xs) ≤ m * length xs
+pub added-most : (g : Grammar) → WellFormed g → (x : Symbol) → addedFor g x ≤ 8
+added-most g w (terminal t) = omega arith
+added-most g w (nonterminal n) = counts-most g w n
+
+pub total-most : {A : Type 0} (f : A → ℕ) (m : ℕ) → ((x : A) → f x ≤ m) → (xs : List A) → total (map f xs) ≤ m * length xs
 total-most f m h [] = omega arith
 total-most f m h (x ∷ xs) =
     let z : m * suc (length xs) ≡ m + m * length xs = omega arith in
@@ -135,7 +142,7 @@ module _ (g : Grammar) (w : WellFormed g) (p : Production) (f : WellFormedProduc
   inherited-selects n o i =
       let h = after-at n (o .position) (o .attribute) (i .0) in
       let e = inherited-at g p n (o .position) (o .attribute) (i .0) (i .1) .0 in
-      (omega (arith, e, h .0), omega (arith, e, h .1, att-most g w (symbolAt p (suc n))))
+      (omega (arith, e, h .0), omega (arith, e, h .1, added-most g w (symbolAt p (suc n))))
 
   inherited-target : (n : ℕ) (o : Occurrence) → o .position ≡ suc n → Output g p o → Selector (selectInherited g p (suc n) o)
   inherited-target n o e u =
@@ -220,7 +227,7 @@ module _ (g : Grammar) (w : WellFormed g) (p : Production) (listed : In p (g .pr
       let onTest = in-if (ProperInstruction g) (not (isEmpty tests)) (test tests) rest (λ t. (some-present tests t, omega (arith, tests-most g w p formed (suc k), conditions-most), tests-proper g w p formed (suc k))) h in
       let onExpect = in-if (ProperInstruction g) true (expect x) behind (λ t. known) onTest in
       let onEvaluate = in-if (ProperInstruction g) (not (isEmpty rules)) (evaluate rules) (expect x ∷ behind) (evaluate-proper rules (inherited-most g w p formed k) (inherited-proper g w p formed k)) onExpect in
-      in-if (ProperInstruction g) (ltb 0 (att g x)) (add (att g x)) (consIf (not (isEmpty rules)) (evaluate rules) (expect x ∷ behind)) (λ t. (ltb→lt 0 (att g x) t, att-most g w x)) onEvaluate
+      in-if (ProperInstruction g) (ltb 0 (addedFor g x)) (add (addedFor g x)) (consIf (not (isEmpty rules)) (evaluate rules) (expect x ∷ behind)) (λ t. (ltb→lt 0 (addedFor g x) t, added-most g w x)) onEvaluate
 
   symbols-proper : (k : ℕ) (xs : List Symbol) (rest : List Instruction) → ((x : Symbol) → In x xs → Known g x) → AllProper g rest → AllProper g (symbolsScheme g p (suc k) xs rest)
   symbols-proper k [] rest known h = h

@@ -4,20 +4,24 @@ use native.Mathlib.Omega.{arith}
 use native.Mathlib.Decide.{decLt}
 use mathlib.Core.Path.{_≡_, sym, ap, _∙_, subst}
 use mathlib.Core.Logic.{_↔_}
+use mathlib.Core.Bool.{false}
 use mathlib.Core.List.{List}
 use lib.ListN.{length, getD}
-use lib.Dec.{T}
+use lib.Dec.{T, eqb}
+use Rattle.meaning.specs.Base.{any, countFrom}
 use Rattle.meaning.specs.Grammar.{Grammar, nonterminal, syn, productionAt}
 use Rattle.meaning.specs.Rules.{WellFormed}
 use Rattle.meaning.specs.Scheme.{entryTests}
-use Rattle.meaning.specs.Sets.{has, starts}
-use Rattle.meaning.specs.Program.{setBits, recordsAddress}
+use Rattle.meaning.specs.Sets.{TokenSet, has, starts}
+use Rattle.meaning.specs.Program.{setBits, carriers, recordsAddress}
+use Rattle.theory_base.specs.Members.{map-at}
+use Rattle.theory_sets.specs.Verdicts.{counted}
 use Rattle.theory_program.specs.Stands.{stands-word}
 use Rattle.theory_program.specs.Addresses.{Begins, recordAddress, bodyAddress, schemeAddress, segment-at, record-at}
 use Rattle.theory_program.specs.SetWords.{set-bit}
 use Rattle.theory_program.specs.Search.{nextWord}
 
--- words 0 to 6 of the program
+-- the first words of the program
 pub record SegmentAt (g : Grammar) (ws : List ℕ) : Type 0 where
   pub expected : getD ws 0 0 ≡ 3 + 8 * g .start
   pub nothingLeft : getD ws 1 0 ≡ 6
@@ -26,6 +30,8 @@ pub record SegmentAt (g : Grammar) (ws : List ℕ) : Type 0 where
   pub registers : getD ws 4 0 ≡ syn g (nonterminal (g .start))
   pub result : getD ws 5 0 ≡ g .result
   pub productions : getD ws 6 0 ≡ length (g .productions)
+  pub carriersLow : getD ws 7 0 ≡ setBits (carriers g) 0 1 32
+  pub carriersHigh : getD ws 8 0 ≡ setBits (carriers g) 32 1 32
 
 pub segment-words : {g : Grammar} {ws : List ℕ} → Begins g ws → SegmentAt g ws
 segment-words {g} {ws} b =
@@ -38,6 +44,8 @@ segment-words {g} {ws} b =
       registers = stands-word s 4 (omega arith);
       result = stands-word s 5 (omega arith);
       productions = stands-word s 6 (omega arith);
+      carriersLow = stands-word s 7 (omega arith);
+      carriersHigh = stands-word s 8 (omega arith);
     }
 
 -- where place u of a set is: in the first word or in the second
@@ -49,6 +57,36 @@ in-first u l = (omega arith, omega arith)
 
 in-second : (u : ℕ) → (u < 32 → ⊥) → u < 64 → (u / 32 ≡ 1) × (32 + u % 32 ≡ u)
 in-second u l m = (omega arith, omega arith)
+
+nothing-more : (a : ℕ) → a + 0 ≡ a
+nothing-more a = omega arith
+
+-- a set in two words from address a on: a place is in it where its bit is set in the word that has it
+module _ (ws : List ℕ) (a : ℕ) (s : TokenSet) (low : getD ws a 0 ≡ setBits s 0 1 32) (high : getD ws (a + 1) 0 ≡ setBits s 32 1 32) where
+  pub words-set : (u : ℕ) → u < 64 → (getD ws (a + u / 32) 0 / 2 ^ (u % 32) % 2 ≡ 1) ↔ T (has s u)
+  words-set u m = go (decLt u 32)
+    where
+      -- in the word d behind the first, whose places begin at k
+      at : (d k : ℕ) → u / 32 ≡ d → k + u % 32 ≡ u → getD ws (a + d) 0 ≡ setBits s k 1 32 → (getD ws (a + u / 32) 0 / 2 ^ (u % 32) % 2 ≡ 1) ↔ T (has s u)
+      at d k e q h =
+          let t = set-bit s k 32 (u % 32) (below u) in
+          let f = ap (λ n. getD ws (a + n) 0 / 2 ^ (u % 32) % 2) e ∙ ap (λ n. n / 2 ^ (u % 32) % 2) h in
+          ((λ x. subst (λ n. T (has s n)) q (t .0 (sym f ∙ x))), (λ x. f ∙ t .1 (subst (λ n. T (has s n)) (sym q) x)))
+
+      go : Dec (u < 32) → (getD ws (a + u / 32) 0 / 2 ^ (u % 32) % 2 ≡ 1) ↔ T (has s u)
+      go (yes y) = let h = in-first u y in at 0 0 (h .0) (h .1) (ap (λ z. getD ws z 0) (nothing-more a) ∙ low)
+      go (no y) = let h = in-second u y m in at 1 32 (h .0) (h .1) high
+
+-- the tokens that carry a value
+carriers-at : (g : Grammar) (t : ℕ) → t < 64 → has (carriers g) t ≡ any (eqb t) (g .carrying)
+carriers-at g t l = map-at (λ u. any (eqb u) (g .carrying)) (countFrom 0 64) t 0 false l ∙ ap (λ u. any (eqb u) (g .carrying)) (counted 64 t l)
+
+pub carrier-word : {g : Grammar} {ws : List ℕ} → Begins g ws → (t : ℕ) → t < 64 → (getD ws (7 + t / 32) 0 / 2 ^ (t % 32) % 2 ≡ 1) ↔ T (any (eqb t) (g .carrying))
+carrier-word {g} {ws} b t l =
+    let s = segment-words b in
+    let h = words-set ws 7 (carriers g) (s .carriersLow) (s .carriersHigh) t l in
+    let e = carriers-at g t l in
+    ((λ x. subst T e (h .0 x)), (λ x. h .1 (subst T (sym e) x)))
 
 -- the 8 words of production p's record
 pub record RecordAt (g : Grammar) (ws : List ℕ) (p : ℕ) : Type 0 where
@@ -78,15 +116,4 @@ module _ {g : Grammar} {ws : List ℕ} (b : Begins g ws) (w : WellFormed g) (p :
 
   -- what comes next is in the set where its bit is set in the word that has it
   pub set-word : (u : ℕ) → u < 64 → (getD ws (recordAddress g p + 2 + u / 32) 0 / 2 ^ (u % 32) % 2 ≡ 1) ↔ T (has (starts g (productionAt g p)) u)
-  set-word u m = go (decLt u 32)
-    where
-      -- in the word d behind the first, whose places begin at k
-      at : (d k : ℕ) → u / 32 ≡ d → k + u % 32 ≡ u → getD ws (recordAddress g p + 2 + d) 0 ≡ setBits (starts g (productionAt g p)) k 1 32 → (getD ws (recordAddress g p + 2 + u / 32) 0 / 2 ^ (u % 32) % 2 ≡ 1) ↔ T (has (starts g (productionAt g p)) u)
-      at d k e q h =
-          let t = set-bit (starts g (productionAt g p)) k 32 (u % 32) (below u) in
-          let f = ap (λ n. getD ws (recordAddress g p + 2 + n) 0 / 2 ^ (u % 32) % 2) e ∙ ap (λ n. n / 2 ^ (u % 32) % 2) h in
-          ((λ x. subst (λ n. T (has (starts g (productionAt g p)) n)) q (t .0 (sym f ∙ x))), (λ x. f ∙ t .1 (subst (λ n. T (has (starts g (productionAt g p)) n)) (sym q) x)))
-
-      go : Dec (u < 32) → (getD ws (recordAddress g p + 2 + u / 32) 0 / 2 ^ (u % 32) % 2 ≡ 1) ↔ T (has (starts g (productionAt g p)) u)
-      go (yes y) = let h = in-first u y in at 0 0 (h .0) (h .1) (ap (λ a. getD ws a 0) (omega arith) ∙ record-words .low)
-      go (no y) = let h = in-second u y m in at 1 32 (h .0) (h .1) (ap (λ a. getD ws a 0) (omega arith) ∙ record-words .high)
+  set-word u m = words-set ws (recordAddress g p + 2) (starts g (productionAt g p)) (record-words .low) (ap (λ a. getD ws a 0) (omega arith) ∙ record-words .high) u m

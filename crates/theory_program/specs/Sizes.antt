@@ -8,14 +8,14 @@ use mathlib.Core.List.{List, [], _∷_, _++_, map}
 use lib.ListN.{length, length-append, length-map}
 use lib.Dec.{T, eqb, ltb, leb, leb→le, le→leb, eqb→eq}
 use Rattle.meaning.specs.Base.{In, keep, consIf, total, isEmpty}
-use Rattle.meaning.specs.Grammar.{Symbol, Occurrence, Rule, Condition, Production, Grammar, att, productionAt, conditionPosition}
+use Rattle.meaning.specs.Grammar.{Symbol, Occurrence, Rule, Condition, Production, Grammar, addedFor, productionAt, conditionPosition}
 use Rattle.meaning.specs.Rules.{WellFormed}
 use Rattle.meaning.specs.Scheme.{Instruction, add, evaluate, expect, test, remove, mapRule, mapCondition, selectInherited, selectAfter, rulesFor, conditionsAt, entryTests, testsAfter, inheritedRules, synthesizedRules, removed, symbolScheme, symbolsScheme, scheme}
-use Rattle.meaning.specs.Program.{instructionWords, schemeWords, expectsAt, bodySize, recordsFrom, bodiesFrom, directory, bodiesAddress, segmentWords, programOf}
+use Rattle.meaning.specs.Program.{instructionWords, schemeWords, expectsAt, bodySize, recordsFrom, bodiesFrom, waits, directory, bodiesAddress, segmentWords, programOf}
 use Rattle.theory_base.specs.Members.{getD-in}
 use Rattle.theory_program.specs.Stands.{stands-whole, stands-within}
 use Rattle.theory_program.specs.Code.{rules-length, conditions-length, expects-length, expects-below}
-use Rattle.theory_program.specs.Addresses.{bodyAddress, schemeAddress, expectAddress, Begins, body-at, body-length, expects-scheme, directory-length, records-length, bodies-length}
+use Rattle.theory_program.specs.Addresses.{bodyAddress, schemeAddress, expectAddress, Begins, body-at, body-length, expects-scheme, directory-length, records-length, waits-length, bodies-length, short-productions}
 use Rattle.theory_program.specs.Proper.{keep-few, some-present}
 
 -- ---- items by their position
@@ -69,7 +69,7 @@ module _ (g : Grammar) (p : Production) where
       let behind = consIf (not (isEmpty tests)) (test tests) rest in
       let onTest = words-if (not (isEmpty tests)) (test tests) rest (4 * length tests) (test-words tests) in
       let onEvaluate = words-if (not (isEmpty rules)) (evaluate rules) (expect x ∷ behind) (3 * length rules) (evaluate-words rules) in
-      let onAdd = words-if (ltb 0 (att g x)) (add (att g x)) (consIf (not (isEmpty rules)) (evaluate rules) (expect x ∷ behind)) 1 (λ t. omega arith) in
+      let onAdd = words-if (ltb 0 (addedFor g x)) (add (addedFor g x)) (consIf (not (isEmpty rules)) (evaluate rules) (expect x ∷ behind)) 1 (λ t. omega arith) in
       omega (arith, onTest, onEvaluate, onAdd, length-map (rulesFor p k) (mapRule (selectInherited g p k)), length-map (conditionsAt p k) (mapCondition (selectAfter g p k)))
 
   symbols-words : (k : ℕ) (xs : List Symbol) (rest : List Instruction) → length (schemeWords (symbolsScheme g p k xs rest)) ≤ 2 * length xs + 3 * rulesFrom k + 4 * conditionsFrom k + length (schemeWords rest)
@@ -102,15 +102,26 @@ bodies-most : (g : Grammar) (ps : List Production) → ((p : Production) → In 
 bodies-most g [] h = omega arith
 bodies-most g (p ∷ ps) h = omega (arith, body-most g p, h p (inl refl), bodies-most g ps (λ q i. h q (inr i)))
 
-pub program-length : (g : Grammar) → length (programOf g) ≡ bodiesAddress g + total (map (bodySize g) (g .productions))
-program-length g =
+pub program-length : (g : Grammar) → WellFormed g → length (programOf g) ≡ bodiesAddress g + total (map (bodySize g) (g .productions))
+program-length g w =
     let records = recordsFrom g (bodiesAddress g) 0 (g .productions) in
     let bodies = bodiesFrom g (bodiesAddress g) (g .productions) in
-    omega (arith, length-append (segmentWords g) (directory g ++ (records ++ bodies)), length-append (directory g) (records ++ bodies), length-append records bodies, directory-length g, records-length g (bodiesAddress g) 0 (g .productions), bodies-length g (bodiesAddress g) (g .productions))
+    let behind = records ++ (waits g ++ bodies) in
+    omega (
+      arith,
+      length-append (segmentWords g) (directory g ++ behind),
+      length-append (directory g) behind,
+      length-append records (waits g ++ bodies),
+      length-append (waits g) bodies,
+      directory-length g,
+      records-length g (bodiesAddress g) 0 (g .productions),
+      waits-length g (g .productions) (short-productions w),
+      bodies-length g (bodiesAddress g) (g .productions),
+    )
 
-pub program-most : (g : Grammar) → WellFormed g → length (programOf g) ≤ 13960
+pub program-most : (g : Grammar) → WellFormed g → length (programOf g) ≤ 15497
 program-most g w =
-    omega (arith, program-length g, bodies-most g (g .productions) (λ p i. w .each p i .short), w .nonterminals .1, w .productions .1, w .rules, w .conditions)
+    omega (arith, program-length g w, bodies-most g (g .productions) (λ p i. w .each p i .short), w .nonterminals .1, w .productions .1, w .rules, w .conditions)
 
 -- the shortest area that a call takes is long enough
 pub program-fits : (g : Grammar) → WellFormed g → length (programOf g) ≤ 16384

@@ -1,25 +1,26 @@
 -- Every word of a well-formed grammar's program is a 32-bit number.
-use Prim.Native.Nat.{ℕ, suc, _+_, _*_, _≤_, _<_}
+use Prim.Native.Nat.{ℕ, zero, suc, _+_, _-_, _*_, _≤_, _<_}
 use native.Mathlib.Omega.{arith}
 use mathlib.Core.Path.{refl}
 use mathlib.Core.Logic.{_⊎_, inl, inr}
 use mathlib.Core.Bool.{Bool, true, false, _&&_}
 use mathlib.Core.List.{List, [], _∷_, _++_, map}
 use mathlib.Core.Option.{none, some}
-use lib.ListN.{length}
+use lib.ListN.{length, replicate}
 use lib.Dec.{eqb}
 use Rattle.meaning.specs.Base.{In, countFrom, total}
-use Rattle.meaning.specs.Grammar.{Symbol, terminal, nonterminal, Function, const, copy, sum, diff, prod, maxi, mini, addc, quot, Condition, range, atmost, Production, Grammar, nonterminalCount}
+use Rattle.meaning.specs.Grammar.{Symbol, terminal, nonterminal, Function, const, copy, sum, diff, prod, maxi, mini, addc, quot, Condition, range, atmost, Production, Grammar, syn, nonterminalCount}
 use Rattle.meaning.specs.Rules.{Known, WellFormed}
 use Rattle.meaning.specs.Scheme.{Instruction, add, evaluate, expect, test, remove, scheme, entryTests}
 use Rattle.meaning.specs.Sets.{has, starts}
-use Rattle.meaning.specs.Program.{concat, packed, functionWords, ruleWords, conditionWords, symbolHead, instructionWords, schemeWords, expectsAt, entryWords, schemeOffset, bodyWords, bodySize, bodiesFrom, firstOf, recordWords, recordsFrom, directoryWord, directory, bodiesAddress, segmentWords, programOf}
+use Rattle.meaning.specs.Program.{concat, packed, functionWords, ruleWords, conditionWords, symbolHead, instructionWords, schemeWords, expectsAt, entryWords, schemeOffset, bodyWords, bodySize, bodiesFrom, firstOf, recordWords, recordsFrom, waitWord, waitsFrom, waitRow, waits, directoryWord, directory, bodiesAddress, segmentWords, programOf, carriers}
 use Rattle.theory_base.specs.Members.{map-in, in-append}
 use Rattle.theory_table.specs.Numbers.{unsigned-small, divisor-in}
 use Rattle.theory_program.specs.Code.{expects-below}
-use Rattle.theory_program.specs.Proper.{ProperRule, ProperCondition, ProperInstruction, att-most, scheme-proper, entry-proper, entry-most}
+use Rattle.theory_program.specs.Proper.{ProperRule, ProperCondition, ProperInstruction, att-most, added-most, scheme-proper, entry-proper, entry-most}
 use Rattle.theory_program.specs.SetWords.{bits-small}
 use Rattle.theory_program.specs.Sizes.{program-length, program-most}
+use Rattle.theory_program.specs.Waits.{byte-most}
 
 abbrev pub Small : List ℕ → Type 0
 Small ws = (v : ℕ) → In v ws → v < 4294967296
@@ -129,6 +130,23 @@ module _ (g : Grammar) (w : WellFormed g) where
   records-small a i [] h l m = small-nil
   records-small a i (p ∷ ps) h l m = small-append (recordWords g a i p ps) (recordsFrom g (a + bodySize g p) (suc i) ps) (record-small a i p ps (h p (inl refl)) (omega arith) (omega arith)) (records-small (a + bodySize g p) (suc i) ps (λ q j. h q (inr j)) (omega arith) (omega arith))
 
+  -- n registers are passed, and at most 8 more with each symbol
+  waits-small : (l n : ℕ) (xs : List Symbol) → l < nonterminalCount g → ((x : Symbol) → In x xs → Known g x) → n + 8 * length xs ≤ 96 → Small (waitsFrom g l n xs)
+  waits-small l n [] h k m = small-nil
+  waits-small l n (x ∷ xs) h k m =
+      let a = att-most g w x in
+      let b = added-most g w x in
+      small-cons (waitWord g l n x) (waitsFrom g l (n + syn g x) xs) (omega (arith, w .nonterminals .1, byte-most g w x (k x (inl refl)))) (waits-small l (n + syn g x) xs h (λ y i. k y (inr i)) (omega arith))
+
+  none-small : (n : ℕ) → Small (replicate n 0)
+  none-small zero = small-nil
+  none-small (suc n) = small-cons 0 (replicate n 0) (omega arith) (none-small n)
+
+  wait-row-small : (p : Production) → In p (g .productions) → Small (waitRow g p)
+  wait-row-small p i =
+      let f = w .each p i in
+      small-append (waitsFrom g (p .left) 0 (p .right)) (replicate (12 - length (p .right)) 0) (waits-small (p .left) 0 (p .right) (f .left) (f .symbols) (omega (arith, f .short))) (none-small (12 - length (p .right)))
+
   directory-small : Small (directory g)
   directory-small = small-concat (λ n. map (directoryWord g n) (countFrom 0 64)) (countFrom 0 (nonterminalCount g)) (λ n i. small-map (directoryWord g n) (λ u. omega (arith, first-below (λ p. eqb (p .left) n && has (starts g p) u) 0 (g .productions), w .productions .1)) (countFrom 0 64))
 
@@ -138,15 +156,17 @@ module _ (g : Grammar) (w : WellFormed g) where
       let u = w .nonterminals .1 in
       let v = w .productions .1 in
       each-small (segmentWords g)
-      (symbol-small g w (nonterminal (g .start)) (w .start), (omega arith, (omega arith, (omega (arith, w .terminals .1), (omega arith, (omega (arith, w .result .1), (omega arith, (omega arith, tt))))))))
+      (symbol-small g w (nonterminal (g .start)) (w .start), (omega arith, (omega arith, (omega (arith, w .terminals .1), (omega arith, (omega (arith, w .result .1), (omega arith, (bits-small (carriers g) 0 32, (bits-small (carriers g) 32 32, tt)))))))))
 
   pub program-small : Small (programOf g)
   program-small =
       let records = recordsFrom g (bodiesAddress g) 0 (g .productions) in
       let bodies = bodiesFrom g (bodiesAddress g) (g .productions) in
-      let l : bodiesAddress g + total (map (bodySize g) (g .productions)) ≤ 16384 = omega (arith, program-length g, program-most g w) in
-      small-append (segmentWords g) (directory g ++ (records ++ bodies)) segment-small
-      (small-append (directory g) (records ++ bodies) directory-small
-      (small-append records bodies
+      let l : bodiesAddress g + total (map (bodySize g) (g .productions)) ≤ 16384 = omega (arith, program-length g w, program-most g w) in
+      small-append (segmentWords g) (directory g ++ (records ++ (waits g ++ bodies))) segment-small
+      (small-append (directory g) (records ++ (waits g ++ bodies)) directory-small
+      (small-append records (waits g ++ bodies)
       (records-small (bodiesAddress g) 0 (g .productions) (λ p i. i) l (omega (arith, w .productions .1)))
-      (bodies-small (bodiesAddress g) (g .productions) (λ p i. i) l)))
+      (small-append (waits g) bodies
+      (small-concat (waitRow g) (g .productions) wait-row-small)
+      (bodies-small (bodiesAddress g) (g .productions) (λ p i. i) l))))

@@ -1,4 +1,4 @@
--- What the program says: two well-formed grammars with the same words have the same translation scheme, sets and entry tests.
+-- What the program says: two well-formed grammars with the same words have the same right sides with their counts, translation scheme, sets and entry tests.
 use Prim.Native.Nat.{ℕ, suc, _+_, _-_, _*_, _/_, _%_, _^_, _<_}
 use native.Mathlib.Omega.{arith}
 use mathlib.Core.Path.{_≡_, refl, sym, ap, ap₂, _∙_, subst}
@@ -6,20 +6,23 @@ use mathlib.Core.Logic.{inl, inr}
 use mathlib.Core.Bool.{Bool, true, false, not}
 use mathlib.Core.List.{List, [], _∷_}
 use lib.ListN.{length, getD}
-use lib.Dec.{T, ltb}
-use Rattle.meaning.specs.Base.{In, consIf, isEmpty}
-use Rattle.meaning.specs.Grammar.{Symbol, terminal, nonterminal, Rule, Condition, Production, Grammar, att, productionAt}
+use lib.Seq.{ext-getD}
+use lib.Dec.{T, eqb, ltb}
+use Rattle.meaning.specs.Base.{any, In, consIf, isEmpty}
+use Rattle.meaning.specs.Grammar.{Symbol, terminal, nonterminal, Rule, Condition, Production, Grammar, inh, markedFor, addedFor, symbolAt, productionAt}
 use Rattle.meaning.specs.Rules.{WellFormed}
 use Rattle.meaning.specs.Sets.{has, starts}
 use Rattle.meaning.specs.Scheme.{Instruction, add, evaluate, expect, test, remove, scheme, symbolsScheme, entryTests, inheritedRules, synthesizedRules, testsAfter, removed}
 use Rattle.meaning.specs.Program.{instructionWords, recordsAddress, programOf}
 use Rattle.meaning.specs.TableStatements.{SameProduction, SameScheme}
+use Rattle.theory_base.specs.Members.{in-at}
 use Rattle.theory_program.specs.Stands.{Stands, stands-whole}
 use Rattle.theory_program.specs.Code.{RulesAt, ConditionsAt, CodeAt, rule-first, condition-first, operation, operand, code-head, code-next, code-evaluate, code-test, is-add, is-evaluate, is-terminal, is-nonterminal, is-test, is-remove}
 use Rattle.theory_program.specs.Unpacked.{rule-at, condition-at}
 use Rattle.theory_program.specs.Proper.{ProperRule, ProperCondition, ProperInstruction, AllProper, production-in, scheme-proper, entry-proper}
-use Rattle.theory_program.specs.Addresses.{Begins, recordAddress, entryAddress, schemeAddress, entry-at, scheme-at, entry-before}
-use Rattle.theory_program.specs.Records.{segment-words, record-words, set-word}
+use Rattle.theory_program.specs.Addresses.{Begins, recordAddress, waitAddress, entryAddress, schemeAddress, entry-at, scheme-at, entry-before}
+use Rattle.theory_program.specs.Waits.{Waits, place-waits}
+use Rattle.theory_program.specs.Records.{segment-words, carrier-word, record-words, set-word}
 
 -- ---- rules and conditions that stand at one address
 
@@ -90,7 +93,7 @@ expect-low (nonterminal n) = omega arith
 symbols-ended : (g : Grammar) (p : Production) (k : ℕ) (xs : List Symbol) {rest : List Instruction} → Ended rest → Ended (symbolsScheme g p k xs rest)
 symbols-ended g p k [] e = e
 symbols-ended g p k (x ∷ xs) e =
-    ended-if (ltb 0 (att g x)) (add (att g x)) (omega arith)
+    ended-if (ltb 0 (addedFor g x)) (add (addedFor g x)) (omega arith)
     (ended-if (not (isEmpty (inheritedRules g p k))) (evaluate (inheritedRules g p k)) (omega arith)
     (andThen (expect x) (expect-low x)
     (ended-if (not (isEmpty (testsAfter g p k))) (test (testsAfter g p k)) (omega arith) (symbols-ended g p (suc k) xs e))))
@@ -114,6 +117,9 @@ module _ {g h : Grammar} {ws : List ℕ} (b : Begins g ws) (c : Begins h ws) (w 
   same-count = sym (segment-words b .productions) ∙ segment-words c .productions
 
   module _ (p : ℕ) (l : p < length (g .productions)) where
+    same-waits : waitAddress g p ≡ waitAddress h p
+    same-waits = omega (arith, same-records, same-count)
+
     listed : p < length (h .productions)
     listed = omega (arith, same-count)
 
@@ -144,6 +150,25 @@ module _ {g h : Grammar} {ws : List ℕ} (b : Begins g ws) (c : Begins h ws) (w 
         let y = set-word c v p listed u m in
         same-truth (has (starts g inG) u) (has (starts h inH) u) (λ t. y .0 (sym e ∙ x .1 t)) (λ t. x .0 (e ∙ y .1 t))
 
+    -- what a place of the production waits at is in one word
+    module _ (e : length (inG .right) ≡ length (inH .right)) (k : ℕ) (m : k < length (inG .right)) where
+      waiting : Waits h inH k (getD ws (waitAddress g p + k) 0)
+      waiting = subst (λ a. Waits h inH k (getD ws (a + k) 0)) (sym same-waits) (place-waits c v p listed k (omega arith))
+
+      same-symbol : symbolAt inG (suc k) ≡ symbolAt inH (suc k)
+      same-symbol = sym (place-waits b w p l k m .symbol) ∙ waiting .symbol
+
+      same-symbol-counts : (inh g (symbolAt inG (suc k)) ≡ inh h (symbolAt inG (suc k))) × (markedFor g (symbolAt inG (suc k)) ≡ markedFor h (symbolAt inG (suc k)))
+      same-symbol-counts = (
+        sym (place-waits b w p l k m .inherited) ∙ (waiting .inherited ∙ ap (inh h) (sym same-symbol)),
+        sym (place-waits b w p l k m .marked) ∙ (waiting .marked ∙ ap (markedFor h) (sym same-symbol)),
+      )
+
+    same-counts : length (inG .right) ≡ length (inH .right) → (x : Symbol) → In x (inG .right) → (inh g x ≡ inh h x) × (markedFor g x ≡ markedFor h x)
+    same-counts e x i =
+        let at = in-at x (inG .right) (terminal 0) i in
+        subst (λ y. (inh g y ≡ inh h y) × (markedFor g y ≡ markedFor h y)) (at .2) (same-symbol-counts e (at .0) (at .1))
+
     same-production : SameProduction g h p
     same-production =
         let r = record-words b w p l in
@@ -151,7 +176,8 @@ module _ {g h : Grammar} {ws : List ℕ} (b : Begins g ws) (c : Begins h ws) (w 
         let tests : length (entryTests g inG) ≡ length (entryTests h inH) = same-word 5 _ _ (r .tests) (s .tests) in
         let address : schemeAddress g p ≡ schemeAddress h p = same-word 6 _ _ (r .scheme) (s .scheme) in
         let entry : entryAddress g p ≡ entryAddress h p = entry-before g p ∙ (ap₂ (λ x y. x - 3 * y) address tests ∙ sym (entry-before h p)) in
-        record { left = same-word 0 _ _ (r .left) (s .left); symbols = same-word 7 _ _ (r .symbols) (s .symbols); entered = same-set; tests = same-tests tests entry; instructions = same-instructions address }
+        let long : length (inG .right) ≡ length (inH .right) = same-word 7 _ _ (r .symbols) (s .symbols) in
+        record { left = same-word 0 _ _ (r .left) (s .left); right = ext-getD (terminal 0) (inG .right) (inH .right) long (same-symbol long); counts = same-counts long; entered = same-set; tests = same-tests tests entry; instructions = same-instructions address }
 
   same-scheme : SameScheme g h
   same-scheme =
@@ -160,6 +186,7 @@ module _ {g h : Grammar} {ws : List ℕ} (b : Begins g ws) (c : Begins h ws) (w 
       record {
         terminals = sym (s .terminals) ∙ t .terminals;
         nonterminals = omega (arith, same-records);
+        carrying = λ u l. let x = carrier-word b u l in let y = carrier-word c u l in same-truth (any (eqb u) (g .carrying)) (any (eqb u) (h .carrying)) (λ k. y .0 (x .1 k)) (λ k. x .0 (y .1 k));
         start = omega (arith, s .expected, t .expected);
         result = sym (s .result) ∙ t .result;
         startRegisters = sym (s .registers) ∙ t .registers;

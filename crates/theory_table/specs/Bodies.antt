@@ -66,7 +66,10 @@ production-body [] e = absurd (omega arith)
 production-body (x ∷ []) e = absurd (omega arith)
 production-body (x ∷ y ∷ b) e = ap₂ (λ n zs. x ∷ n ∷ zs) (omega (arith, length-map b symbolOf)) (sym (bytes-back b))
 
--- the bodies of counts and of the header
+-- the bodies of a carrier, of counts and of the header
+pub carrier-body : (b : List ℕ) → T (eqb (length b) 1) → b ≡ byte b 0 ∷ []
+carrier-body b t = listed 1 b (eqb→eq (length b) 1 t)
+
 pub counts-body : (b : List ℕ) → T (eqb (length b) 2 && leb (byte b 0 + byte b 1) 8) → b ≡ byte b 0 ∷ byte b 1 ∷ []
 counts-body b t = listed 2 b (eqb→eq (length b) 2 (both (eqb (length b) 2) (leb (byte b 0 + byte b 1) 8) t .0))
 

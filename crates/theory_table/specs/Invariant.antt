@@ -15,7 +15,7 @@ use Rattle.meaning.specs.Base.{all, In, total}
 use Rattle.meaning.specs.Grammar.{Symbol, terminal, nonterminal, Occurrence, Function, const, copy, sum, diff, prod, maxi, mini, addc, quot, Rule, Condition, range, atmost, Production, Counts, noCounts, Grammar}
 use Rattle.meaning.specs.Rules.{Operands, Reads, Input, Output, Operand, Distinct, Constant, Proper, InFourBytes}
 use Rattle.meaning.specs.Table as Table
-use Rattle.meaning.specs.Table.{State, Header, Entry, Kind, header, counts, production, rule, condition, noHeader, headerOf, isSome, byte, signed, constantAt, occurrenceAt, within, symbolOf, symbolKnown, functionOf, ruleOf, conditionOf, occurrenceKnown, isInput, ordered, hasRule, complete, lastComplete, readField, withRule, withCondition, productionOf, grammarOf, nothingRead}
+use Rattle.meaning.specs.Table.{State, Header, Entry, Kind, header, counts, production, rule, condition, carrier, noHeader, headerOf, isSome, byte, signed, constantAt, occurrenceAt, within, symbolOf, symbolKnown, functionOf, ruleOf, conditionOf, occurrenceKnown, isInput, ordered, hasRule, complete, lastComplete, readField, withRule, withCondition, rises, productionOf, grammarOf, nothingRead}
 use Rattle.theory_base.specs.Members.{both, in-some, all-in, map-in}
 use Rattle.theory_table.specs.Reading.{Passed, Next, Full}
 use Rattle.theory_table.specs.Occurrences.{input-over, output-over, operand-over, output-at, operands-map, reads-map, rule-operands, condition-reads, set-once}
@@ -74,9 +74,9 @@ proper-from (atmost o u (some c)) d t = d
 
 -- ---- one production, whatever else is read
 
--- a grammar with these counts alone, and a production's symbols alone
-abbrev pub countsOnly : List Counts → Grammar
-countsOnly cs = record { terminals = 0; counts = reverse cs; start = 0; result = 0; productions = [] }
+-- a grammar with these counts and carrying terminals alone, and a production's symbols alone
+abbrev pub countsOnly : List Counts → List ℕ → Grammar
+countsOnly cs ws = record { terminals = 0; counts = reverse cs; carrying = reverse ws; start = 0; result = 0; productions = [] }
 
 abbrev pub bare : Entry → Production
 bare e = record { left = e .left; right = e .right; rules = []; conditions = [] }
@@ -85,19 +85,19 @@ abbrev pub KnownIn : Header → Symbol → Type 0
 KnownIn h (terminal t) = t < h .terminals
 KnownIn h (nonterminal n) = n < h .nonterminals
 
-pub record EntryOk (h : Header) (cs : List Counts) (e : Entry) : Type 0 where
+pub record EntryOk (h : Header) (cs : List Counts) (ws : List ℕ) (e : Entry) : Type 0 where
   pub left : e .left < h .nonterminals
   pub short : length (e .right) ≤ 12
   pub symbols : (x : Symbol) → In x (e .right) → KnownIn h x
-  pub targets : (r : Rule Occurrence) → In r (e .rules) → Output (countsOnly cs) (bare e) (r .target)
+  pub targets : (r : Rule Occurrence) → In r (e .rules) → Output (countsOnly cs ws) (bare e) (r .target)
   pub distinct : Distinct (e .rules)
-  pub operands : (r : Rule Occurrence) → In r (e .rules) → Operands (Operand (countsOnly cs) (bare e) (r .target .position)) (r .function)
+  pub operands : (r : Rule Occurrence) → In r (e .rules) → Operands (Operand (countsOnly cs ws) (bare e) (r .target .position)) (r .function)
   pub constants : (r : Rule Occurrence) → In r (e .rules) → Constant (r .function)
-  pub reads : (c : Condition Occurrence) → In c (e .conditions) → Reads (Input (countsOnly cs) (bare e)) c
+  pub reads : (c : Condition Occurrence) → In c (e .conditions) → Reads (Input (countsOnly cs ws) (bare e)) c
   pub proper : (c : Condition Occurrence) → In c (e .conditions) → Proper c
 
-module _ (s : State) (h : Header) (e : Entry) (k : EntryOk h (s .counts) e) where
-  with-rule : (r : Rule Occurrence) → T (occurrenceKnown s e (r .target)) → T (all (occurrenceKnown s e) (Table.operands (r .function))) → T (not (isInput s e (r .target))) → T (all (isInput s e) (Table.operands (r .function))) → T (not (hasRule e (r .target))) → T (eqb (r .target .position) 0 || all (λ o. ltb (o .position) (r .target .position)) (Table.operands (r .function))) → Constant (r .function) → EntryOk h (s .counts) (withRule e r)
+module _ (s : State) (h : Header) (e : Entry) (k : EntryOk h (s .counts) (s .carrying) e) where
+  with-rule : (r : Rule Occurrence) → T (occurrenceKnown s e (r .target)) → T (all (occurrenceKnown s e) (Table.operands (r .function))) → T (not (isInput s e (r .target))) → T (all (isInput s e) (Table.operands (r .function))) → T (not (hasRule e (r .target))) → T (eqb (r .target .position) 0 || all (λ o. ltb (o .position) (r .target .position)) (Table.operands (r .function))) → Constant (r .function) → EntryOk h (s .counts) (s .carrying) (withRule e r)
   with-rule r a b c d once l con = record {
     left = k .left;
     short = k .short;
@@ -110,19 +110,19 @@ module _ (s : State) (h : Header) (e : Entry) (k : EntryOk h (s .counts) e) wher
     proper = k .proper;
   }
     where
-      target : (q : Rule Occurrence) → (q ≡ r) ⊎ In q (e .rules) → Output (countsOnly (s .counts)) (bare e) (q .target)
-      target q (inl p) = rw p (output-over (grammarOf s) (countsOnly (s .counts)) (productionOf e) (bare e) refl refl refl (r .target .position) (r .target .attribute) (output-at s e (r .target .position) (r .target .attribute) a c))
+      target : (q : Rule Occurrence) → (q ≡ r) ⊎ In q (e .rules) → Output (countsOnly (s .counts) (s .carrying)) (bare e) (q .target)
+      target q (inl p) = rw p (output-over (grammarOf s) (countsOnly (s .counts) (s .carrying)) (productionOf e) (bare e) refl refl refl refl (r .target .position) (r .target .attribute) (output-at s e (r .target .position) (r .target .attribute) a c))
       target q (inr i) = k .targets q i
 
-      operand : (q : Rule Occurrence) → (q ≡ r) ⊎ In q (e .rules) → Operands (Operand (countsOnly (s .counts)) (bare e) (q .target .position)) (q .function)
-      operand q (inl p) = rw p (operands-map (operand-over (grammarOf s) (countsOnly (s .counts)) (productionOf e) (bare e) refl refl refl (r .target .position)) (r .function) (rule-operands s e (r .target .position) (r .function) b d l))
+      operand : (q : Rule Occurrence) → (q ≡ r) ⊎ In q (e .rules) → Operands (Operand (countsOnly (s .counts) (s .carrying)) (bare e) (q .target .position)) (q .function)
+      operand q (inl p) = rw p (operands-map (operand-over (grammarOf s) (countsOnly (s .counts) (s .carrying)) (productionOf e) (bare e) refl refl refl refl (r .target .position)) (r .function) (rule-operands s e (r .target .position) (r .function) b d l))
       operand q (inr i) = k .operands q i
 
       constant : (q : Rule Occurrence) → (q ≡ r) ⊎ In q (e .rules) → Constant (q .function)
       constant q (inl p) = rw p con
       constant q (inr i) = k .constants q i
 
-  with-condition : (c : Condition Occurrence) → T (all (occurrenceKnown s e) (Table.reads c)) → T (all (isInput s e) (Table.reads c)) → Proper c → EntryOk h (s .counts) (withCondition e c)
+  with-condition : (c : Condition Occurrence) → T (all (occurrenceKnown s e) (Table.reads c)) → T (all (isInput s e) (Table.reads c)) → Proper c → EntryOk h (s .counts) (s .carrying) (withCondition e c)
   with-condition c a b p = record {
     left = k .left;
     short = k .short;
@@ -135,8 +135,8 @@ module _ (s : State) (h : Header) (e : Entry) (k : EntryOk h (s .counts) e) wher
     proper = λ q i. right q i;
   }
     where
-      read : (q : Condition Occurrence) → (q ≡ c) ⊎ In q (e .conditions) → Reads (Input (countsOnly (s .counts)) (bare e)) q
-      read q (inl z) = rw z (reads-map (λ o u. input-over (grammarOf s) (countsOnly (s .counts)) (productionOf e) (bare e) refl refl refl (o .position) (o .attribute) u) c (condition-reads s e c a b))
+      read : (q : Condition Occurrence) → (q ≡ c) ⊎ In q (e .conditions) → Reads (Input (countsOnly (s .counts) (s .carrying)) (bare e)) q
+      read q (inl z) = rw z (reads-map (λ o u. input-over (grammarOf s) (countsOnly (s .counts) (s .carrying)) (productionOf e) (bare e) refl refl refl refl (o .position) (o .attribute) u) c (condition-reads s e c a b))
       read q (inr i) = k .reads q i
 
       right : (q : Condition Occurrence) → (q ≡ c) ⊎ In q (e .conditions) → Proper q
@@ -153,6 +153,11 @@ pub record HeaderOk (h : Header) : Type 0 where
 abbrev pub StartOk : Header → List Counts → Type 0
 StartOk h cs = (getD cs (h .start) noCounts .inherited ≡ 0) × (1 ≤ h .result) × (h .result ≤ getD cs (h .start) noCounts .synthesized)
 
+-- the latest first
+abbrev pub Falling : List ℕ → Type 0
+Falling [] = Unit {0}
+Falling (t ∷ ts) = ((u : ℕ) → In u ts → u < t) × Falling ts
+
 abbrev pub ruleCount : List Entry → ℕ
 ruleCount es = total (map (λ e. length (e .rules)) es)
 
@@ -164,16 +169,19 @@ pub record Inv (s : State) : Type 0 where
   pub fewCounts : length (s .counts) ≤ headerOf s .nonterminals
   pub attributes : (c : Counts) → In c (s .counts) → c .inherited + c .synthesized ≤ 8
   pub startOk : headerOf s .start < length (s .counts) → StartOk (headerOf s) (reverse (s .counts))
+  pub carriers : (t : ℕ) → In t (s .carrying) → t < headerOf s .terminals
+  pub falling : Falling (s .carrying)
+  pub tagged : 0 < length (s .carrying) → Full s
   pub filled : 0 < length (s .entries) → Full s
   pub fewEntries : length (s .entries) ≤ 128
-  pub entries : (e : Entry) → In e (s .entries) → EntryOk (headerOf s) (s .counts) e
+  pub entries : (e : Entry) → In e (s .entries) → EntryOk (headerOf s) (s .counts) (s .carrying) e
   -- all but the latest
   pub completes : (e : Entry) → In e (drop 1 (s .entries)) → T (complete s e)
   pub rules : (ruleCount (s .entries) ≡ s .rules) × (s .rules ≤ 1024)
   pub conditions : (conditionCount (s .entries) ≡ s .conditions) × (s .conditions ≤ 512)
 
 pub nothing-yet : Inv nothingRead
-nothing-yet = record { header = λ t. absurd t; fewCounts = omega arith; attributes = λ c i. absurd i; startOk = λ l. absurd (omega arith); filled = λ l. absurd (omega arith); fewEntries = omega arith; entries = λ e i. absurd i; completes = λ e i. absurd i; rules = (refl, omega arith); conditions = (refl, omega arith) }
+nothing-yet = record { header = λ t. absurd t; fewCounts = omega arith; attributes = λ c i. absurd i; startOk = λ l. absurd (omega arith); carriers = λ t i. absurd i; falling = tt; tagged = λ l. absurd (omega arith); filled = λ l. absurd (omega arith); fewEntries = omega arith; entries = λ e i. absurd i; completes = λ e i. absurd i; rules = (refl, omega arith); conditions = (refl, omega arith) }
 
 in-drop : {A : Type 0} (x : A) (xs : List A) → In x (drop 1 xs) → In x xs
 in-drop x [] i = i
@@ -198,6 +206,9 @@ module _ (s : State) (v : Inv s) (o : ℕ) (b : List ℕ) where
     fewCounts = omega (arith, none);
     attributes = v .attributes;
     startOk = λ l. absurd (omega (arith, none));
+    carriers = λ t i. absurd (untagged (in-some t (s .carrying) i));
+    falling = v .falling;
+    tagged = λ l. absurd (untagged l);
     filled = λ l. absurd (unfilled l);
     fewEntries = v .fewEntries;
     entries = λ e i. absurd (unfilled (in-some e (s .entries) i));
@@ -218,6 +229,9 @@ module _ (s : State) (v : Inv s) (o : ℕ) (b : List ℕ) where
       none : length (s .counts) ≡ 0
       none = let z = no-header (s .header) n in omega (arith, v .fewCounts)
 
+      untagged : 0 < length (s .carrying) → ⊥
+      untagged l = T-not (isSome (s .header)) n (v .tagged l .0)
+
       unfilled : 0 < length (s .entries) → ⊥
       unfilled l = T-not (isSome (s .header)) n (v .filled l .0)
 
@@ -227,6 +241,9 @@ module _ (s : State) (v : Inv s) (o : ℕ) (b : List ℕ) where
     fewCounts = l;
     attributes = λ c i. few c i;
     startOk = λ m. subst (StartOk (headerOf s)) (sym (reverse-cons new (s .counts))) (go m (eqb (length (s .counts)) (headerOf s .start)) refl);
+    carriers = v .carriers;
+    falling = v .falling;
+    tagged = λ m. absurd (omega (arith, v .tagged m .1));
     filled = λ m. absurd (omega (arith, v .filled m .1));
     fewEntries = v .fewEntries;
     entries = λ e i. absurd (omega (arith, v .filled (in-some e (s .entries) i) .1));
@@ -266,6 +283,9 @@ module _ (s : State) (v : Inv s) (o : ℕ) (b : List ℕ) where
     fewCounts = v .fewCounts;
     attributes = v .attributes;
     startOk = v .startOk;
+    carriers = v .carriers;
+    falling = v .falling;
+    tagged = v .tagged;
     filled = λ m. f;
     fewEntries = ltb→lt (length (s .entries)) 128 (l₁ .1);
     entries = λ e i. entry e i;
@@ -293,7 +313,7 @@ module _ (s : State) (v : Inv s) (o : ℕ) (b : List ℕ) where
       symbol (terminal x) k = ltb→lt x (headerOf s .terminals) k
       symbol (nonterminal n) k = ltb→lt n (headerOf s .nonterminals) k
 
-      ok : EntryOk (headerOf s) (s .counts) new
+      ok : EntryOk (headerOf s) (s .counts) (s .carrying) new
       ok = record {
         left = ltb→lt (byte b 0) (headerOf s .nonterminals) (names .0);
         short = omega (arith, length-map (drop 2 b) symbolOf, length-drop 2 b, eqb→eq (length b) (2 + byte b 1) (l₂ .1), leb→le (byte b 1) 12 (l₃ .1));
@@ -306,22 +326,51 @@ module _ (s : State) (v : Inv s) (o : ℕ) (b : List ℕ) where
         proper = λ q i. absurd i;
       }
 
-      entry : (e : Entry) → (e ≡ new) ⊎ In e (s .entries) → EntryOk (headerOf s) (s .counts) e
+      entry : (e : Entry) → (e ≡ new) ⊎ In e (s .entries) → EntryOk (headerOf s) (s .counts) (s .carrying) e
       entry e (inl q) = rw q ok
       entry e (inr i) = v .entries e i
 
-abbrev pub mk : Option Header → List Counts → List ℕ → List Entry → ℕ → ℕ → State
-mk hd cs co es rn cn = record { header = hd; counts = cs; countsOffsets = co; entries = es; rules = rn; conditions = cn }
+  read-carrier : Full s → length (s .entries) ≡ 0 → Passed s carrier b → Inv (readField s o carrier b)
+  read-carrier f z p = record {
+    header = v .header;
+    fewCounts = v .fewCounts;
+    attributes = v .attributes;
+    startOk = v .startOk;
+    carriers = λ t i. known t i;
+    falling = ((λ u i. above (s .carrying) (v .falling) (names .1) u i), v .falling);
+    tagged = λ m. f;
+    filled = v .filled;
+    fewEntries = v .fewEntries;
+    entries = λ e i. absurd (omega (arith, z, in-some e (s .entries) i));
+    completes = λ e i. absurd (omega (arith, z, in-some e (s .entries) (in-drop e (s .entries) i)));
+    rules = v .rules;
+    conditions = v .conditions;
+  }
+    where
+      names : T (ltb (byte b 0) (headerOf s .terminals)) × T (rises (s .carrying) (byte b 0))
+      names = both (ltb (byte b 0) (headerOf s .terminals)) (rises (s .carrying) (byte b 0)) (p .named)
 
-module _ (hd : Option Header) (cs : List Counts) (co : List ℕ) (rn cn o : ℕ) (b : List ℕ) where
-  replaced : (e e′ : Entry) (es : List Entry) → Inv (mk hd cs co (e ∷ es) rn cn) → EntryOk (headerOf (mk hd cs co (e ∷ es) rn cn)) cs e′ → (a : Entry) → (a ≡ e′) ⊎ In a es → EntryOk (headerOf (mk hd cs co (e ∷ es) rn cn)) cs a
+      known : (t : ℕ) → (t ≡ byte b 0) ⊎ In t (s .carrying) → t < headerOf s .terminals
+      known t (inl e) = rw e (ltb→lt (byte b 0) (headerOf s .terminals) (names .0))
+      known t (inr i) = v .carriers t i
+
+      above : (ts : List ℕ) → Falling ts → T (rises ts (byte b 0)) → (u : ℕ) → In u ts → u < byte b 0
+      above [] f r u i = absurd i
+      above (t ∷ ts) f r u (inl e) = rw e (ltb→lt t (byte b 0) r)
+      above (t ∷ ts) f r u (inr i) = omega (arith, f .0 u i, ltb→lt t (byte b 0) r)
+
+abbrev pub mk : Option Header → List Counts → List ℕ → List ℕ → List Entry → ℕ → ℕ → State
+mk hd cs co ws es rn cn = record { header = hd; counts = cs; countsOffsets = co; carrying = ws; entries = es; rules = rn; conditions = cn }
+
+module _ (hd : Option Header) (cs : List Counts) (co ws : List ℕ) (rn cn o : ℕ) (b : List ℕ) where
+  replaced : (e e′ : Entry) (es : List Entry) → Inv (mk hd cs co ws (e ∷ es) rn cn) → EntryOk (headerOf (mk hd cs co ws (e ∷ es) rn cn)) cs ws e′ → (a : Entry) → (a ≡ e′) ⊎ In a es → EntryOk (headerOf (mk hd cs co ws (e ∷ es) rn cn)) cs ws a
   replaced e e′ es v k a (inl p) = rw p k
   replaced e e′ es v k a (inr i) = v .entries a (inr i)
 
-  read-rule : (es : List Entry) → Inv (mk hd cs co es rn cn) → 0 < length es → Passed (mk hd cs co es rn cn) rule b → Inv (readField (mk hd cs co es rn cn) o rule b)
+  read-rule : (es : List Entry) → Inv (mk hd cs co ws es rn cn) → 0 < length es → Passed (mk hd cs co ws es rn cn) rule b → Inv (readField (mk hd cs co ws es rn cn) o rule b)
   read-rule [] v l p = absurd (omega arith)
   read-rule (e ∷ es) v l p =
-      let s : State = mk hd cs co (e ∷ es) rn cn in
+      let s : State = mk hd cs co ws (e ∷ es) rn cn in
       let r : Rule Occurrence = ruleOf b in
       let a = both (leb (byte b 2) 8 && occurrenceKnown s e (r .target)) (all (occurrenceKnown s e) (Table.operands (r .function))) (p .named) in
       let c = both (leb (byte b 2) 8) (occurrenceKnown s e (r .target)) (a .0) in
@@ -335,6 +384,9 @@ module _ (hd : Option Header) (cs : List Counts) (co : List ℕ) (rn cn o : ℕ)
         fewCounts = v .fewCounts;
         attributes = v .attributes;
         startOk = v .startOk;
+        carriers = v .carriers;
+        falling = v .falling;
+        tagged = v .tagged;
         filled = v .filled;
         fewEntries = v .fewEntries;
         entries = replaced e (withRule e r) es v k;
@@ -343,10 +395,10 @@ module _ (hd : Option Header) (cs : List Counts) (co : List ℕ) (rn cn o : ℕ)
         conditions = v .conditions;
       }
 
-  read-condition : (es : List Entry) → Inv (mk hd cs co es rn cn) → 0 < length es → Passed (mk hd cs co es rn cn) condition b → Inv (readField (mk hd cs co es rn cn) o condition b)
+  read-condition : (es : List Entry) → Inv (mk hd cs co ws es rn cn) → 0 < length es → Passed (mk hd cs co ws es rn cn) condition b → Inv (readField (mk hd cs co ws es rn cn) o condition b)
   read-condition [] v l p = absurd (omega arith)
   read-condition (e ∷ es) v l p =
-      let s : State = mk hd cs co (e ∷ es) rn cn in
+      let s : State = mk hd cs co ws (e ∷ es) rn cn in
       let c : Condition Occurrence = conditionOf b in
       let a = both (leb (byte b 0) 2) (all (occurrenceKnown s e) (Table.reads c)) (p .named) in
       let m = both (leb 1 (length b) && ltb cn 512) (ltb 2 (byte b 0) || eqb (length b) (Table.conditionLength (byte b 0))) (p .limits) in
@@ -357,6 +409,9 @@ module _ (hd : Option Header) (cs : List Counts) (co : List ℕ) (rn cn o : ℕ)
         fewCounts = v .fewCounts;
         attributes = v .attributes;
         startOk = v .startOk;
+        carriers = v .carriers;
+        falling = v .falling;
+        tagged = v .tagged;
         filled = v .filled;
         fewEntries = v .fewEntries;
         entries = replaced e (withCondition e c) es v k;
@@ -369,5 +424,6 @@ pub keeps : (s : State) (o : ℕ) (k : Kind) (b : List ℕ) → Inv s → Next s
 keeps s o header b v n p = read-header s v o b n p
 keeps s o counts b v n p = read-counts s v o b (n .0) (n .1) p
 keeps s o production b v n p = read-production s v o b (n .0) (n .1) p
-keeps s o rule b v n p = read-rule (s .header) (s .counts) (s .countsOffsets) (s .rules) (s .conditions) o b (s .entries) v (n .1) p
-keeps s o condition b v n p = read-condition (s .header) (s .counts) (s .countsOffsets) (s .rules) (s .conditions) o b (s .entries) v (n .1) p
+keeps s o rule b v n p = read-rule (s .header) (s .counts) (s .countsOffsets) (s .carrying) (s .rules) (s .conditions) o b (s .entries) v (n .1) p
+keeps s o condition b v n p = read-condition (s .header) (s .counts) (s .countsOffsets) (s .carrying) (s .rules) (s .conditions) o b (s .entries) v (n .1) p
+keeps s o carrier b v n p = read-carrier s v o b (n .0) (n .1) p

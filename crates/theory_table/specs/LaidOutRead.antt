@@ -13,16 +13,16 @@ use lib.IntN.{pos}
 use lib.Dec.{T, eqb, ltb, leb, eqb→eq, eqb-refl, le→leb, lt→ltb, not-T}
 use Rattle.meaning.specs.Base.{In, all, total}
 use Rattle.meaning.specs.Grammar.{Symbol, terminal, nonterminal, Occurrence, Function, Rule, Condition, range, atmost, Production, Counts, noCounts, Grammar, nonterminalCount}
-use Rattle.meaning.specs.Rules.{Operands, Operand, Distinct, Proper, Known, WellFormed, WellFormedProduction}
+use Rattle.meaning.specs.Rules.{Operands, Operand, Distinct, Rising, Proper, Known, WellFormed, WellFormedProduction}
 use Rattle.meaning.specs.Layout as Layout
-use Rattle.meaning.specs.Layout.{field, symbolByte, headerBytes, countsBytes, productionBytes, ruleBytes, conditionBytes, RulesAndConditions, Productions, countsFields, LaidOut}
-use Rattle.meaning.specs.Table.{State, Header, Entry, Kind, header, counts, production, rule, condition, byte, within, symbolOf, symbolKnown, ruleLength, conditionLength, constantAt, operands, reads, occurrenceKnown, isInput, ordered, hasRule, complete, lastComplete, readField, withRule, withCondition, wellFormed, readTable, nothingRead, productionOf, grammarOf}
+use Rattle.meaning.specs.Layout.{field, symbolByte, headerBytes, countsBytes, productionBytes, ruleBytes, conditionBytes, RulesAndConditions, Productions, countsFields, carryingFields, LaidOut}
+use Rattle.meaning.specs.Table.{State, Header, Entry, Kind, header, counts, production, rule, condition, carrier, rises, byte, within, symbolOf, symbolKnown, ruleLength, conditionLength, constantAt, operands, reads, occurrenceKnown, isInput, ordered, hasRule, complete, lastComplete, readField, withRule, withCondition, wellFormed, readTable, nothingRead, productionOf, grammarOf}
 use Rattle.theory_base.specs.Members.{and, both, reverse-in, in-all, in-right, in-reverse, map-in, one-more, map-one-more}
 use Rattle.theory_table.specs.Reading.{Passed, tagOf, Full, Next, over, more, reads-table}
 use Rattle.theory_table.specs.Reading as Reading
 use Rattle.theory_table.specs.Occurrences.{input-over, output-over, operand-over, at-output, operands-map, reads-map, operands-inputs, operands-leftward, reads-inputs, once-set, every-complete}
 use Rattle.theory_table.specs.Invariant.{mk}
-use Rattle.theory_table.specs.Numbers.{two-bytes, symbol-back, rule-read, condition-read}
+use Rattle.theory_table.specs.Numbers.{two-bytes, known-back, rule-read, condition-read}
 
 same-eqb : (m n : ℕ) → m ≡ n → T (eqb m n)
 same-eqb m n e = rw e (eqb-refl n)
@@ -44,9 +44,9 @@ module _ (g : Grammar) (wf : WellFormed g) where
   abbrev headerIs : Header
   headerIs = record { terminals = g .terminals; nonterminals = nonterminalCount g; start = g .start; result = g .result }
 
-  -- the state where header and counts are read
+  -- the state where header, counts and carriers are read
   abbrev st : List ℕ → List Entry → ℕ → ℕ → State
-  st co es rn cn = mk (some headerIs) (reverse (g .counts)) co es rn cn
+  st co es rn cn = mk (some headerIs) (reverse (g .counts)) co (reverse (g .carrying)) es rn cn
 
   -- the rest is read, and the grammar is this one
   abbrev Found : State → ℕ → List ℕ → Type 0
@@ -61,6 +61,9 @@ module _ (g : Grammar) (wf : WellFormed g) where
   back : reverse (reverse (g .counts)) ≡ g .counts
   back = reverse-reverse (g .counts)
 
+  carried-back : reverse (reverse (g .carrying)) ≡ g .carrying
+  carried-back = reverse-reverse (g .carrying)
+
   -- ---- each field passes
 
   module _ (p : Production) (w : WellFormedProduction g p) (e : Entry) (el : e .left ≡ p .left) (er : e .right ≡ p .right) (co : List ℕ) (es : List Entry) (rn cn : ℕ) where
@@ -73,8 +76,8 @@ module _ (g : Grammar) (wf : WellFormed g) where
         let k : ℕ = r .target .position in
         let f : Function Occurrence = r .function in
         let q = rule-read r (w .constants r i) in
-        let o = at-output s e k (r .target .attribute) (output-over g (grammarOf s) p (productionOf e) (sym back) (sym el) (sym er) k (r .target .attribute) (w .targets r i)) in
-        let ops : Operands (Operand (grammarOf s) (productionOf e) k) f = operands-map (operand-over g (grammarOf s) p (productionOf e) (sym back) (sym el) (sym er) k) f (w .operands r i) in
+        let o = at-output s e k (r .target .attribute) (output-over g (grammarOf s) p (productionOf e) (sym back) (sym carried-back) (sym el) (sym er) k (r .target .attribute) (w .targets r i)) in
+        let ops : Operands (Operand (grammarOf s) (productionOf e) k) f = operands-map (operand-over g (grammarOf s) p (productionOf e) (sym back) (sym carried-back) (sym el) (sym er) k) f (w .operands r i) in
         let ins = operands-inputs s e k f ops in
         let fits : Bool = ltb 8 (byte b 2) || eqb (length b) (ruleLength (byte b 2)) in
         let divides : Bool = not (eqb (byte b 2) 8) || (leZ (pos 1) (constantAt b 5) && leZ (constantAt b 5) (pos 1000000)) in
@@ -92,7 +95,7 @@ module _ (g : Grammar) (wf : WellFormed g) where
     condition-passed c i room =
         let b : List ℕ = conditionBytes c in
         let q = condition-read c (w .proper c i) in
-        let ins = reads-inputs s e c (reads-map (λ o u. input-over g (grammarOf s) p (productionOf e) (sym back) (sym el) (sym er) (o .position) (o .attribute) u) c (w .reads c i)) in
+        let ins = reads-inputs s e c (reads-map (λ o u. input-over g (grammarOf s) p (productionOf e) (sym back) (sym carried-back) (sym el) (sym er) (o .position) (o .attribute) u) c (w .reads c i)) in
         let fits : Bool = ltb 2 (byte b 0) || eqb (length b) (conditionLength (byte b 0)) in
         record {
           limits = and (leb 1 (length b) && ltb cn 512) fits (and (leb 1 (length b)) (ltb cn 512) (q .long) (lt→ltb cn 512 room)) (q .right);
@@ -107,15 +110,12 @@ module _ (g : Grammar) (wf : WellFormed g) where
     -- a production all of whose rules are read
     whole-entry : productionOf e ≡ p → T (complete s e)
     whole-entry q = every-complete s e (λ k a u.
-        let r = w .every (record { position = k; attribute = a }) (output-over (grammarOf s) g (productionOf e) p back el er k a u) in
+        let r = w .every (record { position = k; attribute = a }) (output-over (grammarOf s) g (productionOf e) p back carried-back el er k a u) in
         (r .0, in-reverse (r .0) (e .rules) (subst (λ z. In (r .0) (z .rules)) (sym q) (r .1)), r .2))
-
-  known-back : (x : Symbol) → Known g x → symbolOf (symbolByte x) ≡ x
-  known-back x k = symbol-back x (λ t e. let l : t < g .terminals = subst (Known g) e k in omega (arith, wf .terminals .1))
 
   symbols-back : (xs : List Symbol) → ((x : Symbol) → In x xs → Known g x) → map symbolOf (map symbolByte xs) ≡ xs
   symbols-back [] h = refl
-  symbols-back (x ∷ xs) h = ap₂ _∷_ (known-back x (h x (inl refl))) (symbols-back xs (λ y i. h y (inr i)))
+  symbols-back (x ∷ xs) h = ap₂ _∷_ (known-back g wf x (h x (inl refl))) (symbols-back xs (λ y i. h y (inr i)))
 
   production-passed : (p : Production) → WellFormedProduction g p → (co : List ℕ) (es : List Entry) (rn cn : ℕ) → length es < 128 → Passed (st co es rn cn) production (productionBytes p)
   production-passed p w co es rn cn room =
@@ -138,7 +138,7 @@ module _ (g : Grammar) (wf : WellFormed g) where
       symbol : (n : ℕ) → (x : Symbol) × In x (p .right) × (n ≡ symbolByte x) → T (symbolKnown (st co es rn cn) (symbolOf n))
       symbol n v =
           let k = w .symbols (v .0) (v .1) in
-          subst (λ z. T (symbolKnown (st co es rn cn) z)) (sym (ap symbolOf (v .2) ∙ known-back (v .0) k)) (known (v .0) k)
+          subst (λ z. T (symbolKnown (st co es rn cn) z)) (sym (ap symbolOf (v .2) ∙ known-back g wf (v .0) k)) (known (v .0) k)
 
   -- ---- the rules and conditions of one production
 
@@ -178,7 +178,7 @@ module _ (g : Grammar) (wf : WellFormed g) where
   productions-read Layout.nothing co es rn cn o q t a b =
       let e : map productionOf (reverse es) ≡ g .productions = sym (append-nil (map productionOf (reverse es))) ∙ q in
       let l : 0 < length es = omega (arith, ap length e, length-map (reverse es) productionOf, length-reverse es, wf .productions .0) in
-      (st co es rn cn, over (full co es rn cn) l t, λ i. record { terminals = g .terminals; counts = back i; start = g .start; result = g .result; productions = e i })
+      (st co es rn cn, over (full co es rn cn) l t, λ i. record { terminals = g .terminals; counts = back i; carrying = carried-back i; start = g .start; result = g .result; productions = e i })
   productions-read (Layout.production p {ps} {body} {rest} d ds) co es rn cn o q t a b =
       let i : In p (g .productions) = subst (In p) q (in-right p (map productionOf (reverse es)) (p ∷ ps) (inl refl)) in
       let w = wf .each p i in
@@ -190,7 +190,7 @@ module _ (g : Grammar) (wf : WellFormed g) where
 
   -- ---- the counts
 
-  counts-passed : (co : List ℕ) (done : List Counts) (c : Counts) (todo : List Counts) → reverse done ++ (c ∷ todo) ≡ g .counts → Passed (mk (some headerIs) done co [] 0 0) counts (countsBytes c)
+  counts-passed : (co : List ℕ) (done : List Counts) (c : Counts) (todo : List Counts) → reverse done ++ (c ∷ todo) ≡ g .counts → Passed (mk (some headerIs) done co [] [] 0 0) counts (countsBytes c)
   counts-passed co done c todo q = record {
     limits = le→leb (c .inherited + c .synthesized) 8 (wf .attributes c (subst (In c) q (in-right c (reverse done) (c ∷ todo) (inl refl))));
     named = tt;
@@ -210,14 +210,44 @@ module _ (g : Grammar) (wf : WellFormed g) where
           let z = this (eqb→eq (length done) (g .start) (rw e tt)) in
           and (eqb (c .inherited) 0) (within 1 (g .result) (c .synthesized)) (same-eqb (c .inherited) 0 (sym (ap (λ x. x .inherited) z) ∙ wf .startAlone)) (within-is 1 (g .result) (c .synthesized) (wf .result .0) (subst (λ x. g .result ≤ x .synthesized) z (wf .result .1)))
 
-  counts-read : (todo done : List Counts) (co : List ℕ) (o : ℕ) (rest : List ℕ) → reverse done ++ todo ≡ g .counts → Productions (g .productions) rest → Found (mk (some headerIs) done co [] 0 0) o (countsFields todo ++ rest)
+  -- ---- the carriers
+
+  rising-before : (xs : List ℕ) (t : ℕ) (ys : List ℕ) → Rising (xs ++ (t ∷ ys)) → (u : ℕ) → In u xs → u < t
+  rising-before [] t ys d u i = absurd i
+  rising-before (x ∷ xs) t ys d u (inl p) = rw p (d .0 t (in-right t xs (t ∷ ys) (inl refl)))
+  rising-before (x ∷ xs) t ys d u (inr i) = rising-before xs t ys (d .1) u i
+
+  carrier-passed : (co done : List ℕ) (t : ℕ) (todo : List ℕ) → reverse done ++ (t ∷ todo) ≡ g .carrying → Passed (mk (some headerIs) (reverse (g .counts)) co done [] 0 0) carrier (t ∷ [])
+  carrier-passed co done t todo q = record {
+    limits = tt;
+    named = and (ltb t (g .terminals)) (rises done t) (lt→ltb t (g .terminals) (wf .carriers t (subst (In t) q (in-right t (reverse done) (t ∷ todo) (inl refl))))) (above done (λ u i. rising-before (reverse done) t todo (subst Rising (sym q) (wf .rising)) u (reverse-in u done i)));
+    start = tt;
+    directions = tt;
+    once = tt;
+    leftward = tt;
+    bounds = tt;
+  }
+    where
+      above : (us : List ℕ) → ((u : ℕ) → In u us → u < t) → T (rises us t)
+      above [] h = tt
+      above (u ∷ us) h = lt→ltb u t (h u (inl refl))
+
+  carriers-read : (todo done co : List ℕ) (o : ℕ) (rest : List ℕ) → reverse done ++ todo ≡ g .carrying → Productions (g .productions) rest → Found (mk (some headerIs) (reverse (g .counts)) co done [] 0 0) o (carryingFields todo ++ rest)
+  carriers-read [] done co o rest q d =
+      let e : reverse (g .carrying) ≡ done = ap reverse (sym (sym (append-nil (reverse done)) ∙ q)) ∙ reverse-reverse done in
+      subst (λ z. Found (mk (some headerIs) (reverse (g .counts)) co z [] 0 0) o rest) e (productions-read d co [] 0 0 o refl tt (omega (arith, wf .rules)) (omega (arith, wf .conditions)))
+  carriers-read (t ∷ todo) done co o rest q d =
+      let s : State = mk (some headerIs) (reverse (g .counts)) co done [] 0 0 in
+      found-field s o carrier (t ∷ []) (carryingFields todo ++ rest) ((tt, omega (arith, length-reverse (g .counts))), refl) (carrier-passed co done t todo q) (carriers-read todo (t ∷ done) co (o + 3 + 1) rest (one-more t done todo ∙ q) d)
+
+  counts-read : (todo done : List Counts) (co : List ℕ) (o : ℕ) (rest : List ℕ) → reverse done ++ todo ≡ g .counts → Productions (g .productions) rest → Found (mk (some headerIs) done co [] [] 0 0) o (countsFields todo ++ (carryingFields (g .carrying) ++ rest))
   counts-read [] done co o rest q d =
       let e : reverse (g .counts) ≡ done = ap reverse (sym (sym (append-nil (reverse done)) ∙ q)) ∙ reverse-reverse done in
-      subst (λ z. Found (mk (some headerIs) z co [] 0 0) o rest) e (productions-read d co [] 0 0 o refl tt (omega (arith, wf .rules)) (omega (arith, wf .conditions)))
+      subst (λ z. Found (mk (some headerIs) z co [] [] 0 0) o (carryingFields (g .carrying) ++ rest)) e (carriers-read (g .carrying) [] co o rest refl d)
   counts-read (c ∷ todo) done co o rest q d =
-      let s : State = mk (some headerIs) done co [] 0 0 in
+      let s : State = mk (some headerIs) done co [] [] 0 0 in
       let l : length done < nonterminalCount g = omega (arith, ap length q, length-append (reverse done) (c ∷ todo), length-reverse done) in
-      found-field s o counts (countsBytes c) (countsFields todo ++ rest) (tt, l) (counts-passed co done c todo q) (counts-read todo (c ∷ done) (o ∷ co) (o + 3 + 2) rest (one-more c done todo ∙ q) d)
+      found-field s o counts (countsBytes c) (countsFields todo ++ (carryingFields (g .carrying) ++ rest)) (tt, l) (counts-passed co done c todo q) (counts-read todo (c ∷ done) (o ∷ co) (o + 3 + 2) rest (one-more c done todo ∙ q) d)
 
   -- ---- the whole table
 
@@ -233,7 +263,7 @@ module _ (g : Grammar) (wf : WellFormed g) where
   }
 
   table-found : (bs : List ℕ) → LaidOut g bs → Found nothingRead 0 bs
-  table-found bs l = subst (Found nothingRead 0) (sym (l .isTable)) (found-field nothingRead 0 header (headerBytes g) (countsFields (g .counts) ++ l .rest) tt header-passed (counts-read (g .counts) [] [] 7 (l .rest) refl (l .productions)))
+  table-found bs l = subst (Found nothingRead 0) (sym (l .isTable)) (found-field nothingRead 0 header (headerBytes g) (countsFields (g .counts) ++ (carryingFields (g .carrying) ++ l .rest)) tt header-passed (counts-read (g .counts) [] [] 7 (l .rest) refl (l .productions)))
 
 pub laid-out-read : (bs : List ℕ) (g : Grammar) → LaidOut g bs → WellFormed g → length bs ≤ 32768 → (s : State) × (readTable bs ≡ wellFormed s) × (grammarOf s ≡ g)
 laid-out-read bs g l w n = let f = table-found g w bs l in (f .0, reads-table bs (f .0) n (f .1), f .2)

@@ -6,8 +6,8 @@ pub mod AcceptedTable
 pub mod Numbers
 pub mod LaidOutRead
 pub mod Bodies
+pub mod Places
 pub mod Stretches
 pub mod ReadLaidOut
 pub mod Exactly
 pub mod Rows
-pub mod Places

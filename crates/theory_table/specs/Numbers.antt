@@ -10,8 +10,8 @@ use lib.IntN.{ℤ, pos, negsuc}
 use lib.Signed.{leZ}
 use lib.Dec.{T, eqb, ltb, leb, leb→le, le→leb, ltb→lt, lt→ltb, nltb→le}
 use Rattle.meaning.specs.Base.{countFrom}
-use Rattle.meaning.specs.Grammar.{Symbol, terminal, nonterminal, Occurrence, Function, const, copy, sum, diff, prod, maxi, mini, addc, quot, Rule, Condition, range, atmost}
-use Rattle.meaning.specs.Rules.{InFourBytes, Constant, Proper}
+use Rattle.meaning.specs.Grammar.{Symbol, terminal, nonterminal, Occurrence, Function, const, copy, sum, diff, prod, maxi, mini, addc, quot, Rule, Condition, range, atmost, Grammar}
+use Rattle.meaning.specs.Rules.{InFourBytes, Constant, Proper, Known, WellFormed}
 use Rattle.meaning.specs.Layout.{unsigned, fourBytes, constantBytes, occurrenceBytes, symbolByte, functionBytes, ruleBytes, conditionBytes, Bytes}
 use mathlib.Core.Option.{Option, none, some}
 use Rattle.meaning.specs.Table.{byte, signed, constantAt, occurrenceAt, symbolOf, ruleOf, conditionOf, ruleLength, conditionLength}
@@ -109,7 +109,11 @@ symbol-back (nonterminal n) h = go (ltb (128 + n) 128) (λ t. let l = ltb→lt (
     go true v e = absurd (v tt)
     go false v e = ap nonterminal e
 
-byte-back : (n : ℕ) → symbolByte (symbolOf n) ≡ n
+-- a symbol of a well-formed grammar
+pub known-back : (g : Grammar) → WellFormed g → (x : Symbol) → Known g x → symbolOf (symbolByte x) ≡ x
+known-back g w x k = symbol-back x (λ t e. let l : t < g .terminals = subst (Known g) e k in omega (arith, w .terminals .1))
+
+pub byte-back : (n : ℕ) → symbolByte (symbolOf n) ≡ n
 byte-back n = go (ltb n 128) (λ t. nltb→le n 128 t)
   where
     go : (b : Bool) → (T (not b) → 128 ≤ n) → symbolByte (elim b [ true ↦ terminal n | false ↦ nonterminal (n - 128) ]) ≡ n

@@ -4,11 +4,11 @@ use native.Mathlib.Omega.{arith}
 use mathlib.Core.Path.{_≡_, refl, sym, ap, _∙_, subst}
 use mathlib.Core.Logic.{_⊎_, inl, inr}
 use mathlib.Core.Bool.{Bool, true, false, not, _||_}
-use mathlib.Core.List.{[], _∷_}
+use mathlib.Core.List.{List, [], _∷_}
 use lib.ListN.{length, getD}
 use lib.Dec.{T, eqb, eqb→eq, eqb-refl, ltb, leb, leb→le, le→leb, nleb→lt, ltb→lt, lt→ltb, eqb·suc-zero, T-not, not-T}
 use Rattle.meaning.specs.Base.{all, countFrom, In}
-use Rattle.meaning.specs.Grammar.{Symbol, terminal, nonterminal, Occurrence, Function, const, copy, sum, diff, prod, maxi, mini, addc, quot, Rule, Condition, range, atmost, Production, Grammar, countsIn, inh, att, symbolAt}
+use Rattle.meaning.specs.Grammar.{Symbol, terminal, nonterminal, Occurrence, Function, const, copy, sum, diff, prod, maxi, mini, addc, quot, Rule, Condition, range, atmost, Production, Grammar, Counts, countsIn, inh, att, symbolAt}
 use Rattle.meaning.specs.Rules.{Operands, Reads, Input, InputAt, OutputAt, Operand}
 use Rattle.meaning.specs.Table.{State, Entry, countsAt, entrySymbol, occurrenceKnown, isInput, isInherited, within, operands, reads, sameOccurrence, hasRule, occurrencesAt, complete, productionOf, grammarOf, sameAs}
 use Rattle.theory_base.specs.Members.{both, and, or-cases, or-right, not-not, all-in, in-all, any-in, in-any, in-map, map-in, in-from, from-in}
@@ -16,16 +16,16 @@ use Rattle.theory_base.specs.Members.{both, and, or-cases, or-right, not-not, a
 abbrev occ : ℕ → ℕ → Occurrence
 occ k a = record { position = k; attribute = a }
 
--- ---- inputs and outputs depend on the counts and the symbols alone
+-- ---- inputs and outputs depend on the counts, the terminals that carry a value and the symbols alone
 
-module _ (g g′ : Grammar) (p p′ : Production) (e : g .counts ≡ g′ .counts) (l : p .left ≡ p′ .left) (r : p .right ≡ p′ .right) where
+module _ (g g′ : Grammar) (p p′ : Production) (e : g .counts ≡ g′ .counts) (w : g .carrying ≡ g′ .carrying) (l : p .left ≡ p′ .left) (r : p .right ≡ p′ .right) where
   pub input-over : (k a : ℕ) → InputAt g p k a → InputAt g′ p′ k a
-  input-over zero a h = subst (λ cs. (1 ≤ a) × (a ≤ countsIn cs (nonterminal (p′ .left)) .inherited)) e (subst (λ n. (1 ≤ a) × (a ≤ countsIn (g .counts) (nonterminal n) .inherited)) l h)
-  input-over (suc k) a h = subst (λ cs. (k < length (p′ .right)) × (countsIn cs (getD (p′ .right) k (terminal 0)) .inherited < a) × (a ≤ countsIn cs (getD (p′ .right) k (terminal 0)) .inherited + countsIn cs (getD (p′ .right) k (terminal 0)) .synthesized)) e (subst (λ xs. (k < length xs) × (countsIn (g .counts) (getD xs k (terminal 0)) .inherited < a) × (a ≤ countsIn (g .counts) (getD xs k (terminal 0)) .inherited + countsIn (g .counts) (getD xs k (terminal 0)) .synthesized)) r h)
+  input-over zero a h = subst (λ (z : List Counts × List ℕ). (1 ≤ a) × (a ≤ countsIn (z .0) (z .1) (nonterminal (p′ .left)) .inherited)) (λ i. (e i, w i)) (subst (λ n. (1 ≤ a) × (a ≤ countsIn (g .counts) (g .carrying) (nonterminal n) .inherited)) l h)
+  input-over (suc k) a h = subst (λ (z : List Counts × List ℕ). (k < length (p′ .right)) × (countsIn (z .0) (z .1) (getD (p′ .right) k (terminal 0)) .inherited < a) × (a ≤ countsIn (z .0) (z .1) (getD (p′ .right) k (terminal 0)) .inherited + countsIn (z .0) (z .1) (getD (p′ .right) k (terminal 0)) .synthesized)) (λ i. (e i, w i)) (subst (λ xs. (k < length xs) × (countsIn (g .counts) (g .carrying) (getD xs k (terminal 0)) .inherited < a) × (a ≤ countsIn (g .counts) (g .carrying) (getD xs k (terminal 0)) .inherited + countsIn (g .counts) (g .carrying) (getD xs k (terminal 0)) .synthesized)) r h)
 
   pub output-over : (k a : ℕ) → OutputAt g p k a → OutputAt g′ p′ k a
-  output-over zero a h = subst (λ cs. (countsIn cs (nonterminal (p′ .left)) .inherited < a) × (a ≤ countsIn cs (nonterminal (p′ .left)) .inherited + countsIn cs (nonterminal (p′ .left)) .synthesized)) e (subst (λ n. (countsIn (g .counts) (nonterminal n) .inherited < a) × (a ≤ countsIn (g .counts) (nonterminal n) .inherited + countsIn (g .counts) (nonterminal n) .synthesized)) l h)
-  output-over (suc k) a h = subst (λ cs. (k < length (p′ .right)) × (1 ≤ a) × (a ≤ countsIn cs (getD (p′ .right) k (terminal 0)) .inherited)) e (subst (λ xs. (k < length xs) × (1 ≤ a) × (a ≤ countsIn (g .counts) (getD xs k (terminal 0)) .inherited)) r h)
+  output-over zero a h = subst (λ (z : List Counts × List ℕ). (countsIn (z .0) (z .1) (nonterminal (p′ .left)) .inherited < a) × (a ≤ countsIn (z .0) (z .1) (nonterminal (p′ .left)) .inherited + countsIn (z .0) (z .1) (nonterminal (p′ .left)) .synthesized)) (λ i. (e i, w i)) (subst (λ n. (countsIn (g .counts) (g .carrying) (nonterminal n) .inherited < a) × (a ≤ countsIn (g .counts) (g .carrying) (nonterminal n) .inherited + countsIn (g .counts) (g .carrying) (nonterminal n) .synthesized)) l h)
+  output-over (suc k) a h = subst (λ (z : List Counts × List ℕ). (k < length (p′ .right)) × (1 ≤ a) × (a ≤ countsIn (z .0) (z .1) (getD (p′ .right) k (terminal 0)) .inherited)) (λ i. (e i, w i)) (subst (λ xs. (k < length xs) × (1 ≤ a) × (a ≤ countsIn (g .counts) (g .carrying) (getD xs k (terminal 0)) .inherited)) r h)
 
   pub operand-over : (k : ℕ) (o : Occurrence) → Operand g p k o → Operand g′ p′ k o
   operand-over zero o h = input-over (o .position) (o .attribute) h

@@ -1,4 +1,4 @@
--- Where in the bytes of a table that is read the header, the counts and the productions stand.
+-- Where in the bytes of a table that is read the header, the counts, the tokens that carry a value and the productions stand.
 use Prim.Native.Nat.{ℕ, suc, _+_, _*_, _≤_, _<_}
 use native.Mathlib.Omega.{arith}
 use native.Mathlib.Decide.{decLt}
@@ -11,7 +11,7 @@ use lib.Seq.{getD-at, getD-append-add, getD-drop}
 use lib.Dec.{T, eqb, leb, eqb→eq, T-not}
 use Rattle.meaning.specs.Base.{In}
 use Rattle.meaning.specs.Grammar.{Symbol, terminal, Counts, noCounts, wholeProduction, productionAt, whole, pickProduction}
-use Rattle.meaning.specs.Table.{State, Header, Entry, noEntry, Kind, header, counts, production, rule, condition, isSome, headerOf, byte, within, symbolOf, readField, onCurrent, withRule, withCondition, ruleOf, conditionOf, wellFormed, readTable, productionOf, grammarOf}
+use Rattle.meaning.specs.Table.{State, Header, Entry, noEntry, Kind, header, counts, production, rule, condition, carrier, isSome, headerOf, byte, within, symbolOf, readField, onCurrent, withRule, withCondition, ruleOf, conditionOf, wellFormed, readTable, nothingRead, productionOf, grammarOf}
 use Rattle.meaning.specs.Judgement.{entryOffset, countsOffset}
 use Rattle.theory_base.specs.Members.{both, in-reverse, getD-in, map-at}
 use Rattle.theory_table.specs.Reading.{Reads, over, more, Passed, tagOf, Next, table-reads}
@@ -32,6 +32,17 @@ pub record CountsAt (all : List ℕ) (o : ℕ) (c : Counts) : Type 0 where
   pub inherited : byte all (o + 3) ≡ c .inherited
   pub synthesized : byte all (o + 4) ≡ c .synthesized
 
+pub record CarrierAt (all : List ℕ) (o t : ℕ) : Type 0 where
+  pub tag : byte all o ≡ 6
+  pub kind : byte all (o + 3) ≡ t
+
+-- where the tag 6 fields, and behind them the productions, begin
+abbrev pub carriersAt : State → ℕ
+carriersAt s = 7 + 5 * length (s .counts)
+
+abbrev pub productionsAt : State → ℕ
+productionsAt s = carriersAt s + 4 * length (s .carrying)
+
 pub record EntryAt (all : List ℕ) (e : Entry) : Type 0 where
   pub tag : byte all (e .offset) ≡ 3
   pub left : byte all (e .offset + 3) ≡ e .left
@@ -50,13 +61,15 @@ record From (all : List ℕ) (o : ℕ) (bs : List ℕ) : Type 0 where
   long : o + length bs ≡ length all
 
 record Placed (all : List ℕ) (s : State) (o : ℕ) : Type 0 where
-  early : T (not (isSome (s .header))) → (o ≡ 0) × (length (s .counts) ≡ 0) × (length (s .entries) ≡ 0)
+  early : T (not (isSome (s .header))) → (o ≡ 0) × (length (s .counts) ≡ 0) × (length (s .carrying) ≡ 0) × (length (s .entries) ≡ 0)
   headerAt : T (isSome (s .header)) → HeaderAt all (headerOf s)
-  next : T (isSome (s .header)) → length (s .entries) ≡ 0 → o ≡ 7 + 5 * length (s .counts)
+  next : T (isSome (s .header)) → length (s .entries) ≡ 0 → o ≡ productionsAt s
   many : length (s .countsOffsets) ≡ length (s .counts)
   offsets : (n : ℕ) → n < length (s .counts) → getD (reverse (s .countsOffsets)) n 0 ≡ 7 + 5 * n
   countsAt : (n : ℕ) → n < length (s .counts) → CountsAt all (7 + 5 * n) (getD (reverse (s .counts)) n noCounts)
+  carryingAt : (n : ℕ) → n < length (s .carrying) → CarrierAt all (carriersAt s + 4 * n) (getD (reverse (s .carrying)) n 0)
   entriesAt : (e : Entry) → In e (s .entries) → EntryAt all e
+  first : 0 < length (s .entries) → entryOffset s 0 ≡ productionsAt s
   falling : Falling o (s .entries)
 
 -- ---- the bytes of one field
@@ -102,19 +115,21 @@ module _ (all : List ℕ) (s : State) (o high low : ℕ) (b rest : List ℕ) (v 
       record {
         early = λ t. absurd t;
         headerAt = λ t. record { terminals = at 0 (omega arith); nonterminals = at 1 (omega arith); start = at 2 (omega arith); result = at 3 (omega arith) };
-        next = λ t e. omega (arith, z .0, z .1);
+        next = λ t e. omega (arith, z .0, z .1, z .2);
         many = v .many;
         offsets = v .offsets;
         countsAt = v .countsAt;
+        carryingAt = v .carryingAt;
         entriesAt = v .entriesAt;
+        first = v .first;
         falling = falling-later (s .entries) o (o + 3 + length b) (omega arith) (v .falling);
       }
 
-  place-counts : From all o (2 ∷ high ∷ low ∷ b ++ rest) → T (isSome (s .header)) → length (s .entries) ≡ 0 → Passed s counts b → Placed all (readField s o counts b) (o + 3 + length b)
-  place-counts f t none p =
+  place-counts : From all o (2 ∷ high ∷ low ∷ b ++ rest) → T (isSome (s .header)) → length (s .entries) ≡ 0 → length (s .carrying) ≡ 0 → Passed s counts b → Placed all (readField s o counts b) (o + 3 + length b)
+  place-counts f t none bare p =
       let c : Counts = record { inherited = byte b 0; synthesized = byte b 1 } in
       let l : length b ≡ 2 = eqb→eq (length b) 2 (both (eqb (length b) 2) (leb (byte b 0 + byte b 1) 8) (p .limits) .0) in
-      let here : o ≡ 7 + 5 * length (s .counts) = v .next t none in
+      let here : o ≡ 7 + 5 * length (s .counts) = omega (arith, v .next t none, bare) in
       let new : CountsAt all o c = record { tag = tag-at all o 2 high low b rest f; inherited = body-at all o 2 high low b rest f 0 (omega arith); synthesized = body-at all o 2 high low b rest f 1 (omega arith) } in
       record {
         early = λ n. absurd (T-not (isSome (s .header)) n t);
@@ -123,7 +138,26 @@ module _ (all : List ℕ) (s : State) (o high low : ℕ) (b rest : List ℕ) (v 
         many = ap suc (v .many);
         offsets = λ n m. at-last (λ n x. x ≡ 7 + 5 * n) o (s .countsOffsets) 0 (λ n m. v .offsets n (omega (arith, v .many))) (omega (arith, here, v .many)) n (omega (arith, v .many));
         countsAt = at-last (λ n c. CountsAt all (7 + 5 * n) c) c (s .counts) noCounts (v .countsAt) (subst (λ z. CountsAt all z c) here new);
+        carryingAt = λ n m. absurd (omega (arith, bare));
         entriesAt = v .entriesAt;
+        first = λ m. absurd (omega (arith, none));
+        falling = falling-later (s .entries) o (o + 3 + length b) (omega arith) (v .falling);
+      }
+
+  place-carrier : From all o (6 ∷ high ∷ low ∷ b ++ rest) → T (isSome (s .header)) → length (s .entries) ≡ 0 → Passed s carrier b → Placed all (readField s o carrier b) (o + 3 + length b)
+  place-carrier f t none p =
+      let l : length b ≡ 1 = eqb→eq (length b) 1 (p .limits) in
+      let new : CarrierAt all o (byte b 0) = record { tag = tag-at all o 6 high low b rest f; kind = body-at all o 6 high low b rest f 0 (omega arith) } in
+      record {
+        early = λ n. absurd (T-not (isSome (s .header)) n t);
+        headerAt = v .headerAt;
+        next = λ t e. omega (arith, v .next t none, l);
+        many = v .many;
+        offsets = v .offsets;
+        countsAt = v .countsAt;
+        carryingAt = at-last (λ n t. CarrierAt all (carriersAt s + 4 * n) t) (byte b 0) (s .carrying) 0 (v .carryingAt) (subst (λ z. CarrierAt all z (byte b 0)) (v .next t none) new);
+        entriesAt = v .entriesAt;
+        first = λ m. absurd (omega (arith, none));
         falling = falling-later (s .entries) o (o + 3 + length b) (omega arith) (v .falling);
       }
 
@@ -136,7 +170,9 @@ module _ (all : List ℕ) (s : State) (o high low : ℕ) (b rest : List ℕ) (v 
         many = v .many;
         offsets = v .offsets;
         countsAt = v .countsAt;
+        carryingAt = v .carryingAt;
         entriesAt = λ e i. entry e i;
+        first = λ m. at-last (λ n e. n ≡ 0 → e .offset ≡ productionsAt s) new (s .entries) noEntry (λ n k q. ap (λ i. entryOffset s i) q ∙ v .first (omega arith)) (λ q. v .next t q) 0 m refl;
         falling = (omega (arith, size, n), v .falling);
       }
     where
@@ -190,7 +226,17 @@ module _ (h : Entry → Entry) (same : (e : Entry) → SamePlace e (h e)) where
   falling-kept o [] f = tt
   falling-kept o (e ∷ es) f = (omega (arith, f .0, same e .0, ap length (same e .2)), subst (λ z. Falling z es) (same e .0) (f .1))
 
-  place-current : (all : List ℕ) (s : State) (o o′ rn cn : ℕ) → Placed all s o → T (isSome (s .header)) → 0 < length (s .entries) → o ≤ o′ → Placed all (mk (s .header) (s .counts) (s .countsOffsets) (onCurrent h (s .entries)) rn cn) o′
+  first-kept : (es : List Entry) → getD (reverse (onCurrent h es)) 0 noEntry .offset ≡ getD (reverse es) 0 noEntry .offset
+  first-kept [] = refl
+  first-kept (e ∷ es) =
+      let front : (d : Entry) → getD (reverse (d ∷ es)) 0 noEntry ≡ getD (reverse es ++ (d ∷ [])) 0 noEntry = λ d. ap (λ z. getD z 0 noEntry) (reverse-cons d es) in
+      ap (λ d. d .offset) (front (h e)) ∙ go (reverse es) ∙ sym (ap (λ d. d .offset) (front e))
+    where
+      go : (xs : List Entry) → getD (xs ++ (h e ∷ [])) 0 noEntry .offset ≡ getD (xs ++ (e ∷ [])) 0 noEntry .offset
+      go [] = sym (same e .0)
+      go (x ∷ xs) = refl
+
+  place-current : (all : List ℕ) (s : State) (o o′ rn cn : ℕ) → Placed all s o → T (isSome (s .header)) → 0 < length (s .entries) → o ≤ o′ → Placed all (mk (s .header) (s .counts) (s .countsOffsets) (s .carrying) (onCurrent h (s .entries)) rn cn) o′
   place-current all s o o′ rn cn v t m l = record {
     early = λ n. absurd (T-not (isSome (s .header)) n t);
     headerAt = v .headerAt;
@@ -198,7 +244,9 @@ module _ (h : Entry → Entry) (same : (e : Entry) → SamePlace e (h e)) where
     many = v .many;
     offsets = v .offsets;
     countsAt = v .countsAt;
+    carryingAt = v .carryingAt;
     entriesAt = entries-kept all (s .entries) (v .entriesAt);
+    first = λ k. first-kept (s .entries) ∙ v .first m;
     falling = falling-later (onCurrent h (s .entries)) o o′ l (falling-kept o (s .entries) (v .falling));
   }
 
@@ -206,21 +254,40 @@ module _ (h : Entry → Entry) (same : (e : Entry) → SamePlace e (h e)) where
 
 place : (all : List ℕ) (s : State) (o : ℕ) (k : Kind) (high low : ℕ) (b rest : List ℕ) → Inv s → Placed all s o → From all o (tagOf k ∷ high ∷ low ∷ b ++ rest) → Next s k → Passed s k b → Placed all (readField s o k b) (o + 3 + length b)
 place all s o header high low b rest i v f n p = place-header all s o high low b rest v f n p
-place all s o counts high low b rest i v f n p = place-counts all s o high low b rest v f (n .0) (none (decLt 0 (length (s .entries)))) p
+place all s o counts high low b rest i v f n p = place-counts all s o high low b rest v f (n .0) (none (decLt 0 (length (s .entries)))) (bare (decLt 0 (length (s .carrying)))) p
   where
     none : Dec (0 < length (s .entries)) → length (s .entries) ≡ 0
     none (yes l) = absurd (omega (arith, i .filled l .1, n .1))
     none (no l) = omega arith
+
+    bare : Dec (0 < length (s .carrying)) → length (s .carrying) ≡ 0
+    bare (yes l) = absurd (omega (arith, i .tagged l .1, n .1))
+    bare (no l) = omega arith
 place all s o production high low b rest i v f n p = place-production all s o high low b rest v f (n .0 .0) p
 place all s o rule high low b rest i v f n p = place-current (λ e. withRule e (ruleOf b)) (λ e. (refl, refl, refl)) all s o (o + 3 + length b) (suc (s .rules)) (s .conditions) v (n .0 .0) (n .1) (omega arith)
 place all s o condition high low b rest i v f n p = place-current (λ e. withCondition e (conditionOf b)) (λ e. (refl, refl, refl)) all s o (o + 3 + length b) (s .rules) (suc (s .conditions)) v (n .0 .0) (n .1) (omega arith)
+place all s o carrier high low b rest i v f n p = place-carrier all s o high low b rest v f (n .0 .0) (n .1) p
 
 places : (all : List ℕ) {s u : State} {o : ℕ} {bs : List ℕ} → Reads s o bs u → Inv s → Placed all s o → From all o bs → Placed all u (length all)
 places all (over {s} {o} f l t) i v a = subst (Placed all s) (let e = a .long in omega arith) v
 places all {s} (more {o = o} k high low b {rest} c n p r) i v a = places all r (keeps s o k b i n p) (place all s o k high low b rest i v a n p) (onward all o (tagOf k) high low b rest a)
 
 placed : (bs : List ℕ) (s : State) → readTable bs ≡ wellFormed s → Placed bs s (length bs)
-placed bs s e = places bs (table-reads bs s e .1) nothing-yet (record { early = λ t. (refl, refl, refl); headerAt = λ t. absurd t; next = λ t. absurd t; many = refl; offsets = λ n l. absurd (omega arith); countsAt = λ n l. absurd (omega arith); entriesAt = λ e i. absurd i; falling = tt }) (record { same = λ i. ap (byte bs) (omega arith); long = omega arith })
+placed bs s e = places bs (table-reads bs s e .1) nothing-yet start (record { same = λ i. ap (byte bs) (omega arith); long = omega arith })
+  where
+    start : Placed bs nothingRead 0
+    start = record {
+      early = λ t. (refl, refl, refl, refl);
+      headerAt = λ t. absurd t;
+      next = λ t. absurd t;
+      many = refl;
+      offsets = λ n l. absurd (omega arith);
+      countsAt = λ n l. absurd (omega arith);
+      carryingAt = λ n l. absurd (omega arith);
+      entriesAt = λ e i. absurd i;
+      first = λ l. absurd (omega arith);
+      falling = tt;
+    }
 
 -- ---- by number
 
@@ -244,6 +311,9 @@ pub record Places (bs : List ℕ) (s : State) : Type 0 where
   pub headerAt : HeaderAt bs (headerOf s)
   pub countsOffsets : (n : ℕ) → n < length (s .counts) → countsOffset s n ≡ 7 + 5 * n
   pub countsAt : (n : ℕ) → n < length (s .counts) → CountsAt bs (7 + 5 * n) (getD (reverse (s .counts)) n noCounts)
+  pub carryingAt : (n : ℕ) → n < length (s .carrying) → CarrierAt bs (carriersAt s + 4 * n) (getD (reverse (s .carrying)) n 0)
+  -- behind the last of them the first production begins
+  pub first : entryOffset s 0 ≡ productionsAt s
   pub entriesAt : (p : ℕ) → p < length (s .entries) → EntryAt bs (getD (reverse (s .entries)) p noEntry)
   pub rising : (p q : ℕ) → p < q → q < length (s .entries) → entryOffset s p + 5 + length (getD (reverse (s .entries)) p noEntry .right) ≤ entryOffset s q
   pub below : (p : ℕ) → p < length (s .entries) → entryOffset s p < length bs
@@ -255,6 +325,8 @@ read-places bs s e = record {
   headerAt = v .headerAt (w .full .0);
   countsOffsets = v .offsets;
   countsAt = v .countsAt;
+  carryingAt = v .carryingAt;
+  first = v .first (w .some-entry);
   entriesAt = at;
   rising = rising (s .entries) (length bs) (v .falling);
   below = λ p l. let h = at p l .inside in omega arith;

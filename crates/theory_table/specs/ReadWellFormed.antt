@@ -8,12 +8,12 @@ use lib.ListN.{length, length-map, length-reverse}
 use lib.Dec.{T}
 use Rattle.meaning.specs.Base.{In, total}
 use Rattle.meaning.specs.Grammar.{Symbol, terminal, nonterminal, Occurrence, Rule, Production, Grammar}
-use Rattle.meaning.specs.Rules.{Distinct, Known, WellFormed, WellFormedProduction}
+use Rattle.meaning.specs.Rules.{Distinct, Rising, Known, WellFormed, WellFormedProduction}
 use Rattle.meaning.specs.Table.{State, Entry, headerOf, complete, lastComplete, wellFormed, readTable, productionOf, grammarOf}
 use Rattle.theory_base.specs.Members.{in-reverse, reverse-in, map-in}
 use Rattle.theory_table.specs.Reading.{Reads, over, more, Full, table-reads}
 use Rattle.theory_table.specs.Occurrences.{input-over, output-over, operand-over, operands-map, reads-map, complete-every}
-use Rattle.theory_table.specs.Invariant.{KnownIn, EntryOk, Inv, nothing-yet, all-complete, keeps, countsOnly, bare, ruleCount, conditionCount}
+use Rattle.theory_table.specs.Invariant.{KnownIn, Falling, EntryOk, Inv, nothing-yet, all-complete, keeps, countsOnly, bare, ruleCount, conditionCount}
 
 -- ---- what holds at the end
 
@@ -42,6 +42,17 @@ distinct-aux (x ∷ l) r d e c = distinct-aux l (x ∷ r) (d .1) ((λ q i p. c x
 
 pub distinct-reverse : (l : List (Rule Occurrence)) → Distinct l → Distinct (reverse l)
 distinct-reverse l d = distinct-aux l [] d tt (λ q u i j z. j)
+
+rising-aux : (l r : List ℕ) → Falling l → Rising r → ((t u : ℕ) → In t l → In u r → t < u) → Rising (reverseAux l r)
+rising-aux [] r d e c = e
+rising-aux (x ∷ l) r d e c = rising-aux l (x ∷ r) (d .1) ((λ u i. c x u (inl refl) i), e) cross
+  where
+    cross : (t u : ℕ) → In t l → (u ≡ x) ⊎ In u r → t < u
+    cross t u i (inl p) = rw p (d .0 t i)
+    cross t u i (inr j) = c t u (inr i) j
+
+pub rising-reverse : (l : List ℕ) → Falling l → Rising (reverse l)
+rising-reverse l d = rising-aux l [] d tt (λ t u i j. absurd j)
 
 total-aux : {A : Type 0} (f : A → ℕ) (l r : List A) → total (map f (reverseAux l r)) ≡ total (map f l) + total (map f r)
 total-aux f [] r = omega arith
@@ -74,19 +85,19 @@ module _ (s : State) (w : Whole s) where
   known (terminal t) k = k
   known (nonterminal n) k = omega (arith, all-counted)
 
-  production-formed : (e : Entry) → EntryOk (headerOf s) (s .counts) e → T (complete s e) → WellFormedProduction g (productionOf e)
+  production-formed : (e : Entry) → EntryOk (headerOf s) (s .counts) (s .carrying) e → T (complete s e) → WellFormedProduction g (productionOf e)
   production-formed e k c =
-      let g′ : Grammar = countsOnly (s .counts) in
+      let g′ : Grammar = countsOnly (s .counts) (s .carrying) in
       record {
         left = omega (arith, all-counted, k .left);
         short = k .short;
         symbols = λ x i. known x (k .symbols x i);
-        targets = λ r i. output-over g′ g (bare e) (productionOf e) refl refl refl (r .target .position) (r .target .attribute) (k .targets r (in-reverse r (e .rules) i));
+        targets = λ r i. output-over g′ g (bare e) (productionOf e) refl refl refl refl (r .target .position) (r .target .attribute) (k .targets r (in-reverse r (e .rules) i));
         distinct = distinct-reverse (e .rules) (k .distinct);
         every = λ o u. let r = complete-every s e c (o .position) (o .attribute) u in (r .0, reverse-in (r .0) (e .rules) (r .1), r .2);
-        operands = λ r i. operands-map (operand-over g′ g (bare e) (productionOf e) refl refl refl (r .target .position)) (r .function) (k .operands r (in-reverse r (e .rules) i));
+        operands = λ r i. operands-map (operand-over g′ g (bare e) (productionOf e) refl refl refl refl (r .target .position)) (r .function) (k .operands r (in-reverse r (e .rules) i));
         constants = λ r i. k .constants r (in-reverse r (e .rules) i);
-        reads = λ q i. reads-map (λ o u. input-over g′ g (bare e) (productionOf e) refl refl refl (o .position) (o .attribute) u) q (k .reads q (in-reverse q (e .conditions) i));
+        reads = λ q i. reads-map (λ o u. input-over g′ g (bare e) (productionOf e) refl refl refl refl (o .position) (o .attribute) u) q (k .reads q (in-reverse q (e .conditions) i));
         proper = λ q i. k .proper q (in-reverse q (e .conditions) i);
       }
 
@@ -107,6 +118,8 @@ module _ (s : State) (w : Whole s) where
         nonterminals = (omega (arith, all-counted, h .nonterminals .0), omega (arith, all-counted, h .nonterminals .1));
         start = omega (arith, all-counted, h .start);
         attributes = λ c i. w .inv .attributes c (in-reverse c (s .counts) i);
+        carriers = λ t i. w .inv .carriers t (in-reverse t (s .carrying) i);
+        rising = rising-reverse (s .carrying) (w .inv .falling);
         startAlone = start .0;
         result = (start .1, start .2);
         productions = (omega (arith, many, many′, w .some-entry), omega (arith, many, many′, w .inv .fewEntries));

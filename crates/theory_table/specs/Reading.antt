@@ -8,7 +8,7 @@ use mathlib.Core.List.{List, [], _∷_, _++_}
 use lib.ListN.{length, take, drop, length-append, length-drop, take-append-drop}
 use lib.Seq.{length-take-le, take-append-seam, drop-append-seam}
 use lib.Dec.{T, eqb, ltb, leb, eqb→eq, leb→le, le→leb, ltb→lt, lt→ltb, nltb→le}
-use Rattle.meaning.specs.Table.{State, Kind, header, counts, production, rule, condition, Stage, atHeader, atCounts, atFirst, atAny, stage, tagStands, kindOf, isSome, headerOf, byte, limitsHold, known, startRight, directionsRight, setOnce, leftToRight, boundsRight, lowestOf, judgeField, current, lastComplete, readField, Read, wellFormed, malformed, atEnd, readAll, readTable, nothingRead}
+use Rattle.meaning.specs.Table.{State, Kind, header, counts, production, rule, condition, carrier, Stage, atHeader, atCounts, atFirst, atAny, stage, tagStands, kindOf, isSome, headerOf, byte, limitsHold, known, startRight, directionsRight, setOnce, leftToRight, boundsRight, lowestOf, judgeField, current, lastComplete, readField, Read, wellFormed, malformed, atEnd, readAll, readTable, nothingRead}
 use Rattle.theory_base.specs.Members.{both, and, or-cases, not-not}
 
 -- ---- a field that no number judges
@@ -81,6 +81,7 @@ tagOf counts = 2
 tagOf production = 3
 tagOf rule = 4
 tagOf condition = 5
+tagOf carrier = 6
 
 kind-of-tag : (k : Kind) → kindOf (tagOf k) ≡ k
 kind-of-tag header = refl
@@ -88,6 +89,7 @@ kind-of-tag counts = refl
 kind-of-tag production = refl
 kind-of-tag rule = refl
 kind-of-tag condition = refl
+kind-of-tag carrier = refl
 
 -- the header and every counts field are read
 abbrev pub Full : State → Type 0
@@ -99,6 +101,7 @@ Next s counts = T (isSome (s .header)) × (length (s .counts) < headerOf s .nont
 Next s production = Full s × T (lastComplete s)
 Next s rule = Full s × (0 < length (s .entries))
 Next s condition = Full s × (0 < length (s .entries))
+Next s carrier = Full s × (length (s .entries) ≡ 0)
 
 abbrev stageBy : Bool → Bool → Bool → Stage
 stageBy a b c = elim a as (λ x. Stage) [ false ↦ atHeader | true ↦ elim b as (λ x. Stage) [ true ↦ atCounts | false ↦ elim c as (λ x. Stage) [ true ↦ atAny | false ↦ atFirst ] ] ]
@@ -132,6 +135,10 @@ next-of s t u m = go (stage s) (stood s) u
     three : Full s → t ≡ 3 → NextOf s t
     three f e = (production, e, (f, whole e))
 
+    first : Full s → T (not (ltb 0 (length (s .entries)))) → T (eqb t 3) ⊎ T (eqb t 6) → NextOf s t
+    first f l (inl v) = three f (eqb→eq t 3 v)
+    first f l (inr v) = (carrier, eqb→eq t 6 v, (f, omega (arith, nltb→le 0 (length (s .entries)) l)))
+
     later : Full s → 0 < length (s .entries) → T (eqb t 3) ⊎ T (eqb t 4) → NextOf s t
     later f l (inl v) = three f (eqb→eq t 3 v)
     later f l (inr v) = (rule, eqb→eq t 4 v, (f, l))
@@ -143,7 +150,7 @@ next-of s t u m = go (stage s) (stood s) u
     go : (x : Stage) → Stood s x → T (tagStands x t) → NextOf s t
     go atHeader h v = (header, eqb→eq t 1 v, h)
     go atCounts h v = (counts, eqb→eq t 2 v, h)
-    go atFirst h v = three (h .0) (eqb→eq t 3 v)
+    go atFirst h v = first (h .0) (h .1) (or-cases (eqb t 3) (eqb t 6) v)
     go atAny h v = any (h .0) (ltb→lt 0 (length (s .entries)) (h .1)) (or-cases (eqb t 3 || eqb t 4) (eqb t 5) v)
 
 stage-any : (s : State) → Full s → 0 < length (s .entries) → stage s ≡ atAny
@@ -154,6 +161,15 @@ stage-any s f l = go (isSome (s .header)) (f .0) (ltb (length (s .counts)) (head
     go true t true n c v = absurd (n tt)
     go true t false n true v = refl
     go true t false n false v = absurd v
+
+stage-first : (s : State) → Full s → length (s .entries) ≡ 0 → stage s ≡ atFirst
+stage-first s f l = go (isSome (s .header)) (f .0) (ltb (length (s .counts)) (headerOf s .nonterminals)) (λ t. let h = ltb→lt (length (s .counts)) (headerOf s .nonterminals) t in absurd (omega (arith, f .1))) (ltb 0 (length (s .entries))) (λ t. let h = ltb→lt 0 (length (s .entries)) t in absurd (omega (arith, l)))
+  where
+    go : (a : Bool) → T a → (b : Bool) → (T b → ⊥) → (c : Bool) → (T c → ⊥) → stageBy a b c ≡ atFirst
+    go false t b n c v = absurd t
+    go true t true n c v = absurd (n tt)
+    go true t false n true v = absurd (v tt)
+    go true t false n false v = refl
 
 stands : (s : State) (k : Kind) → Next s k → T (tagStands (stage s) (tagOf k)) × T (not (eqb (tagOf k) 3 && not (lastComplete s)))
 stands s header n = (go (isSome (s .header)) n, tt)
@@ -180,6 +196,7 @@ stands s production n = (go (isSome (s .header)) (n .0 .0) (ltb (length (s .coun
     go true v false w false = tt
 stands s rule n = (subst (λ x. T (tagStands x 4)) (sym (stage-any s (n .0) (n .1))) tt, tt)
 stands s condition n = (subst (λ x. T (tagStands x 5)) (sym (stage-any s (n .0) (n .1))) tt, tt)
+stands s carrier n = (subst (λ x. T (tagStands x 6)) (sym (stage-first s (n .0) (n .1))) tt, tt)
 
 -- ---- a table read to its end
 

@@ -9,7 +9,7 @@ use lib.Dec.{T-not}
 use Rattle.meaning.specs.Grammar.{Occurrence, Rule, Condition}
 use Rattle.meaning.specs.Layout as Layout
 use Rattle.meaning.specs.Layout.{field, productionBytes, ruleBytes, conditionBytes, RulesAndConditions, Productions, Bytes}
-use Rattle.meaning.specs.Table.{State, Entry, noEntry, header, counts, production, rule, condition, isSome, byte, symbolOf, ruleOf, conditionOf, withRule, withCondition, onCurrent, productionOf}
+use Rattle.meaning.specs.Table.{State, Entry, noEntry, header, counts, production, rule, condition, carrier, isSome, byte, symbolOf, ruleOf, conditionOf, withRule, withCondition, onCurrent, productionOf}
 use Rattle.theory_base.specs.Members.{one-more}
 use Rattle.theory_table.specs.Reading.{Reads, over, more, Passed, Full}
 use Rattle.theory_table.specs.Bodies.{field-is, low-small, body-bytes, rest-bytes, rule-body, condition-body, production-body, production-length}
@@ -40,6 +40,7 @@ pub record Rest (s : State) (o : ℕ) (e : Entry) (es : List Entry) (bs : List �
   pub isRead : reverse (u .entries) ≡ reverse es ++ (grown e rules conditions ∷ later)
   pub header : u .header ≡ s .header
   pub counts : u .counts ≡ s .counts
+  pub carrying : u .carrying ≡ s .carrying
 
 abbrev pub entryOf : ℕ → List ℕ → Entry
 entryOf o b = record { offset = o; left = byte b 0; right = map symbolOf (drop 2 b); rules = []; conditions = [] }
@@ -51,12 +52,13 @@ pub record NextStretch (o : ℕ) (es : List Entry) (bs : List ℕ) (s u : State)
   pub isRead : reverse (u .entries) ≡ reverse es ++ later
   pub header : u .header ≡ s .header
   pub counts : u .counts ≡ s .counts
+  pub carrying : u .carrying ≡ s .carrying
 
 turned : {A : Type 0} (xs : List A) → xs ≡ reverse (reverse xs ++ [])
 turned xs = sym (ap reverse (append-nil (reverse xs)) ∙ reverse-reverse xs)
 
-pub next-stretch : (s s′ u : State) (o high low : ℕ) (b rest : List ℕ) (es : List Entry) → Bytes (3 ∷ high ∷ low ∷ b ++ rest) → high * 256 + low ≡ length b → Passed s production b → s′ .header ≡ s .header → s′ .counts ≡ s .counts → Rest s′ (o + 3 + length b) (entryOf o b) es rest u → NextStretch o es (3 ∷ high ∷ low ∷ b ++ rest) s u
-next-stretch s s′ u o high low b rest es h c p hd cs i =
+pub next-stretch : (s s′ u : State) (o high low : ℕ) (b rest : List ℕ) (es : List Entry) → Bytes (3 ∷ high ∷ low ∷ b ++ rest) → high * 256 + low ≡ length b → Passed s production b → s′ .header ≡ s .header → s′ .counts ≡ s .counts → s′ .carrying ≡ s .carrying → Rest s′ (o + 3 + length b) (entryOf o b) es rest u → NextStretch o es (3 ∷ high ∷ low ∷ b ++ rest) s u
+next-stretch s s′ u o high low b rest es h c p hd cs ws i =
     let e : Entry = grown (entryOf o b) (i .rules) (i .conditions) in
     let pb : List ℕ = productionBytes (productionOf e) in
     let same : b ≡ pb = production-body b (production-length s b p) in
@@ -64,7 +66,7 @@ next-stretch s s′ u o high low b rest es h c p hd cs i =
     let place : o + 3 + length b + length (i .body) ≡ o + length (field 3 pb ++ i .body) = omega (arith, ap length same, length-append pb (i .body)) in
     let all : Stretches (e ∷ i .later) o (field 3 pb ++ (i .body ++ i .rest)) = stretch e own (subst (λ z. Stretches (i .later) z (i .rest)) place (i .others)) in
     let bytes : 3 ∷ high ∷ low ∷ b ++ rest ≡ field 3 pb ++ (i .body ++ i .rest) = field-is 3 high low b pb rest (low-small 3 high low b rest h) c same ∙ ap (λ z. field 3 pb ++ z) (i .isRest) in
-    record { later = e ∷ i .later; others = subst (Stretches (e ∷ i .later) o) (sym bytes) all; isRead = i .isRead; header = i .header ∙ hd; counts = i .counts ∙ cs }
+    record { later = e ∷ i .later; others = subst (Stretches (e ∷ i .later) o) (sym bytes) all; isRead = i .isRead; header = i .header ∙ hd; counts = i .counts ∙ cs; carrying = i .carrying ∙ ws }
 
 pub rest-of : {s u : State} {o : ℕ} {bs : List ℕ} → Reads s o bs u → (e : Entry) (es : List Entry) → s .entries ≡ e ∷ es → Full s → Bytes bs → Rest s o e es bs u
 rest-of {s} (over f l t) e es q _ h = record {
@@ -79,11 +81,12 @@ rest-of {s} (over f l t) e es q _ h = record {
   isRead = ap reverse q ∙ reverse-cons e es;
   header = refl;
   counts = refl;
+  carrying = refl;
 }
 rest-of {s} (more header high low b c n p r) e es q f h = absurd (T-not (isSome (s .header)) n (f .0))
 rest-of (more counts high low b c n p r) e es q f h = absurd (omega (arith, n .1, f .1))
 rest-of {s} {u} (more {o = o} production high low b {rest} c n p r) e es q f h =
-    let i = next-stretch s _ u o high low b rest (e ∷ es) h c p refl refl (rest-of r (entryOf o b) (e ∷ es) (ap (λ z. entryOf o b ∷ z) q) f (rest-bytes 3 high low b rest h)) in
+    let i = next-stretch s _ u o high low b rest (e ∷ es) h c p refl refl refl (rest-of r (entryOf o b) (e ∷ es) (ap (λ z. entryOf o b ∷ z) q) f (rest-bytes 3 high low b rest h)) in
     record {
       rules = [];
       conditions = [];
@@ -96,6 +99,7 @@ rest-of {s} {u} (more {o = o} production high low b {rest} c n p r) e es q f h =
       isRead = i .isRead ∙ one-more e es (i .later);
       header = i .header;
       counts = i .counts;
+      carrying = i .carrying;
     }
 rest-of {s} (more {o = o} rule high low b {rest} c n p r) e es q f h =
     let x : Rule Occurrence = ruleOf b in
@@ -113,6 +117,7 @@ rest-of {s} (more {o = o} rule high low b {rest} c n p r) e es q f h =
       isRead = i .isRead ∙ ap (λ rs. reverse es ++ (record { offset = e .offset; left = e .left; right = e .right; rules = rs; conditions = reverse (i .conditions) ++ e .conditions } ∷ i .later)) (sym (one-more x (i .rules) (e .rules)));
       header = i .header;
       counts = i .counts;
+      carrying = i .carrying;
     }
 rest-of {s} (more {o = o} condition high low b {rest} c n p r) e es q f h =
     let x : Condition Occurrence = conditionOf b in
@@ -130,7 +135,9 @@ rest-of {s} (more {o = o} condition high low b {rest} c n p r) e es q f h =
       isRead = i .isRead ∙ ap (λ cs. reverse es ++ (record { offset = e .offset; left = e .left; right = e .right; rules = reverse (i .rules) ++ e .rules; conditions = cs } ∷ i .later)) (sym (one-more x (i .conditions) (e .conditions)));
       header = i .header;
       counts = i .counts;
+      carrying = i .carrying;
     }
+rest-of (more carrier high low b c n p r) e es q f h = absurd (omega (arith, n .1, ap length q))
 
 -- ---- by number
 

@@ -103,6 +103,13 @@ impl Comparison {
         Ok(number)
     }
 
+    /// A value for each of so many tokens; now and then a list of another length.
+    fn values(&mut self, tokens: usize) -> Vec<i32> {
+        let r = &mut self.r;
+        let many = if r.chance(3) { r.below(tokens + 3) } else { tokens };
+        (0..many).map(|_| r.value()).collect()
+    }
+
     /// Sometimes a call on forged state, of another table, or with other lengths; mostly the run then goes on as it was.
     fn disturb(&mut self, pair: &mut Pair, table: &[u8]) -> Result<(), String> {
         if !self.r.chance(25) {
@@ -116,11 +123,12 @@ impl Comparison {
             1 | 2 => tried.lend(&mut self.r),
             _ => tried.forge(&mut self.r),
         }
-        let tokens: Vec<u8> = (0..self.r.below(4)).map(|_| self.r.below(4) as u8).collect();
+        let kinds: Vec<u8> = (0..self.r.below(4)).map(|_| self.r.below(4) as u8).collect();
+        let values = self.values(kinds.len());
         let call = match self.r.below(9) {
             0 => Call::Open,
             1..=3 => Call::Finish,
-            _ => Call::Feed(&tokens),
+            _ => Call::Feed(&kinds, &values),
         };
         self.call(&mut tried, of, call)?;
         if self.r.chance(20) {
@@ -146,10 +154,13 @@ impl Comparison {
             }
             let longest = if self.r.chance(70) { segment.len() - at } else { 3 };
             let end = segment.len().min(at + self.r.below(longest + 1));
-            if self.call(&mut pair, &table.bytes, Call::Feed(&segment[at..end]))? != 0 && self.r.chance(80) {
-                break;
+            let values = self.values(end - at);
+            match self.call(&mut pair, &table.bytes, Call::Feed(&segment[at..end], &values))? {
+                0 => at = end,
+                38 => {}
+                _ if self.r.chance(80) => break,
+                _ => at = end,
             }
-            at = end;
         }
         self.disturb(&mut pair, &table.bytes)?;
         self.call(&mut pair, &table.bytes, Call::Finish)?;
@@ -186,7 +197,7 @@ impl Comparison {
     /// The numbers of 01 and 02 that no call was refused with.
     fn missing(&self) -> Vec<u32> {
         let seen = |n: &u32| self.answers.keys().any(|(_, number)| number == n);
-        (1..=14).chain(20..=24).chain(30..=35).chain([42]).filter(|n| !seen(n)).collect()
+        (1..=14).chain(20..=24).chain(30..=35).chain([38, 42]).filter(|n| !seen(n)).collect()
     }
 }
 
@@ -204,7 +215,8 @@ fn main() {
     let seed = number(arguments.next()).unwrap_or(now.as_nanos() as u64);
     let calls = number(arguments.next()).unwrap_or(CALLS);
     println!("seed {seed}");
-    let samples = vec![samples::words(), samples::lines(), samples::brackets(), samples::chain(1, 0, 0), samples::chain(3, 2, 8)];
+    let samples =
+        vec![samples::words(), samples::lengths(), samples::lines(), samples::brackets(), samples::chain(1, 0, 0), samples::chain(3, 2, 8)];
     let mut c = Comparison { r: Random::new(seed), made: 0, windows: 0, answers: BTreeMap::new(), samples };
     while c.made < calls {
         let table = c.table();

@@ -10,7 +10,8 @@ const GUARDS: usize = 4;
 #[derive(Clone, Copy, Debug)]
 pub enum Call<'a> {
     Open,
-    Feed(&'a [u8]),
+    /// Kinds and values.
+    Feed(&'a [u8], &'a [i32]),
     Finish,
 }
 
@@ -18,7 +19,7 @@ impl Call<'_> {
     pub fn name(&self) -> &'static str {
         match self {
             Call::Open => "open",
-            Call::Feed(_) => "feed",
+            Call::Feed(..) => "feed",
             Call::Finish => "finish",
         }
     }
@@ -69,7 +70,7 @@ pub struct Pair {
 fn in_proved(table: &[u8], record: &mut lent::Record, m: &mut Memory, call: Call) -> Answered {
     let answer = match call {
         Call::Open => lent::open(table, record, m).map(|moves| (0, 0, moves)),
-        Call::Feed(tokens) => lent::feed(table, record, m, tokens).map(|moves| (0, 0, moves)),
+        Call::Feed(kinds, values) => lent::feed(table, record, m, kinds, values).map(|moves| (0, 0, moves)),
         Call::Finish => lent::finish(table, record, m).map(|(value, moves)| (0, value, moves)),
     };
     answer.unwrap_or_else(|r| (r.number(), 0, r.count()))
@@ -80,7 +81,7 @@ fn in_plain(table: &[u8], record: &mut lent::Record, m: Memory, call: Call) -> A
     let brought = run::Record { open: open != 0, tokens, moves, registers, places };
     let (r, answer) = match call {
         Call::Open => run::open(table, m.registers, m.places, m.program),
-        Call::Feed(tokens) => run::feed(table, brought, m.registers, m.places, m.program, tokens),
+        Call::Feed(kinds, values) => run::feed(table, brought, m.registers, m.places, m.program, (kinds, values)),
         Call::Finish => run::finish(table, brought, m.registers, m.places, m.program),
     };
     *record = lent::Record { open: r.open as u64, tokens: r.tokens, moves: r.moves, registers: r.registers, places: r.places };

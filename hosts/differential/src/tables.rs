@@ -6,13 +6,13 @@ type Field = (u8, Vec<u8>);
 /// An occurrence: symbol position and attribute.
 type Occurrence = [u8; 2];
 
-/// Inherited and synthesized count of each nonterminal.
-struct Counts(Vec<(u8, u8)>);
+/// Inherited and synthesized count of each nonterminal, and the terminals that carry a value.
+struct Counts(Vec<(u8, u8)>, Vec<u8>);
 
 impl Counts {
     fn of(&self, symbol: u8) -> (u8, u8) {
         if symbol < 128 {
-            (0, 0)
+            (0, self.1.contains(&symbol) as u8)
         } else {
             self.0[symbol as usize - 128]
         }
@@ -136,11 +136,15 @@ fn right_side(r: &mut Random, terminals: usize, nonterminals: usize, left: usize
 fn fields(r: &mut Random) -> Vec<Field> {
     let terminals = if r.chance(5) { 63 } else { 1 + r.below(5) };
     let nonterminals = 1 + r.below(4);
-    let mut counts = Counts((0..nonterminals).map(|_| (r.below(3) as u8, r.below(3) as u8)).collect());
+    let mut counts = Counts((0..nonterminals).map(|_| (r.below(3) as u8, r.below(3) as u8)).collect(), vec![]);
+    if r.chance(60) {
+        counts.1 = (0..terminals as u8).filter(|_| r.chance(50)).collect();
+    }
     counts.0[0] = (0, 1 + r.below(2) as u8);
     let result = 1 + r.below(counts.0[0].1 as usize) as u8;
     let mut found = vec![(1, vec![terminals as u8, nonterminals as u8, 0, result])];
     found.extend(counts.0.iter().map(|&(i, s)| (2, vec![i, s])));
+    found.extend(counts.1.iter().map(|&t| (6, vec![t])));
     for left in 0..nonterminals {
         let n = if left + 1 < nonterminals { 2 + r.below(2) } else { 1 + r.below(3) };
         let split = counts.0[left].0 > 0 && r.chance(40);

@@ -89,8 +89,10 @@ extern "C" {
         places_length: usize,
         program: *mut u32,
         program_length: usize,
-        tokens: *const u8,
-        tokens_length: usize,
+        kinds: *const u8,
+        kinds_length: usize,
+        values: *const i32,
+        values_length: usize,
         number: &mut u32,
         count: &mut u64,
     );
@@ -185,13 +187,14 @@ pub fn open(table: &[u8], record: &mut Record, m: &mut Memory) -> Result<u64, Re
     answered(number, count)
 }
 
-/// Feeds tokens; answers the moves made since opening.
+/// Feeds tokens, each a kind and a value; answers the moves made since opening. The value of a kind that carries none is ignored.
 ///
 /// # Errors
-/// 1 to 13, 20 to 23, 30 to 35.
-pub fn feed(table: &[u8], record: &mut Record, m: &mut Memory, tokens: &[u8]) -> Result<u64, Refusal> {
+/// 1 to 13, 20 to 23, 30 to 35, 38.
+pub fn feed(table: &[u8], record: &mut Record, m: &mut Memory, kinds: &[u8], values: &[i32]) -> Result<u64, Refusal> {
     let (mut number, mut count) = (0, 0);
-    call!(segment_feed, table, record, m, tokens.as_ptr(), tokens.len(), &mut number, &mut count);
+    let (kind, value) = (kinds.as_ptr(), values.as_ptr());
+    call!(segment_feed, table, record, m, kind, kinds.len(), value, values.len(), &mut number, &mut count);
     answered(number, count)
 }
 

@@ -71,12 +71,21 @@ impl<'t> Run<'t> {
         Ok(())
     }
 
-    /// Feeds the next tokens of the segment; answers the moves made since opening. A refusal ends the run.
+    /// Feeds the next tokens of the segment; answers the moves made since opening. A refusal ends the run. Where tokens carry values,
+    /// each is 0: see [`Run::feed_values`].
     ///
     /// # Errors
     /// 20 to 23, 31, 32, 35: the segment is refused, and the run closed. 33: the run was closed already.
     pub fn feed(&mut self, tokens: &[u8]) -> Result<u64, Refusal> {
-        self.call(|table, record, memory| lent::feed(table, record, memory, tokens))?;
+        self.feed_values(tokens, &vec![0; tokens.len()])
+    }
+
+    /// Feeds the next tokens of the segment, each a kind and a value. The value of a kind that carries none is ignored.
+    ///
+    /// # Errors
+    /// As for [`Run::feed`]. 38: the lists are of unequal length; the run stays as it was.
+    pub fn feed_values(&mut self, kinds: &[u8], values: &[i32]) -> Result<u64, Refusal> {
+        self.call(|table, record, memory| lent::feed(table, record, memory, kinds, values))?;
         Ok(self.moves())
     }
 
@@ -95,8 +104,16 @@ impl<'t> Run<'t> {
     /// # Errors
     /// As for [`Run::feed`] and [`Run::finish`].
     pub fn evaluate(&mut self, tokens: &[u8]) -> Result<i64, Refusal> {
+        self.evaluate_values(tokens, &vec![0; tokens.len()])
+    }
+
+    /// Opens the run, feeds the whole segment, each token a kind and a value, and finishes it.
+    ///
+    /// # Errors
+    /// As for [`Run::feed_values`] and [`Run::finish`].
+    pub fn evaluate_values(&mut self, kinds: &[u8], values: &[i32]) -> Result<i64, Refusal> {
         self.restart()?;
-        self.feed(tokens)?;
+        self.feed_values(kinds, values)?;
         self.finish()
     }
 

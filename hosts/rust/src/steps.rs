@@ -40,8 +40,8 @@ impl State {
 /// What is brought to a call.
 #[derive(Clone, Copy, Debug, PartialEq, Eq)]
 pub enum Input {
-    /// A token.
-    Token(u8),
+    /// A token: its kind and its value.
+    Token(u8, i32),
     /// The end of the segment.
     End,
 }
@@ -55,7 +55,7 @@ pub enum Kind {
     Add,
     /// The rules of a position are evaluated.
     Evaluate,
-    /// A token is read.
+    /// A token is read; one that carries a value adds its register.
     Read,
     /// The conditions of a position are tested, and hold.
     Test,
@@ -118,15 +118,15 @@ impl Run<'_> {
 
     /// Feeds tokens at once, and gives how many. Where one of them is refused, the last that was read is left to be told, and what
     /// comes after it.
-    pub fn skip(&mut self, tokens: &[u8]) -> usize {
-        let refused = feed(self.table, &mut self.now, &mut self.program, tokens).is_err();
+    pub fn skip(&mut self, kinds: &[u8], values: &[i32]) -> usize {
+        let refused = feed(self.table, &mut self.now, &mut self.program, kinds, values).is_err();
         if !refused {
-            return tokens.len();
+            return kinds.len();
         }
         let read = (self.now.record.tokens as usize).saturating_sub(1);
         // What was opened and fed once is opened and fed again.
         let _ = self.reopen();
-        let _ = feed(self.table, &mut self.now, &mut self.program, &tokens[..read]);
+        let _ = feed(self.table, &mut self.now, &mut self.program, &kinds[..read], &values[..read]);
         read
     }
 
@@ -160,7 +160,7 @@ impl Run<'_> {
 
     fn call(&mut self, state: &mut State) -> Step {
         match self.input {
-            Input::Token(token) => feed(self.table, state, &mut self.program, &[token]).map_or_else(refused, |_| Step::More),
+            Input::Token(kind, value) => feed(self.table, state, &mut self.program, &[kind], &[value]).map_or_else(refused, |_| Step::More),
             Input::End => finish(self.table, state, &mut self.program).map_or_else(refused, |(value, _)| Step::Value(value)),
         }
     }
@@ -172,7 +172,7 @@ impl Run<'_> {
         if !untested || self.now.record.tokens != self.start.record.tokens {
             return;
         }
-        if feed(self.table, &mut self.now, &mut self.program, &[]).is_ok() {
+        if feed(self.table, &mut self.now, &mut self.program, &[], &[]).is_ok() {
             self.start = self.now.clone();
             self.made = 0;
         }
@@ -183,9 +183,9 @@ fn refused(refusal: Refusal) -> Step {
     Step::Refused(refusal.number())
 }
 
-fn feed(table: &[u8], state: &mut State, program: &mut [u32], tokens: &[u8]) -> Result<u64, Refusal> {
+fn feed(table: &[u8], state: &mut State, program: &mut [u32], kinds: &[u8], values: &[i32]) -> Result<u64, Refusal> {
     let State { record, registers, places } = state;
-    lent::feed(table, record, &mut Memory { registers, places, program }, tokens)
+    lent::feed(table, record, &mut Memory { registers, places, program }, kinds, values)
 }
 
 fn finish(table: &[u8], state: &mut State, program: &mut [u32]) -> Result<(i64, u64), Refusal> {
@@ -193,7 +193,7 @@ fn finish(table: &[u8], state: &mut State, program: &mut [u32]) -> Result<(i64, 
     lent::finish(table, record, &mut Memory { registers, places, program })
 }
 
-/// Which move leads from a state to the next: each changes something that the others leave.
+/// Which move leads from a state to the next: each changes something that those after it leave.
 fn kind(before: &State, after: &State) -> Kind {
     let (old, new) = (&before.record, &after.record);
     match () {

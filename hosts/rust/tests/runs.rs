@@ -3,6 +3,7 @@ use segment::lent::{self, Memory, Record, MARK};
 use segment::{Kind, NotTable, Refusal, Run, Table, MOVES};
 
 const WORDS: &[u8] = include_bytes!("../../../grammars/words.table");
+const LENGTHS: &[u8] = include_bytes!("../../../grammars/lengths.table");
 
 fn table() -> Table {
     Table::new(WORDS).unwrap()
@@ -67,6 +68,34 @@ fn stopped() {
     }
     assert_eq!((run.register(0), run.register(8), run.register(usize::MAX)), (None, None, None));
     assert_eq!(run.places(), [32768, 0, 257, 513]);
+}
+
+#[test]
+fn tokens_carry_values() {
+    let table = Table::new(LENGTHS).unwrap();
+    let mut run = table.run();
+    assert_eq!(run.feed_values(&[0, 1], &[4, 99]), Ok(12));
+    assert_eq!(run.registers().rev().collect::<Vec<_>>(), [Some(1), None, Some(0), None, Some(4), Some(0), None, None]);
+    run.feed_values(&[0, 2], &[7, 0]).unwrap();
+    assert_eq!(run.finish(), Ok(11));
+    assert_eq!(run.evaluate_values(&[0, 0], &[40, 41]).map_err(refused), Err((22, 2)));
+    assert_eq!(run.evaluate(&[0]).map_err(refused), Err((22, 1)));
+    assert_eq!((run.evaluate(&[]), run.evaluate(&[1, 2])), (Ok(0), Ok(0)));
+    let small = |registers| Run::with_room(&table, registers, 5).and_then(|mut run| run.feed_values(&[0], &[1])).map_err(refused);
+    assert_eq!((small(5).map_err(|e| e.0), small(4), small(3)), (Err(31), Err((31, 1)), Err((31, 0))));
+}
+
+#[test]
+fn lists_of_unequal_length() {
+    let table = Table::new(LENGTHS).unwrap();
+    let mut run = table.run();
+    run.feed_values(&[0], &[4]).unwrap();
+    for (kinds, values) in [(&[0][..], &[][..]), (&[], &[1]), (&[0, 0], &[1, 2, 3]), (&[9], &[])] {
+        let unequal = run.feed_values(kinds, values).unwrap_err();
+        assert_eq!((unequal.kind(), refused(unequal), unequal.tokens()), (Kind::ListsUnequal, (38, 0), None));
+    }
+    assert_eq!((run.is_open(), run.tokens(), run.feed_values(&[0], &[5]), run.finish()), (true, 1, Ok(13), Ok(9)));
+    assert_eq!(run.feed_values(&[0], &[]).map_err(refused), Err((33, 0)));
 }
 
 #[test]
@@ -177,7 +206,7 @@ fn words_for_refusals() {
     let closed = run.finish().unwrap_err();
     assert_eq!((closed.to_string().as_str(), closed.tokens(), closed.offset()), ("refused 33: the run is closed", None, None));
     let numbers: Vec<u32> = Kind::ALL.iter().map(|kind| kind.number()).collect();
-    assert_eq!(numbers, (1..=14).chain(20..=24).chain(30..=35).chain([42]).collect::<Vec<u32>>());
+    assert_eq!(numbers, (1..=14).chain(20..=24).chain(30..=35).chain([38, 42]).collect::<Vec<u32>>());
     assert!(Kind::ALL.iter().all(|&kind| Kind::of(kind.number()) == kind && kind != Kind::Unknown));
     assert_eq!((Kind::of(0), Kind::of(99), Kind::Unknown.number()), (Kind::Unknown, Kind::Unknown, 0));
 }
@@ -188,10 +217,10 @@ fn lent_memory() {
     let mut record = Record { open: 7, tokens: 1, moves: 2, registers: 3, places: 4 };
     let brought = Record { open: 1, ..record };
     let mut m = Memory { registers: &mut registers, places: &mut places, program: &mut short };
-    assert_eq!(lent::feed(WORDS, &mut record, &mut m, &[0]).map_err(refused), Err((30, 0)));
+    assert_eq!(lent::feed(WORDS, &mut record, &mut m, &[0], &[0]).map_err(refused), Err((30, 0)));
     assert_eq!((record, m.registers == [7; 10], m.places == [9; 10], m.program == [5; 16383]), (brought, true, true, true));
     m.program = &mut program;
-    assert_eq!(lent::feed(WORDS, &mut record, &mut m, &[0]).map_err(refused), Err((34, 0)));
+    assert_eq!(lent::feed(WORDS, &mut record, &mut m, &[0], &[0]).map_err(refused), Err((34, 0)));
     assert_eq!((record, m.registers == [7; 10], m.places == [9; 10], m.program[1]), (brought, true, true, 6));
     assert_eq!(lent::open(WORDS, &mut record, &mut m), Ok(0));
     assert_eq!(record, Record { open: 1, tokens: 0, moves: 0, registers: 1, places: 1 });

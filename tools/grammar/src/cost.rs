@@ -1,6 +1,5 @@
 //! What a segment may cost at most: how often a part can follow or hold itself before the stacks are full.
 use crate::model::{Grammar, Symbol};
-use crate::stacks::counts;
 use crate::suggest::grouped;
 use crate::Built;
 use segment::lent::{PLACES, REGISTERS};
@@ -33,8 +32,8 @@ const NOTHING: Room = Room { registers: 0, places: 0 };
 /// What a production keeps while it waits at a position: its place, what the symbols before gave, and all of the symbol there.
 fn waiting(g: &Grammar, p: usize, position: usize) -> Room {
     let right = &g.productions[p].right;
-    let passed: usize = right[..position - 1].iter().map(|&s| counts(g, s).1).sum();
-    let (takes, gives) = counts(g, right[position - 1]);
+    let passed: usize = right[..position - 1].iter().map(|&s| g.counts(s).1).sum();
+    let (takes, gives) = g.counts(right[position - 1]);
     Room { registers: passed + takes + gives, places: 1 }
 }
 
@@ -49,7 +48,9 @@ fn needs(g: &Grammar) -> Vec<Room> {
     let mut needs = vec![NEVER; g.parts.len()];
     for _ in 0..=g.parts.len() {
         for (p, production) in g.productions.iter().enumerate() {
-            let own = parts(g, p).fold(Room { registers: 0, places: 1 }, |most, (k, n)| most.most(waiting(g, p, k).and(needs[n])));
+            // Behind its last symbol it keeps what all of them gave.
+            let passed = Room { registers: production.right.iter().map(|&s| g.counts(s).1).sum(), places: 1 };
+            let own = parts(g, p).fold(passed, |most, (k, n)| most.most(waiting(g, p, k).and(needs[n])));
             needs[production.left] = needs[production.left].least(own);
         }
     }
@@ -59,7 +60,7 @@ fn needs(g: &Grammar) -> Vec<Room> {
 /// What lies below each part at least when it is predicted first.
 fn below(g: &Grammar) -> Vec<Room> {
     let mut below = vec![NEVER; g.parts.len()];
-    below[g.start] = Room { registers: counts(g, g.whole).1, places: 1 };
+    below[g.start] = Room { registers: g.counts(g.whole).1, places: 1 };
     for _ in 0..=g.parts.len() {
         for (p, production) in g.productions.iter().enumerate() {
             for (k, n) in parts(g, p) {

@@ -1,6 +1,6 @@
 //! Exercises for a class, made from a grammar by chance and answered by the engine.
 use crate::model::{Grammar, Symbol};
-use crate::run::{self, told};
+use crate::run::{self, lists, told, Token};
 use crate::stacks::Stacks;
 use crate::story::{Event, Story};
 use crate::suggest::counted;
@@ -58,7 +58,7 @@ impl<'g> Derive<'g> {
         below.max().unwrap_or(0).saturating_add(1)
     }
 
-    fn part(&self, n: usize, left: usize, chance: &mut Chance, out: &mut Vec<u8>) {
+    fn part(&self, n: usize, left: usize, chance: &mut Chance, out: &mut Vec<Token>) {
         let all: Vec<usize> = (0..self.g.productions.len()).filter(|&p| self.g.productions[p].left == n).collect();
         let fit: Vec<usize> = all.iter().copied().filter(|&p| self.depth(p) <= left).collect();
         let lowest = all.iter().copied().min_by_key(|&p| self.depth(p));
@@ -66,14 +66,20 @@ impl<'g> Derive<'g> {
         let Some(p) = chosen else { return };
         for s in &self.g.productions[p].right {
             match s {
-                Symbol::Token(t) => out.push(*t as u8),
+                Symbol::Token(t) => out.push(self.token(*t, chance)),
                 Symbol::Part(m) => self.part(*m, left.saturating_sub(1), chance, out),
             }
         }
     }
 
+    /// A token; one that carries a value has 1 to 9.
+    fn token(&self, kind: usize, chance: &mut Chance) -> Token {
+        let value = if self.g.carried[kind].is_some() { 1 + chance.below(9) as i32 } else { 0 };
+        Token { kind: kind as u8, value }
+    }
+
     /// A segment of 1 to 10 tokens, if one is found.
-    pub fn segment(&self, chance: &mut Chance) -> Option<Vec<u8>> {
+    pub fn segment(&self, chance: &mut Chance) -> Option<Vec<Token>> {
         let tries = (0..200).map(|_| {
             let mut out = Vec::new();
             let depth = 2 + chance.below(6) + self.lowest[self.g.start];
@@ -107,8 +113,8 @@ pub fn make(built: &Built, seed: u64, count: usize) -> Vec<Exercise> {
 }
 
 impl Maker<'_> {
-    fn names(&self, tokens: &[u8]) -> String {
-        let names: Vec<&str> = tokens.iter().map(|&t| self.built.grammar.tokens[usize::from(t)].as_str()).collect();
+    fn names(&self, tokens: &[Token]) -> String {
+        let names: Vec<String> = tokens.iter().map(|t| t.written(&self.built.grammar)).collect();
         if names.is_empty() {
             return "no tokens".into();
         }
@@ -126,7 +132,7 @@ impl Maker<'_> {
         }
     }
 
-    fn value(&self, tokens: &[u8]) -> Option<Exercise> {
+    fn value(&self, tokens: &[Token]) -> Option<Exercise> {
         let outcome = run::run(&self.built.table, tokens);
         let answer = match outcome.answer {
             Ok(value) => value.to_string(),
@@ -136,15 +142,16 @@ impl Maker<'_> {
     }
 
     /// The stacks after some of a segment's tokens were fed.
-    fn fed(&mut self, tokens: &[u8]) -> Option<(usize, Stacks<'_>)> {
+    fn fed(&mut self, tokens: &[Token]) -> Option<(usize, Stacks<'_>)> {
         let fed = 1 + self.chance.below(tokens.len());
         let mut run = self.built.table.run();
-        run.feed(&tokens[..fed]).ok()?;
+        let (kinds, values) = lists(&tokens[..fed]);
+        run.feed_values(&kinds, &values).ok()?;
         let registers: Vec<Option<i64>> = run.registers().collect();
         Some((fed, Stacks::new(&self.built.grammar, &registers, run.places())))
     }
 
-    fn register(&mut self, tokens: &[u8]) -> Option<Exercise> {
+    fn register(&mut self, tokens: &[Token]) -> Option<Exercise> {
         let pick = self.chance.below(5);
         let (fed, stacks) = self.fed(tokens)?;
         let cell = stacks.cells.get(pick)?;
@@ -154,7 +161,7 @@ impl Maker<'_> {
         Some(Exercise { question, answer })
     }
 
-    fn places(&mut self, tokens: &[u8]) -> Option<Exercise> {
+    fn places(&mut self, tokens: &[Token]) -> Option<Exercise> {
         let (fed, stacks) = self.fed(tokens)?;
         let places: Vec<String> = stacks.places.iter().rev().map(|&p| format!("{} (`{}`)", p.number(), stacks.place_name(p))).collect();
         let answer = places.join(", ");
@@ -163,8 +170,9 @@ impl Maker<'_> {
     }
 
     /// A segment with a token changed, left out or put in, or cut short.
-    fn refusal(&mut self, mut tokens: Vec<u8>) -> Option<Exercise> {
-        let (at, token) = (self.chance.below(tokens.len()), self.chance.below(self.built.grammar.tokens.len()) as u8);
+    fn refusal(&mut self, mut tokens: Vec<Token>) -> Option<Exercise> {
+        let (at, kind) = (self.chance.below(tokens.len()), self.chance.below(self.built.grammar.tokens.len()));
+        let token = self.derive.token(kind, &mut self.chance);
         match self.chance.below(4) {
             0 => tokens[at] = token,
             1 => drop(tokens.remove(at)),
@@ -179,7 +187,7 @@ impl Maker<'_> {
     }
 
     /// How many moves a token takes, and which.
-    fn moves(&mut self, tokens: &[u8]) -> Option<Exercise> {
+    fn moves(&mut self, tokens: &[Token]) -> Option<Exercise> {
         let at = self.chance.below(tokens.len());
         let (mut made, mut here) = (Vec::new(), false);
         for event in Story::open(self.built, tokens, at + 1).ok()? {
@@ -190,7 +198,7 @@ impl Maker<'_> {
                 _ => {}
             }
         }
-        let name = &self.built.grammar.tokens[usize::from(tokens[at])];
+        let name = tokens[at].written(&self.built.grammar);
         let question = format!("In {}, which moves are made for token {}, `{name}`, and how many?", self.names(tokens), at + 1);
         let list: Vec<String> = made.iter().map(|m| format!("`{m}`")).collect();
         Some(Exercise { question, answer: format!("{}: {}", counted(made.len(), "move"), list.join(", ")) })

@@ -93,6 +93,7 @@ impl Judged<'_> {
         match what {
             What::Header => self.places.start,
             What::Part(n) => self.places.parts[n],
+            What::Token(t) => self.places.tokens[t],
             What::Production(p) => self.places.productions[p].span,
             What::Item(p, i) => self.places.productions[p].items[i].span,
         }
@@ -122,6 +123,7 @@ impl Judged<'_> {
         match what {
             What::Header if tokens.is_empty() => (self.places.start, "no token is declared; a grammar has 1 to 63".into()),
             What::Header if tokens.len() > 63 => (tokens[63], format!("`{}` is the 64th token; a grammar has 1 to 63", g.tokens[63])),
+            What::Token(_) => (self.place(what), segment::Kind::OutsideLimits.reason().into()),
             What::Header => (parts[48], format!("`{}` is the 49th part; a grammar has 1 to 48", self.part_name(48))),
             What::Part(n) => {
                 let count = g.parts[n].attributes().count();

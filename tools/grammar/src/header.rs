@@ -68,12 +68,19 @@ impl Header<'_> {
         capitals(&names).into_iter().zip(0..).collect()
     }
 
-    /// Each part's attributes, numbered from 1.
+    /// Each part's attributes, numbered from 1, then those of the tokens that carry a value.
     fn attributes(&self) -> Vec<(String, usize)> {
         let parts = self.g.parts.iter();
-        let names: Vec<String> = parts.clone().flat_map(|p| p.attributes().map(|a| format!("{}_{a}", p.name))).collect();
-        let numbers = parts.flat_map(|p| 1..=p.attributes().count());
+        let of_parts = parts.clone().flat_map(|p| p.attributes().map(|a| format!("{}_{a}", p.name)));
+        let of_tokens = self.carried().map(|(token, a)| format!("{token}_{a}"));
+        let names: Vec<String> = of_parts.chain(of_tokens).collect();
+        let numbers = parts.flat_map(|p| 1..=p.attributes().count()).chain(std::iter::repeat(1));
         capitals(&names).into_iter().zip(numbers).collect()
+    }
+
+    /// The tokens that carry a value, with their attributes.
+    fn carried(&self) -> impl Iterator<Item = (&String, &String)> {
+        self.g.tokens.iter().zip(&self.g.carried).filter_map(|(token, carried)| Some((token, carried.as_ref()?)))
     }
 
     fn c(&self) -> String {
@@ -108,7 +115,7 @@ impl Header<'_> {
         for (module, words, names) in [
             ("token", "Tokens.", self.tokens()),
             ("part", "Parts (nonterminals).", self.parts()),
-            ("attribute", "The attributes of each part, counted from 1.", self.attributes()),
+            ("attribute", "The attributes of each part, counted from 1, and of the tokens that carry a value.", self.attributes()),
         ] {
             let rows: Vec<String> = names.iter().map(|(name, n)| format!("    pub const {name}: u8 = {n};\n")).collect();
             let _ = writeln!(text, "/// {words}\npub mod {module} {{\n{}}}\n", rows.concat());
@@ -130,12 +137,13 @@ impl Header<'_> {
         let result = quoted(g.attribute(g.whole, g.result));
         format!(
             "{{\n  \"grammar\": {},\n  \"table\": {{\"length\": {}, \"sum\": \"{:016x}\"}},\n  \"start\": {},\n  \"result\": {result},\n  \
-             \"tokens\": [{}],\n  \"parts\": [\n{}\n  ],\n  \"productions\": [\n{}\n  ]\n}}\n",
+             \"tokens\": [{}],\n  \"carried\": {{{}}},\n  \"parts\": [\n{}\n  ],\n  \"productions\": [\n{}\n  ]\n}}\n",
             quoted(self.from),
             self.bytes.len(),
             self.sum,
             quoted(g.name(g.whole)),
             list(&mut g.tokens.iter().map(quote)),
+            list(&mut self.carried().map(|(token, a)| format!("{}: {}", quoted(token), quoted(a)))),
             parts.collect::<Vec<_>>().join(",\n"),
             productions.collect::<Vec<_>>().join(",\n"),
         )

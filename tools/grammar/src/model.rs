@@ -136,6 +136,8 @@ impl Part {
 #[derive(Clone, Debug, PartialEq, Eq)]
 pub struct Grammar {
     pub tokens: Vec<String>,
+    /// The attribute of each token that carries a value.
+    pub carried: Vec<Option<String>>,
     pub parts: Vec<Part>,
     pub start: usize,
     /// The start symbol.
@@ -155,43 +157,47 @@ impl Grammar {
     /// The name of a symbol's attribute, by its number.
     pub fn attribute(&self, symbol: Symbol, attribute: usize) -> &str {
         match symbol {
-            Symbol::Token(_) => "?",
+            Symbol::Token(t) => self.carried[t].as_deref().unwrap_or("?"),
             Symbol::Part(n) => self.parts[n].attributes().nth(attribute - 1).map_or("?", |a| a),
+        }
+    }
+
+    /// How many attributes a symbol takes and gives.
+    pub fn counts(&self, symbol: Symbol) -> (usize, usize) {
+        match symbol {
+            Symbol::Token(t) => (0, self.carried[t].is_some().into()),
+            Symbol::Part(n) => (self.parts[n].takes.len(), self.parts[n].gives.len()),
         }
     }
 
     /// Inherited on the left or synthesized on the right.
     pub fn is_input(&self, p: &Production, o: Occurrence) -> bool {
-        match p.symbol(o.position) {
-            Symbol::Token(_) => false,
-            Symbol::Part(n) => (o.position == 0) == (o.attribute <= self.parts[n].takes.len()),
-        }
+        (o.position == 0) == (o.attribute <= self.counts(p.symbol(o.position)).0)
     }
 
     /// The outputs of a production, each of which has one rule.
     pub fn outputs(&self, p: &Production) -> Vec<Occurrence> {
         let mut found = Vec::new();
         for position in 0..=p.right.len() {
-            if let Symbol::Part(n) = p.symbol(position) {
-                let all = (1..=self.parts[n].attributes().count()).map(|attribute| Occurrence { position, attribute });
-                found.extend(all.filter(|&o| !self.is_input(p, o)));
-            }
+            let (takes, gives) = self.counts(p.symbol(position));
+            let all = (1..=takes + gives).map(|attribute| Occurrence { position, attribute });
+            found.extend(all.filter(|&o| !self.is_input(p, o)));
         }
         found
     }
 
     /// An occurrence as it is written: `n` on the left side, `L.n` on the right, `L2.n` where L stands there several times.
     pub fn label(&self, p: &Production, o: Occurrence) -> String {
-        let Symbol::Part(n) = p.symbol(o.position) else { return self.name(p.symbol(o.position)).into() };
-        let attribute = self.attribute(Symbol::Part(n), o.attribute);
+        let symbol = p.symbol(o.position);
+        let attribute = self.attribute(symbol, o.attribute);
         if o.position == 0 {
             return attribute.into();
         }
-        let same = |k: &usize| p.symbol(*k) == Symbol::Part(n);
+        let same = |k: &usize| p.symbol(*k) == symbol;
         let number = (1..=o.position).filter(same).count();
         let several = (1..=p.right.len()).filter(same).count() > 1;
         let number = if several { number.to_string() } else { String::new() };
-        format!("{}{number}.{attribute}", self.parts[n].name)
+        format!("{}{number}.{attribute}", self.name(symbol))
     }
 
     /// A production's first line: left side and right side.

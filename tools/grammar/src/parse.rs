@@ -29,10 +29,24 @@ impl Reference {
 
 #[derive(Clone, Debug)]
 pub enum Statement {
-    Tokens(Vec<Word>),
-    Part { name: Word, takes: Vec<Word>, gives: Vec<Word> },
-    Start { part: Word, result: Word },
-    Production { left: Word, right: Vec<Word> },
+    /// Tokens, and the attribute of those that carry a value.
+    Tokens {
+        names: Vec<Word>,
+        carried: Option<Word>,
+    },
+    Part {
+        name: Word,
+        takes: Vec<Word>,
+        gives: Vec<Word>,
+    },
+    Start {
+        part: Word,
+        result: Word,
+    },
+    Production {
+        left: Word,
+        right: Vec<Word>,
+    },
     Item(Item<Reference>),
 }
 
@@ -180,11 +194,12 @@ impl Cursor<'_> {
 
     fn tokens(&mut self) -> Result<Statement, Fault> {
         self.at += 1;
-        let mut found = vec![self.name("the name of a token")?];
-        while self.kind().is_some() {
-            found.push(self.name("the name of a token")?);
+        let mut names = vec![self.name("the name of a token")?];
+        while self.kind().is_some() && !self.is("->") {
+            names.push(self.name("the name of a token")?);
         }
-        Ok(Statement::Tokens(found))
+        let carried = if self.skip("->") { Some(self.name("the name of an attribute")?) } else { None };
+        Ok(Statement::Tokens { names, carried })
     }
 
     fn part(&mut self) -> Result<Statement, Fault> {

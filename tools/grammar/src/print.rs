@@ -3,7 +3,7 @@ use crate::model::{Condition, Function, Grammar, Item, Part, Production};
 
 /// The text of a grammar: reading it gives the grammar again.
 pub fn text(g: &Grammar) -> String {
-    let mut lines: Vec<String> = g.tokens.iter().map(|t| format!("token {t}")).collect();
+    let mut lines: Vec<String> = g.tokens.iter().zip(&g.carried).map(|(t, carried)| token(t, carried)).collect();
     lines.push(String::new());
     lines.extend(g.parts.iter().map(part));
     let start = &g.parts[g.start];
@@ -14,6 +14,11 @@ pub fn text(g: &Grammar) -> String {
         lines.extend(p.items.iter().map(|i| format!("    {}", item(g, p, i))));
     }
     lines.join("\n") + "\n"
+}
+
+fn token(name: &str, carried: &Option<String>) -> String {
+    let carried = carried.as_ref().map_or(String::new(), |attribute| format!(" -> {attribute}"));
+    format!("token {name}{carried}")
 }
 
 fn part(p: &Part) -> String {

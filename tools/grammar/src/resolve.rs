@@ -98,6 +98,7 @@ impl Told {
 /// What the declarations say.
 struct Names {
     tokens: Vec<Word>,
+    carried: Vec<Option<String>>,
     parts: Vec<(Word, Part)>,
     symbols: HashMap<String, Symbol>,
     start: (Span, usize, usize),
@@ -136,12 +137,12 @@ fn listed<'a>(names: impl Iterator<Item = &'a String>) -> String {
 impl Names {
     fn collect(lines: &[Line], end: Span, told: &mut Told) -> Names {
         let excused = told.excused.clone();
-        let mut names = Names { tokens: vec![], parts: vec![], symbols: HashMap::new(), start: (end, 0, 0), excused };
+        let mut names = Names { tokens: vec![], carried: vec![], parts: vec![], symbols: HashMap::new(), start: (end, 0, 0), excused };
         let mut starts = Vec::new();
         for line in lines {
             let Line::Whole(span, line) = line else { continue };
             match line {
-                Statement::Tokens(words) => names.declare_tokens(words, told),
+                Statement::Tokens { names: words, carried } => names.declare_tokens(words, carried.as_ref(), told),
                 Statement::Part { name, takes, gives } => {
                     let found = names.declare_part(name, takes, gives);
                     told.keep(found);
@@ -164,12 +165,13 @@ impl Names {
             return fault(*again, format!("a second start; the first is on line {}", span.line));
         }
         let n = self.part_number(part)?;
-        Ok((*span, n, self.attribute_number(n, result)?))
+        Ok((*span, n, self.attribute_number(Symbol::Part(n), result)?))
     }
 
-    fn declare(&mut self, name: &Word, symbol: Symbol) -> Result<(), Fault> {
-        if matches!(symbol, Symbol::Part(_)) && name.text.ends_with(|c: char| c.is_ascii_digit()) {
-            return fault(name.span, format!("`{}` ends in a digit; at the end of a part's name digits count occurrences", name.text));
+    /// Declares a name; one whose attributes can be read does not end in a digit.
+    fn declare(&mut self, name: &Word, symbol: Symbol, whose: Option<&str>) -> Result<(), Fault> {
+        if let Some(whose) = whose.filter(|_| name.text.ends_with(|c: char| c.is_ascii_digit())) {
+            return fault(name.span, format!("`{}` ends in a digit; at the end of {whose}'s name digits count occurrences", name.text));
         }
         if let Some(&before) = self.symbols.get(&name.text) {
             let line = match before {
@@ -182,11 +184,12 @@ impl Names {
         Ok(())
     }
 
-    fn declare_tokens(&mut self, words: &[Word], told: &mut Told) {
+    fn declare_tokens(&mut self, words: &[Word], carried: Option<&Word>, told: &mut Told) {
         for w in words {
-            let found = self.declare(w, Symbol::Token(self.tokens.len()));
+            let found = self.declare(w, Symbol::Token(self.tokens.len()), carried.map(|_| "such a token"));
             if told.keep(found).is_some() {
                 self.tokens.push(w.clone());
+                self.carried.push(carried.map(|attribute| attribute.text.clone()));
             }
         }
         told.keep(at_most(&self.tokens, 255, "tokens"));
@@ -196,7 +199,7 @@ impl Names {
         let all: Vec<Word> = takes.iter().chain(gives).cloned().collect();
         distinct(&all)?;
         at_most(&all, 255, "attributes")?;
-        self.declare(name, Symbol::Part(self.parts.len()))?;
+        self.declare(name, Symbol::Part(self.parts.len()), Some("a part"))?;
         self.parts.push((name.clone(), Part { name: name.text.clone(), takes: texts(takes), gives: texts(gives) }));
         match self.parts.get(128) {
             Some((w, _)) => fault(w.span, "more than 128 parts cannot be written into a table"),
@@ -227,13 +230,20 @@ impl Names {
         }
     }
 
-    fn attribute_number(&self, part: usize, w: &Word) -> Result<usize, Fault> {
-        let part = &self.parts[part].1;
-        match part.attributes().position(|a| *a == w.text) {
+    fn attributes(&self, symbol: Symbol) -> Vec<&String> {
+        match symbol {
+            Symbol::Token(t) => self.carried[t].iter().collect(),
+            Symbol::Part(n) => self.parts[n].1.attributes().collect(),
+        }
+    }
+
+    fn attribute_number(&self, symbol: Symbol, w: &Word) -> Result<usize, Fault> {
+        let all = self.attributes(symbol);
+        match all.iter().position(|a| **a == w.text) {
             Some(i) => Ok(i + 1),
             None => {
-                let (has, hint) = (listed(part.attributes()), hint(&w.text, part.attributes().map(String::as_str)));
-                fault(w.span, format!("`{}` has no attribute `{}`; its attributes: {has}{hint}", part.name, w.text))
+                let (has, hint) = (listed(all.iter().copied()), hint(&w.text, all.iter().map(|a| a.as_str())));
+                fault(w.span, format!("`{}` has no attribute `{}`; its attributes: {has}{hint}", self.symbol_name(symbol), w.text))
             }
         }
     }
@@ -250,9 +260,9 @@ impl Names {
         (1..=p.right.len()).filter(|&k| self.symbol_name(p.right[k - 1]) == name).collect()
     }
 
-    /// The position on the right side that a name, or a part's name and a number, stands for.
+    /// The position on the right side that a name, or a name and a number, stands for.
     fn position(&self, p: &Production, w: &Word) -> Result<usize, Fault> {
-        let is_token = matches!(self.symbols.get(&w.text), Some(Symbol::Token(_)));
+        let is_token = matches!(self.symbols.get(&w.text), Some(Symbol::Token(t)) if self.carried[*t].is_none());
         let name = w.text.trim_end_matches(|c: char| c.is_ascii_digit());
         let (exact, found) = (self.places(p, &w.text), self.places(p, name));
         match exact[..] {
@@ -290,8 +300,11 @@ impl Names {
             Some(w) => self.position(p, w)?,
         };
         match p.symbol(position) {
-            Symbol::Part(n) => Ok(Occurrence { position, attribute: self.attribute_number(n, &r.attribute)? }),
-            Symbol::Token(t) => fault(r.span(), format!("`{}` is a token and has no attributes", self.tokens[t].text)),
+            Symbol::Token(t) if self.carried[t].is_none() => {
+                let name = &self.tokens[t].text;
+                fault(r.span(), format!("`{name}` is a token and carries no value; one that does is declared `token {name} -> ..`"))
+            }
+            symbol => Ok(Occurrence { position, attribute: self.attribute_number(symbol, &r.attribute)? }),
         }
     }
 
@@ -342,6 +355,6 @@ impl Names {
         let (_, start, result) = self.start;
         let tokens = texts(&self.tokens);
         let parts = self.parts.into_iter().map(|(_, part)| part).collect();
-        (Grammar { tokens, parts, start, whole: Symbol::Part(start), result, productions }, places)
+        (Grammar { tokens, carried: self.carried, parts, start, whole: Symbol::Part(start), result, productions }, places)
     }
 }

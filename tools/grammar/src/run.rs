@@ -5,24 +5,65 @@ use crate::suggest::hint;
 use crate::{print, Built};
 use plain::judge::Analysis;
 use segment::{Refusal, Run, Table};
+use std::collections::HashMap;
 
-/// The numbers of tokens given by name.
-pub fn tokens<W: AsRef<str>>(g: &Grammar, words: &[W]) -> Result<Vec<u8>, String> {
-    let number = |(i, word): (usize, &W)| {
-        let word = word.as_ref();
-        match g.tokens.iter().position(|t| t == word) {
-            Some(t) => Ok(t as u8),
-            None => Err(unknown(g, i, word)),
-        }
-    };
-    words.iter().enumerate().map(number).collect()
+/// A token: its kind, and the value that it carries or 0.
+#[derive(Clone, Copy, Debug, PartialEq, Eq)]
+pub struct Token {
+    pub kind: u8,
+    pub value: i32,
 }
 
-/// What is said of a word that is no token.
-pub fn unknown(g: &Grammar, index: usize, word: &str) -> String {
-    let hint = hint(word, g.tokens.iter().map(String::as_str));
-    let tokens = if hint.is_empty() { format!("; its tokens: {}", g.tokens.join(" ")) } else { hint };
-    format!("token {}, `{word}`, is not in the grammar{tokens}", index + 1)
+impl Token {
+    /// The token's name, with its value where it carries one: `open`, `word=4`.
+    pub fn written(self, g: &Grammar) -> String {
+        let name = &g.tokens[usize::from(self.kind)];
+        match g.carried[usize::from(self.kind)] {
+            Some(_) => format!("{name}={}", self.value),
+            None => name.clone(),
+        }
+    }
+}
+
+/// The kinds and the values of tokens.
+pub fn lists(tokens: &[Token]) -> (Vec<u8>, Vec<i32>) {
+    tokens.iter().map(|t| (t.kind, t.value)).unzip()
+}
+
+/// The tokens of a grammar by their names.
+pub struct Names<'g> {
+    grammar: &'g Grammar,
+    kinds: HashMap<&'g str, u8>,
+}
+
+impl<'g> Names<'g> {
+    pub fn new(grammar: &'g Grammar) -> Names<'g> {
+        Names { grammar, kinds: grammar.tokens.iter().map(String::as_str).zip(0..).collect() }
+    }
+
+    /// The token that a word names, `open` or `word=4`; what is said of another mentions its index.
+    pub fn token(&self, index: usize, word: &str) -> Result<Token, String> {
+        let (name, value) = word.split_once('=').map_or((word, None), |(name, value)| (name, Some(value)));
+        let g = self.grammar;
+        let Some(&kind) = self.kinds.get(name) else {
+            let hint = hint(name, g.tokens.iter().map(String::as_str));
+            let tokens = if hint.is_empty() { format!("; its tokens: {}", g.tokens.join(" ")) } else { hint };
+            return Err(format!("token {}, `{name}`, is not in the grammar{tokens}", index + 1));
+        };
+        let carries = g.carried[usize::from(kind)].is_some();
+        match value.map(str::parse) {
+            None => Ok(Token { kind, value: 0 }),
+            Some(Ok(value)) if carries => Ok(Token { kind, value }),
+            Some(_) if carries => Err(format!("token {}, `{word}`: a value is a number from -2147483648 to 2147483647", index + 1)),
+            Some(_) => Err(format!("token {}, `{word}`: `{name}` carries no value", index + 1)),
+        }
+    }
+}
+
+/// The tokens given by their names.
+pub fn tokens<W: AsRef<str>>(g: &Grammar, words: &[W]) -> Result<Vec<Token>, String> {
+    let names = Names::new(g);
+    words.iter().enumerate().map(|(i, word)| names.token(i, word.as_ref())).collect()
 }
 
 /// How a run ended: the value or the refusal, how many tokens were fed (a refused one counts), whether the finish was called, and the
@@ -45,34 +86,35 @@ impl Outcome {
 }
 
 /// Runs a segment on full stacks.
-pub fn run(table: &Table, tokens: &[u8]) -> Outcome {
+pub fn run(table: &Table, tokens: &[Token]) -> Outcome {
     run_on(&mut table.run(), tokens)
 }
 
 /// Runs a segment on a run's memory. Where it is refused, the tokens read are fed again, to tell whether the refusal came after the last
 /// of them or at the next.
-pub fn run_on(run: &mut Run, tokens: &[u8]) -> Outcome {
-    let fed = run.restart().and_then(|()| run.feed(tokens));
+pub fn run_on(run: &mut Run, tokens: &[Token]) -> Outcome {
+    let (kinds, values) = lists(tokens);
+    let fed = run.restart().and_then(|()| run.feed_values(&kinds, &values));
     let Err(refusal) = fed else {
         let answer = run.finish();
         return Outcome::of(run, answer, tokens.len(), true);
     };
     let read = run.tokens() as usize;
     let outcome = Outcome::of(run, Err(refusal), read + 1, false);
-    let again = run.restart().and_then(|()| run.feed(&tokens[..read]));
+    let again = run.restart().and_then(|()| run.feed_values(&kinds[..read], &values[..read]));
     Outcome { fed: if again.is_err() { read } else { read + 1 }, ..outcome }
 }
 
 /// A refusal of a segment in words: number, tokens read, the token's position and name, and what was expected or did not hold.
-pub fn told(built: &Built, tokens: &[u8], outcome: &Outcome, refusal: Refusal) -> String {
+pub fn told(built: &Built, tokens: &[Token], outcome: &Outcome, refusal: Refusal) -> String {
     let read = refusal.count() as usize;
-    let name = |i: usize| format!("token {}, `{}`", i + 1, built.grammar.tokens[tokens[i] as usize]);
+    let name = |i: usize| format!("token {}, `{}`", i + 1, tokens[i].written(&built.grammar));
     let place = match outcome.fed {
         _ if outcome.finished => "at the end".into(),
         fed if fed > read => format!("at {}", name(read)),
         _ => format!("once {}, was read", name(read - 1)),
     };
-    let next = tokens.get(read).copied().filter(|_| outcome.fed > read);
+    let next = tokens.get(read).map(|t| t.kind).filter(|_| outcome.fed > read);
     let reason = reason(built, outcome, refusal, next);
     let s = if read == 1 { "" } else { "s" };
     format!("refused {} after {read} token{s}, {place}: {reason}", refusal.number())
@@ -170,7 +212,7 @@ impl<'a> Stop<'a> {
     /// Whether the awaited part is done: what it takes has no registers any more. One that takes nothing has no entry conditions.
     fn is_done(&self) -> bool {
         let first = Occurrence { position: self.top.passed + 1, attribute: 1 };
-        let takes = self.awaited().is_some_and(|s| crate::stacks::counts(self.grammar(), s).0 > 0);
+        let takes = self.awaited().is_some_and(|s| self.grammar().counts(s).0 > 0);
         !takes || self.stacks.cell(self.stacks.places.len() - 1, first).is_none()
     }
 

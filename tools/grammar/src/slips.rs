@@ -1,7 +1,8 @@
 //! A teaching model of the machine, which can be run with a slip that is seen in class. Without a slip it makes the engine's moves (the
 //! tests compare); with one it shows what would happen. It decides nothing: what really happens is told by the engine.
 use crate::model::{Condition, Grammar, Item, Occurrence, Symbol};
-use crate::stacks::{conditions, counts, holds, result, right, rules, Place, Stacks, LIMIT, WHOLE};
+use crate::run::Token;
+use crate::stacks::{conditions, holds, result, right, rules, Place, Stacks, LIMIT, WHOLE};
 use crate::story::kind_name;
 use crate::Built;
 use plain::judge::Analysis;
@@ -62,7 +63,7 @@ struct Choice {
 
 struct Model<'b> {
     built: &'b Built,
-    tokens: &'b [u8],
+    tokens: &'b [Token],
     slip: Option<Slip>,
     /// The registers and places lent.
     room: (usize, usize),
@@ -82,7 +83,7 @@ struct Model<'b> {
 const MOVES: usize = 20_000;
 
 /// The moves of the model and how it ends.
-pub fn run(built: &Built, tokens: &[u8], slip: Option<Slip>, room: (usize, usize)) -> (Vec<Frame>, End) {
+pub fn run(built: &Built, tokens: &[Token], slip: Option<Slip>, room: (usize, usize)) -> (Vec<Frame>, End) {
     let g = &built.grammar;
     let mut model = Model {
         built,
@@ -90,7 +91,7 @@ pub fn run(built: &Built, tokens: &[u8], slip: Option<Slip>, room: (usize, usize
         slip,
         room,
         starts: starts(built, slip),
-        registers: vec![None; counts(g, g.whole).1],
+        registers: vec![None; g.counts(g.whole).1],
         places: vec![Place { production: WHOLE, passed: 0 }],
         phase: Phase::Ready,
         index: 0,
@@ -157,6 +158,7 @@ impl<'b> Model<'b> {
         match right(g, top.production).get(top.passed) {
             None if top.production == WHOLE => self.value(),
             None => self.leave(top),
+            Some(Symbol::Token(_)) if self.phase == Phase::Done => self.test(top),
             Some(Symbol::Token(t)) => self.read(*t),
             Some(Symbol::Part(n)) => self.part(*n, top),
         }
@@ -171,16 +173,37 @@ impl<'b> Model<'b> {
         Some(self.get(0, result).ok_or((0, "the result is still the mark".into())))
     }
 
-    fn read(&mut self, token: usize) -> Option<End> {
-        match self.tokens.get(self.index) {
-            None => return refused(24, format!("expected `{}`", self.grammar().tokens[token])),
-            Some(&t) if usize::from(t) != token => return refused(21, format!("expected `{}`", self.grammar().tokens[token])),
-            Some(_) => {}
+    /// Reads the expected token; one that carries a value adds its register.
+    fn read(&mut self, expected: usize) -> Option<End> {
+        let g = self.grammar();
+        let token = match self.tokens.get(self.index) {
+            None => return refused(24, format!("expected `{}`", g.tokens[expected])),
+            Some(t) if usize::from(t.kind) != expected => return refused(21, format!("expected `{}`", g.tokens[expected])),
+            Some(t) => *t,
+        };
+        if g.carried[expected].is_some() {
+            if let Some(end) = self.lacks_registers(1) {
+                return Some(end);
+            }
+            self.registers.push(Some(token.value.into()));
         }
-        self.pass();
-        self.moved(Kind::Read, self.grammar().tokens[token].clone());
+        self.leave_symbol();
+        self.moved(Kind::Read, token.written(g));
         self.index += 1;
         None
+    }
+
+    /// The symbol that the top place waits at is over: it is passed, unless conditions are to be tested.
+    fn leave_symbol(&mut self) {
+        let (g, top) = (self.grammar(), self.top());
+        if g.productions.get(top.production).is_some_and(|p| conditions(p, top.passed + 1).next().is_some()) {
+            self.phase = Phase::Done;
+        } else {
+            self.pass();
+        }
+        if self.late.is_some() {
+            self.phase = Phase::Ready;
+        }
     }
 
     /// The top place goes past its symbol.
@@ -191,7 +214,7 @@ impl<'b> Model<'b> {
     }
 
     fn part(&mut self, n: usize, top: Place) -> Option<End> {
-        let (takes, gives) = counts(self.grammar(), Symbol::Part(n));
+        let (takes, gives) = self.grammar().counts(Symbol::Part(n));
         match self.phase {
             Phase::Fresh if takes + gives > 0 => self.add(takes + gives),
             Phase::Fresh => self.set_phase(Phase::Ready),
@@ -207,13 +230,21 @@ impl<'b> Model<'b> {
         None
     }
 
-    fn add(&mut self, n: usize) -> Option<End> {
+    /// How it ends where so many registers more are not lent; a slip goes on, or finds it late.
+    fn lacks_registers(&mut self, n: usize) -> Option<End> {
         if self.registers.len() + n > self.room.0 && self.slip != Some(Slip::NoLimits) {
             let words = format!("only {} registers are lent", self.room.0);
             if self.slip != Some(Slip::WritesFirst) {
                 return refused(31, words);
             }
             self.late = Some((31, format!("{words}, and what is above them is written over")));
+        }
+        None
+    }
+
+    fn add(&mut self, n: usize) -> Option<End> {
+        if let Some(end) = self.lacks_registers(n) {
+            return Some(end);
         }
         self.registers.extend(std::iter::repeat_n(None, n));
         self.phase = Phase::Added;
@@ -285,7 +316,7 @@ impl<'b> Model<'b> {
     }
 
     fn predict(&mut self, n: usize) -> Option<End> {
-        let look = self.tokens.get(self.index).map_or(63, |&t| usize::from(t));
+        let look = self.tokens.get(self.index).map_or(63, |t| usize::from(t.kind));
         let all = (0..self.grammar().productions.len()).filter(|&p| self.grammar().productions[p].left == n);
         let may: Vec<usize> = all.filter(|&p| self.starts[p] >> look & 1 == 1).collect();
         if may.is_empty() {
@@ -323,17 +354,11 @@ impl<'b> Model<'b> {
         if self.phase != Phase::Left {
             return self.evaluate(0, Phase::Left);
         }
-        let own: usize = production.right.iter().map(|&s| counts(g, s).1).sum();
-        let takes = counts(g, Symbol::Part(production.left)).0;
+        let own: usize = production.right.iter().map(|&s| g.counts(s).1).sum();
+        let takes = g.counts(Symbol::Part(production.left)).0;
         self.registers.truncate(self.registers.len() - own - takes);
         self.places.pop();
-        let below = self.top();
-        let tested = below.production != WHOLE && conditions(&g.productions[below.production], below.passed + 1).next().is_some();
-        if tested {
-            self.phase = Phase::Done;
-        } else {
-            self.pass();
-        }
+        self.leave_symbol();
         self.moved(Kind::Remove, g.heading(production));
         None
     }

@@ -42,14 +42,6 @@ pub struct Stacks<'g> {
     pub cells: Vec<Cell>,
 }
 
-/// How many attributes a symbol takes and gives.
-pub fn counts(g: &Grammar, symbol: Symbol) -> (usize, usize) {
-    match symbol {
-        Symbol::Token(_) => (0, 0),
-        Symbol::Part(n) => (g.parts[n].takes.len(), g.parts[n].gives.len()),
-    }
-}
-
 /// The symbols of a production's right side; the whole segment has the start symbol.
 pub fn right(g: &Grammar, production: usize) -> &[Symbol] {
     if production == WHOLE {
@@ -77,11 +69,11 @@ impl<'g> Stacks<'g> {
     }
 
     fn counts(&self, place: Place, position: usize) -> (usize, usize) {
-        counts(self.grammar, right(self.grammar, place.production)[position - 1])
+        self.grammar.counts(right(self.grammar, place.production)[position - 1])
     }
 
     /// Which attributes of the symbol at hand have registers, for each place. Places below the top wait and have all of them. At the top
-    /// the height tells: none before an add, what the symbol gives before a test, else all.
+    /// the height tells: none before an add or a token's read, what the symbol gives before a test, else all.
     fn shown(&self, height: usize) -> Vec<Range<usize>> {
         let awaited = |p: &Place| {
             let whole = p.passed >= right(self.grammar, p.production).len();

@@ -1,6 +1,7 @@
 //! A run told move by move with a grammar's names. The moves are the proved engine's: `segment::steps`.
 use crate::model::{Condition, Function, Item, Occurrence, Production};
 use crate::print;
+use crate::run::{lists, Token};
 use crate::stacks::{conditions, holds, rules, Place, Stacks};
 use crate::Built;
 use segment::lent::{MARK, PLACES, REGISTERS};
@@ -34,7 +35,7 @@ pub enum Event<'b> {
 /// A run on its way.
 pub struct Story<'b> {
     built: &'b Built,
-    tokens: &'b [u8],
+    tokens: &'b [Token],
     run: steps::Run<'b>,
     index: usize,
     brought: bool,
@@ -56,14 +57,15 @@ pub fn kind_name(kind: Kind) -> &'static str {
 impl<'b> Story<'b> {
     /// Opens a run and feeds the tokens before the one with this number, counted from 1. Where one of them is refused, the story begins
     /// at the last that was read.
-    pub fn open(built: &'b Built, tokens: &'b [u8], from: usize) -> Result<Story<'b>, Refusal> {
+    pub fn open(built: &'b Built, tokens: &'b [Token], from: usize) -> Result<Story<'b>, Refusal> {
         Story::open_in(built, tokens, from, (REGISTERS, PLACES))
     }
 
     /// The same with so many registers and places.
-    pub fn open_in(built: &'b Built, tokens: &'b [u8], from: usize, room: (usize, usize)) -> Result<Story<'b>, Refusal> {
+    pub fn open_in(built: &'b Built, tokens: &'b [Token], from: usize, room: (usize, usize)) -> Result<Story<'b>, Refusal> {
         let mut run = steps::Run::open(built.table.bytes(), room.0, room.1)?;
-        let index = run.skip(&tokens[..from.clamp(1, tokens.len() + 1) - 1]);
+        let (kinds, values) = lists(&tokens[..from.clamp(1, tokens.len() + 1) - 1]);
+        let index = run.skip(&kinds, &values);
         Ok(Story { built, tokens, run, index, brought: false, over: false })
     }
 
@@ -95,7 +97,7 @@ impl<'b> Iterator for Story<'b> {
         }
         if !self.brought {
             self.brought = true;
-            self.run.bring(self.tokens.get(self.index).map_or(Input::End, |&t| Input::Token(t)));
+            self.run.bring(self.tokens.get(self.index).map_or(Input::End, |t| Input::Token(t.kind, t.value)));
             return Some(Event::Coming(self.index));
         }
         let before = self.stacks();
@@ -171,7 +173,7 @@ impl Words<'_> {
 
     fn token(&self, input: Input) -> String {
         match input {
-            Input::Token(t) => self.built.grammar.tokens[usize::from(t)].clone(),
+            Input::Token(kind, value) => Token { kind, value }.written(&self.built.grammar),
             Input::End => "the end".into(),
         }
     }

@@ -6,6 +6,8 @@ use crate::model::{Condition, Function, Grammar, Item, Occurrence, Part, Product
 pub enum What {
     Header,
     Part(usize),
+    /// A token carries a value.
+    Token(usize),
     Production(usize),
     /// A rule or condition of a production.
     Item(usize, usize),
@@ -41,6 +43,9 @@ pub fn table(g: &Grammar) -> (Vec<u8>, Vec<Field>) {
     w.field(What::Header, 1, &[g.tokens.len() as u8, g.parts.len() as u8, g.start as u8, g.result as u8]);
     for (i, part) in g.parts.iter().enumerate() {
         w.field(What::Part(i), 2, &[part.takes.len() as u8, part.gives.len() as u8]);
+    }
+    for t in (0..g.tokens.len()).filter(|&t| g.carried[t].is_some()) {
+        w.field(What::Token(t), 6, &[t as u8]);
     }
     for (i, p) in g.productions.iter().enumerate() {
         let mut body = vec![p.left as u8, p.right.len() as u8];
@@ -106,12 +111,14 @@ fn condition(c: &Condition<Occurrence>) -> Vec<u8> {
     body
 }
 
-/// The grammar of an accepted table, with made-up names: tokens a, b, .., parts A, B, .., attributes i1, i2, .. and s1, s2, ...
+/// The grammar of an accepted table, with made-up names: tokens a, b, .., parts A, B, .., attributes i1, i2, .. and s1, s2, ..,
+/// what a token carries v.
 pub fn grammar(table: &[u8]) -> Grammar {
     let header = &table[3..7];
-    let tokens = (0..header[0]).map(|t| letters(t, b'a')).collect();
+    let tokens: Vec<String> = (0..header[0]).map(|t| letters(t, b'a')).collect();
+    let carried = vec![None; tokens.len()];
     let (start, result) = (header[2] as usize, header[3] as usize);
-    let mut g = Grammar { tokens, parts: vec![], start, whole: Symbol::Part(start), result, productions: vec![] };
+    let mut g = Grammar { tokens, carried, parts: vec![], start, whole: Symbol::Part(start), result, productions: vec![] };
     let mut at = 7;
     while at < table.len() {
         let end = at + 3 + u16::from_be_bytes([table[at + 1], table[at + 2]]) as usize;
@@ -122,6 +129,7 @@ pub fn grammar(table: &[u8]) -> Grammar {
                 takes: (1..=b[0]).map(|a| format!("i{a}")).collect(),
                 gives: (1..=b[1]).map(|a| format!("s{a}")).collect(),
             }),
+            (6, _) => g.carried[b[0] as usize] = Some("v".into()),
             (4, Some(p)) => p.items.push(Item::Rule(occurrence_at(b, 0), function_of(b))),
             (5, Some(p)) => p.items.push(Item::Condition(condition_of(b))),
             _ => {

@@ -1,5 +1,5 @@
 //! A run as text: each move, and what it changed.
-use crate::run::{run, told};
+use crate::run::{run, told, Token};
 use crate::stacks::{Place, Stacks};
 use crate::story::{kind_name, Event, Move, Story};
 use crate::Built;
@@ -13,7 +13,7 @@ pub struct Wanted {
     pub from: usize,
     /// The last token told; the end has the number after the last token's.
     pub to: Option<usize>,
-    /// The run ends behind the first token with this number in the table.
+    /// The run ends behind the first token of this kind.
     pub stop: Option<u8>,
     /// Whether whole stacks are told, after each move.
     pub full: bool,
@@ -24,7 +24,7 @@ const REGISTERS: usize = 12;
 const PLACES: usize = 6;
 
 /// Tells a run; whether the segment has a value, where the run was told to its end.
-pub fn tell(built: &Built, tokens: &[u8], wanted: &Wanted, out: &mut dyn Write) -> io::Result<bool> {
+pub fn tell(built: &Built, tokens: &[Token], wanted: &Wanted, out: &mut dyn Write) -> io::Result<bool> {
     let mut story = match Story::open(built, tokens, wanted.from) {
         Ok(story) => story,
         Err(refusal) => {
@@ -62,20 +62,20 @@ fn tokens_words(n: usize) -> String {
 }
 
 /// Whether the trace ends before the token with this index.
-fn is_over(tokens: &[u8], index: usize, wanted: &Wanted) -> bool {
-    let stopped = wanted.stop.is_some_and(|stop| tokens[..index].iter().skip(wanted.from.max(1) - 1).any(|t| *t == stop));
+fn is_over(tokens: &[Token], index: usize, wanted: &Wanted) -> bool {
+    let stopped = wanted.stop.is_some_and(|stop| tokens[..index].iter().skip(wanted.from.max(1) - 1).any(|t| t.kind == stop));
     stopped || wanted.to.is_some_and(|to| index >= to)
 }
 
 /// `token 2 of 4: open`, or `the end`.
-pub fn coming(built: &Built, tokens: &[u8], index: usize) -> String {
+pub fn coming(built: &Built, tokens: &[Token], index: usize) -> String {
     match tokens.get(index) {
-        Some(&t) => format!("token {} of {}: {}", index + 1, tokens.len(), built.grammar.tokens[usize::from(t)]),
+        Some(t) => format!("token {} of {}: {}", index + 1, tokens.len(), t.written(&built.grammar)),
         None => "the end".into(),
     }
 }
 
-fn refused(out: &mut dyn Write, built: &Built, tokens: &[u8], moves: u64) -> io::Result<bool> {
+fn refused(out: &mut dyn Write, built: &Built, tokens: &[Token], moves: u64) -> io::Result<bool> {
     let outcome = run(&built.table, tokens);
     if let Err(refusal) = outcome.answer {
         writeln!(out, "{}", told(built, tokens, &outcome, refusal))?;

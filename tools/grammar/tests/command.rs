@@ -151,7 +151,7 @@ fn examples_are_tested() {
 
 #[test]
 fn layout() {
-    for name in ["words", "clause", "sheet"] {
+    for name in ["words", "lengths", "clause", "sheet"] {
         assert_answer(grammar(&["fmt", "--check", &shipped_file(name)]), 0, "", "");
     }
     let wild =
@@ -171,9 +171,10 @@ fn layout() {
 fn the_listing_has_its_rules() {
     let listed = stdout(&grammar(&["list", &shipped_file("clause")]));
     for line in [
-        "    E3 1 addc 6 1           Inner.depth = depth + 1",
+        "    E3 1 addc 7 1           Inner.depth = depth + 1",
         "    P1 atmost 1 3           Number.n <= next",
         "    A4 4                    Level",
+        "    P1 range 1 1 40         1 <= word.length <= 40",
     ] {
         assert!(listed.contains(line), "{line}\n{listed}");
     }

@@ -5,7 +5,7 @@ use grammar::{run, to_table, to_text, Built};
 use segment::Kind;
 use std::collections::BTreeMap;
 
-const NAMES: [&str; 3] = ["words", "clause", "sheet"];
+const NAMES: [&str; 4] = ["words", "lengths", "clause", "sheet"];
 
 const CHARS: [char; 20] = ['a', 'L', 'é', '0', '9', '_', ' ', '\t', '.', ':', '=', '<', '-', '+', '*', '/', '(', ',', '#', '\u{1f600}'];
 
@@ -77,7 +77,9 @@ fn random_segments_are_told_in_words() {
     for name in NAMES {
         let built: Built = to_table(&shipped(name)).expect(name);
         for _ in 0..1000 {
-            let tokens: Vec<u8> = (0..chance.below(12)).map(|_| chance.below(built.grammar.tokens.len()) as u8).collect();
+            let count = chance.below(12);
+            let mut token = || run::Token { kind: chance.below(built.grammar.tokens.len()) as u8, value: chance.below(50) as i32 };
+            let tokens: Vec<run::Token> = (0..count).map(|_| token()).collect();
             let outcome = run::run(&built.table, &tokens);
             if let Err(refusal) = outcome.answer {
                 let told = run::told(&built, &tokens, &outcome, refusal);

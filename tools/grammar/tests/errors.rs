@@ -82,7 +82,7 @@ const CASES: &[(usize, &str, usize, &str)] = &[
     (9, "  L.d = d + 1", 3, "`L` stands several times on the right side: write `L1`, `L2`"),
     (9, "  L3.d = d + 1", 3, "there is no `L3`: `L` stands 2 times on the right side"),
     (9, "  L0.d = d + 1", 3, "there is no `L0`: `L` stands 2 times on the right side"),
-    (9, "  L1.d = open.d", 10, "`open` is a token and has no attributes"),
+    (9, "  L1.d = open.d", 10, "`open` is a token and carries no value; one that does is declared `token open -> ..`"),
     (9, "  L1.d = d + 1 + 1", 16, "expected the end of the line, found `+`; a rule has one function"),
     (9, "  L1.d = d +", 13, "expected an attribute or a number, but the line ends here"),
     (9, "  L1.d = d * 2", 14, "expected an attribute (a product is of two attributes), found `2`"),
@@ -198,12 +198,28 @@ fn all_wrong_items_in_one_run() {
     assert_eq!(to_table(text).expect_err("useless").all().len(), 2);
 }
 
+/// Tokens that carry a value are counted like parts, and read like what a part gives.
+#[test]
+fn tokens_that_carry_a_value() {
+    let text = "token w -> len\ntoken t\npart S -> n\nstart S.n\nS: w t w\n n = w1.len + w2.len\n w1.len <= w2.len\n";
+    let built = to_table(text).expect("accepted");
+    assert!(built.table.bytes().windows(4).any(|field| field == [6, 0, 1, 0]));
+    let message = |old: &str, new: &str| to_table(&text.replace(old, new)).expect_err(new).first().message.clone();
+    assert_eq!(message("w1.len + w2.len", "w.len"), "`w` stands several times on the right side: write `w1`, `w2`");
+    assert_eq!(message("w1.len + w2.len", "w3.len"), "there is no `w3`: `w` stands 2 times on the right side");
+    assert_eq!(message("w1.len + w2.len", "w1.size"), "`w` has no attribute `size`; its attributes: `len`");
+    assert_eq!(message(" w1.len <= w2.len", " w1.len = 1"), "refused 7: `w1.len` is an input: `w` gives it, a rule cannot set it");
+    assert_eq!(message("token t", "token t1 -> len"), "`t1` ends in a digit; at the end of such a token's name digits count occurrences");
+    assert_eq!(message("w -> len", "w ->"), "expected the name of an attribute, but the line ends here");
+    assert_eq!(message("w -> len", "w -> len, size"), "expected the end of the line, found `,`");
+}
+
 /// Tokens may end in digits; a part beside them is counted all the same.
 #[test]
 fn tokens_that_end_in_digits() {
     let text = "token h1 h2 utf8 L1\npart S -> n\npart L -> n\nstart S.n\nS: h1 L utf8 L L1\n n = L1.n + L2.n\nL: h2\n n = 1";
     assert!(to_table(text).is_ok());
     let message = |new: &str| to_table(&text.replace("L1.n + L2.n", new)).expect_err(new).first().message.clone();
-    assert_eq!(message("h1.n"), "`h1` is a token and has no attributes");
+    assert_eq!(message("h1.n"), "`h1` is a token and carries no value; one that does is declared `token h1 -> ..`");
     assert_eq!(message("L3.n"), "there is no `L3`: `L` stands 2 times on the right side");
 }

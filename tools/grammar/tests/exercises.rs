@@ -5,7 +5,7 @@ use grammar::exercises::make;
 use grammar::{run, to_table, Built};
 
 /// The tokens between the first backticks of a text.
-fn tokens(built: &Built, text: &str) -> Vec<u8> {
+fn tokens(built: &Built, text: &str) -> Vec<run::Token> {
     let words: Vec<&str> = text.split('`').nth(1).map_or(vec![], |w| w.split_whitespace().collect());
     run::tokens(&built.grammar, &words).unwrap_or_default()
 }
@@ -26,7 +26,7 @@ fn sheets_are_the_same_for_the_same_seed() {
 
 #[test]
 fn answers_are_the_engines() {
-    for name in ["words", "price", "clause", "sheet"] {
+    for name in ["words", "lengths", "price", "clause", "sheet"] {
         let built = to_table(&shipped(name)).expect(name);
         for seed in 0..20 {
             let all = make(&built, seed, 10);

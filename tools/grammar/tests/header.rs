@@ -34,7 +34,7 @@ fn c_names_compile_and_check_the_table() {
 
 #[test]
 fn rust_names_compile() {
-    for name in ["words", "clause", "sheet"] {
+    for name in ["words", "lengths", "clause", "sheet"] {
         let source = scratch(&format!("{name}_names.rs"), header(&shipped_file(name), "rust").as_bytes());
         let out = format!("{source}.rmeta");
         let mut compiled = Command::new("rustc");
@@ -58,6 +58,9 @@ fn json_names() {
     ] {
         assert!(text.contains(line), "{line}\n{text}");
     }
+    assert!(
+        text.contains("  \"carried\": {},") && header(&shipped_file("lengths"), "json").contains("  \"carried\": {\"word\": \"length\"},")
+    );
 }
 
 /// Names of other alphabets, and names that differ by capitals alone.

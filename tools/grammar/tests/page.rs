@@ -27,6 +27,14 @@ fn is_balanced(json: &str) -> bool {
 }
 
 #[test]
+fn tokens_are_shown_with_their_values() {
+    let text = page(&[&shipped_file("lengths"), "word=4", "open", "close"]);
+    for words in ["\"tokens\":[\"word=4\",\"open\",\"close\"]", "\"label\":\"word=4\"", "[\"word.length\",\"4\",true]"] {
+        assert!(text.contains(words), "{words}");
+    }
+}
+
+#[test]
 fn a_page_stands_alone() {
     let text = page(&[&shipped_file("words"), "word", "open", "word", "close"]);
     assert!(!text.contains("http:") || text.matches("http:").count() == text.matches("http://www.w3.org/2000/svg").count());

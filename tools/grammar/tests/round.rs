@@ -40,7 +40,7 @@ fn the_largest_sample_comes_back() {
 /// Names, comments and blank lines aside, a printed grammar reads as the grammar it was printed from.
 #[test]
 fn printed_grammars_read_back() {
-    for name in ["words", "clause", "sheet"] {
+    for name in ["words", "lengths", "clause", "sheet"] {
         let read = |text: &str| -> Grammar { resolve::grammar(text).expect(name).0 };
         let grammar = read(&shipped(name));
         assert_eq!(read(&print::text(&grammar)), grammar);

@@ -24,7 +24,13 @@ fn words_and_tags() {
 
 #[test]
 fn a_legal_clause() {
-    run_examples("clause", 11);
+    run_examples("clause", 14);
+}
+
+#[test]
+fn words_that_carry_their_lengths() {
+    run_examples("lengths", 6);
+    assert_eq!(read("lengths").1.table.bytes(), include_bytes!("../../../grammars/lengths.table"));
 }
 
 #[test]

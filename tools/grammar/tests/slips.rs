@@ -1,19 +1,20 @@
 //! The teaching model: without a slip it is the engine; with one it shows what docs/CLASSROOM.md says.
 mod common;
-use common::shipped;
+use common::{of_kinds, shipped};
+use grammar::run::{self as runs, Token};
 use grammar::slips::{run, End, Slip};
 use grammar::story::{Event, Story};
-use grammar::{run as runs, to_table, Built};
+use grammar::{to_table, Built};
 
 const ROOM: (usize, usize) = (4096, 1024);
 
-fn tokens(built: &Built, segment: &str) -> Vec<u8> {
+fn tokens(built: &Built, segment: &str) -> Vec<Token> {
     let words: Vec<&str> = segment.split_whitespace().collect();
     runs::tokens(&built.grammar, &words).expect(segment)
 }
 
 /// Every move and both stacks of the model are the engine's, and so is the end.
-fn assert_same(built: &Built, tokens: &[u8], room: (usize, usize)) {
+fn assert_same(built: &Built, tokens: &[Token], room: (usize, usize)) {
     let (frames, end) = run(built, tokens, None, room);
     let mut made = frames.iter();
     let mut coming = 0;
@@ -42,12 +43,13 @@ fn without_a_slip_it_is_the_engine() {
         seed = seed.wrapping_mul(6_364_136_223_846_793_005).wrapping_add(1_442_695_040_888_963_407);
         (seed >> 33) as usize % n
     };
-    for name in ["words", "price", "clause", "sheet"] {
+    for name in ["words", "lengths", "price", "clause", "sheet"] {
         let built = to_table(&shipped(name)).expect(name);
         let examples = grammar::examples::find(&shipped(name));
         let count = built.grammar.tokens.len();
-        let random = (0..40).map(|_| (0..below(9)).map(|_| below(count) as u8).collect::<Vec<u8>>()).collect::<Vec<_>>();
-        let given: Vec<Vec<u8>> = examples.iter().map(|e| tokens(&built, &e.tokens.join(" "))).collect();
+        let mut token = || Token { kind: below(count) as u8, value: below(50) as i32 };
+        let random: Vec<Vec<Token>> = (0..40).map(|n| (0..n % 9).map(|_| token()).collect()).collect();
+        let given: Vec<Vec<Token>> = examples.iter().map(|e| tokens(&built, &e.tokens.join(" "))).collect();
         for tokens in given.iter().chain(&random) {
             assert_same(&built, tokens, ROOM);
             assert_same(&built, tokens, (6, 5));
@@ -74,7 +76,7 @@ fn under_the_grammars_of_the_vectors_it_is_the_engine() {
         for _ in 0..6 {
             let mut tokens = derive.segment(&mut chance).unwrap_or_default();
             if below(3) == 0 {
-                tokens.insert(below(tokens.len() + 1), below(grammar.grammar.tokens.len()) as u8);
+                tokens.insert(below(tokens.len() + 1), of_kinds(&[below(grammar.grammar.tokens.len()) as u8])[0]);
             }
             let (frames, _) = run(&grammar, &tokens, None, ROOM);
             if frames.len() < 500 {
@@ -103,4 +105,7 @@ fn the_five_slips() {
     let (end, registers) = slipped("words", "word", Slip::WritesFirst, (4, 4));
     assert_eq!((end.map_err(|e| e.0), registers), (Err(31), vec![None, None, Some(0), None, Some(0)]));
     assert_eq!(slipped("words", "word", Slip::WritesFirst, (5, 2)).0.map_err(|e| e.0), Err(32));
+    let (end, registers) = slipped("lengths", "word=4", Slip::WritesFirst, (3, 4));
+    assert_eq!((end.map_err(|e| e.0), registers), (Err(31), vec![None, None, Some(0), Some(4)]));
+    assert_eq!(slipped("lengths", "word=4", Slip::NoLimits, (3, 4)).0, Ok(4));
 }

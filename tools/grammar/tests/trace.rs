@@ -73,8 +73,14 @@ fn names_and_registers_belong_together() {
         ("words", &["", "word open word close", "open open open close close close word", "open open open open", "word close"][..]),
         (
             "clause",
-            &["one warrants sub one warrants word two limits end two word", "one word three word", "one warrants sub one word", "word"],
+            &[
+                "one warrants sub one warrants word=4 two limits end two word=1",
+                "one word=4 three word=4",
+                "one warrants sub one word=40",
+                "word",
+            ],
         ),
+        ("lengths", &["word=4 open word=7 close", "word=4 word=41", "word=1 open word=2"]),
         ("sheet", &["limit one kilogram item two five zero gram item three by one zero zero gram total five five zero gram", "limit gram"]),
     ] {
         let built = to_table(&shipped(name)).expect(name);

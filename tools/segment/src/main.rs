@@ -31,12 +31,15 @@ Bytes are hex digits, `-` for none; numbers are decimal. A line that begins with
   stretch TABLE P                 where production P stands in the table
   list TABLE                      the listing, then a line `.`
   open TABLE NREGS NPLACES NPROG  lends stacks and opens a run
-  feed TABLE TOKENS NPROG         feeds tokens to the run
+  feed TABLE TOKENS NPROG         feeds tokens to the run, each with the value 0
+  feedv TABLE KINDS VALUES NPROG  feeds tokens with their values
   finish TABLE NPROG              ends its segment
   set OPEN TOKENS MOVES RH PH | REGISTERS | PLACES
                                   replaces the record and the stacks
   trace TABLE TOKENS [NREGS NPLACES [FROM]]
                                   the run of a segment, move by move, from token FROM on
+  tracev TABLE KINDS VALUES [NREGS NPLACES [FROM]]
+                                  the same with the tokens' values
   table NAME FILE                 reads a table; NAME stands for it in the lines that follow
 
 A line that is no command is answered `bad ..` and told on standard error. vectors/README.md has all answers.

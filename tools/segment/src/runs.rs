@@ -1,11 +1,11 @@
-//! The commands on the run that stands: `open`, `feed`, `finish` and `set`.
+//! The commands on the run that stands: `open`, `feed`, `feedv`, `finish` and `set`.
 use crate::answers::{call_line, Answer};
 use crate::session::{Command, Session};
 use crate::words::{Bad, Fault, Words, AREA, CELLS};
 use engine::lent::{self, Record};
 use std::io::Write;
 
-pub const COMMANDS: &[(&str, Command)] = &[("open", open), ("feed", feed), ("finish", finish), ("set", set)];
+pub const COMMANDS: &[(&str, Command)] = &[("open", open), ("feed", feed), ("feedv", feedv), ("finish", finish), ("set", set)];
 
 /// What fresh cells hold before an opening.
 const REGISTER: i64 = 7;
@@ -27,13 +27,24 @@ fn open(session: &mut Session, words: Words, out: &mut dyn Write) -> Result<(), 
     show(session, answer, out)
 }
 
-/// `feed TABLE TOKENS NPROG`
+/// `feed TABLE TOKENS NPROG`: every value is 0.
 fn feed(session: &mut Session, words: Words, out: &mut dyn Write) -> Result<(), Fault> {
     words.at_most(3)?;
-    let table = session.table(words, 1)?;
-    let tokens = words.tokens(2)?;
-    let (record, mut memory) = session.lend(words.size(3, AREA)?);
-    let answer = Answer::of_feed(lent::feed(&table, record, &mut memory, &tokens));
+    let (table, kinds) = (session.table(words, 1)?, words.tokens(2)?);
+    let values = vec![0; kinds.len()];
+    fed(session, &table, &kinds, &values, words.size(3, AREA)?, out)
+}
+
+/// `feedv TABLE KINDS VALUES NPROG`
+fn feedv(session: &mut Session, words: Words, out: &mut dyn Write) -> Result<(), Fault> {
+    words.at_most(4)?;
+    let (table, kinds, values) = (session.table(words, 1)?, words.tokens(2)?, words.values(3)?);
+    fed(session, &table, &kinds, &values, words.size(4, AREA)?, out)
+}
+
+fn fed(session: &mut Session, table: &[u8], kinds: &[u8], values: &[i32], area: usize, out: &mut dyn Write) -> Result<(), Fault> {
+    let (record, mut memory) = session.lend(area);
+    let answer = Answer::of_feed(lent::feed(table, record, &mut memory, kinds, values));
     show(session, answer, out)
 }
 

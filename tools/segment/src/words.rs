@@ -110,12 +110,17 @@ impl<'a> Words<'a> {
         size(self.at(k), most).ok_or_else(|| self.bad(k, "bad number"))
     }
 
+    /// Values of tokens, any number of them.
+    pub fn values(self, k: usize) -> Result<Vec<i32>, Bad> {
+        list(self.at(k), usize::MAX, value).ok_or_else(|| self.bad(k, "bad values"))
+    }
+
     pub fn registers(self, k: usize) -> Result<Vec<i64>, Bad> {
-        list(self.at(k), register).ok_or_else(|| self.bad(k, "bad registers"))
+        list(self.at(k), CELLS, register).ok_or_else(|| self.bad(k, "bad registers"))
     }
 
     pub fn places(self, k: usize) -> Result<Vec<u32>, Bad> {
-        list(self.at(k), place).ok_or_else(|| self.bad(k, "bad places"))
+        list(self.at(k), CELLS, place).ok_or_else(|| self.bad(k, "bad places"))
     }
 }
 
@@ -158,17 +163,22 @@ fn register(word: &[u8]) -> Option<i64> {
     }
 }
 
+/// What a token carries: no mark.
+fn value(word: &[u8]) -> Option<i32> {
+    register(word)?.try_into().ok()
+}
+
 fn place(word: &[u8]) -> Option<u32> {
     u32::try_from(number(word)?).ok()
 }
 
-/// Cells separated by commas, `-` for none.
-fn list<T>(word: &[u8], cell: impl Fn(&[u8]) -> Option<T>) -> Option<Vec<T>> {
+/// At most so many cells separated by commas, `-` for none.
+fn list<T>(word: &[u8], most: usize, cell: impl Fn(&[u8]) -> Option<T>) -> Option<Vec<T>> {
     if word == b"-" {
         return Some(vec![]);
     }
-    let cells: Option<Vec<T>> = word.split(|&byte| byte == b',').take(CELLS + 1).map(cell).collect();
-    cells.filter(|cells| cells.len() <= CELLS)
+    let cells: Option<Vec<T>> = word.split(|&byte| byte == b',').take(most.saturating_add(1)).map(cell).collect();
+    cells.filter(|cells| cells.len() <= most)
 }
 
 #[cfg(test)]
@@ -208,14 +218,21 @@ mod tests {
 
     #[test]
     fn cells_are_listed_from_the_bottom() {
-        assert_eq!(list(b"-", register), Some(vec![]));
-        assert_eq!(list(b"m,-5,-9223372036854775807,9223372036854775807,-0", register), Some(vec![MARK, -5, -i64::MAX, i64::MAX, 0]));
-        assert_eq!(list(b"0,4294967295", place), Some(vec![0, u32::MAX]));
+        assert_eq!(list(b"-", CELLS, register), Some(vec![]));
+        assert_eq!(
+            list(b"m,-5,-9223372036854775807,9223372036854775807,-0", CELLS, register),
+            Some(vec![MARK, -5, -i64::MAX, i64::MAX, 0])
+        );
+        assert_eq!(list(b"0,4294967295", CELLS, place), Some(vec![0, u32::MAX]));
         for word in [&b""[..], b"1,", b",1", b"1,-", b"9223372036854775808", b"-9223372036854775808", b"1-"] {
-            assert_eq!(list(word, register), None);
+            assert_eq!(list(word, CELLS, register), None);
         }
-        assert_eq!((list(b"4294967296", place), list(b"m", place)), (None, None));
-        assert_eq!(list(&[&b"7,".repeat(CELLS - 1)[..], b"7"].concat(), place).map(|cells| cells.len()), Some(CELLS));
-        assert_eq!(list(&[&b"7,".repeat(CELLS)[..], b"7"].concat(), place), None);
+        assert_eq!(list(b"-2147483648,2147483647", 2, value), Some(vec![i32::MIN, i32::MAX]));
+        for word in [&b"2147483648"[..], b"-2147483649", b"m", b"1,,2"] {
+            assert_eq!(list(word, usize::MAX, value), None);
+        }
+        assert_eq!((list(b"4294967296", CELLS, place), list(b"m", CELLS, place)), (None, None));
+        assert_eq!(list(&[&b"7,".repeat(CELLS - 1)[..], b"7"].concat(), CELLS, place).map(|cells| cells.len()), Some(CELLS));
+        assert_eq!(list(&[&b"7,".repeat(CELLS)[..], b"7"].concat(), CELLS, place), None);
     }
 }

@@ -1,38 +1,27 @@
 use native.Mathlib.Omega.{arith}
 use borrow.Author.Needs.{needs}
 use Rattle.bodies.proofs.Laws as L
-use mathlib.Core.Path.{ap, _∙_, sym}
-use Rattle.blocks.specs.Items.{itemSize}
 use Rattle.bodies.proofs.block_size.Statement.{statement}
 use Rattle.bodies.proofs.block_size.Tie as tie
-use Rattle.bodies.proofs.block_size.Reads as reads
-use Rattle.bodies.proofs.block_size.Lts as lts
 
--- src/lib.rt:59:9
 returns : tie.Need-returns
 returns c = (L.size-none _ _ (omega arith), omega arith)
 
--- src/lib.rt:62:20
 mul-result : tie.Need-mul-result
 mul-result c = search needs
 
--- src/lib.rt:62:16
 add-result : tie.Need-add-result
 add-result c = search needs
 
--- src/lib.rt:62:9
 returns-2 : tie.Need-returns-2
 returns-2 c = (omega (arith, L.size-some (c .before .before .args .rules) (c .before .before .args .n) (omega arith), L.size-of (c .if2 .taken) (c .before .before .args .n)), omega arith)
 
--- src/lib.rt:64:9
 mul-result-2 : tie.Need-mul-result-2
 mul-result-2 c = search needs
 
--- src/lib.rt:64:5
 add-result-2 : tie.Need-add-result-2
 add-result-2 c = search needs
 
--- src/lib.rt:54:1
 returns-3 : tie.Need-returns-3
 returns-3 c = (omega (arith, L.size-some (c .before .before .args .rules) (c .before .before .args .n) (omega arith), L.size-of (c .if2 .left) (c .before .before .args .n)), omega arith)
 

@@ -4,13 +4,6 @@ use Rattle.bodies.proofs.Schemes as S
 use Prim.Native.Nat.{_≤_, _-_}
 use Rattle.bodies.proofs.write_expects.Statement.{statement}
 use Rattle.bodies.proofs.write_expects.Tie as tie
-use Rattle.bodies.proofs.write_expects.Reads as reads
-use Rattle.bodies.proofs.write_expects.Lts as lts
-use Rattle.bodies.proofs.add_size.Reads as add-size-reads
-use Rattle.bodies.proofs.block_size.Reads as block-size-reads
-use Rattle.bodies.proofs.count_at.Reads as count-at-reads
-use Rattle.bodies.proofs.number_at.Reads as number-at-reads
-use Rattle.value.proofs.byte_at.Reads as byte-at-reads
 
 abbrev Inv-loop : tie.InvT-loop
 Inv-loop row fields inherited synthesized rules tests levels area₀ address scheme size k₀ at₀ area k at = (k ≤ size) × S.ExpectsGo row fields inherited synthesized rules tests levels area₀ address scheme k area at
@@ -18,123 +11,93 @@ Inv-loop row fields inherited synthesized rules tests levels area₀ address sch
 abbrev μ-loop : tie.MeasureT-loop
 μ-loop row fields inherited synthesized rules tests levels area₀ address scheme size k₀ at₀ area k at = size - k
 
--- src/lib.rt:241:16
 byte-at-requires : tie.Need-byte-at-requires Inv-loop μ-loop
 byte-at-requires c κs = search needs
 
--- src/lib.rt:241:16
 cast-size : tie.Need-cast-size Inv-loop μ-loop
 cast-size c = search needs
 
--- src/lib.rt:244:5
 loop-holds : tie.Need-loop-holds Inv-loop μ-loop
 loop-holds c = (omega arith, S.expects-start)
 
--- src/lib.rt:245:42
 add-byte-at : tie.Need-add-byte-at Inv-loop μ-loop
 add-byte-at c = search needs
 
--- src/lib.rt:245:13
 byte-at-requires-2 : tie.Need-byte-at-requires-2 Inv-loop μ-loop
 byte-at-requires-2 c κs = search needs
 
--- src/lib.rt:246:19
 count-at-requires : tie.Need-count-at-requires Inv-loop μ-loop
 count-at-requires c κs = search needs
 
--- src/lib.rt:246:49
 count-at-requires-2 : tie.Need-count-at-requires-2 Inv-loop μ-loop
 count-at-requires-2 c κs = search needs
 
--- src/lib.rt:246:19
 add-all : tie.Need-add-all Inv-loop μ-loop
 add-all c = search needs
 
--- src/lib.rt:247:21
 add-size-requires : tie.Need-add-size-requires Inv-loop μ-loop
 add-size-requires c κs = search needs
 
--- src/lib.rt:247:71
 add-number-at : tie.Need-add-number-at Inv-loop μ-loop
 add-number-at c = search needs
 
--- src/lib.rt:247:54
 number-at-requires : tie.Need-number-at-requires Inv-loop μ-loop
 number-at-requires c κs = search needs
 
--- src/lib.rt:247:37
 block-size-requires : tie.Need-block-size-requires Inv-loop μ-loop
 block-size-requires c κs = S.rules-few (c .before .before .before .before .before .before .loop .inv .1) _ (c .before .before .before .before .before .before .before .byte-at .ensures .0) (omega arith) (c .before .before .before .before .before .before .before .before .before .before .before .before .before .before .before .before .pre) _ (c .number-at .ensures)
 
--- src/lib.rt:247:21
 add-ahead : tie.Need-add-ahead Inv-loop μ-loop
 add-ahead c = omega (arith, c .before .before .add-size .ensures .1, c .block-size .ensures .1)
 
--- src/lib.rt:248:57
 add-number-at-2 : tie.Need-add-number-at-2 Inv-loop μ-loop
 add-number-at-2 c = search needs
 
--- src/lib.rt:248:40
 number-at-requires-2 : tie.Need-number-at-requires-2 Inv-loop μ-loop
 number-at-requires-2 c κs = search needs
 
--- src/lib.rt:248:13
 block-size-requires-2 : tie.Need-block-size-requires-2 Inv-loop μ-loop
 block-size-requires-2 c κs = S.tests-few (c .before .before .before .before .before .before .before .before .loop .inv .1) _ (c .before .before .before .before .before .before .before .before .before .byte-at .ensures .0) (omega arith) (c .before .before .before .before .before .before .before .before .before .before .before .before .before .before .before .before .before .before .pre) _ (c .number-at2 .ensures)
 
--- src/lib.rt:249:30
 add-area : tie.Need-add-area Inv-loop μ-loop
 add-area c = omega (arith, S.expect-small (c .before .before .before .before .before .before .before .before .before .loop .inv .1) _ (c .before .before .before .before .before .before .before .before .before .before .byte-at .ensures .0) (omega arith) (c .before .before .before .before .before .before .before .byte-at2 .ensures .0) (c .before .before .before .before .before .before .count-at .ensures .0) (c .before .before .before .before .before .count-at2 .ensures .0) (c .before .before .before .number-at .ensures) (c .before .number-at2 .ensures) (c .before .before .before .before .add-size .ensures .0) (c .before .before .block-size .ensures .0) (c .block-size2 .ensures .0) (c .before .before .before .before .before .before .before .before .before .before .before .before .before .before .before .before .before .before .before .pre))
 
--- src/lib.rt:249:29
 cast-area : tie.Need-cast-area Inv-loop μ-loop
 cast-area c = omega (arith, S.expect-small (c .before .before .before .before .before .before .before .before .before .loop .inv .1) _ (c .before .before .before .before .before .before .before .before .before .before .byte-at .ensures .0) (omega arith) (c .before .before .before .before .before .before .before .byte-at2 .ensures .0) (c .before .before .before .before .before .before .count-at .ensures .0) (c .before .before .before .before .before .count-at2 .ensures .0) (c .before .before .before .number-at .ensures) (c .before .number-at2 .ensures) (c .before .before .before .before .add-size .ensures .0) (c .before .before .block-size .ensures .0) (c .block-size2 .ensures .0) (c .before .before .before .before .before .before .before .before .before .before .before .before .before .before .before .before .before .before .before .pre))
 
--- src/lib.rt:249:14
 add-area-2 : tie.Need-add-area-2 Inv-loop μ-loop
 add-area-2 c = omega (arith, S.place-small (c .before .before .before .before .before .before .before .before .before .loop .inv .1) _ (c .before .before .before .before .before .before .before .before .before .before .byte-at .ensures .0) (omega arith) (c .before .before .before .before .before .before .before .before .before .before .before .before .before .before .before .before .before .before .before .pre) .0)
 
--- src/lib.rt:249:9
 mul-area : tie.Need-mul-area Inv-loop μ-loop
 mul-area c = omega (arith, S.place-small (c .before .before .before .before .before .before .before .before .before .loop .inv .1) _ (c .before .before .before .before .before .before .before .before .before .before .byte-at .ensures .0) (omega arith) (c .before .before .before .before .before .before .before .before .before .before .before .before .before .before .before .before .before .before .before .pre) .0)
 
--- src/lib.rt:249:9
 slice-write-area : tie.Need-slice-write-area Inv-loop μ-loop
 slice-write-area c = S.place-small (c .before .before .before .before .before .before .before .before .before .loop .inv .1) _ (c .before .before .before .before .before .before .before .before .before .before .byte-at .ensures .0) (omega arith) (c .before .before .before .before .before .before .before .before .before .before .before .before .before .before .before .before .before .before .before .pre) .1
 
--- src/lib.rt:250:14
 add-at : tie.Need-add-at Inv-loop μ-loop
 add-at c = omega (arith, S.expect-small (c .before .before .before .before .before .before .before .before .before .loop .inv .1) _ (c .before .before .before .before .before .before .before .before .before .before .byte-at .ensures .0) (omega arith) (c .before .before .before .before .before .before .before .byte-at2 .ensures .0) (c .before .before .before .before .before .before .count-at .ensures .0) (c .before .before .before .before .before .count-at2 .ensures .0) (c .before .before .before .number-at .ensures) (c .before .number-at2 .ensures) (c .before .before .before .before .add-size .ensures .0) (c .before .before .block-size .ensures .0) (c .block-size2 .ensures .0) (c .before .before .before .before .before .before .before .before .before .before .before .before .before .before .before .before .before .before .before .pre))
 
--- src/lib.rt:250:14
 add-at-2 : tie.Need-add-at-2 Inv-loop μ-loop
 add-at-2 c = omega (arith, S.expect-small (c .before .before .before .before .before .before .before .before .before .loop .inv .1) _ (c .before .before .before .before .before .before .before .before .before .before .byte-at .ensures .0) (omega arith) (c .before .before .before .before .before .before .before .byte-at2 .ensures .0) (c .before .before .before .before .before .before .count-at .ensures .0) (c .before .before .before .before .before .count-at2 .ensures .0) (c .before .before .before .number-at .ensures) (c .before .number-at2 .ensures) (c .before .before .before .before .add-size .ensures .0) (c .before .before .block-size .ensures .0) (c .block-size2 .ensures .0) (c .before .before .before .before .before .before .before .before .before .before .before .before .before .before .before .before .before .before .before .pre))
 
--- src/lib.rt:250:14
 add-at-3 : tie.Need-add-at-3 Inv-loop μ-loop
 add-at-3 c = omega (arith, S.expect-small (c .before .before .before .before .before .before .before .before .before .loop .inv .1) _ (c .before .before .before .before .before .before .before .before .before .before .byte-at .ensures .0) (omega arith) (c .before .before .before .before .before .before .before .byte-at2 .ensures .0) (c .before .before .before .before .before .before .count-at .ensures .0) (c .before .before .before .before .before .count-at2 .ensures .0) (c .before .before .before .number-at .ensures) (c .before .number-at2 .ensures) (c .before .before .before .before .add-size .ensures .0) (c .before .before .block-size .ensures .0) (c .block-size2 .ensures .0) (c .before .before .before .before .before .before .before .before .before .before .before .before .before .before .before .before .before .before .before .pre))
 
--- src/lib.rt:251:9
 add-k : tie.Need-add-k Inv-loop μ-loop
 add-k c = search needs
 
--- src/lib.rt:244:5
 loop-less : tie.Need-loop-less Inv-loop μ-loop
 loop-less c = omega arith
 
--- src/lib.rt:244:5
 loop-again : tie.Need-loop-again Inv-loop μ-loop
 loop-again c = (omega arith, S.expects-go (c .before .before .before .before .before .before .before .before .before .loop .inv .1) _ (c .before .before .before .before .before .before .before .before .before .before .byte-at .ensures .0) (omega arith) (c .before .before .before .before .before .before .before .byte-at2 .ensures .0) (c .before .before .before .before .before .before .count-at .ensures .0) (c .before .before .before .before .before .count-at2 .ensures .0) (c .before .before .before .number-at .ensures) (c .before .number-at2 .ensures) (c .before .before .before .before .add-size .ensures .0) (c .before .before .block-size .ensures .0) (c .block-size2 .ensures .0))
 
--- src/lib.rt:253:5
 add-result : tie.Need-add-result Inv-loop μ-loop
 add-result c = omega (arith, c .before .before .before .before .before .before .before .before .before .before .before .pre .room, c .before .before .byte-at .ensures .0, c .before .before .before .before .before .before .before .before .before .before .before .pre .prepared .given .size)
 
--- src/lib.rt:226:1
 same-length : tie.Need-same-length Inv-loop μ-loop
 same-length c = S.expects-size (c .before .loop .inv .1) _ (c .before .before .byte-at .ensures .0) (c .before .before .before .before .before .before .before .before .before .before .before .pre)
 
--- src/lib.rt:226:1
 returns : tie.Need-returns Inv-loop μ-loop
 returns c = λ x. S.expects-last (c .before .loop .inv .1) _ (c .before .before .byte-at .ensures .0) (omega arith) (omega arith) x
 

@@ -13,7 +13,7 @@ use Rattle.fit.proofs.fits.Tie as tie
 
 returns : tie.Need-returns
 returns c =
-    let s = c .before .before in
+    let s = c .before .before .before in
     let a = s .args in
     λ g h. sym (fits-by g (h .formed) (numbers (a .tokens) (a .moves) (a .register-height) (a .place-height)) (now (a .registers)) (now (a .places))
     (s .pre .0) (s .pre .1)
@@ -22,7 +22,7 @@ returns c =
 
 returns-2 : tie.Need-returns-2
 returns-2 c =
-    let s = c .before .before .before in
+    let s = c .before .before .before .before in
     let a = s .args in
     λ g h. sym (fits-by g (h .formed) (numbers (a .tokens) (a .moves) (a .register-height) (a .place-height)) (now (a .registers)) (now (a .places))
     (s .pre .0) (s .pre .1)
@@ -32,7 +32,7 @@ returns-2 c =
 
 returns-3 : tie.Need-returns-3
 returns-3 c =
-    let s = c .before .before .before .before in
+    let s = c .before .before .before .before .before in
     let a = s .args in
     λ g h. sym (fits-by g (h .formed) (numbers (a .tokens) (a .moves) (a .register-height) (a .place-height)) (now (a .registers)) (now (a .places))
     (s .pre .0) (s .pre .1)
@@ -43,7 +43,7 @@ returns-3 c =
 
 returns-4 : tie.Need-returns-4
 returns-4 c =
-    let s = c .before .before .before .before .before in
+    let s = c .before .before .before .before .before .before in
     let a = s .args in
     λ g h. sym (fits-by g (h .formed) (numbers (a .tokens) (a .moves) (a .register-height) (a .place-height)) (now (a .registers)) (now (a .places))
     (s .pre .0) (s .pre .1)
@@ -64,7 +64,7 @@ stand-requires c κs = search needs
 
 returns-5 : tie.Need-returns-5
 returns-5 c =
-    let s = c .before .before .before .before .before .before .before .before .before in
+    let s = c .before .before .before .before .before .before .before .before .before .before in
     let a = s .args in
     λ g h. sym (fits-by g (h .formed) (numbers (a .tokens) (a .moves) (a .register-height) (a .place-height)) (now (a .registers)) (now (a .places))
     (s .pre .0) (s .pre .1)
@@ -92,7 +92,7 @@ all-marked-requires c κs = search needs
 
 returns-6 : tie.Need-returns-6
 returns-6 c =
-    let s = c .before .before .before .before .before .before .before .before .before .before .before .before in
+    let s = c .before .before .before .before .before .before .before .before .before .before .before .before .before in
     let a = s .args in
     λ g h. sym (fits-by g (h .formed) (numbers (a .tokens) (a .moves) (a .register-height) (a .place-height)) (now (a .registers)) (now (a .places))
     (s .pre .0) (s .pre .1)
@@ -121,7 +121,7 @@ all-zero-requires c κs = search needs
 
 returns-7 : tie.Need-returns-7
 returns-7 c =
-    let s = c .before .before .before .before .before .before .before .before .before .before .before .before .before .before in
+    let s = c .before .before .before .before .before .before .before .before .before .before .before .before .before .before .before in
     let a = s .args in
     λ g h. sym (fits-by g (h .formed) (numbers (a .tokens) (a .moves) (a .register-height) (a .place-height)) (now (a .registers)) (now (a .places))
     (s .pre .0) (s .pre .1)

@@ -1,6 +1,7 @@
 use native.Mathlib.Omega.{arith}
 use mathlib.Core.Path.{sym}
 use denote.Ref.{now}
+use Rattle.fit.specs.Shown.{header-inside, start-small}
 use Rattle.fit.proofs.Places.{bottom-none, bottom-other, bottom-waits, bottom-left, bottom-many}
 use borrow.Author.Needs.{needs}
 use Rattle.fit.proofs.stand.Statement.{statement}
@@ -8,17 +9,14 @@ use Rattle.fit.proofs.stand.Tie as tie
 
 returns : tie.Need-returns
 returns c =
-    let a = c .before .before .args in
+    let a = c .before .before .before .args in
     λ g h. sym (bottom-none h (now (a .registers)) (now (a .places)) (omega arith))
 
 shared-slice-read-bottom : tie.Need-shared-slice-read-bottom
 shared-slice-read-bottom c = search needs
 
-element-copy-out-wide : tie.Need-element-copy-out-wide
-element-copy-out-wide c = search needs
-
-wide-requires : tie.Need-wide-requires
-wide-requires c κs = search needs
+word-at-requires : tie.Need-word-at-requires
+word-at-requires c κs = omega (arith, header-inside (c .before .before .before .before .pre .shown))
 
 returns-2 : tie.Need-returns-2
 returns-2 c =
@@ -26,12 +24,14 @@ returns-2 c =
     λ g h. sym (bottom-many h (now (a .registers)) (now (a .places)) (omega arith) (c .before .if2 .taken) (c .if3 .taken))
 
 past-requires : tie.Need-past-requires
-past-requires c κs = search needs
+past-requires c κs =
+    let w = c .before .before in
+    (omega arith, omega (arith, w .word-at .ensures .0, start-small (w .before .before .before .before .before .pre .shown)))
 
 returns-3 : tie.Need-returns-3
 returns-3 c =
     let a = c .before .before .before .before .before .before .before .before .args in
-    λ g h. bottom-left h (now (a .registers)) (now (a .places)) (omega arith) (c .before .before .if2 .taken) (c .before .if3 .left) (c .before .before .before .wide .ensures .0) (c .past .ensures)
+    λ g h. bottom-left h (now (a .registers)) (now (a .places)) (omega arith) (c .before .before .if2 .taken) (c .before .if3 .left) (c .before .before .before .word-at .ensures .0) (c .past .ensures)
 
 returns-4 : tie.Need-returns-4
 returns-4 c =
@@ -39,7 +39,9 @@ returns-4 c =
     λ g h. sym (bottom-other h (now (a .registers)) (now (a .places)) (omega arith) (c .before .if2 .left) (c .if4 .taken))
 
 past-requires-2 : tie.Need-past-requires-2
-past-requires-2 c κs = search needs
+past-requires-2 c κs =
+    let w = c .before .before in
+    (omega arith, omega (arith, w .word-at .ensures .0, start-small (w .before .before .before .before .before .pre .shown)))
 
 stand-above-requires : tie.Need-stand-above-requires
 stand-above-requires c κs = search needs
@@ -47,7 +49,7 @@ stand-above-requires c κs = search needs
 returns-5 : tie.Need-returns-5
 returns-5 c =
     let a = c .before .before .before .before .before .before .before .before .before .args in
-    λ g h. bottom-waits h (now (a .registers)) (now (a .places)) (omega arith) (c .before .before .if4 .left) (c .before .before .before .before .wide .ensures .0) (c .before .past2 .ensures) (c .stand-above .ensures g h)
+    λ g h. bottom-waits h (now (a .registers)) (now (a .places)) (omega arith) (c .before .before .if4 .left) (c .before .before .before .before .word-at .ensures .0) (c .before .past2 .ensures) (c .stand-above .ensures g h)
 
 pub stand-spec : {M : Type 1} → statement M
 stand-spec =
@@ -55,8 +57,7 @@ stand-spec =
     (tie.spec
     returns
     shared-slice-read-bottom
-    element-copy-out-wide
-    wide-requires
+    word-at-requires
     returns-2
     past-requires
     returns-3

@@ -29,7 +29,7 @@ same-length-3 c = search needs
 returns : tie.Need-returns
 returns c =
     let a = c .before .before .before .before .before .before .before .before .before .before .before .before .before .before .before .before .before .before .before .args in
-    let e = ap (λ z. performs programOf (now (a .table)) (now (a .program)) z (stacksOf (now (a .registers)) (now (a .places))) (feed (now (a .tokens)))) (c .before .before .before .before .before .before .before .before .before .before .before .before .before .brought .ensures) in
+    let e = ap (λ z. performs programOf (now (a .table)) (now (a .program)) z (stacksOf (now (a .registers)) (now (a .places))) (feed (now (a .kinds)) (now (a .values)))) (c .before .before .before .before .before .before .before .before .before .before .before .before .before .brought .ensures) in
     passed-on (c .before .before .before .before .before .before .before .before .before .feed .result) _ _ _ _ (c .before .before .before .before .before .before .before .before .before .feed .ensures ∙ e) _ _ _ (c .pass-on .ensures)
 
 pub feed-spec : {M : Type 1} → statement M

@@ -1,6 +1,6 @@
 use mathlib.Core.Path.{ap}
 use denote.Ref.{now}
-use Rattle.prepare.proofs.Cases.{not-short, refused-unusable, written-stands}
+use Rattle.prepare.proofs.Cases.{not-short, refused-made, written-made}
 use Rattle.listing_pages.proofs.Paging.{shows-as, lines-refused, lines-listing}
 use borrow.Author.Needs.{needs}
 use Rattle.listing_pages.proofs.first_page.Statement.{statement}
@@ -49,8 +49,8 @@ returns-2 : tie.Need-returns-2
 returns-2 c =
     let table = now (c .before .before .before .before .before .before .before .before .before .before .before .before .before .before .before .args .table) in
     let made = c .before .before .before .before .before .before .before .before .before .before .program-of .ensures in
-    let refused = refused-unusable (made .1) _ _ (c .before .before .before .before .before .before .number .given .1) in
-    (shows-as (lines-refused table _ _ refused) (c .before .before .refusal2 .ensures), ap (λ m. m .area) (made .0))
+    let refused = refused-made (made .1) _ _ (c .before .before .before .before .before .before .number .given .1) in
+    (shows-as (lines-refused table _ _ (refused .1)) (c .before .before .refusal2 .ensures), ap (λ m. m .area) (made .0))
 
 same-length-5 : tie.Need-same-length-5
 same-length-5 c = search needs
@@ -61,8 +61,8 @@ same-length-6 c = search needs
 returns-3 : tie.Need-returns-3
 returns-3 c =
     let made = c .before .before .before .before .before .before .before .before .before .before .program-of .ensures in
-    let stands = written-stands (made .1) _ (c .before .before .before .before .before .before .enum-told2 .given .1) in
-    (shows-as (lines-listing _ _ _ stands (c .before .before .before .before .first .ensures)) (c .before .before .next-page .ensures .0), ap (λ m. m .area) (made .0))
+    let stands = written-made (made .1) _ (c .before .before .before .before .before .before .enum-told2 .given .1) in
+    (shows-as (lines-listing _ stands (c .before .before .before .before .first .ensures)) (c .before .before .next-page .ensures .0), ap (λ m. m .area) (made .0))
 
 pub first-page-spec : {M : Type 1} → statement M
 first-page-spec =

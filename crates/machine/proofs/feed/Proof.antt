@@ -8,10 +8,10 @@ use Rattle.machine.proofs.feed.Statement.{statement}
 use Rattle.machine.proofs.feed.Tie as tie
 
 word-at-requires : tie.Need-word-at-requires
-word-at-requires c κs = omega (arith, stands-within (segment-at (c .before .before .before .pre .held .begins)))
+word-at-requires c κs = omega (arith, stands-within (segment-at (c .before .before .before .pre .0 .held .begins)))
 
 take-all-requires : tie.Need-take-all-requires
-take-all-requires c κs = let p = c .before .before .before .before .before .before .pre in (p, omega (arith, c .before .before .word-at .ensures .0, terminals-few p))
+take-all-requires c κs = let p = c .before .before .before .before .before .before .pre in (p .0, omega (arith, c .before .before .word-at .ensures .0, terminals-few (p .0)), p .1)
 
 same-length : tie.Need-same-length
 same-length c = search needs
@@ -20,7 +20,11 @@ same-length-2 : tie.Need-same-length-2
 same-length-2 c = search needs
 
 returns : tie.Need-returns
-returns c = tokens-fed (c .before .before .before .take-all .last .0) (c .before .before .before .take-all .last .1 .0) (c .before .before .before .take-all .result) (c .before .before .before .before .before .before .word-at .result) (now (c .before .before .before .before .before .before .before .before .before .before .args .tokens)) (c .before .before .before .before .before .before .word-at .ensures .0) (c .before .before .before .take-all .ensures)
+returns c =
+    let t = c .before .before .before .take-all in
+    let w = c .before .before .before .before .before .before in
+    let a = w .before .before .before .before .args in
+    tokens-fed (t .last .0) (t .last .1 .0) (t .result) (w .word-at .result) (now (a .kinds)) (now (a .values)) (w .word-at .ensures .0) (t .ensures)
 
 pub feed-spec : {M : Type 1} → statement M
 feed-spec = tie.close (tie.spec word-at-requires take-all-requires same-length same-length-2 returns)

@@ -12,7 +12,7 @@ sub-if1 : tie.Need-sub-if1
 sub-if1 c = bounds (c .before .before .before .pre .1 .held) .registers
 
 returns : tie.Need-returns
-returns c = λ ps look g lent d h. let b = c .before .before .before .before .pre .1 in blocked-add h look (b .limit) (b .operation) (omega (arith, c .if1 .taken, bounds h .registers, c .before .before .word-at .ensures .0))
+returns c = λ ps look g lent d h ok. let b = c .before .before .before .before .pre .1 in blocked-add h look (b .limit) (b .operation) (omega (arith, c .if1 .taken, bounds h .registers, c .before .before .word-at .ensures .0))
 
 add-counted : tie.Need-add-counted
 add-counted c = omega (arith, bounds (c .before .before .before .before .before .pre .1 .held) .inside)
@@ -24,7 +24,7 @@ add-next : tie.Need-add-next
 add-next c = search needs
 
 returns-2 : tie.Need-returns-2
-returns-2 c = λ ps look g lent d h. let b = c .before .before .before .before .before .before .before .pre .1 in rw (c .before .counted .ensures, c .before .before .before .before .before .word-at .ensures .0) (made-add h look (b .limit) (b .operation) (omega (arith, c .before .before .before .if1 .left, bounds h .registers, c .before .before .before .before .before .word-at .ensures .0)))
+returns-2 c = λ ps look g lent d h ok. let b = c .before .before .before .before .before .before .before .pre .1 in rw (c .before .counted .ensures, c .before .before .before .before .before .word-at .ensures .0) (made-add h look ok (b .limit) (b .operation) (omega (arith, c .before .before .before .if1 .left, bounds h .registers, c .before .before .before .before .before .word-at .ensures .0)))
 
 pub add-spec : {M : Type 1} → statement M
 add-spec =

@@ -39,13 +39,13 @@ same-length-2 : tie.Need-same-length-2
 same-length-2 c = search needs
 
 returns-2 : tie.Need-returns-2
-returns-2 c = λ ps look g lent d h. let b = c .before .before .before .before .before .before .before .before .before .before .pre .1 in rw (c .counted .ensures, c .before .before .before .before .before .before .before .before .word-at .ensures .0) (made-evaluate h look (b .limit) (b .operation) _ (rw (c .before .before .before .before .before .before .before .before .word-at .ensures .0, c .before .before .if2 .taken) at (c .before .before .before .before .evaluate .ensures)))
+returns-2 c = λ ps look g lent d h ok. let b = c .before .before .before .before .before .before .before .before .before .before .pre .1 in rw (c .counted .ensures, c .before .before .before .before .before .before .before .before .word-at .ensures .0) (made-evaluate h look ok (b .limit) (b .operation) _ (rw (c .before .before .before .before .before .before .before .before .word-at .ensures .0, c .before .before .if2 .taken) at (c .before .before .before .before .evaluate .ensures)))
 
 same-length-3 : tie.Need-same-length-3
 same-length-3 c = search needs
 
 returns-3 : tie.Need-returns-3
-returns-3 c = λ ps look g lent d h. let b = c .before .before .before .before .before .before .before .before .pre .1 in blocked-evaluate h look (b .limit) (b .operation) _ (rw (c .before .before .before .before .before .before .word-at .ensures .0, c .if2 .left) at (c .before .before .evaluate .ensures))
+returns-3 c = λ ps look g lent d h ok. let b = c .before .before .before .before .before .before .before .before .pre .1 in blocked-evaluate h look (b .limit) (b .operation) _ (rw (c .before .before .before .before .before .before .word-at .ensures .0, c .if2 .left) at (c .before .before .evaluate .ensures))
 
 pub evaluate-spec : {M : Type 1} → statement M
 evaluate-spec =

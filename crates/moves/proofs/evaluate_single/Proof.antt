@@ -32,16 +32,16 @@ same-length : tie.Need-same-length
 same-length c = search needs
 
 returns : tie.Need-returns
-returns c = λ ps look g lent d h.
+returns c = λ ps look g lent d h ok.
     let s = c .before .before .before .before .before .before .before .before in
     let b = s .pre .0 .1 in
-    rw (c .counted .ensures) (made-single h look (b .limit) (b .operation) (s .pre .1) _ (rw (c .before .before .if1 .taken) at (c .before .before .before .before .evaluate-one .ensures)))
+    rw (c .counted .ensures) (made-single h look (b .limit) (b .operation) (s .pre .1) _ ok (rw (c .before .before .if1 .taken) at (c .before .before .before .before .evaluate-one .ensures)))
 
 same-length-2 : tie.Need-same-length-2
 same-length-2 c = search needs
 
 returns-2 : tie.Need-returns-2
-returns-2 c = λ ps look g lent d h.
+returns-2 c = λ ps look g lent d h ok.
     let s = c .before .before .before .before .before .before in
     let b = s .pre .0 .1 in
     blocked-single h look (b .limit) (b .operation) (s .pre .1) _ (rw (c .if1 .left) at (c .before .before .evaluate-one .ensures))

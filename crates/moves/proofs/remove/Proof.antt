@@ -59,7 +59,7 @@ same-length-2 : tie.Need-same-length-2
 same-length-2 c = c .before .before .before .before .pass .kept .0 ∙ length-set (now (c .before .before .before .before .before .before .before .before .before .before .before .before .before .before .before .before .args .places)) (c .before .before .before .before .before .before .before .before .before .before .before .before .before .before .before .before .args .run .places - 1) 0
 
 returns : tie.Need-returns
-returns c = λ look g lent d h. let b = c .before .before .before .before .before .before .before .before .before .before .before .before .before .before .before .before .pre in let r = removal h (b .operation) in rw (c .before .counted .ensures, c .before .before .before .before .before .before .before .before .before .before .before .before .before .word-at .ensures .0) (made-remove h r look (b .limit) _ _ (c .before .before .before .before .before .before .resume .result) (resumed-at h r _ _ (c .before .before .before .before .before .before .before .word-at2 .ensures .0) (c .before .before .before .before .before .before .resume .ensures)) (rw (c .before .before .before .before .before .before .before .before .before .before .before .before .before .word-at .ensures .0) at (c .before .before .before .before .before .before .before .before .before .before .before .remove .ensures)) (c .before .before .before .before .pass .ensures))
+returns c = λ look g lent d h ok. let b = c .before .before .before .before .before .before .before .before .before .before .before .before .before .before .before .before .pre in let r = removal h (b .operation) in rw (c .before .counted .ensures, c .before .before .before .before .before .before .before .before .before .before .before .before .before .word-at .ensures .0) (made-remove h r look ok (b .limit) _ _ (c .before .before .before .before .before .before .resume .result) (resumed-at h r _ _ (c .before .before .before .before .before .before .before .word-at2 .ensures .0) (c .before .before .before .before .before .before .resume .ensures)) (rw (c .before .before .before .before .before .before .before .before .before .before .before .before .before .word-at .ensures .0) at (c .before .before .before .before .before .before .before .before .before .before .before .remove .ensures)) (c .before .before .before .before .pass .ensures))
 
 pub remove-spec : {M : Type 1} → statement M
 remove-spec =

@@ -35,10 +35,10 @@ same-length : tie.Need-same-length
 same-length c = search needs
 
 returns : tie.Need-returns
-returns c = λ look g lent d h. let b = c .before .before .before .before .before .before .before .before .before .before .before .before .pre in rw (c .counted .ensures, c .before .before .before .before .before .before .before .before .before .word-at .ensures .0, c .before .before .before .before .count .ensures) (made-test h look (b .limit) (b .operation) (rw (c .before .before .before .before .before .before .before .before .before .word-at .ensures .0) at (sym (c .before .before .before .before .before .before .if1 .taken) ∙ c .before .before .before .before .before .before .before .test .ensures)))
+returns c = λ look g lent d h ok. let b = c .before .before .before .before .before .before .before .before .before .before .before .before .pre in rw (c .counted .ensures, c .before .before .before .before .before .before .before .before .before .word-at .ensures .0, c .before .before .before .before .count .ensures) (made-test h look ok (b .limit) (b .operation) (rw (c .before .before .before .before .before .before .before .before .before .word-at .ensures .0) at (sym (c .before .before .before .before .before .before .if1 .taken) ∙ c .before .before .before .before .before .before .before .test .ensures)))
 
 returns-2 : tie.Need-returns-2
-returns-2 c = λ look g lent d h. let b = c .before .before .before .before .before .before .pre in blocked-test h look (b .limit) (b .operation) (rw (c .before .before .before .word-at .ensures .0) at (sym (c .if1 .left) ∙ c .before .test .ensures))
+returns-2 c = λ look g lent d h ok. let b = c .before .before .before .before .before .before .pre in blocked-test h look (b .limit) (b .operation) (rw (c .before .before .before .word-at .ensures .0) at (sym (c .if1 .left) ∙ c .before .test .ensures))
 
 pub test-spec : {M : Type 1} → statement M
 test-spec =

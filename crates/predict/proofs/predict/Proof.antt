@@ -3,7 +3,9 @@ use Rattle.predict.specs.Entering.{directory-inside, first-led, first-ho
 use lib.ListN.{length, getD}
 use Rattle.theory_program.specs.Addresses.{segment-at}
 use Rattle.theory_program.specs.Stands.{stands-within}
+use Rattle.meaning.specs.Value.{mark}
 use Rattle.moves.specs.Held.{bounds}
+use Rattle.moves.specs.Passing.{comingOf, coming-look}
 use denote.Ref.{now}
 use Prim.Native.Nat.{_+_, _*_, _/_, _≤_}
 use mathlib.Core.Path.{_≡_, refl, sym, ap, _∙_}
@@ -13,15 +15,15 @@ use Rattle.predict.proofs.predict.Statement.{statement}
 use Rattle.predict.proofs.predict.Tie as tie
 
 -- the directory's word
-first : (c : tie.After-word-at2) → let b = c .before .before .before .before .args in c .word-at2 .result ≡ getD (now (b .program)) (8 + 64 * (getD (now (b .program)) (b .run .at) 0 / 8) + b .look) 0
-first c = let b = c .before .before .before .before .args in c .word-at2 .ensures .0 ∙ ap (λ w. getD (now (b .program)) (8 + 64 * (w / 8) + b .look) 0) (c .before .word-at .ensures .0)
+first : (c : tie.After-word-at2) → let b = c .before .before .before .before .args in c .word-at2 .result ≡ getD (now (b .program)) (9 + 64 * (getD (now (b .program)) (b .run .at) 0 / 8) + b .look) 0
+first c = let b = c .before .before .before .before .args in c .word-at2 .ensures .0 ∙ ap (λ w. getD (now (b .program)) (9 + 64 * (w / 8) + b .look) 0) (c .before .word-at .ensures .0)
 
 -- the production found is listed
 small : (c : tie.Else2) → c .before .find .result ≤ 128
-small c = let b = c .before .before .before .before .before .before .before in entering-small (b .pre .0 .held) (b .pre .0 .operation) (b .args .look) (b .pre .1) (b .pre .0 .limit) (λ e. c .before .before .if1 .left (first (c .before .before .before) ∙ e)) (c .before .find .result) (found-first (b .pre .0 .held) (b .pre .0 .operation) (b .args .look) (b .pre .1) (c .before .find .result) (c .before .before .before .word-at2 .result) (first (c .before .before .before)) (c .before .find .ensures)) (c .if2 .left)
+small c = let b = c .before .before .before .before .before .before .before in entering-small (b .pre .0 .held) (b .pre .0 .operation) (b .args .look) (b .pre .1) (comingOf (b .args .look) mark) (coming-look (b .args .look) mark) (b .pre .0 .limit) (λ e. c .before .before .if1 .left (first (c .before .before .before) ∙ e)) (c .before .find .result) (found-first (b .pre .0 .held) (b .pre .0 .operation) (b .args .look) (b .pre .1) (c .before .find .result) (c .before .before .before .word-at2 .result) (first (c .before .before .before)) (c .before .find .ensures)) (c .if2 .left)
 
 inside : (c : tie.Else2) → recordOf (now (c .before .before .before .before .before .before .before .args .program)) (c .before .find .result) + 8 ≤ length (now (c .before .before .before .before .before .before .before .args .program))
-inside c = let b = c .before .before .before .before .before .before .before in entering-inside (b .pre .0 .held) (b .pre .0 .operation) (b .args .look) (b .pre .1) (b .pre .0 .limit) (λ e. c .before .before .if1 .left (first (c .before .before .before) ∙ e)) (c .before .find .result) (found-first (b .pre .0 .held) (b .pre .0 .operation) (b .args .look) (b .pre .1) (c .before .find .result) (c .before .before .before .word-at2 .result) (first (c .before .before .before)) (c .before .find .ensures)) (c .if2 .left)
+inside c = let b = c .before .before .before .before .before .before .before in entering-inside (b .pre .0 .held) (b .pre .0 .operation) (b .args .look) (b .pre .1) (comingOf (b .args .look) mark) (coming-look (b .args .look) mark) (b .pre .0 .limit) (λ e. c .before .before .if1 .left (first (c .before .before .before) ∙ e)) (c .before .find .result) (found-first (b .pre .0 .held) (b .pre .0 .operation) (b .args .look) (b .pre .1) (c .before .find .result) (c .before .before .before .word-at2 .result) (first (c .before .before .before)) (c .before .find .ensures)) (c .if2 .left)
 
 word-at-requires : tie.Need-word-at-requires
 word-at-requires c κs = bounds (c .before .before .pre .0 .held) .inside
@@ -42,16 +44,16 @@ unexpected-requires : tie.Need-unexpected-requires
 unexpected-requires c κs = search needs
 
 returns : tie.Need-returns
-returns c = λ g lent d h. let b = c .before .before .before .before .before .before in rw (c .unexpected .ensures) (blocked-unexpected h (b .pre .0 .operation) (b .args .look) (b .pre .1) (b .pre .0 .limit) (sym (first (c .before .before)) ∙ c .before .if1 .taken))
+returns c = λ a q g lent d h ok. let b = c .before .before .before .before .before .before in rw (c .unexpected .ensures) (blocked-unexpected h (b .pre .0 .operation) (b .args .look) (b .pre .1) a q (b .pre .0 .limit) (sym (first (c .before .before)) ∙ c .before .if1 .taken))
 
 find-requires : tie.Need-find-requires
 find-requires c κs = let b = c .before .before .before .before .before in let h = b .pre .0 .held in ((bounds h .registers, b .pre .1, rw (first (c .before)) (first-led h (b .pre .0 .operation) (b .args .look) (b .pre .1))), (c .if1 .left, rw (first (c .before)) (first-holds h (b .pre .0 .operation) (b .args .look) (b .pre .1) (λ e. c .if1 .left (first (c .before) ∙ e)))))
 
 returns-2 : tie.Need-returns-2
-returns-2 c = λ g lent d h. let b = c .before .before .before .before .before .before .before in blocked-none h (b .pre .0 .operation) (b .args .look) (b .pre .1) (b .pre .0 .limit) (λ e. c .before .before .if1 .left (first (c .before .before .before) ∙ e)) (c .before .find .result) (found-first h (b .pre .0 .operation) (b .args .look) (b .pre .1) (c .before .find .result) (c .before .before .before .word-at2 .result) (first (c .before .before .before)) (c .before .find .ensures)) (c .if2 .taken)
+returns-2 c = λ a q g lent d h ok. let b = c .before .before .before .before .before .before .before in blocked-none h (b .pre .0 .operation) (b .args .look) (b .pre .1) a q (b .pre .0 .limit) (λ e. c .before .before .if1 .left (first (c .before .before .before) ∙ e)) (c .before .find .result) (found-first h (b .pre .0 .operation) (b .args .look) (b .pre .1) (c .before .find .result) (c .before .before .before .word-at2 .result) (first (c .before .before .before)) (c .before .find .ensures)) (c .if2 .taken)
 
 returns-3 : tie.Need-returns-3
-returns-3 c = λ g lent d h. let b = c .before .before .before .before .before .before .before .before in blocked-full h (b .pre .0 .operation) (b .args .look) (b .pre .1) (b .pre .0 .limit) (λ e. c .before .before .before .if1 .left (first (c .before .before .before .before) ∙ e)) (c .before .before .find .result) (found-first h (b .pre .0 .operation) (b .args .look) (b .pre .1) (c .before .before .find .result) (c .before .before .before .before .word-at2 .result) (first (c .before .before .before .before)) (c .before .before .find .ensures)) (c .before .if2 .left) (c .if3 .taken)
+returns-3 c = λ a q g lent d h ok. let b = c .before .before .before .before .before .before .before .before in blocked-full h (b .pre .0 .operation) (b .args .look) (b .pre .1) a q (b .pre .0 .limit) (λ e. c .before .before .before .if1 .left (first (c .before .before .before .before) ∙ e)) (c .before .before .find .result) (found-first h (b .pre .0 .operation) (b .args .look) (b .pre .1) (c .before .before .find .result) (c .before .before .before .before .word-at2 .result) (first (c .before .before .before .before)) (c .before .before .find .ensures)) (c .before .if2 .left) (c .if3 .taken)
 
 sub-places : tie.Need-sub-places
 sub-places c = search needs
@@ -87,7 +89,7 @@ same-length : tie.Need-same-length
 same-length c = search needs
 
 returns-4 : tie.Need-returns-4
-returns-4 c = λ g lent d h. let b = c .before .before .before .before .before .before .before .before .before .before .before in rw (c .counted .ensures, c .before .word-at3 .ensures .0, c .before .before .record-of .ensures) (made-predict h (b .pre .0 .operation) (b .args .look) (b .pre .1) (b .pre .0 .limit) (λ e. c .before .before .before .before .before .before .if1 .left (first (c .before .before .before .before .before .before .before) ∙ e)) (c .before .before .before .before .before .find .result) (found-first h (b .pre .0 .operation) (b .args .look) (b .pre .1) (c .before .before .before .before .before .find .result) (c .before .before .before .before .before .before .before .word-at2 .result) (first (c .before .before .before .before .before .before .before)) (c .before .before .before .before .before .find .ensures)) (c .before .before .before .before .if2 .left) (omega (arith, bounds h .places, c .before .before .before .if3 .left)) _ refl)
+returns-4 c = λ a q g lent d h ok. let b = c .before .before .before .before .before .before .before .before .before .before .before in rw (c .counted .ensures, c .before .word-at3 .ensures .0, c .before .before .record-of .ensures) (made-predict h (b .pre .0 .operation) (b .args .look) (b .pre .1) a q (b .pre .0 .limit) (λ e. c .before .before .before .before .before .before .if1 .left (first (c .before .before .before .before .before .before .before) ∙ e)) (c .before .before .before .before .before .find .result) (found-first h (b .pre .0 .operation) (b .args .look) (b .pre .1) (c .before .before .before .before .before .find .result) (c .before .before .before .before .before .before .before .word-at2 .result) (first (c .before .before .before .before .before .before .before)) (c .before .before .before .before .before .find .ensures)) (c .before .before .before .before .if2 .left) ok (omega (arith, bounds h .places, c .before .before .before .if3 .left)) _ refl)
 
 pub predict-spec : {M : Type 1} → statement M
 predict-spec =

@@ -41,16 +41,24 @@ wide-requires-4 : tie.Need-wide-requires-4
 wide-requires-4 c κs = search needs
 
 read-counts-requires : tie.Need-read-counts-requires
-read-counts-requires c κs = (c .before .before .before .before .before .before .wide2 .ensures .0, c .before .before .before .before .wide3 .ensures .0, c .before .before .wide4 .ensures .0, omega (arith, c .before .before .before .before .before .before .before .before .before .before .before .header-number .ensures .few (omega arith)), c .before .before .before .before .before .before .before .before .before .before .before .header-number .ensures .long (omega arith), c .before .before .before .before .before .before .before .before .before .before .before .before .before .before .pre .0, c .before .before .before .before .before .before .before .before .before .before .before .before .before .before .pre .1)
+read-counts-requires c κs =
+    let w4 = c .before .before in
+    let hn = w4 .before .before .before .before .before .before .before .before .before in
+    let header = hn .header-number .ensures in
+    let st = hn .before .before .before in
+    (w4 .before .before .before .before .wide2 .ensures .0, w4 .before .before .wide3 .ensures .0, w4 .wide4 .ensures .0, omega (arith, header .few (omega arith)), header .long (omega arith), st .pre .0, st .pre .1)
 
 cast-offset : tie.Need-cast-offset
 cast-offset c = search needs
 
 returns-3 : tie.Need-returns-3
-returns-3 c = answer-refused _ _ _ _ _ _ _ _ (counts-answer _ (omega arith) _ (c .before .before .before .before .before .before .before .before .before .before .before .before .before .before .before .header-number .ensures) (omega arith) _ _ _ _ (c .before .before .before .read-counts .ensures .0) (c .before .if3 .taken)) refl
+returns-3 c =
+    let rc = c .before .before .before in
+    let fine = rc .before .before .before .before .before .before .before .before .before .before .before in
+    answer-refused _ _ _ _ _ _ _ _ (counts-answer _ (omega arith) _ (fine .before .header-number .ensures) (fine .if2 .left) _ _ _ _ (rc .read-counts .ensures .0) (c .before .if3 .taken)) refl
 
-read-productions-requires : tie.Need-read-productions-requires
-read-productions-requires c κs =
+read-after-counts-requires : tie.Need-read-after-counts-requires
+read-after-counts-requires c κs =
     let rc = c .before .before .before .before .before .before in
     let w4 = rc .before .before .before in
     let hn = w4 .before .before .before .before .before .before .before .before .before in
@@ -61,6 +69,7 @@ read-productions-requires c κs =
         start = w4 .before .before .wide3 .ensures .0;
         result = w4 .wide4 .ensures .0;
         few = omega (arith, hn .header-number .ensures .few (w4 .before .before .before .before .before .before .before .before .if2 .left));
+        tokens = omega (arith, hn .header-number .ensures .tokens (w4 .before .before .before .before .before .before .before .before .if2 .left), w4 .before .before .before .before .before .before .wide .ensures .0);
         long = rc .read-counts .ensures .0 .long (omega arith);
         short = hn .before .if1 .left;
         small = rc .read-counts .ensures .0 .small (omega arith);
@@ -75,7 +84,7 @@ returns-4 : tie.Need-returns-4
 returns-4 c =
     let rc = c .before .before .before .before .before .before .before in
     let hn = rc .before .before .before .before .before .before .before .before .before .before .before .before in
-    productions-answer _ (omega arith) _ (hn .header-number .ensures) (rc .before .before .before .before .before .before .before .before .before .before .before .if2 .left) _ _ _ _ (rc .read-counts .ensures .0) _ _ _ (omega arith) (c .read-productions .ensures)
+    productions-answer _ (omega arith) _ (hn .header-number .ensures) (rc .before .before .before .before .before .before .before .before .before .before .before .if2 .left) _ _ _ _ (rc .read-counts .ensures .0) _ _ _ (omega arith) (c .read-after-counts .ensures)
 
 pub read-table-spec : {M : Type 1} → statement M
 read-table-spec =
@@ -95,5 +104,5 @@ read-table-spec =
     read-counts-requires
     cast-offset
     returns-3
-    read-productions-requires
+    read-after-counts-requires
     returns-4)

@@ -1,9 +1,9 @@
 //! Segments a line each, and an answer a line.
 use super::Trouble;
+use crate::run::{self, lists, Names, Token};
 use crate::suggest::grouped;
-use crate::{run, Built};
+use crate::Built;
 use segment::Run;
-use std::collections::HashMap;
 use std::io::{BufRead, Write};
 use std::time::{Duration, Instant};
 
@@ -17,15 +17,14 @@ pub struct Counts {
 /// One grammar's segments, on one run's memory.
 struct Batch<'b> {
     built: &'b Built,
-    numbers: HashMap<&'b [u8], u8>,
+    names: Names<'b>,
     run: Run<'b>,
-    tokens: Vec<u8>,
+    tokens: Vec<Token>,
 }
 
 /// Answers each line: the value, or the refusal in words. An empty line is the segment without tokens.
 pub fn answer(built: &Built, mut lines: Box<dyn BufRead>, out: &mut dyn Write, watched: bool) -> Result<Counts, Trouble> {
-    let numbers = built.grammar.tokens.iter().enumerate().map(|(i, name)| (name.as_bytes(), i as u8)).collect();
-    let mut batch = Batch { built, numbers, run: built.table.run(), tokens: vec![] };
+    let mut batch = Batch { built, names: Names::new(&built.grammar), run: built.table.run(), tokens: vec![] };
     let mut progress = Progress { watched, last: Instant::now() };
     let (mut counts, mut line) = (Counts::default(), Vec::new());
     loop {
@@ -51,12 +50,10 @@ impl Batch<'_> {
     fn value(&mut self, line: &[u8]) -> Result<i64, String> {
         self.tokens.clear();
         for (i, word) in line.split(u8::is_ascii_whitespace).filter(|w| !w.is_empty()).enumerate() {
-            match self.numbers.get(word) {
-                Some(number) => self.tokens.push(*number),
-                None => return Err(run::unknown(&self.built.grammar, i, &String::from_utf8_lossy(word))),
-            }
+            self.tokens.push(self.names.token(i, &String::from_utf8_lossy(word))?);
         }
-        self.run.evaluate(&self.tokens).map_err(|_| self.told())
+        let (kinds, values) = lists(&self.tokens);
+        self.run.evaluate_values(&kinds, &values).map_err(|_| self.told())
     }
 
     /// Runs a refused segment again for its words.

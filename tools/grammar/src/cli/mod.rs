@@ -56,7 +56,8 @@ fn help() -> String {
         text += &format!("  {:58} {words}\n", written(usage));
     }
     text +=
-        "\n  FILE is a grammar as text; `-` stands for standard input. TOKENS are names, or `-` for a segment a line on standard input.\n";
+        "\n  FILE is a grammar as text; `-` stands for standard input. TOKENS are names, `word=4` where one carries a value, or `-` for\n";
+    text += "  a segment a line on standard input.\n";
     text += "  Exit status: 0 where all is well, 1 where something is refused or wrong, 2 where the arguments are wrong or something\n";
     text += "  cannot be read or written.\n";
     text

@@ -3,8 +3,9 @@ use super::batch;
 use super::files::{build, shown};
 use super::{Args, Command, Outcome, Trouble};
 
+use crate::run::{self, Token};
 use crate::trace::{self, Wanted};
-use crate::{run, Built};
+use crate::Built;
 use std::ffi::{OsStr, OsString};
 use std::io::{BufRead, BufReader, IsTerminal, Write};
 
@@ -82,7 +83,7 @@ fn run_segments(mut args: Args, out: &mut dyn Write) -> Outcome {
 }
 
 /// The tokens of one segment, by the arguments.
-pub fn segment(built: &Built, args: &mut Args) -> Result<Vec<u8>, Trouble> {
+pub fn segment(built: &Built, args: &mut Args) -> Result<Vec<Token>, Trouble> {
     match given(args)? {
         Given::Tokens(words) => run::tokens(&built.grammar, &words).map_err(Trouble::Refused),
         Given::Lines(mut lines) => {
@@ -104,7 +105,7 @@ fn trace_segment(mut args: Args, out: &mut dyn Write) -> Outcome {
         return Err(Trouble::Failed(format!("grammar: there is no token {n}: the tokens are 1 to {}, the end is {past}", past - 1)));
     }
     let stop = match args.value("--stop") {
-        Some(word) => Some(run::tokens(&built.grammar, &[word.to_string_lossy()]).map_err(Trouble::Failed)?[0]),
+        Some(word) => Some(run::tokens(&built.grammar, &[word.to_string_lossy()]).map_err(Trouble::Failed)?[0].kind),
         None => None,
     };
     let wanted = Wanted { from: from.unwrap_or(0), to, stop, full: args.has("--full") };

@@ -73,7 +73,7 @@ impl Frame {
 
 impl Data {
     pub fn of(page: &Page) -> Result<Data, String> {
-        let names = page.tokens.iter().map(|&t| page.built.grammar.tokens[usize::from(t)].clone()).collect();
+        let names = page.tokens.iter().map(|t| t.written(&page.built.grammar)).collect();
         let mut data = Data { tokens: names, ..Data::default() };
         data.engine(page)?;
         data.slip = page.slip.map(|slip| slipped(page, slip));
@@ -175,5 +175,5 @@ fn slipped(page: &Page, slip: slips::Slip) -> (Vec<Frame>, String) {
 
 fn made_at_opening(page: &Page) -> Vec<Option<i64>> {
     let g = &page.built.grammar;
-    vec![None; crate::stacks::counts(g, g.whole).1]
+    vec![None; g.counts(g.whole).1]
 }

@@ -11,7 +11,7 @@ use data::Data;
 /// What a page shows.
 pub struct Page<'b> {
     pub built: &'b Built,
-    pub tokens: &'b [u8],
+    pub tokens: &'b [crate::run::Token],
     /// The registers and places lent.
     pub room: (usize, usize),
     pub title: String,

@@ -1,5 +1,6 @@
 //! The grammars that ship, and the command with scratch files.
 #![allow(dead_code)]
+use grammar::run::Token;
 use std::collections::BTreeSet;
 use std::io::Write;
 use std::path::PathBuf;
@@ -47,6 +48,11 @@ pub fn stdout(output: &Output) -> String {
     String::from_utf8_lossy(&output.stdout).into_owned()
 }
 
+/// Tokens of these kinds, without values.
+pub fn of_kinds(kinds: &[u8]) -> Vec<Token> {
+    kinds.iter().map(|&kind| Token { kind, value: 0 }).collect()
+}
+
 fn bytes(hex: &str) -> Option<Vec<u8>> {
     let digits = hex.as_bytes().chunks(2);
     digits.map(|d| u8::from_str_radix(std::str::from_utf8(d).ok()?, 16).ok()).collect()
@@ -56,7 +62,7 @@ fn bytes(hex: &str) -> Option<Vec<u8>> {
 pub fn vectors() -> BTreeSet<Vec<u8>> {
     let root = concat!(env!("CARGO_MANIFEST_DIR"), "/../../vectors");
     let mut found = BTreeSet::new();
-    for name in ["fixed", "edits", "random"] {
+    for name in ["fixed", "edits", "random", "e"] {
         let text = std::fs::read_to_string(format!("{root}/{name}.in")).expect(name);
         let checks = text.lines().filter_map(|line| line.strip_prefix("check "));
         found.extend(checks.filter_map(bytes));

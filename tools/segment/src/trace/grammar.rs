@@ -3,10 +3,11 @@
 /// 01: "the whole segment is production 128 with the start symbol as its one symbol".
 pub const WHOLE: usize = 128;
 
-/// The productions' right sides, and the attributes of the nonterminals.
+/// The productions' right sides, the attributes of the nonterminals, and the terminals that carry a value.
 pub struct Grammar {
     start: u8,
     attributes: Vec<Attributes>,
+    carriers: Vec<u8>,
     productions: Vec<Vec<u8>>,
 }
 
@@ -26,7 +27,7 @@ impl Attributes {
 impl Grammar {
     /// Reads an accepted table's fields: a tag, two bytes of length, a body.
     pub fn of(table: &[u8]) -> Grammar {
-        let mut grammar = Grammar { start: 0, attributes: vec![], productions: vec![] };
+        let mut grammar = Grammar { start: 0, attributes: vec![], carriers: vec![], productions: vec![] };
         let mut rest = table;
         while let [tag, high, low, after @ ..] = rest {
             let (body, next) = after.split_at(after.len().min(usize::from(*high) << 8 | usize::from(*low)));
@@ -35,6 +36,7 @@ impl Grammar {
                 (2, [inherited, synthesized, ..]) => {
                     grammar.attributes.push(Attributes { inherited: (*inherited).into(), synthesized: (*synthesized).into() })
                 }
+                (6, [terminal]) => grammar.carriers.push(*terminal),
                 (3, [_, _, symbols @ ..]) => grammar.productions.push(symbols.to_vec()),
                 _ => {}
             }
@@ -51,10 +53,18 @@ impl Grammar {
         self.productions[production].len()
     }
 
-    /// The attributes of the symbol at a position, counted from 1; a terminal has none.
+    /// Whether a token of this kind carries a value.
+    pub fn carries(&self, kind: u8) -> bool {
+        self.carriers.contains(&kind)
+    }
+
+    /// The attributes of the symbol at a position, counted from 1.
     pub fn attributes(&self, production: usize, position: usize) -> Attributes {
         let symbol = if production == WHOLE { 128 + self.start } else { self.productions[production][position - 1] };
-        usize::from(symbol).checked_sub(128).map_or(Attributes::default(), |nonterminal| self.attributes[nonterminal])
+        match usize::from(symbol).checked_sub(128) {
+            Some(nonterminal) => self.attributes[nonterminal],
+            None => Attributes { inherited: 0, synthesized: self.carries(symbol).into() },
+        }
     }
 }
 
@@ -70,5 +80,13 @@ mod tests {
         assert_eq!(grammar.attributes(WHOLE, 1), Attributes { inherited: 0, synthesized: 1 });
         assert_eq!(grammar.attributes(2, 1), Attributes { inherited: 0, synthesized: 0 });
         assert_eq!(grammar.attributes(2, 4), Attributes { inherited: 1, synthesized: 1 });
+    }
+
+    #[test]
+    fn tokens_that_carry_a_value() {
+        let grammar = Grammar::of(include_bytes!("../../../../grammars/lengths.table"));
+        assert_eq!((grammar.carries(0), grammar.carries(1)), (true, false));
+        assert_eq!(grammar.attributes(1, 1), Attributes { inherited: 0, synthesized: 1 });
+        assert_eq!(grammar.attributes(2, 1), Attributes::default());
     }
 }

@@ -1,5 +1,6 @@
 //! The lines around the stacks: what comes next, the moves, and how the run ends.
 use super::grammar::{Grammar, WHOLE};
+use super::Tokens;
 use engine::steps::{Input, Kind, Move, Run, State};
 use engine::Refusal;
 use std::io::{self, Write};
@@ -19,16 +20,20 @@ pub fn begun(out: &mut dyn Write, state: &State) -> io::Result<()> {
     writeln!(out, "opened, {tokens} read, {moves} made")
 }
 
-/// The token with this index, or the end.
-fn next(tokens: &[u8], index: usize) -> String {
-    match tokens.get(index) {
-        Some(token) => format!("token {} of {}: {token}", index + 1, tokens.len()),
-        None => "the end of the segment".into(),
+/// A token's kind, and its value where it carries one.
+fn written(grammar: &Grammar, kind: u8, value: i32) -> String {
+    if grammar.carries(kind) {
+        return format!("{kind}={value}");
     }
+    kind.to_string()
 }
 
-pub fn coming(out: &mut dyn Write, tokens: &[u8], index: usize) -> io::Result<()> {
-    writeln!(out, "{}", next(tokens, index))
+/// The token with this index, or the end.
+pub fn next(grammar: &Grammar, tokens: Tokens, index: usize) -> String {
+    match tokens.at(index) {
+        Input::Token(kind, value) => format!("token {} of {}: {}", index + 1, tokens.kinds.len(), written(grammar, kind, value)),
+        Input::End => "the end of the segment".into(),
+    }
 }
 
 fn production(p: usize) -> String {
@@ -64,7 +69,7 @@ pub fn made(out: &mut dyn Write, grammar: &Grammar, made: &Move, run: &Run) -> i
     }
     match (made.kind, run.input) {
         (Kind::Predict, _) => write!(out, ": {}", production(run.now.top() as usize / 256))?,
-        (Kind::Read, Input::Token(token)) => write!(out, ": token {token}")?,
+        (Kind::Read, Input::Token(kind, value)) => write!(out, ": token {}", written(grammar, kind, value))?,
         _ => {}
     }
     writeln!(out)
@@ -75,9 +80,9 @@ pub fn value(out: &mut dyn Write, value: i64, state: &State) -> io::Result<()> {
 }
 
 /// The segment is refused, at the token with this index or at the end.
-pub fn refused(out: &mut dyn Write, number: u32, state: &State, tokens: &[u8], index: usize) -> io::Result<()> {
+pub fn refused(out: &mut dyn Write, number: u32, state: &State, next: &str) -> io::Result<()> {
     let (read, made) = (counted(state.record.tokens, "token"), counted(state.record.moves, "move"));
-    writeln!(out, "refused {number} after {read} and {made}, at {}", next(tokens, index))?;
+    writeln!(out, "refused {number} after {read} and {made}, at {next}")?;
     writeln!(out, "        {}", engine::Kind::of(number).reason())
 }
 

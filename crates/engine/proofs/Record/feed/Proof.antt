@@ -1,11 +1,11 @@
 use mathlib.Core.Path.{ap, _∙_}
+use borrow.Author.Needs.{needs}
 use denote.Ref.{now}
 use Rattle.meaning.specs.PublicCalls.{stacksOf}
-use Rattle.engine.specs.Records.{recordIs, calledIs, effectIs}
-use Rattle.engine.specs.Beginning.{accepting-begins, accepting-brought, accepting-called}
-use Rattle.engine.proofs.Cases.{ready-case, turned-case}
 use Rattle.meaning.specs.Calls.{feedOf}
-use borrow.Author.Needs.{needs}
+use Rattle.engine.specs.Records.{recordIs, calledIs, effectIs}
+use Rattle.engine.specs.Beginning.{standing-shown, standing-readable, standing-called}
+use Rattle.engine.proofs.Cases.{ready-case, turned-case}
 use Rattle.engine.proofs.Record.feed.Statement.{statement}
 use Rattle.engine.proofs.Record.feed.Tie as tie
 
@@ -18,17 +18,21 @@ enum-known-answer c = search needs
 as-brought-requires : tie.Need-as-brought-requires
 as-brought-requires c κs = search needs
 
-enum-known-sizes : tie.Need-enum-known-sizes
-enum-known-sizes c = search needs
+enum-told : tie.Need-enum-told
+enum-told c = search needs
 
 feed-cells-requires : tie.Need-feed-cells-requires
-feed-cells-requires c κs = accepting-brought (ready-case (c .before .before .before .before .before .before .before .before .before .before .before .begin .ensures) (c .before .before .before .before .before .before .before .sizes .given .0 .0) (c .before .before .before .before .before .before .before .sizes .given .1) .1)
+feed-cells-requires c κs = standing-readable (ready-case (c .before .before .before .before .before .before .before .begin .ensures) (c .before .before .before .enum-told .given .1) .1)
 
 same-length : tie.Need-same-length
 same-length c = search needs
 
 returns : tie.Need-returns
-returns c = ap (λ z. effectIs z (now (c .before .before .before .before .before .before .before .before .before .before .before .before .before .before .before .args .registers)) (now (c .before .before .before .before .before .before .before .before .before .before .before .before .before .before .before .args .places)) (c .before .before .before .before .before .before .begin .last .1 .0)) (c .as-brought .ensures) ∙ turned-case (c .before .before .before .before .before .before .begin .ensures) (c .before .before .answer .given .0 .0) (c .before .before .answer .given .1) (recordIs (c .before .before .before .before .before .before .before .before .before .before .before .before .before .before .before .args .self)) (stacksOf (now (c .before .before .before .before .before .before .before .before .before .before .before .before .before .before .before .args .registers)) (now (c .before .before .before .before .before .before .before .before .before .before .before .before .before .before .before .args .places))) (λ g. feedOf g (recordIs (c .before .before .before .before .before .before .before .before .before .before .before .before .before .before .before .args .self)) (stacksOf (now (c .before .before .before .before .before .before .before .before .before .before .before .before .before .before .before .args .registers)) (now (c .before .before .before .before .before .before .before .before .before .before .before .before .before .before .before .args .places))) (now (c .before .before .before .before .before .before .before .before .before .before .before .before .before .before .before .args .tokens)))
+returns c =
+    let b = c .before .before .before .before .before .before .begin in
+    let a = c .before .before .before .before .before .before .before .before .before .before .before .before .args in
+    let m = stacksOf (now (a .registers)) (now (a .places)) in
+    ap (λ z. effectIs z (now (a .registers)) (now (a .places)) (b .last .1 .0)) (c .as-brought .ensures) ∙ turned-case (b .ensures) (c .before .before .answer .given .0 .0) (c .before .before .answer .given .1) (recordIs (a .self)) m (λ g. feedOf g (recordIs (a .self)) m (now (a .kinds)) (now (a .values)))
 
 same-length-2 : tie.Need-same-length-2
 same-length-2 c = search needs
@@ -40,7 +44,12 @@ same-length-4 : tie.Need-same-length-4
 same-length-4 c = search needs
 
 returns-2 : tie.Need-returns-2
-returns-2 c = let a = (ready-case (c .before .before .before .before .before .before .before .before .before .before .before .before .before .before .before .begin .ensures) (c .before .before .before .before .before .before .before .before .before .before .before .sizes .given .0 .0) (c .before .before .before .before .before .before .before .before .before .before .before .sizes .given .1) .1) in accepting-called a (recordIs (c .before .before .before .before .before .before .before .before .before .before .before .before .before .before .before .before .before .before .before .before .before .before .before .before .args .self)) (stacksOf (now (c .before .before .before .before .before .before .before .before .before .before .before .before .before .before .before .before .before .before .before .before .before .before .before .before .args .registers)) (now (c .before .before .before .before .before .before .before .before .before .before .before .before .before .before .before .before .before .before .before .before .before .before .before .before .args .places))) (λ g. feedOf g (recordIs (c .before .before .before .before .before .before .before .before .before .before .before .before .before .before .before .before .before .before .before .before .before .before .before .before .args .self)) (stacksOf (now (c .before .before .before .before .before .before .before .before .before .before .before .before .before .before .before .before .before .before .before .before .before .before .before .before .args .registers)) (now (c .before .before .before .before .before .before .before .before .before .before .before .before .before .before .before .before .before .before .before .before .before .before .before .before .args .places))) (now (c .before .before .before .before .before .before .before .before .before .before .before .before .before .before .before .before .before .before .before .before .before .before .before .before .args .tokens))) (calledIs (c .before .before .before .feed-cells .result) (c .before .before .before .feed-cells .last .0) (c .before .before .before .feed-cells .last .1 .0)) (c .before .before .before .feed-cells .ensures _ (accepting-begins a) (a .shown))
+returns-2 c =
+    let k = c .before .before .before .feed-cells in
+    let s = c .before .before .before .before .before .before .before .before .before .before .before .before .before .before .before .before .before .args in
+    let a = ready-case (c .before .before .before .before .before .before .before .before .before .before .before .begin .ensures) (c .before .before .before .before .before .before .before .enum-told .given .1) .1 in
+    let m = stacksOf (now (s .registers)) (now (s .places)) in
+    standing-called a (recordIs (s .self)) m (λ g. feedOf g (recordIs (s .self)) m (now (s .kinds)) (now (s .values))) (calledIs (k .result) (k .last .0) (k .last .1 .0)) (k .ensures _ (standing-shown a))
 
 pub feed-spec : {M : Type 1} → statement M
 feed-spec =
@@ -49,7 +58,7 @@ feed-spec =
     begin-requires
     enum-known-answer
     as-brought-requires
-    enum-known-sizes
+    enum-told
     feed-cells-requires
     same-length
     returns

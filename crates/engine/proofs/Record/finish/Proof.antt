@@ -1,11 +1,11 @@
 use mathlib.Core.Path.{ap, _∙_}
+use borrow.Author.Needs.{needs}
 use denote.Ref.{now}
 use Rattle.meaning.specs.PublicCalls.{stacksOf}
-use Rattle.engine.specs.Records.{recordIs, calledIs, effectIs}
-use Rattle.engine.specs.Beginning.{accepting-begins, accepting-brought, accepting-called}
-use Rattle.engine.proofs.Cases.{ready-case, turned-case}
 use Rattle.meaning.specs.Calls.{finishOf}
-use borrow.Author.Needs.{needs}
+use Rattle.engine.specs.Records.{recordIs, calledIs, effectIs}
+use Rattle.engine.specs.Beginning.{standing-shown, standing-readable, standing-called}
+use Rattle.engine.proofs.Cases.{ready-case, turned-case}
 use Rattle.engine.proofs.Record.finish.Statement.{statement}
 use Rattle.engine.proofs.Record.finish.Tie as tie
 
@@ -18,17 +18,21 @@ enum-known-answer c = search needs
 as-brought-requires : tie.Need-as-brought-requires
 as-brought-requires c κs = search needs
 
-enum-known-sizes : tie.Need-enum-known-sizes
-enum-known-sizes c = search needs
+enum-told : tie.Need-enum-told
+enum-told c = search needs
 
 finish-cells-requires : tie.Need-finish-cells-requires
-finish-cells-requires c κs = accepting-brought (ready-case (c .before .before .before .before .before .before .before .before .before .before .before .begin .ensures) (c .before .before .before .before .before .before .before .sizes .given .0 .0) (c .before .before .before .before .before .before .before .sizes .given .1) .1)
+finish-cells-requires c κs = standing-readable (ready-case (c .before .before .before .before .before .before .before .begin .ensures) (c .before .before .before .enum-told .given .1) .1)
 
 same-length : tie.Need-same-length
 same-length c = search needs
 
 returns : tie.Need-returns
-returns c = ap (λ z. effectIs z (now (c .before .before .before .before .before .before .before .before .before .before .before .before .before .before .args .registers)) (now (c .before .before .before .before .before .before .before .before .before .before .before .before .before .before .args .places)) (c .before .before .before .before .before .before .begin .last .1 .0)) (c .as-brought .ensures) ∙ turned-case (c .before .before .before .before .before .before .begin .ensures) (c .before .before .answer .given .0 .0) (c .before .before .answer .given .1) (recordIs (c .before .before .before .before .before .before .before .before .before .before .before .before .before .before .args .self)) (stacksOf (now (c .before .before .before .before .before .before .before .before .before .before .before .before .before .before .args .registers)) (now (c .before .before .before .before .before .before .before .before .before .before .before .before .before .before .args .places))) (λ g. finishOf g (recordIs (c .before .before .before .before .before .before .before .before .before .before .before .before .before .before .args .self)) (stacksOf (now (c .before .before .before .before .before .before .before .before .before .before .before .before .before .before .args .registers)) (now (c .before .before .before .before .before .before .before .before .before .before .before .before .before .before .args .places))))
+returns c =
+    let b = c .before .before .before .before .before .before .begin in
+    let a = c .before .before .before .before .before .before .before .before .before .before .before .args in
+    let m = stacksOf (now (a .registers)) (now (a .places)) in
+    ap (λ z. effectIs z (now (a .registers)) (now (a .places)) (b .last .1 .0)) (c .as-brought .ensures) ∙ turned-case (b .ensures) (c .before .before .answer .given .0 .0) (c .before .before .answer .given .1) (recordIs (a .self)) m (λ g. finishOf g (recordIs (a .self)) m)
 
 same-length-2 : tie.Need-same-length-2
 same-length-2 c = search needs
@@ -40,7 +44,12 @@ same-length-4 : tie.Need-same-length-4
 same-length-4 c = search needs
 
 returns-2 : tie.Need-returns-2
-returns-2 c = let a = (ready-case (c .before .before .before .before .before .before .before .before .before .before .before .before .before .before .before .begin .ensures) (c .before .before .before .before .before .before .before .before .before .before .before .sizes .given .0 .0) (c .before .before .before .before .before .before .before .before .before .before .before .sizes .given .1) .1) in accepting-called a (recordIs (c .before .before .before .before .before .before .before .before .before .before .before .before .before .before .before .before .before .before .before .before .before .before .before .args .self)) (stacksOf (now (c .before .before .before .before .before .before .before .before .before .before .before .before .before .before .before .before .before .before .before .before .before .before .before .args .registers)) (now (c .before .before .before .before .before .before .before .before .before .before .before .before .before .before .before .before .before .before .before .before .before .before .before .args .places))) (λ g. finishOf g (recordIs (c .before .before .before .before .before .before .before .before .before .before .before .before .before .before .before .before .before .before .before .before .before .before .before .args .self)) (stacksOf (now (c .before .before .before .before .before .before .before .before .before .before .before .before .before .before .before .before .before .before .before .before .before .before .before .args .registers)) (now (c .before .before .before .before .before .before .before .before .before .before .before .before .before .before .before .before .before .before .before .before .before .before .before .args .places)))) (calledIs (c .before .before .before .finish-cells .result) (c .before .before .before .finish-cells .last .0) (c .before .before .before .finish-cells .last .1 .0)) (c .before .before .before .finish-cells .ensures _ (accepting-begins a) (a .shown))
+returns-2 c =
+    let k = c .before .before .before .finish-cells in
+    let s = c .before .before .before .before .before .before .before .before .before .before .before .before .before .before .before .before .args in
+    let a = ready-case (c .before .before .before .before .before .before .before .before .before .before .before .begin .ensures) (c .before .before .before .before .before .before .before .enum-told .given .1) .1 in
+    let m = stacksOf (now (s .registers)) (now (s .places)) in
+    standing-called a (recordIs (s .self)) m (λ g. finishOf g (recordIs (s .self)) m) (calledIs (k .result) (k .last .0) (k .last .1 .0)) (k .ensures _ (standing-shown a))
 
 pub finish-spec : {M : Type 1} → statement M
 finish-spec =
@@ -49,7 +58,7 @@ finish-spec =
     begin-requires
     enum-known-answer
     as-brought-requires
-    enum-known-sizes
+    enum-told
     finish-cells-requires
     same-length
     returns

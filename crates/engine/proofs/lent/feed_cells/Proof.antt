@@ -1,12 +1,12 @@
 use native.Mathlib.Omega.{arith}
 use mathlib.Core.Path.{sym}
+use borrow.Author.Needs.{needs}
+use denote.Ref.{now}
 use lib.ListN.{length-take}
 use lib.Seq.{length-take-le}
-use denote.Ref.{now}
-use Rattle.engine.specs.Records.{recordIs, calledIs}
 use Rattle.meaning.specs.Calls.{feedOf}
+use Rattle.engine.specs.Records.{recordIs, calledIs}
 use Rattle.engine.specs.Cutting.{feed-cut, made-whole}
-use borrow.Author.Needs.{needs}
 use Rattle.engine.proofs.lent.feed_cells.Statement.{statement}
 use Rattle.engine.proofs.lent.feed_cells.Tie as tie
 
@@ -29,7 +29,10 @@ slice-aggregate-feed-lent-2 : tie.Need-slice-aggregate-feed-lent-2
 slice-aggregate-feed-lent-2 c = sym (length-take-le _ _ (omega (arith, c .before .before .smaller2 .ensures)))
 
 feed-lent-requires : tie.Need-feed-lent-requires
-feed-lent-requires c κs = (omega (arith, length-take (c .before .before .before .smaller .result) (now (c .before .before .before .before .before .before .before .args .registers)), c .before .before .before .smaller .ensures), omega (arith, length-take (c .before .before .smaller2 .result) (now (c .before .before .before .before .before .before .before .args .places)), c .before .before .smaller2 .ensures), c .before .before .before .before .before .before .before .pre)
+feed-lent-requires c κs =
+    let k = c .before .before in
+    let s = k .before .before .before .before .before in
+    (omega (arith, length-take (k .before .smaller .result) (now (s .args .registers)), k .before .smaller .ensures), omega (arith, length-take (k .smaller2 .result) (now (s .args .places)), k .smaller2 .ensures), s .pre)
 
 same-length : tie.Need-same-length
 same-length c = search needs
@@ -38,7 +41,13 @@ same-length-2 : tie.Need-same-length-2
 same-length-2 c = search needs
 
 returns : tie.Need-returns
-returns c = λ g s t. made-whole (λ m. feedOf g (recordIs (c .before .before .before .before .before .before .before .before .before .before .before .args .brought)) m (now (c .before .before .before .before .before .before .before .before .before .before .before .args .tokens))) (now (c .before .before .before .before .before .before .before .before .before .before .before .args .registers)) (now (c .before .before .before .before .before .before .before .before .before .before .before .args .places)) (c .before .before .before .before .before .before .before .smaller .result) (c .before .before .before .before .before .before .smaller2 .result) (c .before .before .before .before .before .before .before .smaller .ensures) (c .before .before .before .before .before .before .smaller2 .ensures) (calledIs (c .before .before .before .feed-lent .result) (c .before .before .before .feed-lent .last .0) (c .before .before .before .feed-lent .last .1 .0)) (c .before .before .before .feed-lent .ensures g s t) (feed-cut g (now (c .before .before .before .before .before .before .before .before .before .before .before .args .registers)) (now (c .before .before .before .before .before .before .before .before .before .before .before .args .places)) (recordIs (c .before .before .before .before .before .before .before .before .before .before .before .args .brought)) (now (c .before .before .before .before .before .before .before .before .before .before .before .args .tokens)))
+returns c =
+    let f = c .before .before .before .feed-lent in
+    let k = c .before .before .before .before .before .before in
+    let a = k .before .before .before .before .before .args in
+    let vs = now (a .registers) in
+    let ps = now (a .places) in
+    λ g s. made-whole (λ m. feedOf g (recordIs (a .brought)) m (now (a .kinds)) (now (a .values))) vs ps (k .before .smaller .result) (k .smaller2 .result) (k .before .smaller .ensures) (k .smaller2 .ensures) (calledIs (f .result) (f .last .0) (f .last .1 .0)) (f .ensures g s) (feed-cut g vs ps (recordIs (a .brought)) (now (a .kinds)) (now (a .values)))
 
 pub feed-cells-spec : {M : Type 1} → statement M
 feed-cells-spec =

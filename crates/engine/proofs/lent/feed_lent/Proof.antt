@@ -1,16 +1,16 @@
 use mathlib.Core.Path.{sym, ap, _∙_}
+use borrow.Author.Needs.{needs}
 use denote.Ref.{now}
 use Rattle.meaning.specs.PublicCalls.{stacksOf}
 use Rattle.engine.specs.Records.{recordIs, calledIs}
 use Rattle.engine.specs.Judging.{when-turned}
-use Rattle.engine.specs.Performing.{Judged, judged-fitting, judged-running, feed-made}
-use borrow.Author.Needs.{needs}
+use Rattle.engine.specs.Performing.{Judged, judged-fitting, judged-running, feed-uneven, feed-made}
 use Rattle.engine.proofs.lent.feed_lent.Statement.{statement}
 use Rattle.engine.proofs.lent.feed_lent.Tie as tie
 
 -- neither 33 nor 34
-judged : (c : tie.Else1) → Judged (now (c .before .before .before .before .before .before .before .args .program)) (now (c .before .before .before .before .before .before .before .args .rows)) (now (c .before .before .before .before .before .before .before .args .inherited)) (now (c .before .before .before .before .before .before .before .args .synthesized)) (c .before .before .before .before .before .before .before .args .productions) (c .before .before .before .before .before .before .before .args .start) (now (c .before .before .before .before .before .before .before .args .registers)) (now (c .before .before .before .before .before .before .before .args .places)) (recordIs (c .before .before .before .before .before .before .before .args .brought))
-judged c = record { few = c .before .before .before .before .before .before .before .pre .0; little = c .before .before .before .before .before .before .before .pre .1; brought = c .before .before .before .before .before .before .before .pre .2; passed = λ g s. sym (c .if1 .left) ∙ c .before .turned-back .ensures g s }
+judged : (c : tie.Else1) → (let a = c .before .before .before .before .before .before .before .args in Judged (now (a .program)) (now (a .registers)) (now (a .places)) (recordIs (a .brought)))
+judged c = let p = c .before .before .before .before .before .before .before .pre in record { few = p .0; little = p .1; brought = p .2; passed = λ g s. sym (c .if1 .left) ∙ c .before .turned-back .ensures g s }
 
 turned-back-requires : tie.Need-turned-back-requires
 turned-back-requires c κs = search needs
@@ -25,16 +25,14 @@ same-length-2 : tie.Need-same-length-2
 same-length-2 c = search needs
 
 returns : tie.Need-returns
-returns c = λ g s t. ap (λ z. calledIs z (now (c .before .before .before .before .before .before .before .before .args .registers)) (now (c .before .before .before .before .before .before .before .before .args .places))) (c .as-brought .ensures) ∙ sym (when-turned g (recordIs (c .before .before .before .before .before .before .before .before .args .brought)) (stacksOf (now (c .before .before .before .before .before .before .before .before .args .registers)) (now (c .before .before .before .before .before .before .before .before .args .places))) _ (c .before .before .turned-back .result) (c .before .before .turned-back .ensures g t) (c .before .if1 .taken))
+returns c =
+    let a = c .before .before .before .before .before .before .before .before .args in
+    let m = stacksOf (now (a .registers)) (now (a .places)) in
+    let t = c .before .before .turned-back in
+    λ g s. ap (λ z. calledIs z (now (a .registers)) (now (a .places))) (c .as-brought .ensures) ∙ sym (when-turned g (recordIs (a .brought)) m _ (t .result) (t .ensures g s) (c .before .if1 .taken))
 
-run-of-requires : tie.Need-run-of-requires
-run-of-requires c κs = (now (c .before .before .before .before .before .before .before .before .args .registers), judged-fitting (judged (c .before)))
-
-feed-requires : tie.Need-feed-requires
-feed-requires c κs = judged-running (judged (c .before .before .before .before)) (c .before .before .run-of .result) (c .before .before .run-of .ensures)
-
-fed-requires : tie.Need-fed-requires
-fed-requires c κs = search needs
+as-brought-requires-2 : tie.Need-as-brought-requires-2
+as-brought-requires-2 c κs = search needs
 
 same-length-3 : tie.Need-same-length-3
 same-length-3 c = search needs
@@ -43,7 +41,37 @@ same-length-4 : tie.Need-same-length-4
 same-length-4 c = search needs
 
 returns-2 : tie.Need-returns-2
-returns-2 c = feed-made (judged (c .before .before .before .before .before .before .before .before .before)) (c .before .before .before .before .before .before .before .run-of .result) (c .before .before .before .before .before .before .before .run-of .ensures) (now (c .before .before .before .before .before .before .before .before .before .before .before .before .before .before .before .before .args .tokens)) (c .before .before .before .before .feed .last .0) (c .before .before .before .before .feed .last .1 .0) (c .before .before .before .before .feed .result) (c .fed .result) (c .before .before .before .before .feed .ensures) (c .fed .ensures)
+returns-2 c =
+    let k = c .before .before in
+    let a = k .before .before .before .before .before .before .before .args in
+    λ g s. ap (λ z. calledIs z (now (a .registers)) (now (a .places))) (c .as-brought2 .ensures) ∙ feed-uneven (judged k) (now (a .kinds)) (now (a .values)) (c .before .if2 .taken) g s
+
+run-of-requires : tie.Need-run-of-requires
+run-of-requires c κs =
+    let k = c .before .before in
+    (now (k .before .before .before .before .before .before .before .args .registers), judged-fitting (judged k))
+
+feed-requires : tie.Need-feed-requires
+feed-requires c κs =
+    let r = c .before .before in
+    (judged-running (judged (r .before .before .before)) (r .run-of .result) (r .run-of .ensures), r .before .before .if2 .left)
+
+fed-requires : tie.Need-fed-requires
+fed-requires c κs = search needs
+
+same-length-5 : tie.Need-same-length-5
+same-length-5 c = search needs
+
+same-length-6 : tie.Need-same-length-6
+same-length-6 c = search needs
+
+returns-3 : tie.Need-returns-3
+returns-3 c =
+    let f = c .before .before .before .before .feed in
+    let r = c .before .before .before .before .before .before .before in
+    let k = r .before .before .before in
+    let a = k .before .before .before .before .before .before .before .args in
+    feed-made (judged k) (r .run-of .result) (r .run-of .ensures) (now (a .kinds)) (now (a .values)) (r .before .before .if2 .left) (f .last .0) (f .last .1 .0) (f .result) (c .fed .result) (f .ensures) (c .fed .ensures)
 
 pub feed-lent-spec : {M : Type 1} → statement M
 feed-lent-spec =
@@ -54,9 +82,13 @@ feed-lent-spec =
     same-length
     same-length-2
     returns
+    as-brought-requires-2
+    same-length-3
+    same-length-4
+    returns-2
     run-of-requires
     feed-requires
     fed-requires
-    same-length-3
-    same-length-4
-    returns-2)
+    same-length-5
+    same-length-6
+    returns-3)

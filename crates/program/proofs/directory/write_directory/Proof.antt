@@ -12,7 +12,7 @@ use Rattle.program.proofs.directory.write_directory.Statement.{statemen
 use Rattle.program.proofs.directory.write_directory.Tie as tie
 
 abbrev Inv-loop : tie.InvT-loop
-Inv-loop rows sets nonterminals count area₀ end p₀ area p = (p ≤ count) × ((old : List ℕ) → 16384 ≤ length old → area₀ ≡ patch old 8 (zeros (8 + 64 * nonterminals - 8)) → S.DirectoryGo rows sets nonterminals count old p area)
+Inv-loop rows sets nonterminals count area₀ end p₀ area p = (p ≤ count) × ((old : List ℕ) → 16384 ≤ length old → area₀ ≡ patch old 9 (zeros (9 + 64 * nonterminals - 9)) → S.DirectoryGo rows sets nonterminals count old p area)
 
 abbrev μ-loop : tie.MeasureT-loop
 μ-loop rows sets nonterminals count area₀ end p₀ area p = p

@@ -1,16 +1,16 @@
 use Prim.Native.Nat.{_+_, _-_, _≤_}
-use mathlib.Core.Path.{_≡_}
 use native.Mathlib.Omega.{arith}
 use lib.ListN.{length}
-use Rattle.table.proofs.Placing.{Placing, placing-start, placing-more, placing-token}
+use Rattle.table.proofs.Placing.{Placing, placing-start, placing-more}
+use Rattle.table.specs.Outline.{countOf, synthesizedOf}
 use Rattle.table.proofs.production.place_counts.Statement.{statement}
 use Rattle.table.proofs.production.place_counts.Tie as tie
 
 abbrev Inv-loop : tie.InvT-loop
-Inv-loop body inherited synthesized inh₀ syn₀ left k₀ inh syn k = (1 ≤ k) × (k + 1 ≤ length body) × Placing body inherited inh k × Placing body synthesized syn k
+Inv-loop body carrying inherited synthesized inh₀ syn₀ left k₀ inh syn k = (1 ≤ k) × (k + 1 ≤ length body) × Placing (countOf inherited) body inh k × Placing (synthesizedOf carrying synthesized) body syn k
 
 abbrev μ-loop : tie.MeasureT-loop
-μ-loop body inherited synthesized inh₀ syn₀ left k₀ inh syn k = length body - k
+μ-loop body carrying inherited synthesized inh₀ syn₀ left k₀ inh syn k = length body - k
 
 shared-slice-read-wide : tie.Need-shared-slice-read-wide Inv-loop μ-loop
 shared-slice-read-wide c = omega arith
@@ -25,16 +25,18 @@ count-of-requires : tie.Need-count-of-requires Inv-loop μ-loop
 count-of-requires c κs = omega arith
 
 element-write-inh : tie.Need-element-write-inh Inv-loop μ-loop
-element-write-inh c = omega (arith, c .before .before .before .before .pre .4 .kept)
+element-write-inh c = omega (arith, c .before .before .before .before .pre .4)
 
-count-of-requires-2 : tie.Need-count-of-requires-2 Inv-loop μ-loop
-count-of-requires-2 c κs = omega arith
+synthesized-of-requires : tie.Need-synthesized-of-requires Inv-loop μ-loop
+synthesized-of-requires c κs = omega arith
 
 element-write-syn : tie.Need-element-write-syn Inv-loop μ-loop
-element-write-syn c = omega (arith, c .before .before .before .before .before .pre .5 .kept)
+element-write-syn c = omega (arith, c .before .before .before .before .before .pre .5)
 
 loop-holds : tie.Need-loop-holds Inv-loop μ-loop
-loop-holds c = (omega arith, omega arith, placing-start _ _ (c .before .before .before .before .before .args .inh .now) _ (c .before .before .before .before .before .pre .4) (cc), placing-start _ _ (c .before .before .before .before .before .args .syn .now) _ (c .before .before .before .before .before .pre .5) (cc))
+loop-holds c =
+    let st = c .before .before .before .before .before in
+    (omega arith, omega arith, placing-start _ _ (st .args .inh .now) _ (st .pre .4) cc, placing-start _ _ (st .args .syn .now) _ (st .pre .5) cc)
 
 add-loop : tie.Need-add-loop Inv-loop μ-loop
 add-loop c = omega arith
@@ -48,6 +50,18 @@ shared-slice-read-wide-2 c = omega arith
 wide-requires-2 : tie.Need-wide-requires-2 Inv-loop μ-loop
 wide-requires-2 c κs = tt
 
+count-of-requires-2 : tie.Need-count-of-requires-2 Inv-loop μ-loop
+count-of-requires-2 c κs = omega arith
+
+element-write-inh-2 : tie.Need-element-write-inh-2 Inv-loop μ-loop
+element-write-inh-2 c = omega (arith, c .before .before .before .before .loop .inv .2 .kept)
+
+synthesized-of-requires-2 : tie.Need-synthesized-of-requires-2 Inv-loop μ-loop
+synthesized-of-requires-2 c κs = omega arith
+
+element-write-syn-2 : tie.Need-element-write-syn-2 Inv-loop μ-loop
+element-write-syn-2 c = omega (arith, c .before .before .before .before .before .loop .inv .3 .kept)
+
 add-k : tie.Need-add-k Inv-loop μ-loop
 add-k c = omega arith
 
@@ -55,28 +69,9 @@ loop-less : tie.Need-loop-less Inv-loop μ-loop
 loop-less c = omega arith
 
 loop-again : tie.Need-loop-again Inv-loop μ-loop
-loop-again c = (omega arith, omega arith, placing-token _ _ _ _ (c .before .before .before .before .loop .inv .2) (omega arith) (omega arith), placing-token _ _ _ _ (c .before .before .before .before .loop .inv .3) (omega arith) (omega arith))
-
-count-of-requires-3 : tie.Need-count-of-requires-3 Inv-loop μ-loop
-count-of-requires-3 c κs = omega arith
-
-element-write-inh-2 : tie.Need-element-write-inh-2 Inv-loop μ-loop
-element-write-inh-2 c = omega (arith, c .before .before .before .before .before .loop .inv .2 .kept)
-
-count-of-requires-4 : tie.Need-count-of-requires-4 Inv-loop μ-loop
-count-of-requires-4 c κs = omega arith
-
-element-write-syn-2 : tie.Need-element-write-syn-2 Inv-loop μ-loop
-element-write-syn-2 c = omega (arith, c .before .before .before .before .before .before .loop .inv .3 .kept)
-
-add-k-2 : tie.Need-add-k-2 Inv-loop μ-loop
-add-k-2 c = omega arith
-
-loop-less-2 : tie.Need-loop-less-2 Inv-loop μ-loop
-loop-less-2 c = omega arith
-
-loop-again-2 : tie.Need-loop-again-2 Inv-loop μ-loop
-loop-again-2 c = (omega arith, omega arith, placing-more _ _ _ _ (c .before .before .before .before .before .before .loop .inv .2) (omega arith) _ (omega arith) (cc), placing-more _ _ _ _ (c .before .before .before .before .before .before .loop .inv .3) (omega arith) _ (omega arith) (cc))
+loop-again c =
+    let now = c .before .before .before .before .before .loop .inv in
+    (omega arith, omega arith, placing-more _ _ _ _ (now .2) (omega arith) _ (omega arith) cc, placing-more _ _ _ _ (now .3) (omega arith) _ (omega arith) cc)
 
 returns : tie.Need-returns Inv-loop μ-loop
 returns c = (record { each = λ k h. c .before .loop .inv .2 .each k (omega arith) }, record { each = λ k h. c .before .loop .inv .3 .each k (omega arith) })
@@ -92,21 +87,18 @@ place-counts-spec =
     add-left
     count-of-requires
     element-write-inh
-    count-of-requires-2
+    synthesized-of-requires
     element-write-syn
     loop-holds
     add-loop
     add-wide
     shared-slice-read-wide-2
     wide-requires-2
+    count-of-requires-2
+    element-write-inh-2
+    synthesized-of-requires-2
+    element-write-syn-2
     add-k
     loop-less
     loop-again
-    count-of-requires-3
-    element-write-inh-2
-    count-of-requires-4
-    element-write-syn-2
-    add-k-2
-    loop-less-2
-    loop-again-2
     returns)

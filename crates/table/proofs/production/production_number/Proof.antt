@@ -18,7 +18,10 @@ wide-requires : tie.Need-wide-requires
 wide-requires c κs = search needs
 
 returns-2 : tie.Need-returns-2
-returns-2 c = production-other _ _ _ _ _ (c .before .before .before .before .before .before .pre .0) _ (c .before .before .before .before .size-at .ensures .0 (omega arith)) (omega arith) (c .before .before .before .before .before .before .pre .1)
+returns-2 c =
+    let sz = c .before .before .before .before in
+    let st = sz .before .before in
+    production-other _ _ _ _ _ (st .pre .0) _ (sz .size-at .ensures .0 (omega arith)) (omega arith) (st .pre .1) (st .pre .2)
 
 add-from : tie.Need-add-from
 add-from c = search needs
@@ -39,7 +42,11 @@ production-fault-requires : tie.Need-production-fault-requires
 production-fault-requires c κs = search needs
 
 returns-3 : tie.Need-returns-3
-returns-3 c = production-right _ _ _ _ _ (c .before .before .before .before .before .before .before .before .pre .0) _ (c .before .before .before .before .before .before .size-at .ensures .0 (omega arith)) _ _ (omega arith) (part-body (c .before .before .before .before .before .before .before .before .args .table .now) (c .before .before .before .before .before .before .before .before .args .at) (c .before .before .before .before .before .before .size-at .result)) (c .production-fault .ensures)
+returns-3 c =
+    let sz = c .before .before .before .before .before .before in
+    let st = sz .before .before in
+    let part = part-body (st .args .table .now) (st .args .at) (sz .size-at .result) in
+    production-right _ _ _ _ _ (st .pre .0) _ (sz .size-at .ensures .0 (omega arith)) _ _ (omega arith) part (c .production-fault .ensures)
 
 pub production-number-spec : {M : Type 1} → statement M
 production-number-spec =

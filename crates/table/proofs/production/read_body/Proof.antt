@@ -1,7 +1,6 @@
 use mathlib.Core.Path.{refl}
 use native.Mathlib.Omega.{arith}
 use borrow.Author.Needs.{needs}
-use Rattle.rule_note.proofs.Noting.{zeros}
 use Rattle.table.proofs.Producing.{part-in, body-small, body-read, next-sooner}
 use borrow.Author.Needs.{needs}
 use Rattle.table.proofs.production.read_body.Statement.{statement}
@@ -35,7 +34,7 @@ part-place-counts-end : tie.Need-part-place-counts-end
 part-place-counts-end c = search needs
 
 place-counts-requires : tie.Need-place-counts-requires
-place-counts-requires c κs = (search needs, search needs, search needs, search needs, record { kept = refl; zero = zeros 13 }, record { kept = refl; zero = zeros 13 })
+place-counts-requires c κs = (search needs, search needs, search needs, search needs, refl, refl)
 
 read-uses-requires : tie.Need-read-uses-requires
 read-uses-requires c κs =
@@ -43,7 +42,7 @@ read-uses-requires c κs =
     let st = w .before .before .before in
     let counted = c .before .before .place-counts .ensures in
     let part = part-in (st .args .table .now) (st .args .at) (w .wide .result) (w .wide .ensures .0) in
-    (body-small (st .args .table .now) (st .args .at) _ _ _ _ _ _ (w .wide .ensures .0) part (st .pre .0) (counted .0) (counted .1) (st .pre .1), omega arith, omega arith, omega arith, omega arith)
+    (body-small (st .args .table .now) (st .args .at) _ _ _ _ _ _ _ (w .wide .ensures .0) part (st .pre .0) (counted .0) (counted .1) (st .pre .1), omega arith, omega arith, omega arith, omega arith)
 
 returns : tie.Need-returns
 returns c =
@@ -51,7 +50,7 @@ returns c =
     let st = w .before .before .before in
     let counted = c .before .before .before .place-counts .ensures in
     let part = part-in (st .args .table .now) (st .args .at) (w .wide .result) (w .wide .ensures .0) in (
-      body-read (st .args .table .now) (st .args .at) _ _ _ _ _ _ (w .wide .ensures .0) part (st .pre .0) (counted .0) (counted .1) _ _ _ (c .read-uses .ensures .0),
+      body-read (st .args .table .now) (st .args .at) _ _ _ _ _ _ _ (w .wide .ensures .0) part (st .pre .0) (counted .0) (counted .1) _ _ _ (c .read-uses .ensures .0),
       ((λ z. next-sooner _ _ _ _ (omega arith) (c .read-uses .ensures .1 .0 z)), c .read-uses .ensures .1 .1),
     )
 

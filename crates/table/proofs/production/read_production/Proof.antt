@@ -9,7 +9,7 @@ production-number-requires : tie.Need-production-number-requires
 production-number-requires c κs = search needs
 
 returns : tie.Need-returns
-returns c = production-refused _ _ _ _ _ _ _ _ _ _ _ _ (c .before .production-number .ensures) (c .before .before .before .pre .7) (c .if1 .taken) (omega arith) (c .before .before .before .pre .6)
+returns c = production-refused _ _ _ _ _ _ _ _ _ _ _ _ _ (c .before .production-number .ensures) (c .before .before .before .pre .8) (c .if1 .taken) (omega arith) (c .before .before .before .pre .7)
 
 add-from : tie.Need-add-from
 add-from c = search needs
@@ -39,7 +39,11 @@ part-copy-row-end : tie.Need-part-copy-row-end
 part-copy-row-end c = omega (arith, c .before .before .before .before .production-number .ensures .known (omega arith) .long)
 
 copy-row-requires : tie.Need-copy-row-requires
-copy-row-requires c κs = (c .before .before .before .before .before .production-number .ensures .known (omega arith) .few, part-short (c .before .before .before .before .before .before .before .args .table .now) (c .before .before .before .before .before .before .before .args .at) (c .before .before .wide .result) (omega (arith, c .before .before .before .before .before .production-number .ensures .known (omega arith) .short)), c .before .before .before .before .before .before .before .pre .6)
+copy-row-requires c κs =
+    let n = c .before .before .before .before .before in
+    let st = n .before .before in
+    let known = n .production-number .ensures .known (omega arith) in
+    (known .few, part-short (st .args .table .now) (st .args .at) (c .before .before .wide .result) (omega (arith, known .short)), st .pre .7)
 
 cast-offsets : tie.Need-cast-offsets
 cast-offsets c = search needs
@@ -55,7 +59,7 @@ read-body-requires c κs =
     let n = c .before .before .before .before .before .before in
     let st = n .before .before in
     let known = n .production-number .ensures .known (omega arith) in
-    (known .long, small-body _ _ _ _ _ _ _ known (st .pre .3), st .pre .4, st .pre .5, st .pre .8, st .pre .9)
+    (known .long, small-body _ _ _ _ _ _ _ _ known (st .pre .4), st .pre .5, st .pre .6, st .pre .9, st .pre .10)
 
 returns-2 : tie.Need-returns-2
 returns-2 c =
@@ -63,7 +67,7 @@ returns-2 c =
     let st = n .before .before in
     let w = c .before .before .before .before in
     let part = part-in (st .args .table .now) (st .args .at) (w .wide .result) (w .wide .ensures .0) in
-    production-read _ _ _ _ _ _ _ _ _ _ _ _ (n .production-number .ensures) (st .pre .7) (omega arith) _ _ part (c .before .copy-row .ensures) _ (c .read-body .ensures .0) (c .read-body .ensures .1 .0) (c .read-body .ensures .1 .1)
+    production-read _ _ _ _ _ _ _ _ _ _ _ _ _ (n .production-number .ensures) (st .pre .8) (omega arith) _ _ part (c .before .copy-row .ensures) _ (c .read-body .ensures .0) (c .read-body .ensures .1 .0) (c .read-body .ensures .1 .1)
 
 pub read-production-spec : {M : Type 1} → statement M
 read-production-spec =

@@ -7,36 +7,30 @@ use Rattle.table.proofs.production.read_productions.Statement.{statemen
 use Rattle.table.proofs.production.read_productions.Tie as tie
 
 abbrev Inv-loop : tie.InvT-loop
-Inv-loop table sizes inherited synthesized rows₀ offsets₀ at₀ p₀ rules₀ conditions₀ rows offsets at p rules conditions = Reached table (sizes .nonterminals) inherited synthesized rows offsets p at rules conditions
+Inv-loop table from sizes inherited synthesized rows₀ offsets₀ at₀ p₀ rules₀ conditions₀ rows offsets at p rules conditions = Reached table from (sizes .nonterminals) (sizes .carrying) inherited synthesized rows offsets p at rules conditions
 
 abbrev μ-loop : tie.MeasureT-loop
-μ-loop table sizes inherited synthesized rows₀ offsets₀ at₀ p₀ rules₀ conditions₀ rows offsets at p rules conditions = length table - at
-
-mul-at : tie.Need-mul-at Inv-loop μ-loop
-mul-at c = omega (arith, c .before .before .pre .0 .few)
-
-add-at : tie.Need-add-at Inv-loop μ-loop
-add-at c = omega (arith, c .before .before .pre .0 .few)
+μ-loop table from sizes inherited synthesized rows₀ offsets₀ at₀ p₀ rules₀ conditions₀ rows offsets at p rules conditions = length table - at
 
 loop-holds : tie.Need-loop-holds Inv-loop μ-loop
-loop-holds c = reached-start _ _ _ _ _ _ (c .before .before .pre .0 .long) (c .before .before .pre .1) (c .before .before .pre .2)
+loop-holds c = reached-start _ _ _ _ _ _ _ _ (c .before .pre .0 .inside) (c .before .pre .0 .other) (c .before .pre .1) (c .before .pre .2)
 
 read-production-requires : tie.Need-read-production-requires Inv-loop μ-loop
 read-production-requires c κs =
     let lp = c .before .before .before in
     let now = lp .loop .inv in
-    let ready = lp .before .before .before .pre .0 in
+    let ready = lp .before .before .pre .0 .ready in
     let more = c .before .before .loop-test .taken in
-    (more, ready .short, (λ h. now .over h more), ready .small, ready .first, ready .second, now .kept, now .kept-offsets, now .rules, now .conditions)
+    (more, ready .short, (λ h. now .over h more), now .other more, ready .small, ready .first, ready .second, now .kept, now .kept-offsets, now .rules, now .conditions)
 
 cast-offset : tie.Need-cast-offset Inv-loop μ-loop
-cast-offset c = omega (arith, c .before .before .before .read-production .ensures .inside, c .before .before .before .before .before .before .before .before .before .before .pre .0 .short)
+cast-offset c = omega (arith, c .before .before .before .read-production .ensures .inside, c .before .before .before .before .before .before .before .before .before .pre .0 .ready .short)
 
 returns : tie.Need-returns Inv-loop μ-loop
 returns c =
     let lp = c .before .before .before .before .before .before .before in
-    let ready = lp .before .before .before .pre .0 in
-    answer-refused _ _ _ _ _ _ _ _ (reached-refused _ _ _ _ _ _ _ _ _ _ (lp .loop .inv) (ready .nonterminals) _ (ready .terminals) _ _ _ (c .before .before .before .read-production .ensures) (c .before .if1 .taken)) refl
+    let ready = lp .before .before .pre .0 .ready in
+    λ ws held. answer-refused _ _ _ _ _ _ _ _ (reached-refused _ _ _ _ _ _ _ _ _ _ _ _ (lp .loop .inv) (ready .nonterminals) _ (ready .terminals) _ _ _ (c .before .before .before .read-production .ensures) (c .before .if1 .taken) ws held) refl
 
 add-p : tie.Need-add-p Inv-loop μ-loop
 add-p c = omega (arith, c .before .before .before .before .before .before .loop .inv .few)
@@ -47,17 +41,17 @@ loop-less c = omega (arith, c .before .before .read-production .ensures .next (o
 loop-again : tie.Need-loop-again Inv-loop μ-loop
 loop-again c =
     let lp = c .before .before .before .before .before .before in
-    let ready = lp .before .before .before .pre .0 in
-    reached-more _ _ _ _ _ _ _ _ _ _ (lp .loop .inv) (ready .nonterminals) _ (ready .terminals) _ _ _ (c .before .before .read-production .ensures) (omega arith)
+    let ready = lp .before .before .pre .0 .ready in
+    reached-more _ _ _ _ _ _ _ _ _ _ _ _ (lp .loop .inv) (ready .nonterminals) _ (ready .terminals) _ _ _ (c .before .before .read-production .ensures) (omega arith)
 
 cast-offset-2 : tie.Need-cast-offset-2 Inv-loop μ-loop
-cast-offset-2 c = omega (arith, c .before .before .loop .inv .inside, c .before .before .before .before .before .pre .0 .short)
+cast-offset-2 c = omega (arith, c .before .before .loop .inv .inside, c .before .before .before .before .pre .0 .ready .short)
 
 returns-2 : tie.Need-returns-2 Inv-loop μ-loop
-returns-2 c = answer-refused _ _ _ _ _ _ _ _ (reached-none _ _ _ _ _ _ _ _ _ _ (c .before .before .loop .inv) (c .before .before .before .before .before .pre .0 .nonterminals) (c .before .loop-test .left) (omega arith)) refl
+returns-2 c ws held = answer-refused _ _ _ _ _ _ _ _ (reached-none _ _ _ _ _ _ _ _ _ _ _ _ (c .before .before .loop .inv) (c .before .before .before .before .pre .0 .ready .nonterminals) (c .before .loop-test .left) ws (c .before .before .loop .inv .found ws held) (omega arith)) refl
 
 returns-3 : tie.Need-returns-3 Inv-loop μ-loop
-returns-3 c = answer-whole _ _ _ _ _ _ _ _ _ _ (c .before .before .before .before .before .pre .0) (c .before .before .loop .inv) (c .before .loop-test .left) (c .if2 .left)
+returns-3 c = answer-whole _ _ _ _ _ _ _ _ _ _ _ (c .before .before .before .before .pre .0 .ready) (c .before .before .loop .inv) (c .before .loop-test .left) (c .if2 .left)
 
 pub read-productions-spec : {M : Type 1} → statement M
 read-productions-spec =
@@ -65,8 +59,6 @@ read-productions-spec =
     (tie.spec
     Inv-loop
     μ-loop
-    mul-at
-    add-at
     loop-holds
     read-production-requires
     cast-offset
