@@ -14,6 +14,7 @@
  *    1 to 14: the table (or the production asked for) is refused; with the byte offset of its field
  *   20 to 24: the segment is refused; with the tokens read
  *   30 to 35: the state of the run or the memory is refused; with the tokens read, or 0 for 30, 33 and 34
+ *         36: the buffer for a table in house order is too short; with 0, and no byte of it is written
  *         38: the lists of kinds and values are of unequal length; with 0
  *         42: a window's size, buffer or value is refused; no cell of the buffer is written
  * The numbers have names, SEGMENT_..., and segment_reason gives their words. On 1 to 13 and on 30 no register, place or program word is
@@ -73,6 +74,7 @@ enum segment_number {
     SEGMENT_RUN_CLOSED = 33,
     SEGMENT_STACKS_UNFIT = 34,
     SEGMENT_TOO_MUCH = 35,
+    SEGMENT_OUTPUT_SHORT = 36,
     SEGMENT_LISTS_UNEQUAL = 38,
     SEGMENT_WINDOW_UNFIT = 42
 };
@@ -101,6 +103,14 @@ void segment_stretch(const uint8_t *table, size_t table_length, size_t productio
  * SEGMENT_LINE bytes, nothing is written and *length and *over are 0. */
 void segment_list(const uint8_t *table, size_t table_length, uint32_t *program, size_t program_length, uint8_t *out, size_t out_length,
                   size_t *length, uint32_t *over);
+
+/* An accepted table in house order, into the first *length bytes of `out`: productions as they stand, each followed by its rules by the
+ * occurrence they set, then its conditions by their bytes, each once. Tables that differ only in that come out alike, and every segment
+ * keeps its value or refusal. *number and *offset are then 0, and bytes past *length stay as they were. On a refusal (1 to 13 for the table,
+ * 36 with 0 where `out` is too short) these are the refusal's, *length is 0 and no byte of `out` is written. What is written is never longer
+ * than the table: lend as many bytes. */
+void segment_house(const uint8_t *table, size_t table_length, uint8_t *out, size_t out_length, size_t *length, uint32_t *number,
+                   uint32_t *offset);
 
 /* Opens a run: writes the table's program into the program area, clears the registers to the mark and the places to 0, and hands the
  * record of an open run back. The content of the record before the call is not looked at.
@@ -210,6 +220,8 @@ SEGMENT_INLINE const char *segment_reason(uint32_t number) {
         return "the stacks do not fit";
     case SEGMENT_TOO_MUCH:
         return "a token after 65,535, or a move after 4,294,967,295 or after the budget";
+    case SEGMENT_OUTPUT_SHORT:
+        return "the output buffer is too short";
     case SEGMENT_LISTS_UNEQUAL:
         return "the lists of kinds and values are of unequal length";
     case SEGMENT_WINDOW_UNFIT:

@@ -1,4 +1,4 @@
-/* The functions over a segment_run, at their edges, and a window. */
+/* The functions over a segment_run, at their edges, house order, and a window. */
 #include "segment.h"
 
 #include <stdio.h>
@@ -93,6 +93,27 @@ static void budgets(void) {
     MUST(is(segment_run_feed(&run, tokens, 2), SEGMENT_OK, 11));
 }
 
+/* Words and tags, and the same with its condition, the 14 bytes before byte 121, said twice: one table in house order. */
+static void house(void) {
+    static uint8_t twice[sizeof words + 14], out[sizeof words + 1], other[sizeof twice];
+    size_t length = 7;
+    uint32_t number = 7, offset = 7;
+    memcpy(twice, words, 121);
+    memcpy(twice + 121, words + 107, sizeof words - 107);
+    memset(out, 0xa5, sizeof out);
+    segment_house(twice, sizeof twice, out, sizeof words - 1, &length, &number, &offset);
+    MUST(number == SEGMENT_OUTPUT_SHORT && offset == 0 && length == 0 && out[0] == 0xa5);
+    segment_house(twice, 100, out, 0, &length, &number, &offset);
+    MUST(number == SEGMENT_FIELD_CUT_SHORT && offset == 97 && length == 0);
+    segment_house(twice, sizeof twice, out, sizeof words, &length, &number, &offset);
+    MUST(number == SEGMENT_OK && offset == 0 && length == sizeof words && out[sizeof words] == 0xa5);
+    MUST(memcmp(out, words, 17) == 0 && memcmp(out, words, sizeof words) != 0);
+    segment_house(words, sizeof words, other, sizeof other, &length, &number, &offset);
+    MUST(number == SEGMENT_OK && length == sizeof words && memcmp(other, out, sizeof words) == 0);
+    segment_house(out, sizeof words, other, sizeof other, &length, &number, &offset);
+    MUST(number == SEGMENT_OK && length == sizeof words && memcmp(other, out, sizeof words) == 0);
+}
+
 static void windows(void) {
     int64_t cells[SEGMENT_WINDOW_CELLS(3)];
     int64_t total, largest;
@@ -114,6 +135,7 @@ int main(void) {
     values();
     many_tokens();
     budgets();
+    house();
     windows();
     for (number = 0; number <= 43; number++) {
         MUST(segment_reason(number)[0] != 0);

@@ -58,6 +58,7 @@ class Kind(enum.IntEnum):
     RUN_CLOSED = 33
     STACKS_UNFIT = 34
     TOO_MUCH = 35
+    OUTPUT_SHORT = 36
     LISTS_UNEQUAL = 38
     WINDOW_UNFIT = 42
 
@@ -88,6 +89,7 @@ REASONS = {
     Kind.RUN_CLOSED: "the run is closed",
     Kind.STACKS_UNFIT: "the stacks do not fit",
     Kind.TOO_MUCH: "a token after 65,535, or a move after 4,294,967,295 or after the budget",
+    Kind.OUTPUT_SHORT: "the output buffer is too short",
     Kind.LISTS_UNEQUAL: "the lists of kinds and values are of unequal length",
     Kind.WINDOW_UNFIT: "the window's size, buffer or value does not fit",
 }
@@ -118,8 +120,8 @@ class Refusal(Exception):
 
     @property
     def tokens(self):
-        """The tokens read. The refusals 30, 33, 34, 38 and 42 tell none."""
-        return self.count if self.number > 14 and self.number not in (30, 33, 34, 38, 42) else None
+        """The tokens read. The refusals 30, 33, 34, 36, 38 and 42 tell none."""
+        return self.count if self.number > 14 and self.number not in (30, 33, 34, 36, 38, 42) else None
 
     def _words(self):
         where = ""
@@ -192,6 +194,17 @@ def listing(table):
         size *= 2
 
 
+def house_order(table):
+    """An accepted table in house order: tables that differ only in the order of rules and conditions, or in conditions said twice, come
+    out alike, and every segment keeps its value or refusal. Raises Refusal where the table is refused."""
+    out, length = (ctypes.c_uint8 * len(table))(), ctypes.c_size_t()
+    number, offset = ctypes.c_uint32(), ctypes.c_uint32()
+    _call("segment_house", *_bytes(table), out, ctypes.c_size_t(len(table)), *map(ctypes.byref, (length, number, offset)))
+    if number.value:
+        raise Refusal(number.value, offset.value)
+    return bytes(out[: length.value])
+
+
 def sum_of(table):
     """The sum of a table, which `grammar header` writes beside a grammar's names (FNV-1a, 64 bits)."""
     total = 0xCBF29CE484222325
@@ -238,6 +251,10 @@ class Table:
     def sum(self):
         """See sum_of."""
         return sum_of(self.bytes)
+
+    def house_order(self):
+        """The table in house order: see house_order."""
+        return Table(house_order(self.bytes))
 
     def run(self, registers=REGISTERS, places=PLACES, budget=MOVES):
         """Opens a run."""

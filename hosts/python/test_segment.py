@@ -71,6 +71,15 @@ class Words(unittest.TestCase):
         self.assertEqual(segment.listing(WORDS), read("../crates/listing/stdout"))
         self.assertEqual(repr(segment.Table(WORDS)), "Table(136 bytes, sum d30e9953d2057f43)")
 
+    def test_house_order(self):
+        twice = WORDS[:121] + WORDS[107:]
+        house = segment.house_order(WORDS)
+        self.assertEqual((segment.house_order(twice), segment.house_order(house), len(house)), (house, house, len(WORDS)))
+        self.assertEqual((house[:17], house == WORDS), (WORDS[:17], False))
+        self.assertEqual(segment.Table(twice).house_order().run().evaluate([0, 1, 0, 2]), 2)
+        self.refused(2, 97, segment.house_order, WORDS[:100])
+        self.refused(3, 0, segment.house_order, b"")
+
     def test_names(self):
         text = '{"table": {"sum": "%s"}, "tokens": ["word", "open", "close"], "parts": []}'
         names = segment.Names(text % "d30e9953d2057f43")
@@ -112,7 +121,7 @@ class Names(unittest.TestCase):
         kinds = re.findall(r'^    (\w+) = (\d+), "(.*)";$', read("rust/src/refusal.rs"), re.M)
         upper = lambda name: re.sub(r"(?<!^)([A-Z])", r"_\1", name).upper()
         self.kinds = [(upper(name), int(number), words) for name, number, words in kinds]
-        self.assertEqual(len(self.kinds), 27)
+        self.assertEqual(len(self.kinds), 28)
 
     def test_python(self):
         self.assertEqual([(k.name, k.value, segment.REASONS[k]) for k in segment.Kind], self.kinds)

@@ -184,6 +184,39 @@ fn run_segments() {
     }
 }
 
+/// House order: the judgement and the writing, into a buffer of the table's length.
+fn house_order() {
+    let tables = [
+        ("words and tags", samples::words()),
+        ("512 conditions in one production, in order", samples::conditions(|i| i)),
+        ("512 conditions in one production, falling", samples::conditions(|i| 511 - i)),
+        ("512 conditions in one production, shuffled", samples::conditions(|i| (i * 197 + 101) % 512)),
+        ("512 conditions in one production, all alike", samples::conditions(|_| 0)),
+        ("104 rules a production, in order", samples::many_rules(12, false)),
+        ("104 rules a production, reversed", samples::many_rules(12, true)),
+        ("chain of 47", samples::chain(47, 33, 512)),
+    ];
+    println!("\n| house order | bytes | of them written | plain Rust, ns | proved, ns | proved / plain |");
+    println!("|---|---|---|---|---|---|");
+    for (name, table) in &tables {
+        let (mut a, mut b) = (vec![0; table.len()], vec![0; table.len()]);
+        let written = plain::house::house(table, &mut a).map_err(|r| r.number).unwrap();
+        assert_eq!((segment::lent::house(table, &mut b), &a), (Ok(written), &b), "{name}");
+        let plain = || {
+            round(table, || {
+                black_box(plain::house::house(black_box(table), &mut a).is_ok());
+            })
+        };
+        let proved = || {
+            round(table, || {
+                black_box(segment::lent::house(black_box(table), &mut b).is_ok());
+            })
+        };
+        let (x, y) = beside(plain, proved);
+        println!("| {name} | {} | {written} | {x:.0} | {y:.0} | {:.2} |", table.len(), y / x);
+    }
+}
+
 /// A later call on a window, in nanoseconds: values brought to a window that is full.
 fn window_values(size: usize, mut bring: impl FnMut(i64)) -> impl FnMut() -> f64 {
     let values: Vec<i64> = (0..4096u64).map(|i| (i.wrapping_mul(0x9e37_79b9_7f4a_7c15) >> 40) as i64).collect();
@@ -229,5 +262,6 @@ fn main() {
     judge_alternatives();
     call_without_tokens();
     run_segments();
+    house_order();
     windows();
 }

@@ -1,4 +1,5 @@
 //! The segment engine in plain Rust: what the proved engine is measured and compared with.
+pub mod house;
 pub mod judge;
 pub mod listing;
 pub mod program;
@@ -40,6 +41,9 @@ mod tests {
             assert!(check(&table).is_ok(), "{n}");
             let late = check(&samples::refused_late(n, third, conditions)).err().unwrap();
             assert_eq!((late.number, late.offset as usize), (13, table.len()));
+        }
+        for table in [samples::conditions(|i| i), samples::conditions(|i| 511 - i), samples::conditions(|_| 0)] {
+            assert!(check(&table).is_ok());
         }
         let longest = samples::longest_refused();
         assert_eq!((longest.len(), check(&longest).err().unwrap().number), (32768, 5));

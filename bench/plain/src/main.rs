@@ -54,6 +54,17 @@ fn main() {
                 writeln!(out, ".").unwrap();
                 continue;
             }
+            "house" => {
+                let mut buffer = vec![0xa5; number(2)];
+                match plain::house::house(&hex(w[1]), &mut buffer) {
+                    Ok(length) => write!(out, "written {length} | "),
+                    Err(r) => write!(out, "refused {} {} | ", r.number, r.offset),
+                }
+                .unwrap();
+                let bytes: String = buffer.iter().map(|b| format!("{b:02x}")).collect();
+                writeln!(out, "{}", if bytes.is_empty() { "-" } else { &bytes }).unwrap();
+                continue;
+            }
             "set" => {
                 record = Record {
                     open: w[1] == "open",

@@ -189,6 +189,17 @@ pub fn many_rules(symbols: u8, reversed: bool) -> Vec<u8> {
     t
 }
 
+/// One production with 512 conditions, the most there can be, with these lower bounds.
+pub fn conditions(low: impl Fn(i32) -> i32) -> Vec<u8> {
+    let mut t = start(&[]);
+    field(&mut t, 3, &[1, 3, 0, 1, 2]);
+    field(&mut t, 4, &[0, 2, 0, 0, 0, 0, 0]);
+    for low in (0..512).map(low) {
+        field(&mut t, 5, &[&[0, 0, 1], &(low - 512).to_be_bytes()[..], &[0, 0, 0, 9]].concat());
+    }
+    t
+}
+
 /// How many fields a table has.
 pub fn fields(table: &[u8]) -> usize {
     let (mut at, mut count) = (0, 0);

@@ -5,10 +5,12 @@ ghost use Rattle.meaning.specs.Decide.{verdictOf};
 ghost use Rattle.meaning.specs.Program.{programOf};
 ghost use Rattle.meaning.specs.PublicCalls.{opens, performs, feed, finish};
 ghost use Rattle.meaning.specs.PublicCalls.{stacksOf};
+ghost use Rattle.meaning.specs.House.{houseOf};
 ghost use Rattle.meaning.specs.Window.{opensWindow, bringsAnswer};
 ghost use Rattle.host_numbers.specs.Lent.{broughtIn, valueOf, PassedOn};
 ghost use Rattle.host_table.specs.Passed.{checked, Stretched};
 ghost use Rattle.host_table.specs.Listed.{listed, listedOf};
+ghost use Rattle.host_house.specs.Housed.{housed};
 ghost use Rattle.host_window.specs.Windows.{finishedAs, WindowPassedOn};
 
 // ---- calls on a table
@@ -50,6 +52,21 @@ pub extern "C" fn segment_list(
     ensures { λ r. ⌜ listed (now (out .exit)) (now (length .exit)) (now (over .exit)) (now (program .exit)) ≡ listedOf (now (table .entry)) (now (program .entry)) (now (out .entry)) ⌝ }
 {
     host_table::list(table, program, out, length, over);
+}
+
+// An accepted table in house order, in the lent buffer, and its length; number and offset are then 0. On a refusal these are the
+// refusal's (36 and 0 where the buffer is too short), the length is 0, and not a byte of the buffer changes.
+#[no_mangle]
+pub extern "C" fn segment_house(
+    table: &[u8],
+    out: &mut [u8],
+    length: &mut usize,
+    number: &mut u32,
+    offset: &mut u32,
+)
+    ensures { λ r. ⌜ housed (now (length .exit)) (now (number .exit)) (now (offset .exit)) (now (out .exit)) (houseOf (now (table .entry)) (now (out .entry))) ⌝ }
+{
+    host_house::write(table, out, length, number, offset);
 }
 
 // ---- calls on a run

@@ -1,8 +1,9 @@
 //! Compares the proved engine, through the host library, with the plain one on random calls: valid and damaged tables, segments in any
 //! pieces, forged records and stacks, short memory. After each call the answer, the record and every register, place and program word
-//! are compared, with some cells past those lent. So are the calls on windows (`windows`).
+//! are compared, with some cells past those lent. So are tables in house order (`house`) and the calls on windows (`windows`).
 //!
 //!     differential [SEED [CALLS]]
+mod house;
 mod pair;
 mod random;
 mod segments;
@@ -62,7 +63,10 @@ impl Comparison {
     }
 
     fn table(&mut self) -> Table {
-        let table = self.sound_table();
+        let mut table = self.sound_table();
+        if self.r.chance(30) {
+            table = Table::new(tables::shuffled(&mut self.r, &table.bytes));
+        }
         if self.r.chance(12) {
             return Table::new(tables::damaged(&mut self.r, &table.bytes));
         }
@@ -93,6 +97,8 @@ impl Comparison {
         if plain != proved {
             return Err(format!("stretch of {production}: proved {proved:?}, plain {plain:?}\ntable {}", hex(table)));
         }
+        let number = house::compared(&mut self.r, table)?;
+        self.count("house", number);
         Ok(())
     }
 
@@ -197,7 +203,7 @@ impl Comparison {
     /// The numbers of 01 and 02 that no call was refused with.
     fn missing(&self) -> Vec<u32> {
         let seen = |n: &u32| self.answers.keys().any(|(_, number)| number == n);
-        (1..=14).chain(20..=24).chain(30..=35).chain([38, 42]).filter(|n| !seen(n)).collect()
+        (1..=14).chain(20..=24).chain(30..=35).chain([36, 38, 42]).filter(|n| !seen(n)).collect()
     }
 }
 

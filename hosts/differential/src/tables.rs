@@ -160,7 +160,7 @@ fn fields(r: &mut Random) -> Vec<Field> {
                 found.push(range([0, 1], 3 * i as i32, 3 * i as i32 + 2));
             }
             let readable = inputs(&counts, symbol, &right, right.len() + 1);
-            if !readable.is_empty() && r.chance(20) {
+            while !readable.is_empty() && r.chance(20) {
                 found.push(condition(r, &readable));
             }
         }
@@ -185,6 +185,28 @@ fn taken_apart(table: &[u8]) -> Vec<Field> {
         at = end;
     }
     found
+}
+
+/// The table with the rules and conditions of each production in another order, and conditions said twice. Where the table is accepted this
+/// one is too, unless it is then too long or has too many conditions.
+pub fn shuffled(r: &mut Random, table: &[u8]) -> Vec<u8> {
+    let mut fields = Vec::new();
+    let mut first = 0;
+    for field in taken_apart(table) {
+        let (condition, at) = (field.0 == 5, fields.len());
+        if !matches!(field.0, 4 | 5) {
+            first = at + 1;
+        }
+        fields.push(field.clone());
+        if condition && r.chance(30) {
+            fields.push(field);
+        }
+        for i in at.max(first)..fields.len() {
+            let j = first + r.below(i + 1 - first);
+            fields.swap(i, j);
+        }
+    }
+    written(&fields)
 }
 
 /// The table with one field dropped, doubled, moved, or changed.

@@ -65,6 +65,16 @@ extern "C" {
         over: &mut u32,
     );
 
+    fn segment_house(
+        table: *const u8,
+        table_length: usize,
+        out: *mut u8,
+        out_length: usize,
+        length: &mut usize,
+        number: &mut u32,
+        offset: &mut u32,
+    );
+
     fn segment_open(
         table: *const u8,
         table_length: usize,
@@ -151,6 +161,18 @@ pub fn list(table: &[u8], program: &mut [u32], out: &mut [u8]) -> (usize, bool) 
     // SAFETY: as in `check`; the area and the bytes are lent exclusively.
     unsafe { segment_list(table.as_ptr(), table.len(), p, program.len(), o, out.len(), &mut length, &mut over) };
     (length, over == 1)
+}
+
+/// An accepted table in house order, into the first bytes of `out`: how many. On a refusal no byte of `out` is written. What is written is
+/// never longer than the table.
+///
+/// # Errors
+/// 1 to 13: the table is refused. 36: `out` is too short.
+pub fn house(table: &[u8], out: &mut [u8]) -> Result<usize, Refusal> {
+    let (mut length, mut number, mut offset) = (0, 0, 0);
+    // SAFETY: as in `check`; the bytes are lent exclusively.
+    unsafe { segment_house(table.as_ptr(), table.len(), out.as_mut_ptr(), out.len(), &mut length, &mut number, &mut offset) };
+    answered(number, offset.into()).map(|_| length)
 }
 
 /// Calls a function on a run: the table, the record and the lent memory, which all of them take, then what it takes beside.

@@ -30,5 +30,5 @@ pub mod window;
 pub use lent::check;
 pub use refusal::{Kind, Refusal};
 pub use run::{Run, MOVES};
-pub use table::{listing, stretch, sum, NotTable, Table};
+pub use table::{house_order, listing, stretch, sum, NotTable, Table};
 pub use window::{Standing, Window};

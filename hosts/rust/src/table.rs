@@ -67,6 +67,23 @@ impl Table {
         listing(&self.bytes)
     }
 
+    /// The table in house order: productions as they stand, each followed by its rules by the occurrence they set, then its conditions by
+    /// their bytes, each once. Tables that differ only in that come out alike, and every segment keeps its value or refusal.
+    ///
+    /// ```
+    /// # let bytes = include_bytes!(concat!(env!("CARGO_MANIFEST_DIR"), "/../../grammars/words.table"));
+    /// let table = segment::Table::new(*bytes)?;
+    /// let house = table.house_order();
+    /// assert_eq!(house.house_order(), house);
+    /// assert_eq!(house.run().evaluate(&[0, 1, 0, 2]), table.run().evaluate(&[0, 1, 0, 2]));
+    /// # Ok::<(), segment::Refusal>(())
+    /// ```
+    #[must_use]
+    pub fn house_order(&self) -> Table {
+        let bytes = house_order(&self.bytes).expect("the table is accepted");
+        Table { bytes }
+    }
+
     /// The table's sum: 64 bits that a changed table has only by a rare chance (FNV-1a). `grammar header` writes it beside the names of a
     /// grammar, so that a host can see that names and table belong together.
     #[must_use]
@@ -123,6 +140,17 @@ pub const fn sum(table: &[u8]) -> u64 {
         i += 1;
     }
     sum
+}
+
+/// An accepted table in house order: see [`Table::house_order`].
+///
+/// # Errors
+/// 1 to 13: the table is refused.
+pub fn house_order(table: &[u8]) -> Result<Vec<u8>, Refusal> {
+    let mut out = vec![0; table.len()];
+    let length = lent::house(table, &mut out)?;
+    out.truncate(length);
+    Ok(out)
 }
 
 /// A production's stretch of an accepted table: from its own field to the next production, or to the end.

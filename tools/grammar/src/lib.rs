@@ -14,6 +14,7 @@ mod parse;
 pub mod print;
 pub mod resolve;
 pub mod run;
+pub mod same;
 pub mod slips;
 pub mod source;
 pub mod stacks;

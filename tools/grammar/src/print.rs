@@ -16,12 +16,14 @@ pub fn text(g: &Grammar) -> String {
     lines.join("\n") + "\n"
 }
 
-fn token(name: &str, carried: &Option<String>) -> String {
+/// A token's line.
+pub fn token(name: &str, carried: &Option<String>) -> String {
     let carried = carried.as_ref().map_or(String::new(), |attribute| format!(" -> {attribute}"));
     format!("token {name}{carried}")
 }
 
-fn part(p: &Part) -> String {
+/// A part's line.
+pub fn part(p: &Part) -> String {
     let takes = if p.takes.is_empty() { String::new() } else { format!("({})", p.takes.join(", ")) };
     let gives = if p.gives.is_empty() { String::new() } else { format!(" -> {}", p.gives.join(", ")) };
     format!("part {}{takes}{gives}", p.name)

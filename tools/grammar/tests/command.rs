@@ -151,7 +151,7 @@ fn examples_are_tested() {
 
 #[test]
 fn layout() {
-    for name in ["words", "lengths", "clause", "sheet"] {
+    for name in ["words", "agency", "lengths", "clause", "sheet"] {
         assert_answer(grammar(&["fmt", "--check", &shipped_file(name)]), 0, "", "");
     }
     let wild =

@@ -44,6 +44,11 @@ fn depth_and_allowance() {
 }
 
 #[test]
+fn words_of_another_agency() {
+    run_examples("agency", 3);
+}
+
+#[test]
 fn words_is_the_table_of_the_specification() {
     let (_, built) = read("words");
     assert_eq!(built.table.bytes().len(), 136);

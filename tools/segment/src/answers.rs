@@ -67,6 +67,18 @@ impl<T: Copy + Into<i64>> Display for Cells<'_, T> {
     }
 }
 
+/// Bytes in hex; `-` where there are none.
+pub struct Bytes<'a>(pub &'a [u8]);
+
+impl Display for Bytes<'_> {
+    fn fmt(&self, f: &mut Formatter) -> fmt::Result {
+        if self.0.is_empty() {
+            return write!(f, "-");
+        }
+        self.0.iter().try_for_each(|byte| write!(f, "{byte:02x}"))
+    }
+}
+
 /// The line of a call on a run: `ANSWER | RECORD | REGISTERS | PLACES`.
 pub fn call_line(out: &mut dyn Write, answer: &Answer, record: &Record, registers: &[i64], places: &[u32]) -> io::Result<()> {
     writeln!(out, "{answer} | {} | {} | {}", Recorded(record), Cells(registers), Cells(places))

@@ -30,6 +30,7 @@ Bytes are hex digits, `-` for none; numbers are decimal. A line that begins with
   check TABLE                     the verdict on a table
   stretch TABLE P                 where production P stands in the table
   list TABLE                      the listing, then a line `.`
+  house TABLE NOUT                the table in house order, into NOUT bytes
   open TABLE NREGS NPLACES NPROG  lends stacks and opens a run
   feed TABLE TOKENS NPROG         feeds tokens to the run, each with the value 0
   feedv TABLE KINDS VALUES NPROG  feeds tokens with their values

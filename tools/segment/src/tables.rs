@@ -1,14 +1,14 @@
-//! The commands about a table: `check`, `stretch`, `list` and `table`.
-use crate::answers::Answer;
+//! The commands about a table: `check`, `stretch`, `list`, `house` and `table`.
+use crate::answers::{Answer, Bytes};
 use crate::session::{Command, Session};
-use crate::words::{bytes, Bad, Fault, Words};
+use crate::words::{bytes, Bad, Fault, Words, AREA};
 use engine::lent::{self, PROGRAM};
 use std::ffi::OsStr;
 use std::fs::File;
 use std::io::{self, Read, Write};
 use std::os::unix::ffi::OsStrExt;
 
-pub const COMMANDS: &[(&str, Command)] = &[("check", check), ("stretch", stretch), ("list", list), ("table", table)];
+pub const COMMANDS: &[(&str, Command)] = &[("check", check), ("stretch", stretch), ("list", list), ("house", house), ("table", table)];
 
 /// One byte more than a table may have: whatever is longer is refused by its length like any other.
 const TABLE: u64 = 32769;
@@ -47,6 +47,20 @@ fn list(session: &mut Session, words: Words, out: &mut dyn Write) -> Result<(), 
     assert!(over, "a listing has at most {LISTING} bytes");
     out.write_all(&listing[..length])?;
     Ok(writeln!(out, ".")?)
+}
+
+/// What fresh bytes hold before a table is written into them.
+const BYTE: u8 = 0xa5;
+
+/// `house TABLE NOUT`
+fn house(session: &mut Session, words: Words, out: &mut dyn Write) -> Result<(), Fault> {
+    words.at_most(2)?;
+    let mut buffer = vec![BYTE; words.size(2, AREA)?];
+    match lent::house(&session.table(words, 1)?, &mut buffer) {
+        Ok(length) => write!(out, "written {length}")?,
+        Err(refusal) => write!(out, "{}", Answer::Refused(refusal))?,
+    }
+    Ok(writeln!(out, " | {}", Bytes(&buffer))?)
 }
 
 /// `table NAME FILE`: from now on NAME stands for the bytes of the file. FILE is the rest of the line.

@@ -8,7 +8,7 @@ const NUMBERS: u64 = 10_000_000_000_000_000_000;
 /// How many cells of each stack can be lent.
 pub const CELLS: usize = 8192;
 
-/// How many words of a program area can be lent.
+/// How many words of a program area, and how many bytes to write a table into, can be lent.
 pub const AREA: usize = 65536;
 
 /// A line that is no command: its answer, and the word that is wrong.

@@ -2,6 +2,7 @@
 use super::{misused, Args, Command, Outcome, Trouble};
 use crate::suggest::counted;
 use crate::{cost, examples, fmt, header, list, to_table, to_text, Built};
+use segment::Table;
 use std::ffi::OsStr;
 use std::io::{Read, Write};
 
@@ -45,11 +46,15 @@ pub fn read(file: &OsStr) -> Result<Vec<u8>, Trouble> {
     read.map_err(|e| Trouble::Failed(format!("{}: {e}", shown(file))))
 }
 
-/// A grammar's text.
-pub fn read_text(file: &OsStr) -> Result<String, Trouble> {
+/// Whether some bytes begin as a table does.
+pub fn is_table(bytes: &[u8]) -> bool {
+    bytes.starts_with(&[1, 0, 4])
+}
+
+/// A grammar's text, by a file's bytes.
+pub fn text_of(file: &OsStr, bytes: Vec<u8>) -> Result<String, Trouble> {
     let name = shown(file);
-    let bytes = read(file)?;
-    if bytes.starts_with(&[1, 0, 4]) {
+    if is_table(&bytes) {
         return Err(Trouble::Refused(format!("{name}: this looks like a table; `grammar text` writes its text")));
     }
     let text = String::from_utf8(bytes).map_err(|e| {
@@ -60,12 +65,18 @@ pub fn read_text(file: &OsStr) -> Result<String, Trouble> {
     Ok(text.trim_start_matches('\u{feff}').into())
 }
 
+fn read_text(file: &OsStr) -> Result<String, Trouble> {
+    text_of(file, read(file)?)
+}
+
+pub fn build_text(file: &OsStr, text: &str) -> Result<Built, Trouble> {
+    to_table(text).map_err(|faults| Trouble::Refused(faults.show(&shown(file), text)))
+}
+
 pub fn build(file: &OsStr) -> Result<(String, Built), Trouble> {
     let text = read_text(file)?;
-    match to_table(&text) {
-        Ok(built) => Ok((text, built)),
-        Err(faults) => Err(Trouble::Refused(faults.show(&shown(file), &text))),
-    }
+    let built = build_text(file, &text)?;
+    Ok((text, built))
 }
 
 /// Does something with each file, and goes on where one is refused.
@@ -100,18 +111,23 @@ fn is_same(a: &OsStr, b: &OsStr) -> bool {
     matches!((std::fs::canonicalize(a), std::fs::canonicalize(b)), (Ok(a), Ok(b)) if a == b)
 }
 
-fn table(mut args: Args, out: &mut dyn Write) -> Outcome {
+/// Writes the table made of a file: to the file that `-o` names, or to standard output.
+pub fn write_table(mut args: Args, out: &mut dyn Write, make: impl Fn(&OsStr) -> Result<Table, Trouble>) -> Outcome {
     let file = args.take()?;
     args.end()?;
     let to = args.value("-o");
     if let Some(to) = to.filter(|to| is_same(&file, to)) {
         return Err(Trouble::Failed(format!("{}: the table would overwrite the grammar; name another file", shown(to))));
     }
-    let (_, built) = build(&file)?;
+    let table = make(&file)?;
     match to {
-        Some(to) => std::fs::write(to, built.table.bytes()).map_err(|e| Trouble::Failed(format!("{}: {e}", shown(to)))),
-        None => Ok(out.write_all(built.table.bytes())?),
+        Some(to) => std::fs::write(to, table.bytes()).map_err(|e| Trouble::Failed(format!("{}: {e}", shown(to)))),
+        None => Ok(out.write_all(table.bytes())?),
     }
+}
+
+fn table(args: Args, out: &mut dyn Write) -> Outcome {
+    write_table(args, out, |file| Ok(build(file)?.1.table))
 }
 
 fn text(mut args: Args, out: &mut dyn Write) -> Outcome {

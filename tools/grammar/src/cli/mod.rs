@@ -3,6 +3,7 @@ mod args;
 mod batch;
 mod class;
 mod files;
+mod house;
 mod segments;
 
 pub use args::Args;
@@ -42,7 +43,7 @@ struct Command {
     run: fn(Args, &mut dyn Write) -> Outcome,
 }
 
-const COMMANDS: &[&[Command]] = &[files::COMMANDS, segments::COMMANDS, class::COMMANDS];
+const COMMANDS: &[&[Command]] = &[files::COMMANDS, house::COMMANDS, segments::COMMANDS, class::COMMANDS];
 
 fn commands() -> impl Iterator<Item = &'static Command> {
     COMMANDS.iter().copied().flatten()

@@ -1,0 +1,5 @@
+pub mod Parts
+pub mod Comparing
+pub mod Gap
+pub mod Searching
+pub mod Inserting

@@ -1,0 +1,89 @@
+-- An accepted table is ready to be written, and what the writer answers.
+use Prim.Native.Nat.{ℕ, _≤_, _<_}
+use native.Mathlib.Omega.{arith}
+use mathlib.Core.Path.{_≡_, sym, ap, subst, _∙_}
+use mathlib.Core.List.{List, _++_, map, reverse}
+use lib.ListN.{length, getD, take, length-map, length-reverse}
+use lib.Seq.{length-take-le, getD-take, ext-getD}
+use Rattle.meaning.specs.Table.{State, Entry, noEntry}
+use Rattle.meaning.specs.Layout.{Bytes}
+use Rattle.meaning.specs.PublicCalls.{usable, check}
+use Rattle.meaning.specs.House.{writing, houseOf}
+use Rattle.theory_base.specs.Members.{map-at}
+use Rattle.theory_table.specs.Reading.{table-reads}
+use Rattle.theory_order.specs.Planning.{Planned, copied, TablePlan, table-plan}
+use Rattle.theory_order.specs.Proved.{house-unusable, house-usable}
+use Rattle.table.specs.declared.Sizes.{Sizes}
+use Rattle.checker.specs.Judging.{Brought, Judges}
+use Rattle.checker.proofs.Cases.{accepted-case, refused-case}
+use Rattle.checker.specs.declared.judging.Judged.{Judged}
+use Rattle.checker.specs.declared.judging.Judged.the-variants.{Usable, Unusable}
+use Rattle.house.specs.Answers.{houseIs, Ready, Writes}
+use Rattle.house.specs.declared.Written.{Written}
+use Rattle.house.specs.declared.Written.the-variants as Variant
+
+-- ---- an accepted table is
+
+module _ (t inherited synthesized rows offsets sets : List ℕ) (s : State) (sizes : Sizes) (bytes : Bytes t) (b : Brought t s sizes inherited synthesized rows offsets sets) where
+  abbrev es : List Entry
+  es = reverse (s .entries)
+
+  many : sizes .productions ≡ length es
+  many = b .outline .productions ∙ sym (length-reverse (s .entries))
+
+  plan-of : TablePlan t s
+  plan-of = table-plan t s bytes (b .isRead)
+
+  listed : sizes .productions ≤ length offsets
+  listed = omega (arith, b .outline .lengths, b .outline .productions, plan-of .some)
+
+  -- the offsets in the outline are those of the productions
+  offsets-are : take (sizes .productions) offsets ≡ map (λ e. e .offset) es
+  offsets-are =
+      ext-getD 0 (take (sizes .productions) offsets) (map (λ e. e .offset) es)
+      (length-take-le (sizes .productions) offsets listed ∙ (many ∙ sym (length-map es (λ e. e .offset))))
+      (λ i l.
+      let m : i < sizes .productions = omega (arith, length-take-le (sizes .productions) offsets listed) in
+      getD-take (sizes .productions) offsets i 0 m ∙ (b .outline .each i m .offset ∙ sym (map-at (λ e. e .offset) es i noEntry 0 (omega (arith, many)))))
+
+  first-is : getD (map (λ e. e .offset) es) 0 0 ≡ getD offsets 0 0
+  first-is = ap (λ l. getD l 0 0) (sym offsets-are) ∙ getD-take (sizes .productions) offsets 0 0 (omega (arith, plan-of .some .0, b .outline .productions))
+
+  pub brought-ready : (size : ℕ) → size ≡ 1664 → Ready t offsets (sizes .productions) size
+  brought-ready size e = record {
+    plan = plan-of .plan;
+    room = plan-of .room;
+    planned = subst (λ l. Planned t l (plan-of .plan) (plan-of .room)) (sym offsets-are) (plan-of .planned);
+    fits = omega (arith, plan-of .few);
+    small = omega arith;
+    some = omega (arith, plan-of .some .0, b .outline .productions);
+    listed = listed;
+    inside = omega (arith, plan-of .inside, first-is);
+    short = table-reads t s (b .isRead) .0;
+  }
+
+  pub brought-writes : (size : ℕ) (e : size ≡ 1664) (out out′ : List ℕ) (w : Written) → check t ≡ usable s → Writes t offsets (sizes .productions) size out out′ w → houseIs w out′ ≡ houseOf t out
+  unfolding brought-ready
+  brought-writes size e out out′ w u h =
+      h (brought-ready size e)
+      ∙ (ap (λ z. writing z out) (ap (λ k. take k t ++ copied t (plan-of .plan)) (sym first-is) ∙ plan-of .bytes) ∙ sym (house-usable t s out u))
+
+-- ---- the answers
+
+module _ (t inherited synthesized rows offsets sets : List ℕ) (q : Judged) (j : Judges t inherited synthesized rows offsets sets q) where
+  pub answer-refused : (n o : ℕ) → q ≡ Unusable n o → (out : List ℕ) → houseIs (Variant.Unusable n o) out ≡ houseOf t out
+  answer-refused n o e out = sym (house-unusable t n o out (refused-case t inherited synthesized rows offsets sets q j n o e))
+
+  pub answer-offsets : (sizes : Sizes) → q ≡ Usable sizes → 128 ≡ length offsets
+  answer-offsets sizes e = sym (accepted-case t inherited synthesized rows offsets sets q j sizes e .brought .outline .lengths .3)
+
+  module _ (bytes : Bytes t) (sizes : Sizes) (e : q ≡ Usable sizes) (size : ℕ) (k : size ≡ 1664) where
+    pub answer-ready : Ready t offsets (sizes .productions) size
+    answer-ready =
+        let x = accepted-case t inherited synthesized rows offsets sets q j sizes e in
+        brought-ready t inherited synthesized rows offsets sets (x .state) sizes bytes (x .brought) size k
+
+    pub answer-written : (out out′ : List ℕ) (w : Written) → Writes t offsets (sizes .productions) size out out′ w → houseIs w out′ ≡ houseOf t out
+    answer-written out out′ w h =
+        let x = accepted-case t inherited synthesized rows offsets sets q j sizes e in
+        brought-writes t inherited synthesized rows offsets sets (x .state) sizes bytes (x .brought) size k out out′ w (x .isUsable) h

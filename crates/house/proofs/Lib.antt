@@ -1,0 +1,4 @@
+pub mod Planning
+pub mod Writing
+pub mod Finishing
+pub mod Answering

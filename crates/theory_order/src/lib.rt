@@ -1,0 +1,1 @@
+// House order for tables, proved over the definitions of `meaning`; no code.
