@@ -57,7 +57,8 @@ pub fn statement(line: &[Lexeme]) -> Result<Statement, Fault> {
     let mut c = Cursor { line, at: 0 };
     c.is_meant()?;
     let found = match &line[0].kind {
-        Kind::Name(w) if w == "token" => c.tokens(),
+        Kind::Name(w) if w == "token" => c.tokens("->"),
+        Kind::Name(w) if w == "terminal" && c.second_is_name() => c.tokens(":"),
         Kind::Name(w) if w == "part" => c.part(),
         Kind::Name(w) if w == "start" => c.start(),
         Kind::Name(_) if c.second_is(":") => c.production(),
@@ -93,7 +94,7 @@ impl Cursor<'_> {
         let [Lexeme { kind: Kind::Name(first), span }, second, ..] = self.line else { return Ok(()) };
         let declares = ["token", "part", "start"];
         let is_name = matches!(second.kind, Kind::Name(_));
-        if is_name && !declares.contains(&first.as_str()) {
+        if is_name && first != "terminal" && !declares.contains(&first.as_str()) {
             if let Some(word) = nearest(first, declares) {
                 return fault(*span, format!("`{first}` begins no line; did you mean `{word}`, in small letters?"));
             }
@@ -128,6 +129,10 @@ impl Cursor<'_> {
 
     fn second_is(&self, mark: &str) -> bool {
         matches!(self.line.get(1), Some(Lexeme { kind: Kind::Mark(m), .. }) if *m == mark)
+    }
+
+    fn second_is_name(&self) -> bool {
+        matches!(self.line.get(1), Some(Lexeme { kind: Kind::Name(_), .. }))
     }
 
     fn is_word(&self, word: &str) -> bool {
@@ -192,13 +197,14 @@ impl Cursor<'_> {
         Ok(found)
     }
 
-    fn tokens(&mut self) -> Result<Statement, Fault> {
+    /// `token word -> length`, or in 01's word `terminal word : length`.
+    fn tokens(&mut self, mark: &str) -> Result<Statement, Fault> {
         self.at += 1;
         let mut names = vec![self.name("the name of a token")?];
-        while self.kind().is_some() && !self.is("->") {
+        while self.kind().is_some() && !self.is(mark) {
             names.push(self.name("the name of a token")?);
         }
-        let carried = if self.skip("->") { Some(self.name("the name of an attribute")?) } else { None };
+        let carried = if self.skip(mark) { Some(self.name("the name of an attribute")?) } else { None };
         Ok(Statement::Tokens { names, carried })
     }
 

@@ -126,3 +126,13 @@ fn strictly_less() {
         assert_eq!(answer, if a < b { Ok(i64::from(b) + 1) } else { Err(22) }, "{a} {b}");
     }
 }
+
+/// 01's word for a token is taken too.
+#[test]
+fn a_terminal_with_its_value() {
+    let text = shipped("lengths");
+    let other = text.replace("token word -> length", "terminal word : length");
+    assert_ne!(text, other);
+    let table = |text: &str| to_table(text).expect("a grammar").table;
+    assert_eq!(table(&other), table(&text));
+}
