@@ -1,6 +1,7 @@
 //! Tables and segments to measure with.
 
-fn field(table: &mut Vec<u8>, tag: u8, body: &[u8]) {
+/// Adds a field to a table.
+pub fn field(table: &mut Vec<u8>, tag: u8, body: &[u8]) {
     table.extend([tag, (body.len() / 256) as u8, (body.len() % 256) as u8]);
     table.extend(body);
 }

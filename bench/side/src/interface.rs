@@ -1,0 +1,12 @@
+//! The functions of hosts/c/segment.h that are measured, as types.
+
+/// The run record.
+#[repr(C)]
+#[derive(Clone, Copy, Debug, Default, PartialEq, Eq)]
+pub struct Record {
+    pub open: u64,
+    pub tokens: u64,
+    pub moves: u64,
+    pub registers: u64,
+    pub places: u64,
+}
