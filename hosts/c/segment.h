@@ -81,11 +81,14 @@ enum segment_number {
 
 /* The run record. Each call on a run takes it and hands the next one back in its place. */
 typedef struct {
-    uint64_t open;      /* 0 closed, otherwise open; handed back as 0 or 1 */
-    uint64_t tokens;    /* tokens read */
-    uint64_t moves;     /* moves made since opening */
-    uint64_t registers; /* height of the register stack */
-    uint64_t places;    /* height of the place stack */
+    uint64_t open;          /* 0 closed, 2 waiting, otherwise open; handed back as 0, 1 or 2 */
+    uint64_t tokens;        /* tokens read */
+    uint64_t moves;         /* moves made since opening */
+    uint64_t registers;     /* height of the register stack */
+    uint64_t places;        /* height of the place stack */
+    uint64_t kind;          /* 1 inner, otherwise outer; handed back as 0 or 1 */
+    uint64_t register_base; /* register height where an inner run begins, or 0 */
+    uint64_t place_base;    /* place height where an inner run begins, or 0 */
 } segment_record;
 
 /* The verdict on a table: *number and *offset of its refusal, or 0 and 0 where it is accepted. */

@@ -133,9 +133,10 @@ class Refusal(Exception):
 
 
 class Record(ctypes.Structure):
-    """The run record: open, tokens, moves and both heights."""
+    """The run record: open, tokens, moves, both heights, the kind of run and where an inner one begins."""
 
-    _fields_ = [(name, ctypes.c_uint64) for name in ("open", "tokens", "moves", "registers", "places")]
+    _names = ("open", "tokens", "moves", "registers", "places", "kind", "register_base", "place_base")
+    _fields_ = [(name, ctypes.c_uint64) for name in _names]
 
 
 _library = None

@@ -77,14 +77,21 @@ fn in_proved(table: &[u8], record: &mut lent::Record, m: &mut Memory, call: Call
 }
 
 fn in_plain(table: &[u8], record: &mut lent::Record, m: Memory, call: Call) -> Answered {
-    let lent::Record { open, tokens, moves, registers, places } = *record;
+    let lent::Record { open, tokens, moves, registers, places, .. } = *record;
     let brought = run::Record { open: open != 0, tokens, moves, registers, places };
     let (r, answer) = match call {
         Call::Open => run::open(table, m.registers, m.places, m.program),
         Call::Feed(kinds, values) => run::feed(table, brought, m.registers, m.places, m.program, (kinds, values)),
         Call::Finish => run::finish(table, brought, m.registers, m.places, m.program),
     };
-    *record = lent::Record { open: r.open as u64, tokens: r.tokens, moves: r.moves, registers: r.registers, places: r.places };
+    *record = lent::Record {
+        open: r.open as u64,
+        tokens: r.tokens,
+        moves: r.moves,
+        registers: r.registers,
+        places: r.places,
+        ..lent::Record::default()
+    };
     match answer {
         Answer::Opened => (0, 0, 0),
         Answer::More(moves) => (0, 0, moves),
@@ -178,7 +185,14 @@ impl Pair {
 
     fn forge_all(&mut self, r: &mut Random) {
         let mut number = || r.number() >> (8 * (r.number() % 8));
-        self.record = lent::Record { open: number(), tokens: number(), moves: number(), registers: number(), places: number() };
+        self.record = lent::Record {
+            open: number(),
+            tokens: number(),
+            moves: number(),
+            registers: number(),
+            places: number(),
+            ..lent::Record::default()
+        };
         for v in self.cells.registers.iter_mut().take(8) {
             *v = number() as i64;
         }

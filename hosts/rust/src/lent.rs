@@ -14,11 +14,11 @@ pub const LINE: usize = 64;
 /// What a register without a value holds.
 pub const MARK: i64 = i64::MIN;
 
-/// The run record, as five numbers.
+/// The run record, as eight numbers.
 #[repr(C)]
 #[derive(Clone, Copy, Debug, Default, PartialEq, Eq)]
 pub struct Record {
-    /// 0 for a closed run; a run that is open is handed back with 1.
+    /// 0 for a closed run, 2 for one that waits; a run that is open is handed back with 1.
     pub open: u64,
     /// The tokens read.
     pub tokens: u64,
@@ -28,6 +28,12 @@ pub struct Record {
     pub registers: u64,
     /// The height of the place stack.
     pub places: u64,
+    /// 1 for an inner run, otherwise 0.
+    pub kind: u64,
+    /// The register height where an inner run begins, otherwise 0.
+    pub register_base: u64,
+    /// The place height where an inner run begins, otherwise 0.
+    pub place_base: u64,
 }
 
 /// The memory of a run, lent to each call.
