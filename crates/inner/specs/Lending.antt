@@ -21,10 +21,10 @@ use Rattle.theory_inner.specs.Calling.{belongs-is}
 use Rattle.engine.specs.declared.Called as Code
 use Rattle.engine.specs.declared.Record as Brought
 use Rattle.engine.specs.Records.{recordIs, answerIs, calledIs}
-use Rattle.inner.specs.declared.InnerCalled as Handed
-use Rattle.inner.specs.declared.Call as CodeCall
-use Rattle.inner.specs.declared.Call.the-variants.{Feed, Finish, GiveUp}
-use Rattle.inner.specs.Records.{innerCalledIs, callIs, apartBy, apartNumber, openedBy, openedFrom, wentOnFrom, endedFrom, endsBy}
+use Rattle.inner_records.specs.declared.InnerCalled as Handed
+use Rattle.inner_records.specs.declared.Call as CodeCall
+use Rattle.inner_records.specs.declared.Call.the-variants.{Feed, Finish, GiveUp}
+use Rattle.inner_records.specs.Records.{innerCalledIs, callIs, apartBy, apartNumber, openedBy, openedFrom, wentOnFrom, endedFrom, endsBy}
 
 -- ---- the cells
 

@@ -8,28 +8,15 @@ ghost use Rattle.meaning.specs.Inner as Inner;
 ghost use Rattle.meaning.specs.Inner.{giveUp, whenOuterFits, innerOpens, innerPerforms};
 ghost use Rattle.fit.specs.Shown.{Shown, Readable};
 ghost use Rattle.engine.specs.Records.{recordIs};
-ghost use Rattle.inner.specs.Records.{callIs, innerEffectIs};
+ghost use Rattle.inner_records.specs.Records.{callIs, innerEffectIs};
 ghost use Rattle.inner.specs.Beginning.{calledInside, openedInside};
 use engine::Answer;
 use engine::Begun;
 use engine::Record;
+use inner_records::Call;
+use inner_records::InnerCalled;
 
-mod records;
 mod stretch;
-
-// What an inner call hands back: both records and the answer.
-pub struct InnerCalled {
-    pub outer: Record,
-    pub inner: Record,
-    pub answer: Answer,
-}
-
-// The later calls on an inner run.
-pub enum Call {
-    Feed,
-    Finish,
-    GiveUp,
-}
 
 // ---- the opening
 
@@ -44,7 +31,7 @@ fn open_inside(
     ensures { λ r. ⌜ innerEffectIs r (now (registers .exit)) (now (places .exit)) (now (program .exit)) ≡ (let m = stacksOf (now (registers .entry)) (now (places .entry)) in calledInside (now (table .entry)) (now (program .entry)) (recordIs outer) closedRecord m (openedInside (recordIs outer) m)) ⌝ }
 {
     match engine::begin(table, program) {
-        Begun::Turned(answer) => records::not_opened(outer, answer),
+        Begun::Turned(answer) => inner_records::not_opened(outer, answer),
         Begun::Ready => stretch::open_above(outer, registers, places, program),
     }
 }
@@ -65,7 +52,7 @@ fn open_over(
 {
     let number = engine::lent::judge_cells(THIRD, registers, places, program, outer);
     if number != 0 {
-        return records::not_opened(outer, Answer::Refused { number, tokens: 0 });
+        return inner_records::not_opened(outer, Answer::Refused { number, tokens: 0 });
     }
     open_inside(outer, table, registers, places, program)
 }
@@ -82,7 +69,7 @@ pub fn open_inner(
     ensures { λ r. ⌜ innerEffectIs r (now (registers .exit)) (now (places .exit)) (now (program .exit)) ≡ innerOpens programOf (now («outer_table» .entry)) (now («inner_table» .entry)) (now (program .entry)) (recordIs outer) (stacksOf (now (registers .entry)) (now (places .entry))) ⌝ }
 {
     match engine::begin(outer_table, program) {
-        Begun::Turned(answer) => records::not_opened(outer, answer),
+        Begun::Turned(answer) => inner_records::not_opened(outer, answer),
         Begun::Ready => open_over(outer, inner_table, registers, places, program),
     }
 }

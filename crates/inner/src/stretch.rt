@@ -8,21 +8,21 @@ ghost use Rattle.meaning.specs.Inner.{engineCall, innerOpenOf, innerOf};
 ghost use Rattle.theory_program.specs.Addresses.{Begins};
 ghost use Rattle.fit.specs.Shown.{Shown, Readable};
 ghost use Rattle.engine.specs.Records.{recordIs, calledIs};
-ghost use Rattle.inner.specs.Records.{callIs, innerCalledIs};
+ghost use Rattle.inner_records.specs.Records.{callIs, innerCalledIs};
 ghost use Rattle.inner.specs.Lending.{stretchCalled};
-use crate::Call;
-use crate::InnerCalled;
-use crate::records::apart;
-use crate::records::changed;
-use crate::records::ended;
-use crate::records::ends;
-use crate::records::opened;
-use crate::records::went_on;
+use inner_records::apart;
+use inner_records::changed;
+use inner_records::ended;
+use inner_records::ends;
+use inner_records::opened;
+use inner_records::went_on;
 use engine::Answer;
 use engine::Called;
 use engine::Kind;
 use engine::Record;
 use engine::lent;
+use inner_records::Call;
+use inner_records::InnerCalled;
 
 // Where the stretch begins; past what is lent there is none.
 fn beginning(height: u64, lent: usize) -> usize

@@ -5,7 +5,7 @@ use Rattle.meaning.specs.PublicCalls.{stacksOf}
 use Rattle.engine.specs.Records.{recordIs}
 use Rattle.engine.specs.Beginning.{standing-shown, standing-readable}
 use Rattle.engine.proofs.Cases.{ready-case}
-use Rattle.inner.specs.Records.{innerEffectIs}
+use Rattle.inner_records.specs.Records.{innerEffectIs}
 use Rattle.inner.specs.Beginning.{openedOver, turned-call, standing-opens}
 use borrow.Author.Needs.{needs}
 use Rattle.inner.proofs.open_inner.Statement.{statement}

@@ -6,7 +6,7 @@ use Rattle.meaning.specs.Inner.{innerOpenOf}
 use Rattle.engine.specs.Records.{recordIs}
 use Rattle.engine.specs.Beginning.{standing-shown}
 use Rattle.engine.proofs.Cases.{area-long, ready-case}
-use Rattle.inner.specs.Records.{innerCalledIs, innerEffectIs}
+use Rattle.inner_records.specs.Records.{innerCalledIs, innerEffectIs}
 use Rattle.inner.specs.Beginning.{openedInside, turned-call, standing-call}
 use borrow.Author.Needs.{needs}
 use Rattle.inner.proofs.open_inside.Statement.{statement}

@@ -3,7 +3,7 @@ use denote.Ref.{now}
 use Rattle.meaning.specs.Calls.{closedRecord}
 use Rattle.meaning.specs.PublicCalls.{stacksOf}
 use Rattle.engine.specs.Records.{recordIs}
-use Rattle.inner.specs.Records.{innerEffectIs}
+use Rattle.inner_records.specs.Records.{innerEffectIs}
 use Rattle.inner.specs.Beginning.{calledInside, openedInside, over-turned, over-fits}
 use borrow.Author.Needs.{needs}
 use Rattle.inner.proofs.open_over.Statement.{statement}

@@ -4,7 +4,7 @@ use Rattle.meaning.specs.Inner.{innerEffect, innerOf}
 use Rattle.engine.specs.Records.{recordIs}
 use Rattle.engine.specs.Beginning.{standing-shown, standing-readable}
 use Rattle.engine.proofs.Cases.{ready-case}
-use Rattle.inner.specs.Records.{callIs, innerCalledIs}
+use Rattle.inner_records.specs.Records.{callIs, innerCalledIs}
 use Rattle.inner.specs.Beginning.{turned-call, standing-call}
 use borrow.Author.Needs.{needs}
 use Rattle.inner.proofs.perform.Statement.{statement}

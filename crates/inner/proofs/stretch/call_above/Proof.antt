@@ -2,7 +2,7 @@ use mathlib.Core.Path.{sym, _∙_}
 use denote.Ref.{now}
 use Rattle.meaning.specs.PublicCalls.{stacksOf}
 use Rattle.engine.specs.Records.{recordIs}
-use Rattle.inner.specs.Records.{callIs}
+use Rattle.inner_records.specs.Records.{callIs}
 use Rattle.inner.specs.Lending.{turned-is, call-is}
 use borrow.Author.Needs.{needs}
 use Rattle.inner.proofs.stretch.call_above.Statement.{statement}

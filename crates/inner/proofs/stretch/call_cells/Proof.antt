@@ -1,7 +1,7 @@
 use denote.Ref.{now}
 use Rattle.meaning.specs.PublicCalls.{stacksOf}
 use Rattle.engine.specs.Records.{recordIs, calledIs}
-use Rattle.inner.specs.declared.Call.the-variants.{Feed, Finish, GiveUp}
+use Rattle.inner_records.specs.declared.Call.the-variants.{Feed, Finish, GiveUp}
 use Rattle.inner.specs.Lending.{call-by}
 use borrow.Author.Needs.{needs}
 use Rattle.inner.proofs.stretch.call_cells.Statement.{statement}

@@ -3,7 +3,7 @@ use denote.Ref.{now}
 use Rattle.meaning.specs.PublicCalls.{stacksOf, callOf}
 use Rattle.meaning.specs.Inner.{alone, engineCall}
 use Rattle.engine.specs.Records.{recordIs}
-use Rattle.inner.specs.Records.{callIs}
+use Rattle.inner_records.specs.Records.{callIs}
 use Rattle.inner.specs.Lending.{clears, goes-on-is, ended-is}
 use borrow.Author.Needs.{needs}
 use Rattle.inner.proofs.stretch.call_stretch.Statement.{statement}

@@ -18,9 +18,9 @@ use Rattle.engine.specs.declared.Record.{Record}
 use Rattle.engine.specs.declared.Answer.{Answer}
 use Rattle.engine.specs.declared.Called.{Called}
 use Rattle.engine.specs.Records.{kindIs, recordIs, answerIs}
-use Rattle.inner.specs.declared.InnerCalled.{InnerCalled}
-use Rattle.inner.specs.declared.Call.{Call}
-use Rattle.inner.specs.declared.Call.the-variants.{Feed, Finish, GiveUp}
+use Rattle.inner_records.specs.declared.InnerCalled.{InnerCalled}
+use Rattle.inner_records.specs.declared.Call.{Call}
+use Rattle.inner_records.specs.declared.Call.the-variants.{Feed, Finish, GiveUp}
 
 -- what a call answers, and the stacks that it leaves
 abbrev pub innerCalledIs : InnerCalled → List ℤ → List ℕ → Inner.InnerCalled

@@ -1,10 +1,10 @@
 use mathlib.Core.Path.{refl, sym, _∙_}
 use borrow.Author.Tests.{not-true, not-false}
 use Rattle.engine.specs.Records.{recordIs}
-use Rattle.inner.specs.Records.{belongs-by}
+use Rattle.inner_records.specs.Records.{belongs-by}
 use borrow.Author.Needs.{needs}
-use Rattle.inner.proofs.records.belongs.Statement.{statement}
-use Rattle.inner.proofs.records.belongs.Tie as tie
+use Rattle.inner_records.proofs.belongs.Statement.{statement}
+use Rattle.inner_records.proofs.belongs.Tie as tie
 
 is-waiting-requires : tie.Need-is-waiting-requires
 is-waiting-requires c κs = search needs

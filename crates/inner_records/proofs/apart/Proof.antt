@@ -1,9 +1,9 @@
 use mathlib.Core.Path.{sym, _∙_}
 use Rattle.engine.specs.Records.{recordIs}
-use Rattle.inner.specs.Records.{apart-by}
+use Rattle.inner_records.specs.Records.{apart-by}
 use borrow.Author.Needs.{needs}
-use Rattle.inner.proofs.records.apart.Statement.{statement}
-use Rattle.inner.proofs.records.apart.Tie as tie
+use Rattle.inner_records.proofs.apart.Statement.{statement}
+use Rattle.inner_records.proofs.apart.Tie as tie
 
 is-closed-requires : tie.Need-is-closed-requires
 is-closed-requires c κs = search needs

@@ -1,7 +1,7 @@
 use mathlib.Core.Path.{ap}
 use borrow.Author.Needs.{needs}
-use Rattle.inner.proofs.records.went_on.Statement.{statement}
-use Rattle.inner.proofs.records.went_on.Tie as tie
+use Rattle.inner_records.proofs.went_on.Statement.{statement}
+use Rattle.inner_records.proofs.went_on.Tie as tie
 
 changed-requires : tie.Need-changed-requires
 changed-requires c κs = search needs

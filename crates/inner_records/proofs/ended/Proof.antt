@@ -1,7 +1,7 @@
 use mathlib.Core.Path.{ap₂}
 use borrow.Author.Needs.{needs}
-use Rattle.inner.proofs.records.ended.Statement.{statement}
-use Rattle.inner.proofs.records.ended.Tie as tie
+use Rattle.inner_records.proofs.ended.Statement.{statement}
+use Rattle.inner_records.proofs.ended.Tie as tie
 
 changed-requires : tie.Need-changed-requires
 changed-requires c κs = search needs

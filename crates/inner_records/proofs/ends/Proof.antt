@@ -1,9 +1,9 @@
 use mathlib.Core.Path.{sym, ap, _∙_}
 use mathlib.Core.Bool.{not}
-use Rattle.inner.specs.Records.{endsBy}
+use Rattle.inner_records.specs.Records.{endsBy}
 use borrow.Author.Needs.{needs}
-use Rattle.inner.proofs.records.ends.Statement.{statement}
-use Rattle.inner.proofs.records.ends.Tie as tie
+use Rattle.inner_records.proofs.ends.Statement.{statement}
+use Rattle.inner_records.proofs.ends.Tie as tie
 
 enum-told : tie.Need-enum-told
 enum-told c = search needs

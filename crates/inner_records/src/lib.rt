@@ -3,14 +3,26 @@ ghost use mathlib.Core.Path.{_≡_};
 ghost use Rattle.meaning.specs.Calls as Calls;
 ghost use Rattle.meaning.specs.Inner as Inner;
 ghost use Rattle.engine.specs.Records.{statusIs, kindIs, recordIs, answerIs};
-ghost use Rattle.inner.specs.Records.{changedFrom, apartNumber, notOpenedFrom, openedFrom, endedFrom, wentOnFrom, endsBy};
-use crate::Call;
-use crate::InnerCalled;
+ghost use Rattle.inner_records.specs.Records.{changedFrom, apartNumber, notOpenedFrom, openedFrom, endedFrom, wentOnFrom, endsBy};
 use engine::Answer;
 use engine::Called;
 use engine::Kind;
 use engine::Record;
 use engine::Status;
+
+// What an inner call hands back: both records and the answer.
+pub struct InnerCalled {
+    pub outer: Record,
+    pub inner: Record,
+    pub answer: Answer,
+}
+
+// The later calls on an inner run.
+pub enum Call {
+    Feed,
+    Finish,
+    GiveUp,
+}
 
 // ---- how a run stands
 

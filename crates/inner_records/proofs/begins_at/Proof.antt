@@ -1,7 +1,7 @@
-use Rattle.inner.specs.Records.{begins-elsewhere, begins-there}
+use Rattle.inner_records.specs.Records.{begins-elsewhere, begins-there}
 use borrow.Author.Needs.{needs}
-use Rattle.inner.proofs.records.begins_at.Statement.{statement}
-use Rattle.inner.proofs.records.begins_at.Tie as tie
+use Rattle.inner_records.proofs.begins_at.Statement.{statement}
+use Rattle.inner_records.proofs.begins_at.Tie as tie
 
 enum-told : tie.Need-enum-told
 enum-told c = search needs

@@ -1,9 +1,9 @@
 use mathlib.Core.Path.{sym, ap, ap₂, _∙_}
 use borrow.Author.Tests.{not-true, not-false}
-use Rattle.inner.specs.Records.{openedBy}
+use Rattle.inner_records.specs.Records.{openedBy}
 use borrow.Author.Needs.{needs}
-use Rattle.inner.proofs.records.opened.Statement.{statement}
-use Rattle.inner.proofs.records.opened.Tie as tie
+use Rattle.inner_records.proofs.opened.Statement.{statement}
+use Rattle.inner_records.proofs.opened.Tie as tie
 
 is-open-requires : tie.Need-is-open-requires
 is-open-requires c κs = search needs
