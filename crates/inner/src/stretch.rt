@@ -10,12 +10,6 @@ ghost use Rattle.fit.specs.Shown.{Shown, Readable};
 ghost use Rattle.engine.specs.Records.{recordIs, calledIs};
 ghost use Rattle.inner_records.specs.Records.{callIs, innerCalledIs};
 ghost use Rattle.inner.specs.Lending.{stretchCalled};
-use inner_records::apart;
-use inner_records::changed;
-use inner_records::ended;
-use inner_records::ends;
-use inner_records::opened;
-use inner_records::went_on;
 use engine::Answer;
 use engine::Called;
 use engine::Kind;
@@ -23,6 +17,12 @@ use engine::Record;
 use engine::lent;
 use inner_records::Call;
 use inner_records::InnerCalled;
+use inner_records::apart;
+use inner_records::changed;
+use inner_records::ended;
+use inner_records::ends;
+use inner_records::opened;
+use inner_records::went_on;
 
 // Where the stretch begins; past what is lent there is none.
 fn beginning(height: u64, lent: usize) -> usize
