@@ -14,10 +14,11 @@ use Rattle.meaning.specs.Fit.{Fit}
 use Rattle.meaning.specs.Machine.{Config, Lent, Settled, stopped, failed, opening, placeOf, feedAll, finishAll}
 use Rattle.meaning.specs.Part.{config}
 use Rattle.meaning.specs.Calls as Calls
-use Rattle.meaning.specs.Calls.{Record, Stacks, Called, lay, lentOf, layAll, frameOf, configOf, recordOf, closedRecord, asBrought, refused, more, stacksFit, whenFit, whenEven, tokensFrom, afterFeed, afterFinish, openOf, feedOf, finishOf}
+use Rattle.meaning.specs.Calls.{Gate, admitted, turnedBack, Record, Stacks, Called, lay, lentOf, layAll, frameOf, configOf, recordOf, closedRecord, asBrought, refused, more, stacksFit, whenFit, whenEven, tokensFrom, afterFeed, afterFinish, openOf, feedOf, finishOf}
 use Rattle.theory_answers.specs.FitTest.{fit-exactly}
 use Rattle.meaning.specs.PublicCalls.{stacksOf}
 use Rattle.fit.specs.Cut.{fits-cut}
+use Rattle.engine.specs.Judging.{gateOf, judgedBy}
 
 -- the cells past the first n and k, put back
 abbrev pub uncut : ℕ → ℕ → List ℤ → List ℕ → Called → Called
@@ -86,18 +87,18 @@ module _ (g : Grammar) (vs : List ℤ) (ps : List ℕ) where
     same-config : Fit g r m → configOf g r cells ≡ configOf g r m
     same-config f = ap₂ (λ x y. config (map (frameOf g) (reverse x)) (reverse y) (r .tokens) (r .moves)) (take-take (r .placeHeight) k ps (f .placeHeight)) (take-take (r .registerHeight) n vs (f .registerHeight))
 
-    abbrev fitBy : Bool → Bool → Stacks → Called → Called
-    fitBy o f b c = elim o [ false ↦ asBrought (refused 33 0) r b | true ↦ elim f [ false ↦ asBrought (refused 34 0) r b | true ↦ c ] ]
+    abbrev fitBy : Stacks → Called → Gate → Bool → Called
+    fitBy b c = judgedBy (λ n. asBrought (refused n 0) r b) c
 
     when-cut : (x y : Called) → (Fit g r m → uncut n k vs ps x ≡ y) → uncut n k vs ps (whenFit g r cells x) ≡ whenFit g r m y
     when-cut x y h =
-        ap (λ f. uncut n k vs ps (fitBy (r .isOpen) f cells x)) (sym (fits-cut g r m))
-        ∙ go (r .isOpen) (stacksFit g r m) (λ t. h (fit-exactly g r m .0 t))
+        ap (λ f. uncut n k vs ps (fitBy cells x (gateOf 34 r) f)) (sym (fits-cut g r m))
+        ∙ go (gateOf 34 r) (stacksFit g r m) (λ t. h (fit-exactly g r m .0 t))
       where
-        go : (o f : Bool) → (T f → uncut n k vs ps x ≡ y) → uncut n k vs ps (fitBy o f cells x) ≡ fitBy o f m y
-        go false f h = ap (asBrought (refused 33 0) r) put-back
-        go true false h = ap (asBrought (refused 34 0) r) put-back
-        go true true h = h tt
+        go : (o : Gate) (f : Bool) → (T f → uncut n k vs ps x ≡ y) → uncut n k vs ps (fitBy cells x o f) ≡ fitBy m y o f
+        go (turnedBack j) f h = ap (asBrought (refused j 0) r) put-back
+        go admitted false h = ap (asBrought (refused 34 0) r) put-back
+        go admitted true h = h tt
 
     fed-cut : (o : Settled) → uncut n k vs ps (afterFeed g cells o) ≡ afterFeed g m o
     fed-cut (stopped c) = ap (asBrought (more (c .moves)) (recordOf true c)) (lay-all-cut c)

@@ -14,7 +14,7 @@ use Rattle.meaning.specs.Rules.{WellFormed}
 use Rattle.meaning.specs.Machine.{Config, Lent, readRegister, Settled, stopped, failed, placeOf, isFinished, finishAll, feedAll, movesLimit}
 use Rattle.meaning.specs.Walk.{nothing}
 use Rattle.meaning.specs.Calls as Calls
-use Rattle.meaning.specs.Calls.{Stacks, lentOf, layAll, recordOf, configOf, result, afterFeed, afterFinish}
+use Rattle.meaning.specs.Calls.{outer, Stacks, lentOf, layAll, statusOf, recordOf, configOf, result, afterFeed, afterFinish}
 use Rattle.theory_answers.specs.Runs.{Finished, finished}
 use Rattle.theory_answers.specs.ShapeMemory.{result-ranged}
 use Rattle.theory_program.specs.Records.{segment-words}
@@ -29,43 +29,46 @@ use Rattle.registers.specs.Laid.{laid-stack, laid-inside}
 use Rattle.registers.specs.Stack.{stack}
 use Rattle.machine.specs.Advancing.{Settles}
 use Rattle.meaning.specs.PublicCalls.{stacksOf}
+use Rattle.engine.specs.declared.Status.{Status}
+use Rattle.engine.specs.declared.Status.the-variants.{Running, Closed}
+use Rattle.engine.specs.declared.Kind.the-variants.{Outer}
 use Rattle.engine.specs.declared.Record.{Record}
 use Rattle.engine.specs.declared.Answer.{Answer}
 use Rattle.engine.specs.declared.Answer.the-variants.{More, Value, Refused}
 use Rattle.engine.specs.declared.Called.{Called}
-use Rattle.engine.specs.Records.{recordIs, calledIs}
+use Rattle.engine.specs.Records.{statusIs, recordIs, calledIs}
 use Rattle.engine.specs.Starting.{laid-all}
 
--- the record of a run
-abbrev pub recordFrom : Bool → Run → Record
-recordFrom o run = record { «open» = o; tokens = run .tokens; moves = run .moves; registers = run .registers; places = run .places }
+-- the record of an outer run
+abbrev pub recordFrom : Status → Run → Record
+recordFrom s run = record { status = s; kind = Outer; tokens = run .tokens; moves = run .moves; registers = run .registers; places = run .places }
 
 abbrev pub broughtFrom : Record → Answer → Called
 broughtFrom r a = record { «record» = r; answer = a }
 
 abbrev pub closedFrom : Answer → Called
-closedFrom a = record { «record» = record { «open» = false; tokens = 0; moves = 0; registers = 0; places = 0 }; answer = a }
+closedFrom a = record { «record» = record { status = Closed; kind = Outer; tokens = 0; moves = 0; registers = 0; places = 0 }; answer = a }
 
 -- what a feed hands back for what its tokens led to
 abbrev pub fedFrom : Ended.Ended → Called
-fedFrom (Stopped run) = record { «record» = recordFrom true run; answer = More (run .moves) }
-fedFrom (Failed run k) = record { «record» = recordFrom false run; answer = Refused k (run .tokens) }
+fedFrom (Stopped run) = record { «record» = recordFrom Running run; answer = More (run .moves) }
+fedFrom (Failed run k) = record { «record» = recordFrom Closed run; answer = Refused k (run .tokens) }
 
 -- what a finish hands back: register k, from the top, is the segment's value
 abbrev pub finishedFrom : ℕ → List ℤ → Ended.Ended → Called
-finishedFrom k m (Stopped run) = record { «record» = recordFrom false run; answer = Value (readRegister (stack (run .registers) m) k) (run .moves) }
-finishedFrom k m (Failed run j) = record { «record» = recordFrom false run; answer = Refused j (run .tokens) }
+finishedFrom k m (Stopped run) = record { «record» = recordFrom Closed run; answer = Value (readRegister (stack (run .registers) m) k) (run .moves) }
+finishedFrom k m (Failed run j) = record { «record» = recordFrom Closed run; answer = Refused j (run .tokens) }
 
-pub fed-stopped : (e : Ended.Ended) (run : Run) (r : Record) → e ≡ Stopped run → r ≡ recordFrom true run → record { «record» = r; answer = More (run .moves) } ≡ fedFrom e
+pub fed-stopped : (e : Ended.Ended) (run : Run) (r : Record) → e ≡ Stopped run → r ≡ recordFrom Running run → record { «record» = r; answer = More (run .moves) } ≡ fedFrom e
 fed-stopped e run r q s = ap (λ z. record { «record» = z; answer = More (run .moves) }) s ∙ ap fedFrom (sym q)
 
-pub fed-failed : (e : Ended.Ended) (run : Run) (k : ℕ) (r : Record) → e ≡ Failed run k → r ≡ recordFrom false run → record { «record» = r; answer = Refused k (run .tokens) } ≡ fedFrom e
+pub fed-failed : (e : Ended.Ended) (run : Run) (k : ℕ) (r : Record) → e ≡ Failed run k → r ≡ recordFrom Closed run → record { «record» = r; answer = Refused k (run .tokens) } ≡ fedFrom e
 fed-failed e run k r q s = ap (λ z. record { «record» = z; answer = Refused k (run .tokens) }) s ∙ ap fedFrom (sym q)
 
-pub finished-stopped : (n : ℕ) (m : List ℤ) (e : Ended.Ended) (run : Run) (r : Record) (v : ℤ) → e ≡ Stopped run → r ≡ recordFrom false run → v ≡ readRegister (stack (run .registers) m) n → record { «record» = r; answer = Value v (run .moves) } ≡ finishedFrom n m e
+pub finished-stopped : (n : ℕ) (m : List ℤ) (e : Ended.Ended) (run : Run) (r : Record) (v : ℤ) → e ≡ Stopped run → r ≡ recordFrom Closed run → v ≡ readRegister (stack (run .registers) m) n → record { «record» = r; answer = Value v (run .moves) } ≡ finishedFrom n m e
 finished-stopped n m e run r v q s t = ap₂ (λ z w. record { «record» = z; answer = Value w (run .moves) }) s t ∙ ap (finishedFrom n m) (sym q)
 
-pub finished-failed : (n : ℕ) (m : List ℤ) (e : Ended.Ended) (run : Run) (k : ℕ) (r : Record) → e ≡ Failed run k → r ≡ recordFrom false run → record { «record» = r; answer = Refused k (run .tokens) } ≡ finishedFrom n m e
+pub finished-failed : (n : ℕ) (m : List ℤ) (e : Ended.Ended) (run : Run) (k : ℕ) (r : Record) → e ≡ Failed run k → r ≡ recordFrom Closed run → record { «record» = r; answer = Refused k (run .tokens) } ≡ finishedFrom n m e
 finished-failed n m e run k r q s = ap (λ z. record { «record» = z; answer = Refused k (run .tokens) }) s ∙ ap (finishedFrom n m) (sym q)
 
 -- what the code relies on where a finish ends
@@ -75,13 +78,13 @@ pub record Ending (ws : List ℕ) (vs : List ℤ) (e : Ended.Ended) : Type 0 whe
 
 module _ (g : Grammar) (ws : List ℕ) (vs₀ : List ℤ) (ps₀ : List ℕ) (few : length vs₀ ≤ 4096) (little : length ps₀ ≤ 1024) where
   module _ (vs : List ℤ) (ps : List ℕ) (run : Run) (d : Config) (h : Held g ws (lentOf (stacksOf vs₀ ps₀)) vs ps run d) where
-    record-is : (o : Bool) → recordIs (recordFrom o run) ≡ recordOf o d
-    record-is o =
+    record-is : (s : Status) (o : Bool) → statusIs s ≡ statusOf o → recordIs (recordFrom s run) ≡ recordOf o d
+    record-is s o e =
         let a : run .registers ≡ length (d .registers) = sym (h .registers .height) in
         let b : run .places ≡ length (d .frames) = sym (h .places .height) ∙ length-map (d .frames) (placeOf g) in
         let t = h .tokens in
         let v = h .moves in
-        λ i. record { isOpen = o; tokens = t i; moves = v i; registerHeight = a i; placeHeight = b i }
+        λ i. record { status = e i; kind = outer; tokens = t i; moves = v i; registerHeight = a i; placeHeight = b i }
 
     stacks-are : stacksOf vs ps ≡ layAll g d (stacksOf vs₀ ps₀)
     stacks-are =
@@ -107,12 +110,12 @@ module _ (g : Grammar) (ws : List ℕ) (vs₀ : List ℤ) (ps₀ : List ℕ) (fe
 
   pub feed-leaves : (vs : List ℤ) (ps : List ℕ) (e : Ended.Ended) (o : Settled) → Settles g ws (lentOf (stacksOf vs₀ ps₀)) o vs ps e → calledIs (fedFrom e) vs ps ≡ afterFeed g (stacksOf vs₀ ps₀) o
   feed-leaves vs ps (Stopped run) o s =
-      let r = record-is vs ps run (s .0) (s .2) true in
+      let r = record-is vs ps run (s .0) (s .2) Running true refl in
       let k = stacks-are vs ps run (s .0) (s .2) in
       let v = s .2 .moves in
       (λ i. record { answer = Calls.more (v i); state = r i; stacks = k i }) ∙ ap (afterFeed g (stacksOf vs₀ ps₀)) (sym (s .1))
   feed-leaves vs ps (Failed run j) o s =
-      let r = record-is vs ps run (s .0) (s .2) false in
+      let r = record-is vs ps run (s .0) (s .2) Closed false refl in
       let k = stacks-are vs ps run (s .0) (s .2) in
       let t = s .2 .tokens in
       (λ i. record { answer = Calls.refused j (t i); state = r i; stacks = k i }) ∙ ap (afterFeed g (stacksOf vs₀ ps₀)) (sym (s .1))
@@ -123,13 +126,13 @@ module _ (g : Grammar) (ws : List ℕ) (vs₀ : List ℤ) (ps₀ : List ℕ) (fe
 
     pub finish-leaves : (vs : List ℤ) (ps : List ℕ) (e : Ended.Ended) → Settles g ws (lentOf (stacksOf vs₀ ps₀)) (finishAll g (lentOf (stacksOf vs₀ ps₀)) c) vs ps e → calledIs (finishedFrom (getD ws 5 0) vs e) vs ps ≡ afterFinish g (stacksOf vs₀ ps₀) (finishAll g (lentOf (stacksOf vs₀ ps₀)) c)
     finish-leaves vs ps (Stopped run) s =
-        let r = record-is vs ps run (s .0) (s .2) false in
+        let r = record-is vs ps run (s .0) (s .2) Closed false refl in
         let k = stacks-are vs ps run (s .0) (s .2) in
         let v = s .2 .moves in
         let z = result-read vs ps run (s .0) (s .2) in
         (λ i. record { answer = Calls.value (z i) (v i); state = r i; stacks = k i }) ∙ ap (afterFinish g (stacksOf vs₀ ps₀)) (sym (s .1))
     finish-leaves vs ps (Failed run j) s =
-        let r = record-is vs ps run (s .0) (s .2) false in
+        let r = record-is vs ps run (s .0) (s .2) Closed false refl in
         let k = stacks-are vs ps run (s .0) (s .2) in
         let t = s .2 .tokens in
         (λ i. record { answer = Calls.refused j (t i); state = r i; stacks = k i }) ∙ ap (afterFinish g (stacksOf vs₀ ps₀)) (sym (s .1))

@@ -12,7 +12,7 @@ use Rattle.meaning.specs.Grammar.{Grammar, nonterminal, syn}
 use Rattle.meaning.specs.Value.{mark}
 use Rattle.meaning.specs.Machine.{opening, placeOf}
 use Rattle.meaning.specs.Calls as Calls
-use Rattle.meaning.specs.Calls.{Stacks, lay, lentOf, layAll, recordOf, closedRecord, asBrought, refused, more, openOf}
+use Rattle.meaning.specs.Calls.{running, outer, Stacks, lay, lentOf, layAll, recordOf, closedRecord, asBrought, refused, more, openOf}
 use Rattle.registers.specs.Stack.{lay-add, lay-push}
 use Rattle.theory_program.specs.Addresses.{Begins}
 use Rattle.theory_program.specs.Records.{segment-words}
@@ -67,9 +67,9 @@ module _ (g : Grammar) (ws : List ℕ) (b : Begins g ws) (vs : List ℤ) (ps : L
           ∙ sym (lay-push n 0 [] ps 32768 (omega (arith, z)))
 
       pub open-made : (count : ℕ) (vs′ : List ℤ) (ps′ : List ℕ) → count ≡ getD ws 4 0 → vs′ ≡ replicate (length vs) mark → ps′ ≡ replicate (length ps) 0
-          → record { answer = more 0; state = record { isOpen = true; tokens = 0; moves = 0; registerHeight = count; placeHeight = 1 }; stacks = stacksOf vs′ (set ps′ 0 32768) } ≡ openOf g (stacksOf vs ps)
+          → record { answer = more 0; state = record { status = running; kind = outer; tokens = 0; moves = 0; registerHeight = count; placeHeight = 1 }; stacks = stacksOf vs′ (set ps′ 0 32768) } ≡ openOf g (stacksOf vs ps)
       open-made count vs′ ps′ e d f =
           let a : count ≡ length (opening g .registers) = e ∙ sym marked in
           let x : vs′ ≡ lay (lentOf (stacksOf vs ps) .maxRegisters) mark (opening g .registers) vs = d ∙ registers-are in
           let y : set ps′ 0 32768 ≡ lay (lentOf (stacksOf vs ps) .maxPlaces) 0 (map (placeOf g) (opening g .frames)) ps = ap (λ z. set z 0 32768) f ∙ places-are in
-          (λ i. record { answer = more 0; state = record { isOpen = true; tokens = 0; moves = 0; registerHeight = a i; placeHeight = 1 }; stacks = stacksOf (x i) (y i) }) ∙ sym is-open
+          (λ i. record { answer = more 0; state = record { status = running; kind = outer; tokens = 0; moves = 0; registerHeight = a i; placeHeight = 1 }; stacks = stacksOf (x i) (y i) }) ∙ sym is-open

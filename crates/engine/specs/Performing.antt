@@ -24,7 +24,7 @@ use Rattle.engine.specs.declared.Called.{Called}
 use Rattle.engine.specs.Records.{calledIs}
 use Rattle.engine.specs.Starting.{Fitting}
 use Rattle.engine.specs.Leaving.{fedFrom, finishedFrom, feed-leaves, finish-leaves, Ending, ended-by}
-use Rattle.engine.specs.Judging.{turnedBack, when-not, not-turned}
+use Rattle.engine.specs.Judging.{numberFor, when-not, not-turned}
 
 -- the run that the code starts with holds what the record and the stacks say
 abbrev pub Starts : List ℕ → List ℕ → Record → Run → Type 0
@@ -35,7 +35,7 @@ pub record Judged (ws : List ℕ) (vs : List ℤ) (ps : List ℕ) (r : Record) :
   pub few : length vs ≤ 4096
   pub little : length ps ≤ 1024
   pub brought : Readable ws
-  pub passed : (g : Grammar) → Shown g ws → 0 ≡ turnedBack g r (stacksOf vs ps)
+  pub passed : (g : Grammar) → Shown g ws → 0 ≡ numberFor 34 g r (stacksOf vs ps)
 
 module _ {ws : List ℕ} {vs : List ℤ} {ps : List ℕ} {r : Record} (j : Judged ws vs ps r) where
   fit-of : (g : Grammar) → Shown g ws → Fit g r (stacksOf vs ps)

@@ -9,10 +9,12 @@ ghost use Rattle.theory_program.specs.Addresses.{Begins};
 ghost use Rattle.fit.specs.Shown.{Shown, Readable};
 ghost use Rattle.meaning.specs.PublicCalls.{stacksOf};
 ghost use Rattle.engine.specs.Records.{recordIs, calledIs};
-ghost use Rattle.engine.specs.Judging.{turnedBack};
+ghost use Rattle.engine.specs.Judging.{gateOf, gateNumber, numberFor};
 use crate::Answer;
 use crate::Called;
+use crate::Kind;
 use crate::Record;
+use crate::Status;
 use crate::running::as_brought;
 use crate::running::closed;
 use crate::running::fed;
@@ -21,7 +23,7 @@ use crate::running::run_of;
 
 // ---- clearing
 
-fn clear_registers(registers: &mut [i64])
+pub fn clear_registers(registers: &mut [i64])
     ensures { λ r. ⌜ now (registers .exit) ≡ replicate (length (now (registers .entry))) mark ⌝ }
 {
     let mut i = 0;
@@ -31,7 +33,7 @@ fn clear_registers(registers: &mut [i64])
     }
 }
 
-fn clear_places(places: &mut [u32])
+pub fn clear_places(places: &mut [u32])
     ensures { λ r. ⌜ now (places .exit) ≡ replicate (length (now (places .entry))) 0 ⌝ }
 {
     let mut i = 0;
@@ -69,7 +71,8 @@ fn open_lent(registers: &mut [i64], places: &mut [u32], program: &[u32]) -> Call
     places[0] = SEGMENT;
     Called {
         record: Record {
-            open: true,
+            status: Status::Running,
+            kind: Kind::Outer,
             tokens: 0,
             moves: 0,
             registers: count as u64,
@@ -79,13 +82,42 @@ fn open_lent(registers: &mut [i64], places: &mut [u32], program: &[u32]) -> Call
     }
 }
 
-// 33 or 34; 0 where the call goes on to its moves.
-fn turned_back(registers: &[i64], places: &[u32], program: &[u32], brought: Record) -> u32
-    requires { ⌜ (length (now registers) ≤ 4096) × (length (now places) ≤ 1024) × Readable (now program) ⌝ }
-    ensures { λ r. ⌜ ((g : Grammar) → Shown g (now (program .entry)) → r ≡ turnedBack g (recordIs brought) (stacksOf (now (registers .entry)) (now (places .entry)))) ⌝ }
+// 01: "34 record or stacks do not fit".
+const UNFIT: u32 = 34;
+
+// 33 or 40, and `other` for an inner record; 0 where the stacks are looked at.
+pub fn gate(other: u32, brought: Record) -> u32
+    ensures { λ r. ⌜ r ≡ gateNumber (gateOf other (recordIs brought)) ⌝ }
 {
-    if !brought.open {
-        return 33;
+    let status = brought.status;
+    let kind = brought.kind;
+    match status {
+        Status::Closed => 33,
+        Status::Running => match kind {
+            Kind::Outer => 0,
+            Kind::Inner(registers, places) => other,
+        },
+        Status::Waiting => match kind {
+            Kind::Outer => 40,
+            Kind::Inner(registers, places) => other,
+        },
+    }
+}
+
+// 33, 40 or 34; 0 where the call goes on.
+fn turned_back(
+    other: u32,
+    registers: &[i64],
+    places: &[u32],
+    program: &[u32],
+    brought: Record,
+) -> u32
+    requires { ⌜ (1 ≤ other) × (length (now registers) ≤ 4096) × (length (now places) ≤ 1024) × Readable (now program) ⌝ }
+    ensures { λ r. ⌜ ((g : Grammar) → Shown g (now (program .entry)) → r ≡ numberFor other g (recordIs brought) (stacksOf (now (registers .entry)) (now (places .entry)))) ⌝ }
+{
+    let number = gate(other, brought);
+    if number != 0 {
+        return number;
     }
     if fit::fits(
         registers,
@@ -98,7 +130,7 @@ fn turned_back(registers: &[i64], places: &[u32], program: &[u32], brought: Reco
     ) {
         return 0;
     }
-    34
+    UNFIT
 }
 
 // A feed: the tokens of the lists, one after the other. 02 (e): "Lists of unequal length are turned back as 38, after 34".
@@ -113,7 +145,7 @@ fn feed_lent(
     requires { ⌜ (length (now registers) ≤ 4096) × (length (now places) ≤ 1024) × Readable (now program) ⌝ }
     ensures { λ r. ⌜ ((g : Grammar) → Shown g (now (program .entry)) → calledIs r (now (registers .exit)) (now (places .exit)) ≡ feedOf g (recordIs brought) (stacksOf (now (registers .entry)) (now (places .entry))) (now (kinds .entry)) (now (values .entry))) ⌝ }
 {
-    let number = turned_back(registers, places, program, brought);
+    let number = turned_back(UNFIT, registers, places, program, brought);
     if number != 0 {
         return as_brought(brought, Answer::Refused { number, tokens: 0 });
     }
@@ -140,7 +172,7 @@ fn finish_lent(
     requires { ⌜ (length (now registers) ≤ 4096) × (length (now places) ≤ 1024) × Readable (now program) ⌝ }
     ensures { λ r. ⌜ ((g : Grammar) → Shown g (now (program .entry)) → calledIs r (now (registers .exit)) (now (places .exit)) ≡ finishOf g (recordIs brought) (stacksOf (now (registers .entry)) (now (places .entry)))) ⌝ }
 {
-    let number = turned_back(registers, places, program, brought);
+    let number = turned_back(UNFIT, registers, places, program, brought);
     if number != 0 {
         return as_brought(brought, Answer::Refused { number, tokens: 0 });
     }
@@ -151,7 +183,7 @@ fn finish_lent(
 
 // ---- the lent cells
 
-fn smaller(a: usize, b: usize) -> usize
+pub fn smaller(a: usize, b: usize) -> usize
     ensures { λ r. ⌜ r ≡ min a b ⌝ }
 {
     if a < b {
@@ -161,9 +193,25 @@ fn smaller(a: usize, b: usize) -> usize
 }
 
 // 01: "cells past these are neither read nor written and don't count as lent".
-const REGISTERS: usize = 4096;
+pub const REGISTERS: usize = 4096;
 
-const PLACES: usize = 1024;
+pub const PLACES: usize = 1024;
+
+// The judgement of a record alone.
+pub fn judge_cells(
+    other: u32,
+    registers: &[i64],
+    places: &[u32],
+    program: &[u32],
+    brought: Record,
+) -> u32
+    requires { ⌜ (1 ≤ other) × Readable (now program) ⌝ }
+    ensures { λ r. ⌜ ((g : Grammar) → Shown g (now (program .entry)) → r ≡ numberFor other g (recordIs brought) (stacksOf (now (registers .entry)) (now (places .entry)))) ⌝ }
+{
+    let n = smaller(registers.len(), REGISTERS);
+    let k = smaller(places.len(), PLACES);
+    turned_back(other, &registers[..n], &places[..k], program, brought)
+}
 
 pub fn open_cells(registers: &mut [i64], places: &mut [u32], program: &[u32]) -> Called
     requires { ⌜ 4 < length (now program) ⌝ }

@@ -7,12 +7,26 @@ ghost use Rattle.engine.specs.Records.{recordIs, effectIs};
 ghost use Rattle.engine.specs.Beginning.{BegunAs};
 use prepare::Made;
 
-mod lent;
+pub mod lent;
 mod running;
 
-// Open or closed, tokens read, moves made, and the heights of both stacks.
+// A run goes on, waits for the inner run above it, or is closed.
+pub enum Status {
+    Running,
+    Waiting,
+    Closed,
+}
+
+// 02 (h): "The inner record keeps the heights where it begins": of the registers, of the places.
+pub enum Kind {
+    Outer,
+    Inner(u64, u64),
+}
+
+// What kind of run it is and how it stands, tokens read, moves made, and the heights of both stacks.
 pub struct Record {
-    pub open: bool,
+    pub status: Status,
+    pub kind: Kind,
     pub tokens: u64,
     pub moves: u64,
     pub registers: u64,
@@ -24,7 +38,7 @@ pub enum Answer {
     More(u64),
     // Finished: the segment's value, and the moves.
     Value(i64, u64),
-    // One of 20 to 24, 30 to 35 or 38, with the tokens read.
+    // One of 20 to 24, 30 to 35, 38 or 40, with the tokens read.
     Refused { number: u32, tokens: u64 },
     // One of 1 to 13, with the field's offset.
     TableRefused { number: u32, offset: u64 },
@@ -36,13 +50,13 @@ pub struct Called {
 }
 
 // What a call begins with: it is turned back by 30 or by its table, or the table is accepted and its program written.
-enum Begun {
+pub enum Begun {
     Turned(Answer),
     Ready,
 }
 
 // 30 and the table's refusals, as a call answers them.
-fn begin(table: &[u8], program: &mut [u32]) -> Begun
+pub fn begin(table: &[u8], program: &mut [u32]) -> Begun
     ensures { λ r. ⌜ BegunAs (now (table .entry)) (now (program .entry)) (now (program .exit)) r ⌝ }
 {
     match prepare::program_of(table, program) {

@@ -17,7 +17,9 @@ ghost use Rattle.engine.specs.Starting.{Stood, Standing, Fitting};
 ghost use Rattle.engine.specs.Leaving.{recordFrom, broughtFrom, closedFrom, fedFrom, finishedFrom, Ending};
 use crate::Answer;
 use crate::Called;
+use crate::Kind;
 use crate::Record;
+use crate::Status;
 use machine::Ended;
 use moves::Run;
 
@@ -54,11 +56,13 @@ pub fn run_of(places: &[u32], program: &[u32], brought: Record) -> Run
 
 // ---- from a run to what is handed back
 
-fn record_of(open: bool, run: Run) -> Record
-    ensures { λ r. ⌜ r ≡ recordFrom «open» run ⌝ }
+// The record of an outer run.
+fn record_of(status: Status, run: Run) -> Record
+    ensures { λ r. ⌜ r ≡ recordFrom status run ⌝ }
 {
     Record {
-        open,
+        status,
+        kind: Kind::Outer,
         tokens: run.tokens,
         moves: run.moves,
         registers: run.registers as u64,
@@ -71,11 +75,11 @@ pub fn fed(ended: Ended) -> Called
 {
     match ended {
         Ended::Stopped(run) => Called {
-            record: record_of(true, run),
+            record: record_of(Status::Running, run),
             answer: Answer::More(run.moves),
         },
         Ended::Failed(run, number) => Called {
-            record: record_of(false, run),
+            record: record_of(Status::Closed, run),
             answer: Answer::Refused {
                 number,
                 tokens: run.tokens,
@@ -91,14 +95,14 @@ pub fn finished(registers: &[i64], program: &[u32], ended: Ended) -> Called
 {
     match ended {
         Ended::Stopped(run) => Called {
-            record: record_of(false, run),
+            record: record_of(Status::Closed, run),
             answer: Answer::Value(
                 registers::read(registers, run.registers, program[5]),
                 run.moves,
             ),
         },
         Ended::Failed(run, number) => Called {
-            record: record_of(false, run),
+            record: record_of(Status::Closed, run),
             answer: Answer::Refused {
                 number,
                 tokens: run.tokens,
@@ -123,7 +127,8 @@ pub fn closed(answer: Answer) -> Called
 {
     Called {
         record: Record {
-            open: false,
+            status: Status::Closed,
+            kind: Kind::Outer,
             tokens: 0,
             moves: 0,
             registers: 0,

@@ -13,7 +13,7 @@ use Rattle.meaning.specs.Base.{all}
 use Rattle.meaning.specs.Grammar.{Grammar}
 use Rattle.meaning.specs.Rules.{WellFormed}
 use Rattle.meaning.specs.Machine.{tokensLimit, movesLimit}
-use Rattle.meaning.specs.Calls.{Record, Stacks, lentOf, isMark, stackFits, stacksFit}
+use Rattle.meaning.specs.Calls.{running, outer, Record, Stacks, lentOf, isMark, stackFits, stacksFit}
 use Rattle.meaning.specs.PublicCalls.{stacksOf}
 use Rattle.fit.specs.Upward.{standsFit, stack-fits-up}
 
@@ -63,9 +63,9 @@ fits-cut g r m =
     (λ a. ap (all isMark) (sym (above-cut n h (m .registers))))
     (λ b. ap (all (λ p. eqb p 0)) (sym (above-cut k j (m .places)))))
 
--- a record's numbers; 34 does not ask whether it is open
+-- a record's numbers; 34 does not ask for its status and kind
 abbrev pub numbers : (tokens moves registerHeight placeHeight : ℕ) → Record
-numbers tokens moves registerHeight placeHeight = record { isOpen = true; tokens = tokens; moves = moves; registerHeight = registerHeight; placeHeight = placeHeight }
+numbers tokens moves registerHeight placeHeight = record { status = running; kind = outer; tokens = tokens; moves = moves; registerHeight = registerHeight; placeHeight = placeHeight }
 
 -- where all cells are lent: the tests in their order, each by its outcome
 module _ (g : Grammar) (w : WellFormed g) (r : Record) (vs : List ℤ) (ps : List ℕ) (few : length vs ≤ 4096) (low : length ps ≤ 1024) where

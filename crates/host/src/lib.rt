@@ -6,8 +6,11 @@ ghost use Rattle.meaning.specs.Program.{programOf};
 ghost use Rattle.meaning.specs.PublicCalls.{opens, performs, feed, finish};
 ghost use Rattle.meaning.specs.PublicCalls.{stacksOf};
 ghost use Rattle.meaning.specs.House.{houseOf};
+ghost use Rattle.meaning.specs.Inner as Inner;
+ghost use Rattle.meaning.specs.Inner.{giveUp, innerOpens, innerPerforms};
 ghost use Rattle.meaning.specs.Window.{opensWindow, bringsAnswer};
 ghost use Rattle.host_numbers.specs.Lent.{broughtIn, valueOf, PassedOn};
+ghost use Rattle.host_inner.specs.Both.{BothPassedOn};
 ghost use Rattle.host_table.specs.Passed.{checked, Stretched};
 ghost use Rattle.host_table.specs.Listed.{listed, listedOf};
 ghost use Rattle.host_house.specs.Housed.{housed};
@@ -75,7 +78,7 @@ pub extern "C" fn segment_house(
 #[no_mangle]
 pub extern "C" fn segment_open(
     table: &[u8],
-    record: &mut [u64; 5],
+    record: &mut [u64; 8],
     registers: &mut [i64],
     places: &mut [u32],
     program: &mut [u32],
@@ -91,7 +94,7 @@ pub extern "C" fn segment_open(
 #[no_mangle]
 pub extern "C" fn segment_feed(
     table: &[u8],
-    record: &mut [u64; 5],
+    record: &mut [u64; 8],
     registers: &mut [i64],
     places: &mut [u32],
     program: &mut [u32],
@@ -119,7 +122,7 @@ pub extern "C" fn segment_feed(
 #[no_mangle]
 pub extern "C" fn segment_finish(
     table: &[u8],
-    record: &mut [u64; 5],
+    record: &mut [u64; 8],
     registers: &mut [i64],
     places: &mut [u32],
     program: &mut [u32],
@@ -137,6 +140,120 @@ pub extern "C" fn segment_finish(
         program,
         number,
         value,
+        count,
+    );
+}
+
+// ---- calls on an inner run
+
+// Opens an inner run above an outer one, which then waits. A refusal sets no mark, and hands back an inner record closed and all zero.
+#[no_mangle]
+pub extern "C" fn segment_inner_open(
+    outer_table: &[u8],
+    inner_table: &[u8],
+    outer: &mut [u64; 8],
+    inner: &mut [u64; 8],
+    registers: &mut [i64],
+    places: &mut [u32],
+    program: &mut [u32],
+    number: &mut u32,
+    count: &mut u64,
+)
+    ensures { λ r. ⌜ BothPassedOn (now (outer .exit)) (now (inner .exit)) (now (number .exit)) (now (count .exit)) (now (registers .exit)) (now (places .exit)) (now (program .exit)) (innerOpens programOf (now («outer_table» .entry)) (now («inner_table» .entry)) (now (program .entry)) (broughtIn (now (outer .entry))) (stacksOf (now (registers .entry)) (now (places .entry)))) ⌝ }
+{
+    host_inner::open(
+        outer_table,
+        inner_table,
+        outer,
+        inner,
+        registers,
+        places,
+        program,
+        number,
+        count,
+    );
+}
+
+// Feeds tokens to the inner run, as a list of kinds and one of values.
+#[no_mangle]
+pub extern "C" fn segment_inner_feed(
+    table: &[u8],
+    outer: &mut [u64; 8],
+    inner: &mut [u64; 8],
+    registers: &mut [i64],
+    places: &mut [u32],
+    program: &mut [u32],
+    kinds: &[u8],
+    values: &[i32],
+    number: &mut u32,
+    count: &mut u64,
+)
+    ensures { λ r. ⌜ BothPassedOn (now (outer .exit)) (now (inner .exit)) (now (number .exit)) (now (count .exit)) (now (registers .exit)) (now (places .exit)) (now (program .exit)) (innerPerforms programOf (now (table .entry)) (now (program .entry)) (broughtIn (now (outer .entry))) (broughtIn (now (inner .entry))) (stacksOf (now (registers .entry)) (now (places .entry))) (Inner.engine (feed (now (kinds .entry)) (now (values .entry))))) ⌝ }
+{
+    host_inner::feed(
+        table,
+        outer,
+        inner,
+        registers,
+        places,
+        program,
+        kinds,
+        values,
+        number,
+        count,
+    );
+}
+
+// Finishes the inner run's segment: the run ends.
+#[no_mangle]
+pub extern "C" fn segment_inner_finish(
+    table: &[u8],
+    outer: &mut [u64; 8],
+    inner: &mut [u64; 8],
+    registers: &mut [i64],
+    places: &mut [u32],
+    program: &mut [u32],
+    number: &mut u32,
+    value: &mut i64,
+    count: &mut u64,
+)
+    ensures { λ r. ⌜ BothPassedOn (now (outer .exit)) (now (inner .exit)) (now (number .exit)) (now (count .exit)) (now (registers .exit)) (now (places .exit)) (now (program .exit)) (innerPerforms programOf (now (table .entry)) (now (program .entry)) (broughtIn (now (outer .entry))) (broughtIn (now (inner .entry))) (stacksOf (now (registers .entry)) (now (places .entry))) (Inner.engine finish)) × (now (value .exit) ≡ valueOf (innerPerforms programOf (now (table .entry)) (now (program .entry)) (broughtIn (now (outer .entry))) (broughtIn (now (inner .entry))) (stacksOf (now (registers .entry)) (now (places .entry))) (Inner.engine finish) .answer)) ⌝ }
+{
+    host_inner::finish(
+        table,
+        outer,
+        inner,
+        registers,
+        places,
+        program,
+        number,
+        value,
+        count,
+    );
+}
+
+// Gives the inner run up: it ends as it stands.
+#[no_mangle]
+pub extern "C" fn segment_inner_give_up(
+    table: &[u8],
+    outer: &mut [u64; 8],
+    inner: &mut [u64; 8],
+    registers: &mut [i64],
+    places: &mut [u32],
+    program: &mut [u32],
+    number: &mut u32,
+    count: &mut u64,
+)
+    ensures { λ r. ⌜ BothPassedOn (now (outer .exit)) (now (inner .exit)) (now (number .exit)) (now (count .exit)) (now (registers .exit)) (now (places .exit)) (now (program .exit)) (innerPerforms programOf (now (table .entry)) (now (program .entry)) (broughtIn (now (outer .entry))) (broughtIn (now (inner .entry))) (stacksOf (now (registers .entry)) (now (places .entry))) giveUp) ⌝ }
+{
+    host_inner::give_up(
+        table,
+        outer,
+        inner,
+        registers,
+        places,
+        program,
+        number,
         count,
     );
 }

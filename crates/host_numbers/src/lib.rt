@@ -1,24 +1,105 @@
 // A run's record and answer as the numbers that a host lends.
 ghost use mathlib.Core.Path.{_≡_};
-ghost use Rattle.engine.specs.Records.{recordIs, answerIs};
-ghost use Rattle.host_numbers.specs.Lent.{broughtIn, flagOf, numbersOf, numberOf, countOf, valueOf};
+ghost use Rattle.meaning.specs.Inner.{registerBase, placeBase};
+ghost use Rattle.engine.specs.Records.{statusIs, kindIs, recordIs, answerIs};
+ghost use Rattle.host_numbers.specs.Lent.{statusFrom, kindFrom, broughtIn, statusNumber, kindNumber, flagOf, numbersOf, numberOf, countOf, valueOf};
 use engine::Answer;
 use engine::Called;
+use engine::Kind;
 use engine::Record;
+use engine::Status;
 
-// ---- a record as five numbers
+// ---- a record as eight numbers
 
-pub fn brought(numbers: &[u64; 5]) -> Record
+fn status_in(number: u64) -> Status
+    ensures { λ r. ⌜ statusIs r ≡ statusFrom number ⌝ }
+{
+    if number == 0 {
+        return Status::Closed;
+    }
+    if number == 2 {
+        return Status::Waiting;
+    }
+    Status::Running
+}
+
+fn kind_in(number: u64, registers: u64, places: u64) -> Kind
+    ensures { λ r. ⌜ kindIs r ≡ kindFrom number registers places ⌝ }
+{
+    if number == 1 {
+        return Kind::Inner(registers, places);
+    }
+    Kind::Outer
+}
+
+pub fn brought(numbers: &[u64; 8]) -> Record
     ensures { λ r. ⌜ recordIs r ≡ broughtIn (now (numbers .entry)) ⌝ }
 {
     Record {
-        open: numbers[0] != 0,
+        status: status_in(numbers[0]),
+        kind: kind_in(numbers[5], numbers[6], numbers[7]),
         tokens: numbers[1],
         moves: numbers[2],
         registers: numbers[3],
         places: numbers[4],
     }
 }
+
+fn status_out(status: Status) -> u64
+    ensures { λ r. ⌜ r ≡ statusNumber (statusIs status) ⌝ }
+{
+    match status {
+        Status::Running => 1,
+        Status::Waiting => 2,
+        Status::Closed => 0,
+    }
+}
+
+fn kind_out(kind: Kind) -> u64
+    ensures { λ r. ⌜ r ≡ kindNumber (kindIs kind) ⌝ }
+{
+    match kind {
+        Kind::Outer => 0,
+        Kind::Inner(registers, places) => 1,
+    }
+}
+
+fn register_base(kind: Kind) -> u64
+    ensures { λ r. ⌜ r ≡ registerBase (kindIs kind) ⌝ }
+{
+    match kind {
+        Kind::Outer => 0,
+        Kind::Inner(registers, places) => registers,
+    }
+}
+
+fn place_base(kind: Kind) -> u64
+    ensures { λ r. ⌜ r ≡ placeBase (kindIs kind) ⌝ }
+{
+    match kind {
+        Kind::Outer => 0,
+        Kind::Inner(registers, places) => places,
+    }
+}
+
+pub fn hand_back(record: Record, numbers: &mut [u64; 8])
+    ensures { λ r. ⌜ now (numbers .exit) ≡ numbersOf (recordIs «record») ⌝ }
+{
+    let status = record.status;
+    let kind = record.kind;
+    *numbers = [
+        status_out(status),
+        record.tokens,
+        record.moves,
+        record.registers,
+        record.places,
+        kind_out(kind),
+        register_base(kind),
+        place_base(kind),
+    ];
+}
+
+// ---- a flag and an answer as numbers
 
 pub fn flag(open: bool) -> u64
     ensures { λ r. ⌜ r ≡ flagOf «open» ⌝ }
@@ -28,20 +109,6 @@ pub fn flag(open: bool) -> u64
     }
     0
 }
-
-pub fn hand_back(record: Record, numbers: &mut [u64; 5])
-    ensures { λ r. ⌜ now (numbers .exit) ≡ numbersOf (recordIs «record») ⌝ }
-{
-    *numbers = [
-        flag(record.open),
-        record.tokens,
-        record.moves,
-        record.registers,
-        record.places,
-    ];
-}
-
-// ---- an answer as three numbers
 
 pub fn number_of(answer: Answer) -> u32
     ensures { λ r. ⌜ r ≡ numberOf (answerIs answer) ⌝ }
@@ -84,7 +151,7 @@ pub fn value_of(answer: Answer) -> i64
 
 // ---- both as numbers
 
-pub fn pass_on(called: Called, numbers: &mut [u64; 5], number: &mut u32, count: &mut u64)
+pub fn pass_on(called: Called, numbers: &mut [u64; 8], number: &mut u32, count: &mut u64)
     ensures { λ r. ⌜ (now (numbers .exit) ≡ numbersOf (recordIs (called .«record»))) × (now (number .exit) ≡ numberOf (answerIs (called .answer))) × (now (count .exit) ≡ countOf (answerIs (called .answer))) ⌝ }
 {
     hand_back(called.record, numbers);

@@ -9,7 +9,7 @@ use engine::Record;
 // Opens a run. A refusal hands back a closed record, all zero.
 pub fn open(
     table: &[u8],
-    record: &mut [u64; 5],
+    record: &mut [u64; 8],
     registers: &mut [i64],
     places: &mut [u32],
     program: &mut [u32],
@@ -25,7 +25,7 @@ pub fn open(
 // Feeds tokens, as a list of kinds and one of values.
 pub fn feed(
     table: &[u8],
-    record: &mut [u64; 5],
+    record: &mut [u64; 8],
     registers: &mut [i64],
     places: &mut [u32],
     program: &mut [u32],
@@ -50,7 +50,7 @@ pub fn feed(
 // Finishes the segment.
 pub fn finish(
     table: &[u8],
-    record: &mut [u64; 5],
+    record: &mut [u64; 8],
     registers: &mut [i64],
     places: &mut [u32],
     program: &mut [u32],

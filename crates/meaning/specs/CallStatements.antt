@@ -3,7 +3,7 @@
 use Prim.Native.Nat.{ℕ, _≤_, _<_}
 use mathlib.Core.Path.{_≡_}
 use mathlib.Core.Logic.{_↔_, _⊎_}
-use mathlib.Core.Bool.{Bool, true, false}
+use mathlib.Core.Bool.{Bool, true, false, _||_}
 use mathlib.Core.List.{List, [], _∷_, _++_}
 use lib.ListN.{length, take, drop}
 use lib.Dec.{T, eqb}
@@ -16,7 +16,7 @@ use Rattle.meaning.specs.Scheme.{Instruction, add, evaluate, expect, tes
 use Rattle.meaning.specs.Machine.{Frame, Config, Lent, Coming, comes, ends, blocked, opening, next, waits, isFinished, readRegister, movesLimit, tokensLimit}
 use Rattle.meaning.specs.Tree.{isLeafOf}
 use Rattle.meaning.specs.Walk.{Act, Makes}
-use Rattle.meaning.specs.Calls.{Record, Stacks, Answer, more, value, refused, tableRefused, closedRecord, lentOf, recordOf, layAll, configOf, stacksFit, result, tokensFrom}
+use Rattle.meaning.specs.Calls.{waiting, closed, outer, Record, isOpen, Stacks, Answer, more, value, refused, tableRefused, closedRecord, lentOf, recordOf, layAll, configOf, stacksFit, result, tokensFrom}
 use Rattle.meaning.specs.Fit.{Fit}
 use Rattle.meaning.specs.PublicCalls.{Call, feed, finish, areaLength, written, Effect, opens, performs}
 
@@ -28,22 +28,32 @@ among ns n = any (eqb n) ns
 abbrev pub isTableNumber : ℕ → Bool
 isTableNumber n = among (1 ∷ 2 ∷ 3 ∷ 4 ∷ 5 ∷ 6 ∷ 7 ∷ 8 ∷ 9 ∷ 10 ∷ 11 ∷ 12 ∷ 13 ∷ []) n
 
--- what an opening, a feed and a finish may answer
+-- what an opening, and a feed and a finish on a run of their own, may answer
 abbrev pub openingAnswer : Answer → Bool
 openingAnswer (more n) = eqb n 0
 openingAnswer (value v n) = false
 openingAnswer (refused k n) = among (30 ∷ 31 ∷ 32 ∷ []) k
 openingAnswer (tableRefused k o) = isTableNumber k
 
+abbrev pub engineAnswer : Call → Answer → Bool
+engineAnswer (feed ks vs) (more n) = true
+engineAnswer (feed ks vs) (value v n) = false
+engineAnswer (feed ks vs) (refused k n) = among (20 ∷ 21 ∷ 22 ∷ 23 ∷ 30 ∷ 31 ∷ 32 ∷ 33 ∷ 34 ∷ 35 ∷ 38 ∷ []) k
+engineAnswer (feed ks vs) (tableRefused k o) = isTableNumber k
+engineAnswer finish (more n) = false
+engineAnswer finish (value v n) = inRange v
+engineAnswer finish (refused k n) = among (22 ∷ 23 ∷ 24 ∷ 30 ∷ 31 ∷ 32 ∷ 33 ∷ 34 ∷ 35 ∷ []) k
+engineAnswer finish (tableRefused k o) = isTableNumber k
+
+-- 02 (h): "A call on the waiting outer run .. is turned back as 40"
+abbrev pub isForty : Answer → Bool
+isForty (more n) = false
+isForty (value v n) = false
+isForty (refused k n) = eqb k 40
+isForty (tableRefused k o) = false
+
 abbrev pub callAnswer : Call → Answer → Bool
-callAnswer (feed ks vs) (more n) = true
-callAnswer (feed ks vs) (value v n) = false
-callAnswer (feed ks vs) (refused k n) = among (20 ∷ 21 ∷ 22 ∷ 23 ∷ 30 ∷ 31 ∷ 32 ∷ 33 ∷ 34 ∷ 35 ∷ 38 ∷ []) k
-callAnswer (feed ks vs) (tableRefused k o) = isTableNumber k
-callAnswer finish (more n) = false
-callAnswer finish (value v n) = inRange v
-callAnswer finish (refused k n) = among (22 ∷ 23 ∷ 24 ∷ 30 ∷ 31 ∷ 32 ∷ 33 ∷ 34 ∷ 35 ∷ []) k
-callAnswer finish (tableRefused k o) = isTableNumber k
+callAnswer c a = engineAnswer c a || isForty a
 
 -- "Arbitrary bytes as a table, arbitrary tokens, arbitrary record and stacks"
 abbrev pub AlwaysAnswers : Type 0
@@ -68,12 +78,15 @@ BadTable =
     (program : Grammar → List ℕ) (bs area : List ℕ) (r : Record) (m : Stacks) (c : Call) (n o : ℕ) → areaLength ≤ length area → Judged bs (rejected n o)
     → (opens program bs area m ≡ handedBack (tableRefused n o) closedRecord m area) × (performs program bs area r m c ≡ handedBack (tableRefused n o) r m area)
 
--- then 33 and 34: record and stacks as brought, the program written
+-- then 33, 40 and 34: record and stacks as brought, the program written.
+-- 02 (h): "A call on the waiting outer run .. is turned back as 40, after 33 and before 34. Otherwise .. a record of the wrong kind is a 34"
 abbrev pub BadState : Type 0
 BadState =
     (program : Grammar → List ℕ) (bs area : List ℕ) (g : Grammar) (r : Record) (m : Stacks) (c : Call) → areaLength ≤ length area → Accepted bs g
-    → (r .isOpen ≡ false → performs program bs area r m c ≡ handedBack (refused 33 0) r m (written (program g) area))
-    × (r .isOpen ≡ true → (Fit g r m → ⊥) → performs program bs area r m c ≡ handedBack (refused 34 0) r m (written (program g) area))
+    → (r .status ≡ closed → performs program bs area r m c ≡ handedBack (refused 33 0) r m (written (program g) area))
+    × (r .status ≡ waiting → r .kind ≡ outer → performs program bs area r m c ≡ handedBack (refused 40 0) r m (written (program g) area))
+    × ((r .status ≡ closed → ⊥) → (r .kind ≡ outer → ⊥) → performs program bs area r m c ≡ handedBack (refused 34 0) r m (written (program g) area))
+    × (isOpen r ≡ true → (Fit g r m → ⊥) → performs program bs area r m c ≡ handedBack (refused 34 0) r m (written (program g) area))
 
 -- an opening under an accepted table: 31 where the start symbol's results have no room, then 32 where no place is lent; otherwise it "gives what it is for". (Said of any engine, as the moves below: so it can be shown which engines it excludes)
 abbrev pub OpeningOf : ((Grammar → List ℕ) → List ℕ → List ℕ → Stacks → Effect) → Type 0
@@ -102,11 +115,11 @@ abbrev pub Even : Call → Type 0
 Even (feed ks vs) = length ks ≡ length vs
 Even finish = Unit {0}
 
--- a call that is not turned back by 30, its table, 33 or 34
+-- a call that is not turned back by 30, its table, 33, 40 or 34
 pub record Met (bs : List ℕ) (g : Grammar) (area : List ℕ) (r : Record) (m : Stacks) : Type 0 where
   pub long : areaLength ≤ length area
   pub accepts : Accepted bs g
-  pub isOpen : r .isOpen ≡ true
+  pub isOpen : isOpen r ≡ true
   pub fits : Fit g r m
 
 -- 02 (e): "Lists of unequal length are turned back as 38, after 34 .. and before 31, 32 or any move": record and stacks as brought, the program written
@@ -195,9 +208,12 @@ pub data Case (bs area : List ℕ) (r : Record) (m : Stacks) (c : Call) : Type 0
   -- BadTable
   badTable : areaLength ≤ length area → (n o : ℕ) → Judged bs (rejected n o) → Case bs area r m c
   -- BadState: 33
-  closed : areaLength ≤ length area → (g : Grammar) → Accepted bs g → r .isOpen ≡ false → Case bs area r m c
-  -- BadState: 34
-  unfit : areaLength ≤ length area → (g : Grammar) → Accepted bs g → r .isOpen ≡ true → (Fit g r m → ⊥) → Case bs area r m c
+  isClosed : areaLength ≤ length area → (g : Grammar) → Accepted bs g → r .status ≡ closed → Case bs area r m c
+  -- BadState: 40
+  isWaiting : areaLength ≤ length area → (g : Grammar) → Accepted bs g → r .status ≡ waiting → r .kind ≡ outer → Case bs area r m c
+  -- BadState: 34, by the record's kind or by the stacks
+  isInner : areaLength ≤ length area → (g : Grammar) → Accepted bs g → (r .status ≡ closed → ⊥) → (r .kind ≡ outer → ⊥) → Case bs area r m c
+  unfit : areaLength ≤ length area → (g : Grammar) → Accepted bs g → isOpen r ≡ true → (Fit g r m → ⊥) → Case bs area r m c
   -- UnevenLists: 38
   uneven : (g : Grammar) → Met bs g area r m → (Even c → ⊥) → Case bs area r m c
   -- CallsMove
@@ -206,12 +222,14 @@ pub data Case (bs area : List ℕ) (r : Record) (m : Stacks) (c : Call) : Type 0
 abbrev pub whichCase : {bs area : List ℕ} {r : Record} {m : Stacks} {c : Call} → Case bs area r m c → ℕ
 whichCase (short l) = 1
 whichCase (badTable l n o j) = 2
-whichCase (closed l g a o) = 3
-whichCase (unfit l g a o f) = 4
-whichCase (uneven g x e) = 5
-whichCase (met g x e) = 6
+whichCase (isClosed l g a o) = 3
+whichCase (isWaiting l g a w o) = 4
+whichCase (isInner l g a n k) = 5
+whichCase (unfit l g a o f) = 6
+whichCase (uneven g x e) = 7
+whichCase (met g x e) = 8
 
--- every call is one of the six, and only that one. (An opening is one of the first two, or `Opening` says by the lent numbers what it does)
+-- every call is one of the eight, and only that one. (An opening is one of the first two, or `Opening` says by the lent numbers what it does)
 abbrev pub AllCases : Type 0
 AllCases = (bs area : List ℕ) (r : Record) (m : Stacks) (c : Call) → (x : Case bs area r m c) × ((y : Case bs area r m c) → whichCase y ≡ whichCase x)
 

@@ -14,7 +14,7 @@ use Rattle.meaning.specs.Tree.{Tree, TreeOf, isLeafOf}
 use Rattle.meaning.specs.Walk.{Act, Makes}
 use Rattle.meaning.specs.Part.{frame}
 use Rattle.meaning.specs.Selectors.{SelectorsFind}
-use Rattle.meaning.specs.Calls.{Record, Stacks, lentOf, recordOf, layAll}
+use Rattle.meaning.specs.Calls.{Record, isOpen, Stacks, lentOf, recordOf, layAll}
 use Rattle.meaning.specs.Drawn.{WalkFits, drawnRecord, drawnStacks, drawnMoves}
 use Rattle.meaning.specs.Statements.{History, PartWalked, Returned}
 
@@ -49,10 +49,10 @@ pub record ListOfCalls (g : Grammar) (m₀ : Stacks) (ts : List Token) (isOver :
   pub config : Config
   pub made : (us : List Leaf) → MayCome isOver us → Makes g (lentOf m₀) (leaves g ts ++ us) (opening g) moves (unread ++ us) config
   pub counted : length moves ≡ r .moves
-  pub isRecord : r ≡ recordOf (r .isOpen) config
+  pub isRecord : r ≡ recordOf (isOpen r) config
   pub isStacks : m ≡ layAll g config m₀
   -- while the record is open, all tokens fed are read and everything that needs no next token is done
-  pub allRead : r .isOpen ≡ true → (unread ≡ []) × T (waits (config .frames))
+  pub allRead : isOpen r ≡ true → (unread ≡ []) × T (waits (config .frames))
   -- "registers, places and record are exactly the picture that 01 draws from the tree"; the moves are its walk's
   pub pictured : (us : List Leaf) → MayCome isOver us → (t : Tree) → TreeOf g (leaves g ts ++ us) t → WalkFits g (lentOf m₀) t → Pictured g m₀ t ts isOver r m moves unread
   -- "at each move, whatever the tokens, every selector finds the attribute it names; when a part is left, the registers below its results are those it was entered with".

@@ -8,7 +8,7 @@ use Rattle.meaning.specs.Value.{mark}
 use Rattle.meaning.specs.Tree.{Tree, Forest, leaf, node, noTrees, treeAnd, yield, Picture, picture, width}
 use Rattle.meaning.specs.Walk.{Act, walk, walkTo}
 use Rattle.meaning.specs.Machine.{Lent, movesLimit, tokensLimit}
-use Rattle.meaning.specs.Calls.{Record, Stacks, lentOf, lay}
+use Rattle.meaning.specs.Calls.{Record, outer, statusOf, Stacks, lentOf, lay}
 
 -- ---- "its walk fits the lent stacks and it keeps to the limits"
 
@@ -52,7 +52,7 @@ drawnPicture g t j false = picture g j t
 
 -- 01: "The record drawn is open, with j tokens, these moves and the picture's heights; above them all is cleared."
 abbrev pub drawnRecord : Grammar → Tree → ℕ → Bool → Record
-drawnRecord g t j isOver = record { isOpen = not isOver; tokens = j; moves = length (drawnMoves g t j isOver); registerHeight = length (drawnPicture g t j isOver .registers); placeHeight = length (drawnPicture g t j isOver .places) }
+drawnRecord g t j isOver = record { status = statusOf (not isOver); kind = outer; tokens = j; moves = length (drawnMoves g t j isOver); registerHeight = length (drawnPicture g t j isOver .registers); placeHeight = length (drawnPicture g t j isOver .places) }
 
 -- on the stacks that the opening was lent
 abbrev pub drawnStacks : Grammar → Tree → ℕ → Bool → Stacks → Stacks

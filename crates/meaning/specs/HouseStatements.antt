@@ -10,6 +10,7 @@ use Rattle.meaning.specs.Judgement.{Accepted, rejected}
 use Rattle.meaning.specs.Decide.{verdictOf}
 use Rattle.meaning.specs.Calls.{Record, Stacks}
 use Rattle.meaning.specs.PublicCalls.{Call, Effect, opens, performs}
+use Rattle.meaning.specs.Inner.{InnerCall, InnerEffect, innerOpens, innerPerforms}
 use Rattle.meaning.specs.Order.{SameButOrder, houseGrammar, houseBytes}
 use Rattle.meaning.specs.House.{wrote, turnedBack, houseOf}
 
@@ -56,3 +57,17 @@ abbrev pub HouseKeeps : Type 0
 HouseKeeps = (program : Grammar → List ℕ) (bs : List ℕ) (g : Grammar) (area : List ℕ) (m : Stacks) → Bytes bs → Accepted bs g
     → SameButProgram (opens program bs area m) (opens program (houseBytes g) area m)
     × ((r : Record) (c : Call) → SameButProgram (performs program bs area r m c) (performs program (houseBytes g) area r m c))
+
+-- the same of a call on two records
+pub record SameBothButProgram (e f : InnerEffect) : Type 0 where
+  pub answer : e .answer ≡ f .answer
+  pub outerState : e .outerState ≡ f .outerState
+  pub innerState : e .innerState ≡ f .innerState
+  pub stacks : e .stacks ≡ f .stacks
+
+-- and so does every inner run (02 (h)), and every run that waits for one: the table as the outer or the inner one of an opening, and in each later inner call
+abbrev pub HouseKeepsInner : Type 0
+HouseKeepsInner = (program : Grammar → List ℕ) (bs : List ℕ) (g : Grammar) (area : List ℕ) (m : Stacks) → Bytes bs → Accepted bs g
+    → ((innerTable : List ℕ) (r : Record) → SameBothButProgram (innerOpens program bs innerTable area r m) (innerOpens program (houseBytes g) innerTable area r m))
+    × ((outerTable : List ℕ) (r : Record) → SameBothButProgram (innerOpens program outerTable bs area r m) (innerOpens program outerTable (houseBytes g) area r m))
+    × ((o i : Record) (c : InnerCall) → SameBothButProgram (innerPerforms program bs area o i m c) (innerPerforms program (houseBytes g) area o i m c))

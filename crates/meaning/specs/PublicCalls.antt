@@ -1,4 +1,4 @@
--- The calls as a caller makes them: any bytes for a table, any program area, record, stacks, kinds and values. 01: "Order: 30, table, 33, 34, then the moves"; 02 (e): 38 "after 34"
+-- The calls as a caller makes them: any bytes for a table, any program area, record, stacks, kinds and values. 01: "Order: 30, table, 33, 34, then the moves"; 02 (e): 38 "after 34"; 02 (h): 40 "after 33 and before 34"
 use Prim.Native.Nat.{ℕ, suc, _-_}
 use mathlib.Core.Bool.{true, false}
 use mathlib.Core.List.{List, [], _∷_, _++_}

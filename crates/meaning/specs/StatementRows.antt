@@ -16,8 +16,10 @@ use Rattle.meaning.specs.Walk.{Act, Makes, nothing, andThen}
 use Rattle.meaning.specs.Calls.{Record, Stacks, Answer, more, value, refused, tableRefused, closedRecord, lentOf, configOf, result}
 use Rattle.meaning.specs.Fit.{Fit, segment}
 use Rattle.meaning.specs.PublicCalls.{Call, feed, finish, areaLength, Effect, performs}
+use Rattle.meaning.specs.Inner.{isClosed, InnerCall, engine, giveUp}
+use Rattle.meaning.specs.InnerLists.{Step, innerRun}
 use Rattle.meaning.specs.CallStatements.{handedBack, OpeningOf, Refuses, tooMany, notToken, atToken, atEnd, between, MovesTo, CallsMoveOf}
-use Rattle.meaning.specs.Statements.{History, opened, countsForNothing, fed, finished, Reached}
+use Rattle.meaning.specs.Statements.{History, opened, countsForNothing, innerEnded, fed, finished, Reached}
 use Rattle.meaning.specs.Words.{words, bare, plain}
 use Rattle.meaning.specs.TableRows.{bytes}
 use Rattle.meaning.specs.CallRows.{m, state, stacks, used}
@@ -64,9 +66,26 @@ uneven-turned-back : Listed (0 ∷ []) (state true 1 7 5 3) (stacks (m ∷ m ∷
 unfolding bytes
 uneven-turned-back = countsForNothing bytes area (feed (1 ∷ []) []) one-word refl refl
 
+-- 02 (h): inner runs on the 3 registers and 2 places that are left: one given up after an empty feed; one that its finish ends, by 32
+abbrev insideCall : InnerCall → Step InnerCall
+insideCall c = record { table = bytes; area = area; call = c }
+
+inner-given-up : Listed (0 ∷ []) (state true 1 7 5 3) (stacks (m ∷ m ∷ pos 0 ∷ m ∷ pos 0 ∷ m ∷ m ∷ m ∷ []) (32768 ∷ 0 ∷ 257 ∷ 0 ∷ 0 ∷ []))
+unfolding bytes
+inner-given-up = innerEnded bytes bytes area (insideCall (engine (feed [] [])) ∷ insideCall giveUp ∷ []) uneven-turned-back refl refl
+
+inner-refused : Listed (0 ∷ []) (state true 1 7 5 3) (stacks (m ∷ m ∷ pos 0 ∷ m ∷ pos 0 ∷ m ∷ m ∷ m ∷ []) (32768 ∷ 0 ∷ 257 ∷ 0 ∷ 0 ∷ []))
+unfolding bytes
+inner-refused = innerEnded bytes bytes area (insideCall (engine finish) ∷ []) inner-given-up refl refl
+
+-- one that is still open does not count
+inner-still-open : map (λ c. isClosed (innerRun program bytes bytes area (state true 1 7 5 3) (stacks (m ∷ m ∷ pos 0 ∷ m ∷ pos 0 ∷ m ∷ m ∷ m ∷ []) (32768 ∷ 0 ∷ 257 ∷ 0 ∷ 0 ∷ [])) (insideCall c ∷ []) .innerState .status)) (engine (feed [] []) ∷ engine (feed (1 ∷ []) []) ∷ []) ≡ false ∷ false ∷ []
+unfolding bytes
+inner-still-open = refl
+
 two-pieces : Listed (0 ∷ 1 ∷ 2 ∷ []) (state true 3 17 8 4) (stacks (m ∷ m ∷ pos 0 ∷ m ∷ pos 0 ∷ pos 0 ∷ m ∷ pos 0 ∷ []) (32768 ∷ 0 ∷ 257 ∷ 515 ∷ 0 ∷ []))
 unfolding bytes
-two-pieces = fed area (1 ∷ 2 ∷ []) (pos 0 ∷ pos 0 ∷ []) tt refl turned-back long refl
+two-pieces = fed area (1 ∷ 2 ∷ []) (pos 0 ∷ pos 0 ∷ []) tt refl inner-refused long refl
 
 -- finished; and a feed after it, which 33 turns back
 after-the-end : History program bytes (used 8 5) (tokens (0 ∷ 1 ∷ 2 ∷ [])) true (state false 3 26 1 1) (stacks (pos 1 ∷ replicate 7 m) (32769 ∷ 0 ∷ 0 ∷ 0 ∷ 0 ∷ []))

@@ -18,8 +18,10 @@ use Rattle.meaning.specs.Machine.{Frame, Config, Lent, moved, opening, n
 use Rattle.meaning.specs.Tree.{Tree, TreeOf, isLeafOf, valueOf}
 use Rattle.meaning.specs.Walk.{Act, walk, Makes}
 use Rattle.meaning.specs.Selectors.{SelectorsFind}
-use Rattle.meaning.specs.Calls.{Record, Stacks, more, value, lentOf, recordOf, layAll}
+use Rattle.meaning.specs.Calls.{Record, isOpen, Stacks, more, value, lentOf, recordOf, layAll}
 use Rattle.meaning.specs.PublicCalls.{Call, feed, finish, areaLength, Effect, opens, performs}
+use Rattle.meaning.specs.Inner.{isClosed, InnerCall, innerOpens}
+use Rattle.meaning.specs.InnerLists.{Step, innerRun}
 use Rattle.meaning.specs.CallStatements.{Met, Lendable, Even, tokensOf}
 use Rattle.meaning.specs.Drawn.{WalkFits, drawnRecord, drawnStacks, drawnMoves}
 
@@ -45,15 +47,19 @@ JudgedOnce = (bs : List ℕ) → Judged bs (verdictOf bs) × ((v : Verdict) → 
 -- ==== lists of calls
 
 -- the lists of calls that start with an opening of the table bs on stacks m₀ that was not turned back: the tokens fed, with their values, whether a finish counted, the record and the stacks now.
--- Any call, with any table and area, that is turned back with record and stacks as they were counts for nothing.
+-- Any call, with any table and area, that is turned back with record and stacks as they were counts for nothing, and so does an inner run that has ended.
 pub data History (program : Grammar → List ℕ) (bs : List ℕ) (m₀ : Stacks) : List Token → Bool → Record → Stacks → Type 0 where
   opened : (area : List ℕ) → opens program bs area m₀ .answer ≡ more 0 → History program bs m₀ [] false (opens program bs area m₀ .state) (opens program bs area m₀ .stacks)
   countsForNothing : {ts : List Token} {isOver : Bool} {r : Record} {m : Stacks} (other area : List ℕ) (c : Call) → History program bs m₀ ts isOver r m
       → performs program other area r m c .state ≡ r → performs program other area r m c .stacks ≡ m
       → History program bs m₀ ts isOver r m
-  fed : {ts : List Token} {r : Record} {m : Stacks} (area ks : List ℕ) (vs : List ℤ) → Lendable (feed ks vs) → Even (feed ks vs) → History program bs m₀ ts false r m → areaLength ≤ length area → r .isOpen ≡ true
+  -- 02 (h): "in the outer run's list an ended inner run counts for nothing": opened on r and m, any inner calls, and closed; the list goes on from what it leaves
+  innerEnded : {ts : List Token} {isOver : Bool} {r : Record} {m : Stacks} (outerTable innerTable area : List ℕ) (ss : List (Step InnerCall)) → History program bs m₀ ts isOver r m
+      → innerOpens program outerTable innerTable area r m .answer ≡ more 0 → isClosed (innerRun program outerTable innerTable area r m ss .innerState .status) ≡ true
+      → History program bs m₀ ts isOver (innerRun program outerTable innerTable area r m ss .outerState) (innerRun program outerTable innerTable area r m ss .stacks)
+  fed : {ts : List Token} {r : Record} {m : Stacks} (area ks : List ℕ) (vs : List ℤ) → Lendable (feed ks vs) → Even (feed ks vs) → History program bs m₀ ts false r m → areaLength ≤ length area → isOpen r ≡ true
       → History program bs m₀ (ts ++ tokensOf (feed ks vs)) false (performs program bs area r m (feed ks vs) .state) (performs program bs area r m (feed ks vs) .stacks)
-  finished : {ts : List Token} {r : Record} {m : Stacks} (area : List ℕ) → History program bs m₀ ts false r m → areaLength ≤ length area → r .isOpen ≡ true
+  finished : {ts : List Token} {r : Record} {m : Stacks} (area : List ℕ) → History program bs m₀ ts false r m → areaLength ≤ length area → isOpen r ≡ true
       → History program bs m₀ ts true (performs program bs area r m finish .state) (performs program bs area r m finish .stacks)
 
 -- does a call end the segment?
@@ -65,7 +71,7 @@ ends finish = true
 abbrev pub GoesOn : Type 0
 GoesOn =
     (program : Grammar → List ℕ) (bs : List ℕ) (g : Grammar) (m₀ : Stacks) (ts : List Token) (isOver : Bool) (r : Record) (m : Stacks) → Accepted bs g → History program bs m₀ ts isOver r m
-    → ((area : List ℕ) (c : Call) → Lendable c → Even c → areaLength ≤ length area → r .isOpen ≡ true → History program bs m₀ (ts ++ tokensOf c) (ends c) (performs program bs area r m c .state) (performs program bs area r m c .stacks))
+    → ((area : List ℕ) (c : Call) → Lendable c → Even c → areaLength ≤ length area → isOpen r ≡ true → History program bs m₀ (ts ++ tokensOf c) (ends c) (performs program bs area r m c .state) (performs program bs area r m c .stacks))
     × ((other area : List ℕ) (c : Call) → ((h : Grammar) → Met other h area r m → Even c → ⊥) → History program bs m₀ ts isOver (performs program other area r m c .state) (performs program other area r m c .stacks))
 
 -- ==== demand 2: values
@@ -109,10 +115,10 @@ pub record Reached (g : Grammar) (m₀ : Stacks) (ts : List Token) (r : Record) 
   pub config : Config
   pub made : Makes g (lentOf m₀) (leaves g ts) (opening g) moves unread config
   pub counted : length moves ≡ r .moves
-  pub isRecord : r ≡ recordOf (r .isOpen) config
+  pub isRecord : r ≡ recordOf (isOpen r) config
   pub isStacks : m ≡ layAll g config m₀
   -- while the record is open they have read all of them, no move has looked at what comes next, and the next move must
-  pub openRun : r .isOpen ≡ true → ((us : List Leaf) → Makes g (lentOf m₀) (leaves g ts ++ us) (opening g) moves us config) × T (waits (config .frames))
+  pub openRun : isOpen r ≡ true → ((us : List Leaf) → Makes g (lentOf m₀) (leaves g ts ++ us) (opening g) moves us config) × T (waits (config .frames))
 
 abbrev pub ReachedAlways : Type 0
 ReachedAlways = (program : Grammar → List ℕ) (bs : List ℕ) (g : Grammar) (m₀ : Stacks) (ts : List Token) (isOver : Bool) (r : Record) (m : Stacks) → Accepted bs g → History program bs m₀ ts isOver r m → Reached g m₀ ts r m
@@ -123,7 +129,7 @@ WalkAlways =
     (program : Grammar → List ℕ) (bs : List ℕ) (g : Grammar) (m₀ : Stacks) (ts us : List Token) (isOver : Bool) (r : Record) (m : Stacks) (t : Tree)
     → Accepted bs g → History program bs m₀ ts isOver r m
     → TreeOf g (leaves g (ts ++ us)) t → WalkFits g (lentOf m₀) t → (isOver ≡ true → us ≡ [])
-    → (c : Config) × Makes g (lentOf m₀) (leaves g (ts ++ us)) (opening g) (drawnMoves g t (length ts) isOver) (leaves g us) c × (r ≡ recordOf (r .isOpen) c) × (m ≡ layAll g c m₀)
+    → (c : Config) × Makes g (lentOf m₀) (leaves g (ts ++ us)) (opening g) (drawnMoves g t (length ts) isOver) (leaves g us) c × (r ≡ recordOf (isOpen r) c) × (m ≡ layAll g c m₀)
 
 -- "at each move, whatever the tokens, every selector finds the attribute it names": each move that the opening leads to. (The tokens have values in range: those of a caller are signed 32-bit numbers, by their type)
 abbrev pub SelectorsAlways : Type 0

@@ -1,14 +1,13 @@
 -- The cases that 01 marks with a star, each from the table's bytes through the calls on memory, under one theorem.
 use Prim.Native.Nat.{ℕ, _≤_}
 use mathlib.Core.Path.{_≡_, refl, ap, _∙_}
-use mathlib.Core.Bool.{true}
 use mathlib.Core.List.{List, [], _∷_}
 use lib.ListN.{length, replicate}
 use lib.IntN.{ℤ, pos}
 use Rattle.meaning.specs.Grammar.{Grammar}
 use Rattle.meaning.specs.Value.{mark}
 use Rattle.meaning.specs.Judgement.{accepted, rejected}
-use Rattle.meaning.specs.Calls.{Called, Stacks, Answer, more, value, refused}
+use Rattle.meaning.specs.Calls.{running, outer, Called, Stacks, Answer, more, value, refused}
 use Rattle.meaning.specs.PublicCalls.{areaLength, Effect, printed}
 use Rattle.meaning.specs.TableRows.{bytes}
 use Rattle.meaning.specs.Words.{words}
@@ -48,7 +47,7 @@ pub record Starred : Type 0 where
   -- "Stopped after word open, registers from the top: 1, mark, 0, mark, 0, mark, mark; places from the bottom 32768, 0, 257, 513": here both from the bottom, the rest cleared, with answer and record
   pub wordOpen : Always (λ program area v p. withoutArea (fed program bytes area (lent 9 6 v p) (0 ∷ 1 ∷ [])) ≡ record {
     answer = more 11;
-    state = record { isOpen = true; tokens = 2; moves = 11; registerHeight = 7; placeHeight = 4 };
+    state = record { status = running; kind = outer; tokens = 2; moves = 11; registerHeight = 7; placeHeight = 4 };
     stacks = record { registers = mark ∷ mark ∷ pos 0 ∷ mark ∷ pos 0 ∷ mark ∷ pos 1 ∷ mark ∷ mark ∷ []; places = 32768 ∷ 0 ∷ 257 ∷ 513 ∷ 0 ∷ 0 ∷ [] };
   })
   -- "Three opens nested pass, a fourth: 22 after 3"

@@ -3,7 +3,7 @@ use Prim.Native.Nat.{ℕ, _≤_}
 use native.Mathlib.Omega.{arith}
 use mathlib.Core.Path.{_≡_, refl, sym, ap, _∙_, subst}
 use mathlib.Core.Logic.{_⊎_, inl, inr}
-use mathlib.Core.Bool.{Bool, true, false}
+use mathlib.Core.Bool.{Bool, true, false, _||_}
 use mathlib.Core.List.{List, [], reverse}
 use lib.ListN.{length, take}
 use lib.Dec.{T, eqb, ltb}
@@ -17,10 +17,11 @@ use Rattle.meaning.specs.Machine.{Coming, comes, ends, Config, Settled, stopped
 use Rattle.meaning.specs.Base.{all}
 use Rattle.meaning.specs.Tree.{isLeafOf}
 use Rattle.meaning.specs.Walk.{nothing}
+use Rattle.meaning.specs.Calls.{Status, running, waiting, closed, Kind, outer, inner, Gate, admitted, turnedBack, gate, isOpen}
 use Rattle.meaning.specs.Calls.{Record, Stacks, Called, Answer, closedRecord, more, refused, tableRefused, lentOf, recordOf, layAll, configOf, stacksFit, asBrought, openOf, afterFeed, afterFinish, whenFit, whenEven, tokensFrom}
 use Rattle.meaning.specs.Fit.{Fit}
 use Rattle.meaning.specs.PublicCalls.{Checked, usable, unusable, checkedAs, check, Call, feed, finish, callOf, areaLength, written, Effect, effect, opens, performs}
-use Rattle.meaning.specs.CallStatements.{isTableNumber, openingAnswer, callAnswer, AlwaysAnswers, Lendable, Even, Met, UnevenLists, MovesTo, CallsMove, EmptyFeed, LimitsOnly, HandlesAlways}
+use Rattle.meaning.specs.CallStatements.{isTableNumber, openingAnswer, engineAnswer, isForty, callAnswer, AlwaysAnswers, Lendable, Even, Met, UnevenLists, MovesTo, CallsMove, EmptyFeed, LimitsOnly, HandlesAlways}
 use Rattle.theory_base.specs.Members.{T→true, same-true, differ-false}
 use Rattle.theory_base.specs.Feeds.{leaves-of}
 use Rattle.theory_table.specs.ReadWellFormed.{read-well-formed}
@@ -66,21 +67,24 @@ module _ (Q : Answer → Record → Stacks → Type 0) (program : Grammar → Li
   abbrev Holds : Called → Type 0
   Holds k = Q (k .answer) (k .state) (k .stacks)
 
-  when-fit : (g : Grammar) (k : Called) → Q (refused 33 0) r m → Q (refused 34 0) r m → (Fit g r m → Holds k) → Holds (whenFit g r m k)
-  when-fit g k a b h = go (r .isOpen) (stacksFit g r m) refl
+  when-fit : (g : Grammar) (k : Called) → Q (refused 33 0) r m → Q (refused 40 0) r m → Q (refused 34 0) r m → (Fit g r m → Holds k) → Holds (whenFit g r m k)
+  when-fit g k a d b h = go (r .status) (r .kind) (stacksFit g r m) refl
     where
-      go : (o b : Bool) → stacksFit g r m ≡ b → Holds (elim o as (λ z. Called) [ false ↦ asBrought (refused 33 0) r m | true ↦ elim b as (λ z. Called) [ false ↦ asBrought (refused 34 0) r m | true ↦ k ] ])
-      go false f e = a
-      go true false e = b
-      go true true e = h (fit-exactly g r m .0 (rw e tt))
+      go : (s : Status) (u : Kind) (b : Bool) → stacksFit g r m ≡ b → Holds (elim (gate 34 s u) as (λ z. Called) [ turnedBack n ↦ asBrought (refused n 0) r m | admitted ↦ elim b as (λ z. Called) [ false ↦ asBrought (refused 34 0) r m | true ↦ k ] ])
+      go closed u f e = a
+      go waiting outer f e = d
+      go waiting (inner x y) f e = b
+      go running (inner x y) f e = b
+      go running outer false e = b
+      go running outer true e = h (fit-exactly g r m .0 (rw e tt))
 
   abbrev Leaves : Effect → Type 0
   Leaves e = Q (e .answer) (e .state) (e .stacks)
 
-  pub by-cases : Q (refused 30 0) r m → ((n o : ℕ) → T (isTableNumber n) → Q (tableRefused n o) r m) → Q (refused 33 0) r m → Q (refused 34 0) r m
+  pub by-cases : Q (refused 30 0) r m → ((n o : ℕ) → T (isTableNumber n) → Q (tableRefused n o) r m) → Q (refused 33 0) r m → Q (refused 40 0) r m → Q (refused 34 0) r m
       → ((s : State) → check bs ≡ usable s → Fit (grammarOf s) r m → Holds (made (grammarOf s) r m c))
       → Leaves (performs program bs area r m c)
-  by-cases short turned closed unfit h = go (ltb (length area) areaLength) (check bs) refl (check-number bs)
+  by-cases short turned over33 over40 unfit h = go (ltb (length area) areaLength) (check bs) refl (check-number bs)
     where
       go : (b : Bool) (k : Checked) → check bs ≡ k → CheckedRight k → Leaves (elim b as (λ z. Effect) [
         | true ↦ effect (asBrought (refused 30 0) r m) area
@@ -88,7 +92,7 @@ module _ (Q : Answer → Record → Stacks → Type 0) (program : Grammar → Li
       ])
       go true k e t = short
       go false (unusable n o) e t = turned n o t
-      go false (usable s) e t = subst Holds (sym (call-is (grammarOf s) r m c)) (when-fit (grammarOf s) (made (grammarOf s) r m c) closed unfit (h s e))
+      go false (usable s) e t = subst Holds (sym (call-is (grammarOf s) r m c)) (when-fit (grammarOf s) (made (grammarOf s) r m c) over33 over40 unfit (h s e))
 
 -- ---- every configuration that the moves of a call lead to
 
@@ -120,7 +124,7 @@ module _ (g : Grammar) (wf : WellFormed g) (r : Record) (m : Stacks) (f : Fit g 
 
 -- ---- 01's numbers
 
-token-number : (t : Leaf) (e : Config) {k : ℕ} → Blocks (comes t) e k → (ks : List ℕ) (vs : List ℤ) (n : ℕ) → T (callAnswer (feed ks vs) (refused k n))
+token-number : (t : Leaf) (e : Config) {k : ℕ} → Blocks (comes t) e k → (ks : List ℕ) (vs : List ℤ) (n : ℕ) → T (engineAnswer (feed ks vs) (refused k n))
 token-number t e (atLimit l) ks vs n = tt
 token-number t e notExpected ks vs n = tt
 token-number t e conditionFalse ks vs n = tt
@@ -128,12 +132,12 @@ token-number t e outOfRange ks vs n = tt
 token-number t e noRegister ks vs n = tt
 token-number t e noPlace ks vs n = tt
 
-feed-number : (e : Config) {k : ℕ} → FeedBlocks e k → (ks : List ℕ) (vs : List ℤ) (n : ℕ) → T (callAnswer (feed ks vs) (refused k n))
+feed-number : (e : Config) {k : ℕ} → FeedBlocks e k → (ks : List ℕ) (vs : List ℤ) (n : ℕ) → T (engineAnswer (feed ks vs) (refused k n))
 feed-number e (manyTokens l) ks vs n = tt
 feed-number e unknownToken ks vs n = tt
 feed-number e (blockedMove t b) ks vs n = token-number t e b ks vs n
 
-end-number : (e : Config) {k : ℕ} → Blocks ends e k → (n : ℕ) → T (callAnswer finish (refused k n))
+end-number : (e : Config) {k : ℕ} → Blocks ends e k → (n : ℕ) → T (engineAnswer finish (refused k n))
 end-number e (atLimit l) n = tt
 end-number e notExpected n = tt
 end-number e conditionFalse n = tt
@@ -142,30 +146,30 @@ end-number e noRegister n = tt
 end-number e noPlace n = tt
 
 -- before the moves
-early : (c : Call) → T (callAnswer c (refused 30 0)) × T (callAnswer c (refused 33 0)) × T (callAnswer c (refused 34 0))
-early (feed ks vs) = (tt, tt, tt)
-early finish = (tt, tt, tt)
+early : (c : Call) → T (engineAnswer c (refused 30 0)) × T (engineAnswer c (refused 33 0)) × T (callAnswer c (refused 40 0)) × T (engineAnswer c (refused 34 0))
+early (feed ks vs) = (tt, tt, tt, tt)
+early finish = (tt, tt, tt, tt)
 
-turned-back : (c : Call) (n o : ℕ) → T (isTableNumber n) → T (callAnswer c (tableRefused n o))
+turned-back : (c : Call) (n o : ℕ) → T (isTableNumber n) → T (engineAnswer c (tableRefused n o))
 turned-back (feed ks vs) n o t = t
 turned-back finish n o t = t
 
-fit-answers : (g : Grammar) → WellFormed g → (r : Record) (m : Stacks) → Fit g r m → (c : Call) → T (callAnswer c (made g r m c .answer))
+pub fit-answers : (g : Grammar) → WellFormed g → (r : Record) (m : Stacks) → Fit g r m → (c : Call) → T (engineAnswer c (made g r m c .answer))
 fit-answers g wf r m f (feed ks vs) = even (eqb (length ks) (length vs)) (feedAll g (lentOf m) us (configOf g r m)) (feed-leads g wf r m f us)
   where
     us : List Leaf
     us = leaves g (tokensFrom ks vs)
 
-    go : (o : Settled) → Fed g (lentOf m) (configOf g r m) us o → T (callAnswer (feed ks vs) (afterFeed g m o .answer))
+    go : (o : Settled) → Fed g (lentOf m) (configOf g r m) us o → T (engineAnswer (feed ks vs) (afterFeed g m o .answer))
     go (stopped e) v = tt
     go (failed e k) v = feed-number e (v .3) ks vs (e .tokens)
 
-    even : (b : Bool) (o : Settled) → Fed g (lentOf m) (configOf g r m) us o → T (callAnswer (feed ks vs) (whenEven b r m (afterFeed g m o) .answer))
+    even : (b : Bool) (o : Settled) → Fed g (lentOf m) (configOf g r m) us o → T (engineAnswer (feed ks vs) (whenEven b r m (afterFeed g m o) .answer))
     even true o v = go o v
     even false o v = tt
 fit-answers g wf r m f finish = go (finishAll g (lentOf m) (configOf g r m)) (finish-leads g wf r m f)
   where
-    go : (o : Settled) → Finished g (lentOf m) (configOf g r m) [] (r .tokens) o → T (callAnswer finish (afterFinish g m o .answer))
+    go : (o : Settled) → Finished g (lentOf m) (configOf g r m) [] (r .tokens) o → T (engineAnswer finish (afterFinish g m o .answer))
     go (stopped e) v = result-ranged g wf e (led-shaped g wf r m f [] [] e tt (with-nothing g (lentOf m) [] (configOf g r m) [] e (v .0))) (v .1)
     go (failed e k) v = end-number e (v .1) (e .tokens)
 
@@ -188,11 +192,23 @@ opens-right program bs area m = go (ltb (length area) areaLength) (check bs) (ch
     go false (unusable n o) t = t
     go false (usable s) t = opened (ltb (lentOf m .maxRegisters) (length (opening (grammarOf s) .registers))) (ltb (lentOf m .maxPlaces) 1) (grammarOf s)
 
+or-left : (a b : Bool) → T a → T (a || b)
+or-left true b t = tt
+
 pub always-answers : AlwaysAnswers
 always-answers = (opens-right, performs-right)
   where
+    either : (c : Call) (a : Answer) → T (engineAnswer c a) → T (callAnswer c a)
+    either c a t = or-left (engineAnswer c a) (isForty a) t
+
     performs-right : (program : Grammar → List ℕ) (bs area : List ℕ) (r : Record) (m : Stacks) (c : Call) → T (callAnswer c (performs program bs area r m c .answer))
-    performs-right program bs area r m c = by-cases (λ a u v. T (callAnswer c a)) program bs area r m c (early c .0) (turned-back c) (early c .1) (early c .2) (λ s e f. fit-answers (grammarOf s) (checked-formed bs s e) r m f c)
+    performs-right program bs area r m c = by-cases (λ a u v. T (callAnswer c a)) program bs area r m c
+        (either c (refused 30 0) (early c .0))
+        (λ n o t. either c (tableRefused n o) (turned-back c n o t))
+        (either c (refused 33 0) (early c .1))
+        (early c .2)
+        (either c (refused 34 0) (early c .3))
+        (λ s e f. either c (made (grammarOf s) r m c .answer) (fit-answers (grammarOf s) (checked-formed bs s e) r m f c))
 
 -- ---- 35
 
@@ -240,18 +256,19 @@ limits-only program bs area r m c n = by-cases (λ a u v. AtLimit n a u) program
     (λ q. absurd (omega (arith, refused-is 30 0 35 n q)))
     (λ k o t q. absurd (let z : _≡_ {A = ℕ} 0 1 = cc in omega arith))
     (λ q. absurd (omega (arith, refused-is 33 0 35 n q)))
+    (λ q. absurd (omega (arith, refused-is 40 0 35 n q)))
     (λ q. absurd (omega (arith, refused-is 34 0 35 n q)))
     (λ s e f. fit-limits (grammarOf s) (checked-formed bs s e) r m f c n)
 
 -- ---- calls that are not turned back before their moves
 
-pub when-met : (g : Grammar) (r : Record) (m : Stacks) (k : Called) → r .isOpen ≡ true → Fit g r m → whenFit g r m k ≡ k
-when-met g r m k o f = go (r .isOpen) (stacksFit g r m) o (T→true (stacksFit g r m) (fit-exactly g r m .1 f))
+pub when-met : (g : Grammar) (r : Record) (m : Stacks) (k : Called) → isOpen r ≡ true → Fit g r m → whenFit g r m k ≡ k
+when-met g r m k o f = go (gate 34 (r .status) (r .kind)) (stacksFit g r m) o (T→true (stacksFit g r m) (fit-exactly g r m .1 f))
   where
-    go : (a b : Bool) → a ≡ true → b ≡ true → (elim a as (λ z. Called) [ false ↦ asBrought (refused 33 0) r m | true ↦ elim b as (λ z. Called) [ false ↦ asBrought (refused 34 0) r m | true ↦ k ] ]) ≡ k
-    go true true x y = refl
-    go false b x y = absurd (subst T (sym x) tt)
-    go true false x y = absurd (subst T (sym y) tt)
+    go : (a : Gate) (b : Bool) → elim a as (λ z. Bool) [ admitted ↦ true | turnedBack n ↦ false ] ≡ true → b ≡ true → (elim a as (λ z. Called) [ turnedBack n ↦ asBrought (refused n 0) r m | admitted ↦ elim b as (λ z. Called) [ false ↦ asBrought (refused 34 0) r m | true ↦ k ] ]) ≡ k
+    go admitted true x y = refl
+    go (turnedBack n) b x y = absurd (subst T (sym x) tt)
+    go admitted false x y = absurd (subst T (sym y) tt)
 
 module _ (program : Grammar → List ℕ) (bs area : List ℕ) (g : Grammar) (r : Record) (m : Stacks) (met : Met bs g area r m) where
   pub performs-met : (c : Call) → performs program bs area r m c ≡ effect (made g r m c) (written (program g) area)
@@ -295,7 +312,7 @@ uneven-lists program bs area g r m finish met u = absurd (u tt)
 pub empty-feed : EmptyFeed
 empty-feed program bs area g r m met =
     let f : WellFormed g = accepted-well-formed bs g (met .accepts) in
-    let state : recordOf true (configOf g r m) ≡ r = ap (λ o. recordOf o (configOf g r m)) (sym (met .isOpen)) ∙ same-record g f r m (met .fits) in
+    let state : recordOf true (configOf g r m) ≡ r = same-record g f r m (met .fits) (met .isOpen) in
     let stacks : layAll g (configOf g r m) m ≡ m = same-stacks g f r m (met .fits) in
     performs-met program bs area g r m met (feed [] []) ∙ (λ i. record { answer = more (r .moves); state = state i; stacks = stacks i; area = written (program g) area })
 

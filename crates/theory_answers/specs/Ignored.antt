@@ -12,7 +12,7 @@ use Rattle.meaning.specs.Grammar.{Grammar, Leaf, carried, leaves}
 use Rattle.meaning.specs.Machine.{feedAll}
 use Rattle.meaning.specs.Calls.{lentOf, configOf, afterFeed, whenEven, tokensFrom}
 use Rattle.meaning.specs.PublicCalls.{feed, written, effect, performs}
-use Rattle.meaning.specs.CallStatements.{Case, short, badTable, closed, unfit, uneven, met}
+use Rattle.meaning.specs.CallStatements.{Case, short, badTable, isClosed, isWaiting, isInner, unfit, uneven, met}
 use Rattle.meaning.specs.TokenStatements.{SameWhereCarried, IgnoredValues}
 use Rattle.theory_base.specs.Members.{any-in}
 use Rattle.theory_answers.specs.Answers.{made, performs-met, uneven-lists}
@@ -42,8 +42,10 @@ ignored-values program bs area r m ks vs ws n h = go (all-cases bs area r m (fee
     go : Case bs area r m (feed ks vs) → performs program bs area r m (feed ks vs) ≡ performs program bs area r m (feed ks ws)
     go (short l) = short-area program bs area r m (feed ks vs) l .1 ∙ sym (short-area program bs area r m (feed ks ws) l .1)
     go (badTable l k o j) = bad-table program bs area r m (feed ks vs) k o l j .1 ∙ sym (bad-table program bs area r m (feed ks ws) k o l j .1)
-    go (closed l g a e) = bad-state program bs area g r m (feed ks vs) l a .0 e ∙ sym (bad-state program bs area g r m (feed ks ws) l a .0 e)
-    go (unfit l g a e f) = bad-state program bs area g r m (feed ks vs) l a .1 e f ∙ sym (bad-state program bs area g r m (feed ks ws) l a .1 e f)
+    go (isClosed l g a e) = bad-state program bs area g r m (feed ks vs) l a .0 e ∙ sym (bad-state program bs area g r m (feed ks ws) l a .0 e)
+    go (isWaiting l g a e f) = bad-state program bs area g r m (feed ks vs) l a .1 e f ∙ sym (bad-state program bs area g r m (feed ks ws) l a .1 e f)
+    go (isInner l g a e f) = bad-state program bs area g r m (feed ks vs) l a .2 e f ∙ sym (bad-state program bs area g r m (feed ks ws) l a .2 e f)
+    go (unfit l g a e f) = bad-state program bs area g r m (feed ks vs) l a .3 e f ∙ sym (bad-state program bs area g r m (feed ks ws) l a .3 e f)
     go (uneven g x e) = uneven-lists program bs area g r m (feed ks vs) x e ∙ sym (uneven-lists program bs area g r m (feed ks ws) x (λ z. e (z ∙ sym n)))
     go (met g x e) =
         let same : made g r m (feed ks vs) ≡ made g r m (feed ks ws) = ap₂ (λ (l : ℕ) (us : List Leaf). whenEven (eqb (length ks) l) r m (afterFeed g m (feedAll g (lentOf m) us (configOf g r m)))) n (leaves-same g ks vs ws n (h g (x .accepts))) in

@@ -14,7 +14,7 @@ use Rattle.meaning.specs.Rules.{WellFormed}
 use Rattle.meaning.specs.Table.{State, grammarOf}
 use Rattle.meaning.specs.Machine.{Config, Lent, Settled, stopped, failed, opening, feedAll, finishAll, placeOf}
 use Rattle.meaning.specs.Part.{config}
-use Rattle.meaning.specs.Calls.{Record, Stacks, Called, more, refused, tableRefused, closedRecord, asBrought, lentOf, lay, layAll, frameOf, configOf, recordOf, stacksFit, afterFeed, afterFinish, whenFit, whenEven, tokensFrom, openOf}
+use Rattle.meaning.specs.Calls.{Gate, admitted, turnedBack, gate, Record, Stacks, Called, more, refused, tableRefused, closedRecord, asBrought, lentOf, lay, layAll, frameOf, configOf, recordOf, stacksFit, afterFeed, afterFinish, whenFit, whenEven, tokensFrom, openOf}
 use Rattle.meaning.specs.Fit.{WaitsAt, Left, Fit}
 use Rattle.meaning.specs.PublicCalls.{Checked, usable, unusable, check, Call, feed, finish, callOf, areaLength, written, Effect, effect, opens}
 use Rattle.meaning.specs.CallStatements.{lentPart, pastLent, onLent, NeverRead, NeverWritten}
@@ -134,7 +134,7 @@ open-past g m = go (ltb (lentOf m .maxRegisters) (length (opening g .registers))
 pub never-written : NeverWritten
 never-written program bs area r m c = (
   opens-cases (λ e. pastLent (e .stacks) ≡ pastLent m) program bs area m refl (λ n o e. refl) (λ s e. open-past (grammarOf s) m),
-  by-cases (λ a u v. pastLent v ≡ pastLent m) program bs area r m c refl (λ n o t. refl) refl refl (λ s e f. made-past (grammarOf s) (checked-formed bs s e) r m f c),
+  by-cases (λ a u v. pastLent v ≡ pastLent m) program bs area r m c refl (λ n o t. refl) refl refl refl (λ s e f. made-past (grammarOf s) (checked-formed bs s e) r m f c),
 )
 
 -- ---- not read
@@ -229,16 +229,16 @@ module _ (m n : Stacks) (same : lentPart m ≡ lentPart n) (g : Grammar) (r : Re
   fits-same = same-bool (stacksFit g r m) (stacksFit g r n) (λ t. fit-exactly g r n .1 (fit-same m n same g r (fit-exactly g r m .0 t))) (λ t. fit-exactly g r m .1 (fit-same n m (sym same) g r (fit-exactly g r n .0 t)))
 
   when-same : (k j : Called) → (Fit g r m → calledLent k ≡ calledLent j) → calledLent (whenFit g r m k) ≡ calledLent (whenFit g r n j)
-  when-same k j h = go (r .isOpen) (stacksFit g r m) refl (stacksFit g r n) fits-same
+  when-same k j h = go (gate 34 (r .status) (r .kind)) (stacksFit g r m) refl (stacksFit g r n) fits-same
     where
-      go : (o a : Bool) → stacksFit g r m ≡ a → (b : Bool) → stacksFit g r m ≡ b
-          → calledLent (elim o as (λ z. Called) [ false ↦ asBrought (refused 33 0) r m | true ↦ elim a as (λ z. Called) [ false ↦ asBrought (refused 34 0) r m | true ↦ k ] ])
-          ≡ calledLent (elim o as (λ z. Called) [ false ↦ asBrought (refused 33 0) r n | true ↦ elim b as (λ z. Called) [ false ↦ asBrought (refused 34 0) r n | true ↦ j ] ])
-      go false a x b y = brought-same 33
-      go true false x false y = brought-same 34
-      go true true x true y = h (fit-exactly g r m .0 (rw x tt))
-      go true false x true y = absurd (subst T (sym y ∙ x) tt)
-      go true true x false y = absurd (subst T (sym x ∙ y) tt)
+      go : (o : Gate) (a : Bool) → stacksFit g r m ≡ a → (b : Bool) → stacksFit g r m ≡ b
+          → calledLent (elim o as (λ z. Called) [ turnedBack q ↦ asBrought (refused q 0) r m | admitted ↦ elim a as (λ z. Called) [ false ↦ asBrought (refused 34 0) r m | true ↦ k ] ])
+          ≡ calledLent (elim o as (λ z. Called) [ turnedBack q ↦ asBrought (refused q 0) r n | admitted ↦ elim b as (λ z. Called) [ false ↦ asBrought (refused 34 0) r n | true ↦ j ] ])
+      go (turnedBack q) a x b y = brought-same q
+      go admitted false x false y = brought-same 34
+      go admitted true x true y = h (fit-exactly g r m .0 (rw x tt))
+      go admitted false x true y = absurd (subst T (sym y ∙ x) tt)
+      go admitted true x false y = absurd (subst T (sym x ∙ y) tt)
 
   call-same : WellFormed g → (c : Call) → calledLent (callOf g r m c) ≡ calledLent (callOf g r n c)
   call-same wf c = ap calledLent (call-is g r m c) ∙ (when-same (made g r m c) (made g r n c) (λ f. made-same wf f c) ∙ ap calledLent (sym (call-is g r n c)))

@@ -3,7 +3,8 @@ use Prim.Native.Nat.{ℕ, suc, _+_, _-_, _≤_, _<_, min}
 use native.Mathlib.Omega.{arith}
 use mathlib.Core.Path.{_≡_, refl, sym, ap, ap₂, _∙_, subst, subst₂}
 use mathlib.Core.Logic.{_⊎_, inl, inr}
-use mathlib.Core.Bool.{Bool}
+use mathlib.Core.Bool.{Bool, true, false}
+use lib.Dec.{T}
 use mathlib.Core.List.{List, [], _∷_, _++_, map, reverse, append-assoc, reverse-reverse}
 use lib.ListN.{getD, length, take, drop, replicate, length-append, length-replicate, length-drop, length-take, length-reverse, length-map, getD-replicate, take-append-drop, List·getD-append}
 use lib.Seq.{take-at, drop-at, getD-take, getD-drop, drop-drop, drop-cons}
@@ -13,7 +14,7 @@ use Rattle.meaning.specs.Value.{mark}
 use Rattle.meaning.specs.Rules.{WellFormed}
 use Rattle.meaning.specs.Machine.{Config, Lent, placeOf, movesLimit, tokensLimit}
 use Rattle.meaning.specs.Part.{config}
-use Rattle.meaning.specs.Calls.{Record, Stacks, lentOf, lay, layAll, frameOf, configOf, recordOf}
+use Rattle.meaning.specs.Calls.{Status, running, waiting, closed, Kind, outer, inner, admitted, turnedBack, gate, isOpen, Record, Stacks, lentOf, lay, layAll, frameOf, configOf, recordOf}
 use Rattle.meaning.specs.Fit.{WaitsAt, segment, inside, Left, Fit}
 use Rattle.theory_base.specs.Frames.{place-waits, frame-back}
 use Rattle.theory_answers.specs.ShapeMemory.{AtStop}
@@ -48,7 +49,7 @@ module _ {A : Type 0} (n : ℕ) (clear : A) (xs mem : List A) where
   lay-rest : length xs ≤ n → drop n (lay n clear xs mem) ≡ drop n mem
   lay-rest h = drop-at (reverse xs ++ replicate (n - length xs) clear) (drop n mem) n (length-append (reverse xs) (replicate (n - length xs) clear) ∙ omega (arith, length-reverse xs, length-replicate (n - length xs) clear))
 
-all-clear : {A : Type 0} (clear : A) (xs : List A) → ((i : ℕ) → i < length xs → getD xs i clear ≡ clear) → xs ≡ replicate (length xs) clear
+pub all-clear : {A : Type 0} (clear : A) (xs : List A) → ((i : ℕ) → i < length xs → getD xs i clear ≡ clear) → xs ≡ replicate (length xs) clear
 all-clear clear [] h = refl
 all-clear clear (x ∷ xs) h = ap₂ (λ y ys. y ∷ ys) (h 0 (omega arith)) (all-clear clear xs (λ i l. h (suc i) (omega arith)))
 
@@ -129,6 +130,18 @@ pub places-back : (g : Grammar) → WellFormed g → (ps : List ℕ) (rs : List 
 places-back g wf ps rs (inl w) = waits-back g wf (w .1)
 places-back g wf ps rs (inr l) = subst (λ z. map (placeOf g) (map (frameOf g) z) ≡ z) (sym (l .place)) refl
 
+-- a record that an ordinary call takes
+pub open-is : (s : Status) (k : Kind) → elim (gate 34 s k) as (λ z. Bool) [ admitted ↦ true | turnedBack n ↦ false ] ≡ true → (s ≡ running) × (k ≡ outer)
+open-is running outer o = (refl, refl)
+open-is running (inner a b) o = absurd (subst T (sym o) tt)
+open-is waiting outer o = absurd (subst T (sym o) tt)
+open-is waiting (inner a b) o = absurd (subst T (sym o) tt)
+open-is closed k o = absurd (subst T (sym o) tt)
+
+pub record-open : (b : Bool) (c : Config) → isOpen (recordOf b c) ≡ b
+record-open true c = refl
+record-open false c = refl
+
 module _ (g : Grammar) (wf : WellFormed g) (r : Record) (m : Stacks) (f : Fit g r m) where
   height : {A : Type 0} (h : ℕ) (mem : List A) → h ≤ length mem → length (reverse (take h mem)) ≡ h
   height h mem l = length-reverse (take h mem) ∙ (length-take h mem ∙ omega arith)
@@ -142,8 +155,10 @@ module _ (g : Grammar) (wf : WellFormed g) (r : Record) (m : Stacks) (f : Fit g 
   pub fit-within : Within (lentOf m) (configOf g r m)
   fit-within = record { registers = omega (arith, registers-height, f .registerHeight); places = omega (arith, places-height, f .placeHeight); moves = f .moves }
 
-  pub same-record : recordOf (r .isOpen) (configOf g r m) ≡ r
-  same-record = λ i. record { isOpen = r .isOpen; tokens = r .tokens; moves = r .moves; registerHeight = registers-height i; placeHeight = places-height i }
+  pub same-record : isOpen r ≡ true → recordOf true (configOf g r m) ≡ r
+  same-record o =
+      let s : (r .status ≡ running) × (r .kind ≡ outer) = open-is (r .status) (r .kind) o in
+      λ i. record { status = sym (s .0) i; kind = sym (s .1) i; tokens = r .tokens; moves = r .moves; registerHeight = registers-height i; placeHeight = places-height i }
 
   pub same-stacks : layAll g (configOf g r m) m ≡ m
   same-stacks =

@@ -1,6 +1,6 @@
 -- A list of calls that bring the accepted table, among any that count for nothing, is a list of calls under its grammar.
 use Prim.Native.Nat.{ℕ, _≤_}
-use mathlib.Core.Path.{_≡_, sym, ap, _∙_, subst}
+use mathlib.Core.Path.{_≡_, sym, ap, _∙_, subst, subst₂}
 use mathlib.Core.Bool.{Bool, true, false}
 use mathlib.Core.List.{List, [], _++_}
 use lib.ListN.{length}
@@ -12,9 +12,10 @@ use Rattle.meaning.specs.Judgement.{Accepted}
 use Rattle.meaning.specs.Tree.{isLeafOf}
 use Rattle.meaning.specs.Calls.{Record, Stacks, closedRecord, openOf, tokensFrom}
 use Rattle.meaning.specs.PublicCalls.{Call, feed, finish, callOf, areaLength, written, effect, opens, performs}
-use Rattle.meaning.specs.Statements.{History, opened, countsForNothing, fed, finished}
+use Rattle.meaning.specs.Statements.{History, opened, countsForNothing, innerEnded, fed, finished}
 use Rattle.theory_base.specs.Members.{all-append}
 use Rattle.theory_answers.specs.Called.{called-is, opened-long}
+use Rattle.theory_inner.specs.Proved.{outer-kept}
 use Rattle.theory_base.specs.CallsUnder as Under
 
 -- all that is fed is as the grammar sees it
@@ -36,6 +37,9 @@ module _ (program : Grammar → List ℕ) (bs : List ℕ) (g : Grammar) (a : Acc
       let e = sym (opens-is area m₀ l) in
       subst (λ z. Under.CallsUnder g m₀ [] false (z .state) (z .stacks)) e (Under.opened (ap (λ z. z .answer) e ∙ h))
   by-grammar (countsForNothing other area c h x y) = by-grammar h
+  by-grammar {m₀} (innerEnded {ts = ts} {isOver = isOver} {r = r} {m = m} outerTable innerTable area ss h e c) =
+      let k = outer-kept program outerTable innerTable area r m e ss .restored c in
+      subst₂ (λ x y. Under.CallsUnder g m₀ (leaves g ts) isOver x y) (sym (k .0)) (sym (k .1)) (by-grammar h)
   by-grammar {m₀} (fed {ts = ts} {r = r} {m = m} area ks vs t e h l o) =
       let us : List Leaf = leaves g (tokensFrom ks vs) in
       let made : performs program bs area r m (feed ks vs) ≡ effect (feedLeaves g r m us) (written (program g) area) = performs-is area r m (feed ks vs) l ∙ ap (λ z. effect z (written (program g) area)) (even-feed g r m ks vs e) in

@@ -17,7 +17,7 @@ use Rattle.meaning.specs.Scheme.{Instruction, expect}
 use Rattle.meaning.specs.Machine.{Frame, Config, Lent, Settled, stopped, failed, opening, waits, unread, feedAll, tokensLimit}
 use Rattle.meaning.specs.Tree.{Tree, TreeOf, isLeafOf}
 use Rattle.meaning.specs.Walk.{Act, actBy, Makes, nothing, andThen}
-use Rattle.meaning.specs.Calls.{Record, Stacks, lentOf, recordOf, layAll, afterFeed}
+use Rattle.meaning.specs.Calls.{isOpen, Record, Stacks, lentOf, recordOf, layAll, afterFeed}
 use Rattle.meaning.specs.Drawn.{drawnRecord, drawnStacks, drawnMoves}
 use Rattle.meaning.specs.Part.{frame}
 use Rattle.meaning.specs.Selectors.{SelectorsFind}
@@ -43,9 +43,9 @@ record Ran (g : Grammar) (m₀ : Stacks) (ts : List Leaf) (isOver : Bool) (r : R
   unread : List Leaf
   config : Config
   leads : Leads g (lentOf m₀) (MayCome isOver) ts (opening g) unread config
-  isRecord : r ≡ recordOf (r .isOpen) config
+  isRecord : r ≡ recordOf (isOpen r) config
   isStacks : m ≡ layAll g config m₀
-  allRead : r .isOpen ≡ true → (unread ≡ []) × T (waits (config .frames))
+  allRead : isOpen r ≡ true → (unread ≡ []) × T (waits (config .frames))
 
 module _ (g : Grammar) (w : WellFormed g) (m₀ : Stacks) where
   any : (isOver : Bool) {ts us : List Leaf} {c : Config} → Leads g (lentOf m₀) Anything ts (opening g) us c → Leads g (lentOf m₀) (MayCome isOver) ts (opening g) us c
@@ -56,7 +56,7 @@ module _ (g : Grammar) (w : WellFormed g) (m₀ : Stacks) where
     unread = [];
     config = o .config;
     leads = any isOver (o .leads);
-    isRecord = o .isRecord ∙ ap (λ b. recordOf b (o .config)) (sym (ap (λ z. z .isOpen) (o .isRecord)));
+    isRecord = o .isRecord ∙ ap (λ b. recordOf b (o .config)) (sym (ap isOpen (o .isRecord)));
     isStacks = o .isStacks;
     allRead = λ e. (refl, o .stop .1);
   }
@@ -80,7 +80,7 @@ module _ (g : Grammar) (w : WellFormed g) (m₀ : Stacks) where
   after-finish : (ts : List Leaf) (r : Record) (m : Stacks) → Run g m₀ ts r m → Ran g m₀ ts true r m
   after-finish ts r m (inl o) = while-open ts true r m o
   after-finish ts r m (inr o) =
-      let isClosed : r .isOpen ≡ false = ap (λ z. z .isOpen) (o .isRecord) in
+      let isClosed : isOpen r ≡ false = ap isOpen (o .isRecord) in
       let behind : (xs us : List Leaf) → us ≡ [] → xs ≡ xs ++ us = λ xs us e. sym (append-nil xs) ∙ ap (λ z. xs ++ z) (sym e) in
       record {
         unread = o .unread;
@@ -97,7 +97,7 @@ module _ (g : Grammar) (w : WellFormed g) (m₀ : Stacks) where
     where
       go : Run g m₀ ts′ r′ m′ → Ran g m₀ (ts′ ++ vs) false (feedLeaves g r′ m′ vs .state) (feedLeaves g r′ m′ vs .stacks)
       go (inl b) = after-feed ts′ vs false r′ m′ b
-      go (inr b) = absurd (subst T (sym o ∙ ap (λ z. z .isOpen) (b .isRecord)) tt)
+      go (inr b) = absurd (subst T (sym o ∙ ap isOpen (b .isRecord)) tt)
   ran ts isOver r m (Under.finished h o) = after-finish ts r m (runs g w m₀ ts true r m (Under.finished h o))
 
 -- ---- the first of its moves
@@ -162,7 +162,7 @@ every-list-of-calls program bs g m₀ ts isOver r m a h =
 
     pictured : (us : List Leaf) → MayCome isOver us → (t : Tree) → (r ≡ drawnRecord g t (length ts) isOver) × (m ≡ drawnStacks g t (length ts) isOver m₀) → TreeOf g (leaves g ts ++ us) t → Pictured g m₀ t ts isOver r m (o .leads .moves) (o .unread)
     pictured us b t d k =
-        let here : recordOf (r .isOpen) (o .config) ≡ drawnRecord g t (length ts) isOver = sym (o .isRecord) ∙ d .0 in
+        let here : recordOf (isOpen r) (o .config) ≡ drawnRecord g t (length ts) isOver = sym (o .isRecord) ∙ d .0 in
         let made = accepted-made bs g a (lentOf m₀) (leaves g ts ++ us) (tree-known bs g a (lentOf m₀) (leaves g ts ++ us) t k) (o .leads .made us b) in
         record {
           isRecord = d .0;

@@ -6,18 +6,17 @@ use mathlib.Core.Bool.{Bool, true, false}
 use mathlib.Core.List.{List, [], _++_}
 use lib.ListN.{length}
 use lib.IntN.{ℤ}
-use lib.Dec.{T}
 use Rattle.meaning.specs.Grammar.{Grammar, Token, Leaf, leaves}
 use Rattle.meaning.specs.Judgement.{Accepted}
 use Rattle.meaning.specs.Tree.{Tree, TreeOf, valueOf}
 use Rattle.meaning.specs.Walk.{walk}
-use Rattle.meaning.specs.Calls.{Record, Stacks, Called, refused, value, lentOf, finishOf, whenFit, stacksFit, asBrought, afterFinish, configOf}
-use Rattle.meaning.specs.Machine.{finishAll}
+use Rattle.meaning.specs.Calls.{closed, gate, Record, Stacks, value, lentOf, finishOf}
 use Rattle.meaning.specs.PublicCalls.{finish}
 use Rattle.meaning.specs.Drawn.{WalkFits, drawnRecord, drawnStacks}
 use Rattle.meaning.specs.Statements.{History, OnlyTree, PictureAlways, ValueAlways}
 use Rattle.theory_base.specs.Feeds.{leaves-append, leaves-length}
 use Rattle.theory_table.specs.AcceptedTable.{accepted-well-formed}
+use Rattle.theory_answers.specs.TurnedBack.{by-gate}
 use Rattle.theory_sound.specs.Histories.{Run, runs}
 use Rattle.theory_sound.specs.Answers.{finish-sound, not-value}
 use Rattle.theory_complete.specs.Halves.{only, pictured, valued}
@@ -40,12 +39,8 @@ picture-always program bs g m₀ ts us isOver r m t a h k f over = picture-leave
 
 -- ---- the value
 
-closed-no : (g : Grammar) (r : Record) (m : Stacks) (called : Called) (v : ℤ) (n : ℕ) → r .isOpen ≡ false → whenFit g r m called .answer ≡ value v n → ⊥
-closed-no g r m called v n e h = go (r .isOpen) e h
-  where
-    go : (b : Bool) → b ≡ false → (elim b as (λ x. Called) [ false ↦ asBrought (refused 33 0) r m | true ↦ elim (stacksFit g r m) [ false ↦ asBrought (refused 34 0) r m | true ↦ called ] ]) .answer ≡ value v n → ⊥
-    go false e h = not-value h
-    go true e h = absurd (subst T e tt)
+closed-no : (g : Grammar) (r : Record) (m : Stacks) (v : ℤ) (n : ℕ) → r .status ≡ closed → finishOf g r m .answer ≡ value v n → ⊥
+closed-no g r m v n e h = not-value (sym (ap (λ k. k .answer) (by-gate g r m 33 finish (ap (λ s. gate 34 s (r .kind)) e))) ∙ h)
 
 module _ (bs : List ℕ) (g : Grammar) (a : Accepted bs g) (m₀ : Stacks) (ts : List Leaf) (r : Record) (m : Stacks) (v : ℤ) (n : ℕ) where
   forth : Run g m₀ ts r m → finishOf g r m .answer ≡ value v n → (t : Tree) × TreeOf g ts t × WalkFits g (lentOf m₀) t × (valueOf g t ≡ v) × (length (walk g t) ≡ n)
@@ -53,7 +48,7 @@ module _ (bs : List ℕ) (g : Grammar) (a : Accepted bs g) (m₀ : Stacks) (ts :
       let e = ap₂ (λ x y. finishOf g x y .answer) (o .isRecord) (o .isStacks) in
       let s = finish-sound g (accepted-well-formed bs g a) m₀ ts (o .config) (o .stop) v n (sym e ∙ h) in
       (s .tree, s .isTree, s .fits, s .isValue, s .moves)
-  forth (inr o) h = absurd (closed-no g r m (afterFinish g m (finishAll g (lentOf m) (configOf g r m))) v n (ap (λ z. z .isOpen) (o .isRecord)) h)
+  forth (inr o) h = absurd (closed-no g r m v n (ap (λ z. z .status) (o .isRecord)) h)
 
 pub value-always : ValueAlways
 value-always program bs area g m₀ ts r m a l h v n =

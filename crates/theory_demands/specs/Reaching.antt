@@ -10,9 +10,10 @@ use lib.Dec.{T}
 use Rattle.meaning.specs.Grammar.{Grammar, Leaf, leaves}
 use Rattle.meaning.specs.Machine.{Config, Lent, opening, lookAt}
 use Rattle.meaning.specs.Walk.{Act, actBy, Makes, nothing, andThen}
-use Rattle.meaning.specs.Calls.{lentOf, recordOf}
+use Rattle.meaning.specs.Calls.{isOpen, lentOf, recordOf}
 use Rattle.meaning.specs.Statements.{Reached, ReachedAlways}
 use Rattle.theory_table.specs.AcceptedTable.{accepted-well-formed}
+use Rattle.theory_answers.specs.Memory.{record-open}
 use Rattle.theory_answers.specs.Bounds.{counts}
 use Rattle.theory_sound.specs.Histories.{Run, runs}
 use Rattle.theory_demands.specs.ByGrammar.{by-grammar}
@@ -33,8 +34,8 @@ reached-always program bs g m₀ ts isOver r m a h = go (runs g (accepted-well-f
     count : {us vs : List Leaf} {c : Config} {ws : List Act} → Makes g (lentOf m₀) us (opening g) ws vs c → length ws ≡ c .moves
     count {c = c} k = omega (arith, counted g (lentOf m₀) k)
 
-    same-record : (b : Bool) (c : Config) → r ≡ recordOf b c → r ≡ recordOf (r .isOpen) c
-    same-record b c e = e ∙ ap (λ z. recordOf z c) (sym (ap (λ z. z .isOpen) e))
+    same-record : (b : Bool) (c : Config) → r ≡ recordOf b c → r ≡ recordOf (isOpen r) c
+    same-record b c e = e ∙ ap (λ z. recordOf z c) (sym (ap isOpen e ∙ record-open b c))
 
     go : Run g m₀ (leaves g ts) r m → Reached g m₀ ts r m
     go (inl o) =
@@ -58,5 +59,5 @@ reached-always program bs g m₀ ts isOver r m a h = go (runs g (accepted-well-f
           counted = count (o .led .made) ∙ sym (ap (λ z. z .moves) (o .isRecord));
           isRecord = same-record false (o .config) (o .isRecord);
           isStacks = o .isStacks;
-          openRun = λ e. absurd (subst T (sym e ∙ ap (λ z. z .isOpen) (o .isRecord)) tt);
+          openRun = λ e. absurd (subst T (sym e ∙ ap isOpen (o .isRecord)) tt);
         }

@@ -16,11 +16,12 @@ use Rattle.meaning.specs.Judgement.{Accepted}
 use Rattle.meaning.specs.Machine.{Config, Lent, opening}
 use Rattle.meaning.specs.Tree.{Tree, TreeOf, isLeafOf}
 use Rattle.meaning.specs.Walk.{Act, predicts, reads, performs, walk, walkTo, Makes}
-use Rattle.meaning.specs.Calls.{lentOf, layAll, recordOf}
+use Rattle.meaning.specs.Calls.{isOpen, lentOf, layAll, recordOf}
 use Rattle.meaning.specs.Drawn.{drawnMoves, drawnRecord}
 use Rattle.meaning.specs.Statements.{WalkAlways}
 use Rattle.theory_base.specs.Members.{no-elements}
 use Rattle.theory_table.specs.AcceptedTable.{accepted-well-formed}
+use Rattle.theory_answers.specs.Memory.{record-open}
 use Rattle.theory_sound.specs.Histories.{Run, runs}
 use Rattle.theory_moves.specs.Always.{accepted-made}
 use Rattle.theory_demands.specs.ByGrammar.{by-grammar}
@@ -71,10 +72,10 @@ walk-always program bs g m₀ ts us isOver r m t a h k f over = go isOver over (
     joined = sym (leaves-append g ts us)
 
     Found : Bool → Type 0
-    Found b = (c : Config) × Makes g (lentOf m₀) all (opening g) (drawnMoves g t (length ts) b) us′ c × (r ≡ recordOf (r .isOpen) c) × (m ≡ layAll g c m₀)
+    Found b = (c : Config) × Makes g (lentOf m₀) all (opening g) (drawnMoves g t (length ts) b) us′ c × (r ≡ recordOf (isOpen r) c) × (m ≡ layAll g c m₀)
 
-    same-record : (b : Bool) (c : Config) → r ≡ recordOf b c → r ≡ recordOf (r .isOpen) c
-    same-record b c e = e ∙ ap (λ z. recordOf z c) (sym (ap (λ z. z .isOpen) e))
+    same-record : (b : Bool) (c : Config) → r ≡ recordOf b c → r ≡ recordOf (isOpen r) c
+    same-record b c e = e ∙ ap (λ z. recordOf z c) (sym (ap isOpen e ∙ record-open b c))
 
     at : (b : Bool) (ws : List Act) (c : Config) → r ≡ drawnRecord g t (length ts) b → (o : Bool) → r ≡ recordOf o c → m ≡ layAll g c m₀ → Makes g (lentOf m₀) (leaves g ts ++ us′) (opening g) ws us′ c → Found b
     at b ws c d o e x z =
@@ -88,4 +89,4 @@ walk-always program bs g m₀ ts us isOver r m t a h k f over = go isOver over (
         let none : o .unread ≡ [] = no-elements (o .unread) (omega (arith, ap length (o .joined), leaves-length g ts, length-append (o .before) (o .unread), o .held .shows .tokens, ap (λ z. z .tokens) (sym (o .isRecord) ∙ d))) in
         let e : us′ ≡ [] = ap (leaves g) (u refl) in
         at true (o .led .moves) (o .config) d false (o .isRecord) (o .isStacks) (subst (λ z. Makes g (lentOf m₀) (leaves g ts ++ z) (opening g) (o .led .moves) z (o .config)) (sym e) (subst (λ z. Makes g (lentOf m₀) z (opening g) (o .led .moves) [] (o .config)) (sym (append-nil (leaves g ts))) (subst (λ z. Makes g (lentOf m₀) (leaves g ts) (opening g) (o .led .moves) z (o .config)) none (o .led .made))))
-    go false u d (inr o) = absurd (subst T (ap (λ z. z .isOpen) (sym d ∙ o .isRecord)) tt)
+    go false u d (inr o) = absurd (subst T (ap isOpen (sym d ∙ o .isRecord)) tt)

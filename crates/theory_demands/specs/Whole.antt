@@ -4,7 +4,7 @@ use native.Mathlib.Omega.{arith}
 use native.Mathlib.Decide.{decLt}
 use mathlib.Core.Path.{_≡_, ap, _∙_}
 use mathlib.Core.Logic.{_↔_}
-use mathlib.Core.Bool.{true, false}
+use mathlib.Core.Bool.{true}
 use mathlib.Core.List.{List}
 use lib.ListN.{length}
 use lib.IntN.{ℤ}
@@ -13,7 +13,7 @@ use Rattle.meaning.specs.Judgement.{Accepted}
 use Rattle.meaning.specs.Tree.{Tree, TreeOf, valueOf}
 use Rattle.meaning.specs.Walk.{walk}
 use Rattle.meaning.specs.Drawn.{WalkFits}
-use Rattle.meaning.specs.Calls.{Stacks, more, value, closedRecord, lentOf, tokensFrom}
+use Rattle.meaning.specs.Calls.{closed, isOpen, Stacks, more, value, closedRecord, lentOf, tokensFrom}
 use Rattle.meaning.specs.PublicCalls.{feed, finish, areaLength, Effect, opens, performs}
 use Rattle.meaning.specs.CallStatements.{Lendable, Even}
 use Rattle.meaning.specs.Statements.{opened, fed, fedAndFinished, ValueWhole}
@@ -31,18 +31,18 @@ module _ (program : Grammar → List ℕ) (bs area : List ℕ) (g : Grammar) (m 
   -- a closed record stays so
   shut : (o : Effect) → o .state ≡ closedRecord → fedAndFinished program bs area ks vs o .answer ≡ value v n → ⊥
   shut o e x =
-      let c : o .state .isOpen ≡ false = ap (λ z. z .isOpen) e in
+      let c : o .state .status ≡ closed = ap (λ z. z .status) e in
       let f = bad-state program bs area g (o .state) (o .stacks) (feed ks vs) l a .0 c in
       let q = performs program bs area (o .state) (o .stacks) (feed ks vs) in
-      let d : q .state .isOpen ≡ false = ap (λ z. z .state .isOpen) f ∙ c in
+      let d : q .state .status ≡ closed = ap (λ z. z .state .status) f ∙ c in
       let w = ap (λ z. z .answer) (bad-state program bs area g (q .state) (q .stacks) finish l a .0 d) in
       let z : _≡_ {A = ℕ} 0 1 = cc in absurd (omega arith)
 
-  answers : opens program bs area m .answer ≡ more 0 → opens program bs area m .state .isOpen ≡ true → Valued ↔ HasTree
+  answers : opens program bs area m .answer ≡ more 0 → isOpen (opens program bs area m .state) ≡ true → Valued ↔ HasTree
   answers h o = let q = performs program bs area (opens program bs area m .state) (opens program bs area m .stacks) (feed ks vs) in value-always program bs area g m (tokensFrom ks vs) (q .state) (q .stacks) a l (fed area ks vs t even (opened area h) l o) v n
 
   room-enough : syn g (nonterminal (g .start)) ≤ lentOf m .maxRegisters → 1 ≤ lentOf m .maxPlaces → Valued ↔ HasTree
-  room-enough r p = let e = opening-is program bs area g m l a .2 r p in answers (ap (λ z. z .answer) e) (ap (λ z. z .state .isOpen) e)
+  room-enough r p = let e = opening-is program bs area g m l a .2 r p in answers (ap (λ z. z .answer) e) (ap (λ z. isOpen (z .state)) e)
 
   back : HasTree → Valued
   back x =

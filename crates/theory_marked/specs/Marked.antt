@@ -8,19 +8,20 @@ use mathlib.Core.Bool.{Bool, true, false}
 use mathlib.Core.List.{List, [], _∷_, _++_, map, append-assoc, append-nil, map-append}
 use lib.ListN.{length, take, length-append, length-map}
 use lib.Seq.{take-at}
-use lib.Dec.{T, eqb, ltb, nltb→le}
+use lib.Dec.{T, ltb, nltb→le}
 use lib.IntN.{ℤ, pos}
 use Rattle.meaning.specs.Grammar.{Grammar, Token, Leaf, leafOf, leaves}
 use Rattle.meaning.specs.Table.{grammarOf}
 use Rattle.meaning.specs.Machine.{Config, Lent, comes, Settled, stopped, failed, advanceFrom, feedAll, finishAll, opening, tokensLimit}
 use Rattle.meaning.specs.Base.{all}
 use Rattle.meaning.specs.Tree.{isLeafOf}
-use Rattle.meaning.specs.Calls.{Record, Stacks, Called, refused, value, lentOf, layAll, afterFeed, afterFinish, asBrought, whenFit, whenEven, tokensFrom, stacksFit, configOf, feedOf, finishOf}
+use Rattle.meaning.specs.Calls.{Status, running, waiting, closed, Kind, outer, inner, admitted, turnedBack, gate, Record, Stacks, Called, refused, value, lentOf, layAll, afterFeed, afterFinish, asBrought, whenFit, tokensFrom, stacksFit, feedOf, finishOf}
 use Rattle.meaning.specs.PublicCalls.{Call, feed, finish, callOf, areaLength, Effect, effect, written, check, usable, unusable, performs}
 use Rattle.theory_base.specs.Members.{both, and, all-append}
 use Rattle.theory_base.specs.Feeds.{feedLeaves, even-feed, uneven-feed, leaf-of, leaves-of}
 use Rattle.theory_answers.specs.Runs.{Leads, Anything, Fed, fed}
 use Rattle.theory_answers.specs.ShapeMoves.{ShapedAt}
+use Rattle.theory_answers.specs.TurnedBack.{by-gate}
 use Rattle.theory_sets.specs.Accepted.{Sane, accepted-sane}
 use Rattle.theory_sets.specs.Tests.{all-right}
 use Rattle.theory_sound.specs.Follow.{along}
@@ -198,22 +199,17 @@ module _ {g : Grammar} (s : Sane g) (m₀ : Stacks) (ts : List Leaf) (r : Record
 
 -- ---- any run, any area
 
--- a closed run answers 33
-closed-33 : (g : Grammar) (r : Record) (m : Stacks) (called : Called) (k n : ℕ) → r .isOpen ≡ false → whenFit g r m called .answer ≡ refused k n → k ≡ 33
-closed-33 g r m called k n e h = go (r .isOpen) e h
-  where
-    go : (b : Bool) → b ≡ false → (elim b as (λ x. Called) [ false ↦ asBrought (refused 33 0) r m | true ↦ elim (stacksFit g r m) [ false ↦ asBrought (refused 34 0) r m | true ↦ called ] ]) .answer ≡ refused k n → k ≡ 33
-    go false e h = sym (refused-is h .0)
-    go true e h = absurd (subst T e tt)
-
--- lists of unequal length answer 33, 34 or 38
+-- lists of unequal length answer 33, 40, 34 or 38
 uneven-no : (g : Grammar) (r : Record) (m : Stacks) (n : ℕ) → whenFit g r m (asBrought (refused 38 0) r m) .answer ≡ refused 21 n → ⊥
-uneven-no g r m n h = go (r .isOpen) (stacksFit g r m) h
+uneven-no g r m n h = go (r .status) (r .kind) (stacksFit g r m) h
   where
-    go : (b f : Bool) → (elim b as (λ x. Called) [ false ↦ asBrought (refused 33 0) r m | true ↦ elim f as (λ x. Called) [ false ↦ asBrought (refused 34 0) r m | true ↦ asBrought (refused 38 0) r m ] ]) .answer ≡ refused 21 n → ⊥
-    go false f h = absurd (omega (arith, refused-is h .0))
-    go true false h = absurd (omega (arith, refused-is h .0))
-    go true true h = absurd (omega (arith, refused-is h .0))
+    go : (s : Status) (k : Kind) (f : Bool) → (elim (gate 34 s k) as (λ x. Called) [ turnedBack j ↦ asBrought (refused j 0) r m | admitted ↦ elim f as (λ x. Called) [ false ↦ asBrought (refused 34 0) r m | true ↦ asBrought (refused 38 0) r m ] ]) .answer ≡ refused 21 n → ⊥
+    go closed k f h = absurd (omega (arith, refused-is h .0))
+    go waiting outer f h = absurd (omega (arith, refused-is h .0))
+    go waiting (inner a b) f h = absurd (omega (arith, refused-is h .0))
+    go running (inner a b) f h = absurd (omega (arith, refused-is h .0))
+    go running outer false h = absurd (omega (arith, refused-is h .0))
+    go running outer true h = absurd (omega (arith, refused-is h .0))
 
 kinds-of-tokens : (g : Grammar) (ts : List Token) → kindsOf (leaves g ts) ≡ kinds ts
 kinds-of-tokens g [] = refl
@@ -246,13 +242,13 @@ module _ (program : Grammar → List ℕ) (bs area : List ℕ) (g : Grammar) (m�
   open-run : (c : Call) (k n : ℕ) → (k ≡ 33 → ⊥) → callOf g r m c .answer ≡ refused k n → OpenRun g m₀ (leaves g ts) r m
   open-run c k n other q = go (runs g (s .formed) m₀ (leaves g ts) isOver r m (by-grammar program bs g a h))
     where
-      shut : (c : Call) → r .isOpen ≡ false → callOf g r m c .answer ≡ refused k n → k ≡ 33
-      shut (feed ks vs) e q = closed-33 g r m (whenEven (eqb (length ks) (length vs)) r m (afterFeed g m (feedAll g (lentOf m) (leaves g (tokensFrom ks vs)) (configOf g r m)))) k n e q
-      shut finish e q = closed-33 g r m (afterFinish g m (finishAll g (lentOf m) (configOf g r m))) k n e q
+      -- a closed run answers 33
+      shut : r .status ≡ closed → k ≡ 33
+      shut e = sym (refused-is (sym (ap (λ z. z .answer) (by-gate g r m 33 c (ap (λ s. gate 34 s (r .kind)) e))) ∙ q) .0)
 
       go : Run g m₀ (leaves g ts) r m → OpenRun g m₀ (leaves g ts) r m
       go (inl o) = o
-      go (inr o) = absurd (other (shut c (ap (λ z. z .isOpen) (o .isRecord)) q))
+      go (inr o) = absurd (other (shut (ap (λ z. z .status) (o .isRecord))))
 
   abbrev Marked : List ℕ → ℕ → Type 0
   Marked all n = (n < length all) × Begins g (take n all) × (OneStart g → Begins g (take (suc n) all) → ⊥)

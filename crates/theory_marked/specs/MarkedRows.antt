@@ -17,7 +17,7 @@ use Rattle.meaning.specs.Derivation.{Listed, itself, step}
 use Rattle.meaning.specs.Sets.{starts, lookNumber}
 use Rattle.meaning.specs.Decide.{meet}
 use Rattle.meaning.specs.Judgement.{accepted, Accepted}
-use Rattle.meaning.specs.Calls.{Stacks, Called, more, refused, openOf}
+use Rattle.meaning.specs.Calls.{isOpen, Stacks, Called, more, refused, openOf}
 use Rattle.meaning.specs.PublicCalls.{Call, feed, finish, callOf, areaLength, written, Effect, effect, opens, performs}
 use Rattle.meaning.specs.CallStatements.{Lendable, Even, tokensOf}
 use Rattle.meaning.specs.Statements.{History, opened, fed}
@@ -89,8 +89,8 @@ module _ (bs : List ℕ) (g : Grammar) (a : Accepted bs g) (program : Grammar �
   begun : openOf g lent .answer ≡ more 0 → History program bs lent [] false (start .state) (start .stacks)
   begun e = opened area (ap (λ z. z .answer) starts-by ∙ e)
 
-  onward : openOf g lent .answer ≡ more 0 → openOf g lent .state .isOpen ≡ true → (ks : List ℕ) → Lendable (feedKinds ks) → Even (feedKinds ks) → History program bs lent (tokensOf (feedKinds ks)) false (call (feedKinds ks) .state) (call (feedKinds ks) .stacks)
-  onward e o ks t even = fed area ks (zeros ks) t even (begun e) l (ap (λ z. z .state .isOpen) starts-by ∙ o)
+  onward : openOf g lent .answer ≡ more 0 → isOpen (openOf g lent .state) ≡ true → (ks : List ℕ) → Lendable (feedKinds ks) → Even (feedKinds ks) → History program bs lent (tokensOf (feedKinds ks)) false (call (feedKinds ks) .state) (call (feedKinds ks) .stacks)
+  onward e o ks t even = fed area ks (zeros ks) t even (begun e) l (ap (λ z. isOpen (z .state)) starts-by ∙ o)
 
 -- ---- words and tags without its entry condition
 

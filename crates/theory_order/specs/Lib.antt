@@ -6,6 +6,7 @@ pub mod SameSchemes
 pub mod SameFit
 pub mod SameMoves
 pub mod SameCalls
+pub mod SameInner
 pub mod SameVerdict
 pub mod Arranging
 pub mod House

@@ -20,11 +20,12 @@ use Rattle.theory_answers.specs.Called.{checks, called-is}
 use Rattle.theory_demands.specs.Acceptance.{accepted-exactly}
 use Rattle.meaning.specs.Order.{SameProduction, SameEach, SameButOrder, through, houseGrammar, houseBytes}
 use Rattle.theory_order.specs.SameCalls.{open-same, call-same}
+use Rattle.theory_order.specs.SameInner.{outer-same, inner-same, later-same}
 use Rattle.theory_order.specs.SameVerdict.{same-but-sym, FewConditions, accepts-same}
 use Rattle.theory_order.specs.House.{house-same, bytes-alike, bytes-twice, house-laid-out, house-short, house-few}
 use Rattle.theory_order.specs.HouseBytes.{house-bytes}
 use Rattle.meaning.specs.House.{wrote, turnedBack, HouseCalled, writing, houseOf}
-use Rattle.meaning.specs.HouseStatements.{HouseWrites, HouseTurnsBack, HouseAccepted, HouseAlike, HouseAlikeCalls, HouseTwice, SameButProgram, HouseKeeps}
+use Rattle.meaning.specs.HouseStatements.{HouseWrites, HouseTurnsBack, HouseAccepted, HouseAlike, HouseAlikeCalls, HouseTwice, SameButProgram, HouseKeeps, HouseKeepsInner}
 
 -- ---- the same but for order is an equivalence
 
@@ -183,3 +184,13 @@ calls-same program bs cs g h area m b x y s = (
 
 pub house-keeps : HouseKeeps
 house-keeps program bs g area m b a = let v = house-accepted bs g b a in calls-same program bs (houseBytes g) g (houseGrammar g) area m b a (v .accepts) (v .same)
+
+pub house-keeps-inner : HouseKeepsInner
+house-keeps-inner program bs g area m b a =
+    let v = house-accepted bs g b a in
+    let w = well bs g b a in
+    let h = houseGrammar g in (
+      outer-same program area bs (houseBytes g) g h w (v .same) a (v .accepts) m,
+      inner-same program area bs (houseBytes g) g h w (v .same) a (v .accepts) m,
+      later-same program area bs (houseBytes g) g h w (v .same) a (v .accepts) m,
+    )

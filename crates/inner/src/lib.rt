@@ -1,0 +1,187 @@
+// 02 (h)'s inner run, on its own table, over the lent stacks above an outer run that waits until it ends.
+ghost use mathlib.Core.Path.{_≡_};
+ghost use Rattle.meaning.specs.Grammar.{Grammar};
+ghost use Rattle.meaning.specs.Program.{programOf};
+ghost use Rattle.meaning.specs.Calls.{closedRecord};
+ghost use Rattle.meaning.specs.PublicCalls.{stacksOf, feed, finish};
+ghost use Rattle.meaning.specs.Inner as Inner;
+ghost use Rattle.meaning.specs.Inner.{giveUp, whenOuterFits, innerOpens, innerPerforms};
+ghost use Rattle.fit.specs.Shown.{Shown, Readable};
+ghost use Rattle.engine.specs.Records.{recordIs};
+ghost use Rattle.inner_records.specs.Records.{callIs, innerEffectIs};
+ghost use Rattle.inner.specs.Beginning.{calledInside, openedInside};
+use engine::Answer;
+use engine::Begun;
+use engine::Record;
+use inner_records::Call;
+use inner_records::InnerCalled;
+
+mod stretch;
+
+// ---- the opening
+
+// The inner table, 31 and 32.
+fn open_inside(
+    outer: Record,
+    table: &[u8],
+    registers: &mut [i64],
+    places: &mut [u32],
+    program: &mut [u32],
+) -> InnerCalled
+    ensures { λ r. ⌜ innerEffectIs r (now (registers .exit)) (now (places .exit)) (now (program .exit)) ≡ (let m = stacksOf (now (registers .entry)) (now (places .entry)) in calledInside (now (table .entry)) (now (program .entry)) (recordIs outer) closedRecord m (openedInside (recordIs outer) m)) ⌝ }
+{
+    match engine::begin(table, program) {
+        Begun::Turned(answer) => inner_records::not_opened(outer, answer),
+        Begun::Ready => stretch::open_above(outer, registers, places, program),
+    }
+}
+
+// 02 (h): "a third run is turned back as 40".
+const THIRD: u32 = 40;
+
+// The outer run by its own table, 33, 40 and 34; then the inner one.
+fn open_over(
+    outer: Record,
+    table: &[u8],
+    registers: &mut [i64],
+    places: &mut [u32],
+    program: &mut [u32],
+) -> InnerCalled
+    requires { ⌜ Readable (now program) ⌝ }
+    ensures { λ r. ⌜ ((g : Grammar) → Shown g (now (program .entry)) → innerEffectIs r (now (registers .exit)) (now (places .exit)) (now (program .exit)) ≡ (let m = stacksOf (now (registers .entry)) (now (places .entry)) in whenOuterFits g (recordIs outer) m (now (program .entry)) (calledInside (now (table .entry)) (now (program .entry)) (recordIs outer) closedRecord m (openedInside (recordIs outer) m)))) ⌝ }
+{
+    let number = engine::lent::judge_cells(THIRD, registers, places, program, outer);
+    if number != 0 {
+        return inner_records::not_opened(outer, Answer::Refused { number, tokens: 0 });
+    }
+    open_inside(outer, table, registers, places, program)
+}
+
+// Opens an inner run above an outer one, which then waits. A refusal sets no mark, and hands back an inner record closed and all zero.
+pub fn open_inner(
+    outer: Record,
+    outer_table: &[u8],
+    inner_table: &[u8],
+    registers: &mut [i64],
+    places: &mut [u32],
+    program: &mut [u32],
+) -> InnerCalled
+    ensures { λ r. ⌜ innerEffectIs r (now (registers .exit)) (now (places .exit)) (now (program .exit)) ≡ innerOpens programOf (now («outer_table» .entry)) (now («inner_table» .entry)) (now (program .entry)) (recordIs outer) (stacksOf (now (registers .entry)) (now (places .entry))) ⌝ }
+{
+    match engine::begin(outer_table, program) {
+        Begun::Turned(answer) => inner_records::not_opened(outer, answer),
+        Begun::Ready => open_over(outer, inner_table, registers, places, program),
+    }
+}
+
+// ---- later calls
+
+fn perform(
+    call: Call,
+    outer: Record,
+    inner: Record,
+    table: &[u8],
+    registers: &mut [i64],
+    places: &mut [u32],
+    program: &mut [u32],
+    kinds: &[u8],
+    values: &[i32],
+) -> InnerCalled
+    ensures { λ r. ⌜ innerEffectIs r (now (registers .exit)) (now (places .exit)) (now (program .exit)) ≡ innerPerforms programOf (now (table .entry)) (now (program .entry)) (recordIs outer) (recordIs inner) (stacksOf (now (registers .entry)) (now (places .entry))) (callIs call (now (kinds .entry)) (now (values .entry))) ⌝ }
+{
+    match engine::begin(table, program) {
+        Begun::Turned(answer) => InnerCalled {
+            outer,
+            inner,
+            answer,
+        },
+        Begun::Ready => stretch::call_above(
+            call,
+            outer,
+            inner,
+            registers,
+            places,
+            program,
+            kinds,
+            values,
+        ),
+    }
+}
+
+// Feeds tokens to the inner run, as a list of kinds and one of values.
+pub fn feed_inner(
+    outer: Record,
+    inner: Record,
+    table: &[u8],
+    registers: &mut [i64],
+    places: &mut [u32],
+    program: &mut [u32],
+    kinds: &[u8],
+    values: &[i32],
+) -> InnerCalled
+    ensures { λ r. ⌜ innerEffectIs r (now (registers .exit)) (now (places .exit)) (now (program .exit)) ≡ innerPerforms programOf (now (table .entry)) (now (program .entry)) (recordIs outer) (recordIs inner) (stacksOf (now (registers .entry)) (now (places .entry))) (Inner.engine (feed (now (kinds .entry)) (now (values .entry)))) ⌝ }
+{
+    perform(
+        Call::Feed,
+        outer,
+        inner,
+        table,
+        registers,
+        places,
+        program,
+        kinds,
+        values,
+    )
+}
+
+// Finishes the inner run's segment: the run ends.
+pub fn finish_inner(
+    outer: Record,
+    inner: Record,
+    table: &[u8],
+    registers: &mut [i64],
+    places: &mut [u32],
+    program: &mut [u32],
+) -> InnerCalled
+    ensures { λ r. ⌜ innerEffectIs r (now (registers .exit)) (now (places .exit)) (now (program .exit)) ≡ innerPerforms programOf (now (table .entry)) (now (program .entry)) (recordIs outer) (recordIs inner) (stacksOf (now (registers .entry)) (now (places .entry))) (Inner.engine finish) ⌝ }
+{
+    let kinds = [0u8; 1];
+    let values = [0i32; 1];
+    perform(
+        Call::Finish,
+        outer,
+        inner,
+        table,
+        registers,
+        places,
+        program,
+        &kinds,
+        &values,
+    )
+}
+
+// Gives the inner run up: it ends as it stands.
+pub fn give_up(
+    outer: Record,
+    inner: Record,
+    table: &[u8],
+    registers: &mut [i64],
+    places: &mut [u32],
+    program: &mut [u32],
+) -> InnerCalled
+    ensures { λ r. ⌜ innerEffectIs r (now (registers .exit)) (now (places .exit)) (now (program .exit)) ≡ innerPerforms programOf (now (table .entry)) (now (program .entry)) (recordIs outer) (recordIs inner) (stacksOf (now (registers .entry)) (now (places .entry))) giveUp ⌝ }
+{
+    let kinds = [0u8; 1];
+    let values = [0i32; 1];
+    perform(
+        Call::GiveUp,
+        outer,
+        inner,
+        table,
+        registers,
+        places,
+        program,
+        &kinds,
+        &values,
+    )
+}

@@ -1,0 +1,41 @@
+use mathlib.Core.Path.{sym, ap, ap₂, _∙_}
+use borrow.Author.Tests.{not-true, not-false}
+use Rattle.inner_records.specs.Records.{openedBy}
+use borrow.Author.Needs.{needs}
+use Rattle.inner_records.proofs.opened.Statement.{statement}
+use Rattle.inner_records.proofs.opened.Tie as tie
+
+is-open-requires : tie.Need-is-open-requires
+is-open-requires c κs = search needs
+
+not-opened-requires : tie.Need-not-opened-requires
+not-opened-requires c κs = search needs
+
+returns : tie.Need-returns
+returns c =
+    let a = c .before .before .before .before .args in
+    let q = c .before .before .is-open in
+    c .not-opened .ensures ∙ ap (λ b. openedBy b (a .outer) (a .called)) (sym (sym (q .ensures) ∙ not-true (q .result) (c .before .if1 .taken)))
+
+changed-requires : tie.Need-changed-requires
+changed-requires c κs = search needs
+
+changed-requires-2 : tie.Need-changed-requires-2
+changed-requires-2 c κs = search needs
+
+returns-2 : tie.Need-returns-2
+returns-2 c =
+    let a = c .before .before .before .before .before .args in
+    let q = c .before .before .before .is-open in
+    ap₂ (λ x y. record { outer = x; inner = y; answer = a .called .answer }) (c .before .changed .ensures) (c .changed2 .ensures) ∙ ap (λ b. openedBy b (a .outer) (a .called)) (sym (sym (q .ensures) ∙ not-false (q .result) (c .before .before .if1 .left)))
+
+pub opened-spec : {M : Type 1} → statement M
+opened-spec =
+    tie.close
+    (tie.spec
+    is-open-requires
+    not-opened-requires
+    returns
+    changed-requires
+    changed-requires-2
+    returns-2)
