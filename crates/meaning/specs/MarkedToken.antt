@@ -10,7 +10,6 @@ use Rattle.meaning.specs.Derivation.{Derives, Listed, Starts, startForm,
 use Rattle.meaning.specs.Judgement.{Accepted}
 use Rattle.meaning.specs.Calls.{Record, Stacks, refused}
 use Rattle.meaning.specs.PublicCalls.{feed, finish, performs}
-use Rattle.meaning.specs.CallStatements.{Lendable}
 use Rattle.meaning.specs.Statements.{History}
 
 -- 02: "some token string of the underlying grammar, conditions aside"
@@ -41,11 +40,11 @@ OneStart g = (l : Look) (p q : ℕ) → Listed g p → Listed g q → production
 abbrev pub kinds : List Token → List ℕ
 kinds ts = map (λ t. t .kind) ts
 
--- after any list of calls (demand 3's premise): ts are the tokens fed before, ks the kinds of the feed at hand, vs its values, signed 32-bit numbers by their type
+-- after any list of calls (demand 3's premise): ts are the tokens fed before, ks the kinds of the feed at hand, vs its values, whatever they are
 abbrev pub MarkedWhere : (Grammar → Type 0) → Type 0
 MarkedWhere Premise =
     (program : Grammar → List ℕ) (bs area : List ℕ) (g : Grammar) (m₀ : Stacks) (ts : List Token) (isOver : Bool) (r : Record) (m : Stacks) → Accepted bs g → Premise g → History program bs m₀ ts isOver r m
-    → ((ks : List ℕ) (vs : List ℤ) (n : ℕ) → Lendable (feed ks vs) → performs program bs area r m (feed ks vs) .answer ≡ refused 21 n → FirstImpossible g (kinds ts ++ ks) n)
+    → ((ks : List ℕ) (vs : List ℤ) (n : ℕ) → performs program bs area r m (feed ks vs) .answer ≡ refused 21 n → FirstImpossible g (kinds ts ++ ks) n)
     × ((n : ℕ) → performs program bs area r m finish .answer ≡ refused 24 n → Unfinished g (kinds ts))
 
 abbrev pub MarkedToken : Type 0
@@ -58,5 +57,5 @@ MarkedByStart = MarkedWhere OneStart
 abbrev pub MarkedBegins : Type 0
 MarkedBegins =
     (program : Grammar → List ℕ) (bs area : List ℕ) (g : Grammar) (m₀ : Stacks) (ts : List Token) (isOver : Bool) (r : Record) (m : Stacks) → Accepted bs g → History program bs m₀ ts isOver r m
-    → ((ks : List ℕ) (vs : List ℤ) (n : ℕ) → Lendable (feed ks vs) → performs program bs area r m (feed ks vs) .answer ≡ refused 21 n → (n < length (kinds ts ++ ks)) × Begins g (take n (kinds ts ++ ks)))
+    → ((ks : List ℕ) (vs : List ℤ) (n : ℕ) → performs program bs area r m (feed ks vs) .answer ≡ refused 21 n → (n < length (kinds ts ++ ks)) × Begins g (take n (kinds ts ++ ks)))
     × ((n : ℕ) → performs program bs area r m finish .answer ≡ refused 24 n → Begins g (kinds ts))

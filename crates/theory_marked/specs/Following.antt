@@ -8,16 +8,13 @@ use lib.Dec.{T}
 use Rattle.meaning.specs.Grammar.{Symbol, terminal, Leaf, Grammar, productionAt}
 use Rattle.meaning.specs.Derivation.{Derives, itself, step, startForm}
 use Rattle.meaning.specs.Machine.{Config, Lent, moved, next, lookAt, unread, opening}
-use Rattle.meaning.specs.Base.{all}
-use Rattle.meaning.specs.Tree.{isLeafOf}
 use Rattle.meaning.specs.Sets.{has, starts, lookNumber}
 use Rattle.meaning.specs.Walk.{Act, Makes, nothing, andThen}
 use Rattle.theory_sets.specs.Accepted.{Sane}
 use Rattle.theory_sets.specs.Derivations.{joined, beside}
-use Rattle.theory_answers.specs.ShapeMoves.{ShapedAt, shape-move}
-use Rattle.theory_answers.specs.Runs.{all-drop, is-ahead}
 use Rattle.meaning.specs.MarkedToken.{OneStart, TokenString}
 use Rattle.theory_marked.specs.Remaining.{kindsOf, lookOf, look-kinds, kinds-drop, remaining, Passes, stays, reads, predicts, passes}
+use Rattle.theory_marked.specs.Framed.{Framed, opening-framed, framed-move}
 use Rattle.theory_marked.specs.Choice.{Taken, taken, read, taken-starts, only}
 
 -- vs are to come
@@ -25,11 +22,10 @@ pub record Following (g : Grammar) (vs : List Leaf) (c : Config) : Type 0 where
   pub before : List Symbol
   pub context : Derives g (startForm g) (before ++ remaining (c .frames))
   pub rest : Derives g (remaining (c .frames)) (map terminal (kindsOf vs))
-  pub shaped : ShapedAt g c
-  pub known : T (all (isLeafOf g) vs)
+  pub framed : Framed (c .frames)
 
-pub opening-follows : (g : Grammar) → ShapedAt g (opening g) → (vs : List Leaf) → T (all (isLeafOf g) vs) → TokenString g (kindsOf vs) → Following g vs (opening g)
-opening-follows g s vs k d = record { before = []; context = itself; rest = d; shaped = s; known = k }
+pub opening-follows : (g : Grammar) (vs : List Leaf) → TokenString g (kindsOf vs) → Following g vs (opening g)
+opening-follows g vs d = record { before = []; context = itself; rest = d; framed = opening-framed g }
 
 module _ {g : Grammar} (s : Sane g) (one : OneStart g) where
   abbrev Goes : List Leaf → List Symbol → Type 0
@@ -60,7 +56,7 @@ module _ {g : Grammar} (s : Sane g) (one : OneStart g) where
   pub follow-move : (lent : Lent) (vs : List Leaf) (c d : Config) → Following g vs c → next g lent (lookAt vs) c ≡ moved d → Following g (unread c d vs) d
   follow-move lent vs c d f h =
       let r = goes vs (passes g (s .formed) lent (lookAt vs) c d h) (f .before) (f .context) (f .rest) in
-      record { before = r .0; context = r .1; rest = r .2; shaped = shape-move g (s .formed) lent (lookAt vs) (is-ahead g vs (f .known)) c d (f .shaped) h; known = all-drop g (d .tokens - c .tokens) vs (f .known) }
+      record { before = r .0; context = r .1; rest = r .2; framed = framed-move g (s .formed) lent (lookAt vs) c d (f .framed) h }
 
   pub follow-makes : (lent : Lent) {us vs : List Leaf} {c d : Config} {ws : List Act} → Makes g lent us c ws vs d → Following g us c → Following g vs d
   follow-makes lent nothing f = f

@@ -1,4 +1,5 @@
 pub mod Remaining
+pub mod Framed
 pub mod Prefixes
 pub mod Choice
 pub mod Following

@@ -13,36 +13,26 @@ use lib.IntN.{ℤ, pos}
 use Rattle.meaning.specs.Grammar.{Grammar, Token, Leaf, leafOf, leaves}
 use Rattle.meaning.specs.Table.{grammarOf}
 use Rattle.meaning.specs.Machine.{Config, Lent, comes, Settled, stopped, failed, advanceFrom, feedAll, finishAll, opening, tokensLimit}
-use Rattle.meaning.specs.Base.{all}
-use Rattle.meaning.specs.Tree.{isLeafOf}
 use Rattle.meaning.specs.Calls.{Status, running, waiting, closed, Kind, outer, inner, admitted, turnedBack, gate, Record, Stacks, Called, refused, value, lentOf, layAll, afterFeed, afterFinish, asBrought, whenFit, tokensFrom, stacksFit, feedOf, finishOf}
 use Rattle.meaning.specs.PublicCalls.{Call, feed, finish, callOf, areaLength, Effect, effect, written, check, usable, unusable, performs}
-use Rattle.theory_base.specs.Members.{both, and, all-append}
-use Rattle.theory_base.specs.Feeds.{feedLeaves, even-feed, uneven-feed, leaf-of, leaves-of}
+use Rattle.theory_base.specs.Feeds.{feedLeaves, even-feed, uneven-feed}
 use Rattle.theory_answers.specs.Runs.{Leads, Anything, Fed, fed}
-use Rattle.theory_answers.specs.ShapeMoves.{ShapedAt}
 use Rattle.theory_answers.specs.TurnedBack.{by-gate}
 use Rattle.theory_sets.specs.Accepted.{Sane, accepted-sane}
-use Rattle.theory_sets.specs.Tests.{all-right}
-use Rattle.theory_sound.specs.Follow.{along}
 use Rattle.theory_sound.specs.CallSound.{feed-is, finish-is}
 use Rattle.theory_sound.specs.Histories.{OpenRun, Run, runs}
 use Rattle.theory_demands.specs.ByGrammar.{performs-is, by-grammar}
 use Rattle.meaning.specs.MarkedToken.{kinds, TokenString, Begins, Unconditional, OneStart, MarkedWhere, MarkedToken, MarkedByStart, MarkedBegins}
 use Rattle.theory_marked.specs.Remaining.{kindsOf}
-use Rattle.theory_marked.specs.Prefixes.{Ahead, opening-ahead, ahead-move, begins}
+use Rattle.theory_marked.specs.Prefixes.{Ahead, opening-ahead, ahead-makes, begins}
 use Rattle.theory_marked.specs.Choice.{unconditional-starts}
 use Rattle.theory_marked.specs.Following.{Following, opening-follows, follow-makes}
 use Rattle.theory_marked.specs.Failing.{FailedAt, failed-at, by-moves, count-kept, never}
 use Rattle.meaning.specs.Judgement.{Accepted}
-use Rattle.meaning.specs.CallStatements.{Lendable}
 use Rattle.meaning.specs.Statements.{History}
 use Rattle.meaning.specs.Calls as Calls
 
 -- ---- tokens of given kinds
-
-abbrev Known : Grammar → List Leaf → Type 0
-Known g us = T (all (isLeafOf g) us)
 
 abbrev withZero : ℕ → Token
 withZero k = record { kind = k; value = pos 0 }
@@ -55,16 +45,6 @@ kinds-are : (g : Grammar) (ks : List ℕ) → kindsOf (ofKinds g ks) ≡ ks
 kinds-are g [] = refl
 kinds-are g (k ∷ ks) = ap (λ z. k ∷ z) (kinds-are g ks)
 
-kinds-known : (g : Grammar) (ks : List ℕ) → Known g (ofKinds g ks)
-kinds-known g [] = tt
-kinds-known g (k ∷ ks) = and (isLeafOf g (leafOf g (withZero k))) (all (isLeafOf g) (ofKinds g ks)) (leaf-of g (withZero k) tt) (kinds-known g ks)
-
-known-left : (g : Grammar) (us vs : List Leaf) → Known g (us ++ vs) → Known g us
-known-left g [] vs h = tt
-known-left g (u ∷ us) vs h =
-    let b = both (isLeafOf g u) (all (isLeafOf g) (us ++ vs)) h in
-    and (isLeafOf g u) (all (isLeafOf g) us) (b .0) (known-left g us vs (b .1))
-
 kinds-append : (us vs : List Leaf) → kindsOf (us ++ vs) ≡ kindsOf us ++ kindsOf vs
 kinds-append us vs = map-append (λ u. u .kind) us vs
 
@@ -73,10 +53,10 @@ kinds-length us = length-map us (λ u. u .kind)
 
 -- ---- a configuration that the opening leads to, whatever is to come behind ts
 
-module _ {g : Grammar} (s : Sane g) (lent : Lent) (ts : List Leaf) (known : Known g ts) (c : Config) (leads : Leads g lent Anything ts (opening g) [] c) where
+module _ {g : Grammar} (s : Sane g) (lent : Lent) (ts : List Leaf) (c : Config) (leads : Leads g lent Anything ts (opening g) [] c) where
   ahead : Ahead g ts c
   ahead =
-      let a = along g lent (Ahead g) (λ us d k. k .tokens) (λ l o us d e x h. ahead-move g (s .formed) lent l us d e x h) [] (all-append (isLeafOf g) ts [] known tt) (leads .made [] tt) (opening-ahead g) in
+      let a = ahead-makes g (s .formed) lent [] (leads .made [] tt) (opening-ahead g) in
       let e : a .read ≡ ts = sym (append-nil (a .read)) ∙ (sym (a .split) ∙ append-nil ts) in
       subst (λ z. Ahead g z c) e (a .inv)
 
@@ -86,8 +66,8 @@ module _ {g : Grammar} (s : Sane g) (lent : Lent) (ts : List Leaf) (known : Know
   pub first-half : Begins g (kindsOf ts)
   first-half = begins s (kindsOf ts) _ (ahead .derived)
 
-  pub follows : OneStart g → ShapedAt g (opening g) → (us : List Leaf) → Known g us → TokenString g (kindsOf (ts ++ us)) → Following g us c
-  follows one k us o d = follow-makes s one lent (leads .made us tt) (opening-follows g k (ts ++ us) (all-append (isLeafOf g) ts us known o) d)
+  pub follows : OneStart g → (us : List Leaf) → TokenString g (kindsOf (ts ++ us)) → Following g us c
+  follows one us d = follow-makes s one lent (leads .made us tt) (opening-follows g (ts ++ us) d)
 
 -- ---- the calls on an open run
 
@@ -114,10 +94,10 @@ module _ {g : Grammar} (s : Sane g) (m₀ : Stacks) (ts : List Leaf) (r : Record
     pub begins : Begins g (take n (kindsOf (ts ++ us)))
     pub none : OneStart g → Begins g (take (suc n) (kindsOf (ts ++ us))) → ⊥
 
-  marked-at : (us : List Leaf) → Known g us → (e : Config) → feedAll g (lentOf m₀) us (o .config) ≡ failed e 21 → MarkedAt us (e .tokens)
-  marked-at us seen e h = record {
+  marked-at : (us : List Leaf) (e : Config) → feedAll g (lentOf m₀) us (o .config) ≡ failed e 21 → MarkedAt us (e .tokens)
+  marked-at us e h = record {
     inside = omega (arith, kinds-length (ts ++ us), ap length joined, length-append xs (t ∷ f .after), size);
-    begins = subst (Begins g) (sym first) (first-half s (lentOf m₀) xs known d leads);
+    begins = subst (Begins g) (sym first) (first-half s (lentOf m₀) xs d leads);
     none = λ one b. impossible one (subst (Begins g) second b);
   }
     where
@@ -136,15 +116,6 @@ module _ {g : Grammar} (s : Sane g) (m₀ : Stacks) (ts : List Leaf) (r : Record
       joined : ts ++ us ≡ xs ++ (t ∷ f .after)
       joined = ap (λ z. ts ++ z) (f .whole) ∙ sym (append-assoc ts (f .before) (t ∷ f .after))
 
-      all-known : Known g (xs ++ (t ∷ f .after))
-      all-known = subst (Known g) joined (all-append (isLeafOf g) ts us (o .seen) seen)
-
-      known : Known g xs
-      known = known-left g xs (t ∷ f .after) all-known
-
-      marked-known : T (isLeafOf g t)
-      marked-known = both (isLeafOf g t) (all (isLeafOf g) (f .after)) (all-right (isLeafOf g) xs (t ∷ f .after) all-known) .0
-
       leads : Leads g (lentOf m₀) Anything xs (opening g) [] d
       leads = leads-on (f .before) d (f .fed)
 
@@ -152,7 +123,7 @@ module _ {g : Grammar} (s : Sane g) (m₀ : Stacks) (ts : List Leaf) (r : Record
       moves = by-moves g (lentOf m₀) t d e (f .fails)
 
       size : length xs ≡ e .tokens
-      size = counted s (lentOf m₀) xs known d leads ∙ sym (count-kept g (lentOf m₀) t d e moves)
+      size = counted s (lentOf m₀) xs d leads ∙ sym (count-kept g (lentOf m₀) t d e moves)
 
       apart : kindsOf (ts ++ us) ≡ kindsOf xs ++ (t .kind ∷ kindsOf (f .after))
       apart = ap kindsOf joined ∙ kinds-append xs (t ∷ f .after)
@@ -169,21 +140,20 @@ module _ {g : Grammar} (s : Sane g) (m₀ : Stacks) (ts : List Leaf) (r : Record
       impossible one b =
           let vs : List Leaf = t ∷ ofKinds g (b .0) in
           let same : (kindsOf xs ++ (t .kind ∷ [])) ++ b .0 ≡ kindsOf (xs ++ vs) = append-assoc (kindsOf xs) (t .kind ∷ []) (b .0) ∙ (ap (λ z. kindsOf xs ++ (t .kind ∷ z)) (sym (kinds-are g (b .0))) ∙ sym (kinds-append xs vs)) in
-          let seen-on : Known g vs = and (isLeafOf g t) (all (isLeafOf g) (ofKinds g (b .0))) marked-known (kinds-known g (b .0)) in
-          never s one (lentOf m₀) vs (d .tokens) d e refl (follows s (lentOf m₀) xs known d leads one (o .start .shaped) vs seen-on (subst (TokenString g) same (b .1))) moves
+          never s one (lentOf m₀) vs (d .tokens) d e refl (follows s (lentOf m₀) xs d leads one vs (subst (TokenString g) same (b .1))) moves
 
-  feed-marked : (us : List Leaf) → Known g us → (n : ℕ) → feedLeaves g r m us .answer ≡ refused 21 n → MarkedAt us n
-  feed-marked us seen n h =
+  feed-marked : (us : List Leaf) (n : ℕ) → feedLeaves g r m us .answer ≡ refused 21 n → MarkedAt us n
+  feed-marked us n h =
       let c : Config = o .config in
       let e : feedLeaves g r m us ≡ afterFeed g (layAll g c m₀) (feedAll g (lentOf m₀) us c) = ap₂ (λ a b. feedLeaves g a b us) (o .isRecord) (o .isStacks) ∙ feed-is g (s .formed) m₀ ts c (o .stop) us in
       go (feedAll g (lentOf m₀) us c) refl (sym (ap (λ z. z .answer) e) ∙ h)
     where
       go : (k : Settled) → feedAll g (lentOf m₀) us (o .config) ≡ k → afterFeed g (layAll g (o .config) m₀) k .answer ≡ refused 21 n → MarkedAt us n
       go (stopped d) q h = more-refused h
-      go (failed d j) q h = let u = refused-is h in subst (MarkedAt us) (u .1) (marked-at us seen d (q ∙ ap (failed d) (u .0)))
+      go (failed d j) q h = let u = refused-is h in subst (MarkedAt us) (u .1) (marked-at us d (q ∙ ap (failed d) (u .0)))
 
   finish-begins : Begins g (kindsOf ts)
-  finish-begins = first-half s (lentOf m₀) ts (o .seen) (o .config) (o .leads)
+  finish-begins = first-half s (lentOf m₀) ts (o .config) (o .leads)
 
   finish-none : (n : ℕ) → finishOf g r m .answer ≡ refused 24 n → OneStart g → TokenString g (kindsOf ts) → ⊥
   finish-none n h one k =
@@ -194,7 +164,7 @@ module _ {g : Grammar} (s : Sane g) (m₀ : Stacks) (ts : List Leaf) (r : Record
       go : (k : Settled) → finishAll g (lentOf m₀) (o .config) ≡ k → afterFinish g (layAll g (o .config) m₀) k .answer ≡ refused 24 n → ⊥
       go (stopped d) q h = value-refused h
       go (failed d j) q h =
-          let f = follows s (lentOf m₀) ts (o .seen) (o .config) (o .leads) one (o .start .shaped) [] tt (subst (λ z. TokenString g (kindsOf z)) (sym (append-nil ts)) k) in
+          let f = follows s (lentOf m₀) ts (o .config) (o .leads) one [] (subst (λ z. TokenString g (kindsOf z)) (sym (append-nil ts)) k) in
           never s one (lentOf m₀) [] (o .config .tokens) (o .config) d refl f (q ∙ ap (failed d) (refused-is h .0))
 
 -- ---- any run, any area
@@ -253,8 +223,8 @@ module _ (program : Grammar → List ℕ) (bs area : List ℕ) (g : Grammar) (m�
   abbrev Marked : List ℕ → ℕ → Type 0
   Marked all n = (n < length all) × Begins g (take n all) × (OneStart g → Begins g (take (suc n) all) → ⊥)
 
-  by-feed : (ks : List ℕ) (vs : List ℤ) (n : ℕ) → Lendable (feed ks vs) → performs program bs area r m (feed ks vs) .answer ≡ refused 21 n → Marked (kinds ts ++ ks) n
-  by-feed ks vs n t k = go (ℕ-discrete (length ks) (length vs))
+  by-feed : (ks : List ℕ) (vs : List ℤ) (n : ℕ) → performs program bs area r m (feed ks vs) .answer ≡ refused 21 n → Marked (kinds ts ++ ks) n
+  by-feed ks vs n k = go (ℕ-discrete (length ks) (length vs))
     where
       us : List Leaf
       us = leaves g (tokensFrom ks vs)
@@ -264,7 +234,7 @@ module _ (program : Grammar → List ℕ) (bs area : List ℕ) (g : Grammar) (m�
 
       go : Dec (length ks ≡ length vs) → Marked (kinds ts ++ ks) n
       go (yes e) =
-          let v = feed-marked s m₀ (leaves g ts) r m (open-run (feed ks vs) 21 n (λ z. omega arith) q) us (leaves-of g ks vs t) n (sym (ap (λ z. z .answer) (even-feed g r m ks vs e)) ∙ q) in
+          let v = feed-marked s m₀ (leaves g ts) r m (open-run (feed ks vs) 21 n (λ z. omega arith) q) us n (sym (ap (λ z. z .answer) (even-feed g r m ks vs e)) ∙ q) in
           let same : kindsOf (leaves g ts ++ us) ≡ kinds ts ++ ks = kinds-append (leaves g ts) us ∙ ap₂ (λ x y. x ++ y) (kinds-of-tokens g ts) (kinds-of-feed g ks vs e) in
           subst (λ z. Marked z n) same (v .inside, v .begins, v .none)
       go (no e) = absurd (uneven-no g r m n (sym (ap (λ z. z .answer) (uneven-feed g r m ks vs e)) ∙ q))
@@ -276,11 +246,11 @@ module _ (program : Grammar → List ℕ) (bs area : List ℕ) (g : Grammar) (m�
       subst (λ z. Begins g z × (OneStart g → TokenString g z → ⊥)) (kinds-of-tokens g ts) (finish-begins s m₀ (leaves g ts) r m o, finish-none s m₀ (leaves g ts) r m o n q)
 
 pub marked-begins : MarkedBegins
-marked-begins program bs area g m₀ ts isOver r m a h = ((λ ks vs n t k. let v = by-feed program bs area g m₀ ts isOver r m a h ks vs n t k in (v .0, v .1)), (λ n k. by-finish program bs area g m₀ ts isOver r m a h n k .0))
+marked-begins program bs area g m₀ ts isOver r m a h = ((λ ks vs n k. let v = by-feed program bs area g m₀ ts isOver r m a h ks vs n k in (v .0, v .1)), (λ n k. by-finish program bs area g m₀ ts isOver r m a h n k .0))
 
 pub marked-by-start : MarkedByStart
 marked-by-start program bs area g m₀ ts isOver r m a one h =
-    ((λ ks vs n t k. let v = by-feed program bs area g m₀ ts isOver r m a h ks vs n t k in (v .0, v .1, v .2 one)), (λ n k. let v = by-finish program bs area g m₀ ts isOver r m a h n k in (v .0, v .1 one)))
+    ((λ ks vs n k. let v = by-feed program bs area g m₀ ts isOver r m a h ks vs n k in (v .0, v .1, v .2 one)), (λ n k. let v = by-finish program bs area g m₀ ts isOver r m a h n k in (v .0, v .1 one)))
 
 pub marked-token : MarkedToken
 marked-token program bs area g m₀ ts isOver r m a plain h = marked-by-start program bs area g m₀ ts isOver r m a (unconditional-starts (accepted-sane bs g a) plain) h

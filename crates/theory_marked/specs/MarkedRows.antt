@@ -133,7 +133,7 @@ module _ (program : Grammar → List ℕ) (area : List ℕ) (l : areaLength ≤ 
   word-close =
       let e = start plainTable plain plain-accepted program area l in
       let m = marked-token program plainTable area plain lent [] false (e .state) (e .stacks) plain-accepted no-entries (begun plainTable plain plain-accepted program area l refl) in
-      m .0 (0 ∷ 2 ∷ 0 ∷ []) (zeros (0 ∷ 2 ∷ 0 ∷ [])) 1 tt (ap (λ z. z .answer) (call-by plainTable plain plain-accepted program area l (feedKinds (0 ∷ 2 ∷ 0 ∷ []))))
+      m .0 (0 ∷ 2 ∷ 0 ∷ []) (zeros (0 ∷ 2 ∷ 0 ∷ [])) 1 (ap (λ z. z .answer) (call-by plainTable plain plain-accepted program area l (feedKinds (0 ∷ 2 ∷ 0 ∷ []))))
 
   -- word, open, and the end: 24
   word-open : Unfinished plain (0 ∷ 1 ∷ [])
@@ -157,7 +157,7 @@ module _ (program : Grammar → List ℕ) (area : List ℕ) (l : areaLength ≤ 
   close-close =
       let e = start bytes words words-accepted program area l in
       let m = marked-by-start program bytes area words lent [] false (e .state) (e .stacks) words-accepted words-apart (begun bytes words words-accepted program area l refl) in
-      m .0 (1 ∷ 2 ∷ 2 ∷ []) (zeros (1 ∷ 2 ∷ 2 ∷ [])) 2 tt (ap (λ z. z .answer) (call-by bytes words words-accepted program area l (feedKinds (1 ∷ 2 ∷ 2 ∷ []))))
+      m .0 (1 ∷ 2 ∷ 2 ∷ []) (zeros (1 ∷ 2 ∷ 2 ∷ [])) 2 (ap (λ z. z .answer) (call-by bytes words words-accepted program area l (feedKinds (1 ∷ 2 ∷ 2 ∷ []))))
 
 -- ---- entry conditions that choose between alternatives of one token: L to a b where d is 0, to a c where d is 1; S enters it with d = 0
 
@@ -200,7 +200,7 @@ premise-needed : (program : Grammar → List ℕ) (area : List ℕ) → areaLeng
 premise-needed program area l claim =
     let e = start chosenTable chosen chosen-accepted program area l in
     let c = claim program chosenTable area chosen lent [] false (e .state) (e .stacks) chosen-accepted tt (begun chosenTable chosen chosen-accepted program area l refl) in
-    let v = c .0 (0 ∷ 2 ∷ []) (zeros (0 ∷ 2 ∷ [])) 1 tt (ap (λ z. z .answer) (call-by chosenTable chosen chosen-accepted program area l (feedKinds (0 ∷ 2 ∷ [])))) in
+    let v = c .0 (0 ∷ 2 ∷ []) (zeros (0 ∷ 2 ∷ [])) 1 (ap (λ z. z .answer) (call-by chosenTable chosen chosen-accepted program area l (feedKinds (0 ∷ 2 ∷ [])))) in
     v .2 ([], step 0 [] [] (omega arith) (step 2 [] [] (omega arith) itself))
 
 -- a 22 marks a token that can stand there, conditions aside: the fourth open

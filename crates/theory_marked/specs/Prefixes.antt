@@ -3,13 +3,14 @@ use Prim.Native.Nat.{ℕ}
 use native.Mathlib.Omega.{arith}
 use mathlib.Core.Path.{_≡_, refl, sym, ap, _∙_, subst}
 use mathlib.Core.Logic.{_⊎_, inl, inr}
-use mathlib.Core.List.{List, [], _∷_, _++_, map, append-assoc, map-append}
+use mathlib.Core.List.{List, [], _∷_, _++_, map, append-assoc, append-nil, map-append}
 use lib.ListN.{length, length-append}
 use lib.Dec.{T, ltb→lt, lt→ltb}
 use Rattle.meaning.specs.Base.{all}
 use Rattle.meaning.specs.Grammar.{Symbol, terminal, nonterminal, Grammar, nonterminalCount, Leaf}
 use Rattle.meaning.specs.Derivation.{Derives, itself, step, startForm}
-use Rattle.meaning.specs.Machine.{Config, Lent, Coming, comes, moved, next, opening}
+use Rattle.meaning.specs.Machine.{Config, Lent, Coming, comes, moved, next, lookAt, opening}
+use Rattle.meaning.specs.Walk.{Act, Makes, nothing, andThen}
 use Rattle.meaning.specs.Rules.{WellFormed}
 use Rattle.theory_base.specs.Members.{and, both}
 use Rattle.theory_sets.specs.Accepted.{Sane}
@@ -17,7 +18,7 @@ use Rattle.theory_sets.specs.Derivations.{joined, before, beside}
 use Rattle.theory_sets.specs.Looks.{derived-known}
 use Rattle.theory_sets.specs.Productions.{known}
 use Rattle.theory_sets.specs.Tests.{all-right}
-use Rattle.theory_sound.specs.Follow.{Kept}
+use Rattle.theory_sound.specs.Follow.{Kept, Along, kept-on}
 use Rattle.meaning.specs.MarkedToken.{Begins}
 use Rattle.theory_marked.specs.Remaining.{kindsOf, remaining, Passes, stays, reads, predicts, passes}
 
@@ -70,3 +71,8 @@ ahead-move g w lent l ts c d a h = go (onward ts (passes g w lent l c d h) (a .d
     go : Onward g l ts (c .tokens) (remaining (d .frames)) (d .tokens) → Kept (Ahead g) l ts c d
     go (inl v) = inl (record { derived = v .0; tokens = v .1 }, v .2)
     go (inr v) = inr (v .0, v .1, record { derived = v .2; tokens = v .3 })
+
+-- with us to come, none of them known but by its kind
+pub ahead-makes : (g : Grammar) → WellFormed g → (lent : Lent) (ts : List Leaf) {us vs : List Leaf} {c d : Config} {ws : List Act} → Makes g lent us c ws vs d → Ahead g ts c → Along (Ahead g) ts us vs d
+ahead-makes g w lent ts nothing a = record { read = []; split = refl; inv = rw append-nil a }
+ahead-makes g w lent ts {us = us} (andThen {vs = vs} {d = d} p i is fs e m f h) a = let r = ahead-makes g w lent ts m a in kept-on (Ahead g) (λ zs x k. k .tokens) ts us vs d e r (ahead-move g w lent (lookAt vs) (ts ++ r .read) d e (r .inv) h)
