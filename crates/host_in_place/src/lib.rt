@@ -51,14 +51,6 @@ pub fn feed(
     ensures { λ r. ⌜ PassedOn (now («record» .exit)) (now (number .exit)) (now (count .exit)) (now (registers .exit)) (now (places .exit)) (now (program .exit)) (performs programOf (now (table .entry)) (now (program .entry)) (broughtIn (now («record» .entry))) (stacksOf (now (registers .entry)) (now (places .entry))) (Public.feed (now (kinds .entry)) (now (values .entry)))) ⌝ }
 {
     let brought = host_numbers::brought(record);
-    let called = fed(
-        brought,
-        table,
-        registers,
-        places,
-        program,
-        kinds,
-        values,
-    );
+    let called = fed(brought, table, registers, places, program, kinds, values);
     host_numbers::pass_on(called, record, number, count);
 }

@@ -1,8 +1,7 @@
 // 02 (n): a feed on a record that the caller keeps and lends.
 ghost use mathlib.Core.Path.{_≡_};
 ghost use Rattle.meaning.specs.Program.{programOf};
-ghost use Rattle.meaning.specs.PublicCalls.{performs, feed};
-ghost use Rattle.meaning.specs.PublicCalls.{stacksOf};
+ghost use Rattle.meaning.specs.PublicCalls.{performs, feed, stacksOf};
 ghost use Rattle.engine.specs.Records.{recordIs};
 ghost use Rattle.in_place.specs.Lent.{leaves};
 use engine::Answer;

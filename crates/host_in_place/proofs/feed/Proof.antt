@@ -1,8 +1,7 @@
 use mathlib.Core.Path.{ap, _∙_}
 use denote.Ref.{now}
 use Rattle.meaning.specs.Program.{programOf}
-use Rattle.meaning.specs.PublicCalls.{performs, feed}
-use Rattle.meaning.specs.PublicCalls.{stacksOf}
+use Rattle.meaning.specs.PublicCalls.{performs, feed, stacksOf}
 use Rattle.host_numbers.specs.Lent.{passed-on}
 use borrow.Author.Needs.{needs}
 use Rattle.host_in_place.proofs.feed.Statement.{statement}
@@ -28,9 +27,11 @@ same-length-3 c = search needs
 
 returns : tie.Need-returns
 returns c =
-    let a = c .before .before .before .before .before .before .before .before .before .before .before .before .before .before .before .before .before .before .before .args in
-    let e = ap (λ z. performs programOf (now (a .table)) (now (a .program)) z (stacksOf (now (a .registers)) (now (a .places))) (feed (now (a .kinds)) (now (a .values)))) (c .before .before .before .before .before .before .before .before .before .before .before .before .before .brought .ensures) in
-    passed-on (c .before .before .before .before .before .before .before .before .before .fed .result) _ _ _ _ (c .before .before .before .before .before .before .before .before .before .fed .ensures ∙ e) _ _ _ (c .pass-on .ensures)
+    let fed = c .before .before .before .before .before .before .before .before .before in
+    let brought = fed .before .before .before .before in
+    let a = brought .before .before .before .before .before .before .args in
+    let e = ap (λ z. performs programOf (now (a .table)) (now (a .program)) z (stacksOf (now (a .registers)) (now (a .places))) (feed (now (a .kinds)) (now (a .values)))) (brought .brought .ensures) in
+    passed-on (fed .fed .result) _ _ _ _ (fed .fed .ensures ∙ e) _ _ _ (c .pass-on .ensures)
 
 pub feed-spec : {M : Type 1} → statement M
 feed-spec =
