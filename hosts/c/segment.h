@@ -1,8 +1,8 @@
 /* The segment engine for C programs: link with libhost.a, which `rt staticlib host` writes to target/staticlib.
  *
  * A table describes a grammar; a run evaluates one segment, a list of tokens, under it. A token is a one-byte kind and, where its kind
- * carries one, a value. A run is opened, fed any number of times and finished. The library keeps nothing between calls and allocates
- * nothing: all memory is lent by the caller.
+ * carries one, a value. A run is opened, fed any number of times and finished; in between an inner run may evaluate another segment, say
+ * a footnote. The library keeps nothing between calls and allocates nothing: all memory is lent by the caller.
  *
  * Every function may be called with any content in the lent memory; what does not fit is turned back with a number. What each
  * function hands back is fixed for every input: each lent number, each field of the record, each register, place and program word.
@@ -16,6 +16,7 @@
  *   30 to 35: the state of the run or the memory is refused; with the tokens read, or 0 for 30, 33 and 34
  *         36: the buffer for a table in house order is too short; with 0, and no byte of it is written
  *         38: the lists of kinds and values are of unequal length; with 0
+ *         40: the run waits for its inner run, or a third run would be opened; with 0
  *         42: a window's size, buffer or value is refused; no cell of the buffer is written
  * The numbers have names, SEGMENT_..., and segment_reason gives their words. On 1 to 13 and on 30 no register, place or program word is
  * written. */
@@ -76,19 +77,28 @@ enum segment_number {
     SEGMENT_TOO_MUCH = 35,
     SEGMENT_OUTPUT_SHORT = 36,
     SEGMENT_LISTS_UNEQUAL = 38,
+    SEGMENT_RUN_WAITING = 40,
     SEGMENT_WINDOW_UNFIT = 42
 };
 
+/* The status of a run; every other number counts as running. */
+#define SEGMENT_STATUS_CLOSED 0
+#define SEGMENT_STATUS_RUNNING 1
+#define SEGMENT_STATUS_WAITING 2
+/* The kind of a run; every other number counts as outer. */
+#define SEGMENT_KIND_OUTER 0
+#define SEGMENT_KIND_INNER 1
+
 /* The run record. Each call on a run takes it and hands the next one back in its place. */
 typedef struct {
-    uint64_t open;          /* 0 closed, 2 waiting, otherwise open; handed back as 0, 1 or 2 */
+    uint64_t status;        /* SEGMENT_STATUS_... */
     uint64_t tokens;        /* tokens read */
     uint64_t moves;         /* moves made since opening */
-    uint64_t registers;     /* height of the register stack */
-    uint64_t places;        /* height of the place stack */
-    uint64_t kind;          /* 1 inner, otherwise outer; handed back as 0 or 1 */
-    uint64_t register_base; /* register height where an inner run begins, or 0 */
-    uint64_t place_base;    /* place height where an inner run begins, or 0 */
+    uint64_t registers;     /* height of the register stack; of an inner run from where it begins */
+    uint64_t places;        /* height of the place stack; of an inner run from where it begins */
+    uint64_t kind;          /* SEGMENT_KIND_... */
+    uint64_t register_base; /* register height where an inner run begins, otherwise 0 */
+    uint64_t place_base;    /* place height where an inner run begins, otherwise 0 */
 } segment_record;
 
 /* The verdict on a table: *number and *offset of its refusal, or 0 and 0 where it is accepted. */
@@ -124,20 +134,56 @@ void segment_open(const uint8_t *table, size_t table_length, segment_record *rec
 
 /* Feeds tokens to an open run, on the record and the stacks as the call before left them: their kinds, and for each a value, which is
  * ignored where the kind carries none.
- * *number: 0, or 1 to 13, 20 to 23, 30 to 35, 38. 20 to 23, 31, 32 and 35 close the record, with the moves made until then standing; the
- * others leave record and stacks as brought, but that an open record is handed back with open = 1.
+ * *number: 0, or 1 to 13, 20 to 23, 30 to 35, 38, 40. 20 to 23, 31, 32 and 35 close the record, with the moves made until then standing;
+ * the others leave record and stacks as brought, but that status and kind are handed back as the constants that they count as, and the
+ * beginnings of an outer record as 0.
  * *count: the moves made since opening; on a refusal the tokens read, or the table's offset. */
 void segment_feed(const uint8_t *table, size_t table_length, segment_record *record, int64_t *registers, size_t registers_length,
                   uint32_t *places, size_t places_length, uint32_t *program, size_t program_length, const uint8_t *kinds,
                   size_t kinds_length, const int32_t *values, size_t values_length, uint32_t *number, uint64_t *count);
 
 /* Finishes the segment and closes the record.
- * *number: 0, or 1 to 13, 22 to 24, 30 to 35, as for a feed.
+ * *number: 0, or 1 to 13, 22 to 24, 30 to 35, 40, as for a feed.
  * *value: the segment's value, or 0 on a refusal.
  * *count: the moves made since opening; on a refusal the tokens read, or the table's offset. */
 void segment_finish(const uint8_t *table, size_t table_length, segment_record *record, int64_t *registers, size_t registers_length,
                     uint32_t *places, size_t places_length, uint32_t *program, size_t program_length, uint32_t *number, int64_t *value,
                     uint64_t *count);
+
+/* Opens an inner run on the same lent memory, above the heights of an outer run, which then waits: calls on it are turned back with 40
+ * until the inner run ends. Both tables are brought: the outer run is judged by its own, as for a feed, then the inner table and the room
+ * that is left. The outer table's program is written into the program area, then the inner one's over it. The content of the inner record
+ * before the call is not looked at.
+ * *number: 0, or 1 to 13 of either table, 30 to 34, 40 (the outer run waits already, or is an inner one); on a refusal the outer record and
+ * the stacks are as brought and the inner record is closed and all zero.
+ * *count: 0, or the offset of the refused table. */
+void segment_inner_open(const uint8_t *outer_table, size_t outer_table_length, const uint8_t *inner_table, size_t inner_table_length,
+                        segment_record *outer, segment_record *inner, int64_t *registers, size_t registers_length, uint32_t *places,
+                        size_t places_length, uint32_t *program, size_t program_length, uint32_t *number, uint64_t *count);
+
+/* Feeds tokens to the inner run, whose table is brought, on both records as the call before left them. What lies below the inner run's
+ * beginning is neither looked at nor written.
+ * *number: 0, or 1 to 13, 20 to 23, 30 to 35, 38. 33 where either record is closed; 34 also where the outer one does not wait just where
+ * the inner one begins. 20 to 23, 31, 32 and 35 end the inner run: its cells are cleared, its record is closed, otherwise as it was before
+ * the clearing, and the outer record no longer waits. The others leave records and stacks as brought, as for a feed.
+ * *count: the inner run's moves; on a refusal its tokens read, or the table's offset. */
+void segment_inner_feed(const uint8_t *table, size_t table_length, segment_record *outer, segment_record *inner, int64_t *registers,
+                        size_t registers_length, uint32_t *places, size_t places_length, uint32_t *program, size_t program_length,
+                        const uint8_t *kinds, size_t kinds_length, const int32_t *values, size_t values_length, uint32_t *number,
+                        uint64_t *count);
+
+/* Finishes the inner run's segment: the run ends, as above.
+ * *number: 0, or 1 to 13, 22 to 24, 30 to 35.
+ * *value: the segment's value, or 0 on a refusal. */
+void segment_inner_finish(const uint8_t *table, size_t table_length, segment_record *outer, segment_record *inner, int64_t *registers,
+                          size_t registers_length, uint32_t *places, size_t places_length, uint32_t *program, size_t program_length,
+                          uint32_t *number, int64_t *value, uint64_t *count);
+
+/* Gives the inner run up: it ends as it stands, as above.
+ * *number: 0, or 1 to 13, 30, 33, 34. */
+void segment_inner_give_up(const uint8_t *table, size_t table_length, segment_record *outer, segment_record *inner, int64_t *registers,
+                           size_t registers_length, uint32_t *places, size_t places_length, uint32_t *program, size_t program_length,
+                           uint32_t *number, uint64_t *count);
 
 /* A window over the values of the last finished segments (docs/WINDOW.md): its size is 1 to 64, and its buffer has at least so many
  * cells. The buffer is only written by these two calls; cells past those are never looked at. */
@@ -227,6 +273,8 @@ SEGMENT_INLINE const char *segment_reason(uint32_t number) {
         return "the output buffer is too short";
     case SEGMENT_LISTS_UNEQUAL:
         return "the lists of kinds and values are of unequal length";
+    case SEGMENT_RUN_WAITING:
+        return "the run waits for its inner run, or a third run would be opened";
     case SEGMENT_WINDOW_UNFIT:
         return "the window's size, buffer or value does not fit";
     default:
@@ -386,6 +434,94 @@ SEGMENT_INLINE segment_answer segment_run_finish(segment_run *run) {
                    m->program, m->program_length, &a.number, &a.value, &a.count);
     if (a.number == SEGMENT_OK) {
         a.count = segment_moves(run);
+    }
+    return a;
+}
+
+/* An inner run, over the memory of an outer one: its table and its record. Read the fields; write none. The outer run's budget of moves is
+ * the inner run's too, for its own moves. */
+typedef struct {
+    segment_run *outer;
+    const uint8_t *table;
+    size_t table_length;
+    segment_record record;
+} segment_inner_run;
+
+/* The moves made since the inner run's opening. */
+SEGMENT_INLINE uint64_t segment_inner_run_moves(const segment_inner_run *inner) {
+    return inner->record.moves < inner->outer->spent ? 0 : inner->record.moves - inner->outer->spent;
+}
+
+/* Register k of an open inner run: 1 is the top. SEGMENT_MARK past the last, where there is no value yet, and once the run has ended. */
+SEGMENT_INLINE int64_t segment_inner_run_register(const segment_inner_run *inner, uint64_t k) {
+    const segment_record *r = &inner->record;
+    int used = r->status != SEGMENT_STATUS_CLOSED && k >= 1 && k <= r->registers;
+    return used ? inner->outer->memory.registers[r->register_base + r->registers - k] : SEGMENT_MARK;
+}
+
+/* Opens an inner run above an outer one, which waits until the inner one ends. */
+SEGMENT_INLINE segment_answer segment_inner_run_open(segment_inner_run *inner, segment_run *outer, const uint8_t *table,
+                                                     size_t table_length) {
+    segment_answer a = {0, 0, 0};
+    const segment_memory *m = &outer->memory;
+    inner->outer = outer;
+    inner->table = segment_bytes(table);
+    inner->table_length = table_length;
+    segment_inner_open(outer->table, outer->table_length, inner->table, table_length, &outer->record, &inner->record, m->registers,
+                       m->registers_length, m->places, m->places_length, m->program, m->program_length, &a.number, &a.count);
+    if (a.number == SEGMENT_OK) {
+        inner->record.moves = outer->spent;
+    }
+    return a;
+}
+
+SEGMENT_INLINE segment_answer segment_inner_run_feed_values(segment_inner_run *inner, const uint8_t *kinds, size_t kinds_length,
+                                                            const int32_t *values, size_t values_length) {
+    segment_answer a = {0, 0, 0};
+    const segment_memory *m = &inner->outer->memory;
+    segment_inner_feed(inner->table, inner->table_length, &inner->outer->record, &inner->record, m->registers, m->registers_length,
+                       m->places, m->places_length, m->program, m->program_length, segment_bytes(kinds), kinds_length,
+                       segment_values(values), values_length, &a.number, &a.count);
+    if (a.number == SEGMENT_OK) {
+        a.count = segment_inner_run_moves(inner);
+    }
+    return a;
+}
+
+/* Feeds tokens whose values are all 0, SEGMENT_PIECE of them in a call. */
+SEGMENT_INLINE segment_answer segment_inner_run_feed(segment_inner_run *inner, const uint8_t *tokens, size_t tokens_length) {
+    static const int32_t zeros[SEGMENT_PIECE] = {0};
+    segment_answer a;
+    tokens = segment_bytes(tokens);
+    do {
+        size_t piece = tokens_length < SEGMENT_PIECE ? tokens_length : SEGMENT_PIECE;
+        a = segment_inner_run_feed_values(inner, tokens, piece, zeros, piece);
+        tokens_length -= piece;
+        tokens += piece;
+    } while (a.number == SEGMENT_OK && tokens_length > 0);
+    return a;
+}
+
+/* Finishes the inner run's segment; the run ends, and the outer one goes on. */
+SEGMENT_INLINE segment_answer segment_inner_run_finish(segment_inner_run *inner) {
+    segment_answer a = {0, 0, 0};
+    const segment_memory *m = &inner->outer->memory;
+    segment_inner_finish(inner->table, inner->table_length, &inner->outer->record, &inner->record, m->registers, m->registers_length,
+                         m->places, m->places_length, m->program, m->program_length, &a.number, &a.value, &a.count);
+    if (a.number == SEGMENT_OK) {
+        a.count = segment_inner_run_moves(inner);
+    }
+    return a;
+}
+
+/* Gives the inner run up; the outer one goes on. */
+SEGMENT_INLINE segment_answer segment_inner_run_give_up(segment_inner_run *inner) {
+    segment_answer a = {0, 0, 0};
+    const segment_memory *m = &inner->outer->memory;
+    segment_inner_give_up(inner->table, inner->table_length, &inner->outer->record, &inner->record, m->registers, m->registers_length,
+                          m->places, m->places_length, m->program, m->program_length, &a.number, &a.count);
+    if (a.number == SEGMENT_OK) {
+        a.count = segment_inner_run_moves(inner);
     }
     return a;
 }

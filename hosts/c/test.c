@@ -1,4 +1,4 @@
-/* The functions over a segment_run, at their edges, house order, and a window. */
+/* The functions over a segment_run and a segment_inner_run, at their edges, house order, and a window. */
 #include "segment.h"
 
 #include <stdio.h>
@@ -93,6 +93,55 @@ static void budgets(void) {
     MUST(is(segment_run_feed(&run, tokens, 2), SEGMENT_OK, 11));
 }
 
+/* A footnote of lengths inside words and tags, stopped after word open: finished, refused, given up. */
+static void inner_runs(void) {
+    static const uint8_t tokens[] = {0, 1, 0, 2};
+    static const int32_t letters[] = {4, 0, 7, 0};
+    static const segment_record zero = {0, 0, 0, 0, 0, 0, 0, 0};
+    segment_inner_run note, third;
+    segment_memory small = segment_memory_of(&room);
+    segment_answer a;
+    int64_t before[7];
+    small.registers_length = 8;
+    MUST(is(segment_run_open(&run, words, sizeof words, segment_memory_of(&room)), SEGMENT_OK, 0));
+    MUST(is(segment_run_feed(&run, tokens, 2), SEGMENT_OK, 11));
+    memcpy(before, room.registers, sizeof before);
+    MUST(is(segment_inner_run_open(&note, &run, lengths, sizeof lengths), SEGMENT_OK, 0));
+    MUST(run.record.status == SEGMENT_STATUS_WAITING && note.record.kind == SEGMENT_KIND_INNER);
+    MUST(note.record.register_base == 7 && note.record.place_base == 4 && room.places[4] == 32768);
+    MUST(is(segment_run_feed(&run, tokens, 1), SEGMENT_RUN_WAITING, 0) && is(segment_run_finish(&run), SEGMENT_RUN_WAITING, 0));
+    MUST(is(segment_inner_run_open(&third, &run, words, sizeof words), SEGMENT_RUN_WAITING, 0));
+    MUST(memcmp(&third.record, &zero, sizeof zero) == 0);
+    MUST(is(segment_inner_run_feed_values(&note, tokens, 2, letters, 2), SEGMENT_OK, 12));
+    MUST(segment_inner_run_register(&note, 5) == 4 && segment_inner_run_register(&note, 9) == SEGMENT_MARK);
+    MUST(is(segment_inner_run_feed_values(&note, tokens, 2, letters, 1), SEGMENT_LISTS_UNEQUAL, 0));
+    MUST(is(segment_inner_run_feed(&note, NULL, 0), SEGMENT_OK, 12));
+    MUST(segment_inner_run_feed_values(&note, tokens + 2, 2, letters + 2, 2).number == SEGMENT_OK);
+    a = segment_inner_run_finish(&note);
+    MUST(a.number == SEGMENT_OK && a.value == 11 && segment_inner_run_moves(&note) == a.count);
+    MUST(run.record.status == SEGMENT_STATUS_RUNNING && note.record.status == SEGMENT_STATUS_CLOSED);
+    MUST(memcmp(before, room.registers, sizeof before) == 0 && room.registers[7] == SEGMENT_MARK && room.places[4] == 0);
+    MUST(segment_inner_run_register(&note, 1) == SEGMENT_MARK);
+    MUST(is(segment_inner_run_finish(&note), SEGMENT_RUN_CLOSED, 0) && is(segment_inner_run_give_up(&note), SEGMENT_RUN_CLOSED, 0));
+    MUST(is(segment_inner_run_open(&note, &run, words, sizeof words), SEGMENT_OK, 0));
+    MUST(is(segment_inner_run_feed(&note, tokens + 3, 1), SEGMENT_UNEXPECTED_TOKEN, 0) && run.record.status == SEGMENT_STATUS_RUNNING);
+    MUST(is(segment_inner_run_open(&note, &run, words, sizeof words), SEGMENT_OK, 0));
+    MUST(is(segment_inner_run_feed(&note, tokens, 2), SEGMENT_OK, 11) && is(segment_inner_run_give_up(&note), SEGMENT_OK, 11));
+    MUST(note.record.tokens == 2 && note.record.registers == 7 && note.record.places == 4);
+    MUST(is(segment_inner_run_open(&note, &run, NULL, 0), SEGMENT_TAG_OUT_OF_ORDER, 0));
+    MUST(is(segment_run_feed(&run, tokens + 2, 2), SEGMENT_OK, 23));
+    a = segment_run_finish(&run);
+    MUST(is(a, SEGMENT_OK, 32) && a.value == 2);
+    MUST(is(segment_inner_run_open(&note, &run, words, sizeof words), SEGMENT_RUN_CLOSED, 0));
+    MUST(is(segment_run_open_with_budget(&run, words, sizeof words, small, 11), SEGMENT_OK, 0));
+    MUST(is(segment_run_feed(&run, tokens, 2), SEGMENT_OK, 11));
+    MUST(is(segment_inner_run_open(&note, &run, words, sizeof words), SEGMENT_OK, 0) && segment_inner_run_moves(&note) == 0);
+    MUST(is(segment_inner_run_finish(&note), SEGMENT_NEEDS_REGISTERS, 0) && segment_inner_run_moves(&note) == 1);
+    segment_run_restart(&run);
+    MUST(is(segment_inner_run_open(&note, &run, words, sizeof words), SEGMENT_OK, 0));
+    MUST(is(segment_inner_run_feed(&note, tokens, 4), SEGMENT_TOO_MUCH, 2) && segment_inner_run_moves(&note) == 11);
+}
+
 /* Words and tags, and the same with its condition, the 14 bytes before byte 121, said twice: one table in house order. */
 static void house(void) {
     static uint8_t twice[sizeof words + 14], out[sizeof words + 1], other[sizeof twice];
@@ -135,6 +184,7 @@ int main(void) {
     values();
     many_tokens();
     budgets();
+    inner_runs();
     house();
     windows();
     for (number = 0; number <= 43; number++) {

@@ -60,6 +60,7 @@ class Kind(enum.IntEnum):
     TOO_MUCH = 35
     OUTPUT_SHORT = 36
     LISTS_UNEQUAL = 38
+    RUN_WAITING = 40
     WINDOW_UNFIT = 42
 
 
@@ -91,6 +92,7 @@ REASONS = {
     Kind.TOO_MUCH: "a token after 65,535, or a move after 4,294,967,295 or after the budget",
     Kind.OUTPUT_SHORT: "the output buffer is too short",
     Kind.LISTS_UNEQUAL: "the lists of kinds and values are of unequal length",
+    Kind.RUN_WAITING: "the run waits for its inner run, or a third run would be opened",
     Kind.WINDOW_UNFIT: "the window's size, buffer or value does not fit",
 }
 
@@ -120,8 +122,8 @@ class Refusal(Exception):
 
     @property
     def tokens(self):
-        """The tokens read. The refusals 30, 33, 34, 36, 38 and 42 tell none."""
-        return self.count if self.number > 14 and self.number not in (30, 33, 34, 36, 38, 42) else None
+        """The tokens read. The refusals 30, 33, 34, 36, 38, 40 and 42 tell none."""
+        return self.count if self.number > 14 and self.number not in (30, 33, 34, 36, 38, 40, 42) else None
 
     def _words(self):
         where = ""
@@ -132,10 +134,15 @@ class Refusal(Exception):
         return f"refused {self.number}{where}: {self.reason}"
 
 
-class Record(ctypes.Structure):
-    """The run record: open, tokens, moves, both heights, the kind of run and where an inner one begins."""
+CLOSED, RUNNING, WAITING = 0, 1, 2
+OUTER, INNER = 0, 1
 
-    _names = ("open", "tokens", "moves", "registers", "places", "kind", "register_base", "place_base")
+
+class Record(ctypes.Structure):
+    """The run record: status (CLOSED, RUNNING or WAITING), tokens, moves, both heights, kind (OUTER or INNER) and where an inner run
+    begins."""
+
+    _names = ("status", "tokens", "moves", "registers", "places", "kind", "register_base", "place_base")
     _fields_ = [(name, ctypes.c_uint64) for name in _names]
 
 
@@ -353,6 +360,11 @@ class Run:
         self.feed(tokens, values)
         return self.finish()
 
+    def open_inner(self, table):
+        """Opens an inner run, say for a footnote, under a table of its own and above what this run has in use. This run waits until the
+        inner one ends; then it stands as before. The inner segment has a budget of as many moves as this one."""
+        return InnerRun(self, table)
+
     @property
     def moves(self):
         """The moves made since opening."""
@@ -370,8 +382,13 @@ class Run:
 
     @property
     def is_open(self):
-        """Whether the run takes more tokens."""
-        return self.record.open != 0
+        """Whether the run goes on: it is neither finished nor refused. It takes more tokens unless it waits."""
+        return self.record.status != CLOSED
+
+    @property
+    def is_waiting(self):
+        """Whether the run waits for its inner run: calls on it are then refused by 40."""
+        return self.record.status == WAITING
 
     @property
     def registers(self):
@@ -390,12 +407,100 @@ class Run:
         return list(self._cells[1][: self.record.places])
 
     def __repr__(self):
-        state = "open" if self.is_open else "closed"
+        state = {CLOSED: "closed", WAITING: "waiting"}.get(self.record.status, "open")
         return f"Run({state}, {self.tokens} tokens, {self.moves} moves, {self.table!r})"
 
     def _called(self, name, *more, value=None):
-        number, count = ctypes.c_uint32(), ctypes.c_uint64()
-        out = [number, count] if value is None else [number, value, count]
-        _call(name, *self._table, ctypes.byref(self.record), *self._memory, *more, *map(ctypes.byref, out))
-        if number.value:
-            raise Refusal(number.value, count.value)
+        _run_call(name, (*self._table, ctypes.byref(self.record), *self._memory, *more), value)
+
+
+class InnerRun:
+    """A run inside another, over its memory. It ends by a finish, by a refusal that closes it, or by giving up; then its part of the
+    memory is clear and the outer run goes on. As a context it is given up at the end of the block, unless it has ended:
+
+        with run.open_inner(table) as note:
+            note.feed([0, 0])
+            print(note.finish())
+    """
+
+    def __init__(self, outer, table):
+        self.outer = outer
+        self.table = table
+        self._table = _bytes(table.bytes)
+        self._spent = outer._spent
+        self.record = Record()
+        self.value = None
+        both = ctypes.byref(outer.record), ctypes.byref(self.record)
+        _run_call("segment_inner_open", (*outer._table, *self._table, *both, *outer._memory))
+        self.record.moves = self._spent
+
+    def feed(self, tokens, values=None):
+        """Feeds the next tokens, their kinds and values; without values each is 0. Answers the moves made since the inner opening."""
+        kinds = bytes(tokens)
+        self._called("segment_inner_feed", *_bytes(kinds), *_values([0] * len(kinds) if values is None else values))
+        return self.moves
+
+    def finish(self):
+        """Ends the segment and the inner run; answers its value."""
+        value = ctypes.c_int64()
+        self._called("segment_inner_finish", value=value)
+        self.value = value.value
+        return self.value
+
+    def give_up(self):
+        """Ends the inner run as it stands; answers the moves it has made."""
+        self._called("segment_inner_give_up")
+        return self.moves
+
+    @property
+    def moves(self):
+        """The moves made since the inner run was opened."""
+        return max(0, self.record.moves - self._spent)
+
+    @property
+    def tokens(self):
+        """The tokens read since the inner run was opened."""
+        return self.record.tokens
+
+    @property
+    def is_open(self):
+        """Whether the inner run has not ended."""
+        return self.record.status != CLOSED
+
+    @property
+    def registers(self):
+        """The inner run's registers in use, from the bottom; None where one has no value yet. None are in use after its end."""
+        used = self._used(0, self.record.register_base, self.record.registers)
+        return [None if value == MARK else value for value in used]
+
+    @property
+    def places(self):
+        """The inner run's places in use, from the bottom."""
+        return self._used(1, self.record.place_base, self.record.places)
+
+    def __enter__(self):
+        return self
+
+    def __exit__(self, *raised):
+        if self.is_open and self.outer.is_waiting:
+            self.give_up()
+
+    def __repr__(self):
+        state = "open" if self.is_open else "closed"
+        return f"InnerRun({state}, {self.tokens} tokens, {self.moves} moves, {self.table!r}, inside {self.outer!r})"
+
+    def _used(self, stack, base, height):
+        return list(self.outer._cells[stack][base : base + height]) if self.is_open else []
+
+    def _called(self, name, *more, value=None):
+        both = ctypes.byref(self.outer.record), ctypes.byref(self.record)
+        _run_call(name, (*self._table, *both, *self.outer._memory, *more), value)
+
+
+def _run_call(name, brought, value=None):
+    """A call on a run, with what is brought and then the numbers that are handed out."""
+    number, count = ctypes.c_uint32(), ctypes.c_uint64()
+    out = [number, count] if value is None else [number, value, count]
+    _call(name, *brought, *map(ctypes.byref, out))
+    if number.value:
+        raise Refusal(number.value, count.value)

@@ -60,6 +60,48 @@ class Words(unittest.TestCase):
         self.refused(22, 2, run.evaluate, [0, 0], [1, 41])
         self.assertRaises(OverflowError, run.evaluate, [0], [2**31])
 
+    def test_inner_run(self):
+        words, lengths = segment.Table(WORDS), segment.Table(LENGTHS)
+        run = words.run()
+        run.feed([0, 1])
+        before = (run.registers, run.places, run.moves)
+        note = run.open_inner(lengths)
+        self.assertEqual((run.is_waiting, run.is_open, note.is_open, note.registers, note.places), (True, True, True, [None], [32768]))
+        self.assertEqual(repr(run), "Run(waiting, 2 tokens, 11 moves, Table(136 bytes, sum d30e9953d2057f43))")
+        waiting = self.refused(40, 0, run.feed, [0])
+        self.assertEqual((waiting.kind, waiting.tokens), (segment.Kind.RUN_WAITING, None))
+        self.refused(40, 0, run.finish)
+        self.refused(40, 0, run.open_inner, words)
+        self.assertEqual((note.feed([0, 1], [4, 99]), note.registers), (12, [None, None, 0, 4, None, 0, None, 1]))
+        self.refused(38, 0, note.feed, [0], [])
+        note.feed([0, 2], [7, 0])
+        self.assertEqual((note.finish(), note.value, note.tokens, note.is_open, note.registers), (11, 11, 4, False, []))
+        self.refused(33, 0, note.finish)
+        self.assertEqual((run.registers, run.places, run.moves, run.is_waiting), (*before, False))
+        self.refused(21, 0, run.open_inner(words).feed, [2])
+        with run.open_inner(words) as left:
+            left.feed([0])
+        self.assertEqual((left.is_open, left.tokens, left.moves, left.value, run.is_waiting), (False, 1, 7, None, False))
+        self.assertEqual(run.open_inner(words).give_up(), 0)
+        run.feed([0, 2])
+        self.assertEqual((run.finish(), run.moves), (2, 32))
+        self.refused(33, 0, run.open_inner, words)
+
+    def test_inner_room_and_budget(self):
+        words = segment.Table(WORDS)
+        run = words.run(8, 6, budget=20)
+        run.feed([0, 1])
+        note = run.open_inner(words)
+        self.refused(31, 0, note.finish)
+        self.assertEqual((note.moves, note.is_open, run.is_open, run.is_waiting), (1, False, True, False))
+        self.refused(31, 0, words.run(1, 9).open_inner, words)
+        self.refused(32, 0, words.run(9, 1).open_inner, words)
+        run.open()
+        self.refused(35, 1, words.run(budget=8).open_inner(words).feed, [0, 0])
+        note = run.open_inner(words)
+        run.open()
+        self.refused(34, 0, note.finish)
+
     def test_budget(self):
         run = segment.Table(WORDS).run(budget=31)
         self.refused(35, 4, run.evaluate, [0, 1, 0, 2])
@@ -121,7 +163,7 @@ class Names(unittest.TestCase):
         kinds = re.findall(r'^    (\w+) = (\d+), "(.*)";$', read("rust/src/refusal.rs"), re.M)
         upper = lambda name: re.sub(r"(?<!^)([A-Z])", r"_\1", name).upper()
         self.kinds = [(upper(name), int(number), words) for name, number, words in kinds]
-        self.assertEqual(len(self.kinds), 28)
+        self.assertEqual(len(self.kinds), 29)
 
     def test_python(self):
         self.assertEqual([(k.name, k.value, segment.REASONS[k]) for k in segment.Kind], self.kinds)

@@ -29,6 +29,8 @@ pub trait Engine: 'static {
     fn open(&mut self, table: &[u8]) -> Answer<()>;
     fn feed(&mut self, table: &[u8], kinds: &[u8], values: &[i32]) -> Answer<u64>;
     fn finish(&mut self, table: &[u8]) -> Answer<(i64, u64)>;
+    /// An inner run over the run as it stands, from its opening to its finish.
+    fn footnote(&mut self, outer: &[u8], table: &[u8], kinds: &[u8], values: &[i32]) -> Answer<(i64, u64)>;
 }
 
 pub struct Proved {
@@ -55,6 +57,14 @@ impl Engine for Proved {
 
     fn finish(&mut self, table: &[u8]) -> Answer<(i64, u64)> {
         lent::finish(table, &mut self.record, &mut self.buffers.lent()).map_err(|r| (r.number(), r.count()))
+    }
+
+    fn footnote(&mut self, outer: &[u8], table: &[u8], kinds: &[u8], values: &[i32]) -> Answer<(i64, u64)> {
+        let (record, m) = (&mut self.record, &mut self.buffers.lent());
+        let mut inner = lent::Record::default();
+        let opened = lent::open_inner(outer, table, (record, &mut inner), m);
+        let fed = opened.and_then(|_| lent::feed_inner(table, (record, &mut inner), m, kinds, values));
+        fed.and_then(|_| lent::finish_inner(table, (record, &mut inner), m)).map_err(|r| (r.number(), r.count()))
     }
 }
 
@@ -101,5 +111,16 @@ impl Engine for Plain {
         let m = self.buffers.lent();
         let called = plain::run::finish(table, self.record, m.registers, m.places, m.program);
         self.keep(called)
+    }
+
+    fn footnote(&mut self, outer: &[u8], table: &[u8], kinds: &[u8], values: &[i32]) -> Answer<(i64, u64)> {
+        let m = self.buffers.lent();
+        let (mut record, mut inner, _) = plain::inner::open((outer, table), self.record, m.registers, m.places, m.program);
+        let calls = [plain::inner::Call::Feed((kinds, values)), plain::inner::Call::Finish];
+        let mut answer = plain::run::Answer::Opened;
+        for call in calls {
+            (record, inner, answer) = plain::inner::call(table, (record, inner), m.registers, m.places, m.program, call);
+        }
+        self.keep((record, answer))
     }
 }

@@ -184,6 +184,35 @@ fn run_segments() {
     }
 }
 
+/// An inner run of words and tags, its opening, one feed and its finish, over an outer run that has been fed.
+fn footnote<'a, E: Engine>(outer: &'a [u8], before: &[u8], tokens: &'a [u8]) -> impl FnMut() -> f64 + 'a + use<'a, E> {
+    let (mut engine, inner, carried) = (E::new(), samples::words(), values(tokens.len()));
+    engine.open(outer).unwrap();
+    engine.feed(outer, before, &values(before.len())).unwrap();
+    move || {
+        round(outer, || {
+            let answer = black_box(engine.footnote(black_box(outer), black_box(&inner), black_box(tokens), &carried)).unwrap();
+            assert_eq!(answer.0, tokens.len() as i64);
+        })
+    }
+}
+
+fn footnotes() {
+    let (words, chain) = (samples::words(), samples::chain(47, 33, 512));
+    let runs = [
+        ("no words, over two words", &words, vec![0; 2], vec![]),
+        ("10 words, over two words", &words, vec![0; 2], vec![0; 10]),
+        ("10 words, over 900 words", &words, vec![0; 900], vec![0; 10]),
+        ("10 words, over a chain of 47", &chain, vec![], vec![0; 10]),
+    ];
+    println!("\n| inner run | plain Rust, ns | proved, ns | proved / plain |");
+    println!("|---|---|---|---|");
+    for (name, outer, before, tokens) in &runs {
+        let (a, b) = beside(footnote::<Plain>(outer, before, tokens), footnote::<Proved>(outer, before, tokens));
+        println!("| {name} | {a:.0} | {b:.0} | {:.2} |", b / a);
+    }
+}
+
 /// House order: the judgement and the writing, into a buffer of the table's length.
 fn house_order() {
     let tables = [
@@ -262,6 +291,7 @@ fn main() {
     judge_alternatives();
     call_without_tokens();
     run_segments();
+    footnotes();
     house_order();
     windows();
 }

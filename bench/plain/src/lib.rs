@@ -1,5 +1,6 @@
 //! The segment engine in plain Rust: what the proved engine is measured and compared with.
 pub mod house;
+pub mod inner;
 pub mod judge;
 pub mod listing;
 pub mod program;

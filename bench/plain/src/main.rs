@@ -1,5 +1,6 @@
 //! Answers the commands of the vectors: see vectors/README.md.
-use plain::run::{feed, finish, open, Answer, Record, MARK};
+use plain::inner;
+use plain::run::{feed, finish, open, Answer, Kind, Record, Status, MARK};
 use std::io::{BufRead, Write};
 
 fn hex(s: &str) -> Vec<u8> {
@@ -20,9 +21,48 @@ fn joined<T>(items: &[T], text: impl Fn(&T) -> String) -> String {
     items.iter().map(text).collect::<Vec<_>>().join(",")
 }
 
+/// What a call hands back: the record, the inner record where it has one, and the answer.
+type Outcome = (Record, Option<Record>, Answer);
+
+fn outer_alone((record, answer): (Record, Answer)) -> Outcome {
+    (record, None, answer)
+}
+
+fn both((outer, inner, answer): inner::Called) -> Outcome {
+    (outer, Some(inner), answer)
+}
+
+/// The record at word `k`, and the number of the word after it.
+fn record_at(w: &[&str], k: usize) -> (Record, usize) {
+    let number = |i: usize| w[k + i].parse().unwrap();
+    let status = match w[k] {
+        "open" => Status::Running,
+        "waiting" => Status::Waiting,
+        _ => Status::Closed,
+    };
+    let is_inner = w.get(k + 5) == Some(&"inner");
+    let kind = if is_inner { Kind::Inner(number(6), number(7)) } else { Kind::Outer };
+    let record = Record { status, kind, tokens: number(1), moves: number(2), registers: number(3), places: number(4) };
+    (record, k + if is_inner { 8 } else { 5 })
+}
+
+fn record_text(r: &Record) -> String {
+    let state = match r.status {
+        Status::Running => "open",
+        Status::Waiting => "waiting",
+        Status::Closed => "closed",
+    };
+    let begins = match r.kind {
+        Kind::Outer => String::new(),
+        Kind::Inner(registers, places) => format!(" inner {registers} {places}"),
+    };
+    format!("{state} {} {} {} {}{begins}", r.tokens, r.moves, r.registers, r.places)
+}
+
 fn main() {
     let mut out = std::io::BufWriter::new(std::io::stdout().lock());
-    let (mut record, mut registers, mut places) = (Record::default(), Vec::<i64>::new(), Vec::<u32>::new());
+    let (mut record, mut inside) = (Record::default(), Record::default());
+    let (mut registers, mut places) = (Vec::<i64>::new(), Vec::<u32>::new());
     for line in std::io::stdin().lock().lines() {
         let line = line.unwrap();
         let w: Vec<&str> = line.split(' ').collect();
@@ -66,53 +106,63 @@ fn main() {
                 continue;
             }
             "set" => {
-                record = Record {
-                    open: w[1] == "open",
-                    tokens: w[2].parse().unwrap(),
-                    moves: w[3].parse().unwrap(),
-                    registers: w[4].parse().unwrap(),
-                    places: w[5].parse().unwrap(),
-                };
-                registers = list(w[7]).map(|v| if v == "m" { MARK } else { v.parse().unwrap() }).collect();
-                places = list(w[9]).map(|v| v.parse().unwrap()).collect();
+                let (r, k) = record_at(&w, 1);
+                record = r;
+                registers = list(w[k + 1]).map(|v| if v == "m" { MARK } else { v.parse().unwrap() }).collect();
+                places = list(w[k + 3]).map(|v| v.parse().unwrap()).collect();
+                writeln!(out, "ok").unwrap();
+                continue;
+            }
+            "iset" => {
+                inside = record_at(&w, 1).0;
                 writeln!(out, "ok").unwrap();
                 continue;
             }
             "open" => {
                 registers = vec![7; number(2)];
                 places = vec![9; number(3)];
-                open(&hex(w[1]), &mut registers, &mut places, &mut vec![0; number(4)])
+                outer_alone(open(&hex(w[1]), &mut registers, &mut places, &mut vec![0; number(4)]))
             }
             "feed" | "feedv" => {
                 let (kinds, last) = (hex(w[2]), w.len() - 1);
                 let values = if w[0] == "feed" { vec![0; kinds.len()] } else { list(w[3]).map(|v| v.parse().unwrap()).collect() };
-                feed(&hex(w[1]), record, &mut registers, &mut places, &mut vec![0; number(last)], (&kinds, &values))
+                outer_alone(feed(&hex(w[1]), record, &mut registers, &mut places, &mut vec![0; number(last)], (&kinds, &values)))
             }
-            "finish" => finish(&hex(w[1]), record, &mut registers, &mut places, &mut vec![0; number(2)]),
+            "finish" => outer_alone(finish(&hex(w[1]), record, &mut registers, &mut places, &mut vec![0; number(2)])),
+            "inner" => {
+                let (outer, table) = (hex(w[1]), hex(w[2]));
+                both(inner::open((&outer, &table), record, &mut registers, &mut places, &mut vec![0; number(3)]))
+            }
+            "ifeed" | "ifinish" | "giveup" => {
+                let fed = w[0] == "ifeed";
+                let kinds = if fed { hex(w[2]) } else { vec![] };
+                let values: Vec<i32> = if fed { list(w[3]).map(|v| v.parse().unwrap()).collect() } else { vec![] };
+                let call = match w[0] {
+                    "ifeed" => inner::Call::Feed((&kinds, &values)),
+                    "ifinish" => inner::Call::Finish,
+                    _ => inner::Call::GiveUp,
+                };
+                let area = number(w.len() - 1);
+                both(inner::call(&hex(w[1]), (record, inside), &mut registers, &mut places, &mut vec![0; area], call))
+            }
             _ => {
                 writeln!(out, "bad command").unwrap();
                 continue;
             }
         };
         record = outcome.0;
-        let answer = match outcome.1 {
+        inside = outcome.1.unwrap_or(inside);
+        let answer = match outcome.2 {
             Answer::Opened => "opened".into(),
             Answer::More(n) => format!("more {n}"),
             Answer::Value(v, n) => format!("value {v} {n}"),
             Answer::Refused(k, n) => format!("refused {k} {n}"),
         };
-        let r = &record;
-        let state = if r.open { "open" } else { "closed" };
-        writeln!(
-            out,
-            "{answer} | {state} {} {} {} {} | {} | {}",
-            r.tokens,
-            r.moves,
-            r.registers,
-            r.places,
-            joined(&registers, |&v| if v == MARK { "m".into() } else { v.to_string() }),
-            joined(&places, |p| p.to_string())
-        )
-        .unwrap();
+        let records = match outcome.1 {
+            None => record_text(&record),
+            Some(inner) => format!("{} | {}", record_text(&record), record_text(&inner)),
+        };
+        let registers = joined(&registers, |&v| if v == MARK { "m".into() } else { v.to_string() });
+        writeln!(out, "{answer} | {records} | {registers} | {}", joined(&places, |p| p.to_string())).unwrap();
     }
 }

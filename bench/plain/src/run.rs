@@ -7,8 +7,25 @@ const TOKENS: u64 = 65535;
 const SEGMENT: u32 = 32768;
 
 #[derive(Clone, Copy, Debug, PartialEq, Eq, Default)]
+pub enum Status {
+    #[default]
+    Closed,
+    Running,
+    Waiting,
+}
+
+/// An inner run has the heights where it begins.
+#[derive(Clone, Copy, Debug, PartialEq, Eq, Default)]
+pub enum Kind {
+    #[default]
+    Outer,
+    Inner(u64, u64),
+}
+
+#[derive(Clone, Copy, Debug, PartialEq, Eq, Default)]
 pub struct Record {
-    pub open: bool,
+    pub status: Status,
+    pub kind: Kind,
     pub tokens: u64,
     pub moves: u64,
     pub registers: u64,
@@ -231,13 +248,14 @@ impl Machine<'_> {
         Ok(())
     }
 
-    fn record(&self, open: bool) -> Record {
-        Record { open, tokens: self.tokens, moves: self.moves, registers: self.rh as u64, places: self.ph as u64 }
+    fn record(&self, status: Status) -> Record {
+        let (registers, places) = (self.rh as u64, self.ph as u64);
+        Record { status, kind: Kind::Outer, tokens: self.tokens, moves: self.moves, registers, places }
     }
 }
 
 /// 34: whether record and stacks are such as a run leaves.
-fn fits(program: &[u32], r: &Record, registers: &[i64], places: &[u32]) -> bool {
+pub(crate) fn fits(program: &[u32], r: &Record, registers: &[i64], places: &[u32]) -> bool {
     let (rh, ph) = (r.registers as usize, r.places as usize);
     if r.tokens > TOKENS || r.moves > MOVES || r.registers > registers.len() as u64 || r.places > places.len() as u64 || ph == 0 {
         return false;
@@ -280,13 +298,13 @@ fn fits(program: &[u32], r: &Record, registers: &[i64], places: &[u32]) -> bool 
     at == rh
 }
 
-fn lend<'a>(registers: &'a mut [i64], places: &'a mut [u32]) -> (&'a mut [i64], &'a mut [u32]) {
+pub(crate) fn lend<'a>(registers: &'a mut [i64], places: &'a mut [u32]) -> (&'a mut [i64], &'a mut [u32]) {
     let (r, p) = (registers.len().min(4096), places.len().min(1024));
     (&mut registers[..r], &mut places[..p])
 }
 
 /// What each call begins with: 30, the table, and its program written.
-fn prepare(table: &[u8], program: &mut [u32]) -> Result<(), Answer> {
+pub(crate) fn prepare(table: &[u8], program: &mut [u32]) -> Result<(), Answer> {
     if program.len() < AREA {
         return Err(Answer::Refused(30, 0));
     }
@@ -295,40 +313,39 @@ fn prepare(table: &[u8], program: &mut [u32]) -> Result<(), Answer> {
     Ok(())
 }
 
-pub fn open(table: &[u8], registers: &mut [i64], places: &mut [u32], program: &mut [u32]) -> (Record, Answer) {
-    let none = Record::default();
-    if let Err(answer) = prepare(table, program) {
-        return (none, answer);
+/// 33, 40, and the number `wrong` for an inner record.
+pub(crate) fn admit(record: &Record, wrong: u32) -> Result<(), Answer> {
+    match (record.status, record.kind) {
+        (Status::Closed, _) => Err(Answer::Refused(33, 0)),
+        (_, Kind::Inner(..)) => Err(Answer::Refused(wrong, 0)),
+        (Status::Waiting, Kind::Outer) => Err(Answer::Refused(40, 0)),
+        (Status::Running, Kind::Outer) => Ok(()),
     }
-    let (registers, places) = lend(registers, places);
+}
+
+/// Opens a run on these cells.
+pub(crate) fn open_cells(registers: &mut [i64], places: &mut [u32], program: &[u32]) -> (Record, Answer) {
     let n = program[4] as usize;
     if registers.len() < n {
-        return (none, Answer::Refused(31, 0));
+        return (Record::default(), Answer::Refused(31, 0));
     }
     if places.is_empty() {
-        return (none, Answer::Refused(32, 0));
+        return (Record::default(), Answer::Refused(32, 0));
     }
     registers.fill(MARK);
     places.fill(0);
     places[0] = SEGMENT;
-    (Record { open: true, tokens: 0, moves: 0, registers: n as u64, places: 1 }, Answer::Opened)
+    (Record { status: Status::Running, registers: n as u64, places: 1, ..Record::default() }, Answer::Opened)
 }
 
-fn call(
-    table: &[u8],
+/// 34, 38 and the moves, on these cells: those of tokens, or of the end where there are none.
+pub(crate) fn call_cells(
     record: Record,
     registers: &mut [i64],
     places: &mut [u32],
-    program: &mut [u32],
+    program: &[u32],
     tokens: Option<Tokens>,
 ) -> (Record, Answer) {
-    if let Err(answer) = prepare(table, program) {
-        return (record, answer);
-    }
-    if !record.open {
-        return (record, Answer::Refused(33, 0));
-    }
-    let (registers, places) = lend(registers, places);
     if !fits(program, &record, registers, places) {
         return (record, Answer::Refused(34, 0));
     }
@@ -352,10 +369,33 @@ fn call(
         None => m.advance(63, 0),
     };
     match (outcome, tokens) {
-        (Err(k), _) => (m.record(false), Answer::Refused(k, m.tokens)),
-        (Ok(()), Some(_)) => (m.record(true), Answer::More(m.moves)),
-        (Ok(()), None) => (m.record(false), Answer::Value(m.register(m.program[5]), m.moves)),
+        (Err(k), _) => (m.record(Status::Closed), Answer::Refused(k, m.tokens)),
+        (Ok(()), Some(_)) => (m.record(Status::Running), Answer::More(m.moves)),
+        (Ok(()), None) => (m.record(Status::Closed), Answer::Value(m.register(m.program[5]), m.moves)),
     }
+}
+
+pub fn open(table: &[u8], registers: &mut [i64], places: &mut [u32], program: &mut [u32]) -> (Record, Answer) {
+    if let Err(answer) = prepare(table, program) {
+        return (Record::default(), answer);
+    }
+    let (registers, places) = lend(registers, places);
+    open_cells(registers, places, program)
+}
+
+fn call(
+    table: &[u8],
+    record: Record,
+    registers: &mut [i64],
+    places: &mut [u32],
+    program: &mut [u32],
+    tokens: Option<Tokens>,
+) -> (Record, Answer) {
+    if let Err(answer) = prepare(table, program).and_then(|()| admit(&record, 34)) {
+        return (record, answer);
+    }
+    let (registers, places) = lend(registers, places);
+    call_cells(record, registers, places, program, tokens)
 }
 
 pub fn feed(

@@ -2,16 +2,27 @@
 mod interface;
 
 use interface::Record;
-use plain::run::{self, Answer};
+use plain::run::{self, Answer, Kind, Status};
 use std::slice::{from_raw_parts as list, from_raw_parts_mut as lent};
 
 fn taken(r: &Record) -> run::Record {
-    run::Record { open: r.open != 0, tokens: r.tokens, moves: r.moves, registers: r.registers, places: r.places }
+    let status = match r.status {
+        0 => Status::Closed,
+        2 => Status::Waiting,
+        _ => Status::Running,
+    };
+    let kind = if r.kind == 1 { Kind::Inner(r.register_base, r.place_base) } else { Kind::Outer };
+    run::Record { status, kind, tokens: r.tokens, moves: r.moves, registers: r.registers, places: r.places }
 }
 
 /// Hands the record back and takes the answer apart: number, value and count.
 fn handed((r, answer): (run::Record, Answer), record: &mut Record) -> (u32, i64, u64) {
-    *record = Record { open: r.open as u64, tokens: r.tokens, moves: r.moves, registers: r.registers, places: r.places };
+    let (kind, register_base, place_base) = match r.kind {
+        Kind::Outer => (0, 0, 0),
+        Kind::Inner(registers, places) => (1, registers, places),
+    };
+    let run::Record { tokens, moves, registers, places, .. } = r;
+    *record = Record { status: r.status as u64, tokens, moves, registers, places, kind, register_base, place_base };
     match answer {
         Answer::Opened => (0, 0, 0),
         Answer::More(moves) => (0, 0, moves),

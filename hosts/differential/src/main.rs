@@ -1,11 +1,15 @@
 //! Compares the proved engine, through the host library, with the plain one on random calls: valid and damaged tables, segments in any
-//! pieces, forged records and stacks, short memory. After each call the answer, the record and every register, place and program word
-//! are compared, with some cells past those lent. So are tables in house order (`house`) and the calls on windows (`windows`).
+//! pieces, inner runs inside them, forged records and stacks, short memory. After each call the answer, both records and every register,
+//! place and program word are compared, with some cells past those lent. So are tables in house order (`house`) and the calls on windows
+//! (`windows`).
 //!
 //!     differential [SEED [CALLS]]
+mod forge;
 mod house;
+mod inside;
 mod pair;
 mod random;
+mod records;
 mod segments;
 mod tables;
 mod windows;
@@ -103,7 +107,7 @@ impl Comparison {
     }
 
     fn call(&mut self, pair: &mut Pair, table: &[u8], call: Call) -> Result<u32, String> {
-        let brought = (pair.record, pair.lengths);
+        let brought = (pair.records, pair.lengths);
         let (number, _, _) = pair.call(table, call).map_err(|e| format!("{e}\ncall {call:?} on {brought:?}\ntable {}", hex(table)))?;
         self.count(call.name(), number);
         Ok(number)
@@ -158,6 +162,9 @@ impl Comparison {
             if self.r.chance(20) {
                 pair.forge_values(&mut self.r);
             }
+            if self.r.chance(15) {
+                inside::run(self, &mut pair, &table.bytes)?;
+            }
             let longest = if self.r.chance(70) { segment.len() - at } else { 3 };
             let end = segment.len().min(at + self.r.below(longest + 1));
             let values = self.values(end - at);
@@ -169,6 +176,9 @@ impl Comparison {
             }
         }
         self.disturb(&mut pair, &table.bytes)?;
+        if self.r.chance(10) {
+            inside::run(self, &mut pair, &table.bytes)?;
+        }
         self.call(&mut pair, &table.bytes, Call::Finish)?;
         Ok(())
     }
@@ -203,7 +213,7 @@ impl Comparison {
     /// The numbers of 01 and 02 that no call was refused with.
     fn missing(&self) -> Vec<u32> {
         let seen = |n: &u32| self.answers.keys().any(|(_, number)| number == n);
-        (1..=14).chain(20..=24).chain(30..=35).chain([36, 38, 42]).filter(|n| !seen(n)).collect()
+        (1..=14).chain(20..=24).chain(30..=35).chain([36, 38, 40, 42]).filter(|n| !seen(n)).collect()
     }
 }
 

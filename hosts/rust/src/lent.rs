@@ -3,6 +3,32 @@
 //! A call may be made with any bytes, records and stacks: the library judges them and turns back what does not fit.
 use crate::Refusal;
 
+/// Calls a function on runs: what it takes before the lent memory, that memory, then what it takes beside.
+///
+/// The pointers are those of slices, with their lengths, and of numbers; no two overlap, since all but the tables' and the tokens' are
+/// lent exclusively. So the call is safe.
+macro_rules! call {
+    ($function:ident, [$($before:expr),+], $m:expr, $($more:expr),+) => {
+        // SAFETY: see above.
+        unsafe {
+            $function(
+                $($before,)+
+                $m.registers.as_mut_ptr(),
+                $m.registers.len(),
+                $m.places.as_mut_ptr(),
+                $m.places.len(),
+                $m.program.as_mut_ptr(),
+                $m.program.len(),
+                $($more),+
+            )
+        }
+    };
+}
+
+mod inner;
+
+pub use inner::{feed_inner, finish_inner, give_up_inner, open_inner, Both};
+
 /// How many registers a run uses at most; cells past them are neither read nor written.
 pub const REGISTERS: usize = 4096;
 /// How many places a run uses at most; cells past them are neither read nor written.
@@ -14,21 +40,32 @@ pub const LINE: usize = 64;
 /// What a register without a value holds.
 pub const MARK: i64 = i64::MIN;
 
-/// The run record, as eight numbers.
+/// The status of a closed run.
+pub const CLOSED: u64 = 0;
+/// The status of a run that is open; so counts every number but [`CLOSED`] and [`WAITING`].
+pub const RUNNING: u64 = 1;
+/// The status of a run that waits for its inner run.
+pub const WAITING: u64 = 2;
+/// The kind of an ordinary run; so counts every number but [`INNER`].
+pub const OUTER: u64 = 0;
+/// The kind of an inner run.
+pub const INNER: u64 = 1;
+
+/// The run record, as eight numbers. The default is the record that a refused opening hands back: closed and all zero.
 #[repr(C)]
 #[derive(Clone, Copy, Debug, Default, PartialEq, Eq)]
 pub struct Record {
-    /// 0 for a closed run, 2 for one that waits; a run that is open is handed back with 1.
-    pub open: u64,
+    /// [`CLOSED`], [`RUNNING`] or [`WAITING`].
+    pub status: u64,
     /// The tokens read.
     pub tokens: u64,
     /// The moves made since opening.
     pub moves: u64,
-    /// The height of the register stack.
+    /// The height of the register stack; of an inner run counted from where it begins.
     pub registers: u64,
-    /// The height of the place stack.
+    /// The height of the place stack; of an inner run counted from where it begins.
     pub places: u64,
-    /// 1 for an inner run, otherwise 0.
+    /// [`OUTER`] or [`INNER`].
     pub kind: u64,
     /// The register height where an inner run begins, otherwise 0.
     pub register_base: u64,
@@ -181,57 +218,34 @@ pub fn house(table: &[u8], out: &mut [u8]) -> Result<usize, Refusal> {
     answered(number, offset.into()).map(|_| length)
 }
 
-/// Calls a function on a run: the table, the record and the lent memory, which all of them take, then what it takes beside.
-///
-/// The pointers are those of slices, with their lengths, and of numbers; no two overlap, since all but the table's and the tokens' are
-/// lent exclusively. So the call is safe.
-macro_rules! call {
-    ($function:ident, $table:expr, $record:expr, $m:expr, $($more:expr),+) => {
-        // SAFETY: see above.
-        unsafe {
-            $function(
-                $table.as_ptr(),
-                $table.len(),
-                $record,
-                $m.registers.as_mut_ptr(),
-                $m.registers.len(),
-                $m.places.as_mut_ptr(),
-                $m.places.len(),
-                $m.program.as_mut_ptr(),
-                $m.program.len(),
-                $($more),+
-            )
-        }
-    };
-}
-
 /// Opens a run; the record is handed back closed and all zero on a refusal.
 ///
 /// # Errors
 /// 1 to 13, 30, 31, 32.
 pub fn open(table: &[u8], record: &mut Record, m: &mut Memory) -> Result<u64, Refusal> {
     let (mut number, mut count) = (0, 0);
-    call!(segment_open, table, record, m, &mut number, &mut count);
+    call!(segment_open, [table.as_ptr(), table.len(), record], m, &mut number, &mut count);
     answered(number, count)
 }
 
 /// Feeds tokens, each a kind and a value; answers the moves made since opening. The value of a kind that carries none is ignored.
 ///
 /// # Errors
-/// 1 to 13, 20 to 23, 30 to 35, 38.
+/// 1 to 13, 20 to 23, 30 to 35, 38, 40.
 pub fn feed(table: &[u8], record: &mut Record, m: &mut Memory, kinds: &[u8], values: &[i32]) -> Result<u64, Refusal> {
     let (mut number, mut count) = (0, 0);
     let (kind, value) = (kinds.as_ptr(), values.as_ptr());
-    call!(segment_feed, table, record, m, kind, kinds.len(), value, values.len(), &mut number, &mut count);
+    let before = (table.as_ptr(), table.len());
+    call!(segment_feed, [before.0, before.1, record], m, kind, kinds.len(), value, values.len(), &mut number, &mut count);
     answered(number, count)
 }
 
 /// Finishes the segment; answers its value and the moves made since opening.
 ///
 /// # Errors
-/// 1 to 13, 22 to 24, 30 to 35.
+/// 1 to 13, 22 to 24, 30 to 35, 40.
 pub fn finish(table: &[u8], record: &mut Record, m: &mut Memory) -> Result<(i64, u64), Refusal> {
     let (mut number, mut value, mut count) = (0, 0, 0);
-    call!(segment_finish, table, record, m, &mut number, &mut value, &mut count);
+    call!(segment_finish, [table.as_ptr(), table.len(), record], m, &mut number, &mut value, &mut count);
     answered(number, count).map(|moves| (value, moves))
 }

@@ -20,6 +20,7 @@
 
 extern crate alloc;
 
+mod inner;
 pub mod lent;
 mod refusal;
 mod run;
@@ -27,6 +28,7 @@ pub mod steps;
 mod table;
 pub mod window;
 
+pub use inner::InnerRun;
 pub use lent::check;
 pub use refusal::{Kind, Refusal};
 pub use run::{Run, MOVES};

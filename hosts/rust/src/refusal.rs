@@ -79,6 +79,7 @@ kinds! {
     TooMuch = 35, "a token after 65,535, or a move after 4,294,967,295 or after the budget";
     OutputShort = 36, "the output buffer is too short";
     ListsUnequal = 38, "the lists of kinds and values are of unequal length";
+    RunWaiting = 40, "the run waits for its inner run, or a third run would be opened";
     WindowUnfit = 42, "the window's size, buffer or value does not fit";
 }
 
@@ -94,8 +95,8 @@ impl Refusal {
         Refusal { number, count }
     }
 
-    /// The number: 1 to 14 for a table, 20 to 24 for a segment, 30 to 35 for the state of a run, 36 for a buffer to write
-    /// into, 38 for lists of tokens, 42 for a window.
+    /// The number: 1 to 14 for a table, 20 to 24 for a segment, 30 to 35 and 40 for the state of a run, 36 for a buffer to
+    /// write into, 38 for lists of tokens, 42 for a window.
     #[must_use]
     pub const fn number(&self) -> u32 {
         self.number
@@ -120,8 +121,8 @@ impl Refusal {
         (self.number <= 14).then_some(self.count)
     }
 
-    /// The tokens read before the segment or the run was refused. The refusals 30, 33, 34 and 38 tell none, since no token was looked
-    /// at, nor do 36 and 42.
+    /// The tokens read before the segment or the run was refused. The refusals 30, 33, 34, 38 and 40 tell none, since no token was
+    /// looked at, nor do 36 and 42.
     #[must_use]
     pub fn tokens(&self) -> Option<u64> {
         let told = matches!(self.number, 20..=24 | 31 | 32 | 35);

@@ -1,4 +1,5 @@
 //! Runs: one segment at a time, under a table.
+use crate::inner::{Inner, InnerRun};
 use crate::lent::{self, Memory, Record};
 use crate::{Refusal, Table};
 use alloc::vec;
@@ -15,13 +16,15 @@ pub const MOVES: u64 = 4_294_967_295;
 #[derive(Clone)]
 pub struct Run<'t> {
     table: &'t Table,
-    registers: Vec<i64>,
-    places: Vec<u32>,
-    program: Vec<u32>,
-    record: Record,
+    pub(crate) registers: Vec<i64>,
+    pub(crate) places: Vec<u32>,
+    pub(crate) program: Vec<u32>,
+    pub(crate) record: Record,
     value: Option<i64>,
     /// The moves that the record counts before the first: the limit less the budget.
-    spent: u64,
+    pub(crate) spent: u64,
+    /// The inner run, open or ended; none before the first.
+    pub(crate) inner: Option<Inner<'t>>,
 }
 
 impl<'t> Run<'t> {
@@ -47,7 +50,7 @@ impl<'t> Run<'t> {
     fn closed(table: &'t Table, registers: usize, places: usize) -> Run<'t> {
         let registers = vec![lent::MARK; registers.min(lent::REGISTERS)];
         let places = vec![0; places.min(lent::PLACES)];
-        Run { table, registers, places, program: vec![0; lent::PROGRAM], record: Record::default(), value: None, spent: 0 }
+        Run { table, registers, places, program: vec![0; lent::PROGRAM], record: Record::default(), value: None, spent: 0, inner: None }
     }
 
     /// Gives each segment a budget of moves: the move after it is refused by 35. Counts are reported as if it were not there. The run is
@@ -60,12 +63,13 @@ impl<'t> Run<'t> {
         self
     }
 
-    /// Opens the run for another segment under the same table.
+    /// Opens the run for another segment under the same table. An inner run is forgotten.
     ///
     /// # Errors
     /// None once the run was made: what could be opened can be opened again.
     pub fn restart(&mut self) -> Result<(), Refusal> {
         self.value = None;
+        self.inner = None;
         self.call(lent::open)?;
         self.record.moves = self.spent;
         Ok(())
@@ -75,7 +79,7 @@ impl<'t> Run<'t> {
     /// each is 0: see [`Run::feed_values`].
     ///
     /// # Errors
-    /// 20 to 23, 31, 32, 35: the segment is refused, and the run closed. 33: the run was closed already.
+    /// 20 to 23, 31, 32, 35: the segment is refused, and the run closed. 33: the run was closed already. 40: it waits for its inner run.
     pub fn feed(&mut self, tokens: &[u8]) -> Result<u64, Refusal> {
         self.feed_values(tokens, &vec![0; tokens.len()])
     }
@@ -92,7 +96,7 @@ impl<'t> Run<'t> {
     /// Ends the segment; answers its value, and closes the run.
     ///
     /// # Errors
-    /// 22 to 24, 31, 32, 35: the segment is refused. 33: the run was closed already.
+    /// 22 to 24, 31, 32, 35: the segment is refused. 33: the run was closed already. 40: it waits for its inner run.
     pub fn finish(&mut self) -> Result<i64, Refusal> {
         let (value, _) = self.call(lent::finish)?;
         self.value = Some(value);
@@ -115,6 +119,38 @@ impl<'t> Run<'t> {
         self.restart()?;
         self.feed_values(kinds, values)?;
         self.finish()
+    }
+
+    /// Opens an inner run, say for a footnote, under a table of its own and over the same memory, above what this run has in use. This
+    /// run waits until the inner one ends; then it stands as before. The inner segment has a budget of as many moves as this one.
+    ///
+    /// ```
+    /// # let bytes = include_bytes!(concat!(env!("CARGO_MANIFEST_DIR"), "/../../grammars/words.table"));
+    /// let table = segment::Table::new(*bytes)?;
+    /// let mut run = table.run();
+    /// run.feed(&[0, 1])?;
+    /// let mut note = run.open_inner(&table)?;
+    /// note.feed(&[0, 0, 0])?;
+    /// assert_eq!(note.finish()?, 3);
+    /// run.feed(&[0, 2])?;
+    /// assert_eq!(run.finish()?, 2);
+    /// # Ok::<(), segment::Refusal>(())
+    /// ```
+    ///
+    /// # Errors
+    /// 31, 32: an opening needs more room than is left. 33: the run is closed. 40: it waits for an inner run already.
+    pub fn open_inner(&mut self, table: &'t Table) -> Result<InnerRun<'_, 't>, Refusal> {
+        let mut record = Record::default();
+        self.call(|outer_table, outer, memory| lent::open_inner(outer_table, table.bytes(), (outer, &mut record), memory))?;
+        record.moves = self.spent;
+        self.inner = Some(Inner { table, record, value: None });
+        Ok(InnerRun::of(self))
+    }
+
+    /// The inner run that this one waits for.
+    #[must_use]
+    pub fn inner(&mut self) -> Option<InnerRun<'_, 't>> {
+        self.is_waiting().then(|| InnerRun::of(self))
     }
 
     /// The segment's value, once the run is finished.
@@ -141,10 +177,16 @@ impl<'t> Run<'t> {
         self.record.tokens
     }
 
-    /// Whether the run takes more tokens: it is neither finished nor refused.
+    /// Whether the run goes on: it is neither finished nor refused. It takes more tokens unless it waits.
     #[must_use]
     pub fn is_open(&self) -> bool {
-        self.record.open != 0
+        self.record.status != lent::CLOSED
+    }
+
+    /// Whether the run waits for its inner run: calls on it are then refused by 40.
+    #[must_use]
+    pub fn is_waiting(&self) -> bool {
+        self.record.status == lent::WAITING
     }
 
     /// The registers in use, from the bottom; `None` where one has no value yet.
@@ -179,7 +221,11 @@ impl<'t> Run<'t> {
 
 impl fmt::Debug for Run<'_> {
     fn fmt(&self, f: &mut fmt::Formatter) -> fmt::Result {
-        let state = if self.is_open() { "open" } else { "closed" };
+        let state = match self.record.status {
+            lent::CLOSED => "closed",
+            lent::WAITING => "waiting",
+            _ => "open",
+        };
         let (tokens, moves) = (self.tokens(), self.moves());
         let (registers, places) = (self.record.registers, self.record.places);
         write!(f, "Run({state}, {tokens} tokens, {moves} moves, {registers} registers, {places} places, {:?})", self.table)

@@ -152,7 +152,7 @@ impl Run<'_> {
             return answer;
         }
         self.made = made;
-        self.now.record.open = 1;
+        self.now.record.status = lent::RUNNING;
         let kind = kind(&last, &self.now);
         self.start_here(kind);
         Step::Moved(Move { kind, place: last.top() })

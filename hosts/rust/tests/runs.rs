@@ -206,7 +206,7 @@ fn words_for_refusals() {
     let closed = run.finish().unwrap_err();
     assert_eq!((closed.to_string().as_str(), closed.tokens(), closed.offset()), ("refused 33: the run is closed", None, None));
     let numbers: Vec<u32> = Kind::ALL.iter().map(|kind| kind.number()).collect();
-    assert_eq!(numbers, (1..=14).chain(20..=24).chain(30..=36).chain([38, 42]).collect::<Vec<u32>>());
+    assert_eq!(numbers, (1..=14).chain(20..=24).chain(30..=36).chain([38, 40, 42]).collect::<Vec<u32>>());
     assert!(Kind::ALL.iter().all(|&kind| Kind::of(kind.number()) == kind && kind != Kind::Unknown));
     assert_eq!((Kind::of(0), Kind::of(99), Kind::Unknown.number()), (Kind::Unknown, Kind::Unknown, 0));
 }
@@ -214,8 +214,8 @@ fn words_for_refusals() {
 #[test]
 fn lent_memory() {
     let (mut registers, mut places, mut short, mut program) = ([7; 10], [9; 10], [5; 16383], [5; 16384]);
-    let mut record = Record { open: 7, tokens: 1, moves: 2, registers: 3, places: 4, ..Record::default() };
-    let brought = Record { open: 1, ..record };
+    let mut record = Record { status: 7, tokens: 1, moves: 2, registers: 3, places: 4, kind: 5, register_base: 6, place_base: 7 };
+    let brought = Record { status: lent::RUNNING, kind: lent::OUTER, register_base: 0, place_base: 0, ..record };
     let mut m = Memory { registers: &mut registers, places: &mut places, program: &mut short };
     assert_eq!(lent::feed(WORDS, &mut record, &mut m, &[0], &[0]).map_err(refused), Err((30, 0)));
     assert_eq!((record, m.registers == [7; 10], m.places == [9; 10], m.program == [5; 16383]), (brought, true, true, true));
@@ -223,7 +223,7 @@ fn lent_memory() {
     assert_eq!(lent::feed(WORDS, &mut record, &mut m, &[0], &[0]).map_err(refused), Err((34, 0)));
     assert_eq!((record, m.registers == [7; 10], m.places == [9; 10], m.program[1]), (brought, true, true, 6));
     assert_eq!(lent::open(WORDS, &mut record, &mut m), Ok(0));
-    assert_eq!(record, Record { open: 1, registers: 1, places: 1, ..Record::default() });
+    assert_eq!(record, Record { status: lent::RUNNING, registers: 1, places: 1, ..Record::default() });
     assert_eq!((m.registers == [MARK; 10], m.places[0], m.places[1..] == [0; 9]), (true, 32768, true));
     assert_eq!(m.program[16383], 5);
 }

@@ -1,8 +1,7 @@
 //! What answers look like: the calls' answers, records and stacks.
-use engine::lent::{Record, MARK};
+use engine::lent::{Record, CLOSED, INNER, MARK, WAITING};
 use engine::Refusal;
 use std::fmt::{self, Display, Formatter};
-use std::io::{self, Write};
 
 /// What a call answers.
 pub enum Answer {
@@ -37,14 +36,22 @@ impl Display for Answer {
     }
 }
 
-/// A record: `open` or `closed`, tokens, moves and both heights.
+/// A record: `open`, `waiting` or `closed`, tokens, moves and both heights; of an inner run also where it begins.
 pub struct Recorded<'a>(pub &'a Record);
 
 impl Display for Recorded<'_> {
     fn fmt(&self, f: &mut Formatter) -> fmt::Result {
-        let Record { open, tokens, moves, registers, places } = self.0;
-        let state = if *open == 0 { "closed" } else { "open" };
-        write!(f, "{state} {tokens} {moves} {registers} {places}")
+        let Record { status, tokens, moves, registers, places, kind, register_base, place_base } = self.0;
+        let state = match *status {
+            CLOSED => "closed",
+            WAITING => "waiting",
+            _ => "open",
+        };
+        write!(f, "{state} {tokens} {moves} {registers} {places}")?;
+        if *kind == INNER {
+            write!(f, " inner {register_base} {place_base}")?;
+        }
+        Ok(())
     }
 }
 
@@ -77,9 +84,4 @@ impl Display for Bytes<'_> {
         }
         self.0.iter().try_for_each(|byte| write!(f, "{byte:02x}"))
     }
-}
-
-/// The line of a call on a run: `ANSWER | RECORD | REGISTERS | PLACES`.
-pub fn call_line(out: &mut dyn Write, answer: &Answer, record: &Record, registers: &[i64], places: &[u32]) -> io::Result<()> {
-    writeln!(out, "{answer} | {} | {} | {}", Recorded(record), Cells(registers), Cells(places))
 }

@@ -1,5 +1,6 @@
 //! The program `segment`: answers commands, a line each. vectors/README.md lists them.
 mod answers;
+mod inner;
 mod input;
 mod runs;
 mod session;
@@ -35,8 +36,16 @@ Bytes are hex digits, `-` for none; numbers are decimal. A line that begins with
   feed TABLE TOKENS NPROG         feeds tokens to the run, each with the value 0
   feedv TABLE KINDS VALUES NPROG  feeds tokens with their values
   finish TABLE NPROG              ends its segment
-  set OPEN TOKENS MOVES RH PH | REGISTERS | PLACES
+  show                            the record and the stacks as they stand
+  set STATE TOKENS MOVES RH PH [inner RB PB] | REGISTERS | PLACES
                                   replaces the record and the stacks
+  inner OUTERTABLE INNERTABLE NPROG
+                                  opens an inner run above the run, which then waits
+  ifeed TABLE KINDS VALUES NPROG  feeds tokens with their values to the inner run
+  ifinish TABLE NPROG             ends its segment
+  giveup TABLE NPROG              ends it as it stands
+  iset STATE TOKENS MOVES RH PH [inner RB PB]
+                                  replaces the inner record
   trace TABLE TOKENS [NREGS NPLACES [FROM]]
                                   the run of a segment, move by move, from token FROM on
   tracev TABLE KINDS VALUES [NREGS NPLACES [FROM]]

@@ -1,18 +1,27 @@
-//! The commands on the run that stands: `open`, `feed`, `feedv`, `finish` and `set`.
-use crate::answers::{call_line, Answer};
+//! The commands on the run that stands: `open`, `feed`, `feedv`, `finish`, `show` and `set`.
+use crate::answers::{Answer, Cells, Recorded};
 use crate::session::{Command, Session};
 use crate::words::{Bad, Fault, Words, AREA, CELLS};
 use engine::lent::{self, Record};
 use std::io::Write;
 
-pub const COMMANDS: &[(&str, Command)] = &[("open", open), ("feed", feed), ("feedv", feedv), ("finish", finish), ("set", set)];
+pub const COMMANDS: &[(&str, Command)] =
+    &[("open", open), ("feed", feed), ("feedv", feedv), ("finish", finish), ("show", show), ("set", set)];
 
 /// What fresh cells hold before an opening.
 const REGISTER: i64 = 7;
 const PLACE: u32 = 9;
 
-fn show(session: &Session, answer: Answer, out: &mut dyn Write) -> Result<(), Fault> {
-    Ok(call_line(out, &answer, &session.record, &session.registers, &session.places)?)
+/// `RECORD | REGISTERS | PLACES`
+fn stands(session: &Session, out: &mut dyn Write) -> Result<(), Fault> {
+    let Session { record, registers, places, .. } = session;
+    Ok(writeln!(out, "{} | {} | {}", Recorded(record), Cells(registers), Cells(places))?)
+}
+
+/// `ANSWER | RECORD | REGISTERS | PLACES`
+fn answered(session: &Session, answer: Answer, out: &mut dyn Write) -> Result<(), Fault> {
+    write!(out, "{answer} | ")?;
+    stands(session, out)
 }
 
 /// `open TABLE NREGS NPLACES NPROG`
@@ -24,7 +33,7 @@ fn open(session: &mut Session, words: Words, out: &mut dyn Write) -> Result<(), 
     session.places = vec![PLACE; places];
     let (record, mut memory) = session.lend(area);
     let answer = Answer::of_open(lent::open(&table, record, &mut memory));
-    show(session, answer, out)
+    answered(session, answer, out)
 }
 
 /// `feed TABLE TOKENS NPROG`: every value is 0.
@@ -45,7 +54,7 @@ fn feedv(session: &mut Session, words: Words, out: &mut dyn Write) -> Result<(),
 fn fed(session: &mut Session, table: &[u8], kinds: &[u8], values: &[i32], area: usize, out: &mut dyn Write) -> Result<(), Fault> {
     let (record, mut memory) = session.lend(area);
     let answer = Answer::of_feed(lent::feed(table, record, &mut memory, kinds, values));
-    show(session, answer, out)
+    answered(session, answer, out)
 }
 
 /// `finish TABLE NPROG`
@@ -54,28 +63,50 @@ fn finish(session: &mut Session, words: Words, out: &mut dyn Write) -> Result<()
     let table = session.table(words, 1)?;
     let (record, mut memory) = session.lend(words.size(2, AREA)?);
     let answer = Answer::of_finish(lent::finish(&table, record, &mut memory));
-    show(session, answer, out)
+    answered(session, answer, out)
 }
 
-/// The record that begins with word `k`: OPEN TOKENS MOVES RH PH.
-fn record(words: Words, k: usize) -> Result<Record, Bad> {
-    let open = match words.at(k) {
-        b"open" => 1,
-        b"closed" => 0,
+/// `show`
+fn show(session: &mut Session, words: Words, out: &mut dyn Write) -> Result<(), Fault> {
+    words.at_most(0)?;
+    stands(session, out)
+}
+
+/// How many words a record has that begins with word `k`: five, or eight of an inner run.
+pub fn record_words(words: Words, k: usize) -> usize {
+    if words.at(k + 5) == b"inner" {
+        8
+    } else {
+        5
+    }
+}
+
+/// The record that begins with word `k`: STATE TOKENS MOVES RH PH, and for an inner run `inner` RB PB.
+pub fn record(words: Words, k: usize) -> Result<Record, Bad> {
+    let status = match words.at(k) {
+        b"open" => lent::RUNNING,
+        b"waiting" => lent::WAITING,
+        b"closed" => lent::CLOSED,
         _ => return Err(words.bad(k, "bad record")),
     };
-    let number = |i| words.number(i).map_err(|_| words.bad(i, "bad record"));
-    Ok(Record { open, tokens: number(k + 1)?, moves: number(k + 2)?, registers: number(k + 3)?, places: number(k + 4)? })
+    let number = |i| words.number(k + i).map_err(|_| words.bad(k + i, "bad record"));
+    let (tokens, moves, registers, places) = (number(1)?, number(2)?, number(3)?, number(4)?);
+    let record = Record { status, tokens, moves, registers, places, ..Record::default() };
+    if record_words(words, k) == 5 {
+        return Ok(record);
+    }
+    Ok(Record { kind: lent::INNER, register_base: number(6)?, place_base: number(7)?, ..record })
 }
 
-/// `set OPEN TOKENS MOVES RH PH | REGISTERS | PLACES`
+/// `set RECORD | REGISTERS | PLACES`
 fn set(session: &mut Session, words: Words, out: &mut dyn Write) -> Result<(), Fault> {
-    words.at_most(9)?;
-    let bars = [6, 8];
-    if let Some(&k) = bars.iter().find(|&&k| words.at(k) != b"|") {
+    let k = 1 + record_words(words, 1);
+    words.at_most(k + 3)?;
+    if let Some(k) = [k, k + 2].into_iter().find(|&k| words.at(k) != b"|") {
         return Err(words.bad(k, "bad record").into());
     }
-    let (record, registers, places) = (record(words, 1)?, words.registers(7)?, words.places(9)?);
+    let record = record(words, 1)?;
+    let (registers, places) = (words.registers(k + 1)?, words.places(k + 3)?);
     session.record = record;
     session.registers = registers;
     session.places = places;

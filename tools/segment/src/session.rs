@@ -1,8 +1,8 @@
 //! What stands between commands, and which function answers which.
 use crate::input::Line;
 use crate::words::{bytes, Bad, Fault, Words, AREA};
-use crate::{runs, tables, trace, window};
-use engine::lent::{Memory, Record};
+use crate::{inner, runs, tables, trace, window};
+use engine::lent::{Both, Memory, Record};
 use std::collections::HashMap;
 use std::io::Write;
 
@@ -10,11 +10,12 @@ use std::io::Write;
 pub type Command = fn(&mut Session, Words, &mut dyn Write) -> Result<(), Fault>;
 
 /// The commands, a list for each module: a new group of commands is a module whose list is named here.
-const COMMANDS: &[&[(&str, Command)]] = &[tables::COMMANDS, runs::COMMANDS, trace::COMMANDS, window::COMMANDS];
+const COMMANDS: &[&[(&str, Command)]] = &[tables::COMMANDS, runs::COMMANDS, inner::COMMANDS, trace::COMMANDS, window::COMMANDS];
 
-/// The run and the window as they stand, and the tables that have names.
+/// The run, its inner run and the window as they stand, and the tables that have names.
 pub struct Session {
     pub record: Record,
+    pub inner: Record,
     pub registers: Vec<i64>,
     pub places: Vec<u32>,
     program: Vec<u32>,
@@ -23,10 +24,11 @@ pub struct Session {
 }
 
 impl Session {
-    /// Before the first command: a closed record, all zero, and no cells.
+    /// Before the first command: closed records, all zero, and no cells.
     pub fn new() -> Session {
         Session {
             record: Record::default(),
+            inner: Record::default(),
             registers: vec![],
             places: vec![],
             program: vec![0; AREA],
@@ -59,5 +61,11 @@ impl Session {
     pub fn lend(&mut self, area: usize) -> (&mut Record, Memory<'_>) {
         let memory = Memory { registers: &mut self.registers, places: &mut self.places, program: &mut self.program[..area] };
         (&mut self.record, memory)
+    }
+
+    /// The same with both records.
+    pub fn lend_both(&mut self, area: usize) -> (Both<'_>, Memory<'_>) {
+        let memory = Memory { registers: &mut self.registers, places: &mut self.places, program: &mut self.program[..area] };
+        ((&mut self.record, &mut self.inner), memory)
     }
 }

@@ -4,6 +4,7 @@ mod batch;
 mod class;
 mod files;
 mod house;
+mod notes;
 mod segments;
 
 pub use args::Args;

@@ -1,6 +1,7 @@
 //! The commands on segments: `run` and `trace`.
 use super::batch;
 use super::files::{build, shown};
+use super::notes;
 use super::{Args, Command, Outcome, Trouble};
 
 use crate::run::{self, Token};
@@ -12,12 +13,13 @@ use std::io::{BufRead, BufReader, IsTerminal, Write};
 pub const COMMANDS: &[Command] = &[
     Command {
         name: "run",
-        options: &["--segments=", "--empty"],
+        options: &["--segments=", "--empty", "--notes="],
         usage: &[
             ("run FILE TOKENS...", "runs a segment: its value, or why it is refused"),
             ("run FILE -", "runs a segment a line of standard input, a line of answer each"),
             ("run FILE --segments LIST", "the same for the lines of a file"),
             ("run FILE --empty", "runs the segment without tokens"),
+            ("run FILE --notes NOTES TOKENS...", "runs a segment with notes of another grammar in it, between `[` and `]`"),
         ],
         run: run_segments,
     },
@@ -76,9 +78,11 @@ fn run_segments(mut args: Args, out: &mut dyn Write) -> Outcome {
         return Err(Trouble::Failed("grammar: standard input cannot be both the grammar and the segments".into()));
     }
     let (_, built) = build(&file)?;
-    match given {
-        Given::Tokens(words) => one(&built, &words, out),
-        Given::Lines(lines) => many(&built, lines, out),
+    match (given, args.value("--notes")) {
+        (Given::Tokens(words), Some(notes)) => notes::run(&built, &build(notes)?.1, &words, out),
+        (Given::Lines(_), Some(_)) => Err(Trouble::Failed("grammar: `--notes` is for a segment whose tokens are given".into())),
+        (Given::Tokens(words), None) => one(&built, &words, out),
+        (Given::Lines(lines), None) => many(&built, lines, out),
     }
 }
 
