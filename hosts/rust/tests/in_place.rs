@@ -51,6 +51,6 @@ fn as_a_feed() {
     assert_eq!(refused(&|l| l.record.register_base = 3), 0);
     assert_eq!(refused(&|l| l.record.tokens = 65_535), 35);
     assert_eq!(refused(&|l| l.places.truncate(4)), 32);
-    assert_eq!((lent.clone().feed(&LENGTHS[1..], &[0], &[1]), lent.feed(LENGTHS, &[0], &[])), (3, 38));
+    assert_eq!((lent.clone().feed(&LENGTHS[1..], &[0], &[1]), lent.feed(LENGTHS, &[0], &[])), (2, 38));
     assert_eq!((lent.feed(LENGTHS, &[2, 2], &[0, 0]), lent.record.status, lent.record.tokens), (21, CLOSED, 3));
 }
