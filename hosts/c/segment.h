@@ -142,6 +142,11 @@ void segment_feed(const uint8_t *table, size_t table_length, segment_record *rec
                   uint32_t *places, size_t places_length, uint32_t *program, size_t program_length, const uint8_t *kinds,
                   size_t kinds_length, const int32_t *values, size_t values_length, uint32_t *number, uint64_t *count);
 
+/* As segment_feed, through the engine's call that changes its record in place: the same answer, record and memory. */
+void segment_feed_in_place(const uint8_t *table, size_t table_length, segment_record *record, int64_t *registers, size_t registers_length,
+                           uint32_t *places, size_t places_length, uint32_t *program, size_t program_length, const uint8_t *kinds,
+                           size_t kinds_length, const int32_t *values, size_t values_length, uint32_t *number, uint64_t *count);
+
 /* Finishes the segment and closes the record.
  * *number: 0, or 1 to 13, 22 to 24, 30 to 35, 40, as for a feed.
  * *value: the segment's value, or 0 on a refusal.

@@ -68,6 +68,22 @@ static void values(void) {
     MUST(is(segment_run_feed(&run, kinds, 1), SEGMENT_CONDITION_FALSE, 1));
 }
 
+/* The call that changes the record in place: a feed, and one that is turned back. */
+static void in_place(void) {
+    static const uint8_t kinds[] = {0, 1};
+    static const int32_t values[] = {4, 99};
+    const segment_memory m = segment_memory_of(&room);
+    uint32_t number;
+    uint64_t count;
+    MUST(is(segment_run_open(&run, lengths, sizeof lengths, m), SEGMENT_OK, 0));
+    segment_feed_in_place(lengths, sizeof lengths, &run.record, m.registers, m.registers_length, m.places, m.places_length, m.program,
+                          m.program_length, kinds, 2, values, 2, &number, &count);
+    MUST(number == SEGMENT_OK && count == 12 && run.record.tokens == 2 && segment_register(&run, 5) == 4);
+    segment_feed_in_place(lengths, sizeof lengths, &run.record, m.registers, m.registers_length, m.places, m.places_length, m.program,
+                          m.program_length, kinds, 2, values, 1, &number, &count);
+    MUST(number == SEGMENT_LISTS_UNEQUAL && count == 0 && run.record.tokens == 2 && segment_register(&run, 5) == 4);
+}
+
 /* Tokens without values go in pieces: more of them than a piece has. */
 static void many_tokens(void) {
     static uint8_t tokens[3 * SEGMENT_PIECE];
@@ -182,6 +198,7 @@ int main(void) {
     nothing_lent();
     a_run();
     values();
+    in_place();
     many_tokens();
     budgets();
     inner_runs();

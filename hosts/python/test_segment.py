@@ -60,6 +60,14 @@ class Words(unittest.TestCase):
         self.refused(22, 2, run.evaluate, [0, 0], [1, 41])
         self.assertRaises(OverflowError, run.evaluate, [0], [2**31])
 
+    def test_in_place(self):
+        one, other = segment.Table(LENGTHS).run(), segment.Table(LENGTHS).run()
+        in_place = lambda kinds, values: other._called("segment_feed_in_place", *segment._bytes(kinds), *segment._values(values))
+        for kinds, values, number in ((b"\0\1", [4, 99], 0), (b"\0", [], 38), (b"\2\2", [0, 0], 21), (b"", [], 33)):
+            for feed in (one.feed, in_place):
+                self.refused(number, 3 if number == 21 else 0, feed, kinds, values) if number else feed(kinds, values)
+            self.assertEqual((bytes(one.record), one.registers, one.places), (bytes(other.record), other.registers, other.places))
+
     def test_inner_run(self):
         words, lengths = segment.Table(WORDS), segment.Table(LENGTHS)
         run = words.run()

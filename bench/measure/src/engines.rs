@@ -68,6 +68,36 @@ impl Engine for Proved {
     }
 }
 
+/// The proved engine, which feeds by the call that changes the record in place.
+pub struct InPlace(Proved);
+
+impl Engine for InPlace {
+    fn new() -> InPlace {
+        InPlace(Proved::new())
+    }
+
+    fn check(table: &[u8]) -> (u32, u32) {
+        Proved::check(table)
+    }
+
+    fn open(&mut self, table: &[u8]) -> Answer<()> {
+        self.0.open(table)
+    }
+
+    fn feed(&mut self, table: &[u8], kinds: &[u8], values: &[i32]) -> Answer<u64> {
+        let (record, mut memory) = (&mut self.0.record, self.0.buffers.lent());
+        lent::feed_in_place(table, record, &mut memory, kinds, values).map_err(|r| (r.number(), r.count()))
+    }
+
+    fn finish(&mut self, table: &[u8]) -> Answer<(i64, u64)> {
+        self.0.finish(table)
+    }
+
+    fn footnote(&mut self, outer: &[u8], table: &[u8], kinds: &[u8], values: &[i32]) -> Answer<(i64, u64)> {
+        self.0.footnote(outer, table, kinds, values)
+    }
+}
+
 pub struct Plain {
     record: plain::run::Record,
     buffers: Buffers,

@@ -1,7 +1,7 @@
 //! Measures the proved engine beside the plain one: same machine, same run, same input.
 mod engines;
 
-use engines::{Engine, Plain, Proved};
+use engines::{Engine, InPlace, Plain, Proved};
 use plain::samples;
 use std::cell::Cell;
 use std::hint::black_box;
@@ -155,6 +155,8 @@ fn call_without_tokens() {
         }
         let times = beside(empty_feed::<Plain>(table, before), empty_feed::<Proved>(table, before));
         row(&format!("feed without tokens, {name}"), table.len(), times);
+        let times = beside(empty_feed::<Plain>(table, before), empty_feed::<InPlace>(table, before));
+        row(&format!("the same in place, {name}"), table.len(), times);
     }
 }
 

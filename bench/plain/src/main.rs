@@ -123,7 +123,7 @@ fn main() {
                 places = vec![9; number(3)];
                 outer_alone(open(&hex(w[1]), &mut registers, &mut places, &mut vec![0; number(4)]))
             }
-            "feed" | "feedv" => {
+            "feed" | "feedv" | "feedr" => {
                 let (kinds, last) = (hex(w[2]), w.len() - 1);
                 let values = if w[0] == "feed" { vec![0; kinds.len()] } else { list(w[3]).map(|v| v.parse().unwrap()).collect() };
                 outer_alone(feed(&hex(w[1]), record, &mut registers, &mut places, &mut vec![0; number(last)], (&kinds, &values)))

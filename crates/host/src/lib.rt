@@ -118,6 +118,34 @@ pub extern "C" fn segment_feed(
     );
 }
 
+// Feeds tokens as `segment_feed` does, through the call that changes a record in place.
+#[no_mangle]
+pub extern "C" fn segment_feed_in_place(
+    table: &[u8],
+    record: &mut [u64; 8],
+    registers: &mut [i64],
+    places: &mut [u32],
+    program: &mut [u32],
+    kinds: &[u8],
+    values: &[i32],
+    number: &mut u32,
+    count: &mut u64,
+)
+    ensures { λ r. ⌜ PassedOn (now («record» .exit)) (now (number .exit)) (now (count .exit)) (now (registers .exit)) (now (places .exit)) (now (program .exit)) (performs programOf (now (table .entry)) (now (program .entry)) (broughtIn (now («record» .entry))) (stacksOf (now (registers .entry)) (now (places .entry))) (feed (now (kinds .entry)) (now (values .entry)))) ⌝ }
+{
+    host_in_place::feed(
+        table,
+        record,
+        registers,
+        places,
+        program,
+        kinds,
+        values,
+        number,
+        count,
+    );
+}
+
 // Finishes the segment.
 #[no_mangle]
 pub extern "C" fn segment_finish(

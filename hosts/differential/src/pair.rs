@@ -153,8 +153,9 @@ impl Pair {
         Pair { records: Records::default(), most: lengths, lengths, others: cells.clone(), cells }
     }
 
-    /// Makes a call on both engines.
+    /// Makes a call on both engines; a feed once more, by the call that changes the record in place.
     pub fn call(&mut self, table: &[u8], call: Call) -> Result<Answered, String> {
+        let before = matches!(call, Call::Feed(..)).then(|| (self.records, self.cells.clone()));
         self.others.clone_from(&self.cells);
         let mut other = self.records;
         let plain = in_plain(table, &mut other, self.others.lent(self.lengths), call);
@@ -162,12 +163,30 @@ impl Pair {
         same("answer", proved, plain)?;
         same("record", self.records.outer, other.outer)?;
         same("inner record", self.records.inner, other.inner)?;
+        self.same_memory()?;
+        if let (Call::Feed(kinds, values), Some((records, cells))) = (call, before) {
+            self.others = cells;
+            let again = self.in_place(table, records.outer, kinds, values)?;
+            same("answer in place", proved, again)?;
+        }
+        Ok(proved)
+    }
+
+    fn same_memory(&self) -> Result<(), String> {
         if self.cells != self.others {
             same_cells("register", &self.cells.registers, &self.others.registers)?;
             same_cells("place", &self.cells.places, &self.others.places)?;
             same_cells("program word", &self.cells.program, &self.others.program)?;
         }
-        Ok(proved)
+        Ok(())
+    }
+
+    /// The feed that was made, in place, on the record and the cells before it: what stands there must be what the feed left.
+    fn in_place(&mut self, table: &[u8], mut record: Record, kinds: &[u8], values: &[i32]) -> Result<Answered, String> {
+        let answer = lent::feed_in_place(table, &mut record, &mut self.others.lent(self.lengths), kinds, values);
+        same("record in place", self.records.outer, record)?;
+        self.same_memory()?;
+        Ok(answer.map_or_else(|r| (r.number(), 0, r.count()), |moves| (0, 0, moves)))
     }
 
     /// Lends other lengths from now on, at most those made.

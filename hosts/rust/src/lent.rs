@@ -25,8 +25,10 @@ macro_rules! call {
     };
 }
 
+mod in_place;
 mod inner;
 
+pub use in_place::feed_in_place;
 pub use inner::{feed_inner, finish_inner, give_up_inner, open_inner, Both};
 
 /// How many registers a run uses at most; cells past them are neither read nor written.

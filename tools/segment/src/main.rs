@@ -35,6 +35,7 @@ Bytes are hex digits, `-` for none; numbers are decimal. A line that begins with
   open TABLE NREGS NPLACES NPROG  lends stacks and opens a run
   feed TABLE TOKENS NPROG         feeds tokens to the run, each with the value 0
   feedv TABLE KINDS VALUES NPROG  feeds tokens with their values
+  feedr TABLE KINDS VALUES NPROG  the same, by the call that changes the record in place
   finish TABLE NPROG              ends its segment
   show                            the record and the stacks as they stand
   set STATE TOKENS MOVES RH PH [inner RB PB] | REGISTERS | PLACES

@@ -1,12 +1,16 @@
-//! The commands on the run that stands: `open`, `feed`, `feedv`, `finish`, `show` and `set`.
+//! The commands on the run that stands: `open`, `feed`, `feedv`, `feedr`, `finish`, `show` and `set`.
 use crate::answers::{Answer, Cells, Recorded};
 use crate::session::{Command, Session};
 use crate::words::{Bad, Fault, Words, AREA, CELLS};
-use engine::lent::{self, Record};
+use engine::lent::{self, Memory, Record};
+use engine::Refusal;
 use std::io::Write;
 
 pub const COMMANDS: &[(&str, Command)] =
-    &[("open", open), ("feed", feed), ("feedv", feedv), ("finish", finish), ("show", show), ("set", set)];
+    &[("open", open), ("feed", feed), ("feedv", feedv), ("feedr", feedr), ("finish", finish), ("show", show), ("set", set)];
+
+/// A feed of kinds and values.
+type Feed = fn(&[u8], &mut Record, &mut Memory, &[u8], &[i32]) -> Result<u64, Refusal>;
 
 /// What fresh cells hold before an opening.
 const REGISTER: i64 = 7;
@@ -41,19 +45,28 @@ fn feed(session: &mut Session, words: Words, out: &mut dyn Write) -> Result<(), 
     words.at_most(3)?;
     let (table, kinds) = (session.table(words, 1)?, words.tokens(2)?);
     let values = vec![0; kinds.len()];
-    fed(session, &table, &kinds, &values, words.size(3, AREA)?, out)
+    fed(session, lent::feed, &table, (&kinds, &values), words.size(3, AREA)?, out)
 }
 
 /// `feedv TABLE KINDS VALUES NPROG`
 fn feedv(session: &mut Session, words: Words, out: &mut dyn Write) -> Result<(), Fault> {
-    words.at_most(4)?;
-    let (table, kinds, values) = (session.table(words, 1)?, words.tokens(2)?, words.values(3)?);
-    fed(session, &table, &kinds, &values, words.size(4, AREA)?, out)
+    fed_values(session, lent::feed, words, out)
 }
 
-fn fed(session: &mut Session, table: &[u8], kinds: &[u8], values: &[i32], area: usize, out: &mut dyn Write) -> Result<(), Fault> {
+/// `feedr TABLE KINDS VALUES NPROG`: through the call that changes the record in place.
+fn feedr(session: &mut Session, words: Words, out: &mut dyn Write) -> Result<(), Fault> {
+    fed_values(session, lent::feed_in_place, words, out)
+}
+
+fn fed_values(session: &mut Session, call: Feed, words: Words, out: &mut dyn Write) -> Result<(), Fault> {
+    words.at_most(4)?;
+    let (table, kinds, values) = (session.table(words, 1)?, words.tokens(2)?, words.values(3)?);
+    fed(session, call, &table, (&kinds, &values), words.size(4, AREA)?, out)
+}
+
+fn fed(session: &mut Session, call: Feed, table: &[u8], tokens: (&[u8], &[i32]), area: usize, out: &mut dyn Write) -> Result<(), Fault> {
     let (record, mut memory) = session.lend(area);
-    let answer = Answer::of_feed(lent::feed(table, record, &mut memory, kinds, values));
+    let answer = Answer::of_feed(call(table, record, &mut memory, tokens.0, tokens.1));
     answered(session, answer, out)
 }
 
