@@ -1,37 +1,35 @@
--- What the statements say and what they exclude: a list of calls, and answers, engines and records that do not meet them.
+-- What the statements exclude: an answer, an engine and a record that do not meet them; and what counts for nothing in a list of calls.
 use Prim.Native.Nat.{ℕ, _≤_, _<_}
 use native.Mathlib.Omega.{arith}
 use mathlib.Core.Path.{_≡_, refl, sym, ap, ap₂, _∙_, subst}
-use mathlib.Core.Bool.{true, false}
-use mathlib.Core.Logic.{inl}
+use mathlib.Core.Bool.{true, false, Bool}
 use mathlib.Core.List.{List, [], _∷_, _++_, map}
 use lib.ListN.{length, replicate, length-replicate}
 use lib.IntN.{ℤ, pos}
-use lib.Dec.{T, lit≤}
+use lib.Dec.{T, lit≤, ltb}
 use Rattle.meaning.specs.Grammar.{Grammar, Token, Leaf}
 use Rattle.meaning.specs.Judgement.{Accepted}
-use Rattle.meaning.specs.Scheme.{add}
-use Rattle.meaning.specs.Machine.{Config, Lent, comes, moved, blocked, opening, next, lookAt, waits, isFinished, tokensLimit}
+use Rattle.meaning.specs.Machine.{Config, Lent, comes, moved, blocked, opening, next, lookAt, waits, tokensLimit}
 use Rattle.meaning.specs.Walk.{Act, Makes, nothing, andThen}
-use Rattle.meaning.specs.Calls.{Record, Stacks, Answer, more, value, refused, tableRefused, closedRecord, lentOf, configOf, result}
-use Rattle.meaning.specs.Fit.{Fit, segment}
-use Rattle.meaning.specs.PublicCalls.{Call, feed, finish, areaLength, Effect, performs}
-use Rattle.meaning.specs.Inner.{isClosed, InnerCall, engine, giveUp}
-use Rattle.meaning.specs.InnerLists.{Step, innerRun}
-use Rattle.meaning.specs.CallStatements.{handedBack, OpeningOf, Refuses, tooMany, notToken, atToken, atEnd, between, MovesTo, CallsMoveOf}
-use Rattle.meaning.specs.Statements.{History, opened, countsForNothing, innerEnded, fed, finished, Reached}
+use Rattle.meaning.specs.Calls.{Record, Stacks, Answer, more, value, refused, tableRefused, closedRecord, lentOf, configOf}
+use Rattle.meaning.specs.PublicCalls.{Call, feed, finish, areaLength, called}
+use Rattle.meaning.specs.Inner.{giveUp, innerOpens, innerPerforms}
+use Rattle.meaning.specs.InnerLists.{innerRun, Both}
+use Rattle.meaning.specs.CallStatements.{handedBack, OpeningOf, Refuses, tooMany, notToken, atToken, atEnd, between, MovesTo}
+use Rattle.meaning.specs.Statements.{History, countsForNothing, innerEnded, Reached}
 use Rattle.meaning.specs.Words.{words, bare, plain}
 use Rattle.meaning.specs.TableRows.{bytes}
 use Rattle.meaning.specs.CallRows.{m, state, stacks, used}
+use Rattle.meaning.specs.Samples.{small}
 
-abbrev program : Grammar → List ℕ
+abbrev pub program : Grammar → List ℕ
 program g = 7 ∷ 8 ∷ length (g .productions) ∷ []
 
-abbrev area : List ℕ
+abbrev pub area : List ℕ
 area = replicate 16384 5
 
-long : areaLength ≤ length area
-long = omega (arith, length-replicate {A = ℕ} 16384 5)
+pub long : areaLength ≤ length area
+long = subst (λ n. areaLength ≤ n) (sym (length-replicate {A = ℕ} 16384 5)) (lit≤ tt)
 
 -- ---- a list of calls: word open close in two pieces
 
@@ -39,63 +37,13 @@ long = omega (arith, length-replicate {A = ℕ} 16384 5)
 abbrev none : List ℕ → List ℤ
 none ks = map (λ k. pos 0) ks
 
-abbrev feedKinds : List ℕ → Call
+abbrev pub feedKinds : List ℕ → Call
 feedKinds ks = feed ks (none ks)
-
-abbrev tokens : List ℕ → List Token
-tokens ks = map (λ k. record { kind = k; value = pos 0 }) ks
-
-abbrev Listed : List ℕ → Record → Stacks → Type 0
-Listed ks r s = History program bytes (used 8 5) (tokens ks) false r s
-
-start : Listed [] (state true 0 0 1 1) (stacks (replicate 8 m) (32768 ∷ 0 ∷ 0 ∷ 0 ∷ 0 ∷ []))
-unfolding bytes
-start = opened area refl
-
--- an empty feed, and a word
-one-word : Listed (0 ∷ []) (state true 1 7 5 3) (stacks (m ∷ m ∷ pos 0 ∷ m ∷ pos 0 ∷ m ∷ m ∷ m ∷ []) (32768 ∷ 0 ∷ 257 ∷ 0 ∷ 0 ∷ []))
-unfolding bytes
-one-word = fed area (0 ∷ []) (pos 0 ∷ []) tt refl (fed area [] [] tt refl start long refl) long refl
-
--- with another table, which is refused; with a short area
-turned-back : Listed (0 ∷ []) (state true 1 7 5 3) (stacks (m ∷ m ∷ pos 0 ∷ m ∷ pos 0 ∷ m ∷ m ∷ m ∷ []) (32768 ∷ 0 ∷ 257 ∷ 0 ∷ 0 ∷ []))
-turned-back = countsForNothing bytes [] finish (countsForNothing (1 ∷ 0 ∷ []) area (feedKinds (1 ∷ [])) one-word refl refl) refl refl
-
--- a kind without its value: 38
-uneven-turned-back : Listed (0 ∷ []) (state true 1 7 5 3) (stacks (m ∷ m ∷ pos 0 ∷ m ∷ pos 0 ∷ m ∷ m ∷ m ∷ []) (32768 ∷ 0 ∷ 257 ∷ 0 ∷ 0 ∷ []))
-unfolding bytes
-uneven-turned-back = countsForNothing bytes area (feed (1 ∷ []) []) one-word refl refl
-
--- 02 (h): inner runs on the 3 registers and 2 places that are left: one given up after an empty feed; one that its finish ends, by 32
-abbrev insideCall : InnerCall → Step InnerCall
-insideCall c = record { table = bytes; area = area; call = c }
-
-inner-given-up : Listed (0 ∷ []) (state true 1 7 5 3) (stacks (m ∷ m ∷ pos 0 ∷ m ∷ pos 0 ∷ m ∷ m ∷ m ∷ []) (32768 ∷ 0 ∷ 257 ∷ 0 ∷ 0 ∷ []))
-unfolding bytes
-inner-given-up = innerEnded bytes bytes area (insideCall (engine (feed [] [])) ∷ insideCall giveUp ∷ []) uneven-turned-back refl refl
-
-inner-refused : Listed (0 ∷ []) (state true 1 7 5 3) (stacks (m ∷ m ∷ pos 0 ∷ m ∷ pos 0 ∷ m ∷ m ∷ m ∷ []) (32768 ∷ 0 ∷ 257 ∷ 0 ∷ 0 ∷ []))
-unfolding bytes
-inner-refused = innerEnded bytes bytes area (insideCall (engine finish) ∷ []) inner-given-up refl refl
-
--- one that is still open does not count
-inner-still-open : map (λ c. isClosed (innerRun program bytes bytes area (state true 1 7 5 3) (stacks (m ∷ m ∷ pos 0 ∷ m ∷ pos 0 ∷ m ∷ m ∷ m ∷ []) (32768 ∷ 0 ∷ 257 ∷ 0 ∷ 0 ∷ [])) (insideCall c ∷ []) .innerState .status)) (engine (feed [] []) ∷ engine (feed (1 ∷ []) []) ∷ []) ≡ false ∷ false ∷ []
-unfolding bytes
-inner-still-open = refl
-
-two-pieces : Listed (0 ∷ 1 ∷ 2 ∷ []) (state true 3 17 8 4) (stacks (m ∷ m ∷ pos 0 ∷ m ∷ pos 0 ∷ pos 0 ∷ m ∷ pos 0 ∷ []) (32768 ∷ 0 ∷ 257 ∷ 515 ∷ 0 ∷ []))
-unfolding bytes
-two-pieces = fed area (1 ∷ 2 ∷ []) (pos 0 ∷ pos 0 ∷ []) tt refl inner-refused long refl
-
--- finished; and a feed after it, which 33 turns back
-after-the-end : History program bytes (used 8 5) (tokens (0 ∷ 1 ∷ 2 ∷ [])) true (state false 3 26 1 1) (stacks (pos 1 ∷ replicate 7 m) (32769 ∷ 0 ∷ 0 ∷ 0 ∷ 0 ∷ []))
-unfolding bytes
-after-the-end = countsForNothing bytes area (feedKinds (0 ∷ [])) (finished area two-pieces long refl) refl refl
 
 -- ---- answers that the moves do not give
 
 -- where the move at hand is blocked, none is made
-stuck : (g : Grammar) (lent : Lent) (us : List Leaf) (c : Config) (k : ℕ) → next g lent (lookAt us) c ≡ blocked k → {ws : List Act} {vs : List Leaf} {d : Config} → Makes g lent us c ws vs d → (ws ≡ []) × (vs ≡ us) × (d ≡ c)
+pub stuck : (g : Grammar) (lent : Lent) (us : List Leaf) (c : Config) (k : ℕ) → next g lent (lookAt us) c ≡ blocked k → {ws : List Act} {vs : List Leaf} {d : Config} → Makes g lent us c ws vs d → (ws ≡ []) × (vs ≡ us) × (d ≡ c)
 stuck g lent us c k b nothing = (refl, refl, refl)
 stuck g lent us c k b (andThen {vs = vs} {d = d} p i is fs e x f h) =
     let s = stuck g lent us c k b x in
@@ -103,30 +51,21 @@ stuck g lent us c k b (andThen {vs = vs} {d = d} p i is fs e x f h) =
     absurd (let z : _≡_ {A = ℕ} 0 1 = cc in omega arith)
 
 -- the opening's places and registers, with so many tokens and moves; and those of a start symbol left with value 4
-abbrev fresh : ℕ → ℕ → Config
+abbrev pub fresh : ℕ → ℕ → Config
 fresh t n = configOf words (state true t n 1 1) (stacks (m ∷ []) (32768 ∷ []))
 
-abbrev left4 : ℕ → Config
-left4 n = configOf words (state true 2 n 1 1) (stacks (pos 4 ∷ []) (32769 ∷ []))
-
 -- a call from c that answers a, whatever it leaves
-abbrev Answered : Config → Call → Answer → Type 0
+abbrev pub Answered : Config → Call → Answer → Type 0
 Answered c call a = (r : Record) (s : Stacks) (ws : List ℕ) → MovesTo program area words (stacks (m ∷ []) (32768 ∷ [])) c call (handedBack a r s ws) → ⊥
 
-abbrev lent : Lent
+abbrev pub lent : Lent
 lent = lentOf (stacks (m ∷ []) (32768 ∷ []))
 
 number-is : (a b : ℕ) → blocked a ≡ blocked b → a ≡ b
 number-is a b e = cc
 
--- token 3 of 0 to 2 after 5 tokens: the answer is 20, with 5 tokens read
-tokens-missing : Answered (fresh 5 9) (feedKinds (3 ∷ [])) (refused 20 0)
-tokens-missing r s ws x =
-    let e = stuck words lent (plain (3 ∷ [])) (fresh 5 9) 21 refl (x .made [] tt) in
-    absurd (omega (arith, x .says .0, ap (λ z. z .tokens) (e .2)))
-
 -- a token t at which the move is blocked by j is refused by 35, by 20 or by j
-not-by : (c : Config) (t j k o : ℕ) → waits (c .frames) ≡ true → next words lent (comes (bare t)) c ≡ blocked j
+pub not-by : (c : Config) (t j k o : ℕ) → waits (c .frames) ≡ true → next words lent (comes (bare t)) c ≡ blocked j
     → (k ≡ 35 → c .tokens ≡ tokensLimit → ⊥) → (k ≡ 20 → c .tokens < tokensLimit → 3 ≤ t → ⊥) → (j ≡ k → c .tokens < tokensLimit → t < 3 → ⊥)
     → Answered c (feedKinds (t ∷ [])) (refused k o)
 not-by c t j k o w b many unknown other r s ws x = by (x .says .1) (stuck words lent (plain (t ∷ [])) c j b (x .made [] tt))
@@ -147,74 +86,6 @@ not-by c t j k o w b many unknown other r s ws x = by (x .says .1) (stuck words 
 not-22 : Answered (fresh 5 9) (feedKinds (3 ∷ [])) (refused 22 5)
 not-22 = not-by (fresh 5 9) 3 21 22 5 refl refl (λ q n. omega arith) (λ q n f. omega arith) (λ q n f. omega arith)
 
-not-35 : Answered (fresh 5 9) (feedKinds (3 ∷ [])) (refused 35 5)
-not-35 = not-by (fresh 5 9) 3 21 35 5 refl refl (λ q n. omega arith) (λ q n f. omega arith) (λ q n f. omega arith)
-
-not-21 : Answered (fresh 5 9) (feedKinds (3 ∷ [])) (refused 21 5)
-not-21 = not-by (fresh 5 9) 3 21 21 5 refl refl (λ q n. omega arith) (λ q n f. omega arith) (λ q n f. omega arith)
-
--- a token after 65,535 is 35, not 20
-not-20-at-limit : Answered (fresh 65535 9) (feedKinds (3 ∷ [])) (refused 20 65535)
-not-20-at-limit = not-by (fresh 65535 9) 3 21 20 65535 refl refl (λ q n. omega arith) (λ q n f. omega arith) (λ q n f. omega arith)
-
--- token 0 is one: 32, as one place is lent
-not-20 : Answered (fresh 5 9) (feedKinds (0 ∷ [])) (refused 20 5)
-not-20 = not-by (fresh 5 9) 0 32 20 5 refl refl (λ q n. omega arith) (λ q n f. omega arith) (λ q n f. omega arith)
-
--- an empty feed has made 9 moves, not 8; and it does not predict as if the segment were over
-moves-missing : Answered (fresh 0 9) (feed [] []) (more 8)
-moves-missing r s ws x =
-    let e = stuck words lent (plain (3 ∷ [])) (fresh 0 9) 21 refl (x .made (plain (3 ∷ [])) tt) in
-    absurd (omega (arith, x .says .2, ap (λ z. z .moves) (e .2)))
-
-nothing-left : {left us : List Leaf} {u : Leaf} → left ≡ u ∷ us → left ++ [] ≡ [] → ⊥
-nothing-left l e = absurd (omega (arith, ap length (sym (ap (λ z. z ++ []) l) ∙ e)))
-
--- with all tokens read, at the limit of moves, the feed stops: no 35 before a next token
-early-35 : Answered (fresh 5 4294967295) (feed [] []) (refused 35 5)
-early-35 r s ws x = by (x .says .1) (stuck words lent [] (fresh 5 4294967295) 35 refl (x .made [] tt))
-  where
-    by : {ts left : List Leaf} {c d : Config} {moves : List Act} → Refuses words lent (λ us. Unit {0}) ts c moves left d 35 → (moves ≡ []) × (left ++ [] ≡ []) × (d ≡ fresh 5 4294967295) → ⊥
-    by (tooMany q u us l n v y) e = nothing-left l (e .1)
-    by (notToken q u us l n f v y) e = nothing-left l (e .1)
-    by (atToken u us l n f h) e = nothing-left l (e .1)
-    by (atEnd l d f h) e = absurd (omega (arith, ap length (f (plain (3 ∷ [])) tt)))
-    by (between v y h) e = subst T (sym (ap (λ d. waits (d .frames)) (e .2)) ∙ v) tt
-
--- no more than 65,535 tokens are read
-one-too-many : Answered (fresh 65536 9) (feed [] []) (more 9)
-one-too-many r s ws x = absurd (omega (arith, x .few, ap (λ z. z .tokens) (stuck words lent (plain (3 ∷ [])) (fresh 65536 9) 21 refl (x .made (plain (3 ∷ [])) tt) .2)))
-
--- the value is the result register's
-other-value : Answered (left4 9) finish (value (pos 5) 9)
-other-value r s ws x =
-    let e = stuck words lent [] (left4 9) 24 refl (x .made [] refl) in
-    absurd (omega (arith, same 5 4 (x .says .1 ∙ ap (result words) (e .2))))
-  where
-    same : (a b : ℕ) → pos a ≡ pos b → a ≡ b
-    same a b e = cc
-
--- and it is given: no 24 where the start symbol is left
-not-24 : Answered (left4 9) finish (refused 24 2)
-not-24 r s ws x = by (x .says .1) (stuck words lent [] (left4 9) 24 refl (x .made [] refl))
-  where
-    by : {ts left : List Leaf} {c d : Config} {moves : List Act} → Refuses words lent (λ us. us ≡ []) ts c moves left d 24 → (moves ≡ []) × (left ++ [] ≡ []) × (d ≡ left4 9) → ⊥
-    by (tooMany q u us l n v y) e = nothing-left l (e .1)
-    by (notToken q u us l n f v y) e = nothing-left l (e .1)
-    by (atToken u us l n f h) e = nothing-left l (e .1)
-    by (atEnd l d f h) e = subst T (sym (ap isFinished (e .2)) ∙ d) tt
-    by (between v y h) e = subst T (sym (ap (λ d. waits (d .frames)) (e .2)) ∙ v) tt
-
--- what needs no next token is done before a stop, and a value is given where the start symbol is left: an add is still to make
-abbrev atAdd : Config
-atAdd = record { frames = record { production = 0; rest = add 2 ∷ [] } ∷ []; registers = m ∷ []; tokens = 1; moves = 2 }
-
-stops-early : Answered atAdd (feed [] []) (more 2)
-stops-early r s ws x = subst (λ d. T (waits (d .frames))) (stuck words lent [] atAdd 31 refl (x .made [] tt) .2) (x .says .1)
-
-ends-early : Answered atAdd finish (value m 2)
-ends-early r s ws x = subst (λ d. T (isFinished d)) (stuck words lent [] atAdd 31 refl (x .made [] refl) .2) (x .says .0)
-
 -- ---- engines
 
 -- the number of an answer that is a refusal
@@ -228,26 +99,6 @@ refusal (tableRefused k o) = k
 never-opens : Accepted bytes words → OpeningOf (λ program bs ws s. handedBack (refused 31 0) closedRecord s ws) → ⊥
 never-opens a h = absurd (omega (arith, ap (λ e. refusal (e .answer)) (h program bytes area words (used 8 5) long a .2 (lit≤ tt) (lit≤ tt))))
 
--- one that answers every refusal by 22 with no token read
-abbrev flat : Answer → Answer
-flat (more n) = more n
-flat (value v n) = value v n
-flat (refused k o) = refused 22 0
-flat (tableRefused k o) = tableRefused k o
-
-abbrev always22 : (Grammar → List ℕ) → List ℕ → List ℕ → Record → Stacks → Call → Effect
-always22 program bs ws r s c = let e = performs program bs ws r s c in handedBack (flat (e .answer)) (e .state) (e .stacks) (e .area)
-
-opened-fits : Fit words (state true 5 9 1 1) (stacks (m ∷ []) (32768 ∷ []))
-opened-fits = record { tokens = lit≤ tt; moves = lit≤ tt; registerHeight = lit≤ tt; placeHeight = lit≤ tt; stands = inl (_, segment [] (record { size = refl; ranged = tt })); registersCleared = λ i a b. absurd (omega arith); placesCleared = λ i a b. absurd (omega arith) }
-
-refuses-by-22 : Accepted bytes words → CallsMoveOf always22 → ⊥
-unfolding bytes
-refuses-by-22 a h = tokens-22 (h program bytes area words (state true 5 9 1 1) (stacks (m ∷ []) (32768 ∷ [])) (feedKinds (3 ∷ [])) tt refl (record { long = long; accepts = a; isOpen = refl; fits = opened-fits }))
-  where
-    tokens-22 : {r : Record} {s : Stacks} {ws : List ℕ} → MovesTo program area words (stacks (m ∷ []) (32768 ∷ [])) (fresh 5 9) (feedKinds (3 ∷ [])) (handedBack (refused 22 0) r s ws) → ⊥
-    tokens-22 x = absurd (omega (arith, x .says .0, ap (λ z. z .tokens) (stuck words lent (plain (3 ∷ [])) (fresh 5 9) 21 refl (x .made [] tt) .2)))
-
 -- ---- records
 
 -- an open record that has predicted as if the segment were over
@@ -255,3 +106,19 @@ looked-at-the-end : (s : Stacks) → Reached words (used 8 5) [] (state true 0 1
 looked-at-the-end s x =
     let e = stuck words (lentOf (used 8 5)) (plain (3 ∷ [])) (opening words) 21 refl (x .openRun refl .0 (plain (3 ∷ []))) in
     absurd (omega (arith, x .counted, ap length (e .0)))
+
+-- ---- what counts for nothing in a list of calls, on any area that is long enough
+
+abbrev Long : List ℕ → Type 0
+Long cells = ltb (length cells) areaLength ≡ false
+
+-- a call with another table, which is refused
+other-table-refused : (cells : List ℕ) → Long cells → {ts : List Token} {o : Bool} {r : Record} {s : Stacks} → History program bytes (used 8 5) ts o r s → History program bytes (used 8 5) ts o r s
+other-table-refused cells h x = countsForNothing (1 ∷ 0 ∷ []) cells finish x (rw (h, called)) (rw (h, called))
+
+-- 02 (h): an inner run under the small table, given up at once
+abbrev given-up : List ℕ → Both
+given-up cells = innerRun program small small cells (state true 0 0 1 1) (stacks (m ∷ m ∷ []) (32768 ∷ 0 ∷ [])) (record { table = small; area = cells; call = giveUp } ∷ [])
+
+inner-ended : (cells : List ℕ) → Long cells → {ts : List Token} {o : Bool} → History program bytes (used 8 5) ts o (state true 0 0 1 1) (stacks (m ∷ m ∷ []) (32768 ∷ 0 ∷ [])) → History program bytes (used 8 5) ts o (given-up cells .outerState) (given-up cells .stacks)
+inner-ended cells h x = innerEnded small small cells (record { table = small; area = cells; call = giveUp } ∷ []) x (rw (h, innerOpens)) (rw (innerPerforms, h) (rw (innerOpens, h)))

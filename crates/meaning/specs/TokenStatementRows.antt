@@ -1,4 +1,4 @@
--- What the statements on tokens with values say and exclude: lists of one length, values of 32 bits, values ignored, and the tag 6 fields in stretch and program.
+-- What the statements on tokens with values say and exclude: lists of one length, values ignored, and the tag 6 fields in stretch and program.
 use Prim.Native.Nat.{ℕ, zero, suc}
 use native.Mathlib.Omega.{arith}
 use mathlib.Core.Path.{_≡_, refl, ap}
@@ -6,14 +6,13 @@ use mathlib.Core.Logic.{inl}
 use mathlib.Core.Bool.{Bool, true, false}
 use mathlib.Core.List.{List, [], _∷_}
 use lib.ListN.{take, drop}
-use lib.IntN.{ℤ, pos, negsuc}
+use lib.IntN.{pos, negsuc}
 use lib.Dec.{lit<}
 use Rattle.meaning.specs.Grammar.{const, copy, sum, addc, range}
 use Rattle.meaning.specs.Layout as Layout
 use Rattle.meaning.specs.Layout.{RulesAndConditions, nothing, condition, production}
 use Rattle.meaning.specs.PublicCalls.{feed}
-use Rattle.meaning.specs.CallStatements.{Lendable, Even, tokensOf}
-use Rattle.meaning.specs.MarkedToken.{kinds}
+use Rattle.meaning.specs.CallStatements.{Even, tokensOf}
 use Rattle.meaning.specs.TableStatements.{StretchIn, SameScheme}
 use Rattle.meaning.specs.TokenStatements.{SameWhereCarried}
 use Rattle.meaning.specs.Words.{words, p0, p2, p3, occ, rule}
@@ -21,43 +20,18 @@ use Rattle.meaning.specs.TokenRows.{lengths, lengthsTable}
 
 -- ---- the lists of a feed
 
-even : Even (feed (0 ∷ 1 ∷ []) (pos 7 ∷ pos 0 ∷ []))
-even = refl
-
 value-missing : Even (feed (0 ∷ 1 ∷ []) (pos 7 ∷ [])) → ⊥
 value-missing e = omega (arith, e)
-
-kind-missing : Even (feed [] (pos 7 ∷ [])) → ⊥
-kind-missing e = omega (arith, e)
-
-lendable : Lendable (feed [] (negsuc 2147483647 ∷ pos 2147483647 ∷ []))
-lendable = tt
-
-too-great : Lendable (feed [] (pos 0 ∷ pos 2147483648 ∷ [])) → ⊥
-too-great t = t
-
-too-low : Lendable (feed [] (negsuc 2147483648 ∷ [])) → ⊥
-too-low t = t
 
 brought : tokensOf (feed (0 ∷ 1 ∷ []) (pos 7 ∷ negsuc 0 ∷ [])) ≡ record { kind = 0; value = pos 7 } ∷ record { kind = 1; value = negsuc 0 } ∷ []
 brought = refl
 
-brought-kinds : kinds (tokensOf (feed (0 ∷ 1 ∷ []) (pos 7 ∷ negsuc 0 ∷ []))) ≡ 0 ∷ 1 ∷ []
-brought-kinds = refl
-
 -- ---- which values are ignored: of a word, token 0, the value counts; of open, token 1, it does not
-
-abbrev number : ℤ → ℕ
-number (pos n) = n
-number (negsuc n) = n
 
 ignored : SameWhereCarried lengths (0 ∷ 1 ∷ []) (pos 3 ∷ pos 4 ∷ []) (pos 3 ∷ pos 9 ∷ [])
 ignored zero l i = refl
 ignored (suc zero) l (inl e) = absurd (omega (arith, e))
 ignored (suc (suc n)) l i = absurd (omega arith)
-
-not-ignored : SameWhereCarried lengths (0 ∷ 1 ∷ []) (pos 3 ∷ pos 4 ∷ []) (pos 5 ∷ pos 4 ∷ []) → ⊥
-not-ignored h = omega (arith, ap number (h 0 (lit< tt) (inl refl)))
 
 -- ---- the program tells which tokens carry a value
 

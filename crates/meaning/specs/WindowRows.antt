@@ -1,11 +1,9 @@
 -- Rows for Window: a window of size 3, and the numbers of its answers.
 use mathlib.Core.Path.{_≡_, refl}
-use mathlib.Core.Bool.{true, false}
 use mathlib.Core.List.{[], _∷_, map}
 use lib.IntN.{pos, negsuc}
 use Rattle.meaning.specs.Calls.{more, value, refused, tableRefused}
-use Rattle.meaning.specs.Window.{stands, empty, turnedBack, windowNumber, zeros, largest, lastOf, outcome, opensWindow, bringsValue, bringsRefusal, bringsAnswer, wellKept}
-use Rattle.meaning.specs.WindowStatements.{opening, later, entered, enteredBy, outside, answerIn}
+use Rattle.meaning.specs.Window.{stands, empty, turnedBack, windowNumber, zeros, lastOf, outcome, opensWindow, bringsValue, bringsRefusal, bringsAnswer, wellKept}
 
 opened : opensWindow 3 (zeros 12) ≡ outcome empty (pos 3 ∷ zeros 11)
 unfolding opensWindow
@@ -16,69 +14,18 @@ short : opensWindow 3 (zeros 10) ≡ outcome turnedBack (zeros 10)
 unfolding opensWindow
 short = refl
 
-none : opensWindow 0 (zeros 10) ≡ outcome turnedBack (zeros 10)
-unfolding opensWindow
-none = refl
-
 -- 5, 2, 6 and 4 after each other
 first : bringsValue (pos 5) (pos 3 ∷ zeros 11) ≡ outcome (stands (pos 5) (pos 5)) (pos 3 ∷ pos 1 ∷ pos 1 ∷ pos 5 ∷ pos 1 ∷ pos 5 ∷ pos 0 ∷ pos 0 ∷ pos 0 ∷ pos 0 ∷ pos 0 ∷ pos 0 ∷ [])
 unfolding bringsValue wellKept
 first = refl
-
-second : bringsValue (pos 2) (pos 3 ∷ pos 1 ∷ pos 1 ∷ pos 5 ∷ pos 1 ∷ pos 5 ∷ zeros 5) ≡ outcome (stands (pos 7) (pos 5)) (pos 3 ∷ pos 2 ∷ pos 2 ∷ pos 7 ∷ pos 2 ∷ pos 5 ∷ pos 2 ∷ pos 0 ∷ pos 0 ∷ pos 1 ∷ pos 0 ∷ [])
-unfolding bringsValue wellKept
-second = refl
-
-third : bringsValue (pos 6) (pos 3 ∷ pos 2 ∷ pos 2 ∷ pos 7 ∷ pos 2 ∷ pos 5 ∷ pos 2 ∷ pos 0 ∷ pos 0 ∷ pos 1 ∷ pos 0 ∷ []) ≡ outcome (stands (pos 13) (pos 6)) (pos 3 ∷ pos 3 ∷ pos 0 ∷ pos 13 ∷ pos 1 ∷ pos 5 ∷ pos 2 ∷ pos 6 ∷ pos 2 ∷ pos 0 ∷ pos 0 ∷ [])
-unfolding bringsValue wellKept
-third = refl
-
-fourth : bringsValue (pos 4) (pos 3 ∷ pos 3 ∷ pos 0 ∷ pos 13 ∷ pos 1 ∷ pos 5 ∷ pos 2 ∷ pos 6 ∷ pos 2 ∷ pos 0 ∷ pos 0 ∷ []) ≡ outcome (stands (pos 12) (pos 6)) (pos 3 ∷ pos 3 ∷ pos 1 ∷ pos 12 ∷ pos 2 ∷ pos 4 ∷ pos 2 ∷ pos 6 ∷ pos 2 ∷ pos 0 ∷ pos 0 ∷ [])
-unfolding bringsValue wellKept
-fourth = refl
 
 -- the largest leaves, and an equal value takes the lead
 sixth : bringsValue (pos 4) (pos 3 ∷ pos 3 ∷ pos 2 ∷ pos 11 ∷ pos 3 ∷ pos 4 ∷ pos 1 ∷ pos 6 ∷ pos 2 ∷ pos 0 ∷ pos 1 ∷ []) ≡ outcome (stands (pos 9) (pos 4)) (pos 3 ∷ pos 3 ∷ pos 0 ∷ pos 9 ∷ pos 1 ∷ pos 4 ∷ pos 1 ∷ pos 4 ∷ pos 2 ∷ pos 0 ∷ pos 0 ∷ [])
 unfolding bringsValue wellKept
 sixth = refl
 
-standing : bringsRefusal (pos 3 ∷ pos 2 ∷ pos 2 ∷ pos 7 ∷ pos 2 ∷ pos 5 ∷ pos 2 ∷ pos 0 ∷ pos 0 ∷ pos 1 ∷ pos 0 ∷ []) ≡ stands (pos 7) (pos 5)
-unfolding bringsRefusal wellKept
-standing = refl
-
--- a wrong total, and a next slot that is not the number held
-wrong-total : bringsRefusal (pos 3 ∷ pos 2 ∷ pos 2 ∷ pos 8 ∷ pos 2 ∷ pos 5 ∷ pos 2 ∷ pos 0 ∷ pos 0 ∷ pos 1 ∷ pos 0 ∷ []) ≡ turnedBack
-unfolding bringsRefusal wellKept
-wrong-total = refl
-
-wrong-next : bringsRefusal (pos 3 ∷ pos 0 ∷ pos 1 ∷ zeros 8) ≡ turnedBack
-unfolding bringsRefusal wellKept
-wrong-next = refl
-
-below-none : largest (negsuc 4) (negsuc 2 ∷ negsuc 8 ∷ []) ≡ negsuc 2
-below-none = refl
-
 last-two : map (λ n. lastOf n (pos 5 ∷ pos 2 ∷ pos 6 ∷ [])) (1 ∷ 2 ∷ 3 ∷ 4 ∷ []) ≡ (pos 6 ∷ []) ∷ (pos 2 ∷ pos 6 ∷ []) ∷ (pos 5 ∷ pos 2 ∷ pos 6 ∷ []) ∷ (pos 5 ∷ pos 2 ∷ pos 6 ∷ []) ∷ []
 last-two = refl
-
--- a size of 65, though the buffer is long enough
-too-great : opensWindow 65 (zeros 135) ≡ outcome turnedBack (zeros 135)
-unfolding opensWindow
-too-great = refl
-
--- the cells past the form stay
-past-form : opensWindow 1 (pos 7 ∷ pos 7 ∷ pos 7 ∷ pos 7 ∷ pos 7 ∷ pos 7 ∷ pos 7 ∷ pos 8 ∷ []) ≡ outcome empty (pos 1 ∷ pos 0 ∷ pos 0 ∷ pos 0 ∷ pos 0 ∷ pos 0 ∷ pos 0 ∷ pos 8 ∷ [])
-unfolding opensWindow
-past-form = refl
-
--- 02 (d)'s limits
-highest-value : bringsValue (pos 1000000000000) (pos 1 ∷ zeros 6) .answer ≡ stands (pos 1000000000000) (pos 1000000000000)
-unfolding bringsValue wellKept
-highest-value = refl
-
-outside-limits : map (λ v. bringsValue v (pos 1 ∷ zeros 6)) (pos 1000000000001 ∷ negsuc 1000000000000 ∷ []) ≡ outcome turnedBack (pos 1 ∷ zeros 6) ∷ outcome turnedBack (pos 1 ∷ zeros 6) ∷ []
-unfolding bringsValue wellKept
-outside-limits = refl
 
 -- a finish's answer: a value enters, whatever its moves; anything else changes nothing, and does not enter as 0
 answers : map (λ a. bringsAnswer a (pos 1 ∷ zeros 6)) (value (negsuc 4) 9 ∷ refused 24 3 ∷ tableRefused 5 12 ∷ more 7 ∷ [])
@@ -89,20 +36,3 @@ answers = refl
 
 numbers : map windowNumber (stands (pos 3) (pos 2) ∷ empty ∷ turnedBack ∷ []) ≡ 0 ∷ 0 ∷ 42 ∷ []
 numbers = refl
-
--- ---- what the statements count
-
--- a refusal, a value outside the limits and an opening that is turned back enter nothing; an opening begins anew
-entering-rows : map (enteredBy 11 (entered 3 (pos 9 ∷ [])))
-    ((later (value (pos 5) 0) ∷ later (refused 24 0) ∷ later (value (pos 1000000000001) 0) ∷ opening 0 ∷ later (value (pos 2) 7) ∷ [])
-    ∷ (opening 2 ∷ later (more 1) ∷ later (tableRefused 5 12) ∷ later (value (pos 4) 0) ∷ []) ∷ [])
-    ≡ entered 3 (pos 9 ∷ pos 5 ∷ pos 2 ∷ []) ∷ entered 2 (pos 4 ∷ []) ∷ []
-entering-rows = refl
-
-outside-rows : map (outside 11) (opening 0 ∷ opening 3 ∷ opening 4 ∷ later (value (pos 1000000000001) 0) ∷ later (value (pos 3) 0) ∷ later (refused 24 0) ∷ later (more 1) ∷ later (tableRefused 5 12) ∷ [])
-    ≡ true ∷ false ∷ true ∷ true ∷ false ∷ false ∷ false ∷ false ∷ []
-outside-rows = refl
-
--- the first leader cell names slot 1
-beside : answerIn (pos 2 ∷ pos 2 ∷ pos 0 ∷ pos 9 ∷ pos 1 ∷ pos 4 ∷ pos 5 ∷ pos 1 ∷ pos 0 ∷ []) ≡ stands (pos 9) (pos 5)
-beside = refl

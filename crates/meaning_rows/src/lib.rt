@@ -1,0 +1,1 @@
+// More computed rows of the definitions in meaning; no code.
