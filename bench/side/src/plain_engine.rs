@@ -11,7 +11,8 @@ fn taken(r: &Record) -> run::Record {
 
 /// Hands the record back and takes the answer apart: number, value and count.
 fn handed((r, answer): (run::Record, Answer), record: &mut Record) -> (u32, i64, u64) {
-    *record = Record { open: r.open as u64, tokens: r.tokens, moves: r.moves, registers: r.registers, places: r.places };
+    *record =
+        Record { open: r.open as u64, tokens: r.tokens, moves: r.moves, registers: r.registers, places: r.places, ..Record::default() };
     match answer {
         Answer::Opened => (0, 0, 0),
         Answer::More(moves) => (0, 0, moves),

@@ -1,13 +1,14 @@
 // The moves of 01 on lent stacks, by the program's words, and the loop that makes them.
-ghost use Prim.Native.Nat.{_%_, _≤_, _<_};
+ghost use Prim.Native.Nat.{ℕ, _%_, _<_};
 ghost use mathlib.Core.Path.{_≡_};
-ghost use mathlib.Core.Bool.{true};
+ghost use mathlib.Core.List.{List};
+ghost use lib.IntN.{ℤ};
 ghost use lib.ListN.{getD, length};
-ghost use Rattle.moves.specs.Held.{Ready, Answers};
-ghost use Rattle.moves.specs.Passing.{comingOf};
+ghost use Rattle.meaning.specs.Machine as Machine;
 ghost use Rattle.machine.specs.Advancing as Advancing;
-ghost use Rattle.machine.specs.Advancing.{Running, Facing, Advances, stopsAt};
-ghost use Rattle.machine.specs.Feeding.{valueAt, Takes, TakesAll, Feeds, Finishes};
+ghost use Rattle.machine.specs.Advancing.{Running};
+ghost use Rattle.machine.specs.Feeding.{valueAt, TakesAll, Feeds, Finishes};
+ghost use Rattle.machine.specs.Turns.{endedBy, judgedOf, Fed, Turned};
 use moves::Run;
 use moves::Step;
 
@@ -23,101 +24,32 @@ const TOKENS_BEFORE: u64 = 65534;
 // The operation's number in a word that says that nothing is left; the others are in docs/PROGRAM.md.
 const NOTHING: usize = 6;
 
+// The number of a token that is taken, which is no number of a refusal.
+const TAKEN: u32 = 1;
+
 // What moves lead to until one needs what comes next: a stop, or the number that refuses the move at hand.
 pub enum Ended {
     Stopped(Run),
     Failed(Run, u32),
 }
 
-// ---- one move
+// ---- a move that looks at what comes next
 
-// What the instruction at hand does.
-fn one(
-    registers: &mut [i64],
-    places: &mut [u32],
-    program: &[u32],
-    run: Run,
-    look: usize,
-    value: i64,
-) -> Step
-    requires { ⌜ Ready (now program) (now registers) (now places) run (getD (now program) (run .at) 0 % 8) × (getD (now program) (run .at) 0 % 8 ≤ 5) × (look < 64) ⌝ }
-    ensures { λ r. ⌜ Answers (now (program .entry)) (now (registers .entry)) (now (places .entry)) run (comingOf look value) (now (registers .exit)) (now (places .exit)) r ⌝ }
+// Whether what comes next is taken: 0 where nothing does, and the machine stops; otherwise the number that refuses it before its moves. 01: "35 a token after 65,535", "20 token not below T, judged before its moves".
+fn judged(tokens: u64, kinds: &[u8], i: usize, bound: usize, most: u64) -> u32
+    ensures { λ r. ⌜ r ≡ judgedOf bound most (now (kinds .entry)) i tokens ⌝ }
 {
-    match moves::word_at(program, run.at) % 8 {
-        0 => moves::add(registers, program, run),
-        1 => moves::evaluate(registers, program, run),
-        2 => moves::read(registers, places, program, run, look, value),
-        3 => predict::predict(registers, places, program, run, look),
-        4 => moves::test(registers, places, program, run),
-        _ => moves::remove(registers, places, program, run),
+    if kinds.len() <= i {
+        return 0;
     }
+    if most < tokens {
+        return 35;
+    }
+    if bound <= kinds[i] as usize {
+        return 20;
+    }
+    TAKEN
 }
-
-// ---- until a move needs what comes next
-
-// Whether an operation needs it.
-fn looks(operation: usize) -> bool
-    ensures { λ r. ⌜ r ≡ Advancing.looks operation ⌝ }
-{
-    if operation == 2 {
-        return true;
-    }
-    if operation == 3 {
-        return true;
-    }
-    operation == NOTHING
-}
-
-// Whether the operation needs what comes next, and the token at hand is read, or at the end the start symbol is left.
-fn stops(operation: usize, look: usize, before: u64, tokens: u64) -> bool
-    ensures { λ r. ⌜ r ≡ stopsAt operation look before tokens ⌝ }
-{
-    if looks(operation) {
-        if look == END {
-            return operation == NOTHING;
-        }
-        return before < tokens;
-    }
-    false
-}
-
-// 01: "Everything that needs no next token is done before a stop."
-fn go_on(
-    registers: &mut [i64],
-    places: &mut [u32],
-    program: &[u32],
-    run: Run,
-    look: u8,
-    value: i64,
-) -> Ended
-    requires { ⌜ Facing (now program) (now registers) (now places) run look value × (look < 64) ⌝ }
-    ensures { λ r. ⌜ Advances (now (program .entry)) look value (now (registers .entry)) (now (places .entry)) run (now (registers .exit)) (now (places .exit)) r ⌝ }
-{
-    let u = look as usize;
-    let mut state = run;
-    loop {
-        let operation = moves::word_at(program, state.at) % 8;
-        if stops(operation, u, run.tokens, state.tokens) {
-            return Ended::Stopped(state);
-        }
-        if operation == NOTHING {
-            return Ended::Failed(state, moves::unexpected(u));
-        }
-        if state.moves == MOVES_LIMIT {
-            return Ended::Failed(state, 35);
-        }
-        match one(registers, places, program, state, u, value) {
-            Step::Moved(next) => {
-                state = next;
-            }
-            Step::Blocked(k) => {
-                return Ended::Failed(state, k);
-            }
-        }
-    }
-}
-
-// ---- one look after the other
 
 // A token's value, or the mark where its terminal carries none.
 fn carried(program: &[u32], kind: usize, value: i32) -> i64
@@ -130,67 +62,187 @@ fn carried(program: &[u32], kind: usize, value: i32) -> i64
     value::MARK
 }
 
-// The moves for what comes next, unless more than `most` tokens were read before it, or it is not below `bound`. 01: "35 a token after 65,535", "20 token not below T, judged before its moves".
-fn take(
+// The read of the token at `i`.
+fn read_next(
     registers: &mut [i64],
     places: &mut [u32],
     program: &[u32],
     run: Run,
-    look: u8,
-    value: i32,
+    kinds: &[u8],
+    values: &[i32],
+    i: usize,
     bound: usize,
     most: u64,
-) -> Ended
-    requires { ⌜ Running (now program) (now registers) (now places) run × (bound ≤ 64) ⌝ }
-    ensures { λ r. ⌜ Takes bound most (now (program .entry)) look value (now (registers .entry)) (now (places .entry)) run (now (registers .exit)) (now (places .exit)) r ⌝ }
+) -> Step
+    requires { ⌜ Fed bound (now program) (now registers) (now places) run (now kinds) (now values) × (getD (now program) (run .at) 0 % 8 ≡ 2) × (run .moves < Machine.movesLimit) ⌝ }
+    ensures { λ r. ⌜ Turned bound most (now (program .entry)) (now (kinds .entry)) (now (values .entry)) i (now (registers .entry)) (now (places .entry)) run (now (registers .exit)) (now (places .exit)) r ⌝ }
 {
-    if most < run.tokens {
-        return Ended::Failed(run, 35);
+    let k = judged(run.tokens, kinds, i, bound, most);
+    if k != TAKEN {
+        return Step::Blocked(k);
     }
-    if bound <= look as usize {
-        return Ended::Failed(run, 20);
-    }
-    let held = carried(program, look as usize, value);
-    go_on(registers, places, program, run, look, held)
+    let look = kinds[i] as usize;
+    let held = carried(program, look, values[i]);
+    moves::read(registers, places, program, run, look, held)
 }
 
-// The same for each of a list. The end of the segment goes this way too, so that the moves are compiled into this loop alone and the run stays in the processor's registers.
+// The predict for it.
+fn predict_next(
+    registers: &[i64],
+    places: &mut [u32],
+    program: &[u32],
+    run: Run,
+    kinds: &[u8],
+    i: usize,
+    bound: usize,
+    most: u64,
+) -> Step
+    requires { ⌜ ((vs : List ℤ) × Fed bound (now program) (now registers) (now places) run (now kinds) vs) × (getD (now program) (run .at) 0 % 8 ≡ 3) × (run .moves < Machine.movesLimit) ⌝ }
+    ensures { λ r. ⌜ ((vs : List ℤ) → length (now (kinds .entry)) ≡ length vs → Turned bound most (now (program .entry)) (now (kinds .entry)) vs i (now (registers .entry)) (now (places .entry)) run (now (registers .entry)) (now (places .exit)) r) ⌝ }
+{
+    let k = judged(run.tokens, kinds, i, bound, most);
+    if k != TAKEN {
+        return Step::Blocked(k);
+    }
+    predict::predict(registers, places, program, run, kinds[i] as usize)
+}
+
+// Where nothing is left: only the end may come.
+fn nothing_next(run: Run, kinds: &[u8], i: usize, bound: usize, most: u64) -> Step
+    ensures { λ r. ⌜ ((ws : List ℕ) (m : List ℤ) (ps : List ℕ) (vs : List ℤ) → Fed bound ws m ps run (now (kinds .entry)) vs → getD ws (run .at) 0 % 8 ≡ 6 → Turned bound most ws (now (kinds .entry)) vs i m ps run m ps r) ⌝ }
+{
+    let k = judged(run.tokens, kinds, i, bound, most);
+    if k != TAKEN {
+        return Step::Blocked(k);
+    }
+    if kinds[i] as usize == END {
+        return Step::Blocked(0);
+    }
+    Step::Blocked(21)
+}
+
+// Whether an operation looks at what comes next.
+fn looks(operation: usize) -> bool
+    ensures { λ r. ⌜ r ≡ Advancing.looks operation ⌝ }
+{
+    if operation == 2 {
+        return true;
+    }
+    if operation == 3 {
+        return true;
+    }
+    operation == NOTHING
+}
+
+// No move is left to be made. What comes next is judged before.
+fn at_limit(operation: usize, run: Run, kinds: &[u8], i: usize, bound: usize, most: u64) -> Step
+    ensures { λ r. ⌜ ((ws : List ℕ) (m : List ℤ) (ps : List ℕ) (vs : List ℤ) → Fed bound ws m ps run (now (kinds .entry)) vs → getD ws (run .at) 0 % 8 ≡ operation → run .moves ≡ Machine.movesLimit → Turned bound most ws (now (kinds .entry)) vs i m ps run m ps r) ⌝ }
+{
+    if operation == NOTHING {
+        return nothing_next(run, kinds, i, bound, most);
+    }
+    if looks(operation) {
+        let k = judged(run.tokens, kinds, i, bound, most);
+        if k != TAKEN {
+            return Step::Blocked(k);
+        }
+        return Step::Blocked(35);
+    }
+    Step::Blocked(35)
+}
+
+// ---- one after the other
+
+// The move at hand, where the tokens before `i` are read; 0 where it stops for want of what comes next.
+fn turn(
+    registers: &mut [i64],
+    places: &mut [u32],
+    program: &[u32],
+    run: Run,
+    kinds: &[u8],
+    values: &[i32],
+    i: usize,
+    bound: usize,
+    most: u64,
+) -> Step
+    requires { ⌜ Fed bound (now program) (now registers) (now places) run (now kinds) (now values) ⌝ }
+    ensures { λ r. ⌜ Turned bound most (now (program .entry)) (now (kinds .entry)) (now (values .entry)) i (now (registers .entry)) (now (places .entry)) run (now (registers .exit)) (now (places .exit)) r ⌝ }
+{
+    let operation = moves::word_at(program, run.at) % 8;
+    if run.moves == MOVES_LIMIT {
+        return at_limit(operation, run, kinds, i, bound, most);
+    }
+    match operation {
+        0 => moves::add(registers, program, run),
+        1 => moves::evaluate(registers, program, run),
+        2 => read_next(
+            registers,
+            places,
+            program,
+            run,
+            kinds,
+            values,
+            i,
+            bound,
+            most,
+        ),
+        3 => predict_next(registers, places, program, run, kinds, i, bound, most),
+        4 => moves::test(registers, places, program, run),
+        5 => moves::remove(registers, places, program, run),
+        _ => nothing_next(run, kinds, i, bound, most),
+    }
+}
+
+// A stop for the number 0, otherwise the refusal.
+fn ending(run: Run, k: u32) -> Ended
+    ensures { λ r. ⌜ r ≡ endedBy run k ⌝ }
+{
+    if k == 0 {
+        return Ended::Stopped(run);
+    }
+    Ended::Failed(run, k)
+}
+
+// The moves for all that comes, in one loop, so that the run stays in the processor's registers: as many tokens are read as the run counts more than before. The end of the segment goes this way too, and comes alone.
 fn take_all(
     registers: &mut [i64],
     places: &mut [u32],
     program: &[u32],
     run: Run,
-    looks: &[u8],
+    kinds: &[u8],
     values: &[i32],
     bound: usize,
     most: u64,
 ) -> Ended
-    requires { ⌜ Running (now program) (now registers) (now places) run × (bound ≤ 64) × (length (now looks) ≡ length (now values)) ⌝ }
-    ensures { λ r. ⌜ TakesAll bound most (now (program .entry)) (now (looks .entry)) (now (values .entry)) (now (registers .entry)) (now (places .entry)) run (now (registers .exit)) (now (places .exit)) r ⌝ }
+    requires { ⌜ Fed bound (now program) (now registers) (now places) run (now kinds) (now values) ⌝ }
+    ensures { λ r. ⌜ TakesAll bound most (now (program .entry)) (now (kinds .entry)) (now (values .entry)) (now (registers .entry)) (now (places .entry)) run (now (registers .exit)) (now (places .exit)) r ⌝ }
 {
+    let k = judged(run.tokens, kinds, 0, bound, most);
+    if k != TAKEN {
+        return ending(run, k);
+    }
     let mut state = run;
-    let mut i = 0;
-    while i < looks.len() {
-        match take(
+    loop {
+        let i = (state.tokens - run.tokens) as usize;
+        match turn(
             registers,
             places,
             program,
             state,
-            looks[i],
-            values[i],
+            kinds,
+            values,
+            i,
             bound,
             most,
         ) {
-            Ended::Stopped(next) => {
+            Step::Moved(next) => {
                 state = next;
             }
-            Ended::Failed(last, k) => {
-                return Ended::Failed(last, k);
+            Step::Blocked(n) => {
+                return ending(state, n);
             }
         }
-        i += 1;
     }
-    Ended::Stopped(state)
 }
 
 // Tokens that are fed.
