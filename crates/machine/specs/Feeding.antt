@@ -1,16 +1,16 @@
 -- What comes next, one after the other: tokens that are fed, or the end; as memory and the program's words hold the configuration.
 use Prim.Native.Nat.{ℕ, zero, suc, _+_, _-_, _/_, _%_, _^_, _≤_, _<_}
 use native.Mathlib.Omega.{arith}
-use mathlib.Core.Path.{_≡_, refl, sym, ap, ap₂, _∙_, subst}
+use mathlib.Core.Path.{_≡_, refl, sym, ap, _∙_, subst}
 use mathlib.Core.Bool.{Bool, true, false, not}
 use mathlib.Core.List.{List, [], _∷_}
-use lib.ListN.{length, getD, drop, drop-of-length-le}
+use lib.ListN.{length, getD, drop}
 use lib.Dec.{T, eqb, eqb→eq, ltb, le→leb}
 use lib.IntN.{ℤ, pos, negsuc}
 use lib.Signed.{leZ}
 use mir.Syntax.{w32}
 use mir.Val.{SFits}
-use borrow.Author.Tests.{lt-ltb, le-ltb, ltb-true, eq-eqb, ne-eqb}
+use borrow.Author.Tests.{le-ltb, ltb-true, eq-eqb, ne-eqb}
 use Rattle.meaning.specs.Base.{any}
 use Rattle.meaning.specs.Grammar.{Grammar, Token, carried, leafOf, leaves}
 use Rattle.meaning.specs.Rules.{fourBytes, WellFormed}

@@ -4,16 +4,15 @@ use native.Mathlib.Omega.{arith}
 use mathlib.Core.Path.{_≡_, refl, sym, ap, ap₂, _∙_, subst, subst₂}
 use mathlib.Core.Logic.{_⊎_, inl, inr}
 use mathlib.Core.Bool.{Bool, true, false, _&&_}
-use mathlib.Core.List.{List, [], _∷_}
+use mathlib.Core.List.{List}
 use lib.ListN.{length, getD, drop, drop-of-length-le}
 use lib.Dec.{T, eqb, ltb, leb}
 use lib.IntN.{ℤ, pos}
 use borrow.Author.Tests.{lt-ltb, le-ltb, le-leb, lt-leb, ltb-true, ltb-false, leb-true, leb-false, eq-eqb, ne-eqb}
-use Rattle.meaning.specs.Grammar.{Grammar, Token, Leaf, nonterminal, leafOf}
+use Rattle.meaning.specs.Grammar.{Grammar, Leaf}
 use Rattle.meaning.specs.Rules.{fourBytes}
-use Rattle.meaning.specs.Scheme.{expect}
 use Rattle.meaning.specs.Calls.{tokensFrom}
-use Rattle.meaning.specs.Machine.{Config, Lent, Coming, comes, ends, asLook, Outcome, moved, blocked, counted, next, nextOf, predict, waits, isDone, isFinished, Settled, stopped, failed, advance, advanceFrom, movesLimit, unexpected}
+use Rattle.meaning.specs.Machine.{Config, Lent, Coming, comes, ends, asLook, moved, blocked, counted, next, nextOf, predict, waits, isDone, isFinished, Settled, stopped, failed, advance, advanceFrom, movesLimit, unexpected}
 use Rattle.theory_base.specs.Steps.{advance-stopped, advance-failed, advance-moved}
 use Rattle.theory_answers.specs.Bounds.{Counts, counts, look-free, no-read, Blocks, atLimit, notExpected, conditionFalse, outOfRange, noRegister, noPlace, blocks}
 use Rattle.theory_answers.specs.ShapeMoves.{IsAhead}
@@ -25,7 +24,7 @@ use Rattle.machine.specs.declared.Ended.the-variants.{Stopped, Failed}
 use Rattle.moves.specs.Held.{Held, Made, Answers, hand-nonterminal}
 use Rattle.moves.specs.Passing.{lookIf, lookOf, comingOf}
 use Rattle.machine.specs.Advancing.{Settles, Running, looks, waits-is, finished-is, blocked-over}
-use Rattle.machine.specs.Feeding.{comesIf, comesTo, valueAt, comes-is, comes-ahead, chosen, goingOn, takeLook, takeLooks, TakesAll, tokens-few, tokens-turn}
+use Rattle.machine.specs.Feeding.{comesIf, comesTo, valueAt, comes-is, comes-ahead, chosen, goingOn, takeLooks, TakesAll, tokens-few, tokens-turn}
 
 -- number 0 is a stop, any other a refusal
 abbrev pub endedBy : Run → ℕ → Ended.Ended
@@ -187,6 +186,10 @@ Goes bound most ws us vs i run g lent o m ps (Blocked k) = Settles g ws lent o m
 abbrev pub Turned : ℕ → ℕ → List ℕ → List ℕ → List ℤ → ℕ → List ℤ → List ℕ → Run → List ℤ → List ℕ → Step → Type 0
 Turned bound most ws us vs i m ps run m′ ps′ s = (g : Grammar) (lent : Lent) (d : Config) (o : Settled) → Held g ws lent m ps run d → Left bound most us vs g lent i d o → Goes bound most ws us vs i run g lent o m′ ps′ s
 
+-- the same whatever memory there is, which stays as it is, where the operation at hand has number k
+abbrev pub Stays : ℕ → ℕ → List ℕ → ℕ → Run → ℕ → Step → Type 0
+Stays bound most us i run k s = (ws : List ℕ) (m : List ℤ) (ps : List ℕ) (vs : List ℤ) → Fed bound ws m ps run us vs → getD ws (run .at) 0 % 8 ≡ k → Turned bound most ws us vs i m ps run m ps s
+
 -- no move is refused by 0
 refuses : {l : Coming} {c : Config} {k : ℕ} → Blocks l c k → k ≡ 0 → ⊥
 refuses (atLimit l) e = omega (arith, e)
@@ -253,7 +256,8 @@ module _ (bound most : ℕ) (ws us : List ℕ) (vs m : List ℤ) (ps : List ℕ)
     judged-at : (d : Config) → run .tokens ≡ d .tokens → 1 ≡ judgedOf bound most us i (d .tokens)
     judged-at d e = j ∙ ap (judgedOf bound most us i) e
 
-    pub turned-look : (m′ : List ℤ) (ps′ : List ℕ) (s : Step) → looks operation ≡ true → (operation ≡ 6 → ⊥) → ((g : Grammar) (lent : Lent) (d : Config) → Held g ws lent m ps run d → Made g ws lent (next g lent (comesTo g (getD us i 0) (getD vs i (pos 0))) d) m ps m′ ps′ s) → Turned bound most ws us vs i m ps run m′ ps′ s
+    pub turned-look : (m′ : List ℤ) (ps′ : List ℕ) (s : Step) → looks operation ≡ true → (operation ≡ 6 → ⊥)
+        → ((g : Grammar) (lent : Lent) (d : Config) → Held g ws lent m ps run d → Made g ws lent (next g lent (comesTo g (getD us i 0) (getD vs i (pos 0))) d) m ps m′ ps′ s) → Turned bound most ws us vs i m ps run m′ ps′ s
     turned-look m′ ps′ s w z a g lent d o h left = go s (a g lent d h)
       where
         look : Coming
@@ -314,7 +318,8 @@ module _ (bound most : ℕ) (ws us : List ℕ) (vs m : List ℤ) (ps : List ℕ)
     pub turned-over : operation ≡ 6 → getD us i 0 ≡ 63 → length us ≤ suc i → Turned bound most ws us vs i m ps run m ps (Blocked 0)
     turned-over e z l g lent d o h left =
         let w : waits (d .frames) ≡ true = sym (waits-is h) ∙ ap looks e in
-        let n : waits (d .frames) && isDone (comesTo g (getD us i 0) (getD vs i (pos 0))) (d .tokens) d ≡ true = ap (λ b. waits (d .frames) && isDone (comesIf b g (getD us i 0) (getD vs i (pos 0))) (d .tokens) d) (eq-eqb (getD us i 0) 63 z) ∙ ap₂ _&&_ w (sym (finished-is h) ∙ eq-eqb operation 6 e) in
+        let v = getD vs i (pos 0) in
+        let n : waits (d .frames) && isDone (comesTo g (getD us i 0) v) (d .tokens) d ≡ true = ap (λ b. waits (d .frames) && isDone (comesIf b g (getD us i 0) v) (d .tokens) d) (eq-eqb (getD us i 0) 63 z) ∙ ap₂ _&&_ w (sym (finished-is h) ∙ eq-eqb operation 6 e) in
         (d, look-over bound most us vs even g lent i d o w left (judged-at d (h .tokens)) n l, h)
 
 -- ---- the loop

@@ -1,5 +1,5 @@
 // The moves of 01 on lent stacks, by the program's words, and the loop that makes them.
-ghost use Prim.Native.Nat.{ℕ, _%_, _<_};
+ghost use Prim.Native.Nat.{_-_, _%_, _≤_, _<_};
 ghost use mathlib.Core.Path.{_≡_};
 ghost use mathlib.Core.List.{List};
 ghost use lib.IntN.{ℤ};
@@ -8,7 +8,7 @@ ghost use Rattle.meaning.specs.Machine as Machine;
 ghost use Rattle.machine.specs.Advancing as Advancing;
 ghost use Rattle.machine.specs.Advancing.{Running};
 ghost use Rattle.machine.specs.Feeding.{valueAt, TakesAll, Feeds, Finishes};
-ghost use Rattle.machine.specs.Turns.{endedBy, judgedOf, Fed, Turned};
+ghost use Rattle.machine.specs.Turns.{endedBy, judgedOf, Fed, Turned, Stays};
 use moves::Run;
 use moves::Step;
 
@@ -33,19 +33,28 @@ pub enum Ended {
     Failed(Run, u32),
 }
 
+// What is taken of a list: the tokens read before it, the bound of its kinds, and the most tokens that may be read before one.
+struct Limits {
+    from: u64,
+    bound: usize,
+    most: u64,
+}
+
 // ---- a move that looks at what comes next
 
 // Whether what comes next is taken: 0 where nothing does, and the machine stops; otherwise the number that refuses it before its moves. 01: "35 a token after 65,535", "20 token not below T, judged before its moves".
-fn judged(tokens: u64, kinds: &[u8], i: usize, bound: usize, most: u64) -> u32
-    ensures { λ r. ⌜ r ≡ judgedOf bound most (now (kinds .entry)) i tokens ⌝ }
+fn judged(tokens: u64, kinds: &[u8], limits: Limits) -> u32
+    requires { ⌜ limits .from ≤ tokens ⌝ }
+    ensures { λ r. ⌜ r ≡ judgedOf (limits .bound) (limits .most) (now (kinds .entry)) (tokens - limits .from) tokens ⌝ }
 {
+    let i = (tokens - limits.from) as usize;
     if kinds.len() <= i {
         return 0;
     }
-    if most < tokens {
+    if limits.most < tokens {
         return 35;
     }
-    if bound <= kinds[i] as usize {
+    if limits.bound <= kinds[i] as usize {
         return 20;
     }
     TAKEN
@@ -62,7 +71,7 @@ fn carried(program: &[u32], kind: usize, value: i32) -> i64
     value::MARK
 }
 
-// The read of the token at `i`.
+// The read of the token at hand.
 fn read_next(
     registers: &mut [i64],
     places: &mut [u32],
@@ -70,17 +79,16 @@ fn read_next(
     run: Run,
     kinds: &[u8],
     values: &[i32],
-    i: usize,
-    bound: usize,
-    most: u64,
+    limits: Limits,
 ) -> Step
-    requires { ⌜ Fed bound (now program) (now registers) (now places) run (now kinds) (now values) × (getD (now program) (run .at) 0 % 8 ≡ 2) × (run .moves < Machine.movesLimit) ⌝ }
-    ensures { λ r. ⌜ Turned bound most (now (program .entry)) (now (kinds .entry)) (now (values .entry)) i (now (registers .entry)) (now (places .entry)) run (now (registers .exit)) (now (places .exit)) r ⌝ }
+    requires { ⌜ Fed (limits .bound) (now program) (now registers) (now places) run (now kinds) (now values) × (getD (now program) (run .at) 0 % 8 ≡ 2) × (run .moves < Machine.movesLimit) × (limits .from ≤ run .tokens) ⌝ }
+    ensures { λ r. ⌜ Turned (limits .bound) (limits .most) (now (program .entry)) (now (kinds .entry)) (now (values .entry)) (run .tokens - limits .from) (now (registers .entry)) (now (places .entry)) run (now (registers .exit)) (now (places .exit)) r ⌝ }
 {
-    let k = judged(run.tokens, kinds, i, bound, most);
+    let k = judged(run.tokens, kinds, limits);
     if k != TAKEN {
         return Step::Blocked(k);
     }
+    let i = (run.tokens - limits.from) as usize;
     let look = kinds[i] as usize;
     let held = carried(program, look, values[i]);
     moves::read(registers, places, program, run, look, held)
@@ -93,28 +101,29 @@ fn predict_next(
     program: &[u32],
     run: Run,
     kinds: &[u8],
-    i: usize,
-    bound: usize,
-    most: u64,
+    limits: Limits,
 ) -> Step
-    requires { ⌜ ((vs : List ℤ) × Fed bound (now program) (now registers) (now places) run (now kinds) vs) × (getD (now program) (run .at) 0 % 8 ≡ 3) × (run .moves < Machine.movesLimit) ⌝ }
-    ensures { λ r. ⌜ ((vs : List ℤ) → length (now (kinds .entry)) ≡ length vs → Turned bound most (now (program .entry)) (now (kinds .entry)) vs i (now (registers .entry)) (now (places .entry)) run (now (registers .entry)) (now (places .exit)) r) ⌝ }
+    requires { ⌜ ((vs : List ℤ) × Fed (limits .bound) (now program) (now registers) (now places) run (now kinds) vs) × (getD (now program) (run .at) 0 % 8 ≡ 3) × (run .moves < Machine.movesLimit) × (limits .from ≤ run .tokens) ⌝ }
+    ensures { λ r. ⌜ ((vs : List ℤ) → length (now (kinds .entry)) ≡ length vs → Turned (limits .bound) (limits .most) (now (program .entry)) (now (kinds .entry)) vs (run .tokens - limits .from) (now (registers .entry)) (now (places .entry)) run (now (registers .entry)) (now (places .exit)) r) ⌝ }
 {
-    let k = judged(run.tokens, kinds, i, bound, most);
+    let k = judged(run.tokens, kinds, limits);
     if k != TAKEN {
         return Step::Blocked(k);
     }
+    let i = (run.tokens - limits.from) as usize;
     predict::predict(registers, places, program, run, kinds[i] as usize)
 }
 
 // Where nothing is left: only the end may come.
-fn nothing_next(run: Run, kinds: &[u8], i: usize, bound: usize, most: u64) -> Step
-    ensures { λ r. ⌜ ((ws : List ℕ) (m : List ℤ) (ps : List ℕ) (vs : List ℤ) → Fed bound ws m ps run (now (kinds .entry)) vs → getD ws (run .at) 0 % 8 ≡ 6 → Turned bound most ws (now (kinds .entry)) vs i m ps run m ps r) ⌝ }
+fn nothing_next(run: Run, kinds: &[u8], limits: Limits) -> Step
+    requires { ⌜ limits .from ≤ run .tokens ⌝ }
+    ensures { λ r. ⌜ Stays (limits .bound) (limits .most) (now (kinds .entry)) (run .tokens - limits .from) run 6 r ⌝ }
 {
-    let k = judged(run.tokens, kinds, i, bound, most);
+    let k = judged(run.tokens, kinds, limits);
     if k != TAKEN {
         return Step::Blocked(k);
     }
+    let i = (run.tokens - limits.from) as usize;
     if kinds[i] as usize == END {
         return Step::Blocked(0);
     }
@@ -135,14 +144,15 @@ fn looks(operation: usize) -> bool
 }
 
 // No move is left to be made. What comes next is judged before.
-fn at_limit(operation: usize, run: Run, kinds: &[u8], i: usize, bound: usize, most: u64) -> Step
-    ensures { λ r. ⌜ ((ws : List ℕ) (m : List ℤ) (ps : List ℕ) (vs : List ℤ) → Fed bound ws m ps run (now (kinds .entry)) vs → getD ws (run .at) 0 % 8 ≡ operation → run .moves ≡ Machine.movesLimit → Turned bound most ws (now (kinds .entry)) vs i m ps run m ps r) ⌝ }
+fn at_limit(operation: usize, run: Run, kinds: &[u8], limits: Limits) -> Step
+    requires { ⌜ (limits .from ≤ run .tokens) × (run .moves ≡ Machine.movesLimit) ⌝ }
+    ensures { λ r. ⌜ Stays (limits .bound) (limits .most) (now (kinds .entry)) (run .tokens - limits .from) run operation r ⌝ }
 {
     if operation == NOTHING {
-        return nothing_next(run, kinds, i, bound, most);
+        return nothing_next(run, kinds, limits);
     }
     if looks(operation) {
-        let k = judged(run.tokens, kinds, i, bound, most);
+        let k = judged(run.tokens, kinds, limits);
         if k != TAKEN {
             return Step::Blocked(k);
         }
@@ -153,7 +163,7 @@ fn at_limit(operation: usize, run: Run, kinds: &[u8], i: usize, bound: usize, mo
 
 // ---- one after the other
 
-// The move at hand, where the tokens before `i` are read; 0 where it stops for want of what comes next.
+// The move at hand; 0 where it stops for want of what comes next.
 fn turn(
     registers: &mut [i64],
     places: &mut [u32],
@@ -161,35 +171,23 @@ fn turn(
     run: Run,
     kinds: &[u8],
     values: &[i32],
-    i: usize,
-    bound: usize,
-    most: u64,
+    limits: Limits,
 ) -> Step
-    requires { ⌜ Fed bound (now program) (now registers) (now places) run (now kinds) (now values) ⌝ }
-    ensures { λ r. ⌜ Turned bound most (now (program .entry)) (now (kinds .entry)) (now (values .entry)) i (now (registers .entry)) (now (places .entry)) run (now (registers .exit)) (now (places .exit)) r ⌝ }
+    requires { ⌜ Fed (limits .bound) (now program) (now registers) (now places) run (now kinds) (now values) × (limits .from ≤ run .tokens) ⌝ }
+    ensures { λ r. ⌜ Turned (limits .bound) (limits .most) (now (program .entry)) (now (kinds .entry)) (now (values .entry)) (run .tokens - limits .from) (now (registers .entry)) (now (places .entry)) run (now (registers .exit)) (now (places .exit)) r ⌝ }
 {
     let operation = moves::word_at(program, run.at) % 8;
     if run.moves == MOVES_LIMIT {
-        return at_limit(operation, run, kinds, i, bound, most);
+        return at_limit(operation, run, kinds, limits);
     }
     match operation {
         0 => moves::add(registers, program, run),
         1 => moves::evaluate(registers, program, run),
-        2 => read_next(
-            registers,
-            places,
-            program,
-            run,
-            kinds,
-            values,
-            i,
-            bound,
-            most,
-        ),
-        3 => predict_next(registers, places, program, run, kinds, i, bound, most),
+        2 => read_next(registers, places, program, run, kinds, values, limits),
+        3 => predict_next(registers, places, program, run, kinds, limits),
         4 => moves::test(registers, places, program, run),
         5 => moves::remove(registers, places, program, run),
-        _ => nothing_next(run, kinds, i, bound, most),
+        _ => nothing_next(run, kinds, limits),
     }
 }
 
@@ -217,24 +215,18 @@ fn take_all(
     requires { ⌜ Fed bound (now program) (now registers) (now places) run (now kinds) (now values) ⌝ }
     ensures { λ r. ⌜ TakesAll bound most (now (program .entry)) (now (kinds .entry)) (now (values .entry)) (now (registers .entry)) (now (places .entry)) run (now (registers .exit)) (now (places .exit)) r ⌝ }
 {
-    let k = judged(run.tokens, kinds, 0, bound, most);
+    let limits = Limits {
+        from: run.tokens,
+        bound,
+        most,
+    };
+    let k = judged(run.tokens, kinds, limits);
     if k != TAKEN {
         return ending(run, k);
     }
     let mut state = run;
     loop {
-        let i = (state.tokens - run.tokens) as usize;
-        match turn(
-            registers,
-            places,
-            program,
-            state,
-            kinds,
-            values,
-            i,
-            bound,
-            most,
-        ) {
+        match turn(registers, places, program, state, kinds, values, limits) {
             Step::Moved(next) => {
                 state = next;
             }

@@ -1,4 +1,4 @@
-use Prim.Native.Nat.{_<_}
+use Prim.Native.Nat.{ℕ, _-_, _≤_, _<_}
 use native.Mathlib.Omega.{arith}
 use mathlib.Core.Path.{_≡_, sym, ap, _∙_}
 use lib.ListN.{length, getD}
@@ -9,47 +9,59 @@ use Rattle.machine.specs.Turns.{judgedOf, taken-of, turned-judged, turne
 use Rattle.machine.proofs.predict_next.Statement.{statement}
 use Rattle.machine.proofs.predict_next.Tie as tie
 
--- the token is taken
-taken : (c : tie.Else1) → (let a = c .before .before .before .before .before .args in 1 ≡ judgedOf (a .bound) (a .most) (now (a .kinds)) (a .i) (a .run .tokens))
+-- the index of the token at hand
+abbrev index : tie.Start → ℕ
+index s = s .args .run .tokens - s .args .limits .from
+
+-- it is taken
+taken : (c : tie.Else1) → (let s = c .before .before .before .before .before in let a = s .args in 1 ≡ judgedOf (a .limits .bound) (a .limits .most) (now (a .kinds)) (index s) (a .run .tokens))
 taken c = sym (c .if1 .left) ∙ c .before .judged .ensures
 
-small : (c : tie.Else1) → (let a = c .before .before .before .before .before .args in getD (now (a .kinds)) (a .i) 0 < 64)
-small c =
+here : (c : tie.Else1) → (let s = c .before .before .before .before .before in let a = s .args in (index s < length (now (a .kinds))) × (a .run .tokens ≤ a .limits .most) × (getD (now (a .kinds)) (index s) 0 < a .limits .bound))
+here c =
     let s = c .before .before .before .before .before in
     let a = s .args in
-    omega (arith, taken-of (a .bound) (a .most) (now (a .kinds)) (a .i) (a .run .tokens) (taken c) .2, s .pre .0 .1 .few)
+    taken-of (a .limits .bound) (a .limits .most) (now (a .kinds)) (index s) (a .run .tokens) (taken c)
+
+small : (c : tie.Else1) → (let s = c .before .before .before .before .before in getD (now (s .args .kinds)) (index s) 0 < 64)
+small c = omega (arith, here c .2, c .before .before .before .before .before .pre .0 .1 .few)
 
 judged-requires : tie.Need-judged-requires
-judged-requires c κs = search needs
+judged-requires c κs = c .before .before .before .pre .3
 
 returns : tie.Need-returns
 returns c = λ vs even.
     let s = c .before .before .before .before .before in
     let a = s .args in
-    turned-judged (a .bound) (a .most) (now (a .program)) (now (a .kinds)) vs (now (a .registers)) (now (a .places)) (a .run) (a .i) even (c .before .judged .result) (ap looks (s .pre .1)) (c .before .judged .ensures) (c .if1 .taken)
+    let j = c .before .judged in
+    turned-judged (a .limits .bound) (a .limits .most) (now (a .program)) (now (a .kinds)) vs (now (a .registers)) (now (a .places)) (a .run) (index s) even (j .result) (ap looks (s .pre .1)) (j .ensures) (c .if1 .taken)
+
+sub-i : tie.Need-sub-i
+sub-i c = c .before .before .before .before .before .before .before .pre .3
 
 shared-slice-read-predict : tie.Need-shared-slice-read-predict
-shared-slice-read-predict c = let a = c .before .before .before .before .before .before .before .args in taken-of (a .bound) (a .most) (now (a .kinds)) (a .i) (a .run .tokens) (taken (c .before .before)) .0
+shared-slice-read-predict c = here (c .before .before .before .before) .0
 
 cast-predict : tie.Need-cast-predict
-cast-predict c = omega (arith, c .shared-slice-known3 .given (c .before .before .before .before .before .before .before .args .i) .fits)
+cast-predict c = omega (arith, c .shared-slice-known3 .given (index (c .before .before .before .before .before .before .before .before .before)) .fits)
 
 predict-requires : tie.Need-predict-requires
 predict-requires c κs =
-    let p = c .before .before .before .before .before .before .before .pre in
+    let p = c .before .before .before .before .before .before .before .before .before .pre in
     let r = p .0 .1 .running in
-    (record { grammar = r .grammar; lent = r .lent; config = r .config; held = r .held; limit = p .2; operation = p .1 }, small (c .before .before))
+    (record { grammar = r .grammar; lent = r .lent; config = r .config; held = r .held; limit = p .2; operation = p .1 }, small (c .before .before .before .before))
 
 same-length : tie.Need-same-length
 same-length c = search needs
 
 returns-2 : tie.Need-returns-2
 returns-2 c = λ vs even.
-    let k = c .before .before .before .before .before in
-    let s = k .before .before .before .before .before in
+    let t = c .before .before .before .before .before .before .before in
+    let s = t .before .before .before .before .before in
     let a = s .args in
     let r = c .before .before .predict in
-    turned-predict (a .bound) (a .most) (now (a .program)) (now (a .kinds)) vs (now (a .registers)) (now (a .places)) (a .run) (a .i) even (taken k) (now (a .registers)) (r .last .1 .0) (r .result) (s .pre .1) (small k) (r .ensures)
+    turned-predict (a .limits .bound) (a .limits .most) (now (a .program)) (now (a .kinds)) vs (now (a .registers)) (now (a .places)) (a .run) (index s) even (taken t)
+    (now (a .registers)) (r .last .1 .0) (r .result) (s .pre .1) (small t) (r .ensures)
 
 pub predict-next-spec : {M : Type 1} → statement M
 predict-next-spec =
@@ -57,6 +69,7 @@ predict-next-spec =
     (tie.spec
     judged-requires
     returns
+    sub-i
     shared-slice-read-predict
     cast-predict
     predict-requires
