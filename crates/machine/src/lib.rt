@@ -220,9 +220,9 @@ fn take_all(
         bound,
         most,
     };
-    let k = judged(run.tokens, kinds, limits);
-    if k != TAKEN {
-        return ending(run, k);
+    let first = judged(run.tokens, kinds, limits);
+    if first != TAKEN {
+        return ending(run, first);
     }
     let mut state = run;
     loop {
