@@ -1,16 +1,16 @@
 -- What comes next, one after the other: tokens that are fed, or the end; as memory and the program's words hold the configuration.
 use Prim.Native.Nat.{ℕ, zero, suc, _+_, _-_, _/_, _%_, _^_, _≤_, _<_}
 use native.Mathlib.Omega.{arith}
-use mathlib.Core.Path.{_≡_, refl, sym, ap, ap₂, _∙_, subst}
+use mathlib.Core.Path.{_≡_, refl, sym, ap, _∙_, subst}
 use mathlib.Core.Bool.{Bool, true, false, not}
 use mathlib.Core.List.{List, [], _∷_}
-use lib.ListN.{length, getD, drop, drop-of-length-le}
+use lib.ListN.{length, getD, drop}
 use lib.Dec.{T, eqb, eqb→eq, ltb, le→leb}
 use lib.IntN.{ℤ, pos, negsuc}
 use lib.Signed.{leZ}
 use mir.Syntax.{w32}
 use mir.Val.{SFits}
-use borrow.Author.Tests.{lt-ltb, le-ltb, ltb-true, eq-eqb, ne-eqb}
+use borrow.Author.Tests.{le-ltb, ltb-true, eq-eqb, ne-eqb}
 use Rattle.meaning.specs.Base.{any}
 use Rattle.meaning.specs.Grammar.{Grammar, Token, carried, leafOf, leaves}
 use Rattle.meaning.specs.Rules.{fourBytes, WellFormed}
@@ -26,15 +26,14 @@ use Rattle.theory_program.specs.Addresses.{Begins}
 use Rattle.theory_program.specs.Records.{segment-words, carrier-word}
 use Rattle.moves.specs.declared.Run.{Run}
 use Rattle.machine.specs.declared.Ended as Ended
-use Rattle.machine.specs.declared.Ended.the-variants.{Stopped, Failed}
 use Rattle.moves.specs.Held.{Held}
 use Rattle.moves.specs.Passing.{comingIf, comingOf}
-use Rattle.machine.specs.Advancing.{Settles, Running, Facing, Advances}
+use Rattle.machine.specs.Advancing.{Settles, Running}
 
 -- ---- what comes next, as a grammar sees it
 
 -- a token of kind u and value v; 63 is the end
-abbrev comesIf : Bool → Grammar → ℕ → ℤ → Coming
+abbrev pub comesIf : Bool → Grammar → ℕ → ℤ → Coming
 comesIf true g u v = ends
 comesIf false g u v = comes (leafOf g (record { kind = u; value = v }))
 
@@ -103,21 +102,15 @@ module _ {g : Grammar} {ws : List ℕ} (b : Begins g ws) (u : ℕ) (v : ℤ) (sm
       go true = tt
       go false = leaf-of g (record { kind = u; value = v }) four
 
--- what the code faces
-pub facing : {ws : List ℕ} {m : List ℤ} {ps : List ℕ} {run : Run} → Running ws m ps run → (u : ℕ) (v : ℤ) → u < 64 → T (fourBytes v) → Facing ws m ps run u (valueAt ws u v)
-facing r u v small four =
-    let b = r .held .begins in
-    record { running = r; ahead = subst (IsAhead (r .grammar)) (sym (comes-is b u v small four)) (comes-ahead b u v small four) }
-
 -- ---- with a limit on the tokens read before, and a bound on what comes next
 
-abbrev chosen : Grammar → Lent → ℕ → ℤ → Config → Bool → Bool → Settled
+abbrev pub chosen : Grammar → Lent → ℕ → ℤ → Config → Bool → Bool → Settled
 chosen g lent u v c a b = elim a [ true ↦ failed c 35 | false ↦ elim b [ true ↦ advanceFrom g lent (comesTo g u v) c | false ↦ failed c 20 ] ]
 
 abbrev pub takeLook : ℕ → ℕ → Grammar → Lent → ℕ → ℤ → Config → Settled
 takeLook bound most g lent u v c = chosen g lent u v c (ltb most (c .tokens)) (ltb u bound)
 
-abbrev goingOn : Settled → (Config → Settled) → Settled
+abbrev pub goingOn : Settled → (Config → Settled) → Settled
 goingOn (failed d k) f = failed d k
 goingOn (stopped d) f = f d
 
@@ -129,83 +122,25 @@ takeLooks bound most g lent (t ∷ ts) c = goingOn (takeLook bound most g lent (
 abbrev pub Answered : List ℕ → (Grammar → Lent → Config → Settled) → List ℤ → List ℕ → Run → List ℤ → List ℕ → Ended.Ended → Type 0
 Answered ws f m₀ ps₀ run₀ m ps e = (g : Grammar) (lent : Lent) (c : Config) → Held g ws lent m₀ ps₀ run₀ c → Settles g ws lent (f g lent c) m ps e
 
-abbrev pub Takes : ℕ → ℕ → List ℕ → ℕ → ℤ → List ℤ → List ℕ → Run → List ℤ → List ℕ → Ended.Ended → Type 0
-Takes bound most ws u v = Answered ws (λ g lent c. takeLook bound most g lent u v c)
-
 abbrev pub TakesAll : ℕ → ℕ → List ℕ → List ℕ → List ℤ → List ℤ → List ℕ → Run → List ℤ → List ℕ → Ended.Ended → Type 0
 TakesAll bound most ws us vs = Answered ws (λ g lent c. takeLooks bound most g lent (tokensFrom us vs) c)
 
 abbrev pub Feeds : List ℕ → List ℕ → List ℤ → List ℤ → List ℕ → Run → List ℤ → List ℕ → Ended.Ended → Type 0
 Feeds ws ks vs = Answered ws (λ g lent c. feedAll g lent (leaves g (tokensFrom ks vs)) c)
 
--- ---- one look
-
-module _ {ws : List ℕ} {m : List ℤ} {ps : List ℕ} {run : Run} (bound most u : ℕ) (v : ℤ) where
-  pub take-last : most < run .tokens → Takes bound most ws u v m ps run m ps (Failed run 35)
-  take-last l g lent c h = (c, ap (λ a. chosen g lent u v c a (ltb u bound)) (lt-ltb most (c .tokens) (omega (arith, h .tokens))), h)
-
-  pub take-unknown : run .tokens ≤ most → bound ≤ u → Takes bound most ws u v m ps run m ps (Failed run 20)
-  take-unknown l b g lent c h = (c, ap₂ (chosen g lent u v c) (le-ltb most (c .tokens) (omega (arith, h .tokens))) (le-ltb u bound b), h)
-
-  pub take-known : (m′ : List ℤ) (ps′ : List ℕ) (e : Ended.Ended) → run .tokens ≤ most → u < bound → u < 64 → T (fourBytes v) → Advances ws u (valueAt ws u v) m ps run m′ ps′ e → Takes bound most ws u v m ps run m′ ps′ e
-  take-known m′ ps′ e l b small four a g lent c h =
-      let same = comes-is (h .begins) u v small four in
-      let ok = subst (IsAhead g) (sym same) (comes-ahead (h .begins) u v small four) in
-      subst (λ o. Settles g ws lent o m′ ps′ e) (ap (λ x. advanceFrom g lent x c) same ∙ sym (ap₂ (chosen g lent u v c) (le-ltb most (c .tokens) (omega (arith, h .tokens))) (lt-ltb u bound b))) (a g lent c h ok)
-
 -- ---- a list of them
 
 -- kinds and values beside each other
-tokens-few : (us : List ℕ) (vs : List ℤ) → length (tokensFrom us vs) ≤ length us
+pub tokens-few : (us : List ℕ) (vs : List ℤ) → length (tokensFrom us vs) ≤ length us
 tokens-few [] vs = omega arith
 tokens-few (u ∷ us) [] = omega arith
 tokens-few (u ∷ us) (v ∷ vs) = omega (arith, tokens-few us vs)
 
-tokens-turn : (us : List ℕ) (vs : List ℤ) (i : ℕ) → length us ≡ length vs → i < length us → drop i (tokensFrom us vs) ≡ record { kind = getD us i 0; value = getD vs i (pos 0) } ∷ drop (suc i) (tokensFrom us vs)
+pub tokens-turn : (us : List ℕ) (vs : List ℤ) (i : ℕ) → length us ≡ length vs → i < length us → drop i (tokensFrom us vs) ≡ record { kind = getD us i 0; value = getD vs i (pos 0) } ∷ drop (suc i) (tokensFrom us vs)
 tokens-turn [] vs i e l = absurd (omega arith)
 tokens-turn (u ∷ us) [] i e l = absurd (omega arith)
 tokens-turn (u ∷ us) (v ∷ vs) zero e l = refl
 tokens-turn (u ∷ us) (v ∷ vs) (suc i) e l = tokens-turn us vs i (omega arith) (omega arith)
-
--- the first i are taken, and the rest are to come
-pub record TakenTo (bound most : ℕ) (ws us : List ℕ) (vs m₀ : List ℤ) (ps₀ : List ℕ) (run₀ : Run) (i : ℕ) (m : List ℤ) (ps : List ℕ) (run : Run) : Type 0 where
-  pub from : (g : Grammar) (lent : Lent) (c : Config) → Held g ws lent m₀ ps₀ run₀ c → (d : Config) × Held g ws lent m ps run d × (takeLooks bound most g lent (tokensFrom us vs) c ≡ takeLooks bound most g lent (drop i (tokensFrom us vs)) d)
-
-pub taken-start : (bound most : ℕ) (ws us : List ℕ) (vs m : List ℤ) (ps : List ℕ) (run : Run) → TakenTo bound most ws us vs m ps run 0 m ps run
-taken-start bound most ws us vs m ps run = record { from = λ g lent c h. (c, h, refl) }
-
-module _ {bound most : ℕ} {ws us : List ℕ} {vs m₀ : List ℤ} {ps₀ : List ℕ} {run₀ : Run} {i : ℕ} {m : List ℤ} {ps : List ℕ} {run : Run} (k : TakenTo bound most ws us vs m₀ ps₀ run₀ i m ps run) where
-  pub taken-held : Running ws m₀ ps₀ run₀ → Running ws m ps run
-  taken-held r = record { grammar = r .grammar; lent = r .lent; config = k .from (r .grammar) (r .lent) (r .config) (r .held) .0; held = k .from (r .grammar) (r .lent) (r .config) (r .held) .1 }
-
-  pub taken-all : length us ≤ i → TakesAll bound most ws us vs m₀ ps₀ run₀ m ps (Stopped run)
-  taken-all l g lent c h =
-      let q = k .from g lent c h in
-      (q .0, q .2 ∙ ap (λ ts. takeLooks bound most g lent ts (q .0)) (drop-of-length-le (tokensFrom us vs) {i = i} (omega (arith, tokens-few us vs))), q .1)
-
-  module _ (even : length us ≡ length vs) (l : i < length us) where
-    turn : (g : Grammar) (lent : Lent) (c : Config) (h : Held g ws lent m₀ ps₀ run₀ c) (o : Settled) → takeLook bound most g lent (getD us i 0) (getD vs i (pos 0)) (k .from g lent c h .0) ≡ o → takeLooks bound most g lent (tokensFrom us vs) c ≡ goingOn o (takeLooks bound most g lent (drop (i + 1) (tokensFrom us vs)))
-    turn g lent c h o e =
-        let s : suc i ≡ i + 1 = omega arith in
-        let q = k .from g lent c h in
-        q .2
-        ∙ (ap (λ ts. takeLooks bound most g lent ts (q .0)) (tokens-turn us vs i even l ∙ ap (λ j. record { kind = getD us i 0; value = getD vs i (pos 0) } ∷ drop j (tokensFrom us vs)) s)
-        ∙ ap (λ z. goingOn z (takeLooks bound most g lent (drop (i + 1) (tokensFrom us vs)))) e)
-
-    pub taken-fail : (m′ : List ℤ) (ps′ : List ℕ) (run′ : Run) (j : ℕ) → Takes bound most ws (getD us i 0) (getD vs i (pos 0)) m ps run m′ ps′ (Failed run′ j) → TakesAll bound most ws us vs m₀ ps₀ run₀ m′ ps′ (Failed run′ j)
-    taken-fail m′ ps′ run′ j a g lent c h =
-        let q = k .from g lent c h in
-        let s = a g lent (q .0) (q .1) in
-        (s .0, turn g lent c h (failed (s .0) j) (s .1), s .2)
-
-    pub taken-on : (m′ : List ℤ) (ps′ : List ℕ) (run′ : Run) → Takes bound most ws (getD us i 0) (getD vs i (pos 0)) m ps run m′ ps′ (Stopped run′) → TakenTo bound most ws us vs m₀ ps₀ run₀ (i + 1) m′ ps′ run′
-    taken-on m′ ps′ run′ a =
-        record {
-          from = λ g lent c h.
-              let q = k .from g lent c h in
-              let s = a g lent (q .0) (q .1) in
-              (s .0, s .2, turn g lent c h (stopped (s .0)) (s .1));
-        }
 
 -- ---- tokens, and one look alone
 
@@ -250,5 +185,5 @@ module _ {ws : List ℕ} {m : List ℤ} {ps : List ℕ} {run : Run} (m′ : List
   end-finished most v l a g lent c h = subst (λ o. Settles g ws lent o m′ ps′ e) (end-taken g lent most v c (omega (arith, h .tokens))) (a g lent c h)
 
 -- T is at most 63
-pub terminals-few : {ws : List ℕ} {m : List ℤ} {ps : List ℕ} {run : Run} → Running ws m ps run → getD ws 3 0 ≤ 64
+pub terminals-few : {ws : List ℕ} {m : List ℤ} {ps : List ℕ} {run : Run} → Running ws m ps run → getD ws 3 0 < 64
 terminals-few r = omega (arith, segment-words (r .held .begins) .terminals, r .held .wellFormed .terminals .1)

@@ -1,3 +1,4 @@
 pub mod Advancing
 pub mod Feeding
+pub mod Turns
 pub mod Rows

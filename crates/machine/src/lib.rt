@@ -1,13 +1,14 @@
 // The moves of 01 on lent stacks, by the program's words, and the loop that makes them.
-ghost use Prim.Native.Nat.{_%_, _≤_, _<_};
+ghost use Prim.Native.Nat.{_-_, _%_, _≤_, _<_};
 ghost use mathlib.Core.Path.{_≡_};
-ghost use mathlib.Core.Bool.{true};
+ghost use mathlib.Core.List.{List};
+ghost use lib.IntN.{ℤ};
 ghost use lib.ListN.{getD, length};
-ghost use Rattle.moves.specs.Held.{Ready, Answers};
-ghost use Rattle.moves.specs.Passing.{comingOf};
+ghost use Rattle.meaning.specs.Machine as Machine;
 ghost use Rattle.machine.specs.Advancing as Advancing;
-ghost use Rattle.machine.specs.Advancing.{Running, Facing, Advances, stopsAt};
-ghost use Rattle.machine.specs.Feeding.{valueAt, Takes, TakesAll, Feeds, Finishes};
+ghost use Rattle.machine.specs.Advancing.{Running};
+ghost use Rattle.machine.specs.Feeding.{valueAt, TakesAll, Feeds, Finishes};
+ghost use Rattle.machine.specs.Turns.{endedBy, judgedOf, Fed, Turned, Stays};
 use moves::Run;
 use moves::Step;
 
@@ -23,101 +24,41 @@ const TOKENS_BEFORE: u64 = 65534;
 // The operation's number in a word that says that nothing is left; the others are in docs/PROGRAM.md.
 const NOTHING: usize = 6;
 
+// The number of a token that is taken, which is no number of a refusal.
+const TAKEN: u32 = 1;
+
 // What moves lead to until one needs what comes next: a stop, or the number that refuses the move at hand.
 pub enum Ended {
     Stopped(Run),
     Failed(Run, u32),
 }
 
-// ---- one move
-
-// What the instruction at hand does.
-fn one(
-    registers: &mut [i64],
-    places: &mut [u32],
-    program: &[u32],
-    run: Run,
-    look: usize,
-    value: i64,
-) -> Step
-    requires { ⌜ Ready (now program) (now registers) (now places) run (getD (now program) (run .at) 0 % 8) × (getD (now program) (run .at) 0 % 8 ≤ 5) × (look < 64) ⌝ }
-    ensures { λ r. ⌜ Answers (now (program .entry)) (now (registers .entry)) (now (places .entry)) run (comingOf look value) (now (registers .exit)) (now (places .exit)) r ⌝ }
-{
-    match moves::word_at(program, run.at) % 8 {
-        0 => moves::add(registers, program, run),
-        1 => moves::evaluate(registers, program, run),
-        2 => moves::read(registers, places, program, run, look, value),
-        3 => predict::predict(registers, places, program, run, look),
-        4 => moves::test(registers, places, program, run),
-        _ => moves::remove(registers, places, program, run),
-    }
+// What is taken of a list: the tokens read before it, the bound of its kinds, and the most tokens that may be read before one.
+struct Limits {
+    from: u64,
+    bound: usize,
+    most: u64,
 }
 
-// ---- until a move needs what comes next
+// ---- a move that looks at what comes next
 
-// Whether an operation needs it.
-fn looks(operation: usize) -> bool
-    ensures { λ r. ⌜ r ≡ Advancing.looks operation ⌝ }
+// Whether what comes next is taken: 0 where nothing does, and the machine stops; otherwise the number that refuses it before its moves. 01: "35 a token after 65,535", "20 token not below T, judged before its moves".
+fn judged(tokens: u64, kinds: &[u8], limits: Limits) -> u32
+    requires { ⌜ limits .from ≤ tokens ⌝ }
+    ensures { λ r. ⌜ r ≡ judgedOf (limits .bound) (limits .most) (now (kinds .entry)) (tokens - limits .from) tokens ⌝ }
 {
-    if operation == 2 {
-        return true;
+    let i = (tokens - limits.from) as usize;
+    if kinds.len() <= i {
+        return 0;
     }
-    if operation == 3 {
-        return true;
+    if limits.most < tokens {
+        return 35;
     }
-    operation == NOTHING
+    if limits.bound <= kinds[i] as usize {
+        return 20;
+    }
+    TAKEN
 }
-
-// Whether the operation needs what comes next, and the token at hand is read, or at the end the start symbol is left.
-fn stops(operation: usize, look: usize, before: u64, tokens: u64) -> bool
-    ensures { λ r. ⌜ r ≡ stopsAt operation look before tokens ⌝ }
-{
-    if looks(operation) {
-        if look == END {
-            return operation == NOTHING;
-        }
-        return before < tokens;
-    }
-    false
-}
-
-// 01: "Everything that needs no next token is done before a stop."
-fn go_on(
-    registers: &mut [i64],
-    places: &mut [u32],
-    program: &[u32],
-    run: Run,
-    look: u8,
-    value: i64,
-) -> Ended
-    requires { ⌜ Facing (now program) (now registers) (now places) run look value × (look < 64) ⌝ }
-    ensures { λ r. ⌜ Advances (now (program .entry)) look value (now (registers .entry)) (now (places .entry)) run (now (registers .exit)) (now (places .exit)) r ⌝ }
-{
-    let u = look as usize;
-    let mut state = run;
-    loop {
-        let operation = moves::word_at(program, state.at) % 8;
-        if stops(operation, u, run.tokens, state.tokens) {
-            return Ended::Stopped(state);
-        }
-        if operation == NOTHING {
-            return Ended::Failed(state, moves::unexpected(u));
-        }
-        if state.moves == MOVES_LIMIT {
-            return Ended::Failed(state, 35);
-        }
-        match one(registers, places, program, state, u, value) {
-            Step::Moved(next) => {
-                state = next;
-            }
-            Step::Blocked(k) => {
-                return Ended::Failed(state, k);
-            }
-        }
-    }
-}
-
-// ---- one look after the other
 
 // A token's value, or the mark where its terminal carries none.
 fn carried(program: &[u32], kind: usize, value: i32) -> i64
@@ -130,67 +71,170 @@ fn carried(program: &[u32], kind: usize, value: i32) -> i64
     value::MARK
 }
 
-// The moves for what comes next, unless more than `most` tokens were read before it, or it is not below `bound`. 01: "35 a token after 65,535", "20 token not below T, judged before its moves".
-fn take(
+// The read of the token at hand.
+fn read_next(
     registers: &mut [i64],
     places: &mut [u32],
     program: &[u32],
     run: Run,
-    look: u8,
-    value: i32,
-    bound: usize,
-    most: u64,
-) -> Ended
-    requires { ⌜ Running (now program) (now registers) (now places) run × (bound ≤ 64) ⌝ }
-    ensures { λ r. ⌜ Takes bound most (now (program .entry)) look value (now (registers .entry)) (now (places .entry)) run (now (registers .exit)) (now (places .exit)) r ⌝ }
+    kinds: &[u8],
+    values: &[i32],
+    limits: Limits,
+) -> Step
+    requires { ⌜ Fed (limits .bound) (now program) (now registers) (now places) run (now kinds) (now values) × (getD (now program) (run .at) 0 % 8 ≡ 2) × (run .moves < Machine.movesLimit) × (limits .from ≤ run .tokens) ⌝ }
+    ensures { λ r. ⌜ Turned (limits .bound) (limits .most) (now (program .entry)) (now (kinds .entry)) (now (values .entry)) (run .tokens - limits .from) (now (registers .entry)) (now (places .entry)) run (now (registers .exit)) (now (places .exit)) r ⌝ }
 {
-    if most < run.tokens {
-        return Ended::Failed(run, 35);
+    let k = judged(run.tokens, kinds, limits);
+    if k != TAKEN {
+        return Step::Blocked(k);
     }
-    if bound <= look as usize {
-        return Ended::Failed(run, 20);
-    }
-    let held = carried(program, look as usize, value);
-    go_on(registers, places, program, run, look, held)
+    let i = (run.tokens - limits.from) as usize;
+    let look = kinds[i] as usize;
+    let held = carried(program, look, values[i]);
+    moves::read(registers, places, program, run, look, held)
 }
 
-// The same for each of a list. The end of the segment goes this way too, so that the moves are compiled into this loop alone and the run stays in the processor's registers.
+// The predict for it.
+fn predict_next(
+    registers: &[i64],
+    places: &mut [u32],
+    program: &[u32],
+    run: Run,
+    kinds: &[u8],
+    limits: Limits,
+) -> Step
+    requires { ⌜ ((vs : List ℤ) × Fed (limits .bound) (now program) (now registers) (now places) run (now kinds) vs) × (getD (now program) (run .at) 0 % 8 ≡ 3) × (run .moves < Machine.movesLimit) × (limits .from ≤ run .tokens) ⌝ }
+    ensures { λ r. ⌜ ((vs : List ℤ) → length (now (kinds .entry)) ≡ length vs → Turned (limits .bound) (limits .most) (now (program .entry)) (now (kinds .entry)) vs (run .tokens - limits .from) (now (registers .entry)) (now (places .entry)) run (now (registers .entry)) (now (places .exit)) r) ⌝ }
+{
+    let k = judged(run.tokens, kinds, limits);
+    if k != TAKEN {
+        return Step::Blocked(k);
+    }
+    let i = (run.tokens - limits.from) as usize;
+    predict::predict(registers, places, program, run, kinds[i] as usize)
+}
+
+// Where nothing is left: only the end may come.
+fn nothing_next(run: Run, kinds: &[u8], limits: Limits) -> Step
+    requires { ⌜ limits .from ≤ run .tokens ⌝ }
+    ensures { λ r. ⌜ Stays (limits .bound) (limits .most) (now (kinds .entry)) (run .tokens - limits .from) run 6 r ⌝ }
+{
+    let k = judged(run.tokens, kinds, limits);
+    if k != TAKEN {
+        return Step::Blocked(k);
+    }
+    let i = (run.tokens - limits.from) as usize;
+    if kinds[i] as usize == END {
+        return Step::Blocked(0);
+    }
+    Step::Blocked(21)
+}
+
+// Whether an operation looks at what comes next.
+fn looks(operation: usize) -> bool
+    ensures { λ r. ⌜ r ≡ Advancing.looks operation ⌝ }
+{
+    if operation == 2 {
+        return true;
+    }
+    if operation == 3 {
+        return true;
+    }
+    operation == NOTHING
+}
+
+// No move is left to be made. What comes next is judged before.
+fn at_limit(operation: usize, run: Run, kinds: &[u8], limits: Limits) -> Step
+    requires { ⌜ (limits .from ≤ run .tokens) × (run .moves ≡ Machine.movesLimit) ⌝ }
+    ensures { λ r. ⌜ Stays (limits .bound) (limits .most) (now (kinds .entry)) (run .tokens - limits .from) run operation r ⌝ }
+{
+    if operation == NOTHING {
+        return nothing_next(run, kinds, limits);
+    }
+    if looks(operation) {
+        let k = judged(run.tokens, kinds, limits);
+        if k != TAKEN {
+            return Step::Blocked(k);
+        }
+        return Step::Blocked(35);
+    }
+    Step::Blocked(35)
+}
+
+// ---- one after the other
+
+// The move at hand; 0 where it stops for want of what comes next.
+fn turn(
+    registers: &mut [i64],
+    places: &mut [u32],
+    program: &[u32],
+    run: Run,
+    kinds: &[u8],
+    values: &[i32],
+    limits: Limits,
+) -> Step
+    requires { ⌜ Fed (limits .bound) (now program) (now registers) (now places) run (now kinds) (now values) × (limits .from ≤ run .tokens) ⌝ }
+    ensures { λ r. ⌜ Turned (limits .bound) (limits .most) (now (program .entry)) (now (kinds .entry)) (now (values .entry)) (run .tokens - limits .from) (now (registers .entry)) (now (places .entry)) run (now (registers .exit)) (now (places .exit)) r ⌝ }
+{
+    let operation = moves::word_at(program, run.at) % 8;
+    if run.moves == MOVES_LIMIT {
+        return at_limit(operation, run, kinds, limits);
+    }
+    match operation {
+        0 => moves::add(registers, program, run),
+        1 => moves::evaluate(registers, program, run),
+        2 => read_next(registers, places, program, run, kinds, values, limits),
+        3 => predict_next(registers, places, program, run, kinds, limits),
+        4 => moves::test(registers, places, program, run),
+        5 => moves::remove(registers, places, program, run),
+        _ => nothing_next(run, kinds, limits),
+    }
+}
+
+// A stop for the number 0, otherwise the refusal.
+fn ending(run: Run, k: u32) -> Ended
+    ensures { λ r. ⌜ r ≡ endedBy run k ⌝ }
+{
+    if k == 0 {
+        return Ended::Stopped(run);
+    }
+    Ended::Failed(run, k)
+}
+
+// The moves for all that comes, in one loop, so that the run stays in the processor's registers: as many tokens are read as the run counts more than before. The end of the segment goes this way too, and comes alone.
 fn take_all(
     registers: &mut [i64],
     places: &mut [u32],
     program: &[u32],
     run: Run,
-    looks: &[u8],
+    kinds: &[u8],
     values: &[i32],
     bound: usize,
     most: u64,
 ) -> Ended
-    requires { ⌜ Running (now program) (now registers) (now places) run × (bound ≤ 64) × (length (now looks) ≡ length (now values)) ⌝ }
-    ensures { λ r. ⌜ TakesAll bound most (now (program .entry)) (now (looks .entry)) (now (values .entry)) (now (registers .entry)) (now (places .entry)) run (now (registers .exit)) (now (places .exit)) r ⌝ }
+    requires { ⌜ Fed bound (now program) (now registers) (now places) run (now kinds) (now values) ⌝ }
+    ensures { λ r. ⌜ TakesAll bound most (now (program .entry)) (now (kinds .entry)) (now (values .entry)) (now (registers .entry)) (now (places .entry)) run (now (registers .exit)) (now (places .exit)) r ⌝ }
 {
+    let limits = Limits {
+        from: run.tokens,
+        bound,
+        most,
+    };
+    let first = judged(run.tokens, kinds, limits);
+    if first != TAKEN {
+        return ending(run, first);
+    }
     let mut state = run;
-    let mut i = 0;
-    while i < looks.len() {
-        match take(
-            registers,
-            places,
-            program,
-            state,
-            looks[i],
-            values[i],
-            bound,
-            most,
-        ) {
-            Ended::Stopped(next) => {
+    loop {
+        match turn(registers, places, program, state, kinds, values, limits) {
+            Step::Moved(next) => {
                 state = next;
             }
-            Ended::Failed(last, k) => {
-                return Ended::Failed(last, k);
+            Step::Blocked(n) => {
+                return ending(state, n);
             }
         }
-        i += 1;
     }
-    Ended::Stopped(state)
 }
 
 // Tokens that are fed.

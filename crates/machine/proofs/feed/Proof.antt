@@ -11,7 +11,11 @@ word-at-requires : tie.Need-word-at-requires
 word-at-requires c κs = omega (arith, stands-within (segment-at (c .before .before .before .pre .0 .held .begins)))
 
 take-all-requires : tie.Need-take-all-requires
-take-all-requires c κs = let p = c .before .before .before .before .before .before .pre in (p .0, omega (arith, c .before .before .word-at .ensures .0, terminals-few (p .0)), p .1)
+take-all-requires c κs =
+    let p = c .before .before .before .before .before .before .pre in
+    let t = terminals-few (p .0) in
+    let b = c .before .before .word-at .ensures .0 in
+    record { running = p .0; few = omega (arith, b, t); even = p .1; alone = λ e. absurd (omega (arith, b, t, e)) }
 
 same-length : tie.Need-same-length
 same-length c = search needs

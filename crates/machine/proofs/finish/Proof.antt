@@ -1,4 +1,5 @@
 use native.Mathlib.Omega.{arith}
+use mathlib.Core.Path.{refl}
 use borrow.Author.Needs.{needs}
 use lib.IntN.{pos}
 use Rattle.moves.specs.Held.{bounds}
@@ -13,7 +14,7 @@ slice-aggregate-take-all-2 : tie.Need-slice-aggregate-take-all-2
 slice-aggregate-take-all-2 c = search needs
 
 take-all-requires : tie.Need-take-all-requires
-take-all-requires c κs = search needs
+take-all-requires c κs = record { running = c .before .before .before .before .before .before .pre; few = omega arith; even = refl; alone = λ e. omega arith }
 
 same-length : tie.Need-same-length
 same-length c = search needs
