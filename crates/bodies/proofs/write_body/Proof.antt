@@ -1,82 +1,103 @@
 use mathlib.Core.Path.{sym}
 use native.Mathlib.Omega.{arith}
-use borrow.Author.Needs.{needs}
 use Rattle.blocks.specs.Patch.{wrote-length}
 use Rattle.bodies.proofs.Bodies as B
+use native.Mathlib.Omega.{arith}
+use Rattle.blocks.specs.Patch.{wrote-length}
+use Rattle.bodies.proofs.Bodies as B
+use borrow.Author.Needs.{needs}
 use Rattle.bodies.proofs.write_body.Statement.{statement}
 use Rattle.bodies.proofs.write_body.Tie as tie
+use Rattle.bodies.proofs.write_body.Reads as reads
+use Rattle.bodies.proofs.write_body.Lts as lts
+use Rattle.blocks.proofs.write_items.Reads as write-items-reads
+use Rattle.bodies.proofs.find_levels.Reads as find-levels-reads
+use Rattle.bodies.proofs.number_at.Reads as number-at-reads
+use Rattle.bodies.proofs.write_end.Reads as write-end-reads
+use Rattle.bodies.proofs.write_expects.Reads as write-expects-reads
+use Rattle.bodies.proofs.write_symbols.Reads as write-symbols-reads
+use Rattle.value.proofs.byte_at.Reads as byte-at-reads
 
-count-items-requires : tie.Need-count-items-requires
-count-items-requires c κs = B.counted (c .before .before .before .before .before .before .pre)
-
+-- src/lib.rt:292:18
 find-levels-requires : tie.Need-find-levels-requires
 find-levels-requires c κs = c .before .before .before .before .before .before .before .pre .given
 
+-- src/lib.rt:293:16
 byte-at-requires : tie.Need-byte-at-requires
 byte-at-requires c κs = search needs
 
+-- src/lib.rt:293:16
 cast-size : tie.Need-cast-size
 cast-size c = search needs
 
+-- src/lib.rt:294:9
 number-at-requires : tie.Need-number-at-requires
 number-at-requires c κs = search needs
 
+-- src/lib.rt:295:18
 add-scheme : tie.Need-add-scheme
 add-scheme c = omega (arith, c .before .before .before .before .before .before .before .before .before .before .pre .room, c .before .byte-at .ensures .1)
 
+-- src/lib.rt:295:39
 cast-scheme : tie.Need-cast-scheme
 cast-scheme c = search needs
 
+-- src/lib.rt:295:35
 mul-scheme : tie.Need-mul-scheme
-mul-scheme c = omega (arith, B.numbers-small (c .before .before .before .before .before .before .before .before .before .before .pre) (c .before .before .before .count-items .result) (c .before .before .find-levels .result) (c .before .before .before .count-items .ensures .1) (c .before .before .find-levels .ensures .1) (c .before .byte-at .ensures .0) (c .number-at .ensures))
+mul-scheme c = let x = c .before .before .before .before .before .before .before .before .before .before .pre in omega (arith, B.numbers-small x (c .before .before .find-levels .result) (c .before .before .find-levels .ensures .1) (c .before .byte-at .ensures .0) (c .number-at .ensures))
 
+-- src/lib.rt:295:18
 add-scheme-2 : tie.Need-add-scheme-2
-add-scheme-2 c = omega (arith, B.numbers-small (c .before .before .before .before .before .before .before .before .before .before .pre) (c .before .before .before .count-items .result) (c .before .before .find-levels .result) (c .before .before .before .count-items .ensures .1) (c .before .before .find-levels .ensures .1) (c .before .byte-at .ensures .0) (c .number-at .ensures))
+add-scheme-2 c = let x = c .before .before .before .before .before .before .before .before .before .before .pre in omega (arith, B.numbers-small x (c .before .before .find-levels .result) (c .before .before .find-levels .ensures .1) (c .before .byte-at .ensures .0) (c .number-at .ensures))
 
+-- src/lib.rt:303:9
 slice-aggregate-write-expects : tie.Need-slice-aggregate-write-expects
 slice-aggregate-write-expects c = search needs
 
-slice-aggregate-write-expects-2 : tie.Need-slice-aggregate-write-expects-2
-slice-aggregate-write-expects-2 c = search needs
-
+-- src/lib.rt:296:9
 write-expects-requires : tie.Need-write-expects-requires
-write-expects-requires c κs = B.expects-fit (c .before .before .before .before .before .before .before .before .before .before .before .before .before .pre) (c .before .before .before .before .before .before .count-items .result) (c .before .before .before .before .before .find-levels .result) (c .before .before .before .before .before .before .count-items .ensures .1) (c .before .before .before .before .before .find-levels .ensures .1) (c .before .before .before .before .byte-at .ensures .0) (c .before .before .before .number-at .ensures)
+write-expects-requires c κs = let x = c .before .before .before .before .before .before .before .before .before .before .before .before .pre in B.expects-fit x (c .before .before .before .before .find-levels .result) (c .before .before .before .before .find-levels .ensures .1) (c .before .before .before .byte-at .ensures .0) (c .before .before .number-at .ensures)
 
-slice-aggregate-write-counted : tie.Need-slice-aggregate-write-counted
-slice-aggregate-write-counted c = search needs
+-- src/lib.rt:308:9
+number-at-requires-2 : tie.Need-number-at-requires-2
+number-at-requires-2 c κs = search needs
 
-write-counted-requires : tie.Need-write-counted-requires
-write-counted-requires c κs = (omega arith, omega arith, B.items-fit (c .before .before .before .before .before .before .before .before .before .before .before .before .before .before .before .before .before .before .pre) (c .before .before .before .before .before .before .before .before .before .before .before .count-items .result) (c .before .before .before .before .before .before .before .before .before .before .find-levels .result) (c .before .before .before .before .before .before .before .before .before .before .before .count-items .ensures .1) (c .before .before .before .before .before .before .before .before .before .before .find-levels .ensures .1) (c .before .before .before .before .before .before .before .before .before .byte-at .ensures .0) (c .before .before .before .before .before .before .before .before .number-at .ensures) (c .before .before .before .before .write-expects .ensures))
+-- src/lib.rt:316:9
+slice-aggregate-write-items : tie.Need-slice-aggregate-write-items
+slice-aggregate-write-items c = search needs
 
+-- src/lib.rt:309:9
+write-items-requires : tie.Need-write-items-requires
+write-items-requires c κs = let x = c .before .before .before .before .before .before .before .before .before .before .before .before .before .before .before .before .before .before .pre in (omega arith, B.items-fit x (c .before .before .before .before .before .before .before .before .before .before .find-levels .result) (c .before .before .before .before .before .before .before .before .before .before .find-levels .ensures .1) (c .before .before .before .before .before .before .before .before .before .byte-at .ensures .0) (c .before .before .before .before .before .before .before .before .number-at .ensures) (c .before .before .before .before .before .write-expects .ensures) (c .before .before .number-at2 .ensures))
+
+-- src/lib.rt:327:9
 slice-aggregate-write-symbols : tie.Need-slice-aggregate-write-symbols
 slice-aggregate-write-symbols c = search needs
 
-slice-aggregate-write-symbols-2 : tie.Need-slice-aggregate-write-symbols-2
-slice-aggregate-write-symbols-2 c = search needs
-
+-- src/lib.rt:320:9
 write-symbols-requires : tie.Need-write-symbols-requires
-write-symbols-requires c κs = B.symbols-fit (c .before .before .before .before .before .before .before .before .before .before .before .before .before .before .before .before .before .before .before .before .before .before .before .before .pre) (c .before .before .before .before .before .before .before .before .before .before .before .before .before .before .before .before .before .count-items .result) (c .before .before .before .before .before .before .before .before .before .before .before .before .before .before .before .before .find-levels .result) (c .before .before .before .before .before .before .before .before .before .before .before .before .before .before .before .before .before .count-items .ensures .1) (c .before .before .before .before .before .before .before .before .before .before .before .before .before .before .before .before .find-levels .ensures .1) (c .before .before .before .before .before .before .before .before .before .before .before .before .before .before .before .byte-at .ensures .0) (c .before .before .before .before .before .before .before .before .before .before .before .before .before .before .number-at .ensures) (c .before .before .before .before .before .before .before .before .before .before .write-expects .ensures) (c .before .before .before .before .before .write-counted .ensures)
+write-symbols-requires c κs = let x = c .before .before .before .before .before .before .before .before .before .before .before .before .before .before .before .before .before .before .before .before .before .before .before .pre in B.symbols-fit x (c .before .before .before .before .before .before .before .before .before .before .before .before .before .before .before .find-levels .result) (c .before .before .before .before .before .before .before .before .before .before .before .before .before .before .before .find-levels .ensures .1) (c .before .before .before .before .before .before .before .before .before .before .before .before .before .before .byte-at .ensures .0) (c .before .before .before .before .before .before .before .before .before .before .before .before .before .number-at .ensures) (c .before .before .before .before .before .before .before .before .before .before .write-expects .ensures) (c .before .before .before .before .before .before .before .number-at2 .ensures) (c .before .before .before .before .write-items .ensures)
 
+-- src/lib.rt:338:9
 slice-aggregate-write-end : tie.Need-slice-aggregate-write-end
-slice-aggregate-write-end c = sym (c .before .before .before .before .before .before .before .before .before .before .before .before .before .before .before .before .before .before .before .before .before .count-items .ensures .0)
+slice-aggregate-write-end c = sym (c .before .before .before .before .before .before .before .before .before .before .before .before .before .before .before .before .before .before .before .find-levels .ensures .0)
 
-slice-aggregate-write-end-2 : tie.Need-slice-aggregate-write-end-2
-slice-aggregate-write-end-2 c = sym (c .before .before .before .before .before .before .before .before .before .before .before .before .before .before .before .before .before .before .before .before .before .find-levels .ensures .0)
-
+-- src/lib.rt:331:5
 write-end-requires : tie.Need-write-end-requires
-write-end-requires c κs = B.end-fit (c .before .before .before .before .before .before .before .before .before .before .before .before .before .before .before .before .before .before .before .before .before .before .before .before .before .before .before .before .before .before .pre) (c .before .before .before .before .before .before .before .before .before .before .before .before .before .before .before .before .before .before .before .before .before .before .before .count-items .result) (c .before .before .before .before .before .before .before .before .before .before .before .before .before .before .before .before .before .before .before .before .before .before .find-levels .result) (c .before .before .before .before .before .before .before .before .before .before .before .before .before .before .before .before .before .before .before .before .before .before .before .count-items .ensures .1) (c .before .before .before .before .before .before .before .before .before .before .before .before .before .before .before .before .before .before .before .before .before .before .find-levels .ensures .1) (c .before .before .before .before .before .before .before .before .before .before .before .before .before .before .before .before .before .before .before .before .before .byte-at .ensures .0) (c .before .before .before .before .before .before .before .before .before .before .before .before .before .before .before .before .before .before .before .before .number-at .ensures) (c .before .before .before .before .before .before .before .before .before .before .before .before .before .before .before .before .write-expects .ensures) (c .before .before .before .before .before .before .before .before .before .before .before .write-counted .ensures) (c .before .before .before .before .before .write-symbols .ensures)
+write-end-requires c κs = let x = c .before .before .before .before .before .before .before .before .before .before .before .before .before .before .before .before .before .before .before .before .before .before .before .before .before .before .before .before .pre in B.end-fit x (c .before .before .before .before .before .before .before .before .before .before .before .before .before .before .before .before .before .before .before .before .find-levels .result) (c .before .before .before .before .before .before .before .before .before .before .before .before .before .before .before .before .before .before .before .before .find-levels .ensures .1) (c .before .before .before .before .before .before .before .before .before .before .before .before .before .before .before .before .before .before .before .byte-at .ensures .0) (c .before .before .before .before .before .before .before .before .before .before .before .before .before .before .before .before .before .before .number-at .ensures) (c .before .before .before .before .before .before .before .before .before .before .before .before .before .before .before .write-expects .ensures) (c .before .before .before .before .before .before .before .before .before .before .before .before .number-at2 .ensures) (c .before .before .before .before .before .before .before .before .before .write-items .ensures) (c .before .before .before .before .write-symbols .ensures)
 
+-- src/lib.rt:278:1
 same-length : tie.Need-same-length
-same-length c = wrote-length (B.body-written (c .before .before .before .before .before .before .before .before .before .before .before .before .before .before .before .before .before .before .before .before .before .before .before .before .before .before .before .before .before .before .before .before .before .pre) (c .before .before .before .before .before .before .before .before .before .before .before .before .before .before .before .before .before .before .before .before .before .before .before .before .before .before .count-items .result) (c .before .before .before .before .before .before .before .before .before .before .before .before .before .before .before .before .before .before .before .before .before .before .before .before .before .find-levels .result) (c .before .before .before .before .before .before .before .before .before .before .before .before .before .before .before .before .before .before .before .before .before .before .before .before .before .before .count-items .ensures .1) (c .before .before .before .before .before .before .before .before .before .before .before .before .before .before .before .before .before .before .before .before .before .before .before .before .before .find-levels .ensures .1) (c .before .before .before .before .before .before .before .before .before .before .before .before .before .before .before .before .before .before .before .before .before .before .before .before .byte-at .ensures .0) (c .before .before .before .before .before .before .before .before .before .before .before .before .before .before .before .before .before .before .before .before .before .before .before .number-at .ensures) (c .before .before .before .before .before .before .before .before .before .before .before .before .before .before .before .before .before .before .before .write-expects .ensures) (c .before .before .before .before .before .before .before .before .before .before .before .before .before .before .write-counted .ensures) (c .before .before .before .before .before .before .before .before .write-symbols .ensures) (c .before .before .write-end .ensures))
+same-length c = let x = c .before .before .before .before .before .before .before .before .before .before .before .before .before .before .before .before .before .before .before .before .before .before .before .before .before .before .before .before .before .before .before .pre in wrote-length (B.body-written x (c .before .before .before .before .before .before .before .before .before .before .before .before .before .before .before .before .before .before .before .before .before .before .before .find-levels .result) (c .before .before .before .before .before .before .before .before .before .before .before .before .before .before .before .before .before .before .before .before .before .before .before .find-levels .ensures .1) (c .before .before .before .before .before .before .before .before .before .before .before .before .before .before .before .before .before .before .before .before .before .before .byte-at .ensures .0) (c .before .before .before .before .before .before .before .before .before .before .before .before .before .before .before .before .before .before .before .before .before .number-at .ensures) (c .before .before .before .before .before .before .before .before .before .before .before .before .before .before .before .before .before .before .write-expects .ensures) (c .before .before .before .before .before .before .before .before .before .before .before .before .before .before .before .number-at2 .ensures) (c .before .before .before .before .before .before .before .before .before .before .before .before .write-items .ensures) (c .before .before .before .before .before .before .before .write-symbols .ensures) (c .before .before .write-end .ensures))
 
+-- src/lib.rt:278:1
 returns : tie.Need-returns
-returns c = λ x. B.body-written x (c .before .before .before .before .before .before .before .before .before .before .before .before .before .before .before .before .before .before .before .before .before .before .before .before .before .before .count-items .result) (c .before .before .before .before .before .before .before .before .before .before .before .before .before .before .before .before .before .before .before .before .before .before .before .before .before .find-levels .result) (c .before .before .before .before .before .before .before .before .before .before .before .before .before .before .before .before .before .before .before .before .before .before .before .before .before .before .count-items .ensures .1) (c .before .before .before .before .before .before .before .before .before .before .before .before .before .before .before .before .before .before .before .before .before .before .before .before .before .find-levels .ensures .1) (c .before .before .before .before .before .before .before .before .before .before .before .before .before .before .before .before .before .before .before .before .before .before .before .before .byte-at .ensures .0) (c .before .before .before .before .before .before .before .before .before .before .before .before .before .before .before .before .before .before .before .before .before .before .before .number-at .ensures) (c .before .before .before .before .before .before .before .before .before .before .before .before .before .before .before .before .before .before .before .write-expects .ensures) (c .before .before .before .before .before .before .before .before .before .before .before .before .before .before .write-counted .ensures) (c .before .before .before .before .before .before .before .before .write-symbols .ensures) (c .before .before .write-end .ensures)
+returns c = λ x. B.body-written x (c .before .before .before .before .before .before .before .before .before .before .before .before .before .before .before .before .before .before .before .before .before .before .before .find-levels .result) (c .before .before .before .before .before .before .before .before .before .before .before .before .before .before .before .before .before .before .before .before .before .before .before .find-levels .ensures .1) (c .before .before .before .before .before .before .before .before .before .before .before .before .before .before .before .before .before .before .before .before .before .before .byte-at .ensures .0) (c .before .before .before .before .before .before .before .before .before .before .before .before .before .before .before .before .before .before .before .before .before .number-at .ensures) (c .before .before .before .before .before .before .before .before .before .before .before .before .before .before .before .before .before .before .write-expects .ensures) (c .before .before .before .before .before .before .before .before .before .before .before .before .before .before .before .number-at2 .ensures) (c .before .before .before .before .before .before .before .before .before .before .before .before .write-items .ensures) (c .before .before .before .before .before .before .before .write-symbols .ensures) (c .before .before .write-end .ensures)
 
 pub write-body-spec : {M : Type 1} → statement M
 write-body-spec =
     tie.close
     (tie.spec
-    count-items-requires
     find-levels-requires
     byte-at-requires
     cast-size
@@ -86,15 +107,13 @@ write-body-spec =
     mul-scheme
     add-scheme-2
     slice-aggregate-write-expects
-    slice-aggregate-write-expects-2
     write-expects-requires
-    slice-aggregate-write-counted
-    write-counted-requires
+    number-at-requires-2
+    slice-aggregate-write-items
+    write-items-requires
     slice-aggregate-write-symbols
-    slice-aggregate-write-symbols-2
     write-symbols-requires
     slice-aggregate-write-end
-    slice-aggregate-write-end-2
     write-end-requires
     same-length
     returns)

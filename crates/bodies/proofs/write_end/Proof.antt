@@ -1,51 +1,66 @@
 use native.Mathlib.Omega.{arith}
-use borrow.Author.Needs.{needs}
-use Rattle.bodies.proofs.Schemes as S
 use Rattle.blocks.specs.Patch.{wrote-length}
+use Rattle.bodies.proofs.Schemes as S
+use borrow.Author.Needs.{needs}
 use Rattle.bodies.proofs.write_end.Statement.{statement}
 use Rattle.bodies.proofs.write_end.Tie as tie
+use Rattle.bodies.proofs.write_end.Reads as reads
+use Rattle.bodies.proofs.write_end.Lts as lts
+use Rattle.blocks.proofs.write_block.Reads as write-block-reads
+use Rattle.bodies.proofs.whole_sum.Reads as whole-sum-reads
+use Rattle.value.proofs.byte_at.Reads as byte-at-reads
 
+-- src/lib.rt:237:9
 whole-sum-requires : tie.Need-whole-sum-requires
 whole-sum-requires c κs = c .before .before .before .before .before .before .before .before .pre .prepared
 
+-- src/lib.rt:238:41
 byte-at-requires : tie.Need-byte-at-requires
 byte-at-requires c κs = search needs
 
+-- src/lib.rt:238:41
 cast-byte-at : tie.Need-cast-byte-at
 cast-byte-at c = search needs
 
+-- src/lib.rt:238:9
 byte-at-requires-2 : tie.Need-byte-at-requires-2
 byte-at-requires-2 c κs = search needs
 
-number-at-requires : tie.Need-number-at-requires
-number-at-requires c κs = search needs
-
+-- src/lib.rt:239:9
 write-block-requires : tie.Need-write-block-requires
-write-block-requires c κs = (omega (arith, S.sum-small (c .before .before .before .before .before .before .before .before .before .before .before .before .before .pre) (c .before .before .before .before .whole-sum .ensures) (c .before .before .before .byte-at .ensures .0) (c .before .before .byte-at2 .ensures .0) (c .before .number-at .ensures)), omega arith, S.end-block (c .before .before .before .before .before .before .before .before .before .before .before .before .before .pre) (c .before .before .before .before .whole-sum .ensures) (c .before .before .before .byte-at .ensures .0) (c .before .before .byte-at2 .ensures .0) (c .before .number-at .ensures))
+write-block-requires c κs = let x = c .before .before .before .before .before .before .before .before .before .before .before .before .pre in (omega (arith, S.sum-small x (c .before .before .before .whole-sum .ensures) (c .before .before .byte-at .ensures .0) (c .before .byte-at2 .ensures .0)), S.end-block x (c .before .before .before .whole-sum .ensures) (c .before .before .byte-at .ensures .0) (c .before .byte-at2 .ensures .0))
 
+-- src/lib.rt:240:29
 add-area : tie.Need-add-area
-add-area c = omega (arith, S.sum-small (c .before .before .before .before .before .before .before .before .before .before .before .before .before .before .before .before .pre) (c .before .before .before .before .before .before .before .whole-sum .ensures) (c .before .before .before .before .before .before .byte-at .ensures .0) (c .before .before .before .before .before .byte-at2 .ensures .0) (c .before .before .before .before .number-at .ensures))
+add-area c = let x = c .before .before .before .before .before .before .before .before .before .before .before .before .before .before .before .pre in omega (arith, S.sum-small x (c .before .before .before .before .before .before .whole-sum .ensures) (c .before .before .before .before .before .byte-at .ensures .0) (c .before .before .before .before .byte-at2 .ensures .0))
 
+-- src/lib.rt:240:24
 mul-area : tie.Need-mul-area
-mul-area c = omega (arith, S.sum-small (c .before .before .before .before .before .before .before .before .before .before .before .before .before .before .before .before .pre) (c .before .before .before .before .before .before .before .whole-sum .ensures) (c .before .before .before .before .before .before .byte-at .ensures .0) (c .before .before .before .before .before .byte-at2 .ensures .0) (c .before .before .before .before .number-at .ensures))
+mul-area c = let x = c .before .before .before .before .before .before .before .before .before .before .before .before .before .before .before .pre in omega (arith, S.sum-small x (c .before .before .before .before .before .before .whole-sum .ensures) (c .before .before .before .before .before .byte-at .ensures .0) (c .before .before .before .before .byte-at2 .ensures .0))
 
+-- src/lib.rt:240:20
 add-area-2 : tie.Need-add-area-2
-add-area-2 c = omega (arith, S.sum-small (c .before .before .before .before .before .before .before .before .before .before .before .before .before .before .before .before .pre) (c .before .before .before .before .before .before .before .whole-sum .ensures) (c .before .before .before .before .before .before .byte-at .ensures .0) (c .before .before .before .before .before .byte-at2 .ensures .0) (c .before .before .before .before .number-at .ensures))
+add-area-2 c = let x = c .before .before .before .before .before .before .before .before .before .before .before .before .before .before .before .pre in omega (arith, S.sum-small x (c .before .before .before .before .before .before .whole-sum .ensures) (c .before .before .before .before .before .byte-at .ensures .0) (c .before .before .before .before .byte-at2 .ensures .0))
 
+-- src/lib.rt:240:5
 mul-area-2 : tie.Need-mul-area-2
-mul-area-2 c = omega (arith, S.next-small (c .before .before .before .before .before .before .before .before .before .before .before .before .before .before .before .before .pre) (c .before .before .before .before .before .before .before .whole-sum .ensures) (c .before .before .before .before .before .before .byte-at .ensures .0) (c .before .before .before .before .before .byte-at2 .ensures .0) (c .before .before .before .before .number-at .ensures) (c .before .before .write-block .ensures))
+mul-area-2 c = let x = c .before .before .before .before .before .before .before .before .before .before .before .before .before .before .before .pre in omega (arith, S.next-small x (c .before .before .before .before .before .before .whole-sum .ensures) (c .before .before .before .before .before .byte-at .ensures .0) (c .before .before .before .before .byte-at2 .ensures .0) (c .before .before .write-block .ensures))
 
+-- src/lib.rt:240:5
 slice-write-area : tie.Need-slice-write-area
-slice-write-area c = S.next-inside (c .before .before .before .before .before .before .before .before .before .before .before .before .before .before .before .before .pre) (c .before .before .before .before .before .before .before .whole-sum .ensures) (c .before .before .before .before .before .before .byte-at .ensures .0) (c .before .before .before .before .before .byte-at2 .ensures .0) (c .before .before .before .before .number-at .ensures) (c .before .before .write-block .ensures)
+slice-write-area c = let x = c .before .before .before .before .before .before .before .before .before .before .before .before .before .before .before .pre in S.next-inside x (c .before .before .before .before .before .before .whole-sum .ensures) (c .before .before .before .before .before .byte-at .ensures .0) (c .before .before .before .before .byte-at2 .ensures .0) (c .before .before .write-block .ensures)
 
+-- src/lib.rt:241:5
 add-result : tie.Need-add-result
-add-result c = omega (arith, S.next-small (c .before .before .before .before .before .before .before .before .before .before .before .before .before .before .before .before .pre) (c .before .before .before .before .before .before .before .whole-sum .ensures) (c .before .before .before .before .before .before .byte-at .ensures .0) (c .before .before .before .before .before .byte-at2 .ensures .0) (c .before .before .before .before .number-at .ensures) (c .before .before .write-block .ensures))
+add-result c = let x = c .before .before .before .before .before .before .before .before .before .before .before .before .before .before .before .pre in omega (arith, S.next-small x (c .before .before .before .before .before .before .whole-sum .ensures) (c .before .before .before .before .before .byte-at .ensures .0) (c .before .before .before .before .byte-at2 .ensures .0) (c .before .before .write-block .ensures))
 
+-- src/lib.rt:223:1
 same-length : tie.Need-same-length
-same-length c = wrote-length (S.end-written (c .before .before .before .before .before .before .before .before .before .before .before .before .before .before .before .before .pre) (c .before .before .before .before .before .before .before .whole-sum .ensures) (c .before .before .before .before .before .before .byte-at .ensures .0) (c .before .before .before .before .before .byte-at2 .ensures .0) (c .before .before .before .before .number-at .ensures) (c .before .before .write-block .ensures))
+same-length c = let x = c .before .before .before .before .before .before .before .before .before .before .before .before .before .before .before .pre in wrote-length (S.end-written x (c .before .before .before .before .before .before .whole-sum .ensures) (c .before .before .before .before .before .byte-at .ensures .0) (c .before .before .before .before .byte-at2 .ensures .0) (c .before .before .write-block .ensures))
 
+-- src/lib.rt:223:1
 returns : tie.Need-returns
-returns c = λ x. S.end-written x (c .before .before .before .before .before .before .before .whole-sum .ensures) (c .before .before .before .before .before .before .byte-at .ensures .0) (c .before .before .before .before .before .byte-at2 .ensures .0) (c .before .before .before .before .number-at .ensures) (c .before .before .write-block .ensures)
+returns c = λ x. S.end-written x (c .before .before .before .before .before .before .whole-sum .ensures) (c .before .before .before .before .before .byte-at .ensures .0) (c .before .before .before .before .byte-at2 .ensures .0) (c .before .before .write-block .ensures)
 
 pub write-end-spec : {M : Type 1} → statement M
 write-end-spec =
@@ -55,7 +70,6 @@ write-end-spec =
     byte-at-requires
     cast-byte-at
     byte-at-requires-2
-    number-at-requires
     write-block-requires
     add-area
     mul-area

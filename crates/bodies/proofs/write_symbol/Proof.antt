@@ -1,78 +1,93 @@
 use native.Mathlib.Omega.{arith}
-use borrow.Author.Needs.{needs}
 use Rattle.blocks.specs.Patch.{wrote-length}
 use Rattle.bodies.proofs.Symbols as S
+use borrow.Author.Needs.{needs}
 use Rattle.bodies.proofs.write_symbol.Statement.{statement}
 use Rattle.bodies.proofs.write_symbol.Tie as tie
+use Rattle.bodies.proofs.write_symbol.Reads as reads
+use Rattle.bodies.proofs.write_symbol.Lts as lts
+use Rattle.blocks.proofs.write_block.Reads as write-block-reads
+use Rattle.bodies.proofs.count_at.Reads as count-at-reads
+use Rattle.bodies.proofs.head_of.Reads as head-of-reads
+use Rattle.bodies.proofs.number_at.Reads as number-at-reads
+use Rattle.bodies.proofs.write_add.Reads as write-add-reads
+use Rattle.value.proofs.byte_at.Reads as byte-at-reads
 
+-- src/lib.rt:135:38
 add-byte-at : tie.Need-add-byte-at
 add-byte-at c = search needs
 
+-- src/lib.rt:135:9
 byte-at-requires : tie.Need-byte-at-requires
 byte-at-requires c κs = search needs
 
+-- src/lib.rt:136:9
 count-at-requires : tie.Need-count-at-requires
 count-at-requires c κs = search needs
 
+-- src/lib.rt:137:21
 count-at-requires-2 : tie.Need-count-at-requires-2
 count-at-requires-2 c κs = search needs
 
+-- src/lib.rt:137:15
 add-all : tie.Need-add-all
 add-all c = search needs
 
+-- src/lib.rt:138:33
 add-number-at : tie.Need-add-number-at
 add-number-at c = search needs
 
+-- src/lib.rt:138:9
 number-at-requires : tie.Need-number-at-requires
 number-at-requires c κs = search needs
 
-add-position : tie.Need-add-position
-add-position c = search needs
-
-cast-position : tie.Need-cast-position
-cast-position c = search needs
-
+-- src/lib.rt:139:9
 write-add-requires : tie.Need-write-add-requires
-write-add-requires c κs = S.add-fits (c .before .before .before .before .before .before .before .before .before .before .before .before .before .pre) (c .before .before .before .before .byte-at .ensures .0) (c .before .before .before .count-at .ensures .0) (c .before .before .count-at2 .ensures .0)
+write-add-requires c κs = let x = c .before .before .before .before .before .before .before .before .before .before .before .before .before .pre in S.add-fits x (c .before .before .before .before .byte-at .ensures .0) (c .before .before .before .count-at .ensures .0) (c .before .before .count-at2 .ensures .0)
 
-add-number-at-2 : tie.Need-add-number-at-2
-add-number-at-2 c = search needs
+-- src/lib.rt:145:9
+add-write-block : tie.Need-add-write-block
+add-write-block c = search needs
 
-number-at-requires-2 : tie.Need-number-at-requires-2
-number-at-requires-2 c κs = search needs
-
+-- src/lib.rt:140:9
 write-block-requires : tie.Need-write-block-requires
-write-block-requires c κs = (S.top-small (c .before .before .before .before .before .before .before .before .before .before .before .before .before .before .before .before .before .before .pre) (c .before .before .before .before .before .before .before .before .before .byte-at .ensures .0) (c .before .before .before .before .before .before .before .before .count-at .ensures .0) (c .before .before .before .before .before .before .before .count-at2 .ensures .0) (c .before .before .before .before .before .before .number-at .ensures) (c .before .number-at2 .ensures), omega (arith, S.index-small (c .before .before .before .before .before .before .before .before .before .before .before .before .before .before .before .before .before .before .pre)), S.evaluate-fits (c .before .before .before .before .before .before .before .before .before .before .before .before .before .before .before .before .before .before .pre) (c .before .before .before .before .before .before .before .before .before .byte-at .ensures .0) (c .before .before .before .before .before .before .before .before .count-at .ensures .0) (c .before .before .before .before .before .before .before .count-at2 .ensures .0) (c .before .before .before .before .before .before .number-at .ensures) (c .before .number-at2 .ensures) (c .before .before .before .before .write-add .ensures))
+write-block-requires c κs = let x = c .before .before .before .before .before .before .before .before .before .before .before .before .before .before .before .before .before .pre in (S.top-small x (c .before .before .before .before .before .before .before .before .byte-at .ensures .0) (c .before .before .before .before .before .before .before .count-at .ensures .0) (c .before .before .before .before .before .before .count-at2 .ensures .0) (c .before .before .before .before .before .number-at .ensures), S.evaluate-fits x (c .before .before .before .before .before .before .before .before .byte-at .ensures .0) (c .before .before .before .before .before .before .before .count-at .ensures .0) (c .before .before .before .before .before .before .count-at2 .ensures .0) (c .before .before .before .before .before .number-at .ensures) (c .before .before .before .write-add .ensures))
 
+-- src/lib.rt:151:20
 head-of-requires : tie.Need-head-of-requires
 head-of-requires c κs = search needs
 
+-- src/lib.rt:151:5
 mul-area : tie.Need-mul-area
-mul-area c = omega (arith, S.next-small (c .before .before .before .before .before .before .before .before .before .before .before .before .before .before .before .before .before .before .before .before .before .before .pre) (c .before .before .before .before .before .before .before .before .before .before .before .before .before .byte-at .ensures .0) (c .before .before .before .before .before .before .before .before .before .before .before .before .count-at .ensures .0) (c .before .before .before .before .before .before .before .before .before .before .before .count-at2 .ensures .0) (c .before .before .before .before .before .before .before .before .before .before .number-at .ensures) (c .before .before .before .before .before .number-at2 .ensures) (c .before .before .before .before .before .before .before .before .write-add .ensures) (c .before .before .before .write-block .ensures))
+mul-area c = let x = c .before .before .before .before .before .before .before .before .before .before .before .before .before .before .before .before .before .before .before .before .before .pre in omega (arith, S.next-small x (c .before .before .before .before .before .before .before .before .before .before .before .before .byte-at .ensures .0) (c .before .before .before .before .before .before .before .before .before .before .before .count-at .ensures .0) (c .before .before .before .before .before .before .before .before .before .before .count-at2 .ensures .0) (c .before .before .before .before .before .before .before .before .before .number-at .ensures) (c .before .before .before .before .before .before .before .write-add .ensures) (c .before .before .before .write-block .ensures))
 
+-- src/lib.rt:151:5
 slice-write-area : tie.Need-slice-write-area
-slice-write-area c = S.next-inside (c .before .before .before .before .before .before .before .before .before .before .before .before .before .before .before .before .before .before .before .before .before .before .pre) (c .before .before .before .before .before .before .before .before .before .before .before .before .before .byte-at .ensures .0) (c .before .before .before .before .before .before .before .before .before .before .before .before .count-at .ensures .0) (c .before .before .before .before .before .before .before .before .before .before .before .count-at2 .ensures .0) (c .before .before .before .before .before .before .before .before .before .before .number-at .ensures) (c .before .before .before .before .before .number-at2 .ensures) (c .before .before .before .before .before .before .before .before .write-add .ensures) (c .before .before .before .write-block .ensures)
+slice-write-area c = let x = c .before .before .before .before .before .before .before .before .before .before .before .before .before .before .before .before .before .before .before .before .before .pre in S.next-inside x (c .before .before .before .before .before .before .before .before .before .before .before .before .byte-at .ensures .0) (c .before .before .before .before .before .before .before .before .before .before .before .count-at .ensures .0) (c .before .before .before .before .before .before .before .before .before .before .count-at2 .ensures .0) (c .before .before .before .before .before .before .before .before .before .number-at .ensures) (c .before .before .before .before .before .before .before .write-add .ensures) (c .before .before .before .write-block .ensures)
 
-add-number-at-3 : tie.Need-add-number-at-3
-add-number-at-3 c = omega (arith, S.index-small (c .before .before .before .before .before .before .before .before .before .before .before .before .before .before .before .before .before .before .before .before .before .before .pre))
+-- src/lib.rt:157:9
+add-write-block-2 : tie.Need-add-write-block-2
+add-write-block-2 c = omega (arith, S.index-small (c .before .before .before .before .before .before .before .before .before .before .before .before .before .before .before .before .before .before .before .before .before .pre))
 
-number-at-requires-3 : tie.Need-number-at-requires-3
-number-at-requires-3 c κs = search needs
-
+-- src/lib.rt:158:9
 sub-write-block : tie.Need-sub-write-block
-sub-write-block c = S.own-below (c .before .before .before .before .before .before .before .before .before .before .before .before .before .before .before .before .before .before .before .before .before .before .before .pre) (c .before .before .before .before .before .before .before .before .before .before .before .before .before .before .byte-at .ensures .0) (c .before .before .before .before .before .before .before .before .before .before .before .before .before .count-at .ensures .0) (c .before .before .before .before .before .before .before .before .before .before .before .before .count-at2 .ensures .0) (c .before .before .before .before .before .before .before .before .before .before .before .number-at .ensures) (c .before .before .before .before .before .before .number-at2 .ensures)
+sub-write-block c = let x = c .before .before .before .before .before .before .before .before .before .before .before .before .before .before .before .before .before .before .before .before .before .pre in S.own-below x (c .before .before .before .before .before .before .before .before .before .before .before .before .byte-at .ensures .0) (c .before .before .before .before .before .before .before .before .before .before .before .count-at .ensures .0) (c .before .before .before .before .before .before .before .before .before .before .count-at2 .ensures .0) (c .before .before .before .before .before .before .before .before .before .number-at .ensures)
 
-add-write-block : tie.Need-add-write-block
-add-write-block c = omega (arith, S.next-small (c .before .before .before .before .before .before .before .before .before .before .before .before .before .before .before .before .before .before .before .before .before .before .before .before .pre) (c .before .before .before .before .before .before .before .before .before .before .before .before .before .before .before .byte-at .ensures .0) (c .before .before .before .before .before .before .before .before .before .before .before .before .before .before .count-at .ensures .0) (c .before .before .before .before .before .before .before .before .before .before .before .before .before .count-at2 .ensures .0) (c .before .before .before .before .before .before .before .before .before .before .before .before .number-at .ensures) (c .before .before .before .before .before .before .before .number-at2 .ensures) (c .before .before .before .before .before .before .before .before .before .before .write-add .ensures) (c .before .before .before .before .before .write-block .ensures))
+-- src/lib.rt:161:9
+add-write-block-3 : tie.Need-add-write-block-3
+add-write-block-3 c = let x = c .before .before .before .before .before .before .before .before .before .before .before .before .before .before .before .before .before .before .before .before .before .before .pre in omega (arith, S.next-small x (c .before .before .before .before .before .before .before .before .before .before .before .before .before .byte-at .ensures .0) (c .before .before .before .before .before .before .before .before .before .before .before .before .count-at .ensures .0) (c .before .before .before .before .before .before .before .before .before .before .before .count-at2 .ensures .0) (c .before .before .before .before .before .before .before .before .before .before .number-at .ensures) (c .before .before .before .before .before .before .before .before .write-add .ensures) (c .before .before .before .before .write-block .ensures))
 
+-- src/lib.rt:152:5
 write-block-requires-2 : tie.Need-write-block-requires-2
-write-block-requires-2 c κs = (omega (arith, S.top-small (c .before .before .before .before .before .before .before .before .before .before .before .before .before .before .before .before .before .before .before .before .before .before .before .before .pre) (c .before .before .before .before .before .before .before .before .before .before .before .before .before .before .before .byte-at .ensures .0) (c .before .before .before .before .before .before .before .before .before .before .before .before .before .before .count-at .ensures .0) (c .before .before .before .before .before .before .before .before .before .before .before .before .before .count-at2 .ensures .0) (c .before .before .before .before .before .before .before .before .before .before .before .before .number-at .ensures) (c .before .before .before .before .before .before .before .number-at2 .ensures)), omega (arith, S.index-small (c .before .before .before .before .before .before .before .before .before .before .before .before .before .before .before .before .before .before .before .before .before .before .before .before .pre)), S.test-fits (c .before .before .before .before .before .before .before .before .before .before .before .before .before .before .before .before .before .before .before .before .before .before .before .before .pre) (c .before .before .before .before .before .before .before .before .before .before .before .before .before .before .before .byte-at .ensures .0) (c .before .before .before .before .before .before .before .before .before .before .before .before .before .before .count-at .ensures .0) (c .before .before .before .before .before .before .before .before .before .before .before .before .before .count-at2 .ensures .0) (c .before .before .before .before .before .before .before .before .before .before .before .before .number-at .ensures) (c .before .before .before .before .before .before .before .number-at2 .ensures) (c .before .before .before .before .before .before .before .before .before .before .write-add .ensures) (c .before .before .before .before .before .write-block .ensures) (c .before .number-at3 .ensures) (c .before .before .head-of .ensures))
+write-block-requires-2 c κs = let x = c .before .before .before .before .before .before .before .before .before .before .before .before .before .before .before .before .before .before .before .before .before .before .pre in (omega (arith, S.top-small x (c .before .before .before .before .before .before .before .before .before .before .before .before .before .byte-at .ensures .0) (c .before .before .before .before .before .before .before .before .before .before .before .before .count-at .ensures .0) (c .before .before .before .before .before .before .before .before .before .before .before .count-at2 .ensures .0) (c .before .before .before .before .before .before .before .before .before .before .number-at .ensures)), S.test-fits x (c .before .before .before .before .before .before .before .before .before .before .before .before .before .byte-at .ensures .0) (c .before .before .before .before .before .before .before .before .before .before .before .before .count-at .ensures .0) (c .before .before .before .before .before .before .before .before .before .before .before .count-at2 .ensures .0) (c .before .before .before .before .before .before .before .before .before .before .number-at .ensures) (c .before .before .before .before .before .before .before .before .write-add .ensures) (c .before .before .before .before .write-block .ensures) (c .before .head-of .ensures))
 
+-- src/lib.rt:120:1
 same-length : tie.Need-same-length
-same-length c = wrote-length (S.symbol-written (c .before .before .before .before .before .before .before .before .before .before .before .before .before .before .before .before .before .before .before .before .before .before .before .before .before .before .before .pre) (c .before .before .before .before .before .before .before .before .before .before .before .before .before .before .before .before .before .before .byte-at .ensures .0) (c .before .before .before .before .before .before .before .before .before .before .before .before .before .before .before .before .before .count-at .ensures .0) (c .before .before .before .before .before .before .before .before .before .before .before .before .before .before .before .before .count-at2 .ensures .0) (c .before .before .before .before .before .before .before .before .before .before .before .before .before .before .before .number-at .ensures) (c .before .before .before .before .before .before .before .before .before .before .number-at2 .ensures) (c .before .before .before .before .before .before .before .before .before .before .before .before .before .write-add .ensures) (c .before .before .before .before .before .before .before .before .write-block .ensures) (c .before .before .before .before .number-at3 .ensures) (c .before .before .before .before .before .head-of .ensures) (c .before .before .write-block2 .ensures))
+same-length c = let x = c .before .before .before .before .before .before .before .before .before .before .before .before .before .before .before .before .before .before .before .before .before .before .before .before .before .pre in wrote-length (S.symbol-written x (c .before .before .before .before .before .before .before .before .before .before .before .before .before .before .before .before .byte-at .ensures .0) (c .before .before .before .before .before .before .before .before .before .before .before .before .before .before .before .count-at .ensures .0) (c .before .before .before .before .before .before .before .before .before .before .before .before .before .before .count-at2 .ensures .0) (c .before .before .before .before .before .before .before .before .before .before .before .before .before .number-at .ensures) (c .before .before .before .before .before .before .before .before .before .before .before .write-add .ensures) (c .before .before .before .before .before .before .before .write-block .ensures) (c .before .before .before .before .head-of .ensures) (c .before .before .write-block2 .ensures))
 
+-- src/lib.rt:120:1
 returns : tie.Need-returns
-returns c = λ x. S.symbol-written x (c .before .before .before .before .before .before .before .before .before .before .before .before .before .before .before .before .before .before .byte-at .ensures .0) (c .before .before .before .before .before .before .before .before .before .before .before .before .before .before .before .before .before .count-at .ensures .0) (c .before .before .before .before .before .before .before .before .before .before .before .before .before .before .before .before .count-at2 .ensures .0) (c .before .before .before .before .before .before .before .before .before .before .before .before .before .before .before .number-at .ensures) (c .before .before .before .before .before .before .before .before .before .before .number-at2 .ensures) (c .before .before .before .before .before .before .before .before .before .before .before .before .before .write-add .ensures) (c .before .before .before .before .before .before .before .before .write-block .ensures) (c .before .before .before .before .number-at3 .ensures) (c .before .before .before .before .before .head-of .ensures) (c .before .before .write-block2 .ensures)
+returns c = λ x. S.symbol-written x (c .before .before .before .before .before .before .before .before .before .before .before .before .before .before .before .before .byte-at .ensures .0) (c .before .before .before .before .before .before .before .before .before .before .before .before .before .before .before .count-at .ensures .0) (c .before .before .before .before .before .before .before .before .before .before .before .before .before .before .count-at2 .ensures .0) (c .before .before .before .before .before .before .before .before .before .before .before .before .before .number-at .ensures) (c .before .before .before .before .before .before .before .before .before .before .before .write-add .ensures) (c .before .before .before .before .before .before .before .write-block .ensures) (c .before .before .before .before .head-of .ensures) (c .before .before .write-block2 .ensures)
 
 pub write-symbol-spec : {M : Type 1} → statement M
 write-symbol-spec =
@@ -85,19 +100,15 @@ write-symbol-spec =
     add-all
     add-number-at
     number-at-requires
-    add-position
-    cast-position
     write-add-requires
-    add-number-at-2
-    number-at-requires-2
+    add-write-block
     write-block-requires
     head-of-requires
     mul-area
     slice-write-area
-    add-number-at-3
-    number-at-requires-3
+    add-write-block-2
     sub-write-block
-    add-write-block
+    add-write-block-3
     write-block-requires-2
     same-length
     returns)
