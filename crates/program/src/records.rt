@@ -91,7 +91,7 @@ fn write_production(
     body: usize,
 ) -> usize
     requires { ⌜ ProductionFits (now table) (now rows) (now inherited) (now synthesized) (now offsets) (now sets) sizes p (now area) at body × Nexts (now rows) (now sets) (sizes .nonterminals) (sizes .productions) (now nexts) × (length (now links) ≡ 616) ⌝ }
-    ensures { λ r. ⌜ ((x : ProductionFits (now (table .entry)) (now (rows .entry)) (now (inherited .entry)) (now (synthesized .entry)) (now (offsets .entry)) (now (sets .entry)) sizes p (now (area .entry)) at body) → ProductionWrote (grammarIn (x .brought)) p (now (area .entry)) (now (area .exit)) at body r) ⌝ }
+    ensures { λ r. ⌜ (length (now (links .exit)) ≡ 616) × ((x : ProductionFits (now (table .entry)) (now (rows .entry)) (now (inherited .entry)) (now (synthesized .entry)) (now (offsets .entry)) (now (sets .entry)) sizes p (now (area .entry)) at body) → ProductionWrote (grammarIn (x .brought)) p (now (area .entry)) (now (area .exit)) at body r) ⌝ }
 {
     let count = sizes.productions;
     let from = fields_from(rows, offsets, p);
