@@ -100,7 +100,8 @@ fn write_production(
     let first = 16 * p;
     let last = 16 * p + 16;
     let row = &rows[first..last];
-    let marks = blocks::find_items(fields, links);
+    let mut marks = [0u32; 64];
+    blocks::find_items(fields, links, &mut marks);
     let entries = marks[1];
     let next = value::byte_at(nexts, p);
     write_record(

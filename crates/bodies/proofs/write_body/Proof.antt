@@ -44,11 +44,23 @@ cast-scheme c = search needs
 
 -- src/lib.rt:295:35
 mul-scheme : tie.Need-mul-scheme
-mul-scheme c = let x = c .before .before .before .before .before .before .before .before .before .before .pre in omega (arith, B.numbers-small x (c .before .before .find-levels .result) (c .before .before .find-levels .ensures .1) (c .before .byte-at .ensures .0) (c .number-at .ensures))
+mul-scheme c = 
+    let x = c .before .before .before .before .before .before .before .before .before .before .pre in
+    let levels = c .before .before .find-levels .result in
+    let is-levels = c .before .before .find-levels .ensures .1 in
+    let n = c .before .byte-at .ensures .0 in
+    let t = c .number-at .ensures in
+    omega (arith, B.numbers-small x levels is-levels n t)
 
 -- src/lib.rt:295:18
 add-scheme-2 : tie.Need-add-scheme-2
-add-scheme-2 c = let x = c .before .before .before .before .before .before .before .before .before .before .pre in omega (arith, B.numbers-small x (c .before .before .find-levels .result) (c .before .before .find-levels .ensures .1) (c .before .byte-at .ensures .0) (c .number-at .ensures))
+add-scheme-2 c = 
+    let x = c .before .before .before .before .before .before .before .before .before .before .pre in
+    let levels = c .before .before .find-levels .result in
+    let is-levels = c .before .before .find-levels .ensures .1 in
+    let n = c .before .byte-at .ensures .0 in
+    let t = c .number-at .ensures in
+    omega (arith, B.numbers-small x levels is-levels n t)
 
 -- src/lib.rt:303:9
 slice-aggregate-write-expects : tie.Need-slice-aggregate-write-expects
@@ -56,7 +68,13 @@ slice-aggregate-write-expects c = search needs
 
 -- src/lib.rt:296:9
 write-expects-requires : tie.Need-write-expects-requires
-write-expects-requires c κs = let x = c .before .before .before .before .before .before .before .before .before .before .before .before .pre in B.expects-fit x (c .before .before .before .before .find-levels .result) (c .before .before .before .before .find-levels .ensures .1) (c .before .before .before .byte-at .ensures .0) (c .before .before .number-at .ensures)
+write-expects-requires c κs = 
+    let x = c .before .before .before .before .before .before .before .before .before .before .before .before .pre in
+    let levels = c .before .before .before .before .find-levels .result in
+    let is-levels = c .before .before .before .before .find-levels .ensures .1 in
+    let n = c .before .before .before .byte-at .ensures .0 in
+    let t = c .before .before .number-at .ensures in
+    B.expects-fit x levels is-levels n t
 
 -- src/lib.rt:308:9
 number-at-requires-2 : tie.Need-number-at-requires-2
@@ -68,7 +86,15 @@ slice-aggregate-write-items c = search needs
 
 -- src/lib.rt:309:9
 write-items-requires : tie.Need-write-items-requires
-write-items-requires c κs = let x = c .before .before .before .before .before .before .before .before .before .before .before .before .before .before .before .before .before .before .pre in (omega arith, B.items-fit x (c .before .before .before .before .before .before .before .before .before .before .find-levels .result) (c .before .before .before .before .before .before .before .before .before .before .find-levels .ensures .1) (c .before .before .before .before .before .before .before .before .before .byte-at .ensures .0) (c .before .before .before .before .before .before .before .before .number-at .ensures) (c .before .before .before .before .before .write-expects .ensures) (c .before .before .number-at2 .ensures))
+write-items-requires c κs = 
+    let x = c .before .before .before .before .before .before .before .before .before .before .before .before .before .before .before .before .before .before .pre in
+    let levels = c .before .before .before .before .before .before .before .before .before .before .find-levels .result in
+    let is-levels = c .before .before .before .before .before .before .before .before .before .before .find-levels .ensures .1 in
+    let n = c .before .before .before .before .before .before .before .before .before .byte-at .ensures .0 in
+    let t = c .before .before .before .before .before .before .before .before .number-at .ensures in
+    let expects = c .before .before .before .before .before .write-expects .ensures in
+    let last = c .before .before .number-at2 .ensures in
+    (omega arith, B.items-fit x levels is-levels n t expects last)
 
 -- src/lib.rt:327:9
 slice-aggregate-write-symbols : tie.Need-slice-aggregate-write-symbols
@@ -76,7 +102,16 @@ slice-aggregate-write-symbols c = search needs
 
 -- src/lib.rt:320:9
 write-symbols-requires : tie.Need-write-symbols-requires
-write-symbols-requires c κs = let x = c .before .before .before .before .before .before .before .before .before .before .before .before .before .before .before .before .before .before .before .before .before .before .before .pre in B.symbols-fit x (c .before .before .before .before .before .before .before .before .before .before .before .before .before .before .before .find-levels .result) (c .before .before .before .before .before .before .before .before .before .before .before .before .before .before .before .find-levels .ensures .1) (c .before .before .before .before .before .before .before .before .before .before .before .before .before .before .byte-at .ensures .0) (c .before .before .before .before .before .before .before .before .before .before .before .before .before .number-at .ensures) (c .before .before .before .before .before .before .before .before .before .before .write-expects .ensures) (c .before .before .before .before .before .before .before .number-at2 .ensures) (c .before .before .before .before .write-items .ensures)
+write-symbols-requires c κs = 
+    let x = c .before .before .before .before .before .before .before .before .before .before .before .before .before .before .before .before .before .before .before .before .before .before .before .pre in
+    let levels = c .before .before .before .before .before .before .before .before .before .before .before .before .before .before .before .find-levels .result in
+    let is-levels = c .before .before .before .before .before .before .before .before .before .before .before .before .before .before .before .find-levels .ensures .1 in
+    let n = c .before .before .before .before .before .before .before .before .before .before .before .before .before .before .byte-at .ensures .0 in
+    let t = c .before .before .before .before .before .before .before .before .before .before .before .before .before .number-at .ensures in
+    let expects = c .before .before .before .before .before .before .before .before .before .before .write-expects .ensures in
+    let last = c .before .before .before .before .before .before .before .number-at2 .ensures in
+    let entry = c .before .before .before .before .write-items .ensures in
+    B.symbols-fit x levels is-levels n t expects last entry
 
 -- src/lib.rt:338:9
 slice-aggregate-write-end : tie.Need-slice-aggregate-write-end
@@ -84,15 +119,46 @@ slice-aggregate-write-end c = sym (c .before .before .before .before .before .be
 
 -- src/lib.rt:331:5
 write-end-requires : tie.Need-write-end-requires
-write-end-requires c κs = let x = c .before .before .before .before .before .before .before .before .before .before .before .before .before .before .before .before .before .before .before .before .before .before .before .before .before .before .before .before .pre in B.end-fit x (c .before .before .before .before .before .before .before .before .before .before .before .before .before .before .before .before .before .before .before .before .find-levels .result) (c .before .before .before .before .before .before .before .before .before .before .before .before .before .before .before .before .before .before .before .before .find-levels .ensures .1) (c .before .before .before .before .before .before .before .before .before .before .before .before .before .before .before .before .before .before .before .byte-at .ensures .0) (c .before .before .before .before .before .before .before .before .before .before .before .before .before .before .before .before .before .before .number-at .ensures) (c .before .before .before .before .before .before .before .before .before .before .before .before .before .before .before .write-expects .ensures) (c .before .before .before .before .before .before .before .before .before .before .before .before .number-at2 .ensures) (c .before .before .before .before .before .before .before .before .before .write-items .ensures) (c .before .before .before .before .write-symbols .ensures)
+write-end-requires c κs = 
+    let x = c .before .before .before .before .before .before .before .before .before .before .before .before .before .before .before .before .before .before .before .before .before .before .before .before .before .before .before .before .pre in
+    let levels = c .before .before .before .before .before .before .before .before .before .before .before .before .before .before .before .before .before .before .before .before .find-levels .result in
+    let is-levels = c .before .before .before .before .before .before .before .before .before .before .before .before .before .before .before .before .before .before .before .before .find-levels .ensures .1 in
+    let n = c .before .before .before .before .before .before .before .before .before .before .before .before .before .before .before .before .before .before .before .byte-at .ensures .0 in
+    let t = c .before .before .before .before .before .before .before .before .before .before .before .before .before .before .before .before .before .before .number-at .ensures in
+    let expects = c .before .before .before .before .before .before .before .before .before .before .before .before .before .before .before .write-expects .ensures in
+    let last = c .before .before .before .before .before .before .before .before .before .before .before .before .number-at2 .ensures in
+    let entry = c .before .before .before .before .before .before .before .before .before .write-items .ensures in
+    let symbols = c .before .before .before .before .write-symbols .ensures in
+    B.end-fit x levels is-levels n t expects last entry symbols
 
 -- src/lib.rt:278:1
 same-length : tie.Need-same-length
-same-length c = let x = c .before .before .before .before .before .before .before .before .before .before .before .before .before .before .before .before .before .before .before .before .before .before .before .before .before .before .before .before .before .before .before .pre in wrote-length (B.body-written x (c .before .before .before .before .before .before .before .before .before .before .before .before .before .before .before .before .before .before .before .before .before .before .before .find-levels .result) (c .before .before .before .before .before .before .before .before .before .before .before .before .before .before .before .before .before .before .before .before .before .before .before .find-levels .ensures .1) (c .before .before .before .before .before .before .before .before .before .before .before .before .before .before .before .before .before .before .before .before .before .before .byte-at .ensures .0) (c .before .before .before .before .before .before .before .before .before .before .before .before .before .before .before .before .before .before .before .before .before .number-at .ensures) (c .before .before .before .before .before .before .before .before .before .before .before .before .before .before .before .before .before .before .write-expects .ensures) (c .before .before .before .before .before .before .before .before .before .before .before .before .before .before .before .number-at2 .ensures) (c .before .before .before .before .before .before .before .before .before .before .before .before .write-items .ensures) (c .before .before .before .before .before .before .before .write-symbols .ensures) (c .before .before .write-end .ensures))
+same-length c = 
+    let x = c .before .before .before .before .before .before .before .before .before .before .before .before .before .before .before .before .before .before .before .before .before .before .before .before .before .before .before .before .before .before .before .pre in
+    let levels = c .before .before .before .before .before .before .before .before .before .before .before .before .before .before .before .before .before .before .before .before .before .before .before .find-levels .result in
+    let is-levels = c .before .before .before .before .before .before .before .before .before .before .before .before .before .before .before .before .before .before .before .before .before .before .before .find-levels .ensures .1 in
+    let n = c .before .before .before .before .before .before .before .before .before .before .before .before .before .before .before .before .before .before .before .before .before .before .byte-at .ensures .0 in
+    let t = c .before .before .before .before .before .before .before .before .before .before .before .before .before .before .before .before .before .before .before .before .before .number-at .ensures in
+    let expects = c .before .before .before .before .before .before .before .before .before .before .before .before .before .before .before .before .before .before .write-expects .ensures in
+    let last = c .before .before .before .before .before .before .before .before .before .before .before .before .before .before .before .number-at2 .ensures in
+    let entry = c .before .before .before .before .before .before .before .before .before .before .before .before .write-items .ensures in
+    let symbols = c .before .before .before .before .before .before .before .write-symbols .ensures in
+    let end = c .before .before .write-end .ensures in
+    wrote-length (B.body-written x levels is-levels n t expects last entry symbols end)
 
 -- src/lib.rt:278:1
 returns : tie.Need-returns
-returns c = λ x. B.body-written x (c .before .before .before .before .before .before .before .before .before .before .before .before .before .before .before .before .before .before .before .before .before .before .before .find-levels .result) (c .before .before .before .before .before .before .before .before .before .before .before .before .before .before .before .before .before .before .before .before .before .before .before .find-levels .ensures .1) (c .before .before .before .before .before .before .before .before .before .before .before .before .before .before .before .before .before .before .before .before .before .before .byte-at .ensures .0) (c .before .before .before .before .before .before .before .before .before .before .before .before .before .before .before .before .before .before .before .before .before .number-at .ensures) (c .before .before .before .before .before .before .before .before .before .before .before .before .before .before .before .before .before .before .write-expects .ensures) (c .before .before .before .before .before .before .before .before .before .before .before .before .before .before .before .number-at2 .ensures) (c .before .before .before .before .before .before .before .before .before .before .before .before .write-items .ensures) (c .before .before .before .before .before .before .before .write-symbols .ensures) (c .before .before .write-end .ensures)
+returns c = 
+    let levels = c .before .before .before .before .before .before .before .before .before .before .before .before .before .before .before .before .before .before .before .before .before .before .before .find-levels .result in
+    let is-levels = c .before .before .before .before .before .before .before .before .before .before .before .before .before .before .before .before .before .before .before .before .before .before .before .find-levels .ensures .1 in
+    let n = c .before .before .before .before .before .before .before .before .before .before .before .before .before .before .before .before .before .before .before .before .before .before .byte-at .ensures .0 in
+    let t = c .before .before .before .before .before .before .before .before .before .before .before .before .before .before .before .before .before .before .before .before .before .number-at .ensures in
+    let expects = c .before .before .before .before .before .before .before .before .before .before .before .before .before .before .before .before .before .before .write-expects .ensures in
+    let last = c .before .before .before .before .before .before .before .before .before .before .before .before .before .before .before .number-at2 .ensures in
+    let entry = c .before .before .before .before .before .before .before .before .before .before .before .before .write-items .ensures in
+    let symbols = c .before .before .before .before .before .before .before .write-symbols .ensures in
+    let end = c .before .before .write-end .ensures in
+    λ x. B.body-written x levels is-levels n t expects last entry symbols end
 
 pub write-body-spec : {M : Type 1} → statement M
 write-body-spec =

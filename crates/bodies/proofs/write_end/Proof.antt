@@ -28,39 +28,88 @@ byte-at-requires-2 c κs = search needs
 
 -- src/lib.rt:239:9
 write-block-requires : tie.Need-write-block-requires
-write-block-requires c κs = let x = c .before .before .before .before .before .before .before .before .before .before .before .before .pre in (omega (arith, S.sum-small x (c .before .before .before .whole-sum .ensures) (c .before .before .byte-at .ensures .0) (c .before .byte-at2 .ensures .0)), S.end-block x (c .before .before .before .whole-sum .ensures) (c .before .before .byte-at .ensures .0) (c .before .byte-at2 .ensures .0))
+write-block-requires c κs = 
+    let x = c .before .before .before .before .before .before .before .before .before .before .before .before .pre in
+    let s = c .before .before .before .whole-sum .ensures in
+    let l = c .before .before .byte-at .ensures .0 in
+    let o = c .before .byte-at2 .ensures .0 in
+    (omega (arith, S.sum-small x s l o), S.end-block x s l o)
 
 -- src/lib.rt:240:29
 add-area : tie.Need-add-area
-add-area c = let x = c .before .before .before .before .before .before .before .before .before .before .before .before .before .before .before .pre in omega (arith, S.sum-small x (c .before .before .before .before .before .before .whole-sum .ensures) (c .before .before .before .before .before .byte-at .ensures .0) (c .before .before .before .before .byte-at2 .ensures .0))
+add-area c = 
+    let x = c .before .before .before .before .before .before .before .before .before .before .before .before .before .before .before .pre in
+    let s = c .before .before .before .before .before .before .whole-sum .ensures in
+    let l = c .before .before .before .before .before .byte-at .ensures .0 in
+    let o = c .before .before .before .before .byte-at2 .ensures .0 in
+    omega (arith, S.sum-small x s l o)
 
 -- src/lib.rt:240:24
 mul-area : tie.Need-mul-area
-mul-area c = let x = c .before .before .before .before .before .before .before .before .before .before .before .before .before .before .before .pre in omega (arith, S.sum-small x (c .before .before .before .before .before .before .whole-sum .ensures) (c .before .before .before .before .before .byte-at .ensures .0) (c .before .before .before .before .byte-at2 .ensures .0))
+mul-area c = 
+    let x = c .before .before .before .before .before .before .before .before .before .before .before .before .before .before .before .pre in
+    let s = c .before .before .before .before .before .before .whole-sum .ensures in
+    let l = c .before .before .before .before .before .byte-at .ensures .0 in
+    let o = c .before .before .before .before .byte-at2 .ensures .0 in
+    omega (arith, S.sum-small x s l o)
 
 -- src/lib.rt:240:20
 add-area-2 : tie.Need-add-area-2
-add-area-2 c = let x = c .before .before .before .before .before .before .before .before .before .before .before .before .before .before .before .pre in omega (arith, S.sum-small x (c .before .before .before .before .before .before .whole-sum .ensures) (c .before .before .before .before .before .byte-at .ensures .0) (c .before .before .before .before .byte-at2 .ensures .0))
+add-area-2 c = 
+    let x = c .before .before .before .before .before .before .before .before .before .before .before .before .before .before .before .pre in
+    let s = c .before .before .before .before .before .before .whole-sum .ensures in
+    let l = c .before .before .before .before .before .byte-at .ensures .0 in
+    let o = c .before .before .before .before .byte-at2 .ensures .0 in
+    omega (arith, S.sum-small x s l o)
 
 -- src/lib.rt:240:5
 mul-area-2 : tie.Need-mul-area-2
-mul-area-2 c = let x = c .before .before .before .before .before .before .before .before .before .before .before .before .before .before .before .pre in omega (arith, S.next-small x (c .before .before .before .before .before .before .whole-sum .ensures) (c .before .before .before .before .before .byte-at .ensures .0) (c .before .before .before .before .byte-at2 .ensures .0) (c .before .before .write-block .ensures))
+mul-area-2 c = 
+    let x = c .before .before .before .before .before .before .before .before .before .before .before .before .before .before .before .pre in
+    let s = c .before .before .before .before .before .before .whole-sum .ensures in
+    let l = c .before .before .before .before .before .byte-at .ensures .0 in
+    let o = c .before .before .before .before .byte-at2 .ensures .0 in
+    let rules = c .before .before .write-block .ensures in
+    omega (arith, S.next-small x s l o rules)
 
 -- src/lib.rt:240:5
 slice-write-area : tie.Need-slice-write-area
-slice-write-area c = let x = c .before .before .before .before .before .before .before .before .before .before .before .before .before .before .before .pre in S.next-inside x (c .before .before .before .before .before .before .whole-sum .ensures) (c .before .before .before .before .before .byte-at .ensures .0) (c .before .before .before .before .byte-at2 .ensures .0) (c .before .before .write-block .ensures)
+slice-write-area c = 
+    let x = c .before .before .before .before .before .before .before .before .before .before .before .before .before .before .before .pre in
+    let s = c .before .before .before .before .before .before .whole-sum .ensures in
+    let l = c .before .before .before .before .before .byte-at .ensures .0 in
+    let o = c .before .before .before .before .byte-at2 .ensures .0 in
+    let rules = c .before .before .write-block .ensures in
+    S.next-inside x s l o rules
 
 -- src/lib.rt:241:5
 add-result : tie.Need-add-result
-add-result c = let x = c .before .before .before .before .before .before .before .before .before .before .before .before .before .before .before .pre in omega (arith, S.next-small x (c .before .before .before .before .before .before .whole-sum .ensures) (c .before .before .before .before .before .byte-at .ensures .0) (c .before .before .before .before .byte-at2 .ensures .0) (c .before .before .write-block .ensures))
+add-result c = 
+    let x = c .before .before .before .before .before .before .before .before .before .before .before .before .before .before .before .pre in
+    let s = c .before .before .before .before .before .before .whole-sum .ensures in
+    let l = c .before .before .before .before .before .byte-at .ensures .0 in
+    let o = c .before .before .before .before .byte-at2 .ensures .0 in
+    let rules = c .before .before .write-block .ensures in
+    omega (arith, S.next-small x s l o rules)
 
 -- src/lib.rt:223:1
 same-length : tie.Need-same-length
-same-length c = let x = c .before .before .before .before .before .before .before .before .before .before .before .before .before .before .before .pre in wrote-length (S.end-written x (c .before .before .before .before .before .before .whole-sum .ensures) (c .before .before .before .before .before .byte-at .ensures .0) (c .before .before .before .before .byte-at2 .ensures .0) (c .before .before .write-block .ensures))
+same-length c = 
+    let x = c .before .before .before .before .before .before .before .before .before .before .before .before .before .before .before .pre in
+    let s = c .before .before .before .before .before .before .whole-sum .ensures in
+    let l = c .before .before .before .before .before .byte-at .ensures .0 in
+    let o = c .before .before .before .before .byte-at2 .ensures .0 in
+    let rules = c .before .before .write-block .ensures in
+    wrote-length (S.end-written x s l o rules)
 
 -- src/lib.rt:223:1
 returns : tie.Need-returns
-returns c = λ x. S.end-written x (c .before .before .before .before .before .before .whole-sum .ensures) (c .before .before .before .before .before .byte-at .ensures .0) (c .before .before .before .before .byte-at2 .ensures .0) (c .before .before .write-block .ensures)
+returns c = 
+    let s = c .before .before .before .before .before .before .whole-sum .ensures in
+    let l = c .before .before .before .before .before .byte-at .ensures .0 in
+    let o = c .before .before .before .before .byte-at2 .ensures .0 in
+    let rules = c .before .before .write-block .ensures in
+    λ x. S.end-written x s l o rules
 
 pub write-end-spec : {M : Type 1} → statement M
 write-end-spec =

@@ -43,7 +43,12 @@ number-at-requires c κs = search needs
 
 -- src/lib.rt:139:9
 write-add-requires : tie.Need-write-add-requires
-write-add-requires c κs = let x = c .before .before .before .before .before .before .before .before .before .before .before .before .before .pre in S.add-fits x (c .before .before .before .before .byte-at .ensures .0) (c .before .before .before .count-at .ensures .0) (c .before .before .count-at2 .ensures .0)
+write-add-requires c κs = 
+    let x = c .before .before .before .before .before .before .before .before .before .before .before .before .before .pre in
+    let b = c .before .before .before .before .byte-at .ensures .0 in
+    let o = c .before .before .before .count-at .ensures .0 in
+    let u = c .before .before .count-at2 .ensures .0 in
+    S.add-fits x b o u
 
 -- src/lib.rt:145:9
 add-write-block : tie.Need-add-write-block
@@ -51,7 +56,14 @@ add-write-block c = search needs
 
 -- src/lib.rt:140:9
 write-block-requires : tie.Need-write-block-requires
-write-block-requires c κs = let x = c .before .before .before .before .before .before .before .before .before .before .before .before .before .before .before .before .before .pre in (S.top-small x (c .before .before .before .before .before .before .before .before .byte-at .ensures .0) (c .before .before .before .before .before .before .before .count-at .ensures .0) (c .before .before .before .before .before .before .count-at2 .ensures .0) (c .before .before .before .before .before .number-at .ensures), S.evaluate-fits x (c .before .before .before .before .before .before .before .before .byte-at .ensures .0) (c .before .before .before .before .before .before .before .count-at .ensures .0) (c .before .before .before .before .before .before .count-at2 .ensures .0) (c .before .before .before .before .before .number-at .ensures) (c .before .before .before .write-add .ensures))
+write-block-requires c κs = 
+    let x = c .before .before .before .before .before .before .before .before .before .before .before .before .before .before .before .before .before .pre in
+    let b = c .before .before .before .before .before .before .before .before .byte-at .ensures .0 in
+    let o = c .before .before .before .before .before .before .before .count-at .ensures .0 in
+    let u = c .before .before .before .before .before .before .count-at2 .ensures .0 in
+    let t = c .before .before .before .before .before .number-at .ensures in
+    let add = c .before .before .before .write-add .ensures in
+    (S.top-small x b o u t, S.evaluate-fits x b o u t add)
 
 -- src/lib.rt:151:20
 head-of-requires : tie.Need-head-of-requires
@@ -59,11 +71,27 @@ head-of-requires c κs = search needs
 
 -- src/lib.rt:151:5
 mul-area : tie.Need-mul-area
-mul-area c = let x = c .before .before .before .before .before .before .before .before .before .before .before .before .before .before .before .before .before .before .before .before .before .pre in omega (arith, S.next-small x (c .before .before .before .before .before .before .before .before .before .before .before .before .byte-at .ensures .0) (c .before .before .before .before .before .before .before .before .before .before .before .count-at .ensures .0) (c .before .before .before .before .before .before .before .before .before .before .count-at2 .ensures .0) (c .before .before .before .before .before .before .before .before .before .number-at .ensures) (c .before .before .before .before .before .before .before .write-add .ensures) (c .before .before .before .write-block .ensures))
+mul-area c = 
+    let x = c .before .before .before .before .before .before .before .before .before .before .before .before .before .before .before .before .before .before .before .before .before .pre in
+    let b = c .before .before .before .before .before .before .before .before .before .before .before .before .byte-at .ensures .0 in
+    let o = c .before .before .before .before .before .before .before .before .before .before .before .count-at .ensures .0 in
+    let u = c .before .before .before .before .before .before .before .before .before .before .count-at2 .ensures .0 in
+    let t = c .before .before .before .before .before .before .before .before .before .number-at .ensures in
+    let add = c .before .before .before .before .before .before .before .write-add .ensures in
+    let rules = c .before .before .before .write-block .ensures in
+    omega (arith, S.next-small x b o u t add rules)
 
 -- src/lib.rt:151:5
 slice-write-area : tie.Need-slice-write-area
-slice-write-area c = let x = c .before .before .before .before .before .before .before .before .before .before .before .before .before .before .before .before .before .before .before .before .before .pre in S.next-inside x (c .before .before .before .before .before .before .before .before .before .before .before .before .byte-at .ensures .0) (c .before .before .before .before .before .before .before .before .before .before .before .count-at .ensures .0) (c .before .before .before .before .before .before .before .before .before .before .count-at2 .ensures .0) (c .before .before .before .before .before .before .before .before .before .number-at .ensures) (c .before .before .before .before .before .before .before .write-add .ensures) (c .before .before .before .write-block .ensures)
+slice-write-area c = 
+    let x = c .before .before .before .before .before .before .before .before .before .before .before .before .before .before .before .before .before .before .before .before .before .pre in
+    let b = c .before .before .before .before .before .before .before .before .before .before .before .before .byte-at .ensures .0 in
+    let o = c .before .before .before .before .before .before .before .before .before .before .before .count-at .ensures .0 in
+    let u = c .before .before .before .before .before .before .before .before .before .before .count-at2 .ensures .0 in
+    let t = c .before .before .before .before .before .before .before .before .before .number-at .ensures in
+    let add = c .before .before .before .before .before .before .before .write-add .ensures in
+    let rules = c .before .before .before .write-block .ensures in
+    S.next-inside x b o u t add rules
 
 -- src/lib.rt:157:9
 add-write-block-2 : tie.Need-add-write-block-2
@@ -71,23 +99,65 @@ add-write-block-2 c = omega (arith, S.index-small (c .before .before .before .be
 
 -- src/lib.rt:158:9
 sub-write-block : tie.Need-sub-write-block
-sub-write-block c = let x = c .before .before .before .before .before .before .before .before .before .before .before .before .before .before .before .before .before .before .before .before .before .pre in S.own-below x (c .before .before .before .before .before .before .before .before .before .before .before .before .byte-at .ensures .0) (c .before .before .before .before .before .before .before .before .before .before .before .count-at .ensures .0) (c .before .before .before .before .before .before .before .before .before .before .count-at2 .ensures .0) (c .before .before .before .before .before .before .before .before .before .number-at .ensures)
+sub-write-block c = 
+    let x = c .before .before .before .before .before .before .before .before .before .before .before .before .before .before .before .before .before .before .before .before .before .pre in
+    let b = c .before .before .before .before .before .before .before .before .before .before .before .before .byte-at .ensures .0 in
+    let o = c .before .before .before .before .before .before .before .before .before .before .before .count-at .ensures .0 in
+    let u = c .before .before .before .before .before .before .before .before .before .before .count-at2 .ensures .0 in
+    let t = c .before .before .before .before .before .before .before .before .before .number-at .ensures in
+    S.own-below x b o u t
 
 -- src/lib.rt:161:9
 add-write-block-3 : tie.Need-add-write-block-3
-add-write-block-3 c = let x = c .before .before .before .before .before .before .before .before .before .before .before .before .before .before .before .before .before .before .before .before .before .before .pre in omega (arith, S.next-small x (c .before .before .before .before .before .before .before .before .before .before .before .before .before .byte-at .ensures .0) (c .before .before .before .before .before .before .before .before .before .before .before .before .count-at .ensures .0) (c .before .before .before .before .before .before .before .before .before .before .before .count-at2 .ensures .0) (c .before .before .before .before .before .before .before .before .before .before .number-at .ensures) (c .before .before .before .before .before .before .before .before .write-add .ensures) (c .before .before .before .before .write-block .ensures))
+add-write-block-3 c = 
+    let x = c .before .before .before .before .before .before .before .before .before .before .before .before .before .before .before .before .before .before .before .before .before .before .pre in
+    let b = c .before .before .before .before .before .before .before .before .before .before .before .before .before .byte-at .ensures .0 in
+    let o = c .before .before .before .before .before .before .before .before .before .before .before .before .count-at .ensures .0 in
+    let u = c .before .before .before .before .before .before .before .before .before .before .before .count-at2 .ensures .0 in
+    let t = c .before .before .before .before .before .before .before .before .before .before .number-at .ensures in
+    let add = c .before .before .before .before .before .before .before .before .write-add .ensures in
+    let rules = c .before .before .before .before .write-block .ensures in
+    omega (arith, S.next-small x b o u t add rules)
 
 -- src/lib.rt:152:5
 write-block-requires-2 : tie.Need-write-block-requires-2
-write-block-requires-2 c κs = let x = c .before .before .before .before .before .before .before .before .before .before .before .before .before .before .before .before .before .before .before .before .before .before .pre in (omega (arith, S.top-small x (c .before .before .before .before .before .before .before .before .before .before .before .before .before .byte-at .ensures .0) (c .before .before .before .before .before .before .before .before .before .before .before .before .count-at .ensures .0) (c .before .before .before .before .before .before .before .before .before .before .before .count-at2 .ensures .0) (c .before .before .before .before .before .before .before .before .before .before .number-at .ensures)), S.test-fits x (c .before .before .before .before .before .before .before .before .before .before .before .before .before .byte-at .ensures .0) (c .before .before .before .before .before .before .before .before .before .before .before .before .count-at .ensures .0) (c .before .before .before .before .before .before .before .before .before .before .before .count-at2 .ensures .0) (c .before .before .before .before .before .before .before .before .before .before .number-at .ensures) (c .before .before .before .before .before .before .before .before .write-add .ensures) (c .before .before .before .before .write-block .ensures) (c .before .head-of .ensures))
+write-block-requires-2 c κs = 
+    let x = c .before .before .before .before .before .before .before .before .before .before .before .before .before .before .before .before .before .before .before .before .before .before .pre in
+    let b = c .before .before .before .before .before .before .before .before .before .before .before .before .before .byte-at .ensures .0 in
+    let o = c .before .before .before .before .before .before .before .before .before .before .before .before .count-at .ensures .0 in
+    let u = c .before .before .before .before .before .before .before .before .before .before .before .count-at2 .ensures .0 in
+    let t = c .before .before .before .before .before .before .before .before .before .before .number-at .ensures in
+    let add = c .before .before .before .before .before .before .before .before .write-add .ensures in
+    let rules = c .before .before .before .before .write-block .ensures in
+    let head = c .before .head-of .ensures in
+    (omega (arith, S.top-small x b o u t), S.test-fits x b o u t add rules head)
 
 -- src/lib.rt:120:1
 same-length : tie.Need-same-length
-same-length c = let x = c .before .before .before .before .before .before .before .before .before .before .before .before .before .before .before .before .before .before .before .before .before .before .before .before .before .pre in wrote-length (S.symbol-written x (c .before .before .before .before .before .before .before .before .before .before .before .before .before .before .before .before .byte-at .ensures .0) (c .before .before .before .before .before .before .before .before .before .before .before .before .before .before .before .count-at .ensures .0) (c .before .before .before .before .before .before .before .before .before .before .before .before .before .before .count-at2 .ensures .0) (c .before .before .before .before .before .before .before .before .before .before .before .before .before .number-at .ensures) (c .before .before .before .before .before .before .before .before .before .before .before .write-add .ensures) (c .before .before .before .before .before .before .before .write-block .ensures) (c .before .before .before .before .head-of .ensures) (c .before .before .write-block2 .ensures))
+same-length c = 
+    let x = c .before .before .before .before .before .before .before .before .before .before .before .before .before .before .before .before .before .before .before .before .before .before .before .before .before .pre in
+    let b = c .before .before .before .before .before .before .before .before .before .before .before .before .before .before .before .before .byte-at .ensures .0 in
+    let o = c .before .before .before .before .before .before .before .before .before .before .before .before .before .before .before .count-at .ensures .0 in
+    let u = c .before .before .before .before .before .before .before .before .before .before .before .before .before .before .count-at2 .ensures .0 in
+    let t = c .before .before .before .before .before .before .before .before .before .before .before .before .before .number-at .ensures in
+    let add = c .before .before .before .before .before .before .before .before .before .before .before .write-add .ensures in
+    let rules = c .before .before .before .before .before .before .before .write-block .ensures in
+    let head = c .before .before .before .before .head-of .ensures in
+    let tests = c .before .before .write-block2 .ensures in
+    wrote-length (S.symbol-written x b o u t add rules head tests)
 
 -- src/lib.rt:120:1
 returns : tie.Need-returns
-returns c = λ x. S.symbol-written x (c .before .before .before .before .before .before .before .before .before .before .before .before .before .before .before .before .byte-at .ensures .0) (c .before .before .before .before .before .before .before .before .before .before .before .before .before .before .before .count-at .ensures .0) (c .before .before .before .before .before .before .before .before .before .before .before .before .before .before .count-at2 .ensures .0) (c .before .before .before .before .before .before .before .before .before .before .before .before .before .number-at .ensures) (c .before .before .before .before .before .before .before .before .before .before .before .write-add .ensures) (c .before .before .before .before .before .before .before .write-block .ensures) (c .before .before .before .before .head-of .ensures) (c .before .before .write-block2 .ensures)
+returns c = 
+    let b = c .before .before .before .before .before .before .before .before .before .before .before .before .before .before .before .before .byte-at .ensures .0 in
+    let o = c .before .before .before .before .before .before .before .before .before .before .before .before .before .before .before .count-at .ensures .0 in
+    let u = c .before .before .before .before .before .before .before .before .before .before .before .before .before .before .count-at2 .ensures .0 in
+    let t = c .before .before .before .before .before .before .before .before .before .before .before .before .before .number-at .ensures in
+    let add = c .before .before .before .before .before .before .before .before .before .before .before .write-add .ensures in
+    let rules = c .before .before .before .before .before .before .before .write-block .ensures in
+    let head = c .before .before .before .before .head-of .ensures in
+    let tests = c .before .before .write-block2 .ensures in
+    λ x. S.symbol-written x b o u t add rules head tests
 
 pub write-symbol-spec : {M : Type 1} → statement M
 write-symbol-spec =
