@@ -23,19 +23,27 @@ abbrev μ-loop : tie.MeasureT-loop
 
 -- src/records.rt:146:22
 mul-at : tie.Need-mul-at Inv-loop μ-loop
-mul-at c = omega (arith, L.numbers-small (c .before .before .before .before .before .before .before .before .pre .0) .0)
+mul-at c = 
+    let n = L.numbers-small (c .before .before .before .before .before .before .before .before .pre .0) in
+    omega (arith, n .0)
 
 -- src/records.rt:146:18
 add-at : tie.Need-add-at Inv-loop μ-loop
-add-at c = omega (arith, L.numbers-small (c .before .before .before .before .before .before .before .before .pre .0) .0)
+add-at c = 
+    let n = L.numbers-small (c .before .before .before .before .before .before .before .before .pre .0) in
+    omega (arith, n .0)
 
 -- src/records.rt:147:25
 mul-body : tie.Need-mul-body Inv-loop μ-loop
-mul-body c = omega (arith, L.numbers-small (c .before .before .before .before .before .before .before .before .pre .0) .3)
+mul-body c = 
+    let n = L.numbers-small (c .before .before .before .before .before .before .before .before .pre .0) in
+    omega (arith, n .3)
 
 -- src/records.rt:147:20
 add-body : tie.Need-add-body Inv-loop μ-loop
-add-body c = omega (arith, L.numbers-small (c .before .before .before .before .before .before .before .before .pre .0) .0, L.numbers-small (c .before .before .before .before .before .before .before .before .pre .0) .3)
+add-body c = 
+    let n = L.numbers-small (c .before .before .before .before .before .before .before .before .pre .0) in
+    omega (arith, n .0, n .3)
 
 -- src/records.rt:148:17
 find-nexts-requires : tie.Need-find-nexts-requires Inv-loop μ-loop
@@ -43,7 +51,9 @@ find-nexts-requires c κs = alternatives (c .before .before .before .before .bef
 
 -- src/records.rt:151:5
 loop-holds : tie.Need-loop-holds Inv-loop μ-loop
-loop-holds c = (omega arith, refl, omega (arith, L.numbers-small (c .before .before .before .before .before .before .before .before .before .pre .0) .0), refl, S.productions-start (c .before .before .before .before .before .before .before .before .before .pre .1))
+loop-holds c = 
+    let n = L.numbers-small (c .before .before .before .before .before .before .before .before .before .pre .0) in
+    (omega arith, refl, omega (arith, n .0), refl, S.productions-start (c .before .before .before .before .before .before .before .before .before .pre .1))
 
 -- src/records.rt:160:13
 slice-aggregate-write-production : tie.Need-slice-aggregate-write-production Inv-loop μ-loop
@@ -55,7 +65,10 @@ slice-aggregate-write-production-2 c = sym (c .before .before .before .loop .inv
 
 -- src/records.rt:152:9
 write-production-requires : tie.Need-write-production-requires Inv-loop μ-loop
-write-production-requires c κs = (S.production-fits (c .before .before .before .before .before .before .before .before .before .before .before .before .before .before .pre .1) (c .before .before .before .before .loop .inv .4) (omega arith) (c .before .before .before .before .before .before .before .before .before .before .before .before .before .before .pre .0), c .before .before .before .before .before .find-nexts .ensures, c .before .before .before .before .loop .inv .3)
+write-production-requires c κs = 
+    let i = c .before .before .before .before .loop .inv in
+    let pre = c .before .before .before .before .before .before .before .before .before .before .before .before .before .before .pre in
+    (S.production-fits (pre .1) (i .4) (omega arith) (pre .0), c .before .before .before .before .before .find-nexts .ensures, i .3)
 
 -- src/records.rt:167:14
 add-at-2 : tie.Need-add-at-2 Inv-loop μ-loop
@@ -63,7 +76,9 @@ add-at-2 c = omega arith
 
 -- src/records.rt:168:9
 add-p : tie.Need-add-p Inv-loop μ-loop
-add-p c = omega (arith, L.numbers-small (c .before .before .before .before .before .before .before .before .before .before .before .before .before .before .before .before .before .before .pre .0) .3)
+add-p c = 
+    let n = L.numbers-small (c .before .before .before .before .before .before .before .before .before .before .before .before .before .before .before .before .before .before .pre .0) in
+    omega (arith, n .3)
 
 -- src/records.rt:151:5
 loop-less : tie.Need-loop-less Inv-loop μ-loop
@@ -71,15 +86,23 @@ loop-less c = omega arith
 
 -- src/records.rt:151:5
 loop-again : tie.Need-loop-again Inv-loop μ-loop
-loop-again c = let i = c .before .before .before .before .before .before .before .before .loop .inv in let long = c .before .before .before .before .before .before .before .before .before .before .before .before .before .before .before .before .before .before .pre .1 in (omega arith, i .1, S.record-low long (i .4) (omega arith) (c .before .before .before .before .before .before .before .before .before .before .before .before .before .before .before .before .before .before .pre .0), c .before .before .before .write-production .ensures .0, S.productions-turn long (i .4) (omega arith) (c .before .before .before .write-production .ensures .1))
+loop-again c = 
+    let i = c .before .before .before .before .before .before .before .before .loop .inv in
+    let pre = c .before .before .before .before .before .before .before .before .before .before .before .before .before .before .before .before .before .before .pre in
+    let wrote = c .before .before .before .write-production .ensures in
+    (omega arith, i .1, S.record-low (pre .1) (i .4) (omega arith) (pre .0), wrote .0, S.productions-turn (pre .1) (i .4) (omega arith) (wrote .1))
 
 -- src/records.rt:132:1
 same-length : tie.Need-same-length Inv-loop μ-loop
-same-length c = S.productions-size (c .before .before .before .before .before .before .before .before .before .before .before .pre .1) (c .before .loop .inv .4) (c .before .before .before .before .before .before .before .before .before .before .before .pre .0)
+same-length c = 
+    let pre = c .before .before .before .before .before .before .before .before .before .before .before .pre in
+    S.productions-size (pre .1) (c .before .loop .inv .4) (pre .0)
 
 -- src/records.rt:132:1
 returns : tie.Need-returns Inv-loop μ-loop
-returns c = λ x. S.productions-end (c .before .before .before .before .before .before .before .before .before .before .before .pre .1) (c .before .loop .inv .4) (omega arith) x
+returns c = 
+    let pre = c .before .before .before .before .before .before .before .before .before .before .before .pre in
+    λ x. S.productions-end (pre .1) (c .before .loop .inv .4) (omega arith) x
 
 pub write-productions-spec : {M : Type 1} → statement M
 write-productions-spec =
