@@ -1,12 +1,12 @@
 -- The fields of a production's rules and conditions, walked one after the other.
-use Prim.Native.Nat.{ℕ, zero, suc, _+_, _*_, _≤_, _<_}
+use Prim.Native.Nat.{ℕ, _+_, _*_, _≤_, _<_}
 use native.Mathlib.Omega.{arith}
 use mathlib.Core.Path.{_≡_, refl, sym, ap, ap₂, _∙_, subst}
 use mathlib.Core.Logic.{inl, inr}
 use mathlib.Core.Bool.{Bool, true, false}
 use mathlib.Core.List.{List, [], _∷_, _++_, map}
 use mathlib.Core.Option.{none, some}
-use lib.ListN.{length, drop, getD, length-append, length-map, length-drop}
+use lib.ListN.{length, drop, length-append, length-drop}
 use lib.Seq.{drop-append-seam, drop-drop}
 use lib.Dec.{eqb}
 use borrow.Author.Tests.{ne-eqb}
@@ -17,9 +17,8 @@ use Rattle.meaning.specs.Layout.{field, ruleBytes, conditionBytes, RulesAndCond
 use Rattle.meaning.specs.Scheme.{mapRule, mapCondition}
 use Rattle.meaning.specs.Program.{concat, ruleWords, conditionWords}
 use Rattle.meaning.specs.Table.{byte}
-use Rattle.theory_program.specs.Code.{rules-length, conditions-length}
 use Rattle.theory_program.specs.Proper.{keep-few}
-use Rattle.blocks.specs.Items.{selectorOf, ruleItem, rule-item, conditionItem, condition-item, conditionPlace, condition-place, chooseWords, placeOf, itemOf, itemSize, itemHere}
+use Rattle.blocks.specs.Items.{selectorOf, rule-item, condition-item, condition-place, chooseWords, placeOf, itemOf, itemHere}
 
 -- the rules and conditions that a list of bytes holds
 pub record Listed (d : List ℕ) : Type 0 where
@@ -50,11 +49,6 @@ itemWords rules top below k x = wordsOf rules top below k (x .rules) (x .conditi
 
 abbrev pub itemCount : Bool → ℕ → {d : List ℕ} → Listed d → ℕ
 itemCount rules k x = countOf rules k (x .rules) (x .conditions)
-
-pub words-length : (rules : Bool) (top : ℕ) (below : List ℕ) (k : ℕ) (rs : List (Rule Occurrence)) (cs : List (Condition Occurrence)) → length (wordsOf rules top below k rs cs) ≡ itemSize rules * countOf rules k rs cs
-unfolding wordsOf countOf
-words-length true top below k rs cs = rules-length (map (mapRule (selectorOf top below)) (rulesAt k rs)) ∙ ap (λ n. 2 * n) (length-map (rulesAt k rs) (mapRule (selectorOf top below)))
-words-length false top below k rs cs = conditions-length (map (mapCondition (selectorOf top below)) (testsAt k cs)) ∙ ap (λ n. 3 * n) (length-map (testsAt k cs) (mapCondition (selectorOf top below)))
 
 -- ---- one field
 

@@ -1,8 +1,8 @@
 -- The body of a production, part by part.
-use Prim.Native.Nat.{ℕ, _+_, _*_, _≤_, _<_}
+use Prim.Native.Nat.{ℕ, _+_, _*_, _≤_}
 use native.Mathlib.Omega.{arith}
 use mathlib.Core.Path.{_≡_, sym, ap, _∙_}
-use mathlib.Core.Bool.{true, false}
+use mathlib.Core.Bool.{false}
 use mathlib.Core.List.{List, _++_, append-assoc}
 use lib.ListN.{length, getD, length-append}
 use Rattle.meaning.specs.Grammar.{Production, Grammar}
@@ -62,36 +62,36 @@ module _ {row fields inherited synthesized marks links area : List ℕ} {carryin
       entry-is = omega (arith, w1 .address, expects-count (a + schemeOffset g p))
 
       module _ {l : ℕ} (last-is : l ≡ getD marks 33 0) where
-       pub items-fit : ItemsFit fields links false t l m1 entry
-       items-fit = record {
-         chain = rw (et, last-is) (x .found .chains false 0 (omega arith));
-         few = omega (arith, count-is, count-few fields (listedOf (x .given)) false 0, x .given .short);
-         room = omega (arith, x .room, x .long, body-size g p, entry-is, wrote-length w1, tests-is);
-       }
+        pub items-fit : ItemsFit fields links false t l m1 entry
+        items-fit = record {
+          chain = rw (et, last-is) (x .found .chains false 0 (omega arith));
+          few = omega (arith, count-is, count-few fields (listedOf (x .given)) false 0, x .given .short);
+          room = omega (arith, x .room, x .long, body-size g p, entry-is, wrote-length w1, tests-is);
+        }
 
-       module _ {m2 : List ℕ} {first : ℕ} (f2 : Wrote m1 m2 entry first (chainWords false 0 levels fields links t l)) where
-        chain-is : chainWords false 0 levels fields links t l ≡ itemWords false 0 levels 0 (listedOf (x .given))
-        chain-is = rw (et, last-is) (sym (x .found .words false 0 levels 0 (omega arith)))
+        module _ {m2 : List ℕ} {first : ℕ} (f2 : Wrote m1 m2 entry first (chainWords false 0 levels fields links t l)) where
+          chain-is : chainWords false 0 levels fields links t l ≡ itemWords false 0 levels 0 (listedOf (x .given))
+          chain-is = rw (et, last-is) (sym (x .found .words false 0 levels 0 (omega arith)))
 
-        w2 : Wrote area m2 a first (restExpects g p 0 (a + schemeOffset g p) ++ entryWords g p)
-        w2 = wrote-then w1 (wrote-as (chain-is ∙ (ap (λ z. wordsOf false z levels 0 (p .rules) (p .conditions)) (sym (syn-none g p 0)) ∙ tests-words g p (x .given .ofGrammar) levels (el (x .given) (x .carried)) 0 (omega arith))) f2)
+          w2 : Wrote area m2 a first (restExpects g p 0 (a + schemeOffset g p) ++ entryWords g p)
+          w2 = wrote-then w1 (wrote-as (chain-is ∙ (ap (λ z. wordsOf false z levels 0 (p .rules) (p .conditions)) (sym (syn-none g p 0)) ∙ tests-words g p (x .given .ofGrammar) levels (el (x .given) (x .carried)) 0 (omega arith))) f2)
 
-        first-is : first ≡ a + length (p .right) + 3 * length (entryTests g p)
-        first-is = omega (arith, w2 .address, length-append (restExpects g p 0 (a + schemeOffset g p)) (entryWords g p), expects-count (a + schemeOffset g p), conditions-length (entryTests g p))
+          first-is : first ≡ a + length (p .right) + 3 * length (entryTests g p)
+          first-is = omega (arith, w2 .address, length-append (restExpects g p 0 (a + schemeOffset g p)) (entryWords g p), expects-count (a + schemeOffset g p), conditions-length (entryTests g p))
 
-        pub symbols-fit : SymbolsFit row fields inherited synthesized marks links levels m2 first
-        unfolding prepared
-        symbols-fit = record { prepared = prepared; room = omega (arith, x .room, body-size g p, first-is); long = omega (arith, x .long, wrote-length w2) }
+          pub symbols-fit : SymbolsFit row fields inherited synthesized marks links levels m2 first
+          unfolding prepared
+          symbols-fit = record { prepared = prepared; room = omega (arith, x .room, body-size g p, first-is); long = omega (arith, x .long, wrote-length w2) }
 
-        module _ {m3 : List ℕ} {end : ℕ} (f3 : (y : SymbolsFit row fields inherited synthesized marks links levels m2 first) → Wrote m2 m3 first end (restWords (y .prepared .given .grammar) (y .prepared .given .production) 0)) where
-          w3 : Wrote area m3 a end ((restExpects g p 0 (a + schemeOffset g p) ++ entryWords g p) ++ restWords g p 0)
-          unfolding symbols-fit prepared
-          w3 = wrote-then w2 (f3 symbols-fit)
+          module _ {m3 : List ℕ} {end : ℕ} (f3 : (y : SymbolsFit row fields inherited synthesized marks links levels m2 first) → Wrote m2 m3 first end (restWords (y .prepared .given .grammar) (y .prepared .given .production) 0)) where
+            w3 : Wrote area m3 a end ((restExpects g p 0 (a + schemeOffset g p) ++ entryWords g p) ++ restWords g p 0)
+            unfolding symbols-fit prepared
+            w3 = wrote-then w2 (f3 symbols-fit)
 
-          pub end-fit : EndFits row fields inherited synthesized marks links levels m3 end
-          unfolding prepared symbols-fit
-          end-fit = record { prepared = prepared; room = omega (arith, x .room, body-size g p, first-is, f3 symbols-fit .address); long = omega (arith, x .long, wrote-length w3) }
+            pub end-fit : EndFits row fields inherited synthesized marks links levels m3 end
+            unfolding prepared symbols-fit
+            end-fit = record { prepared = prepared; room = omega (arith, x .room, body-size g p, first-is, f3 symbols-fit .address); long = omega (arith, x .long, wrote-length w3) }
 
-          pub body-written : {new : List ℕ} {last : ℕ} → ((y : EndFits row fields inherited synthesized marks links levels m3 end) → Wrote m3 new end last (endWords (y .prepared .given .grammar) (y .prepared .given .production))) → Wrote area new a last (bodyWords g a p)
-          unfolding end-fit prepared
-          body-written f4 = wrote-as (simp append-assoc (sym (body-words g p a))) (wrote-then w3 (f4 end-fit))
+            pub body-written : {new : List ℕ} {last : ℕ} → ((y : EndFits row fields inherited synthesized marks links levels m3 end) → Wrote m3 new end last (endWords (y .prepared .given .grammar) (y .prepared .given .production))) → Wrote area new a last (bodyWords g a p)
+            unfolding end-fit prepared
+            body-written f4 = wrote-as (simp append-assoc (sym (body-words g p a))) (wrote-then w3 (f4 end-fit))

@@ -291,8 +291,8 @@ pub fn write_body(
 {
     let levels = find_levels(row, fields, inherited, synthesized, carrying);
     let size = value::byte_at(row, 1) as usize;
-    let entries = number_at(marks, 1);
-    let scheme = address + size + 3 * entries as usize;
+    let tests = number_at(marks, 1);
+    let scheme = address + size + 3 * tests as usize;
     let entry = write_expects(
         row,
         fields,
@@ -306,17 +306,7 @@ pub fn write_body(
         scheme,
     );
     let last = number_at(marks, 33);
-    let first = blocks::write_items(
-        fields,
-        links,
-        false,
-        entries,
-        last,
-        0,
-        &levels,
-        area,
-        entry,
-    );
+    let first = blocks::write_items(fields, links, false, tests, last, 0, &levels, area, entry);
     let end = write_symbols(
         row,
         fields,

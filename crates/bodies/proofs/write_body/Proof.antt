@@ -8,43 +8,27 @@ use Rattle.bodies.proofs.Bodies as B
 use borrow.Author.Needs.{needs}
 use Rattle.bodies.proofs.write_body.Statement.{statement}
 use Rattle.bodies.proofs.write_body.Tie as tie
-use Rattle.bodies.proofs.write_body.Reads as reads
-use Rattle.bodies.proofs.write_body.Lts as lts
-use Rattle.blocks.proofs.write_items.Reads as write-items-reads
-use Rattle.bodies.proofs.find_levels.Reads as find-levels-reads
-use Rattle.bodies.proofs.number_at.Reads as number-at-reads
-use Rattle.bodies.proofs.write_end.Reads as write-end-reads
-use Rattle.bodies.proofs.write_expects.Reads as write-expects-reads
-use Rattle.bodies.proofs.write_symbols.Reads as write-symbols-reads
-use Rattle.value.proofs.byte_at.Reads as byte-at-reads
 
--- src/lib.rt:292:18
 find-levels-requires : tie.Need-find-levels-requires
 find-levels-requires c κs = c .before .before .before .before .before .before .before .pre .given
 
--- src/lib.rt:293:16
 byte-at-requires : tie.Need-byte-at-requires
 byte-at-requires c κs = search needs
 
--- src/lib.rt:293:16
 cast-size : tie.Need-cast-size
 cast-size c = search needs
 
--- src/lib.rt:294:9
 number-at-requires : tie.Need-number-at-requires
 number-at-requires c κs = search needs
 
--- src/lib.rt:295:18
 add-scheme : tie.Need-add-scheme
 add-scheme c = omega (arith, c .before .before .before .before .before .before .before .before .before .before .pre .room, c .before .byte-at .ensures .1)
 
--- src/lib.rt:295:39
 cast-scheme : tie.Need-cast-scheme
 cast-scheme c = search needs
 
--- src/lib.rt:295:35
 mul-scheme : tie.Need-mul-scheme
-mul-scheme c = 
+mul-scheme c =
     let x = c .before .before .before .before .before .before .before .before .before .before .pre in
     let levels = c .before .before .find-levels .result in
     let is-levels = c .before .before .find-levels .ensures .1 in
@@ -52,9 +36,8 @@ mul-scheme c =
     let t = c .number-at .ensures in
     omega (arith, B.numbers-small x levels is-levels n t)
 
--- src/lib.rt:295:18
 add-scheme-2 : tie.Need-add-scheme-2
-add-scheme-2 c = 
+add-scheme-2 c =
     let x = c .before .before .before .before .before .before .before .before .before .before .pre in
     let levels = c .before .before .find-levels .result in
     let is-levels = c .before .before .find-levels .ensures .1 in
@@ -62,13 +45,11 @@ add-scheme-2 c =
     let t = c .number-at .ensures in
     omega (arith, B.numbers-small x levels is-levels n t)
 
--- src/lib.rt:303:9
 slice-aggregate-write-expects : tie.Need-slice-aggregate-write-expects
 slice-aggregate-write-expects c = search needs
 
--- src/lib.rt:296:9
 write-expects-requires : tie.Need-write-expects-requires
-write-expects-requires c κs = 
+write-expects-requires c κs =
     let x = c .before .before .before .before .before .before .before .before .before .before .before .before .pre in
     let levels = c .before .before .before .before .find-levels .result in
     let is-levels = c .before .before .before .before .find-levels .ensures .1 in
@@ -76,17 +57,14 @@ write-expects-requires c κs =
     let t = c .before .before .number-at .ensures in
     B.expects-fit x levels is-levels n t
 
--- src/lib.rt:308:9
 number-at-requires-2 : tie.Need-number-at-requires-2
 number-at-requires-2 c κs = search needs
 
--- src/lib.rt:316:9
 slice-aggregate-write-items : tie.Need-slice-aggregate-write-items
 slice-aggregate-write-items c = search needs
 
--- src/lib.rt:309:9
 write-items-requires : tie.Need-write-items-requires
-write-items-requires c κs = 
+write-items-requires c κs =
     let x = c .before .before .before .before .before .before .before .before .before .before .before .before .before .before .before .before .before .before .pre in
     let levels = c .before .before .before .before .before .before .before .before .before .before .find-levels .result in
     let is-levels = c .before .before .before .before .before .before .before .before .before .before .find-levels .ensures .1 in
@@ -96,13 +74,11 @@ write-items-requires c κs =
     let last = c .before .before .number-at2 .ensures in
     (omega arith, B.items-fit x levels is-levels n t expects last)
 
--- src/lib.rt:327:9
 slice-aggregate-write-symbols : tie.Need-slice-aggregate-write-symbols
 slice-aggregate-write-symbols c = search needs
 
--- src/lib.rt:320:9
 write-symbols-requires : tie.Need-write-symbols-requires
-write-symbols-requires c κs = 
+write-symbols-requires c κs =
     let x = c .before .before .before .before .before .before .before .before .before .before .before .before .before .before .before .before .before .before .before .before .before .before .before .pre in
     let levels = c .before .before .before .before .before .before .before .before .before .before .before .before .before .before .before .find-levels .result in
     let is-levels = c .before .before .before .before .before .before .before .before .before .before .before .before .before .before .before .find-levels .ensures .1 in
@@ -113,13 +89,11 @@ write-symbols-requires c κs =
     let entry = c .before .before .before .before .write-items .ensures in
     B.symbols-fit x levels is-levels n t expects last entry
 
--- src/lib.rt:338:9
 slice-aggregate-write-end : tie.Need-slice-aggregate-write-end
 slice-aggregate-write-end c = sym (c .before .before .before .before .before .before .before .before .before .before .before .before .before .before .before .before .before .before .before .find-levels .ensures .0)
 
--- src/lib.rt:331:5
 write-end-requires : tie.Need-write-end-requires
-write-end-requires c κs = 
+write-end-requires c κs =
     let x = c .before .before .before .before .before .before .before .before .before .before .before .before .before .before .before .before .before .before .before .before .before .before .before .before .before .before .before .before .pre in
     let levels = c .before .before .before .before .before .before .before .before .before .before .before .before .before .before .before .before .before .before .before .before .find-levels .result in
     let is-levels = c .before .before .before .before .before .before .before .before .before .before .before .before .before .before .before .before .before .before .before .before .find-levels .ensures .1 in
@@ -131,9 +105,8 @@ write-end-requires c κs =
     let symbols = c .before .before .before .before .write-symbols .ensures in
     B.end-fit x levels is-levels n t expects last entry symbols
 
--- src/lib.rt:278:1
 same-length : tie.Need-same-length
-same-length c = 
+same-length c =
     let x = c .before .before .before .before .before .before .before .before .before .before .before .before .before .before .before .before .before .before .before .before .before .before .before .before .before .before .before .before .before .before .before .pre in
     let levels = c .before .before .before .before .before .before .before .before .before .before .before .before .before .before .before .before .before .before .before .before .before .before .before .find-levels .result in
     let is-levels = c .before .before .before .before .before .before .before .before .before .before .before .before .before .before .before .before .before .before .before .before .before .before .before .find-levels .ensures .1 in
@@ -146,9 +119,8 @@ same-length c =
     let end = c .before .before .write-end .ensures in
     wrote-length (B.body-written x levels is-levels n t expects last entry symbols end)
 
--- src/lib.rt:278:1
 returns : tie.Need-returns
-returns c = 
+returns c =
     let levels = c .before .before .before .before .before .before .before .before .before .before .before .before .before .before .before .before .before .before .before .before .before .before .before .find-levels .result in
     let is-levels = c .before .before .before .before .before .before .before .before .before .before .before .before .before .before .before .before .before .before .before .before .before .before .before .find-levels .ensures .1 in
     let n = c .before .before .before .before .before .before .before .before .before .before .before .before .before .before .before .before .before .before .before .before .before .before .byte-at .ensures .0 in

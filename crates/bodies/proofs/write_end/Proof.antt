@@ -4,67 +4,53 @@ use Rattle.bodies.proofs.Schemes as S
 use borrow.Author.Needs.{needs}
 use Rattle.bodies.proofs.write_end.Statement.{statement}
 use Rattle.bodies.proofs.write_end.Tie as tie
-use Rattle.bodies.proofs.write_end.Reads as reads
-use Rattle.bodies.proofs.write_end.Lts as lts
-use Rattle.blocks.proofs.write_block.Reads as write-block-reads
-use Rattle.bodies.proofs.whole_sum.Reads as whole-sum-reads
-use Rattle.value.proofs.byte_at.Reads as byte-at-reads
 
--- src/lib.rt:237:9
 whole-sum-requires : tie.Need-whole-sum-requires
 whole-sum-requires c κs = c .before .before .before .before .before .before .before .before .pre .prepared
 
--- src/lib.rt:238:41
 byte-at-requires : tie.Need-byte-at-requires
 byte-at-requires c κs = search needs
 
--- src/lib.rt:238:41
 cast-byte-at : tie.Need-cast-byte-at
 cast-byte-at c = search needs
 
--- src/lib.rt:238:9
 byte-at-requires-2 : tie.Need-byte-at-requires-2
 byte-at-requires-2 c κs = search needs
 
--- src/lib.rt:239:9
 write-block-requires : tie.Need-write-block-requires
-write-block-requires c κs = 
+write-block-requires c κs =
     let x = c .before .before .before .before .before .before .before .before .before .before .before .before .pre in
     let s = c .before .before .before .whole-sum .ensures in
     let l = c .before .before .byte-at .ensures .0 in
     let o = c .before .byte-at2 .ensures .0 in
     (omega (arith, S.sum-small x s l o), S.end-block x s l o)
 
--- src/lib.rt:240:29
 add-area : tie.Need-add-area
-add-area c = 
+add-area c =
     let x = c .before .before .before .before .before .before .before .before .before .before .before .before .before .before .before .pre in
     let s = c .before .before .before .before .before .before .whole-sum .ensures in
     let l = c .before .before .before .before .before .byte-at .ensures .0 in
     let o = c .before .before .before .before .byte-at2 .ensures .0 in
     omega (arith, S.sum-small x s l o)
 
--- src/lib.rt:240:24
 mul-area : tie.Need-mul-area
-mul-area c = 
+mul-area c =
     let x = c .before .before .before .before .before .before .before .before .before .before .before .before .before .before .before .pre in
     let s = c .before .before .before .before .before .before .whole-sum .ensures in
     let l = c .before .before .before .before .before .byte-at .ensures .0 in
     let o = c .before .before .before .before .byte-at2 .ensures .0 in
     omega (arith, S.sum-small x s l o)
 
--- src/lib.rt:240:20
 add-area-2 : tie.Need-add-area-2
-add-area-2 c = 
+add-area-2 c =
     let x = c .before .before .before .before .before .before .before .before .before .before .before .before .before .before .before .pre in
     let s = c .before .before .before .before .before .before .whole-sum .ensures in
     let l = c .before .before .before .before .before .byte-at .ensures .0 in
     let o = c .before .before .before .before .byte-at2 .ensures .0 in
     omega (arith, S.sum-small x s l o)
 
--- src/lib.rt:240:5
 mul-area-2 : tie.Need-mul-area-2
-mul-area-2 c = 
+mul-area-2 c =
     let x = c .before .before .before .before .before .before .before .before .before .before .before .before .before .before .before .pre in
     let s = c .before .before .before .before .before .before .whole-sum .ensures in
     let l = c .before .before .before .before .before .byte-at .ensures .0 in
@@ -72,9 +58,8 @@ mul-area-2 c =
     let rules = c .before .before .write-block .ensures in
     omega (arith, S.next-small x s l o rules)
 
--- src/lib.rt:240:5
 slice-write-area : tie.Need-slice-write-area
-slice-write-area c = 
+slice-write-area c =
     let x = c .before .before .before .before .before .before .before .before .before .before .before .before .before .before .before .pre in
     let s = c .before .before .before .before .before .before .whole-sum .ensures in
     let l = c .before .before .before .before .before .byte-at .ensures .0 in
@@ -82,9 +67,8 @@ slice-write-area c =
     let rules = c .before .before .write-block .ensures in
     S.next-inside x s l o rules
 
--- src/lib.rt:241:5
 add-result : tie.Need-add-result
-add-result c = 
+add-result c =
     let x = c .before .before .before .before .before .before .before .before .before .before .before .before .before .before .before .pre in
     let s = c .before .before .before .before .before .before .whole-sum .ensures in
     let l = c .before .before .before .before .before .byte-at .ensures .0 in
@@ -92,9 +76,8 @@ add-result c =
     let rules = c .before .before .write-block .ensures in
     omega (arith, S.next-small x s l o rules)
 
--- src/lib.rt:223:1
 same-length : tie.Need-same-length
-same-length c = 
+same-length c =
     let x = c .before .before .before .before .before .before .before .before .before .before .before .before .before .before .before .pre in
     let s = c .before .before .before .before .before .before .whole-sum .ensures in
     let l = c .before .before .before .before .before .byte-at .ensures .0 in
@@ -102,9 +85,8 @@ same-length c =
     let rules = c .before .before .write-block .ensures in
     wrote-length (S.end-written x s l o rules)
 
--- src/lib.rt:223:1
 returns : tie.Need-returns
-returns c = 
+returns c =
     let s = c .before .before .before .before .before .before .whole-sum .ensures in
     let l = c .before .before .before .before .before .byte-at .ensures .0 in
     let o = c .before .before .before .before .byte-at2 .ensures .0 in

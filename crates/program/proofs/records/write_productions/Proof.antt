@@ -8,10 +8,6 @@ use mathlib.Core.Path.{_≡_, refl, sym}
 use lib.ListN.{length}
 use Rattle.program.proofs.records.write_productions.Statement.{statement}
 use Rattle.program.proofs.records.write_productions.Tie as tie
-use Rattle.program.proofs.records.write_productions.Reads as reads
-use Rattle.program.proofs.records.write_productions.Lts as lts
-use Rattle.program.proofs.records.find_nexts.Reads as find-nexts-reads
-use Rattle.program.proofs.records.write_production.Reads as write-production-reads
 
 abbrev Inv-loop : tie.InvT-loop
 Inv-loop table rows inherited synthesized offsets sets sizes area₀ count at₀ body₀ nexts links₀ p₀ area at body links p =
@@ -21,86 +17,71 @@ abbrev μ-loop : tie.MeasureT-loop
 μ-loop table rows inherited synthesized offsets sets sizes area₀ count at₀ body₀ nexts links₀ p₀ area at body links p =
     count - p
 
--- src/records.rt:146:22
 mul-at : tie.Need-mul-at Inv-loop μ-loop
-mul-at c = 
+mul-at c =
     let n = L.numbers-small (c .before .before .before .before .before .before .before .before .pre .0) in
     omega (arith, n .0)
 
--- src/records.rt:146:18
 add-at : tie.Need-add-at Inv-loop μ-loop
-add-at c = 
+add-at c =
     let n = L.numbers-small (c .before .before .before .before .before .before .before .before .pre .0) in
     omega (arith, n .0)
 
--- src/records.rt:147:25
 mul-body : tie.Need-mul-body Inv-loop μ-loop
-mul-body c = 
+mul-body c =
     let n = L.numbers-small (c .before .before .before .before .before .before .before .before .pre .0) in
     omega (arith, n .3)
 
--- src/records.rt:147:20
 add-body : tie.Need-add-body Inv-loop μ-loop
-add-body c = 
+add-body c =
     let n = L.numbers-small (c .before .before .before .before .before .before .before .before .pre .0) in
     omega (arith, n .0, n .3)
 
--- src/records.rt:148:17
 find-nexts-requires : tie.Need-find-nexts-requires Inv-loop μ-loop
 find-nexts-requires c κs = alternatives (c .before .before .before .before .before .before .before .before .pre .0)
 
--- src/records.rt:151:5
 loop-holds : tie.Need-loop-holds Inv-loop μ-loop
-loop-holds c = 
+loop-holds c =
     let n = L.numbers-small (c .before .before .before .before .before .before .before .before .before .pre .0) in
     (omega arith, refl, omega (arith, n .0), refl, S.productions-start (c .before .before .before .before .before .before .before .before .before .pre .1))
 
--- src/records.rt:160:13
 slice-aggregate-write-production : tie.Need-slice-aggregate-write-production Inv-loop μ-loop
 slice-aggregate-write-production c = search needs
 
--- src/records.rt:161:13
 slice-aggregate-write-production-2 : tie.Need-slice-aggregate-write-production-2 Inv-loop μ-loop
 slice-aggregate-write-production-2 c = sym (c .before .before .before .loop .inv .3)
 
--- src/records.rt:152:9
 write-production-requires : tie.Need-write-production-requires Inv-loop μ-loop
-write-production-requires c κs = 
+write-production-requires c κs =
     let i = c .before .before .before .before .loop .inv in
     let pre = c .before .before .before .before .before .before .before .before .before .before .before .before .before .before .pre in
     (S.production-fits (pre .1) (i .4) (omega arith) (pre .0), c .before .before .before .before .before .find-nexts .ensures, i .3)
 
--- src/records.rt:167:14
 add-at-2 : tie.Need-add-at-2 Inv-loop μ-loop
 add-at-2 c = omega arith
 
--- src/records.rt:168:9
 add-p : tie.Need-add-p Inv-loop μ-loop
-add-p c = 
+add-p c =
     let n = L.numbers-small (c .before .before .before .before .before .before .before .before .before .before .before .before .before .before .before .before .before .before .pre .0) in
     omega (arith, n .3)
 
--- src/records.rt:151:5
 loop-less : tie.Need-loop-less Inv-loop μ-loop
 loop-less c = omega arith
 
--- src/records.rt:151:5
 loop-again : tie.Need-loop-again Inv-loop μ-loop
-loop-again c = 
+loop-again c =
     let i = c .before .before .before .before .before .before .before .before .loop .inv in
     let pre = c .before .before .before .before .before .before .before .before .before .before .before .before .before .before .before .before .before .before .pre in
     let wrote = c .before .before .before .write-production .ensures in
     (omega arith, i .1, S.record-low (pre .1) (i .4) (omega arith) (pre .0), wrote .0, S.productions-turn (pre .1) (i .4) (omega arith) (wrote .1))
 
--- src/records.rt:132:1
 same-length : tie.Need-same-length Inv-loop μ-loop
-same-length c = 
+same-length c =
     let pre = c .before .before .before .before .before .before .before .before .before .before .before .pre in
     S.productions-size (pre .1) (c .before .loop .inv .4) (pre .0)
 
--- src/records.rt:132:1
 returns : tie.Need-returns Inv-loop μ-loop
-returns c = 
+returns c =
     let pre = c .before .before .before .before .before .before .before .before .before .before .before .pre in
     λ x. S.productions-end (pre .1) (c .before .loop .inv .4) (omega arith) x
 
