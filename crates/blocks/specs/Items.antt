@@ -108,6 +108,14 @@ item-length false top below d = go (eqb (byte d 3) 0)
     go true = refl
     go false = refl
 
+-- its slot: 2 k for a rule of position k, 2 k + 1 for a condition
+abbrev pub slotAt : Bool → ℕ → ℕ
+slotAt true k = 2 * k
+slotAt false k = 2 * k + 1
+
+unfoldable pub slotOf : List ℕ → ℕ
+slotOf d = choose (eqb (byte d 0) 4) (2 * byte d 3) (choose (eqb (byte d 0) 5) (2 * conditionPlace d + 1) 511)
+
 -- what is written of a field where the items of position k are
 unfoldable pub itemHere : Bool → ℕ → List ℕ → ℕ → List ℕ → List ℕ
 itemHere rules top below k d = chooseWords (eqb (placeOf rules d) k) (itemOf rules top below d) []

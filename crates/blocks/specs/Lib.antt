@@ -1,3 +1,4 @@
 pub mod Patch
 pub mod Items
 pub mod Walk
+pub mod Chains

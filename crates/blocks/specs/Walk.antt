@@ -1,12 +1,12 @@
 -- The fields of a production's rules and conditions, walked one after the other.
-use Prim.Native.Nat.{ℕ, zero, suc, _+_, _*_, _≤_, _<_}
+use Prim.Native.Nat.{ℕ, _+_, _*_, _≤_, _<_}
 use native.Mathlib.Omega.{arith}
 use mathlib.Core.Path.{_≡_, refl, sym, ap, ap₂, _∙_, subst}
 use mathlib.Core.Logic.{inl, inr}
 use mathlib.Core.Bool.{Bool, true, false}
 use mathlib.Core.List.{List, [], _∷_, _++_, map}
 use mathlib.Core.Option.{none, some}
-use lib.ListN.{length, drop, getD, length-append, length-map, length-drop}
+use lib.ListN.{length, drop, length-append, length-drop}
 use lib.Seq.{drop-append-seam, drop-drop}
 use lib.Dec.{eqb}
 use borrow.Author.Tests.{ne-eqb}
@@ -17,9 +17,8 @@ use Rattle.meaning.specs.Layout.{field, ruleBytes, conditionBytes, RulesAndCond
 use Rattle.meaning.specs.Scheme.{mapRule, mapCondition}
 use Rattle.meaning.specs.Program.{concat, ruleWords, conditionWords}
 use Rattle.meaning.specs.Table.{byte}
-use Rattle.theory_program.specs.Code.{rules-length, conditions-length}
 use Rattle.theory_program.specs.Proper.{keep-few}
-use Rattle.blocks.specs.Items.{selectorOf, ruleItem, rule-item, conditionItem, condition-item, conditionPlace, condition-place, chooseWords, placeOf, itemOf, itemSize, itemHere}
+use Rattle.blocks.specs.Items.{selectorOf, rule-item, condition-item, condition-place, chooseWords, placeOf, itemOf, itemHere}
 
 -- the rules and conditions that a list of bytes holds
 pub record Listed (d : List ℕ) : Type 0 where
@@ -51,11 +50,6 @@ itemWords rules top below k x = wordsOf rules top below k (x .rules) (x .conditi
 abbrev pub itemCount : Bool → ℕ → {d : List ℕ} → Listed d → ℕ
 itemCount rules k x = countOf rules k (x .rules) (x .conditions)
 
-pub words-length : (rules : Bool) (top : ℕ) (below : List ℕ) (k : ℕ) (rs : List (Rule Occurrence)) (cs : List (Condition Occurrence)) → length (wordsOf rules top below k rs cs) ≡ itemSize rules * countOf rules k rs cs
-unfolding wordsOf countOf
-words-length true top below k rs cs = rules-length (map (mapRule (selectorOf top below)) (rulesAt k rs)) ∙ ap (λ n. 2 * n) (length-map (rulesAt k rs) (mapRule (selectorOf top below)))
-words-length false top below k rs cs = conditions-length (map (mapCondition (selectorOf top below)) (testsAt k cs)) ∙ ap (λ n. 3 * n) (length-map (testsAt k cs) (mapCondition (selectorOf top below)))
-
 -- ---- one field
 
 abbrev pub one : Bool → ℕ
@@ -66,6 +60,10 @@ one false = 0
 abbrev pub countHere : Bool → ℕ → List ℕ → ℕ
 countHere rules k d = one (eqb (placeOf rules d) k)
 
+-- how many fields there are
+abbrev pub fieldCount : {d : List ℕ} → Listed d → ℕ
+fieldCount x = length (x .rules) + length (x .conditions)
+
 -- where the next field begins
 abbrev pub fieldSize : List ℕ → ℕ
 fieldSize d = 3 + byte d 2
@@ -73,6 +71,7 @@ fieldSize d = 3 + byte d 2
 pub record Step (d : List ℕ) (x : Listed d) : Type 0 where
   pub next : Listed (drop (fieldSize d) d)
   pub inside : fieldSize d ≤ length d
+  pub fewer : fieldCount x ≡ fieldCount next + 1
   pub words : (rules : Bool) (top : ℕ) (below : List ℕ) (k : ℕ) → k < 255 → itemWords rules top below k x ≡ itemHere rules top below k d ++ itemWords rules top below k next
   pub counts : (rules : Bool) (k : ℕ) → k < 255 → itemCount rules k x ≡ countHere rules k d + itemCount rules k next
 
@@ -120,6 +119,7 @@ step-of (rule r {rs} {cs} {bs} own) constants proper l =
     record {
       next = record { rules = rs; conditions = cs; own = subst (λ z. RulesAndConditions rs cs z) (sym behind) own; constants = λ q i. constants q (inr i); proper = proper };
       inside = omega (arith, rule-size r, length-append (field 4 (ruleBytes r)) bs);
+      fewer = omega arith;
       words = λ b top below k m. elim b as (λ y. wordsOf y top below k (r ∷ rs) cs ≡ itemHere y top below k d ++ wordsOf y top below k rs cs) [
         | true ↦ concat-if ruleWords (mapRule (selectorOf top below)) (eqb (r .target .position) k) r (rulesAt k rs) ∙ ap (λ z. chooseWords (eqb (r .target .position) k) z [] ++ wordsOf true top below k rs cs) (sym (rule-item top below r bs (constants r (inl refl))))
         | false ↦ other-words k (itemOf false top below d) (wordsOf false top below k rs cs) m
@@ -136,6 +136,7 @@ step-of (condition c {rs} {cs} {bs} own) constants proper l =
     record {
       next = record { rules = rs; conditions = cs; own = subst (λ z. RulesAndConditions rs cs z) (sym behind) own; constants = constants; proper = λ q i. proper q (inr i) };
       inside = omega (arith, condition-size c, length-append (field 5 (conditionBytes c)) bs);
+      fewer = omega arith;
       words = λ b top below k m. elim b as (λ y. wordsOf y top below k rs (c ∷ cs) ≡ itemHere y top below k d ++ wordsOf y top below k rs cs) [
         | true ↦ other-words k (itemOf true top below d) (wordsOf true top below k rs cs) m
         | false ↦
@@ -156,6 +157,7 @@ listed-step d x l = step-of (x .own) (x .constants) (x .proper) l
 pub record Turn (fields : List ℕ) (at next : ℕ) (x : Listed (drop at fields)) : Type 0 where
   pub later : Listed (drop next fields)
   pub inside : next ≤ length fields
+  pub fewer : fieldCount x ≡ fieldCount later + 1
   pub words : (rules : Bool) (top : ℕ) (below : List ℕ) (k : ℕ) → k < 255 → itemWords rules top below k x ≡ itemHere rules top below k (drop at fields) ++ itemWords rules top below k later
   pub counts : (rules : Bool) (k : ℕ) → k < 255 → itemCount rules k x ≡ countHere rules k (drop at fields) + itemCount rules k later
 
@@ -168,6 +170,7 @@ listed-turn fields at size l e x =
     record {
       later = record { rules = s .next .rules; conditions = s .next .conditions; own = subst (λ z. RulesAndConditions (s .next .rules) (s .next .conditions) z) there (s .next .own); constants = s .next .constants; proper = s .next .proper };
       inside = omega (arith, s .inside, length-drop at fields, e);
+      fewer = s .fewer;
       words = s .words;
       counts = s .counts;
     }
@@ -198,12 +201,7 @@ count-few d x rules k = elim rules as (λ y. itemCount y k x ≤ length d) [
     few (rule r {rs} {cs} {bs} own) = omega (arith, few own, length-append (field 4 (ruleBytes r)) bs)
     few (condition c {rs} {cs} {bs} own) = omega (arith, few own, length-append (field 5 (conditionBytes c)) bs)
 
--- ---- what the code asks
-
--- the items of position k find room
-pub record ItemsFit (d : List ℕ) (rules : Bool) (k : ℕ) (area : List ℕ) (a : ℕ) : Type 0 where
-  pub listed : Listed d
-  pub room : a + itemSize rules * itemCount rules k listed ≤ length area
+-- ---- a block
 
 abbrev pub headOf : Bool → ℕ
 headOf true = 1
@@ -213,20 +211,5 @@ headOf false = 4
 unfoldable pub block : Bool → ℕ → List ℕ → List ℕ
 block rules n ws = chooseWords (eqb n 0) [] ((headOf rules + 8 * n) ∷ ws)
 
-abbrev pub blockWords : Bool → ℕ → List ℕ → ℕ → ℕ → {d : List ℕ} → Listed d → List ℕ
-blockWords rules top below k n x = block rules n (itemWords rules top below k x)
-
-pub record BlockFits (d : List ℕ) (rules : Bool) (k n : ℕ) (area : List ℕ) (a : ℕ) : Type 0 where
-  pub listed : Listed d
-  pub counted : n ≡ itemCount rules k listed
-  pub few : n ≤ 32768
-  pub room : 0 < n → a + 1 + itemSize rules * n ≤ length area
-
-pub record Counted (d : List ℕ) : Type 0 where
-  pub listed : Listed d
-  pub short : length d ≤ 32768
-
--- the count of one place is one more
-pub record Raised (old new : List ℕ) (p : ℕ) : Type 0 where
-  pub size : length new ≡ length old
-  pub each : (k : ℕ) → k < length old → getD new k 0 ≡ one (eqb p k) + getD old k 0
+abbrev pub blockWords : Bool → ℕ → List ℕ → ℕ → {d : List ℕ} → Listed d → List ℕ
+blockWords rules top below k x = block rules (itemCount rules k x) (itemWords rules top below k x)

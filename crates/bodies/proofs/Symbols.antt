@@ -11,7 +11,8 @@ use Rattle.meaning.specs.Program.{symbolHead}
 use Rattle.meaning.specs.Table.{byte}
 use Rattle.theory_program.specs.Proper.{added-most, syn-most}
 use Rattle.blocks.specs.Patch.{Wrote, wrote-as, wrote-one, wrote-then, wrote-length}
-use Rattle.blocks.specs.Walk.{Listed, BlockFits, countOf, wordsOf, itemCount, blockWords, block, count-few}
+use Rattle.blocks.specs.Chains.{Found, BlockFits}
+use Rattle.blocks.specs.Walk.{Listed, countOf, wordsOf, itemCount, blockWords, block, count-few}
 use Rattle.bodies.specs.Levels.{level, inherited-words, tests-words}
 use Rattle.bodies.specs.Words.{addWords, addSize, blockSize, add-length, aheadSize, symbolWords, symbol-length, evaluateWords, evaluate-length, testWords}
 use Rattle.bodies.specs.Given.{Given, listedOf, countAt, headOf, inherited-at, marked-at, head-at, SymbolFits, wordsAt}
@@ -34,10 +35,10 @@ module _ (g : Grammar) (p : Production) where
 
 -- ---- a block finds room
 
-abbrev pub block-fits : {d : List ℕ} (x : Listed d) (short : length d ≤ 32768) (rules : Bool) (k n : ℕ) {area : List ℕ} {a : ℕ} → n ≡ itemCount rules k x → a + blockSize rules n ≤ length area → BlockFits d rules k n area a
-block-fits {d} x short rules k n e l = record { listed = x; counted = e; few = omega (arith, e, count-few d x rules k); room = λ some. omega (arith, size-some rules n (omega arith)) }
+abbrev pub block-fits : {fields links marks : List ℕ} (x : Listed fields) (found : Found fields links marks x) (short : length fields ≤ 32768) (rules : Bool) (k : ℕ) {area : List ℕ} {a : ℕ} → k < 13 → a + blockSize rules (itemCount rules k x) ≤ length area → BlockFits fields links marks rules k area a
+block-fits {fields} x found short rules k h l = record { listed = x; found = found; here = h; few = omega (arith, count-few fields x rules k); room = λ some. omega (arith, size-some rules (itemCount rules k x) (omega arith)) }
 
-module _ {row fields inherited synthesized rules tests levels : List ℕ} {k : ℕ} {area : List ℕ} {a : ℕ} (x : SymbolFits row fields inherited synthesized rules tests levels k area a) where
+module _ {row fields inherited synthesized marks links levels : List ℕ} {k : ℕ} {area : List ℕ} {a : ℕ} (x : SymbolFits row fields inherited synthesized marks links levels k area a) where
   abbrev given : Given row fields inherited synthesized
   given = x .prepared .given
 
@@ -67,7 +68,7 @@ module _ {row fields inherited synthesized rules tests levels : List ℕ} {k : �
     pub add-fits : (own + out < 512) × (a + addSize (own + out) ≤ length area)
     add-fits = (omega (arith, all-is, added-most g (given .wellFormed) (symbolAt p (suc k))), omega (arith, ap addSize all-is, words-size, x .room, x .long))
 
-    module _ {top n : ℕ} (et : top ≡ getD levels (k + 1) 0) (en : n ≡ getD rules (k + 1) 0) where
+    module _ {top : ℕ} (et : top ≡ getD levels (k + 1) 0) where
       top-is : top ≡ level g p (suc k)
       top-is = let e : k + 1 ≡ suc k = omega arith in et ∙ (ap (λ z. getD levels z 0) e ∙ x .prepared .leveled (suc k) (omega (arith, x .here)))
 
@@ -80,22 +81,19 @@ module _ {row fields inherited synthesized rules tests levels : List ℕ} {k : �
       after-is : top - own ≡ synBetween g p 0 (suc k)
       after-is = omega (arith, own-is, top-is)
 
-      rules-is : n ≡ itemCount true (k + 1) (listedOf given)
-      rules-is = en ∙ x .prepared .ruleCounts (k + 1) (omega (arith, index-small))
+      rules-length : length (inheritedRules g p (suc k)) ≡ itemCount true (k + 1) (listedOf given)
+      rules-length = let e : k + 1 ≡ suc k = omega arith in inherited-count g p (suc k) ∙ sym (ap (λ z. itemCount true z (listedOf given)) e)
 
-      rules-length : length (inheritedRules g p (suc k)) ≡ n
-      rules-length = let e : k + 1 ≡ suc k = omega arith in inherited-count g p (suc k) ∙ (sym (rules-is ∙ ap (λ z. itemCount true z (listedOf given)) e))
-
-      evaluate-words : blockWords true top levels (k + 1) n (listedOf given) ≡ evaluateWords (inheritedRules g p (suc k))
+      evaluate-words : blockWords true top levels (k + 1) (listedOf given) ≡ evaluateWords (inheritedRules g p (suc k))
       evaluate-words =
           let e : k + 1 ≡ suc k = omega arith in
           ap₂ (λ y z. block true y z) (sym rules-length) (ap₂ (λ y z. wordsOf true y levels z (p .rules) (p .conditions)) top-is e ∙ inherited-words g p (given .ofGrammar) levels (x .prepared .leveled) k (x .here))
 
       module _ {mid : List ℕ} {at : ℕ} (w : Wrote area mid a at (addWords (own + out))) where
-        pub evaluate-fits : BlockFits fields true (k + 1) n mid at
-        evaluate-fits = block-fits (listedOf given) (given .short) true (k + 1) n rules-is (omega (arith, w .address, add-length (own + out), ap addSize all-is, wrote-length w, words-size, x .room, x .long, ap (blockSize true) rules-length))
+        pub evaluate-fits : BlockFits fields links marks true (k + 1) mid at
+        evaluate-fits = block-fits (listedOf given) (x .prepared .found) (given .short) true (k + 1) (omega (arith, index-small)) (omega (arith, w .address, add-length (own + out), ap addSize all-is, wrote-length w, words-size, x .room, x .long, ap (blockSize true) rules-length))
 
-        module _ {then : List ℕ} {next : ℕ} (f : (y : BlockFits fields true (k + 1) n mid at) → Wrote mid then at next (blockWords true top levels (k + 1) n (y .listed))) where
+        module _ {then : List ℕ} {next : ℕ} (f : (y : BlockFits fields links marks true (k + 1) mid at) → Wrote mid then at next (blockWords true top levels (k + 1) (y .listed))) where
           so-far : Wrote area then a next (addWords (addedFor g (symbolAt p (suc k))) ++ evaluateWords (inheritedRules g p (suc k)))
           unfolding evaluate-fits
           so-far = wrote-then (wrote-as (ap addWords all-is) w) (wrote-as evaluate-words (f evaluate-fits))
@@ -109,22 +107,19 @@ module _ {row fields inherited synthesized rules tests levels : List ℕ} {k : �
           pub next-inside : next < length then
           next-inside = omega (arith, next-is, wrote-length so-far, words-size, x .room, x .long)
 
-          module _ {m h : ℕ} (em : m ≡ getD tests (k + 1) 0) (eh : h ≡ headOf b) where
-            tests-is : m ≡ itemCount false (k + 1) (listedOf given)
-            tests-is = em ∙ x .prepared .testCounts (k + 1) (omega (arith, index-small))
+          module _ {h : ℕ} (eh : h ≡ headOf b) where
+            tests-length : length (testsAfter g p (suc k)) ≡ itemCount false (k + 1) (listedOf given)
+            tests-length = let e : k + 1 ≡ suc k = omega arith in tests-count g p (suc k) ∙ sym (ap (λ z. itemCount false z (listedOf given)) e)
 
-            tests-length : length (testsAfter g p (suc k)) ≡ m
-            tests-length = let e : k + 1 ≡ suc k = omega arith in tests-count g p (suc k) ∙ (sym (tests-is ∙ ap (λ z. itemCount false z (listedOf given)) e))
-
-            test-words : blockWords false (top - own) levels (k + 1) m (listedOf given) ≡ testWords (testsAfter g p (suc k))
+            test-words : blockWords false (top - own) levels (k + 1) (listedOf given) ≡ testWords (testsAfter g p (suc k))
             test-words =
                 let e : k + 1 ≡ suc k = omega arith in
                 ap₂ (λ y z. block false y z) (sym tests-length) (ap₂ (λ y z. wordsOf false y levels z (p .rules) (p .conditions)) after-is e ∙ tests-words g p (given .ofGrammar) levels (x .prepared .leveled) (suc k) (omega (arith, x .here)))
 
-            pub test-fits : BlockFits fields false (k + 1) m (set then next h) (next + 1)
-            test-fits = block-fits (listedOf given) (given .short) false (k + 1) m tests-is (omega (arith, next-is, length-set then next h, wrote-length so-far, words-size, x .room, x .long, ap (blockSize false) tests-length))
+            pub test-fits : BlockFits fields links marks false (k + 1) (set then next h) (next + 1)
+            test-fits = block-fits (listedOf given) (x .prepared .found) (given .short) false (k + 1) (omega (arith, index-small)) (omega (arith, next-is, length-set then next h, wrote-length so-far, words-size, x .room, x .long, ap (blockSize false) tests-length))
 
-            pub symbol-written : {new : List ℕ} {end : ℕ} → ((y : BlockFits fields false (k + 1) m (set then next h) (next + 1)) → Wrote (set then next h) new (next + 1) end (blockWords false (top - own) levels (k + 1) m (y .listed))) → Wrote area new a end (wordsAt given k)
+            pub symbol-written : {new : List ℕ} {end : ℕ} → ((y : BlockFits fields links marks false (k + 1) (set then next h) (next + 1)) → Wrote (set then next h) new (next + 1) end (blockWords false (top - own) levels (k + 1) (y .listed))) → Wrote area new a end (wordsAt given k)
             unfolding symbolWords test-fits
             symbol-written q =
                 let here : h ≡ symbolHead (symbolAt p (suc k)) = eh ∙ (ap headOf eb ∙ head-at given k (x .here)) in

@@ -4,7 +4,7 @@ use native.Mathlib.Omega.{arith}
 use mathlib.Core.Path.{_≡_, refl, sym, ap, _∙_, subst}
 use mathlib.Core.Bool.{Bool, true, false}
 use mathlib.Core.List.{List, [], _∷_, _++_, append-assoc}
-use lib.ListN.{length, getD, drop, length-append, drop-of-length-le}
+use lib.ListN.{length, drop, length-append, drop-of-length-le}
 use lib.Seq.{drop-cons}
 use lib.Dec.{ltb}
 use Rattle.meaning.specs.Grammar.{Symbol, terminal, nonterminal, Production, Grammar, inh, syn, markedFor, attributeIf, symbolAt, nonterminalCount}
@@ -17,7 +17,8 @@ use Rattle.meaning.specs.Table.{byte, symbolOf}
 use Rattle.theory_base.specs.Members.{getD-in}
 use Rattle.theory_program.specs.Code.{conditions-length}
 use Rattle.token_set.specs.Words.{setOf}
-use Rattle.blocks.specs.Walk.{Listed, itemCount}
+use Rattle.blocks.specs.Walk.{Listed}
+use Rattle.blocks.specs.Chains.{Found}
 use Rattle.bodies.specs.Levels.{Leveled}
 use Rattle.bodies.specs.Words.{symbolWords, aheadSize, scheme-symbol, expects-symbol, endScheme, endWords, scheme-end, expects-end}
 
@@ -109,20 +110,19 @@ module _ {row fields inherited synthesized : List ℕ} (x : Given row fields inh
   pub left-inherited : byte inherited (byte row 0) ≡ inh (x .grammar) (nonterminal (x .production .left))
   left-inherited = ap (byte inherited) (x .left) ∙ x .inherit (x .production .left) (x .ofGrammar .left)
 
--- ---- what is computed first: how many rules and conditions each position has, and the levels
+-- ---- what is computed first: the rules and conditions of each position, and the levels
 
-pub record Prepared (row fields inherited synthesized rules tests levels : List ℕ) : Type 0 where
+pub record Prepared (row fields inherited synthesized marks links levels : List ℕ) : Type 0 where
   pub given : Given row fields inherited synthesized
-  pub ruleCounts : (k : ℕ) → k < 13 → getD rules k 0 ≡ itemCount true k (listedOf given)
-  pub testCounts : (k : ℕ) → k < 13 → getD tests k 0 ≡ itemCount false k (listedOf given)
+  pub found : Found fields links marks (listedOf given)
   pub leveled : Leveled (given .grammar) (given .production) levels
 
 abbrev pub wordsAt : {row fields inherited synthesized : List ℕ} → Given row fields inherited synthesized → ℕ → List ℕ
 wordsAt x k = symbolWords (x .grammar) (x .production) (suc k) (symbolAt (x .production) (suc k))
 
 -- there is room for the words of the symbol at position k + 1
-pub record SymbolFits (row fields inherited synthesized rules tests levels : List ℕ) (k : ℕ) (area : List ℕ) (a : ℕ) : Type 0 where
-  pub prepared : Prepared row fields inherited synthesized rules tests levels
+pub record SymbolFits (row fields inherited synthesized marks links levels : List ℕ) (k : ℕ) (area : List ℕ) (a : ℕ) : Type 0 where
+  pub prepared : Prepared row fields inherited synthesized marks links levels
   pub here : k < length (rightOf (prepared .given))
   pub room : a + length (wordsAt (prepared .given) k) ≤ 16384
   pub long : 16384 ≤ length area
@@ -137,13 +137,13 @@ symbolsWords g p k (x ∷ xs) = symbolWords g p k x ++ symbolsWords g p (suc k) 
 unfoldable pub restWords : Grammar → Production → ℕ → List ℕ
 restWords g p k = symbolsWords g p (suc k) (drop k (p .right))
 
-pub record SymbolsFit (row fields inherited synthesized rules tests levels area : List ℕ) (a : ℕ) : Type 0 where
-  pub prepared : Prepared row fields inherited synthesized rules tests levels
+pub record SymbolsFit (row fields inherited synthesized marks links levels area : List ℕ) (a : ℕ) : Type 0 where
+  pub prepared : Prepared row fields inherited synthesized marks links levels
   pub room : a + length (restWords (prepared .given .grammar) (prepared .given .production) 0) ≤ 16384
   pub long : 16384 ≤ length area
 
-pub record EndFits (row fields inherited synthesized rules tests levels area : List ℕ) (a : ℕ) : Type 0 where
-  pub prepared : Prepared row fields inherited synthesized rules tests levels
+pub record EndFits (row fields inherited synthesized marks links levels area : List ℕ) (a : ℕ) : Type 0 where
+  pub prepared : Prepared row fields inherited synthesized marks links levels
   pub room : a + length (endWords (prepared .given .grammar) (prepared .given .production)) ≤ 16384
   pub long : 16384 ≤ length area
 
@@ -151,18 +151,18 @@ pub record EndFits (row fields inherited synthesized rules tests levels area : L
 unfoldable pub restExpects : Grammar → Production → ℕ → ℕ → List ℕ
 restExpects g p k a = expectsAt a (symbolsScheme g p (suc k) (drop k (p .right)) (endScheme g p))
 
-pub record ExpectsFit (row fields inherited synthesized rules tests levels area : List ℕ) (a b : ℕ) : Type 0 where
-  pub prepared : Prepared row fields inherited synthesized rules tests levels
+pub record ExpectsFit (row fields inherited synthesized marks links levels area : List ℕ) (a b : ℕ) : Type 0 where
+  pub prepared : Prepared row fields inherited synthesized marks links levels
   pub room : a + length (rightOf (prepared .given)) ≤ 16384
   pub long : 16384 ≤ length area
   pub behind : b + length (restWords (prepared .given .grammar) (prepared .given .production) 0) ≤ 16384
 
 -- ---- the whole body
 
-pub record BodyFits (row fields inherited synthesized : List ℕ) (carrying : ℕ) (tests area : List ℕ) (a : ℕ) : Type 0 where
+pub record BodyFits (row fields inherited synthesized : List ℕ) (carrying : ℕ) (marks links area : List ℕ) (a : ℕ) : Type 0 where
   pub given : Given row fields inherited synthesized
   pub carried : Carried carrying (given .grammar)
-  pub testCounts : (k : ℕ) → k < 13 → getD tests k 0 ≡ itemCount false k (listedOf given)
+  pub found : Found fields links marks (listedOf given)
   pub room : a + bodySize (given .grammar) (given .production) ≤ 16384
   pub long : 16384 ≤ length area
 

@@ -122,27 +122,27 @@ fn write_symbol(
     fields: &[u8],
     inherited: &[u8],
     synthesized: &[u8],
-    rules: &[u32],
-    tests: &[u32],
+    marks: &[u32],
+    links: &[u32],
     levels: &[u32],
     k: usize,
     area: &mut [u32],
     address: usize,
 ) -> usize
-    requires { ⌜ SymbolFits (now row) (now fields) (now inherited) (now synthesized) (now rules) (now tests) (now levels) k (now area) address ⌝ }
-    ensures { λ r. ⌜ ((x : SymbolFits (now (row .entry)) (now (fields .entry)) (now (inherited .entry)) (now (synthesized .entry)) (now (rules .entry)) (now (tests .entry)) (now (levels .entry)) k (now (area .entry)) address) → Wrote (now (area .entry)) (now (area .exit)) address r (wordsAt (x .prepared .given) k)) ⌝ }
+    requires { ⌜ SymbolFits (now row) (now fields) (now inherited) (now synthesized) (now marks) (now links) (now levels) k (now area) address ⌝ }
+    ensures { λ r. ⌜ ((x : SymbolFits (now (row .entry)) (now (fields .entry)) (now (inherited .entry)) (now (synthesized .entry)) (now (marks .entry)) (now (links .entry)) (now (levels .entry)) k (now (area .entry)) address) → Wrote (now (area .entry)) (now (area .exit)) address r (wordsAt (x .prepared .given) k)) ⌝ }
 {
     let symbol = value::byte_at(row, k + 2);
     let own = count_at(inherited, symbol);
     let all = own + count_at(synthesized, symbol);
     let top = number_at(levels, k + 1);
-    let position = (k + 1) as u32;
     let evaluate = write_add(all, area, address);
     let expect = blocks::write_block(
         fields,
+        marks,
+        links,
         true,
-        position,
-        number_at(rules, k + 1),
+        k + 1,
         top,
         levels,
         area,
@@ -151,9 +151,10 @@ fn write_symbol(
     area[expect] = head_of(symbol);
     blocks::write_block(
         fields,
+        marks,
+        links,
         false,
-        position,
-        number_at(tests, k + 1),
+        k + 1,
         top - own,
         levels,
         area,
@@ -167,14 +168,14 @@ fn write_symbols(
     fields: &[u8],
     inherited: &[u8],
     synthesized: &[u8],
-    rules: &[u32],
-    tests: &[u32],
+    marks: &[u32],
+    links: &[u32],
     levels: &[u32],
     area: &mut [u32],
     address: usize,
 ) -> usize
-    requires { ⌜ SymbolsFit (now row) (now fields) (now inherited) (now synthesized) (now rules) (now tests) (now levels) (now area) address ⌝ }
-    ensures { λ r. ⌜ ((x : SymbolsFit (now (row .entry)) (now (fields .entry)) (now (inherited .entry)) (now (synthesized .entry)) (now (rules .entry)) (now (tests .entry)) (now (levels .entry)) (now (area .entry)) address) → Wrote (now (area .entry)) (now (area .exit)) address r (restWords (x .prepared .given .grammar) (x .prepared .given .production) 0)) ⌝ }
+    requires { ⌜ SymbolsFit (now row) (now fields) (now inherited) (now synthesized) (now marks) (now links) (now levels) (now area) address ⌝ }
+    ensures { λ r. ⌜ ((x : SymbolsFit (now (row .entry)) (now (fields .entry)) (now (inherited .entry)) (now (synthesized .entry)) (now (marks .entry)) (now (links .entry)) (now (levels .entry)) (now (area .entry)) address) → Wrote (now (area .entry)) (now (area .exit)) address r (restWords (x .prepared .given .grammar) (x .prepared .given .production) 0)) ⌝ }
 {
     let size = value::byte_at(row, 1) as usize;
     let mut k: usize = 0;
@@ -185,8 +186,8 @@ fn write_symbols(
             fields,
             inherited,
             synthesized,
-            rules,
-            tests,
+            marks,
+            links,
             levels,
             k,
             area,
@@ -203,12 +204,12 @@ fn whole_sum(
     fields: &[u8],
     inherited: &[u8],
     synthesized: &[u8],
-    rules: &[u32],
-    tests: &[u32],
+    marks: &[u32],
+    links: &[u32],
     levels: &[u32],
 ) -> u32
-    requires { ⌜ Prepared (now row) (now fields) (now inherited) (now synthesized) (now rules) (now tests) (now levels) ⌝ }
-    ensures { λ r. ⌜ ((x : Prepared (now (row .entry)) (now (fields .entry)) (now (inherited .entry)) (now (synthesized .entry)) (now (rules .entry)) (now (tests .entry)) (now (levels .entry))) → r ≡ synBetween (x .given .grammar) (x .given .production) 0 (length (rightOf (x .given)))) ⌝ }
+    requires { ⌜ Prepared (now row) (now fields) (now inherited) (now synthesized) (now marks) (now links) (now levels) ⌝ }
+    ensures { λ r. ⌜ ((x : Prepared (now (row .entry)) (now (fields .entry)) (now (inherited .entry)) (now (synthesized .entry)) (now (marks .entry)) (now (links .entry)) (now (levels .entry))) → r ≡ synBetween (x .given .grammar) (x .given .production) 0 (length (rightOf (x .given)))) ⌝ }
 {
     let size = value::byte_at(row, 1) as usize;
     if size == 0 {
@@ -224,19 +225,18 @@ fn write_end(
     fields: &[u8],
     inherited: &[u8],
     synthesized: &[u8],
-    rules: &[u32],
-    tests: &[u32],
+    marks: &[u32],
+    links: &[u32],
     levels: &[u32],
     area: &mut [u32],
     address: usize,
 ) -> usize
-    requires { ⌜ EndFits (now row) (now fields) (now inherited) (now synthesized) (now rules) (now tests) (now levels) (now area) address ⌝ }
-    ensures { λ r. ⌜ ((x : EndFits (now (row .entry)) (now (fields .entry)) (now (inherited .entry)) (now (synthesized .entry)) (now (rules .entry)) (now (tests .entry)) (now (levels .entry)) (now (area .entry)) address) → Wrote (now (area .entry)) (now (area .exit)) address r (endWords (x .prepared .given .grammar) (x .prepared .given .production))) ⌝ }
+    requires { ⌜ EndFits (now row) (now fields) (now inherited) (now synthesized) (now marks) (now links) (now levels) (now area) address ⌝ }
+    ensures { λ r. ⌜ ((x : EndFits (now (row .entry)) (now (fields .entry)) (now (inherited .entry)) (now (synthesized .entry)) (now (marks .entry)) (now (links .entry)) (now (levels .entry)) (now (area .entry)) address) → Wrote (now (area .entry)) (now (area .exit)) address r (endWords (x .prepared .given .grammar) (x .prepared .given .production))) ⌝ }
 {
-    let sum = whole_sum(row, fields, inherited, synthesized, rules, tests, levels);
+    let sum = whole_sum(row, fields, inherited, synthesized, marks, links, levels);
     let own = value::byte_at(inherited, value::byte_at(row, 0) as usize);
-    let count = number_at(rules, 0);
-    let remove = blocks::write_block(fields, true, 0, count, sum, levels, area, address);
+    let remove = blocks::write_block(fields, marks, links, true, 0, sum, levels, area, address);
     area[remove] = 5 + 8 * (own + sum);
     remove + 1
 }
@@ -248,15 +248,15 @@ fn write_expects(
     fields: &[u8],
     inherited: &[u8],
     synthesized: &[u8],
-    rules: &[u32],
-    tests: &[u32],
+    marks: &[u32],
+    links: &[u32],
     levels: &[u32],
     area: &mut [u32],
     address: usize,
     scheme: usize,
 ) -> usize
-    requires { ⌜ ExpectsFit (now row) (now fields) (now inherited) (now synthesized) (now rules) (now tests) (now levels) (now area) address scheme ⌝ }
-    ensures { λ r. ⌜ ((x : ExpectsFit (now (row .entry)) (now (fields .entry)) (now (inherited .entry)) (now (synthesized .entry)) (now (rules .entry)) (now (tests .entry)) (now (levels .entry)) (now (area .entry)) address scheme) → Wrote (now (area .entry)) (now (area .exit)) address r (restExpects (x .prepared .given .grammar) (x .prepared .given .production) 0 scheme)) ⌝ }
+    requires { ⌜ ExpectsFit (now row) (now fields) (now inherited) (now synthesized) (now marks) (now links) (now levels) (now area) address scheme ⌝ }
+    ensures { λ r. ⌜ ((x : ExpectsFit (now (row .entry)) (now (fields .entry)) (now (inherited .entry)) (now (synthesized .entry)) (now (marks .entry)) (now (links .entry)) (now (levels .entry)) (now (area .entry)) address scheme) → Wrote (now (area .entry)) (now (area .exit)) address r (restExpects (x .prepared .given .grammar) (x .prepared .given .production) 0 scheme)) ⌝ }
 {
     let size = value::byte_at(row, 1) as usize;
     let mut k: usize = 0;
@@ -264,8 +264,8 @@ fn write_expects(
     while k < size {
         let symbol = value::byte_at(row, k + 2);
         let all = count_at(inherited, symbol) + count_at(synthesized, symbol);
-        let ahead = add_size(all) + block_size(true, number_at(rules, k + 1));
-        let behind = block_size(false, number_at(tests, k + 1));
+        let ahead = add_size(all) + block_size(true, number_at(marks, 2 * k + 2));
+        let behind = block_size(false, number_at(marks, 2 * k + 3));
         area[address + k] = (at + ahead) as u32;
         at = at + ahead + 1 + behind;
         k += 1;
@@ -281,38 +281,39 @@ pub fn write_body(
     inherited: &[u8],
     synthesized: &[u8],
     carrying: u64,
-    tests: &[u32],
+    marks: &[u32],
+    links: &[u32],
     area: &mut [u32],
     address: usize,
 ) -> usize
-    requires { ⌜ BodyFits (now row) (now fields) (now inherited) (now synthesized) carrying (now tests) (now area) address ⌝ }
-    ensures { λ r. ⌜ ((x : BodyFits (now (row .entry)) (now (fields .entry)) (now (inherited .entry)) (now (synthesized .entry)) carrying (now (tests .entry)) (now (area .entry)) address) → Wrote (now (area .entry)) (now (area .exit)) address r (bodyWords (x .given .grammar) address (x .given .production))) ⌝ }
+    requires { ⌜ BodyFits (now row) (now fields) (now inherited) (now synthesized) carrying (now marks) (now links) (now area) address ⌝ }
+    ensures { λ r. ⌜ ((x : BodyFits (now (row .entry)) (now (fields .entry)) (now (inherited .entry)) (now (synthesized .entry)) carrying (now (marks .entry)) (now (links .entry)) (now (area .entry)) address) → Wrote (now (area .entry)) (now (area .exit)) address r (bodyWords (x .given .grammar) address (x .given .production))) ⌝ }
 {
-    let rules = blocks::count_items(fields, true);
     let levels = find_levels(row, fields, inherited, synthesized, carrying);
     let size = value::byte_at(row, 1) as usize;
-    let entries = number_at(tests, 0);
-    let scheme = address + size + 3 * entries as usize;
+    let tests = number_at(marks, 1);
+    let scheme = address + size + 3 * tests as usize;
     let entry = write_expects(
         row,
         fields,
         inherited,
         synthesized,
-        &rules,
-        tests,
+        marks,
+        links,
         &levels,
         area,
         address,
         scheme,
     );
-    let first = blocks::write_counted(fields, false, 0, entries, 0, &levels, area, entry);
+    let last = number_at(marks, 33);
+    let first = blocks::write_items(fields, links, false, tests, last, 0, &levels, area, entry);
     let end = write_symbols(
         row,
         fields,
         inherited,
         synthesized,
-        &rules,
-        tests,
+        marks,
+        links,
         &levels,
         area,
         first,
@@ -322,8 +323,8 @@ pub fn write_body(
         fields,
         inherited,
         synthesized,
-        &rules,
-        tests,
+        marks,
+        links,
         &levels,
         area,
         end,

@@ -17,13 +17,15 @@ use Rattle.meaning.specs.Table.{byte}
 use Rattle.theory_base.specs.WellFormed.{well-formed-at}
 use Rattle.theory_program.specs.Addresses.{records-length, body-length, bodies-length, waits-length, directory-length, short-productions}
 use Rattle.theory_program.specs.Code.{conditions-length}
+use Rattle.theory_program.specs.Proper.{production-in}
 use Rattle.theory_program.specs.Sizes.{program-length, program-fits}
 use Rattle.blocks.specs.Patch.{patch, Wrote, wrote-as, wrote-then, wrote-ahead, wrote-length, patch-written}
-use Rattle.blocks.specs.Walk.{Counted, itemCount}
+use Rattle.blocks.specs.Chains.{Listing, Found}
 use Rattle.bodies.specs.Given.{Given, listedOf, BodyFits}
 use Rattle.bodies.proofs.Symbols.{tests-count}
 use Rattle.table.specs.CarriedSet.{carried-count}
 use Rattle.table.specs.declared.Sizes.{Sizes}
+use Rattle.program.specs.Most.{rules-most, conditions-most}
 use Rattle.program.specs.Brought.{grammarIn, well-formed, count-is, rowAt, stretchEnd, fieldsFrom, fieldsAt, fields-place, given-at}
 use Rattle.program.specs.Directory.{Alternatives, alternatives, zeros, Marked, Filled, filled-start, filled-turn, filled-end}
 use Rattle.program.specs.Records.{two-words, sameLeft, Growing, growing-start, growing-as, growing-turn, growing-end, restRecords, restBodies, recordAt, bodyAt, records-turn, bodies-turn, records-end, bodies-end}
@@ -137,28 +139,31 @@ module _ {table rows inherited synthesized offsets sets : List ℕ} {sizes : Siz
     abbrev here : Given (rowAt rows p) (fieldsAt table from to) inherited synthesized
     here = given-at (x .brought) bytes p (x .here) from to ef et
 
-    pub fields-counted : Counted (fieldsAt table from to)
+    pub fields-listing : {nodes : ℕ} → nodes ≡ 616 → Listing (fieldsAt table from to) nodes
     unfolding given-at
-    fields-counted = record { listed = listedOf here; short = here .short }
+    fields-listing e =
+        let w = well-formed (x .brought) in
+        let i = production-in gr w p (omega (arith, x .here, count-is (x .brought))) in
+        record { listed = listedOf here; short = here .short; few = omega (arith, e, rules-most gr w pd i, conditions-most gr w pd i); room = omega (arith, e) }
 
-    module _ (tests : List ℕ) (f : (y : Counted (fieldsAt table from to)) (k : ℕ) → k < 13 → getD tests k 0 ≡ itemCount false k (y .listed)) where
-      entries-are : getD tests 0 0 ≡ length (entryTests gr pd)
-      unfolding given-at fields-counted
-      entries-are = f fields-counted 0 (omega arith) ∙ sym (tests-count gr pd 0)
+    module _ (marks links : List ℕ) {nodes : ℕ} (e : nodes ≡ 616) (f : (y : Listing (fieldsAt table from to) nodes) → Found (fieldsAt table from to) links marks (y .listed)) where
+      entries-are : getD marks 1 0 ≡ length (entryTests gr pd)
+      unfolding given-at fields-listing
+      entries-are = f (fields-listing e) .counts false 0 (omega arith) ∙ sym (tests-count gr pd 0)
 
-      pub record-fits : RecordFits rows sets (sizes .nonterminals) (sizes .productions) p body (getD tests 0 0) area at
+      pub record-fits : RecordFits rows sets (sizes .nonterminals) (sizes .productions) p body (getD marks 1 0) area at
       record-fits = record { alternatives = alternatives (x .brought); here = x .here; size = x .brought .size p (x .here); tests = entries-are; behind = omega (arith, x .behind); room = omega (arith, x .low, x .long, x .behind); low = omega (arith, x .low, x .behind) }
 
-      module _ {mid : List ℕ} {next : ℕ} (w : (y : RecordFits rows sets (sizes .nonterminals) (sizes .productions) p body (getD tests 0 0) area at) → Wrote area mid at next (recordAt (y .alternatives .grammar) p body)) where
+      module _ {mid : List ℕ} {next : ℕ} (w : (y : RecordFits rows sets (sizes .nonterminals) (sizes .productions) p body (getD marks 1 0) area at) → Wrote area mid at next (recordAt (y .alternatives .grammar) p body)) where
         recorded : Wrote area mid at (at + 8) (recordAt gr p body)
         unfolding record-fits
         recorded = let v = w record-fits in record { memory = v .memory; address = refl }
 
-        pub body-fits : BodyFits (rowAt rows p) (fieldsAt table from to) inherited synthesized (sizes .carrying) tests mid body
-        unfolding given-at fields-counted
-        body-fits = record { given = here; carried = carried-count (sizes .carrying) gr (x .brought .carries); testCounts = f fields-counted; room = x .behind; long = omega (arith, x .long, wrote-length recorded) }
+        pub body-fits : BodyFits (rowAt rows p) (fieldsAt table from to) inherited synthesized (sizes .carrying) marks links mid body
+        unfolding given-at fields-listing
+        body-fits = record { given = here; carried = carried-count (sizes .carrying) gr (x .brought .carries); found = f (fields-listing e); room = x .behind; long = omega (arith, x .long, wrote-length recorded) }
 
-        pub production-written : {new : List ℕ} {end : ℕ} → ((y : BodyFits (rowAt rows p) (fieldsAt table from to) inherited synthesized (sizes .carrying) tests mid body) → Wrote mid new body end (bodyWords (y .given .grammar) body (y .given .production))) → ProductionWrote gr p area new at body end
+        pub production-written : {new : List ℕ} {end : ℕ} → ((y : BodyFits (rowAt rows p) (fieldsAt table from to) inherited synthesized (sizes .carrying) marks links mid body) → Wrote mid new body end (bodyWords (y .given .grammar) body (y .given .production))) → ProductionWrote gr p area new at body end
         unfolding body-fits given-at
         production-written v = record { between = mid; recorded = recorded; bodied = v body-fits }
 

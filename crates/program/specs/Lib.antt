@@ -3,3 +3,4 @@ pub mod Directory
 pub mod Records
 pub mod Waits
 pub mod Built
+pub mod Most

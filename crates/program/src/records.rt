@@ -73,7 +73,8 @@ fn stretch_end(table: &[u8], offsets: &[u32], count: usize, p: usize) -> usize
     table.len()
 }
 
-// The record and the body of production p; answers the address behind the body.
+// The record and the body of production p; answers the address behind the body. The chains of its rules and conditions are made in
+// `links`: 104 rules and 512 conditions are the most that it can have.
 fn write_production(
     table: &[u8],
     rows: &[u8],
@@ -83,13 +84,14 @@ fn write_production(
     sets: &[u64],
     sizes: Sizes,
     nexts: &[u8],
+    links: &mut [u32],
     p: usize,
     area: &mut [u32],
     at: usize,
     body: usize,
 ) -> usize
-    requires { ⌜ ProductionFits (now table) (now rows) (now inherited) (now synthesized) (now offsets) (now sets) sizes p (now area) at body × Nexts (now rows) (now sets) (sizes .nonterminals) (sizes .productions) (now nexts) ⌝ }
-    ensures { λ r. ⌜ ((x : ProductionFits (now (table .entry)) (now (rows .entry)) (now (inherited .entry)) (now (synthesized .entry)) (now (offsets .entry)) (now (sets .entry)) sizes p (now (area .entry)) at body) → ProductionWrote (grammarIn (x .brought)) p (now (area .entry)) (now (area .exit)) at body r) ⌝ }
+    requires { ⌜ ProductionFits (now table) (now rows) (now inherited) (now synthesized) (now offsets) (now sets) sizes p (now area) at body × Nexts (now rows) (now sets) (sizes .nonterminals) (sizes .productions) (now nexts) × (length (now links) ≡ 616) ⌝ }
+    ensures { λ r. ⌜ (length (now (links .exit)) ≡ 616) × ((x : ProductionFits (now (table .entry)) (now (rows .entry)) (now (inherited .entry)) (now (synthesized .entry)) (now (offsets .entry)) (now (sets .entry)) sizes p (now (area .entry)) at body) → ProductionWrote (grammarIn (x .brought)) p (now (area .entry)) (now (area .exit)) at body r) ⌝ }
 {
     let count = sizes.productions;
     let from = fields_from(rows, offsets, p);
@@ -98,8 +100,9 @@ fn write_production(
     let first = 16 * p;
     let last = 16 * p + 16;
     let row = &rows[first..last];
-    let tests = blocks::count_items(fields, false);
-    let entries = tests[0];
+    let mut marks = [0u32; 64];
+    blocks::find_items(fields, links, &mut marks);
+    let entries = marks[1];
     let next = value::byte_at(nexts, p);
     write_record(
         rows,
@@ -119,7 +122,8 @@ fn write_production(
         inherited,
         synthesized,
         sizes.carrying,
-        &tests,
+        &marks,
+        links,
         area,
         body,
     )
@@ -143,6 +147,7 @@ pub fn write_productions(
     let mut at = 9 + 64 * sizes.nonterminals;
     let mut body = at + 20 * count;
     let nexts = find_nexts(rows, sets, sizes.nonterminals, count);
+    let mut links = [0u32; 616];
     let mut p: usize = 0;
     while p < count {
         body = write_production(
@@ -154,6 +159,7 @@ pub fn write_productions(
             sets,
             sizes,
             &nexts,
+            &mut links,
             p,
             area,
             at,

@@ -1,13 +1,13 @@
 use mathlib.Core.Path.{sym}
 use native.Mathlib.Omega.{arith}
-use borrow.Author.Needs.{needs}
 use Rattle.blocks.specs.Patch.{wrote-length}
 use Rattle.bodies.proofs.Bodies as B
+use native.Mathlib.Omega.{arith}
+use Rattle.blocks.specs.Patch.{wrote-length}
+use Rattle.bodies.proofs.Bodies as B
+use borrow.Author.Needs.{needs}
 use Rattle.bodies.proofs.write_body.Statement.{statement}
 use Rattle.bodies.proofs.write_body.Tie as tie
-
-count-items-requires : tie.Need-count-items-requires
-count-items-requires c κs = B.counted (c .before .before .before .before .before .before .pre)
 
 find-levels-requires : tie.Need-find-levels-requires
 find-levels-requires c κs = c .before .before .before .before .before .before .before .pre .given
@@ -28,55 +28,114 @@ cast-scheme : tie.Need-cast-scheme
 cast-scheme c = search needs
 
 mul-scheme : tie.Need-mul-scheme
-mul-scheme c = omega (arith, B.numbers-small (c .before .before .before .before .before .before .before .before .before .before .pre) (c .before .before .before .count-items .result) (c .before .before .find-levels .result) (c .before .before .before .count-items .ensures .1) (c .before .before .find-levels .ensures .1) (c .before .byte-at .ensures .0) (c .number-at .ensures))
+mul-scheme c =
+    let x = c .before .before .before .before .before .before .before .before .before .before .pre in
+    let levels = c .before .before .find-levels .result in
+    let is-levels = c .before .before .find-levels .ensures .1 in
+    let n = c .before .byte-at .ensures .0 in
+    let t = c .number-at .ensures in
+    omega (arith, B.numbers-small x levels is-levels n t)
 
 add-scheme-2 : tie.Need-add-scheme-2
-add-scheme-2 c = omega (arith, B.numbers-small (c .before .before .before .before .before .before .before .before .before .before .pre) (c .before .before .before .count-items .result) (c .before .before .find-levels .result) (c .before .before .before .count-items .ensures .1) (c .before .before .find-levels .ensures .1) (c .before .byte-at .ensures .0) (c .number-at .ensures))
+add-scheme-2 c =
+    let x = c .before .before .before .before .before .before .before .before .before .before .pre in
+    let levels = c .before .before .find-levels .result in
+    let is-levels = c .before .before .find-levels .ensures .1 in
+    let n = c .before .byte-at .ensures .0 in
+    let t = c .number-at .ensures in
+    omega (arith, B.numbers-small x levels is-levels n t)
 
 slice-aggregate-write-expects : tie.Need-slice-aggregate-write-expects
 slice-aggregate-write-expects c = search needs
 
-slice-aggregate-write-expects-2 : tie.Need-slice-aggregate-write-expects-2
-slice-aggregate-write-expects-2 c = search needs
-
 write-expects-requires : tie.Need-write-expects-requires
-write-expects-requires c κs = B.expects-fit (c .before .before .before .before .before .before .before .before .before .before .before .before .before .pre) (c .before .before .before .before .before .before .count-items .result) (c .before .before .before .before .before .find-levels .result) (c .before .before .before .before .before .before .count-items .ensures .1) (c .before .before .before .before .before .find-levels .ensures .1) (c .before .before .before .before .byte-at .ensures .0) (c .before .before .before .number-at .ensures)
+write-expects-requires c κs =
+    let x = c .before .before .before .before .before .before .before .before .before .before .before .before .pre in
+    let levels = c .before .before .before .before .find-levels .result in
+    let is-levels = c .before .before .before .before .find-levels .ensures .1 in
+    let n = c .before .before .before .byte-at .ensures .0 in
+    let t = c .before .before .number-at .ensures in
+    B.expects-fit x levels is-levels n t
 
-slice-aggregate-write-counted : tie.Need-slice-aggregate-write-counted
-slice-aggregate-write-counted c = search needs
+number-at-requires-2 : tie.Need-number-at-requires-2
+number-at-requires-2 c κs = search needs
 
-write-counted-requires : tie.Need-write-counted-requires
-write-counted-requires c κs = (omega arith, omega arith, B.items-fit (c .before .before .before .before .before .before .before .before .before .before .before .before .before .before .before .before .before .before .pre) (c .before .before .before .before .before .before .before .before .before .before .before .count-items .result) (c .before .before .before .before .before .before .before .before .before .before .find-levels .result) (c .before .before .before .before .before .before .before .before .before .before .before .count-items .ensures .1) (c .before .before .before .before .before .before .before .before .before .before .find-levels .ensures .1) (c .before .before .before .before .before .before .before .before .before .byte-at .ensures .0) (c .before .before .before .before .before .before .before .before .number-at .ensures) (c .before .before .before .before .write-expects .ensures))
+slice-aggregate-write-items : tie.Need-slice-aggregate-write-items
+slice-aggregate-write-items c = search needs
+
+write-items-requires : tie.Need-write-items-requires
+write-items-requires c κs =
+    let x = c .before .before .before .before .before .before .before .before .before .before .before .before .before .before .before .before .before .before .pre in
+    let levels = c .before .before .before .before .before .before .before .before .before .before .find-levels .result in
+    let is-levels = c .before .before .before .before .before .before .before .before .before .before .find-levels .ensures .1 in
+    let n = c .before .before .before .before .before .before .before .before .before .byte-at .ensures .0 in
+    let t = c .before .before .before .before .before .before .before .before .number-at .ensures in
+    let expects = c .before .before .before .before .before .write-expects .ensures in
+    let last = c .before .before .number-at2 .ensures in
+    (omega arith, B.items-fit x levels is-levels n t expects last)
 
 slice-aggregate-write-symbols : tie.Need-slice-aggregate-write-symbols
 slice-aggregate-write-symbols c = search needs
 
-slice-aggregate-write-symbols-2 : tie.Need-slice-aggregate-write-symbols-2
-slice-aggregate-write-symbols-2 c = search needs
-
 write-symbols-requires : tie.Need-write-symbols-requires
-write-symbols-requires c κs = B.symbols-fit (c .before .before .before .before .before .before .before .before .before .before .before .before .before .before .before .before .before .before .before .before .before .before .before .before .pre) (c .before .before .before .before .before .before .before .before .before .before .before .before .before .before .before .before .before .count-items .result) (c .before .before .before .before .before .before .before .before .before .before .before .before .before .before .before .before .find-levels .result) (c .before .before .before .before .before .before .before .before .before .before .before .before .before .before .before .before .before .count-items .ensures .1) (c .before .before .before .before .before .before .before .before .before .before .before .before .before .before .before .before .find-levels .ensures .1) (c .before .before .before .before .before .before .before .before .before .before .before .before .before .before .before .byte-at .ensures .0) (c .before .before .before .before .before .before .before .before .before .before .before .before .before .before .number-at .ensures) (c .before .before .before .before .before .before .before .before .before .before .write-expects .ensures) (c .before .before .before .before .before .write-counted .ensures)
+write-symbols-requires c κs =
+    let x = c .before .before .before .before .before .before .before .before .before .before .before .before .before .before .before .before .before .before .before .before .before .before .before .pre in
+    let levels = c .before .before .before .before .before .before .before .before .before .before .before .before .before .before .before .find-levels .result in
+    let is-levels = c .before .before .before .before .before .before .before .before .before .before .before .before .before .before .before .find-levels .ensures .1 in
+    let n = c .before .before .before .before .before .before .before .before .before .before .before .before .before .before .byte-at .ensures .0 in
+    let t = c .before .before .before .before .before .before .before .before .before .before .before .before .before .number-at .ensures in
+    let expects = c .before .before .before .before .before .before .before .before .before .before .write-expects .ensures in
+    let last = c .before .before .before .before .before .before .before .number-at2 .ensures in
+    let entry = c .before .before .before .before .write-items .ensures in
+    B.symbols-fit x levels is-levels n t expects last entry
 
 slice-aggregate-write-end : tie.Need-slice-aggregate-write-end
-slice-aggregate-write-end c = sym (c .before .before .before .before .before .before .before .before .before .before .before .before .before .before .before .before .before .before .before .before .before .count-items .ensures .0)
-
-slice-aggregate-write-end-2 : tie.Need-slice-aggregate-write-end-2
-slice-aggregate-write-end-2 c = sym (c .before .before .before .before .before .before .before .before .before .before .before .before .before .before .before .before .before .before .before .before .before .find-levels .ensures .0)
+slice-aggregate-write-end c = sym (c .before .before .before .before .before .before .before .before .before .before .before .before .before .before .before .before .before .before .before .find-levels .ensures .0)
 
 write-end-requires : tie.Need-write-end-requires
-write-end-requires c κs = B.end-fit (c .before .before .before .before .before .before .before .before .before .before .before .before .before .before .before .before .before .before .before .before .before .before .before .before .before .before .before .before .before .before .pre) (c .before .before .before .before .before .before .before .before .before .before .before .before .before .before .before .before .before .before .before .before .before .before .before .count-items .result) (c .before .before .before .before .before .before .before .before .before .before .before .before .before .before .before .before .before .before .before .before .before .before .find-levels .result) (c .before .before .before .before .before .before .before .before .before .before .before .before .before .before .before .before .before .before .before .before .before .before .before .count-items .ensures .1) (c .before .before .before .before .before .before .before .before .before .before .before .before .before .before .before .before .before .before .before .before .before .before .find-levels .ensures .1) (c .before .before .before .before .before .before .before .before .before .before .before .before .before .before .before .before .before .before .before .before .before .byte-at .ensures .0) (c .before .before .before .before .before .before .before .before .before .before .before .before .before .before .before .before .before .before .before .before .number-at .ensures) (c .before .before .before .before .before .before .before .before .before .before .before .before .before .before .before .before .write-expects .ensures) (c .before .before .before .before .before .before .before .before .before .before .before .write-counted .ensures) (c .before .before .before .before .before .write-symbols .ensures)
+write-end-requires c κs =
+    let x = c .before .before .before .before .before .before .before .before .before .before .before .before .before .before .before .before .before .before .before .before .before .before .before .before .before .before .before .before .pre in
+    let levels = c .before .before .before .before .before .before .before .before .before .before .before .before .before .before .before .before .before .before .before .before .find-levels .result in
+    let is-levels = c .before .before .before .before .before .before .before .before .before .before .before .before .before .before .before .before .before .before .before .before .find-levels .ensures .1 in
+    let n = c .before .before .before .before .before .before .before .before .before .before .before .before .before .before .before .before .before .before .before .byte-at .ensures .0 in
+    let t = c .before .before .before .before .before .before .before .before .before .before .before .before .before .before .before .before .before .before .number-at .ensures in
+    let expects = c .before .before .before .before .before .before .before .before .before .before .before .before .before .before .before .write-expects .ensures in
+    let last = c .before .before .before .before .before .before .before .before .before .before .before .before .number-at2 .ensures in
+    let entry = c .before .before .before .before .before .before .before .before .before .write-items .ensures in
+    let symbols = c .before .before .before .before .write-symbols .ensures in
+    B.end-fit x levels is-levels n t expects last entry symbols
 
 same-length : tie.Need-same-length
-same-length c = wrote-length (B.body-written (c .before .before .before .before .before .before .before .before .before .before .before .before .before .before .before .before .before .before .before .before .before .before .before .before .before .before .before .before .before .before .before .before .before .pre) (c .before .before .before .before .before .before .before .before .before .before .before .before .before .before .before .before .before .before .before .before .before .before .before .before .before .before .count-items .result) (c .before .before .before .before .before .before .before .before .before .before .before .before .before .before .before .before .before .before .before .before .before .before .before .before .before .find-levels .result) (c .before .before .before .before .before .before .before .before .before .before .before .before .before .before .before .before .before .before .before .before .before .before .before .before .before .before .count-items .ensures .1) (c .before .before .before .before .before .before .before .before .before .before .before .before .before .before .before .before .before .before .before .before .before .before .before .before .before .find-levels .ensures .1) (c .before .before .before .before .before .before .before .before .before .before .before .before .before .before .before .before .before .before .before .before .before .before .before .before .byte-at .ensures .0) (c .before .before .before .before .before .before .before .before .before .before .before .before .before .before .before .before .before .before .before .before .before .before .before .number-at .ensures) (c .before .before .before .before .before .before .before .before .before .before .before .before .before .before .before .before .before .before .before .write-expects .ensures) (c .before .before .before .before .before .before .before .before .before .before .before .before .before .before .write-counted .ensures) (c .before .before .before .before .before .before .before .before .write-symbols .ensures) (c .before .before .write-end .ensures))
+same-length c =
+    let x = c .before .before .before .before .before .before .before .before .before .before .before .before .before .before .before .before .before .before .before .before .before .before .before .before .before .before .before .before .before .before .before .pre in
+    let levels = c .before .before .before .before .before .before .before .before .before .before .before .before .before .before .before .before .before .before .before .before .before .before .before .find-levels .result in
+    let is-levels = c .before .before .before .before .before .before .before .before .before .before .before .before .before .before .before .before .before .before .before .before .before .before .before .find-levels .ensures .1 in
+    let n = c .before .before .before .before .before .before .before .before .before .before .before .before .before .before .before .before .before .before .before .before .before .before .byte-at .ensures .0 in
+    let t = c .before .before .before .before .before .before .before .before .before .before .before .before .before .before .before .before .before .before .before .before .before .number-at .ensures in
+    let expects = c .before .before .before .before .before .before .before .before .before .before .before .before .before .before .before .before .before .before .write-expects .ensures in
+    let last = c .before .before .before .before .before .before .before .before .before .before .before .before .before .before .before .number-at2 .ensures in
+    let entry = c .before .before .before .before .before .before .before .before .before .before .before .before .write-items .ensures in
+    let symbols = c .before .before .before .before .before .before .before .write-symbols .ensures in
+    let end = c .before .before .write-end .ensures in
+    wrote-length (B.body-written x levels is-levels n t expects last entry symbols end)
 
 returns : tie.Need-returns
-returns c = λ x. B.body-written x (c .before .before .before .before .before .before .before .before .before .before .before .before .before .before .before .before .before .before .before .before .before .before .before .before .before .before .count-items .result) (c .before .before .before .before .before .before .before .before .before .before .before .before .before .before .before .before .before .before .before .before .before .before .before .before .before .find-levels .result) (c .before .before .before .before .before .before .before .before .before .before .before .before .before .before .before .before .before .before .before .before .before .before .before .before .before .before .count-items .ensures .1) (c .before .before .before .before .before .before .before .before .before .before .before .before .before .before .before .before .before .before .before .before .before .before .before .before .before .find-levels .ensures .1) (c .before .before .before .before .before .before .before .before .before .before .before .before .before .before .before .before .before .before .before .before .before .before .before .before .byte-at .ensures .0) (c .before .before .before .before .before .before .before .before .before .before .before .before .before .before .before .before .before .before .before .before .before .before .before .number-at .ensures) (c .before .before .before .before .before .before .before .before .before .before .before .before .before .before .before .before .before .before .before .write-expects .ensures) (c .before .before .before .before .before .before .before .before .before .before .before .before .before .before .write-counted .ensures) (c .before .before .before .before .before .before .before .before .write-symbols .ensures) (c .before .before .write-end .ensures)
+returns c =
+    let levels = c .before .before .before .before .before .before .before .before .before .before .before .before .before .before .before .before .before .before .before .before .before .before .before .find-levels .result in
+    let is-levels = c .before .before .before .before .before .before .before .before .before .before .before .before .before .before .before .before .before .before .before .before .before .before .before .find-levels .ensures .1 in
+    let n = c .before .before .before .before .before .before .before .before .before .before .before .before .before .before .before .before .before .before .before .before .before .before .byte-at .ensures .0 in
+    let t = c .before .before .before .before .before .before .before .before .before .before .before .before .before .before .before .before .before .before .before .before .before .number-at .ensures in
+    let expects = c .before .before .before .before .before .before .before .before .before .before .before .before .before .before .before .before .before .before .write-expects .ensures in
+    let last = c .before .before .before .before .before .before .before .before .before .before .before .before .before .before .before .number-at2 .ensures in
+    let entry = c .before .before .before .before .before .before .before .before .before .before .before .before .write-items .ensures in
+    let symbols = c .before .before .before .before .before .before .before .write-symbols .ensures in
+    let end = c .before .before .write-end .ensures in
+    λ x. B.body-written x levels is-levels n t expects last entry symbols end
 
 pub write-body-spec : {M : Type 1} → statement M
 write-body-spec =
     tie.close
     (tie.spec
-    count-items-requires
     find-levels-requires
     byte-at-requires
     cast-size
@@ -86,15 +145,13 @@ write-body-spec =
     mul-scheme
     add-scheme-2
     slice-aggregate-write-expects
-    slice-aggregate-write-expects-2
     write-expects-requires
-    slice-aggregate-write-counted
-    write-counted-requires
+    number-at-requires-2
+    slice-aggregate-write-items
+    write-items-requires
     slice-aggregate-write-symbols
-    slice-aggregate-write-symbols-2
     write-symbols-requires
     slice-aggregate-write-end
-    slice-aggregate-write-end-2
     write-end-requires
     same-length
     returns)

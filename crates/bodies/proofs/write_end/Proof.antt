@@ -1,7 +1,7 @@
 use native.Mathlib.Omega.{arith}
-use borrow.Author.Needs.{needs}
-use Rattle.bodies.proofs.Schemes as S
 use Rattle.blocks.specs.Patch.{wrote-length}
+use Rattle.bodies.proofs.Schemes as S
+use borrow.Author.Needs.{needs}
 use Rattle.bodies.proofs.write_end.Statement.{statement}
 use Rattle.bodies.proofs.write_end.Tie as tie
 
@@ -17,35 +17,81 @@ cast-byte-at c = search needs
 byte-at-requires-2 : tie.Need-byte-at-requires-2
 byte-at-requires-2 c κs = search needs
 
-number-at-requires : tie.Need-number-at-requires
-number-at-requires c κs = search needs
-
 write-block-requires : tie.Need-write-block-requires
-write-block-requires c κs = (omega (arith, S.sum-small (c .before .before .before .before .before .before .before .before .before .before .before .before .before .pre) (c .before .before .before .before .whole-sum .ensures) (c .before .before .before .byte-at .ensures .0) (c .before .before .byte-at2 .ensures .0) (c .before .number-at .ensures)), omega arith, S.end-block (c .before .before .before .before .before .before .before .before .before .before .before .before .before .pre) (c .before .before .before .before .whole-sum .ensures) (c .before .before .before .byte-at .ensures .0) (c .before .before .byte-at2 .ensures .0) (c .before .number-at .ensures))
+write-block-requires c κs =
+    let x = c .before .before .before .before .before .before .before .before .before .before .before .before .pre in
+    let s = c .before .before .before .whole-sum .ensures in
+    let l = c .before .before .byte-at .ensures .0 in
+    let o = c .before .byte-at2 .ensures .0 in
+    (omega (arith, S.sum-small x s l o), S.end-block x s l o)
 
 add-area : tie.Need-add-area
-add-area c = omega (arith, S.sum-small (c .before .before .before .before .before .before .before .before .before .before .before .before .before .before .before .before .pre) (c .before .before .before .before .before .before .before .whole-sum .ensures) (c .before .before .before .before .before .before .byte-at .ensures .0) (c .before .before .before .before .before .byte-at2 .ensures .0) (c .before .before .before .before .number-at .ensures))
+add-area c =
+    let x = c .before .before .before .before .before .before .before .before .before .before .before .before .before .before .before .pre in
+    let s = c .before .before .before .before .before .before .whole-sum .ensures in
+    let l = c .before .before .before .before .before .byte-at .ensures .0 in
+    let o = c .before .before .before .before .byte-at2 .ensures .0 in
+    omega (arith, S.sum-small x s l o)
 
 mul-area : tie.Need-mul-area
-mul-area c = omega (arith, S.sum-small (c .before .before .before .before .before .before .before .before .before .before .before .before .before .before .before .before .pre) (c .before .before .before .before .before .before .before .whole-sum .ensures) (c .before .before .before .before .before .before .byte-at .ensures .0) (c .before .before .before .before .before .byte-at2 .ensures .0) (c .before .before .before .before .number-at .ensures))
+mul-area c =
+    let x = c .before .before .before .before .before .before .before .before .before .before .before .before .before .before .before .pre in
+    let s = c .before .before .before .before .before .before .whole-sum .ensures in
+    let l = c .before .before .before .before .before .byte-at .ensures .0 in
+    let o = c .before .before .before .before .byte-at2 .ensures .0 in
+    omega (arith, S.sum-small x s l o)
 
 add-area-2 : tie.Need-add-area-2
-add-area-2 c = omega (arith, S.sum-small (c .before .before .before .before .before .before .before .before .before .before .before .before .before .before .before .before .pre) (c .before .before .before .before .before .before .before .whole-sum .ensures) (c .before .before .before .before .before .before .byte-at .ensures .0) (c .before .before .before .before .before .byte-at2 .ensures .0) (c .before .before .before .before .number-at .ensures))
+add-area-2 c =
+    let x = c .before .before .before .before .before .before .before .before .before .before .before .before .before .before .before .pre in
+    let s = c .before .before .before .before .before .before .whole-sum .ensures in
+    let l = c .before .before .before .before .before .byte-at .ensures .0 in
+    let o = c .before .before .before .before .byte-at2 .ensures .0 in
+    omega (arith, S.sum-small x s l o)
 
 mul-area-2 : tie.Need-mul-area-2
-mul-area-2 c = omega (arith, S.next-small (c .before .before .before .before .before .before .before .before .before .before .before .before .before .before .before .before .pre) (c .before .before .before .before .before .before .before .whole-sum .ensures) (c .before .before .before .before .before .before .byte-at .ensures .0) (c .before .before .before .before .before .byte-at2 .ensures .0) (c .before .before .before .before .number-at .ensures) (c .before .before .write-block .ensures))
+mul-area-2 c =
+    let x = c .before .before .before .before .before .before .before .before .before .before .before .before .before .before .before .pre in
+    let s = c .before .before .before .before .before .before .whole-sum .ensures in
+    let l = c .before .before .before .before .before .byte-at .ensures .0 in
+    let o = c .before .before .before .before .byte-at2 .ensures .0 in
+    let rules = c .before .before .write-block .ensures in
+    omega (arith, S.next-small x s l o rules)
 
 slice-write-area : tie.Need-slice-write-area
-slice-write-area c = S.next-inside (c .before .before .before .before .before .before .before .before .before .before .before .before .before .before .before .before .pre) (c .before .before .before .before .before .before .before .whole-sum .ensures) (c .before .before .before .before .before .before .byte-at .ensures .0) (c .before .before .before .before .before .byte-at2 .ensures .0) (c .before .before .before .before .number-at .ensures) (c .before .before .write-block .ensures)
+slice-write-area c =
+    let x = c .before .before .before .before .before .before .before .before .before .before .before .before .before .before .before .pre in
+    let s = c .before .before .before .before .before .before .whole-sum .ensures in
+    let l = c .before .before .before .before .before .byte-at .ensures .0 in
+    let o = c .before .before .before .before .byte-at2 .ensures .0 in
+    let rules = c .before .before .write-block .ensures in
+    S.next-inside x s l o rules
 
 add-result : tie.Need-add-result
-add-result c = omega (arith, S.next-small (c .before .before .before .before .before .before .before .before .before .before .before .before .before .before .before .before .pre) (c .before .before .before .before .before .before .before .whole-sum .ensures) (c .before .before .before .before .before .before .byte-at .ensures .0) (c .before .before .before .before .before .byte-at2 .ensures .0) (c .before .before .before .before .number-at .ensures) (c .before .before .write-block .ensures))
+add-result c =
+    let x = c .before .before .before .before .before .before .before .before .before .before .before .before .before .before .before .pre in
+    let s = c .before .before .before .before .before .before .whole-sum .ensures in
+    let l = c .before .before .before .before .before .byte-at .ensures .0 in
+    let o = c .before .before .before .before .byte-at2 .ensures .0 in
+    let rules = c .before .before .write-block .ensures in
+    omega (arith, S.next-small x s l o rules)
 
 same-length : tie.Need-same-length
-same-length c = wrote-length (S.end-written (c .before .before .before .before .before .before .before .before .before .before .before .before .before .before .before .before .pre) (c .before .before .before .before .before .before .before .whole-sum .ensures) (c .before .before .before .before .before .before .byte-at .ensures .0) (c .before .before .before .before .before .byte-at2 .ensures .0) (c .before .before .before .before .number-at .ensures) (c .before .before .write-block .ensures))
+same-length c =
+    let x = c .before .before .before .before .before .before .before .before .before .before .before .before .before .before .before .pre in
+    let s = c .before .before .before .before .before .before .whole-sum .ensures in
+    let l = c .before .before .before .before .before .byte-at .ensures .0 in
+    let o = c .before .before .before .before .byte-at2 .ensures .0 in
+    let rules = c .before .before .write-block .ensures in
+    wrote-length (S.end-written x s l o rules)
 
 returns : tie.Need-returns
-returns c = λ x. S.end-written x (c .before .before .before .before .before .before .before .whole-sum .ensures) (c .before .before .before .before .before .before .byte-at .ensures .0) (c .before .before .before .before .before .byte-at2 .ensures .0) (c .before .before .before .before .number-at .ensures) (c .before .before .write-block .ensures)
+returns c =
+    let s = c .before .before .before .before .before .before .whole-sum .ensures in
+    let l = c .before .before .before .before .before .byte-at .ensures .0 in
+    let o = c .before .before .before .before .byte-at2 .ensures .0 in
+    let rules = c .before .before .write-block .ensures in
+    λ x. S.end-written x s l o rules
 
 pub write-end-spec : {M : Type 1} → statement M
 write-end-spec =
@@ -55,7 +101,6 @@ write-end-spec =
     byte-at-requires
     cast-byte-at
     byte-at-requires-2
-    number-at-requires
     write-block-requires
     add-area
     mul-area

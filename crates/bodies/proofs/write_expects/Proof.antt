@@ -38,6 +38,9 @@ add-all c = search needs
 add-size-requires : tie.Need-add-size-requires Inv-loop μ-loop
 add-size-requires c κs = search needs
 
+mul-number-at : tie.Need-mul-number-at Inv-loop μ-loop
+mul-number-at c = search needs
+
 add-number-at : tie.Need-add-number-at Inv-loop μ-loop
 add-number-at c = search needs
 
@@ -49,6 +52,9 @@ block-size-requires c κs = S.rules-few (c .before .before .before .before .befo
 
 add-ahead : tie.Need-add-ahead Inv-loop μ-loop
 add-ahead c = omega (arith, c .before .before .add-size .ensures .1, c .block-size .ensures .1)
+
+mul-number-at-2 : tie.Need-mul-number-at-2 Inv-loop μ-loop
+mul-number-at-2 c = search needs
 
 add-number-at-2 : tie.Need-add-number-at-2 Inv-loop μ-loop
 add-number-at-2 c = search needs
@@ -116,10 +122,12 @@ write-expects-spec =
     count-at-requires-2
     add-all
     add-size-requires
+    mul-number-at
     add-number-at
     number-at-requires
     block-size-requires
     add-ahead
+    mul-number-at-2
     add-number-at-2
     number-at-requires-2
     block-size-requires-2

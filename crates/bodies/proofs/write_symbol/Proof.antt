@@ -1,7 +1,7 @@
 use native.Mathlib.Omega.{arith}
-use borrow.Author.Needs.{needs}
 use Rattle.blocks.specs.Patch.{wrote-length}
 use Rattle.bodies.proofs.Symbols as S
+use borrow.Author.Needs.{needs}
 use Rattle.bodies.proofs.write_symbol.Statement.{statement}
 use Rattle.bodies.proofs.write_symbol.Tie as tie
 
@@ -26,53 +26,111 @@ add-number-at c = search needs
 number-at-requires : tie.Need-number-at-requires
 number-at-requires c κs = search needs
 
-add-position : tie.Need-add-position
-add-position c = search needs
-
-cast-position : tie.Need-cast-position
-cast-position c = search needs
-
 write-add-requires : tie.Need-write-add-requires
-write-add-requires c κs = S.add-fits (c .before .before .before .before .before .before .before .before .before .before .before .before .before .pre) (c .before .before .before .before .byte-at .ensures .0) (c .before .before .before .count-at .ensures .0) (c .before .before .count-at2 .ensures .0)
+write-add-requires c κs =
+    let x = c .before .before .before .before .before .before .before .before .before .before .before .before .before .pre in
+    let b = c .before .before .before .before .byte-at .ensures .0 in
+    let o = c .before .before .before .count-at .ensures .0 in
+    let u = c .before .before .count-at2 .ensures .0 in
+    S.add-fits x b o u
 
-add-number-at-2 : tie.Need-add-number-at-2
-add-number-at-2 c = search needs
-
-number-at-requires-2 : tie.Need-number-at-requires-2
-number-at-requires-2 c κs = search needs
+add-write-block : tie.Need-add-write-block
+add-write-block c = search needs
 
 write-block-requires : tie.Need-write-block-requires
-write-block-requires c κs = (S.top-small (c .before .before .before .before .before .before .before .before .before .before .before .before .before .before .before .before .before .before .pre) (c .before .before .before .before .before .before .before .before .before .byte-at .ensures .0) (c .before .before .before .before .before .before .before .before .count-at .ensures .0) (c .before .before .before .before .before .before .before .count-at2 .ensures .0) (c .before .before .before .before .before .before .number-at .ensures) (c .before .number-at2 .ensures), omega (arith, S.index-small (c .before .before .before .before .before .before .before .before .before .before .before .before .before .before .before .before .before .before .pre)), S.evaluate-fits (c .before .before .before .before .before .before .before .before .before .before .before .before .before .before .before .before .before .before .pre) (c .before .before .before .before .before .before .before .before .before .byte-at .ensures .0) (c .before .before .before .before .before .before .before .before .count-at .ensures .0) (c .before .before .before .before .before .before .before .count-at2 .ensures .0) (c .before .before .before .before .before .before .number-at .ensures) (c .before .number-at2 .ensures) (c .before .before .before .before .write-add .ensures))
+write-block-requires c κs =
+    let x = c .before .before .before .before .before .before .before .before .before .before .before .before .before .before .before .before .before .pre in
+    let b = c .before .before .before .before .before .before .before .before .byte-at .ensures .0 in
+    let o = c .before .before .before .before .before .before .before .count-at .ensures .0 in
+    let u = c .before .before .before .before .before .before .count-at2 .ensures .0 in
+    let t = c .before .before .before .before .before .number-at .ensures in
+    let add = c .before .before .before .write-add .ensures in
+    (S.top-small x b o u t, S.evaluate-fits x b o u t add)
 
 head-of-requires : tie.Need-head-of-requires
 head-of-requires c κs = search needs
 
 mul-area : tie.Need-mul-area
-mul-area c = omega (arith, S.next-small (c .before .before .before .before .before .before .before .before .before .before .before .before .before .before .before .before .before .before .before .before .before .before .pre) (c .before .before .before .before .before .before .before .before .before .before .before .before .before .byte-at .ensures .0) (c .before .before .before .before .before .before .before .before .before .before .before .before .count-at .ensures .0) (c .before .before .before .before .before .before .before .before .before .before .before .count-at2 .ensures .0) (c .before .before .before .before .before .before .before .before .before .before .number-at .ensures) (c .before .before .before .before .before .number-at2 .ensures) (c .before .before .before .before .before .before .before .before .write-add .ensures) (c .before .before .before .write-block .ensures))
+mul-area c =
+    let x = c .before .before .before .before .before .before .before .before .before .before .before .before .before .before .before .before .before .before .before .before .before .pre in
+    let b = c .before .before .before .before .before .before .before .before .before .before .before .before .byte-at .ensures .0 in
+    let o = c .before .before .before .before .before .before .before .before .before .before .before .count-at .ensures .0 in
+    let u = c .before .before .before .before .before .before .before .before .before .before .count-at2 .ensures .0 in
+    let t = c .before .before .before .before .before .before .before .before .before .number-at .ensures in
+    let add = c .before .before .before .before .before .before .before .write-add .ensures in
+    let rules = c .before .before .before .write-block .ensures in
+    omega (arith, S.next-small x b o u t add rules)
 
 slice-write-area : tie.Need-slice-write-area
-slice-write-area c = S.next-inside (c .before .before .before .before .before .before .before .before .before .before .before .before .before .before .before .before .before .before .before .before .before .before .pre) (c .before .before .before .before .before .before .before .before .before .before .before .before .before .byte-at .ensures .0) (c .before .before .before .before .before .before .before .before .before .before .before .before .count-at .ensures .0) (c .before .before .before .before .before .before .before .before .before .before .before .count-at2 .ensures .0) (c .before .before .before .before .before .before .before .before .before .before .number-at .ensures) (c .before .before .before .before .before .number-at2 .ensures) (c .before .before .before .before .before .before .before .before .write-add .ensures) (c .before .before .before .write-block .ensures)
+slice-write-area c =
+    let x = c .before .before .before .before .before .before .before .before .before .before .before .before .before .before .before .before .before .before .before .before .before .pre in
+    let b = c .before .before .before .before .before .before .before .before .before .before .before .before .byte-at .ensures .0 in
+    let o = c .before .before .before .before .before .before .before .before .before .before .before .count-at .ensures .0 in
+    let u = c .before .before .before .before .before .before .before .before .before .before .count-at2 .ensures .0 in
+    let t = c .before .before .before .before .before .before .before .before .before .number-at .ensures in
+    let add = c .before .before .before .before .before .before .before .write-add .ensures in
+    let rules = c .before .before .before .write-block .ensures in
+    S.next-inside x b o u t add rules
 
-add-number-at-3 : tie.Need-add-number-at-3
-add-number-at-3 c = omega (arith, S.index-small (c .before .before .before .before .before .before .before .before .before .before .before .before .before .before .before .before .before .before .before .before .before .before .pre))
-
-number-at-requires-3 : tie.Need-number-at-requires-3
-number-at-requires-3 c κs = search needs
+add-write-block-2 : tie.Need-add-write-block-2
+add-write-block-2 c = omega (arith, S.index-small (c .before .before .before .before .before .before .before .before .before .before .before .before .before .before .before .before .before .before .before .before .before .pre))
 
 sub-write-block : tie.Need-sub-write-block
-sub-write-block c = S.own-below (c .before .before .before .before .before .before .before .before .before .before .before .before .before .before .before .before .before .before .before .before .before .before .before .pre) (c .before .before .before .before .before .before .before .before .before .before .before .before .before .before .byte-at .ensures .0) (c .before .before .before .before .before .before .before .before .before .before .before .before .before .count-at .ensures .0) (c .before .before .before .before .before .before .before .before .before .before .before .before .count-at2 .ensures .0) (c .before .before .before .before .before .before .before .before .before .before .before .number-at .ensures) (c .before .before .before .before .before .before .number-at2 .ensures)
+sub-write-block c =
+    let x = c .before .before .before .before .before .before .before .before .before .before .before .before .before .before .before .before .before .before .before .before .before .pre in
+    let b = c .before .before .before .before .before .before .before .before .before .before .before .before .byte-at .ensures .0 in
+    let o = c .before .before .before .before .before .before .before .before .before .before .before .count-at .ensures .0 in
+    let u = c .before .before .before .before .before .before .before .before .before .before .count-at2 .ensures .0 in
+    let t = c .before .before .before .before .before .before .before .before .before .number-at .ensures in
+    S.own-below x b o u t
 
-add-write-block : tie.Need-add-write-block
-add-write-block c = omega (arith, S.next-small (c .before .before .before .before .before .before .before .before .before .before .before .before .before .before .before .before .before .before .before .before .before .before .before .before .pre) (c .before .before .before .before .before .before .before .before .before .before .before .before .before .before .before .byte-at .ensures .0) (c .before .before .before .before .before .before .before .before .before .before .before .before .before .before .count-at .ensures .0) (c .before .before .before .before .before .before .before .before .before .before .before .before .before .count-at2 .ensures .0) (c .before .before .before .before .before .before .before .before .before .before .before .before .number-at .ensures) (c .before .before .before .before .before .before .before .number-at2 .ensures) (c .before .before .before .before .before .before .before .before .before .before .write-add .ensures) (c .before .before .before .before .before .write-block .ensures))
+add-write-block-3 : tie.Need-add-write-block-3
+add-write-block-3 c =
+    let x = c .before .before .before .before .before .before .before .before .before .before .before .before .before .before .before .before .before .before .before .before .before .before .pre in
+    let b = c .before .before .before .before .before .before .before .before .before .before .before .before .before .byte-at .ensures .0 in
+    let o = c .before .before .before .before .before .before .before .before .before .before .before .before .count-at .ensures .0 in
+    let u = c .before .before .before .before .before .before .before .before .before .before .before .count-at2 .ensures .0 in
+    let t = c .before .before .before .before .before .before .before .before .before .before .number-at .ensures in
+    let add = c .before .before .before .before .before .before .before .before .write-add .ensures in
+    let rules = c .before .before .before .before .write-block .ensures in
+    omega (arith, S.next-small x b o u t add rules)
 
 write-block-requires-2 : tie.Need-write-block-requires-2
-write-block-requires-2 c κs = (omega (arith, S.top-small (c .before .before .before .before .before .before .before .before .before .before .before .before .before .before .before .before .before .before .before .before .before .before .before .before .pre) (c .before .before .before .before .before .before .before .before .before .before .before .before .before .before .before .byte-at .ensures .0) (c .before .before .before .before .before .before .before .before .before .before .before .before .before .before .count-at .ensures .0) (c .before .before .before .before .before .before .before .before .before .before .before .before .before .count-at2 .ensures .0) (c .before .before .before .before .before .before .before .before .before .before .before .before .number-at .ensures) (c .before .before .before .before .before .before .before .number-at2 .ensures)), omega (arith, S.index-small (c .before .before .before .before .before .before .before .before .before .before .before .before .before .before .before .before .before .before .before .before .before .before .before .before .pre)), S.test-fits (c .before .before .before .before .before .before .before .before .before .before .before .before .before .before .before .before .before .before .before .before .before .before .before .before .pre) (c .before .before .before .before .before .before .before .before .before .before .before .before .before .before .before .byte-at .ensures .0) (c .before .before .before .before .before .before .before .before .before .before .before .before .before .before .count-at .ensures .0) (c .before .before .before .before .before .before .before .before .before .before .before .before .before .count-at2 .ensures .0) (c .before .before .before .before .before .before .before .before .before .before .before .before .number-at .ensures) (c .before .before .before .before .before .before .before .number-at2 .ensures) (c .before .before .before .before .before .before .before .before .before .before .write-add .ensures) (c .before .before .before .before .before .write-block .ensures) (c .before .number-at3 .ensures) (c .before .before .head-of .ensures))
+write-block-requires-2 c κs =
+    let x = c .before .before .before .before .before .before .before .before .before .before .before .before .before .before .before .before .before .before .before .before .before .before .pre in
+    let b = c .before .before .before .before .before .before .before .before .before .before .before .before .before .byte-at .ensures .0 in
+    let o = c .before .before .before .before .before .before .before .before .before .before .before .before .count-at .ensures .0 in
+    let u = c .before .before .before .before .before .before .before .before .before .before .before .count-at2 .ensures .0 in
+    let t = c .before .before .before .before .before .before .before .before .before .before .number-at .ensures in
+    let add = c .before .before .before .before .before .before .before .before .write-add .ensures in
+    let rules = c .before .before .before .before .write-block .ensures in
+    let head = c .before .head-of .ensures in
+    (omega (arith, S.top-small x b o u t), S.test-fits x b o u t add rules head)
 
 same-length : tie.Need-same-length
-same-length c = wrote-length (S.symbol-written (c .before .before .before .before .before .before .before .before .before .before .before .before .before .before .before .before .before .before .before .before .before .before .before .before .before .before .before .pre) (c .before .before .before .before .before .before .before .before .before .before .before .before .before .before .before .before .before .before .byte-at .ensures .0) (c .before .before .before .before .before .before .before .before .before .before .before .before .before .before .before .before .before .count-at .ensures .0) (c .before .before .before .before .before .before .before .before .before .before .before .before .before .before .before .before .count-at2 .ensures .0) (c .before .before .before .before .before .before .before .before .before .before .before .before .before .before .before .number-at .ensures) (c .before .before .before .before .before .before .before .before .before .before .number-at2 .ensures) (c .before .before .before .before .before .before .before .before .before .before .before .before .before .write-add .ensures) (c .before .before .before .before .before .before .before .before .write-block .ensures) (c .before .before .before .before .number-at3 .ensures) (c .before .before .before .before .before .head-of .ensures) (c .before .before .write-block2 .ensures))
+same-length c =
+    let x = c .before .before .before .before .before .before .before .before .before .before .before .before .before .before .before .before .before .before .before .before .before .before .before .before .before .pre in
+    let b = c .before .before .before .before .before .before .before .before .before .before .before .before .before .before .before .before .byte-at .ensures .0 in
+    let o = c .before .before .before .before .before .before .before .before .before .before .before .before .before .before .before .count-at .ensures .0 in
+    let u = c .before .before .before .before .before .before .before .before .before .before .before .before .before .before .count-at2 .ensures .0 in
+    let t = c .before .before .before .before .before .before .before .before .before .before .before .before .before .number-at .ensures in
+    let add = c .before .before .before .before .before .before .before .before .before .before .before .write-add .ensures in
+    let rules = c .before .before .before .before .before .before .before .write-block .ensures in
+    let head = c .before .before .before .before .head-of .ensures in
+    let tests = c .before .before .write-block2 .ensures in
+    wrote-length (S.symbol-written x b o u t add rules head tests)
 
 returns : tie.Need-returns
-returns c = λ x. S.symbol-written x (c .before .before .before .before .before .before .before .before .before .before .before .before .before .before .before .before .before .before .byte-at .ensures .0) (c .before .before .before .before .before .before .before .before .before .before .before .before .before .before .before .before .before .count-at .ensures .0) (c .before .before .before .before .before .before .before .before .before .before .before .before .before .before .before .before .count-at2 .ensures .0) (c .before .before .before .before .before .before .before .before .before .before .before .before .before .before .before .number-at .ensures) (c .before .before .before .before .before .before .before .before .before .before .number-at2 .ensures) (c .before .before .before .before .before .before .before .before .before .before .before .before .before .write-add .ensures) (c .before .before .before .before .before .before .before .before .write-block .ensures) (c .before .before .before .before .number-at3 .ensures) (c .before .before .before .before .before .head-of .ensures) (c .before .before .write-block2 .ensures)
+returns c =
+    let b = c .before .before .before .before .before .before .before .before .before .before .before .before .before .before .before .before .byte-at .ensures .0 in
+    let o = c .before .before .before .before .before .before .before .before .before .before .before .before .before .before .before .count-at .ensures .0 in
+    let u = c .before .before .before .before .before .before .before .before .before .before .before .before .before .before .count-at2 .ensures .0 in
+    let t = c .before .before .before .before .before .before .before .before .before .before .before .before .before .number-at .ensures in
+    let add = c .before .before .before .before .before .before .before .before .before .before .before .write-add .ensures in
+    let rules = c .before .before .before .before .before .before .before .write-block .ensures in
+    let head = c .before .before .before .before .head-of .ensures in
+    let tests = c .before .before .write-block2 .ensures in
+    λ x. S.symbol-written x b o u t add rules head tests
 
 pub write-symbol-spec : {M : Type 1} → statement M
 write-symbol-spec =
@@ -85,19 +143,15 @@ write-symbol-spec =
     add-all
     add-number-at
     number-at-requires
-    add-position
-    cast-position
     write-add-requires
-    add-number-at-2
-    number-at-requires-2
+    add-write-block
     write-block-requires
     head-of-requires
     mul-area
     slice-write-area
-    add-number-at-3
-    number-at-requires-3
+    add-write-block-2
     sub-write-block
-    add-write-block
+    add-write-block-3
     write-block-requires-2
     same-length
     returns)

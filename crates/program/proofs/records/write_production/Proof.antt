@@ -1,35 +1,64 @@
 use denote.Ref.{now}
 use mathlib.Core.Path.{_∙_}
 use native.Mathlib.Omega.{arith}
-use borrow.Author.Needs.{needs}
+use Rattle.blocks.specs.Chains.{clear-zeros}
 use Rattle.clash.specs.Placing.{bytes-of}
 use Rattle.program.proofs.Sections as S
+use borrow.Author.Needs.{needs}
 use Rattle.program.proofs.records.write_production.Statement.{statement}
 use Rattle.program.proofs.records.write_production.Tie as tie
 
 fields-from-requires : tie.Need-fields-from-requires
-fields-from-requires c κs = omega (arith, c .before .before .before .before .before .before .before .before .pre .0 .here, S.productions-few (c .before .before .before .before .before .before .before .before .pre .0 .brought))
+fields-from-requires c κs =
+    let x = c .before .before .before .before .before .before .before .before .before .pre .0 in
+    omega (arith, x .here, S.productions-few (x .brought))
 
 stretch-end-requires : tie.Need-stretch-end-requires
-stretch-end-requires c κs = omega (arith, c .before .before .before .before .before .before .before .before .before .pre .0 .here, S.productions-few (c .before .before .before .before .before .before .before .before .before .pre .0 .brought))
+stretch-end-requires c κs =
+    let x = c .before .before .before .before .before .before .before .before .before .before .pre .0 in
+    omega (arith, x .here, S.productions-few (x .brought))
 
 sub-fields : tie.Need-sub-fields
-sub-fields c = S.place (c .before .before .before .before .before .before .before .before .before .before .pre .0) (bytes-of (now (c .before .before .before .before .before .before .before .before .before .before .args .table)) (λ i. omega (arith, c .before .before .before .before .before .before .before .before .before .shared-slice-known .given i))) (c .before .fields-from .ensures) (c .stretch-end .ensures) .0
+sub-fields c =
+    let x = c .before .before .before .before .before .before .before .before .before .before .before .pre .0 in
+    let known = c .before .before .before .before .before .before .before .before .before .before .shared-slice-known .given in
+    let b = bytes-of (now (c .before .before .before .before .before .before .before .before .before .before .before .args .table)) (λ i. omega (arith, known i)) in
+    let from = c .before .fields-from .ensures in
+    let to = c .stretch-end .ensures in
+    S.place x b from to .0
 
 part-fields-start : tie.Need-part-fields-start
-part-fields-start c = S.place (c .before .before .before .before .before .before .before .before .before .before .pre .0) (bytes-of (now (c .before .before .before .before .before .before .before .before .before .before .args .table)) (λ i. omega (arith, c .before .before .before .before .before .before .before .before .before .shared-slice-known .given i))) (c .before .fields-from .ensures) (c .stretch-end .ensures) .0
+part-fields-start c =
+    let x = c .before .before .before .before .before .before .before .before .before .before .before .pre .0 in
+    let known = c .before .before .before .before .before .before .before .before .before .before .shared-slice-known .given in
+    let b = bytes-of (now (c .before .before .before .before .before .before .before .before .before .before .before .args .table)) (λ i. omega (arith, known i)) in
+    let from = c .before .fields-from .ensures in
+    let to = c .stretch-end .ensures in
+    S.place x b from to .0
 
 part-fields-end : tie.Need-part-fields-end
-part-fields-end c = S.place (c .before .before .before .before .before .before .before .before .before .before .pre .0) (bytes-of (now (c .before .before .before .before .before .before .before .before .before .before .args .table)) (λ i. omega (arith, c .before .before .before .before .before .before .before .before .before .shared-slice-known .given i))) (c .before .fields-from .ensures) (c .stretch-end .ensures) .1
+part-fields-end c =
+    let x = c .before .before .before .before .before .before .before .before .before .before .before .pre .0 in
+    let known = c .before .before .before .before .before .before .before .before .before .before .shared-slice-known .given in
+    let b = bytes-of (now (c .before .before .before .before .before .before .before .before .before .before .before .args .table)) (λ i. omega (arith, known i)) in
+    let from = c .before .fields-from .ensures in
+    let to = c .stretch-end .ensures in
+    S.place x b from to .1
 
 mul-first : tie.Need-mul-first
-mul-first c = omega (arith, c .before .before .before .before .before .before .before .before .before .before .before .pre .0 .here, S.productions-few (c .before .before .before .before .before .before .before .before .before .before .before .pre .0 .brought))
+mul-first c =
+    let x = c .before .before .before .before .before .before .before .before .before .before .before .before .pre .0 in
+    omega (arith, x .here, S.productions-few (x .brought))
 
 mul-last : tie.Need-mul-last
-mul-last c = omega (arith, c .before .before .before .before .before .before .before .before .before .before .before .pre .0 .here, S.productions-few (c .before .before .before .before .before .before .before .before .before .before .before .pre .0 .brought))
+mul-last c =
+    let x = c .before .before .before .before .before .before .before .before .before .before .before .before .pre .0 in
+    omega (arith, x .here, S.productions-few (x .brought))
 
 add-last : tie.Need-add-last
-add-last c = omega (arith, c .before .before .before .before .before .before .before .before .before .before .before .pre .0 .here, S.productions-few (c .before .before .before .before .before .before .before .before .before .before .before .pre .0 .brought))
+add-last c =
+    let x = c .before .before .before .before .before .before .before .before .before .before .before .before .pre .0 in
+    omega (arith, x .here, S.productions-few (x .brought))
 
 sub-row : tie.Need-sub-row
 sub-row c = omega arith
@@ -38,10 +67,24 @@ part-row-start : tie.Need-part-row-start
 part-row-start c = omega arith
 
 part-row-end : tie.Need-part-row-end
-part-row-end c = omega (arith, S.row-inside (c .before .before .before .before .before .before .before .before .before .before .before .pre .0) (bytes-of (now (c .before .before .before .before .before .before .before .before .before .before .before .args .table)) (λ i. omega (arith, c .before .before .before .before .before .before .before .before .before .before .shared-slice-known .given i))))
+part-row-end c =
+    let x = c .before .before .before .before .before .before .before .before .before .before .before .before .pre .0 in
+    let known = c .before .before .before .before .before .before .before .before .before .before .before .shared-slice-known .given in
+    let b = bytes-of (now (c .before .before .before .before .before .before .before .before .before .before .before .before .args .table)) (λ i. omega (arith, known i)) in
+    omega (arith, S.row-inside x b)
 
-count-items-requires : tie.Need-count-items-requires
-count-items-requires c κs = S.fields-counted (c .before .before .before .before .before .before .before .before .before .before .before .before .pre .0) (bytes-of (now (c .before .before .before .before .before .before .before .before .before .before .before .before .args .table)) (λ i. omega (arith, c .before .before .before .before .before .before .before .before .before .before .before .shared-slice-known .given i))) (c .before .before .before .fields-from .ensures) (c .before .before .stretch-end .ensures)
+slice-aggregate-find-items : tie.Need-slice-aggregate-find-items
+slice-aggregate-find-items c = search needs
+
+find-items-requires : tie.Need-find-items-requires
+find-items-requires c κs =
+    let x = c .before .before .before .before .before .before .before .before .before .before .before .before .before .before .before .pre .0 in
+    let known = c .before .before .before .before .before .before .before .before .before .before .before .before .before .before .shared-slice-known .given in
+    let b = bytes-of (now (c .before .before .before .before .before .before .before .before .before .before .before .before .before .before .before .args .table)) (λ i. omega (arith, known i)) in
+    let from = c .before .before .before .before .before .fields-from .ensures in
+    let to = c .before .before .before .before .stretch-end .ensures in
+    let nodes = c .before .before .before .before .before .before .before .before .before .before .before .before .before .before .before .pre .2 in
+    (S.fields-listing x b from to nodes, clear-zeros)
 
 array-read-entries : tie.Need-array-read-entries
 array-read-entries c = search needs
@@ -50,19 +93,48 @@ byte-at-requires : tie.Need-byte-at-requires
 byte-at-requires c κs = search needs
 
 write-record-requires : tie.Need-write-record-requires
-write-record-requires c κs = (S.record-fits (c .before .before .before .before .before .before .before .before .before .before .before .before .before .before .before .pre .0) (bytes-of (now (c .before .before .before .before .before .before .before .before .before .before .before .before .before .before .before .args .table)) (λ i. omega (arith, c .before .before .before .before .before .before .before .before .before .before .before .before .before .before .shared-slice-known .given i))) (c .before .before .before .before .before .before .fields-from .ensures) (c .before .before .before .before .before .stretch-end .ensures) (c .before .before .count-items .result) (c .before .before .count-items .ensures .1), λ x. c .before .byte-at .ensures .0 ∙ c .before .before .before .before .before .before .before .before .before .before .before .before .before .before .before .pre .1 x _ (c .before .before .before .before .before .before .before .before .before .before .before .before .before .before .before .pre .0 .here))
+write-record-requires c κs =
+    let x = c .before .before .before .before .before .before .before .before .before .before .before .before .before .before .before .before .before .before .before .before .before .pre .0 in
+    let known = c .before .before .before .before .before .before .before .before .before .before .before .before .before .before .before .before .before .before .before .before .shared-slice-known .given in
+    let b = bytes-of (now (c .before .before .before .before .before .before .before .before .before .before .before .before .before .before .before .before .before .before .before .before .before .args .table)) (λ i. omega (arith, known i)) in
+    let from = c .before .before .before .before .before .before .before .before .before .before .before .fields-from .ensures in
+    let to = c .before .before .before .before .before .before .before .before .before .before .stretch-end .ensures in
+    let nodes = c .before .before .before .before .before .before .before .before .before .before .before .before .before .before .before .before .before .before .before .before .before .pre .2 in
+    let found = c .before .before .before .before .before .find-items .ensures .1 in
+    (S.record-fits x b from to _ _ nodes found, λ y. c .before .byte-at .ensures .0 ∙ c .before .before .before .before .before .before .before .before .before .before .before .before .before .before .before .before .before .before .before .before .before .pre .1 y _ (x .here))
 
 slice-aggregate-write-body : tie.Need-slice-aggregate-write-body
 slice-aggregate-write-body c = search needs
 
 write-body-requires : tie.Need-write-body-requires
-write-body-requires c κs = S.body-fits (c .before .before .before .before .before .before .before .before .before .before .before .before .before .before .before .before .before .before .before .before .pre .0) (bytes-of (now (c .before .before .before .before .before .before .before .before .before .before .before .before .before .before .before .before .before .before .before .before .args .table)) (λ i. omega (arith, c .before .before .before .before .before .before .before .before .before .before .before .before .before .before .before .before .before .before .before .shared-slice-known .given i))) (c .before .before .before .before .before .before .before .before .before .before .before .fields-from .ensures) (c .before .before .before .before .before .before .before .before .before .before .stretch-end .ensures) (c .before .before .before .before .before .before .before .count-items .result) (c .before .before .before .before .before .before .before .count-items .ensures .1) (c .before .before .before .before .write-record .ensures)
+write-body-requires c κs =
+    let x = c .before .before .before .before .before .before .before .before .before .before .before .before .before .before .before .before .before .before .before .before .before .before .before .before .before .before .before .pre .0 in
+    let known = c .before .before .before .before .before .before .before .before .before .before .before .before .before .before .before .before .before .before .before .before .before .before .before .before .before .before .shared-slice-known .given in
+    let b = bytes-of (now (c .before .before .before .before .before .before .before .before .before .before .before .before .before .before .before .before .before .before .before .before .before .before .before .before .before .before .before .args .table)) (λ i. omega (arith, known i)) in
+    let from = c .before .before .before .before .before .before .before .before .before .before .before .before .before .before .before .before .before .fields-from .ensures in
+    let to = c .before .before .before .before .before .before .before .before .before .before .before .before .before .before .before .before .stretch-end .ensures in
+    let nodes = c .before .before .before .before .before .before .before .before .before .before .before .before .before .before .before .before .before .before .before .before .before .before .before .before .before .before .before .pre .2 in
+    let found = c .before .before .before .before .before .before .before .before .before .before .before .find-items .ensures .1 in
+    let wrote = c .before .before .before .before .before .write-record .ensures in
+    S.body-fits x b from to _ _ nodes found wrote
 
 same-length : tie.Need-same-length
 same-length c = search needs
 
+same-length-2 : tie.Need-same-length-2
+same-length-2 c = search needs
+
 returns : tie.Need-returns
-returns c = λ x. S.production-written x (bytes-of (now (c .before .before .before .before .before .before .before .before .before .before .before .before .before .before .before .before .before .before .before .before .before .before .before .args .table)) (λ i. omega (arith, c .before .before .before .before .before .before .before .before .before .before .before .before .before .before .before .before .before .before .before .before .before .before .shared-slice-known .given i))) (c .before .before .before .before .before .before .before .before .before .before .before .before .before .before .fields-from .ensures) (c .before .before .before .before .before .before .before .before .before .before .before .before .before .stretch-end .ensures) (c .before .before .before .before .before .before .before .before .before .before .count-items .result) (c .before .before .before .before .before .before .before .before .before .before .count-items .ensures .1) (c .before .before .before .before .before .before .before .write-record .ensures) (c .before .before .write-body .ensures)
+returns c =
+    let nodes = c .before .before .before .before .before .before .before .before .before .before .before .before .before .before .before .before .before .before .before .before .before .before .before .before .before .before .before .before .before .before .pre .2 in
+    let known = c .before .before .before .before .before .before .before .before .before .before .before .before .before .before .before .before .before .before .before .before .before .before .before .before .before .before .before .before .before .shared-slice-known .given in
+    let b = bytes-of (now (c .before .before .before .before .before .before .before .before .before .before .before .before .before .before .before .before .before .before .before .before .before .before .before .before .before .before .before .before .before .before .args .table)) (λ i. omega (arith, known i)) in
+    let from = c .before .before .before .before .before .before .before .before .before .before .before .before .before .before .before .before .before .before .before .before .fields-from .ensures in
+    let to = c .before .before .before .before .before .before .before .before .before .before .before .before .before .before .before .before .before .before .before .stretch-end .ensures in
+    let found = c .before .before .before .before .before .before .before .before .before .before .before .before .before .before .find-items .ensures .1 in
+    let wrote = c .before .before .before .before .before .before .before .before .write-record .ensures in
+    let body = c .before .before .write-body .ensures in
+    (same-length c ∙ nodes, λ x. S.production-written x b from to _ _ nodes found wrote body)
 
 pub write-production-spec : {M : Type 1} → statement M
 write-production-spec =
@@ -79,11 +151,13 @@ write-production-spec =
     sub-row
     part-row-start
     part-row-end
-    count-items-requires
+    slice-aggregate-find-items
+    find-items-requires
     array-read-entries
     byte-at-requires
     write-record-requires
     slice-aggregate-write-body
     write-body-requires
     same-length
+    same-length-2
     returns)

@@ -4,57 +4,86 @@ use Rattle.program.specs.Directory.{alternatives}
 use Rattle.program.proofs.Laws as L
 use Rattle.program.proofs.Sections as S
 use Prim.Native.Nat.{_≤_, _-_}
-use mathlib.Core.Path.{_≡_, refl}
+use mathlib.Core.Path.{_≡_, refl, sym}
+use lib.ListN.{length}
 use Rattle.program.proofs.records.write_productions.Statement.{statement}
 use Rattle.program.proofs.records.write_productions.Tie as tie
 
 abbrev Inv-loop : tie.InvT-loop
-Inv-loop table rows inherited synthesized offsets sets sizes area₀ count at₀ body₀ nexts p₀ area at body p = (p ≤ count) × (count ≡ sizes .productions) × (at ≤ 16384) × S.ProductionsGo table rows inherited synthesized offsets sets sizes area₀ p area at body
+Inv-loop table rows inherited synthesized offsets sets sizes area₀ count at₀ body₀ nexts links₀ p₀ area at body links p =
+    (p ≤ count) × (count ≡ sizes .productions) × (at ≤ 16384) × (length links ≡ 616) × S.ProductionsGo table rows inherited synthesized offsets sets sizes area₀ p area at body
 
 abbrev μ-loop : tie.MeasureT-loop
-μ-loop table rows inherited synthesized offsets sets sizes area₀ count at₀ body₀ nexts p₀ area at body p = count - p
+μ-loop table rows inherited synthesized offsets sets sizes area₀ count at₀ body₀ nexts links₀ p₀ area at body links p =
+    count - p
 
 mul-at : tie.Need-mul-at Inv-loop μ-loop
-mul-at c = omega (arith, L.numbers-small (c .before .before .before .before .before .before .before .before .pre .0) .0)
+mul-at c =
+    let n = L.numbers-small (c .before .before .before .before .before .before .before .before .pre .0) in
+    omega (arith, n .0)
 
 add-at : tie.Need-add-at Inv-loop μ-loop
-add-at c = omega (arith, L.numbers-small (c .before .before .before .before .before .before .before .before .pre .0) .0)
+add-at c =
+    let n = L.numbers-small (c .before .before .before .before .before .before .before .before .pre .0) in
+    omega (arith, n .0)
 
 mul-body : tie.Need-mul-body Inv-loop μ-loop
-mul-body c = omega (arith, L.numbers-small (c .before .before .before .before .before .before .before .before .pre .0) .3)
+mul-body c =
+    let n = L.numbers-small (c .before .before .before .before .before .before .before .before .pre .0) in
+    omega (arith, n .3)
 
 add-body : tie.Need-add-body Inv-loop μ-loop
-add-body c = omega (arith, L.numbers-small (c .before .before .before .before .before .before .before .before .pre .0) .0, L.numbers-small (c .before .before .before .before .before .before .before .before .pre .0) .3)
+add-body c =
+    let n = L.numbers-small (c .before .before .before .before .before .before .before .before .pre .0) in
+    omega (arith, n .0, n .3)
 
 find-nexts-requires : tie.Need-find-nexts-requires Inv-loop μ-loop
 find-nexts-requires c κs = alternatives (c .before .before .before .before .before .before .before .before .pre .0)
 
 loop-holds : tie.Need-loop-holds Inv-loop μ-loop
-loop-holds c = (omega arith, refl, omega (arith, L.numbers-small (c .before .before .before .before .before .before .before .before .before .pre .0) .0), S.productions-start (c .before .before .before .before .before .before .before .before .before .pre .1))
+loop-holds c =
+    let n = L.numbers-small (c .before .before .before .before .before .before .before .before .before .pre .0) in
+    (omega arith, refl, omega (arith, n .0), refl, S.productions-start (c .before .before .before .before .before .before .before .before .before .pre .1))
 
 slice-aggregate-write-production : tie.Need-slice-aggregate-write-production Inv-loop μ-loop
 slice-aggregate-write-production c = search needs
 
+slice-aggregate-write-production-2 : tie.Need-slice-aggregate-write-production-2 Inv-loop μ-loop
+slice-aggregate-write-production-2 c = sym (c .before .before .before .loop .inv .3)
+
 write-production-requires : tie.Need-write-production-requires Inv-loop μ-loop
-write-production-requires c κs = (S.production-fits (c .before .before .before .before .before .before .before .before .before .before .before .before .before .pre .1) (c .before .before .before .loop .inv .3) (omega arith) (c .before .before .before .before .before .before .before .before .before .before .before .before .before .pre .0), c .before .before .before .before .find-nexts .ensures)
+write-production-requires c κs =
+    let i = c .before .before .before .before .loop .inv in
+    let pre = c .before .before .before .before .before .before .before .before .before .before .before .before .before .before .pre in
+    (S.production-fits (pre .1) (i .4) (omega arith) (pre .0), c .before .before .before .before .before .find-nexts .ensures, i .3)
 
 add-at-2 : tie.Need-add-at-2 Inv-loop μ-loop
 add-at-2 c = omega arith
 
 add-p : tie.Need-add-p Inv-loop μ-loop
-add-p c = omega (arith, L.numbers-small (c .before .before .before .before .before .before .before .before .before .before .before .before .before .before .before .before .pre .0) .3)
+add-p c =
+    let n = L.numbers-small (c .before .before .before .before .before .before .before .before .before .before .before .before .before .before .before .before .before .before .pre .0) in
+    omega (arith, n .3)
 
 loop-less : tie.Need-loop-less Inv-loop μ-loop
 loop-less c = omega arith
 
 loop-again : tie.Need-loop-again Inv-loop μ-loop
-loop-again c = (omega arith, c .before .before .before .before .before .before .loop .inv .1, S.record-low (c .before .before .before .before .before .before .before .before .before .before .before .before .before .before .before .before .pre .1) (c .before .before .before .before .before .before .loop .inv .3) (omega arith) (c .before .before .before .before .before .before .before .before .before .before .before .before .before .before .before .before .pre .0), S.productions-turn (c .before .before .before .before .before .before .before .before .before .before .before .before .before .before .before .before .pre .1) (c .before .before .before .before .before .before .loop .inv .3) (omega arith) (c .before .before .write-production .ensures))
+loop-again c =
+    let i = c .before .before .before .before .before .before .before .before .loop .inv in
+    let pre = c .before .before .before .before .before .before .before .before .before .before .before .before .before .before .before .before .before .before .pre in
+    let wrote = c .before .before .before .write-production .ensures in
+    (omega arith, i .1, S.record-low (pre .1) (i .4) (omega arith) (pre .0), wrote .0, S.productions-turn (pre .1) (i .4) (omega arith) (wrote .1))
 
 same-length : tie.Need-same-length Inv-loop μ-loop
-same-length c = S.productions-size (c .before .before .before .before .before .before .before .before .before .before .before .pre .1) (c .before .loop .inv .3) (c .before .before .before .before .before .before .before .before .before .before .before .pre .0)
+same-length c =
+    let pre = c .before .before .before .before .before .before .before .before .before .before .before .pre in
+    S.productions-size (pre .1) (c .before .loop .inv .4) (pre .0)
 
 returns : tie.Need-returns Inv-loop μ-loop
-returns c = λ x. S.productions-end (c .before .before .before .before .before .before .before .before .before .before .before .pre .1) (c .before .loop .inv .3) (omega arith) x
+returns c =
+    let pre = c .before .before .before .before .before .before .before .before .before .before .before .pre in
+    λ x. S.productions-end (pre .1) (c .before .loop .inv .4) (omega arith) x
 
 pub write-productions-spec : {M : Type 1} → statement M
 write-productions-spec =
@@ -69,6 +98,7 @@ write-productions-spec =
     find-nexts-requires
     loop-holds
     slice-aggregate-write-production
+    slice-aggregate-write-production-2
     write-production-requires
     add-at-2
     add-p
