@@ -352,6 +352,17 @@ pub(crate) fn call_cells(
     if tokens.is_some_and(|(kinds, values)| kinds.len() != values.len()) {
         return (record, Answer::Refused(38, 0));
     }
+    moved(record, registers, places, program, tokens)
+}
+
+/// The moves alone, of a record that fits and lists of equal length.
+pub(crate) fn moved(
+    record: Record,
+    registers: &mut [i64],
+    places: &mut [u32],
+    program: &[u32],
+    tokens: Option<Tokens>,
+) -> (Record, Answer) {
     let mut m = Machine {
         program,
         registers,
