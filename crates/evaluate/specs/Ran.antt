@@ -1,0 +1,117 @@
+-- What a candidate's run answers and leaves.
+use Prim.Native.Nat.{ℕ, _-_, _≤_, _<_, min}
+use native.Mathlib.Omega.{arith}
+use mathlib.Core.Path.{_≡_, refl, sym, ap, ap₂, _∙_, subst}
+use mathlib.Core.List.{List, [], _++_, append-nil, reverse, map}
+use lib.ListN.{length, getD, take, drop, replicate, length-replicate, drop-of-length-le}
+use lib.IntN.{ℤ}
+use Rattle.meaning.specs.Value.{mark}
+use Rattle.meaning.specs.Grammar.{Grammar, leaves}
+use Rattle.meaning.specs.Machine.{Config, Lent, Settled, stopped, failed, opening, feedAll, finishAll, placeOf}
+use Rattle.meaning.specs.Calls as Calls
+use Rattle.meaning.specs.Calls.{Stacks, lentOf, refused, tokensFrom, afterFeed, afterFinish}
+use Rattle.meaning.specs.PublicCalls.{stacksOf}
+use Rattle.meaning_ranking.specs.RankCall.{evaluated}
+use Rattle.theory_answers.specs.Memory.{lay-above}
+use Rattle.theory_evaluating.specs.Outcomes.{Outcome, outcome, outcomeOf, Goes, failing, ending}
+use Rattle.moves.specs.declared.Run.{Run}
+use Rattle.moves.specs.Laid.{LaidIn, laid-size}
+use Rattle.moves.specs.Held.{Held}
+use Rattle.registers.specs.Laid.{laid-inside}
+use Rattle.machine.specs.declared.Ended as Ended
+use Rattle.machine.specs.declared.Ended.the-variants.{Stopped, Failed}
+use Rattle.machine.specs.Advancing.{Settles, Running}
+use Rattle.machine.specs.Feeding.{Feeds, Finishes}
+use Rattle.fit.specs.Shown.{Shown, Readable}
+use Rattle.engine.specs.declared.Called.{Called}
+use Rattle.engine.specs.Records.{answerIs, calledIs}
+use Rattle.engine.specs.Leaving.{fedFrom, finishedFrom, Ending, feed-leaves, finish-leaves, ended-by}
+use Rattle.evaluate.specs.declared.Candidate.{Candidate}
+use Rattle.evaluate.specs.Opened.{Clean, LentClean, Opened, startRun, held-opened, opening-count}
+
+-- from opened stacks, by what the tokens lead to
+abbrev pub Through : List ℕ → List ℕ → List ℤ → List ℤ → List ℕ → Calls.Called → Type 0
+Through ws ks us vs ps k = (g : Grammar) → Shown g ws → Goes g (stacksOf vs ps) ks us (outcomeOf k)
+
+pub record Ran (ws ks : List ℕ) (us vs : List ℤ) (ps : List ℕ) (vs′ : List ℤ) (ps′ : List ℕ) (r : Called) : Type 0 where
+  pub through : Through ws ks us vs ps (calledIs r vs′ ps′)
+  pub clean : Clean vs′ ps′ (r .«record» .registers) (r .«record» .places)
+
+pub record CandidateAs (ws ks : List ℕ) (us vs : List ℤ) (ps : List ℕ) (vs′ : List ℤ) (ps′ : List ℕ) (r : Candidate) : Type 0 where
+  pub goes : (g : Grammar) → Shown g ws → Goes g (stacksOf vs ps) ks us (outcome (answerIs (r .answer)) (stacksOf vs′ ps′))
+  pub clean : Clean vs′ ps′ (r .registers) (r .places)
+
+pub record EvaluatedAs (ws ks : List ℕ) (us vs : List ℤ) (ps : List ℕ) (vs′ : List ℤ) (ps′ : List ℕ) (r : Candidate) : Type 0 where
+  pub outcomeIs : (g : Grammar) → Shown g ws → outcome (answerIs (r .answer)) (stacksOf vs′ ps′) ≡ outcomeOf (evaluated g (stacksOf vs ps) ks us)
+  pub clean : LentClean vs′ ps′ (r .registers) (r .places)
+
+-- ---- what a run holds is clear above its heights
+
+laid-clean : {A : Type 0} {clear : A} {n : ℕ} {mem : List A} {h : ℕ} {xs : List A} → LaidIn clear n mem h xs → drop h mem ≡ replicate (length mem - h) clear
+laid-clean {A} {clear} {n} {mem} {h} {xs} l =
+    let e : length xs ≡ h = l .height in
+    let size : n - length xs ≡ length mem - h = omega (arith, laid-size l) in
+    ap₂ (λ k z. drop k z) (sym e) (l .memory)
+    ∙ (lay-above n clear xs (replicate n clear)
+    ∙ (ap (λ z. replicate (n - length xs) clear ++ z) (drop-of-length-le (replicate n clear) {i = n} (omega (arith, length-replicate n clear)))
+    ∙ (append-nil (replicate (n - length xs) clear) ∙ ap (λ k. replicate k clear) size)))
+
+held-clean : {g : Grammar} {ws : List ℕ} {lent : Lent} {vs : List ℤ} {ps : List ℕ} {run : Run} {c : Config} → Held g ws lent vs ps run c → Clean vs ps (run .registers) (run .places)
+held-clean h = record { registers = laid-clean (h .registers); places = laid-clean (h .places); few = laid-inside (h .registers); little = laid-inside (h .places) }
+
+-- ---- the run of a candidate
+
+module _ {ws : List ℕ} {vs : List ℤ} {ps : List ℕ} (b : Readable ws) (o : Opened ws vs ps) (count : ℕ) (e : count ≡ getD ws 4 0) where
+  pub start-running : Running ws vs ps (startRun count)
+  start-running = record { grammar = b .grammar; lent = lentOf (stacksOf vs ps); config = opening (b .grammar); held = held-opened (b .grammar) ws (b .shown) vs ps o count e }
+
+  module _ (ks : List ℕ) (us : List ℤ) (vs₁ : List ℤ) (ps₁ : List ℕ) (x : Ended.Ended) (f : Feeds ws ks us vs ps (startRun count) vs₁ ps₁ x) where
+    settled : (g : Grammar) → Shown g ws → Settles g ws (lentOf (stacksOf vs ps)) (feedAll g (lentOf (stacksOf vs ps)) (leaves g (tokensFrom ks us)) (opening g)) vs₁ ps₁ x
+    settled g s = f g (lentOf (stacksOf vs ps)) (opening g) (held-opened g ws s vs ps o count e)
+
+    roomy : (g : Grammar) → Shown g ws → length (opening g .registers) ≤ lentOf (stacksOf vs ps) .maxRegisters
+    roomy g s = omega (arith, opening-count g ws s, o .room, o .few)
+
+    placed : (g : Grammar) → 1 ≤ lentOf (stacksOf vs ps) .maxPlaces
+    placed g = omega (arith, o .some, o .little)
+
+    -- a token is refused
+    pub failed-ran : (run : Run) (j : ℕ) (r : Called) → x ≡ Failed run j → r ≡ fedFrom (Failed run j) → Ran ws ks us vs ps vs₁ ps₁ r
+    failed-ran run j r q d =
+        let at : (g : Grammar) (s : Shown g ws) → Settles g ws (lentOf (stacksOf vs ps)) (feedAll g (lentOf (stacksOf vs ps)) (leaves g (tokensFrom ks us)) (opening g)) vs₁ ps₁ (Failed run j) = λ g s. subst (Settles g ws (lentOf (stacksOf vs ps)) (feedAll g (lentOf (stacksOf vs ps)) (leaves g (tokensFrom ks us)) (opening g)) vs₁ ps₁) q (settled g s) in
+        record {
+          through = λ g s.
+              let z = at g s in
+              let k : calledIs r vs₁ ps₁ ≡ afterFeed g (stacksOf vs ps) (failed (z .0) j) = ap (λ c. calledIs c vs₁ ps₁) d ∙ (feed-leaves g ws vs ps (o .few) (o .little) vs₁ ps₁ (Failed run j) (failed (z .0) j) (z .0, refl, z .2)) in
+              subst (λ y. Goes g (stacksOf vs ps) ks us (outcomeOf y)) (sym k) (failing (roomy g s) (placed g) (z .0) j (z .1));
+          clean = subst (λ c. Clean vs₁ ps₁ (c .«record» .registers) (c .«record» .places)) (sym d) (held-clean (at (b .grammar) (b .shown) .2));
+        }
+
+    -- all tokens are read
+    module _ (next : Run) (q : x ≡ Stopped next) where
+      stopped-at : (g : Grammar) → Shown g ws → Settles g ws (lentOf (stacksOf vs ps)) (feedAll g (lentOf (stacksOf vs ps)) (leaves g (tokensFrom ks us)) (opening g)) vs₁ ps₁ (Stopped next)
+      stopped-at g s = subst (Settles g ws (lentOf (stacksOf vs ps)) (feedAll g (lentOf (stacksOf vs ps)) (leaves g (tokensFrom ks us)) (opening g)) vs₁ ps₁) q (settled g s)
+
+      pub next-running : Running ws vs₁ ps₁ next
+      next-running = let z = stopped-at (b .grammar) (b .shown) in record { grammar = b .grammar; lent = lentOf (stacksOf vs ps); config = z .0; held = z .2 }
+
+      module _ (vs₂ : List ℤ) (ps₂ : List ℕ) (y : Ended.Ended) (h : Finishes ws vs₁ ps₁ next vs₂ ps₂ y) where
+        finish-settled : (g : Grammar) (s : Shown g ws) → Settles g ws (lentOf (stacksOf vs ps)) (finishAll g (lentOf (stacksOf vs ps)) (stopped-at g s .0)) vs₂ ps₂ y
+        finish-settled g s = h g (lentOf (stacksOf vs ps)) (stopped-at g s .0) (stopped-at g s .2)
+
+        pub next-ending : Ending ws vs₂ y
+        next-ending = let z = stopped-at (b .grammar) (b .shown) in ended-by (b .grammar) ws vs ps (o .few) (o .little) (z .0) (z .2 .fewMoves) (b .shown .begins) vs₂ ps₂ y (finish-settled (b .grammar) (b .shown))
+
+        heights : (w : Ended.Ended) → Settles (b .grammar) ws (lentOf (stacksOf vs ps)) (finishAll (b .grammar) (lentOf (stacksOf vs ps)) (stopped-at (b .grammar) (b .shown) .0)) vs₂ ps₂ w → Clean vs₂ ps₂ (finishedFrom (getD ws 5 0) vs₂ w .«record» .registers) (finishedFrom (getD ws 5 0) vs₂ w .«record» .places)
+        heights (Stopped run) z = held-clean (z .2)
+        heights (Failed run j) z = held-clean (z .2)
+
+        pub finished-ran : (r : Called) → r ≡ finishedFrom (getD ws 5 0) vs₂ y → Ran ws ks us vs ps vs₂ ps₂ r
+        finished-ran r d =
+            record {
+              through = λ g s.
+                  let z = stopped-at g s in
+                  let k : calledIs r vs₂ ps₂ ≡ afterFinish g (stacksOf vs ps) (finishAll g (lentOf (stacksOf vs ps)) (z .0)) = ap (λ c. calledIs c vs₂ ps₂) d ∙ finish-leaves g ws vs ps (o .few) (o .little) (z .0) (z .2 .fewMoves) vs₂ ps₂ y (finish-settled g s) in
+                  subst (λ c. Goes g (stacksOf vs ps) ks us (outcomeOf c)) (sym k) (ending (roomy g s) (placed g) (z .0) (z .1) (z .2 .shaped));
+              clean = subst (λ c. Clean vs₂ ps₂ (c .«record» .registers) (c .«record» .places)) (sym d) (heights y (finish-settled (b .grammar) (b .shown)));
+            }
