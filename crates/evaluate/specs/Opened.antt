@@ -2,6 +2,7 @@
 use Prim.Native.Nat.{ℕ, zero, suc, _+_, _-_, _≤_, _<_, min}
 use native.Mathlib.Omega.{arith}
 use mathlib.Core.Path.{_≡_, refl, sym, ap, ap₂, _∙_, subst, subst₂}
+use mathlib.Core.Bool.{true}
 use mathlib.Core.List.{List, [], _∷_, _++_}
 use lib.ListN.{length, getD, set, take, drop, replicate, length-replicate, length-append, length-set, drop-of-length-le}
 use lib.IntN.{ℤ}
@@ -48,8 +49,8 @@ clean-unknown vs ps =
     }
 
 replicate-more : {A : Type 0} (x : A) (a b : ℕ) → replicate a x ++ replicate b x ≡ replicate (a + b) x
-replicate-more x zero b = refl
-replicate-more x (suc a) b = ap (λ t. x ∷ t) (replicate-more x a b)
+replicate-more x zero b = let e : b ≡ 0 + b = omega arith in ap (λ n. replicate n x) e
+replicate-more x (suc a) b = let e : suc (a + b) ≡ suc a + b = omega arith in ap (λ t. x ∷ t) (replicate-more x a b) ∙ ap (λ n. replicate n x) e
 
 -- the first a cells cleared, the others clear
 pub all-cleared : {A : Type 0} (x : A) (l : List A) (a : ℕ) → a ≤ length l → drop a l ≡ replicate (length l - a) x → replicate a x ++ drop a l ≡ replicate (length l) x
@@ -73,40 +74,51 @@ module _ (g : Grammar) (ws : List ℕ) (s : Shown g ws) where
   pub opening-count : length (opening g .registers) ≡ getD ws 4 0
   opening-count = length-replicate (syn g (nonterminal (g .start))) mark ∙ sym (segment-words (s .begins) .registers)
 
+  -- opening lays the opening configuration
+  module _ (vs : List ℤ) (ps : List ℕ) (few : length vs ≤ 4096) (little : length ps ≤ 1024) (room : getD ws 4 0 ≤ length vs) (some : 1 ≤ length ps) where
+    pub roomy : length (opening g .registers) ≤ lentOf (stacksOf vs ps) .maxRegisters
+    roomy = omega (arith, opening-count)
+
+    pub placed : 1 ≤ lentOf (stacksOf vs ps) .maxPlaces
+    placed = omega arith
+
+    pub opened-lays : (vs₁ : List ℤ) (ps₁ : List ℕ) → vs₁ ≡ replicate (length vs) mark → ps₁ ≡ set (replicate (length ps) 0) 0 32768 → stacksOf vs₁ ps₁ ≡ layAll g (opening g) (stacksOf vs ps)
+    opened-lays vs₁ ps₁ e d =
+        ap₂ stacksOf e d
+        ∙ (ap (λ k. k .stacks) (open-made g ws (s .begins) vs ps few little room (λ z. omega arith) (getD ws 4 0) (replicate (length vs) mark) (replicate (length ps) 0) refl refl refl)
+        ∙ ap (λ k. k .stacks) (is-open g (stacksOf vs ps) (s .formed) roomy placed))
+
+    pub opening-within : Within (lentOf (stacksOf vs ps)) (opening g)
+    opening-within = opening-held g (s .formed) (stacksOf vs ps) roomy placed .0 .within
+
   module _ (vs : List ℤ) (ps : List ℕ) (o : Opened ws vs ps) where
-    abbrev m : Stacks
-    m = stacksOf vs ps
+    enough : length (opening g .registers) ≤ lentOf (stacksOf vs ps) .maxRegisters
+    enough = roomy vs ps (o .few) (o .little) (o .room) (o .some)
 
-    roomy : length (opening g .registers) ≤ lentOf (stacksOf vs ps) .maxRegisters
-    roomy = omega (arith, opening-count, o .room, o .few)
-
-    placed : 1 ≤ lentOf (stacksOf vs ps) .maxPlaces
-    placed = omega (arith, o .some, o .little)
+    one : 1 ≤ lentOf (stacksOf vs ps) .maxPlaces
+    one = placed vs ps (o .few) (o .little) (o .room) (o .some)
 
     -- opening them once more changes nothing
     opened-same : stacksOf vs ps ≡ layAll g (opening g) (stacksOf vs ps)
-    opened-same =
-        ap₂ stacksOf (o .registers) (o .places)
-        ∙ (ap (λ k. k .stacks) (open-made g ws (s .begins) vs ps (o .few) (o .little) (o .room) (λ z. omega (arith, o .some)) (getD ws 4 0) (replicate (length vs) mark) (replicate (length ps) 0) refl refl refl)
-        ∙ ap (λ k. k .stacks) (is-open g (stacksOf vs ps) (s .formed) roomy placed))
+    opened-same = opened-lays vs ps (o .few) (o .little) (o .room) (o .some) vs ps (o .registers) (o .places)
 
     within : Within (lentOf (stacksOf vs ps)) (opening g)
-    within = opening-held g (s .formed) (stacksOf vs ps) roomy placed .0 .within
+    within = opening-held g (s .formed) (stacksOf vs ps) enough one .0 .within
 
     fits : Fit g (recordOf true (opening g)) (stacksOf vs ps)
     fits =
-        let h = opening-held g (s .formed) (stacksOf vs ps) roomy placed in
+        let h = opening-held g (s .formed) (stacksOf vs ps) enough one in
         subst (Fit g (recordOf true (opening g))) (sym opened-same) (laid-fits g true (opening g) (stacksOf vs ps) (at-stop g (s .formed) (opening g .frames) (opening g .registers) (h .0 .shaped) (h .1)) within (omega arith))
 
     config-is : configOf g (recordOf true (opening g)) (stacksOf vs ps) ≡ opening g
     config-is =
-        let h = opening-held g (s .formed) (stacksOf vs ps) roomy placed in
+        let h = opening-held g (s .formed) (stacksOf vs ps) enough one in
         ap (configOf g (recordOf true (opening g))) opened-same ∙ read-back g true (opening g) (stacksOf vs ps) (at-stop g (s .formed) (opening g .frames) (opening g .registers) (h .0 .shaped) (h .1)) within
 
     first-place : getD ps 0 0 ≡ 32768
     first-place = ap (λ z. getD z 0 0) (o .places) ∙ go ps (o .some)
       where
-        go : (qs : List ℕ) → 1 ≤ length qs → getD (set (replicate (length qs) 0) 0 32768) 0 0 ≡ 32768
+        go : (qs : List ℕ) → 1 ≤ length qs → getD (set (replicate {A = ℕ} (length qs) 0) 0 32768) 0 0 ≡ 32768
         go [] l = absurd (omega arith)
         go (q ∷ qs) l = refl
 

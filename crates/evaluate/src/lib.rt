@@ -5,7 +5,7 @@ ghost use lib.ListN.{length, replicate, set};
 ghost use Rattle.meaning.specs.Value.{mark};
 ghost use Rattle.fit.specs.Shown.{Readable};
 ghost use Rattle.evaluate.specs.Opened.{Clean, LentClean, Opened};
-ghost use Rattle.evaluate.specs.Ran.{Ran, CandidateAs, EvaluatedAs};
+ghost use Rattle.evaluate.specs.Ran.{unopenedFrom, leftFrom, Ran, CandidateAs, EvaluatedAs};
 use engine::Answer;
 use engine::Called;
 use engine::lent;
@@ -61,8 +61,32 @@ fn run_through(
     }
 }
 
+// An opening that is refused leaves the cells as they were.
+fn unopened(number: u32, a: usize, b: usize) -> Candidate
+    ensures { λ r. ⌜ r ≡ unopenedFrom number a b ⌝ }
+{
+    Candidate {
+        answer: Answer::Refused { number, tokens: 0 },
+        registers: a,
+        places: b,
+    }
+}
+
+// A run leaves all clear above its heights.
+fn left(called: Called) -> Candidate
+    ensures { λ r. ⌜ r ≡ leftFrom called ⌝ }
+{
+    let answer = called.answer;
+    let record = called.record;
+    Candidate {
+        answer,
+        registers: record.registers as usize,
+        places: record.places as usize,
+    }
+}
+
 // On exactly the lent cells. 01: "At opening 31 precedes 32, no stack is written".
-fn candidate(
+fn on_lent(
     registers: &mut [i64],
     places: &mut [u32],
     program: &[u32],
@@ -75,32 +99,13 @@ fn candidate(
     ensures { λ r. ⌜ CandidateAs (now (program .entry)) (now (kinds .entry)) (now (values .entry)) (now (registers .entry)) (now (places .entry)) (now (registers .exit)) (now (places .exit)) r ⌝ }
 {
     if registers.len() < moves::word_at(program, 4) {
-        return Candidate {
-            answer: Answer::Refused {
-                number: 31,
-                tokens: 0,
-            },
-            registers: a,
-            places: b,
-        };
+        return unopened(31, a, b);
     }
     if places.len() == 0 {
-        return Candidate {
-            answer: Answer::Refused {
-                number: 32,
-                tokens: 0,
-            },
-            registers: a,
-            places: b,
-        };
+        return unopened(32, a, b);
     }
     open_again(registers, places, a, b);
-    let called = run_through(registers, places, program, kinds, values);
-    Candidate {
-        answer: called.answer,
-        registers: called.record.registers as usize,
-        places: called.record.places as usize,
-    }
+    left(run_through(registers, places, program, kinds, values))
 }
 
 // On stacks of any length, of whose lent cells those from a and b on are clear.
@@ -118,7 +123,7 @@ pub fn evaluate(
 {
     let n = lent::smaller(registers.len(), lent::REGISTERS);
     let k = lent::smaller(places.len(), lent::PLACES);
-    candidate(
+    on_lent(
         &mut registers[..n],
         &mut places[..k],
         program,
