@@ -2,11 +2,13 @@
 use Prim.Native.Nat.{ℕ, _-_, _≤_, _<_, min}
 use native.Mathlib.Omega.{arith}
 use mathlib.Core.Path.{_≡_, refl, sym, ap, ap₂, _∙_, subst, subst₂}
+use mathlib.Core.Bool.{Bool, true}
+use lib.Dec.{T}
 use mathlib.Core.List.{List, [], _++_, append-nil, reverse, map}
 use lib.ListN.{length, getD, set, take, drop, replicate, length-replicate, length-append, length-drop, length-set, drop-of-length-le}
 use lib.Seq.{take-at}
 use lib.IntN.{ℤ}
-use Rattle.meaning.specs.Value.{mark}
+use Rattle.meaning.specs.Value.{mark, inRange}
 use Rattle.meaning.specs.Grammar.{Grammar, leaves}
 use Rattle.meaning.specs.Machine.{Config, Lent, Settled, stopped, failed, opening, feedAll, finishAll, placeOf}
 use Rattle.meaning.specs.Calls as Calls
@@ -14,6 +16,7 @@ use Rattle.meaning.specs.Calls.{Stacks, lentOf, refused, tokensFrom, afterFeed,
 use Rattle.meaning.specs.PublicCalls.{stacksOf}
 use Rattle.meaning_ranking.specs.RankCall.{evaluated}
 use Rattle.theory_answers.specs.Memory.{lay-above}
+use Rattle.theory_answers.specs.ShapeMemory.{result-ranged}
 use Rattle.theory_evaluating.specs.Outcomes.{Outcome, outcome, outcomeOf, Goes, narrow, flat, failing, ending, goes-evaluated, goes-over}
 use Rattle.moves.specs.declared.Run.{Run}
 use Rattle.moves.specs.Laid.{LaidIn, laid-size}
@@ -27,7 +30,7 @@ use Rattle.fit.specs.Shown.{Shown, Readable}
 use Rattle.engine.specs.declared.Called.{Called}
 use Rattle.engine.specs.declared.Answer.the-variants.{Refused}
 use Rattle.engine.specs.Records.{answerIs, calledIs}
-use Rattle.engine.specs.Leaving.{fedFrom, finishedFrom, Ending, feed-leaves, finish-leaves, ended-by}
+use Rattle.engine.specs.Leaving.{fedFrom, finishedFrom, Ending, feed-leaves, finish-leaves, is-finished, ended-by}
 use Rattle.evaluate.specs.declared.Candidate.{Candidate}
 use Rattle.evaluate.specs.Opened.{Clean, LentClean, Opened, startRun, held-opened, opening-count, roomy, placed, opened-lays, opening-within}
 use Rattle.engine.specs.Cutting.{uncut, lent-same, put-back, fed-cut, finished-cut}
@@ -38,6 +41,13 @@ unopenedFrom number a b = record { answer = Refused number 0; registers = a; pla
 abbrev pub leftFrom : Called → Candidate
 leftFrom c = record { answer = c .answer; registers = c .«record» .registers; places = c .«record» .places }
 
+-- a value is within its limits
+abbrev pub answerRanged : Calls.Answer → Bool
+answerRanged (Calls.value v n) = inRange v
+answerRanged (Calls.more n) = true
+answerRanged (Calls.refused k n) = true
+answerRanged (Calls.tableRefused k o) = true
+
 -- from opened stacks, by what the tokens lead to
 abbrev pub Through : List ℕ → List ℕ → List ℤ → List ℤ → List ℕ → Calls.Called → Type 0
 Through ws ks us vs ps k = (g : Grammar) → Shown g ws → Goes g (stacksOf vs ps) ks us (outcomeOf k)
@@ -45,14 +55,17 @@ Through ws ks us vs ps k = (g : Grammar) → Shown g ws → Goes g (stacksOf vs 
 pub record Ran (ws ks : List ℕ) (us vs : List ℤ) (ps : List ℕ) (vs′ : List ℤ) (ps′ : List ℕ) (r : Called) : Type 0 where
   pub through : Through ws ks us vs ps (calledIs r vs′ ps′)
   pub clean : Clean vs′ ps′ (r .«record» .registers) (r .«record» .places)
+  pub ranged : T (answerRanged (answerIs (r .answer)))
 
 pub record CandidateAs (ws ks : List ℕ) (us vs : List ℤ) (ps : List ℕ) (vs′ : List ℤ) (ps′ : List ℕ) (r : Candidate) : Type 0 where
   pub goes : (g : Grammar) → Shown g ws → Goes g (stacksOf vs ps) ks us (outcome (answerIs (r .answer)) (stacksOf vs′ ps′))
   pub clean : Clean vs′ ps′ (r .registers) (r .places)
+  pub ranged : T (answerRanged (answerIs (r .answer)))
 
 pub record EvaluatedAs (ws ks : List ℕ) (us vs : List ℤ) (ps : List ℕ) (vs′ : List ℤ) (ps′ : List ℕ) (r : Candidate) : Type 0 where
   pub outcomeIs : (g : Grammar) → Shown g ws → outcome (answerIs (r .answer)) (stacksOf vs′ ps′) ≡ outcomeOf (evaluated g (stacksOf vs ps) ks us)
   pub clean : LentClean vs′ ps′ (r .registers) (r .places)
+  pub ranged : T (answerRanged (answerIs (r .answer)))
 
 -- ---- what a run holds is clear above its heights
 
@@ -94,6 +107,7 @@ module _ {ws : List ℕ} {vs : List ℤ} {ps : List ℕ} (b : Readable ws) (o : 
               let k : calledIs r vs₁ ps₁ ≡ afterFeed g (stacksOf vs ps) (failed (z .0) j) = ap (λ c. calledIs c vs₁ ps₁) d ∙ (feed-leaves g ws vs ps (o .few) (o .little) vs₁ ps₁ (Failed run j) (failed (z .0) j) (z .0, refl, z .2)) in
               subst (λ y. Goes g (stacksOf vs ps) ks us (outcomeOf y)) (sym k) (failing (enough g s) (one g) (z .0) j (z .1));
           clean = subst (λ c. Clean vs₁ ps₁ (c .«record» .registers) (c .«record» .places)) (sym d) (held-clean (at (b .grammar) (b .shown) .2));
+          ranged = subst (λ c. T (answerRanged (answerIs (c .answer)))) (sym d) tt;
         }
 
     -- all tokens are read
@@ -115,6 +129,12 @@ module _ {ws : List ℕ} {vs : List ℤ} {ps : List ℕ} (b : Readable ws) (o : 
         heights (Stopped run) z = held-clean (z .2)
         heights (Failed run j) z = held-clean (z .2)
 
+        ends-ranged : (w : Ended.Ended) → Settles (b .grammar) ws (lentOf (stacksOf vs ps)) (finishAll (b .grammar) (lentOf (stacksOf vs ps)) (stopped-at (b .grammar) (b .shown) .0)) vs₂ ps₂ w → T (answerRanged (afterFinish (b .grammar) (stacksOf vs ps) (finishAll (b .grammar) (lentOf (stacksOf vs ps)) (stopped-at (b .grammar) (b .shown) .0)) .answer))
+        ends-ranged (Stopped run) z =
+            let c = stopped-at (b .grammar) (b .shown) in
+            subst (λ o. T (answerRanged (afterFinish (b .grammar) (stacksOf vs ps) o .answer))) (sym (z .1)) (result-ranged (b .grammar) (b .shown .formed) (z .0) (z .2 .shaped) (is-finished (b .grammar) ws vs ps (o .few) (o .little) (c .0) (c .2 .fewMoves) (z .0) (z .1)))
+        ends-ranged (Failed run j) z = subst (λ o. T (answerRanged (afterFinish (b .grammar) (stacksOf vs ps) o .answer))) (sym (z .1)) tt
+
         pub finished-ran : (r : Called) → r ≡ finishedFrom (getD ws 5 0) vs₂ y → Ran ws ks us vs ps vs₂ ps₂ r
         finished-ran r d =
             record {
@@ -123,6 +143,10 @@ module _ {ws : List ℕ} {vs : List ℤ} {ps : List ℕ} (b : Readable ws) (o : 
                   let k : calledIs r vs₂ ps₂ ≡ afterFinish g (stacksOf vs ps) (finishAll g (lentOf (stacksOf vs ps)) (z .0)) = ap (λ c. calledIs c vs₂ ps₂) d ∙ finish-leaves g ws vs ps (o .few) (o .little) (z .0) (z .2 .fewMoves) vs₂ ps₂ y (finish-settled g s) in
                   subst (λ c. Goes g (stacksOf vs ps) ks us (outcomeOf c)) (sym k) (ending (enough g s) (one g) (z .0) (z .1) (z .2 .shaped));
               clean = subst (λ c. Clean vs₂ ps₂ (c .«record» .registers) (c .«record» .places)) (sym d) (heights y (finish-settled (b .grammar) (b .shown)));
+              ranged =
+                  let z = stopped-at (b .grammar) (b .shown) in
+                  let k = ap (λ c. calledIs c vs₂ ps₂ .answer) d ∙ ap (λ x. x .answer) (finish-leaves (b .grammar) ws vs ps (o .few) (o .little) (z .0) (z .2 .fewMoves) vs₂ ps₂ y (finish-settled (b .grammar) (b .shown))) in
+                  subst (λ a. T (answerRanged a)) (sym k) (ends-ranged y (finish-settled (b .grammar) (b .shown)));
             }
 
 -- ---- on exactly the lent cells
@@ -130,10 +154,10 @@ module _ {ws : List ℕ} {vs : List ℤ} {ps : List ℕ} (b : Readable ws) (o : 
 module _ (ws ks : List ℕ) (us vs : List ℤ) (ps : List ℕ) (few : length vs ≤ 4096) (little : length ps ≤ 1024) where
   module _ {a b : ℕ} (k : Clean vs ps a b) (r : Candidate) where
     pub narrow-as : length vs < getD ws 4 0 → r ≡ unopenedFrom 31 a b → CandidateAs ws ks us vs ps vs ps r
-    narrow-as l e = subst (CandidateAs ws ks us vs ps vs ps) (sym e) (record { goes = λ g s. narrow (omega (arith, opening-count g ws s)); clean = k })
+    narrow-as l e = subst (CandidateAs ws ks us vs ps vs ps) (sym e) (record { goes = λ g s. narrow (omega (arith, opening-count g ws s)); clean = k; ranged = tt })
 
     pub flat-as : getD ws 4 0 ≤ length vs → length ps ≡ 0 → r ≡ unopenedFrom 32 a b → CandidateAs ws ks us vs ps vs ps r
-    flat-as m l e = subst (CandidateAs ws ks us vs ps vs ps) (sym e) (record { goes = λ g s. flat (omega (arith, opening-count g ws s)) (omega arith); clean = k })
+    flat-as m l e = subst (CandidateAs ws ks us vs ps vs ps) (sym e) (record { goes = λ g s. flat (omega (arith, opening-count g ws s)) (omega arith); clean = k; ranged = tt })
 
   module _ (room : getD ws 4 0 ≤ length vs) (some : 1 ≤ length ps) (vs₁ : List ℤ) (ps₁ : List ℕ) (e : vs₁ ≡ replicate (length vs) mark) (d : ps₁ ≡ set (replicate (length ps) 0) 0 32768) where
     same-size : length vs₁ ≡ length vs
@@ -161,6 +185,7 @@ module _ (ws ks : List ℕ) (us vs : List ℤ) (ps : List ℕ) (few : length vs 
               goes-over g (opening g) (stacksOf vs ps) (opening-within g ws s vs ps few little room some) ks us (roomy g ws s vs ps few little room some) (placed g ws s vs ps few little room some)
               (subst (λ m. Goes g m ks us (outcomeOf (calledIs c vs′ ps′))) (opened-lays g ws s vs ps few little room some vs₁ ps₁ e d) (z .through g s));
           clean = z .clean;
+          ranged = z .ranged;
         })
 
 -- ---- on stacks of any length
@@ -207,6 +232,7 @@ module _ (ws ks : List ℕ) (us vs : List ℤ) (ps : List ℕ) (even : length ks
       record {
         outcomeIs = λ g s. goes-evaluated g (s .formed) (stacksOf vs ps) ks us even (goes-cut g vs ps ks us (c .goes g s));
         clean = subst₂ (λ x y. Clean x y (r .registers) (r .places)) (sym (taken-back 4096 vs vs′ a)) (sym (taken-back 1024 ps ps′ b)) (c .clean);
+        ranged = c .ranged;
       }
 
   pub evaluated-as : (i j : ℕ) → i ≡ min (length vs) 4096 → j ≡ min (length ps) 1024 → (vs′ : List ℤ) (ps′ : List ℕ) (r : Candidate) → length vs′ ≡ i → length ps′ ≡ j
