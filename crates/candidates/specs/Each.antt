@@ -35,6 +35,10 @@ putAt l i (entry n v r) = set (set (set l (3 * i) n) (3 * i + 1) v) (3 * i + 2) 
 abbrev pub after : List Entry → Evaluation → Evaluation
 after es e = record { entries = es ++ e .entries; stacks = e .stacks }
 
+-- parts of two lists of one length
+pub same-parts : {A B : Type 0} (xs : List A) (ys : List B) (i n : ℕ) → length xs ≡ length ys → length (take n (drop i xs)) ≡ length (take n (drop i ys))
+same-parts xs ys i n e = length-take n (drop i xs) ∙ (ap (min n) (length-drop i xs ∙ (ap (λ k. k - i) e ∙ sym (length-drop i ys))) ∙ sym (length-take n (drop i ys)))
+
 pub record AllDone (ws lengths ks : List ℕ) (us l₀ vs₀ : List ℤ) (ps₀ : List ℕ) (l vs : List ℤ) (ps : List ℕ) : Type 0 where
   pub evaluation : (g : Grammar) → Shown g ws → record { entries = entriesOf (length lengths) l; stacks = stacksOf vs ps } ≡ evaluations g 0 lengths ks us (stacksOf vs₀ ps₀)
   pub rest : drop (3 * length lengths) l ≡ drop (3 * length lengths) l₀

@@ -1,73 +1,76 @@
+use mathlib.Core.Path.{sym, ap, _∙_}
+use lib.IntN.{pos}
+use mir.Facts.{toZ-ofZ}
+use denote.Ref.{now}
+use Rattle.meaning_ranking.specs.Ranking.{entry}
+use Rattle.meaning_ranking.specs.RankCall.{entryOf}
+use Rattle.engine.specs.Records.{answerIs}
+use Rattle.candidates.specs.Each.{putAt}
+use borrow.Author.Needs.{sfits-of}
 use borrow.Author.Needs.{needs}
 use Rattle.candidates.proofs.put.Statement.{statement}
 use Rattle.candidates.proofs.put.Tie as tie
-use Rattle.candidates.proofs.put.Reads as reads
-use Rattle.candidates.proofs.put.Lts as lts
-use Rattle.candidates.proofs.put_cells.Reads as put-cells-reads
 
--- src/lib.rt:32:23
 enum-known-answer : tie.Need-enum-known-answer
 enum-known-answer c = search needs
 
--- src/lib.rt:32:40
 put-cells-requires : tie.Need-put-cells-requires
 put-cells-requires c κs = search needs
 
--- src/lib.rt:33:27
 enum-known-answer-2 : tie.Need-enum-known-answer-2
 enum-known-answer-2 c = search needs
 
--- src/lib.rt:33:47
 put-cells-requires-2 : tie.Need-put-cells-requires-2
 put-cells-requires-2 c κs = search needs
 
--- src/lib.rt:34:32
 enum-known-answer-3 : tie.Need-enum-known-answer-3
 enum-known-answer-3 c = search needs
 
--- src/lib.rt:34:52
 put-cells-requires-3 : tie.Need-put-cells-requires-3
 put-cells-requires-3 c κs = search needs
 
--- src/lib.rt:35:22
 enum-known-answer-4 : tie.Need-enum-known-answer-4
 enum-known-answer-4 c = search needs
 
--- src/lib.rt:35:32
 put-cells-requires-4 : tie.Need-put-cells-requires-4
 put-cells-requires-4 c κs = search needs
 
--- src/lib.rt:27:1
 same-length : tie.Need-same-length
 same-length c = search needs
 
--- src/lib.rt:27:1
 returns : tie.Need-returns
-returns c = ?
+returns c = 
+    let s = c .before .before .before .before .before .before in
+    let a = c .before .before .before .before .answer .given in
+    let v = toZ-ofZ (sfits-of (c .before .before .before .known-told .given .0 .1)) in
+    c .before .put-cells .ensures ∙ (ap (λ z. putAt (now (s .args .list)) (s .args .i) (entry (pos (s .args .i)) z (pos 0))) v ∙ ap (λ z. putAt (now (s .args .list)) (s .args .i) (entryOf (s .args .i) (answerIs z))) (sym (a .1)))
 
--- src/lib.rt:27:1
 same-length-2 : tie.Need-same-length-2
 same-length-2 c = search needs
 
--- src/lib.rt:27:1
 returns-2 : tie.Need-returns-2
-returns-2 c = ?
+returns-2 c = 
+    let s = c .before .before .before .before .before .before in
+    let a = c .before .before .before .before .answer2 .given in
+    c .before .put-cells2 .ensures ∙ ap (λ z. putAt (now (s .args .list)) (s .args .i) (entryOf (s .args .i) (answerIs z))) (sym (a .1))
 
--- src/lib.rt:27:1
 same-length-3 : tie.Need-same-length-3
 same-length-3 c = search needs
 
--- src/lib.rt:27:1
 returns-3 : tie.Need-returns-3
-returns-3 c = ?
+returns-3 c = 
+    let s = c .before .before .before .before .before .before in
+    let a = c .before .before .before .before .answer3 .given in
+    c .before .put-cells3 .ensures ∙ ap (λ z. putAt (now (s .args .list)) (s .args .i) (entryOf (s .args .i) (answerIs z))) (sym (a .1))
 
--- src/lib.rt:27:1
 same-length-4 : tie.Need-same-length-4
 same-length-4 c = search needs
 
--- src/lib.rt:27:1
 returns-4 : tie.Need-returns-4
-returns-4 c = ?
+returns-4 c = 
+    let s = c .before .before .before .before .before .before in
+    let a = c .before .before .before .before .answer4 .given in
+    c .before .put-cells4 .ensures ∙ ap (λ z. putAt (now (s .args .list)) (s .args .i) (entryOf (s .args .i) (answerIs z))) (sym (a .1))
 
 pub put-spec : {M : Type 1} → statement M
 put-spec =
