@@ -73,8 +73,8 @@ fn lent_memory() {
     assert_eq!((m.program[1], list == [-1; 10], m.registers == [7; 10], m.places == [9; 10]), (6, true, true, true));
     assert_eq!(lent::rank(WORDS, all, &mut m, &mut list), Ok(Report { valued: 2, total: 3, entries: 3 }));
     assert_eq!(list, [1, 2, 0, 0, 1, 0, 2, 0, 21, -1]);
-    // What the last candidate left: refused at its only token, after the moves of an empty list.
-    assert_eq!((m.registers[0], m.registers[1..] == [MARK; 9], m.places[0], m.places[1..] == [0; 9]), (0, true, 32769, true));
+    // What the last candidate left: it was refused before any move.
+    assert_eq!((m.registers == [MARK; 10], m.places[0], m.places[1..] == [0; 9]), (true, 32768, true));
     m.registers = &mut [];
     assert_eq!(lent::rank(WORDS, all, &mut m, &mut list), Ok(Report { valued: 0, total: 0, entries: 3 }));
     assert_eq!(list, [0, 0, 31, 1, 0, 31, 2, 0, 31, -1]);
