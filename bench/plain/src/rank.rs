@@ -1,5 +1,5 @@
 //! Ranked suggestions: candidate segments under one table, evaluated in turn and listed, highest value first.
-use crate::run::{lend, moved, open_cells, prepare, Answer, Tokens};
+use crate::run::{lend, moved, open_used, prepare, Answer, Tokens};
 use std::cmp::Reverse;
 
 /// The most candidates.
@@ -22,12 +22,16 @@ fn is_unfit(list: &[i64], kinds: &[u8], lengths: &[u32]) -> bool {
     lengths.len() > CANDIDATES || sum != kinds.len() as u64 || list.len() / ENTRY < lengths.len()
 }
 
+/// How many cells of each stack the candidate before left in use: those above are clear.
+type Used = (usize, usize);
+
 /// A candidate's value or refusal, on stacks opened afresh.
-fn evaluate(registers: &mut [i64], places: &mut [u32], program: &[u32], tokens: Tokens) -> Result<i64, u32> {
-    let (mut record, mut answer) = open_cells(registers, places, program);
+fn evaluate(registers: &mut [i64], places: &mut [u32], program: &[u32], tokens: Tokens, used: &mut Used) -> Result<i64, u32> {
+    let (mut record, mut answer) = open_used(registers, places, program, *used);
     for call in [Some(tokens), None] {
         if !matches!(answer, Answer::Refused(..)) {
             (record, answer) = moved(record, registers, places, program, call);
+            *used = (record.registers as usize, record.places as usize);
         }
     }
     match answer {
@@ -58,10 +62,10 @@ pub fn rank(
     }
     let (registers, places) = lend(registers, places);
     let mut entries = Vec::with_capacity(lengths.len());
-    let mut at = 0;
+    let (mut at, mut used) = (0, (registers.len(), places.len()));
     for (number, &length) in lengths.iter().enumerate() {
         let end = at + length as usize;
-        entries.push((number, evaluate(registers, places, program, (&kinds[at..end], &values[at..end]))));
+        entries.push((number, evaluate(registers, places, program, (&kinds[at..end], &values[at..end]), &mut used)));
         at = end;
     }
     entries.sort_by_key(|&(_, outcome)| (outcome.is_err(), Reverse(outcome.unwrap_or(0))));

@@ -34,7 +34,7 @@ fn the_highest_first() {
     let file = shipped_file("words");
     let lines = "word\nword close\nword open word close\r\n\nopen\nword word";
     let told = "2  line 3: word open word close\n2  line 6: word word\n1  line 1: word\n0  line 4: (no tokens)\n\
-        -  line 2: word close\n     refused 21 after 1 token, at token 2, `close`: expected `word`, `open` or the end\n\
+        -  line 2: word close\n     refused 21 after 1 token, at token 2, `close`: the segment is already complete\n\
         -  line 5: open\n     refused 24 after 1 token, at the end: the segment is over where it expects `close`\n\
         4 of 6 segments valued, total 5\n";
     assert_answer(grammar_on(&["rank", &file, "-"], lines.as_bytes()), 1, told, "");
