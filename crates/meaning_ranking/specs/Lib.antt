@@ -1,0 +1,3 @@
+pub mod Ranking
+pub mod RankCall
+pub mod RankingRows
