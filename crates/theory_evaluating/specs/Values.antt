@@ -93,7 +93,7 @@ value-candidate bs g m ks vs a even t v = (forth, back)
         let p = performs-is program bs g a area (openOf g m .state) (openOf g m .stacks) (feed ks vs) long in
         let q = performs-is program bs g a area (feedOf g (openOf g m .state) (openOf g m .stacks) ks vs .state) (feedOf g (openOf g m .state) (openOf g m .stacks) ks vs .stacks) finish long in
         let e : fedAndFinished program bs area ks vs (opens program bs area m) .answer ≡ finishOf g (feedOf g (openOf g m .state) (openOf g m .stacks) ks vs .state) (feedOf g (openOf g m .state) (openOf g m .stacks) ks vs .stacks) .answer =
-            ap (λ z. fedAndFinished program bs area ks vs z .answer) o ∙ (ap (λ z. performs program bs area (z .state) (z .stacks) finish .answer) p ∙ ap (λ z. z .answer) q) in
+        ap (λ z. fedAndFinished program bs area ks vs z .answer) o ∙ (ap (λ z. performs program bs area (z .state) (z .stacks) finish .answer) p ∙ ap (λ z. z .answer) q) in
         let k = alike-both v n (evaluated g m ks vs .answer) _ (alike g (accepted-well-formed bs g a) m ks vs even v n (decLt (lentOf m .maxRegisters) (length (opening g .registers))) (decLt (lentOf m .maxPlaces) 1)) in
         ((λ x. e ∙ k .0 x), (λ x. k .1 (sym e ∙ x)))
 
