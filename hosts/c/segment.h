@@ -15,6 +15,7 @@
  *   20 to 24: the segment is refused; with the tokens read
  *   30 to 35: the state of the run or the memory is refused; with the tokens read, or 0 for 30, 33 and 34
  *         36: the buffer for a table in house order is too short; with 0, and no byte of it is written
+ *         37: there are too many candidates to rank, their lengths do not add up, or the list for them is too short; with 0
  *         38: the lists of kinds and values are of unequal length; with 0
  *         40: the run waits for its inner run, or a third run would be opened; with 0
  *         42: a window's size, buffer or value is refused; no cell of the buffer is written
@@ -76,6 +77,7 @@ enum segment_number {
     SEGMENT_STACKS_UNFIT = 34,
     SEGMENT_TOO_MUCH = 35,
     SEGMENT_OUTPUT_SHORT = 36,
+    SEGMENT_CANDIDATES_UNFIT = 37,
     SEGMENT_LISTS_UNEQUAL = 38,
     SEGMENT_RUN_WAITING = 40,
     SEGMENT_WINDOW_UNFIT = 42
@@ -190,6 +192,24 @@ void segment_inner_give_up(const uint8_t *table, size_t table_length, segment_re
                            size_t registers_length, uint32_t *places, size_t places_length, uint32_t *program, size_t program_length,
                            uint32_t *number, uint64_t *count);
 
+/* Ranked suggestions: at most so many candidates, and so many cells of the list for them. */
+#define SEGMENT_CANDIDATES 512
+#define SEGMENT_LIST_CELLS(candidates) (3 * (candidates))
+
+/* Evaluates candidate segments under one table, each in turn on stacks opened afresh, and lists them. The candidates come as one list of
+ * kinds, one of values, and their lengths in kinds. An entry is three cells of `list`: the candidate's number, counted from 0, its value or
+ * 0, and its refusal's number (20 to 24, 31, 32 or 35) or 0. Those with a value come first, the highest first and equal values by number;
+ * then the refused ones by number. Each candidate has one entry; cells past the entries stay as they were.
+ * *valued: how many have a value; *total: the exact total of these values; *entries: how many entries were written.
+ * *number: 0, or 37 for more than SEGMENT_CANDIDATES, lengths that do not add up to the kinds or a list with fewer entries than candidates,
+ * judged before all others; then 30, 1 to 13, 38. On a refusal *valued, *total and *entries are 0, and no cell of the list and no stack is
+ * written. The program area is written as in every call. The stacks are left as the last candidate left them.
+ * *offset: 0, or the table's offset. */
+void segment_rank(const uint8_t *table, size_t table_length, int64_t *registers, size_t registers_length, uint32_t *places,
+                  size_t places_length, uint32_t *program, size_t program_length, int64_t *list, size_t list_length, const uint8_t *kinds,
+                  size_t kinds_length, const int32_t *values, size_t values_length, const uint32_t *lengths, size_t lengths_length,
+                  size_t *valued, int64_t *total, size_t *entries, uint32_t *number, uint32_t *offset);
+
 /* A window over the values of the last finished segments (docs/WINDOW.md): its size is 1 to 64, and its buffer has at least so many
  * cells. The buffer is only written by these two calls; cells past those are never looked at. */
 #define SEGMENT_WINDOW 64
@@ -276,6 +296,8 @@ SEGMENT_INLINE const char *segment_reason(uint32_t number) {
         return "a token after 65,535, or a move after 4,294,967,295 or after the budget";
     case SEGMENT_OUTPUT_SHORT:
         return "the output buffer is too short";
+    case SEGMENT_CANDIDATES_UNFIT:
+        return "there are more than 512 candidates, their lengths do not add up, or the list is too short";
     case SEGMENT_LISTS_UNEQUAL:
         return "the lists of kinds and values are of unequal length";
     case SEGMENT_RUN_WAITING:
@@ -529,6 +551,40 @@ SEGMENT_INLINE segment_answer segment_inner_run_give_up(segment_inner_run *inner
         a.count = segment_inner_run_moves(inner);
     }
     return a;
+}
+
+/* Candidate segments to rank: the tokens of all, one after the other, and how many belong to each. */
+typedef struct {
+    const uint8_t *kinds;
+    size_t kinds_length;
+    const int32_t *values;
+    size_t values_length;
+    const uint32_t *lengths;
+    size_t lengths_length;
+} segment_candidates;
+
+/* What a ranking answers: number is SEGMENT_OK or the refusal's, which comes with the table's offset or 0. */
+typedef struct {
+    uint32_t number;
+    uint32_t offset;
+    size_t valued;
+    int64_t total;
+    size_t entries;
+} segment_ranking;
+
+/* Ranks candidates on memory of their own: not that of a run that is to go on. An entry i is list[3 * i], list[3 * i + 1] and
+ * list[3 * i + 2]: number, value, refusal. */
+SEGMENT_INLINE segment_ranking segment_rank_candidates(const uint8_t *table, size_t table_length, segment_memory memory,
+                                                       segment_candidates c, int64_t *list, size_t list_length) {
+    static const uint32_t no_length[1] = {0};
+    static int64_t no_cell[1];
+    segment_ranking r = {0, 0, 0, 0, 0};
+    const segment_memory m = segment_lent(memory);
+    segment_rank(segment_bytes(table), table_length, m.registers, m.registers_length, m.places, m.places_length, m.program,
+                 m.program_length, list ? list : no_cell, list_length, segment_bytes(c.kinds), c.kinds_length, segment_values(c.values),
+                 c.values_length, c.lengths ? c.lengths : no_length, c.lengths_length, &r.valued, &r.total, &r.entries, &r.number,
+                 &r.offset);
+    return r;
 }
 
 /* The sum of a table, which `grammar header` writes beside a grammar's names (FNV-1a, 64 bits). */

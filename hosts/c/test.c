@@ -1,4 +1,4 @@
-/* The functions over a segment_run and a segment_inner_run, at their edges, house order, and a window. */
+/* The functions over a segment_run and a segment_inner_run, at their edges, a ranking, house order, and a window. */
 #include "segment.h"
 
 #include <stdio.h>
@@ -158,6 +158,47 @@ static void inner_runs(void) {
     MUST(is(segment_inner_run_feed(&note, tokens, 4), SEGMENT_TOO_MUCH, 2) && segment_inner_run_moves(&note) == 11);
 }
 
+/* Five candidates of lengths: 4 letters, none, refused, 11 letters, 4 letters; then what is turned back. */
+static void rankings(void) {
+    static const uint8_t kinds[] = {0, 2, 0, 1, 0, 2, 0};
+    static const int32_t letters[] = {4, 0, 4, 0, 7, 0, 4};
+    static const uint32_t lengths_of[] = {1, 0, 1, 4, 1};
+    static const int64_t must_be[] = {3, 11, 0, 0, 4, 0, 4, 4, 0, 1, 0, 0, 2, 0, 21, 77};
+    static const uint32_t many[SEGMENT_CANDIDATES + 1];
+    static int64_t long_list[SEGMENT_LIST_CELLS(SEGMENT_CANDIDATES + 1)];
+    const segment_memory m = segment_memory_of(&room);
+    segment_memory none;
+    segment_candidates c = {kinds, 7, letters, 7, lengths_of, 5};
+    segment_ranking r;
+    int64_t list[SEGMENT_LIST_CELLS(5) + 1];
+    memset(&none, 0, sizeof none);
+    list[0] = list[15] = 77;
+    r = segment_rank_candidates(lengths, sizeof lengths, m, c, list, 14);
+    MUST(r.number == SEGMENT_CANDIDATES_UNFIT && r.offset == 0 && r.valued == 0 && r.total == 0 && r.entries == 0 && list[0] == 77);
+    MUST(segment_rank_candidates(NULL, 0, none, c, NULL, 0).number == SEGMENT_CANDIDATES_UNFIT);
+    MUST(segment_rank_candidates(NULL, 0, none, c, list, 15).number == SEGMENT_PROGRAM_SHORT);
+    r = segment_rank_candidates(lengths, 100, m, c, list, 15);
+    MUST(r.number == SEGMENT_FIELD_CUT_SHORT && r.offset == 93 && list[0] == 77);
+    c.values_length = 6;
+    MUST(segment_rank_candidates(lengths, sizeof lengths, m, c, list, 15).number == SEGMENT_LISTS_UNEQUAL && list[0] == 77);
+    c.values_length = 7;
+    r = segment_rank_candidates(lengths, sizeof lengths, m, c, list, 15);
+    MUST(r.number == SEGMENT_OK && r.offset == 0 && r.valued == 4 && r.total == 19 && r.entries == 5);
+    MUST(memcmp(list, must_be, sizeof must_be) == 0);
+    c.lengths_length = 4;
+    MUST(segment_rank_candidates(lengths, sizeof lengths, m, c, list, 15).number == SEGMENT_CANDIDATES_UNFIT);
+    memset(&c, 0, sizeof c);
+    r = segment_rank_candidates(lengths, sizeof lengths, m, c, NULL, 0);
+    MUST(r.number == SEGMENT_OK && r.valued == 0 && r.total == 0 && r.entries == 0);
+    c.lengths = many;
+    c.lengths_length = SEGMENT_CANDIDATES;
+    r = segment_rank_candidates(words, sizeof words, m, c, long_list, SEGMENT_LIST_CELLS(SEGMENT_CANDIDATES));
+    MUST(r.number == SEGMENT_OK && r.valued == SEGMENT_CANDIDATES && r.total == 0 && long_list[1533] == 511);
+    c.lengths_length = SEGMENT_CANDIDATES + 1;
+    r = segment_rank_candidates(words, sizeof words, m, c, long_list, SEGMENT_LIST_CELLS(SEGMENT_CANDIDATES + 1));
+    MUST(r.number == SEGMENT_CANDIDATES_UNFIT);
+}
+
 /* Words and tags, and the same with its condition, the 14 bytes before byte 121, said twice: one table in house order. */
 static void house(void) {
     static uint8_t twice[sizeof words + 14], out[sizeof words + 1], other[sizeof twice];
@@ -202,6 +243,7 @@ int main(void) {
     many_tokens();
     budgets();
     inner_runs();
+    rankings();
     house();
     windows();
     for (number = 0; number <= 43; number++) {

@@ -15,6 +15,7 @@ and found as SEGMENT_LIBRARY, or beside this file.
 """
 
 import array
+import collections
 import ctypes
 import enum
 import json
@@ -25,6 +26,7 @@ REGISTERS = 4096
 PLACES = 1024
 PROGRAM = 16384
 LINE = 64
+CANDIDATES = 512
 WINDOW = 64
 MARK = -(2**63)
 MOVES = 4_294_967_295
@@ -59,6 +61,7 @@ class Kind(enum.IntEnum):
     STACKS_UNFIT = 34
     TOO_MUCH = 35
     OUTPUT_SHORT = 36
+    CANDIDATES_UNFIT = 37
     LISTS_UNEQUAL = 38
     RUN_WAITING = 40
     WINDOW_UNFIT = 42
@@ -91,6 +94,7 @@ REASONS = {
     Kind.STACKS_UNFIT: "the stacks do not fit",
     Kind.TOO_MUCH: "a token after 65,535, or a move after 4,294,967,295 or after the budget",
     Kind.OUTPUT_SHORT: "the output buffer is too short",
+    Kind.CANDIDATES_UNFIT: "there are more than 512 candidates, their lengths do not add up, or the list is too short",
     Kind.LISTS_UNEQUAL: "the lists of kinds and values are of unequal length",
     Kind.RUN_WAITING: "the run waits for its inner run, or a third run would be opened",
     Kind.WINDOW_UNFIT: "the window's size, buffer or value does not fit",
@@ -122,8 +126,8 @@ class Refusal(Exception):
 
     @property
     def tokens(self):
-        """The tokens read. The refusals 30, 33, 34, 36, 38, 40 and 42 tell none."""
-        return self.count if self.number > 14 and self.number not in (30, 33, 34, 36, 38, 40, 42) else None
+        """The tokens read. The refusals 30, 33, 34, 36, 37, 38, 40 and 42 tell none."""
+        return self.count if self.number > 14 and self.number not in (30, 33, 34, 36, 37, 38, 40, 42) else None
 
     def _words(self):
         where = ""
@@ -267,6 +271,38 @@ class Table:
     def run(self, registers=REGISTERS, places=PLACES, budget=MOVES):
         """Opens a run."""
         return Run(self, registers, places, budget)
+
+    def rank(self, candidates, values=None):
+        """Ranks candidate segments: see rank."""
+        return rank(self.bytes, candidates, values)
+
+
+Entry = collections.namedtuple("Entry", "number value refusal")
+Entry.__doc__ = "A candidate in a ranking: its number, counted from 0, its value or None, and why it has none, a Kind, or None."
+
+Ranking = collections.namedtuple("Ranking", "entries valued total")
+Ranking.__doc__ = "Candidates in order, as entries; how many have a value, and the total of these values."
+
+
+def rank(table, candidates, values=None):
+    """Evaluates up to 512 candidate segments under a table and ranks them: those with a value first, the highest first and equal ones by
+    number; then the refused ones by number. Values are a list for each candidate, as long as its tokens; without them each is 0."""
+    kinds = [bytes(tokens) for tokens in candidates]
+    values = [[0] * len(tokens) for tokens in kinds] if values is None else [list(v) for v in values]
+    if [len(tokens) for tokens in kinds] != [len(v) for v in values]:
+        raise Refusal(Kind.LISTS_UNEQUAL.value, 0)
+    count = len(kinds)
+    lengths, cells = (ctypes.c_uint32 * count)(*map(len, kinds)), (ctypes.c_int64 * (3 * count))()
+    room = [(kind * n)() for kind, n in ((ctypes.c_int64, REGISTERS), (ctypes.c_uint32, PLACES), (ctypes.c_uint32, PROGRAM))]
+    memory = [part for cells_of in (*room, cells) for part in (cells_of, ctypes.c_size_t(len(cells_of)))]
+    valued, total, entries = ctypes.c_size_t(), ctypes.c_int64(), ctypes.c_size_t()
+    number, offset = ctypes.c_uint32(), ctypes.c_uint32()
+    brought = *_bytes(b"".join(kinds)), *_values([v for of in values for v in of]), lengths, ctypes.c_size_t(count)
+    _call("segment_rank", *_bytes(table), *memory, *brought, *map(ctypes.byref, (valued, total, entries, number, offset)))
+    if number.value:
+        raise Refusal(number.value, offset.value)
+    listed = [cells[3 * i : 3 * i + 3] for i in range(entries.value)]
+    return Ranking([Entry(n, None if k else v, Kind(k) if k else None) for n, v, k in listed], valued.value, total.value)
 
 
 def _within(number, low, high):

@@ -130,6 +130,20 @@ class Words(unittest.TestCase):
         self.refused(2, 97, segment.house_order, WORDS[:100])
         self.refused(3, 0, segment.house_order, b"")
 
+    def test_ranking(self):
+        ranking = segment.Table(WORDS).rank([[0], [0, 2], [0, 1, 0, 2], [], [0, 0], [1]])
+        order = [(2, 2, None), (4, 2, None), (0, 1, None), (3, 0, None), (1, None, segment.Kind.UNEXPECTED_TOKEN), (5, None, segment.Kind.SEGMENT_OVER)]
+        self.assertEqual((ranking.entries, ranking.valued, ranking.total), (order, 4, 5))
+        lengths = segment.Table(LENGTHS)
+        ranking = lengths.rank([[0, 0], [0], b""], [[4, 7], [41], []])
+        self.assertEqual([tuple(entry) for entry in ranking.entries], [(0, 11, None), (2, 0, None), (1, None, segment.Kind.CONDITION_FALSE)])
+        self.assertEqual(segment.Table(WORDS).rank([]), ([], 0, 0))
+        self.assertEqual(segment.Table(WORDS).rank([[]] * 512).valued, 512)
+        unfit = self.refused(37, 0, segment.Table(WORDS).rank, [[]] * 513)
+        self.assertEqual((unfit.kind, unfit.tokens), (segment.Kind.CANDIDATES_UNFIT, None))
+        self.refused(38, 0, lengths.rank, [[0], [0]], [[1, 2], []])
+        self.refused(2, 97, segment.rank, WORDS[:100], [[0]])
+
     def test_names(self):
         text = '{"table": {"sum": "%s"}, "tokens": ["word", "open", "close"], "parts": []}'
         names = segment.Names(text % "d30e9953d2057f43")
@@ -171,7 +185,7 @@ class Names(unittest.TestCase):
         kinds = re.findall(r'^    (\w+) = (\d+), "(.*)";$', read("rust/src/refusal.rs"), re.M)
         upper = lambda name: re.sub(r"(?<!^)([A-Z])", r"_\1", name).upper()
         self.kinds = [(upper(name), int(number), words) for name, number, words in kinds]
-        self.assertEqual(len(self.kinds), 29)
+        self.assertEqual(len(self.kinds), 30)
 
     def test_python(self):
         self.assertEqual([(k.name, k.value, segment.REASONS[k]) for k in segment.Kind], self.kinds)

@@ -2,6 +2,7 @@
 use segment::lent::{self, Memory, MARK, PLACES, PROGRAM, REGISTERS};
 
 /// The lent memory, as it is before an opening.
+#[derive(Clone)]
 pub struct Buffers {
     registers: Vec<i64>,
     places: Vec<u32>,
@@ -9,11 +10,16 @@ pub struct Buffers {
 }
 
 impl Buffers {
-    fn new() -> Buffers {
-        Buffers { registers: vec![MARK; REGISTERS], places: vec![0; PLACES], program: vec![0; PROGRAM] }
+    pub fn new() -> Buffers {
+        Buffers::small(REGISTERS, PLACES)
     }
 
-    fn lent(&mut self) -> Memory<'_> {
+    /// So many registers and places.
+    pub fn small(registers: usize, places: usize) -> Buffers {
+        Buffers { registers: vec![MARK; registers], places: vec![0; places], program: vec![0; PROGRAM] }
+    }
+
+    pub fn lent(&mut self) -> Memory<'_> {
         Memory { registers: &mut self.registers, places: &mut self.places, program: &mut self.program }
     }
 }

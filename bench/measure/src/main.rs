@@ -1,5 +1,6 @@
 //! Measures the proved engine beside the plain one: same machine, same run, same input.
 mod engines;
+mod rankings;
 
 use engines::{Engine, InPlace, Plain, Proved};
 use plain::samples;
@@ -294,6 +295,7 @@ fn main() {
     call_without_tokens();
     run_segments();
     footnotes();
+    rankings::rankings();
     house_order();
     windows();
 }

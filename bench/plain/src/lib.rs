@@ -4,6 +4,7 @@ pub mod inner;
 pub mod judge;
 pub mod listing;
 pub mod program;
+pub mod rank;
 pub mod run;
 pub mod samples;
 pub mod table;

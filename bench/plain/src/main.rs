@@ -1,6 +1,6 @@
 //! Answers the commands of the vectors: see vectors/README.md.
-use plain::inner;
 use plain::run::{feed, finish, open, Answer, Kind, Record, Status, MARK};
+use plain::{inner, rank};
 use std::io::{BufRead, Write};
 
 fn hex(s: &str) -> Vec<u8> {
@@ -19,6 +19,10 @@ fn joined<T>(items: &[T], text: impl Fn(&T) -> String) -> String {
         return "-".into();
     }
     items.iter().map(text).collect::<Vec<_>>().join(",")
+}
+
+fn cells_text(cells: &[i64]) -> String {
+    joined(cells, |&v| if v == MARK { "m".into() } else { v.to_string() })
 }
 
 /// What a call hands back: the record, the inner record where it has one, and the answer.
@@ -105,6 +109,19 @@ fn main() {
                 writeln!(out, "{}", if bytes.is_empty() { "-" } else { &bytes }).unwrap();
                 continue;
             }
+            "rank" => {
+                let (kinds, values): (_, Vec<i32>) = (hex(w[2]), list(w[3]).map(|v| v.parse().unwrap()).collect());
+                let lengths: Vec<u32> = list(w[4]).map(|v| v.parse().unwrap()).collect();
+                let (mut rs, mut ps, mut cells) = (vec![7; number(5)], vec![9; number(6)], vec![-1; number(8)]);
+                let area = &mut vec![0; number(7)];
+                match rank::rank(&hex(w[1]), &mut rs, &mut ps, area, &mut cells, (&kinds, &values), &lengths) {
+                    Ok(report) => write!(out, "ranked {} {}", report.valued, report.total),
+                    Err((number, offset)) => write!(out, "refused {number} {offset}"),
+                }
+                .unwrap();
+                writeln!(out, " | {} | {} | {}", cells_text(&cells), cells_text(&rs), joined(&ps, |p| p.to_string())).unwrap();
+                continue;
+            }
             "set" => {
                 let (r, k) = record_at(&w, 1);
                 record = r;
@@ -162,7 +179,6 @@ fn main() {
             None => record_text(&record),
             Some(inner) => format!("{} | {}", record_text(&record), record_text(&inner)),
         };
-        let registers = joined(&registers, |&v| if v == MARK { "m".into() } else { v.to_string() });
-        writeln!(out, "{answer} | {records} | {registers} | {}", joined(&places, |p| p.to_string())).unwrap();
+        writeln!(out, "{answer} | {records} | {} | {}", cells_text(&registers), joined(&places, |p| p.to_string())).unwrap();
     }
 }

@@ -325,6 +325,12 @@ pub(crate) fn admit(record: &Record, wrong: u32) -> Result<(), Answer> {
 
 /// Opens a run on these cells.
 pub(crate) fn open_cells(registers: &mut [i64], places: &mut [u32], program: &[u32]) -> (Record, Answer) {
+    let used = (registers.len(), places.len());
+    open_used(registers, places, program, used)
+}
+
+/// The same on cells of which only the first so many are not clear.
+pub(crate) fn open_used(registers: &mut [i64], places: &mut [u32], program: &[u32], used: (usize, usize)) -> (Record, Answer) {
     let n = program[4] as usize;
     if registers.len() < n {
         return (Record::default(), Answer::Refused(31, 0));
@@ -332,8 +338,8 @@ pub(crate) fn open_cells(registers: &mut [i64], places: &mut [u32], program: &[u
     if places.is_empty() {
         return (Record::default(), Answer::Refused(32, 0));
     }
-    registers.fill(MARK);
-    places.fill(0);
+    registers[..used.0].fill(MARK);
+    places[..used.1].fill(0);
     places[0] = SEGMENT;
     (Record { status: Status::Running, registers: n as u64, places: 1, ..Record::default() }, Answer::Opened)
 }
@@ -352,6 +358,17 @@ pub(crate) fn call_cells(
     if tokens.is_some_and(|(kinds, values)| kinds.len() != values.len()) {
         return (record, Answer::Refused(38, 0));
     }
+    moved(record, registers, places, program, tokens)
+}
+
+/// The moves alone, of a record that fits and lists of equal length.
+pub(crate) fn moved(
+    record: Record,
+    registers: &mut [i64],
+    places: &mut [u32],
+    program: &[u32],
+    tokens: Option<Tokens>,
+) -> (Record, Answer) {
     let mut m = Machine {
         program,
         registers,

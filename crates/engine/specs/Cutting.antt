@@ -42,13 +42,13 @@ module _ (g : Grammar) (vs : List ℤ) (ps : List ℕ) where
   abbrev cells : Stacks
   cells = stacksOf (take (lentOf (stacksOf vs ps) .maxRegisters) vs) (take (lentOf (stacksOf vs ps) .maxPlaces) ps)
 
-  lent-same : lentOf cells ≡ lentOf m
+  pub lent-same : lentOf cells ≡ lentOf m
   lent-same =
       let a : lentOf cells .maxRegisters ≡ n = omega (arith, length-take n vs) in
       let b : lentOf cells .maxPlaces ≡ k = omega (arith, length-take k ps) in
       λ i. record { maxRegisters = a i; maxPlaces = b i }
 
-  put-back : uncut n k vs ps (asBrought (more 0) closedRecord cells) .stacks ≡ m
+  pub put-back : uncut n k vs ps (asBrought (more 0) closedRecord cells) .stacks ≡ m
   put-back = ap₂ stacksOf (take-append-drop n vs) (take-append-drop k ps)
 
   lay-all-cut : (c : Config) → stacksOf (layAll g c cells .registers ++ drop n vs) (layAll g c cells .places ++ drop k ps) ≡ layAll g c m
@@ -100,11 +100,11 @@ module _ (g : Grammar) (vs : List ℤ) (ps : List ℕ) where
         go admitted false h = ap (asBrought (refused 34 0) r) put-back
         go admitted true h = h tt
 
-    fed-cut : (o : Settled) → uncut n k vs ps (afterFeed g cells o) ≡ afterFeed g m o
+    pub fed-cut : (o : Settled) → uncut n k vs ps (afterFeed g cells o) ≡ afterFeed g m o
     fed-cut (stopped c) = ap (asBrought (more (c .moves)) (recordOf true c)) (lay-all-cut c)
     fed-cut (failed c j) = ap (asBrought (refused j (c .tokens)) (recordOf false c)) (lay-all-cut c)
 
-    finished-cut : (o : Settled) → uncut n k vs ps (afterFinish g cells o) ≡ afterFinish g m o
+    pub finished-cut : (o : Settled) → uncut n k vs ps (afterFinish g cells o) ≡ afterFinish g m o
     finished-cut (stopped c) = ap (asBrought (Calls.value (Calls.result g c) (c .moves)) (recordOf false c)) (lay-all-cut c)
     finished-cut (failed c j) = ap (asBrought (refused j (c .tokens)) (recordOf false c)) (lay-all-cut c)
 

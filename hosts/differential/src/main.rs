@@ -1,7 +1,7 @@
 //! Compares the proved engine, through the host library, with the plain one on random calls: valid and damaged tables, segments in any
 //! pieces, inner runs inside them, forged records and stacks, short memory. After each call the answer, both records and every register,
-//! place and program word are compared, with some cells past those lent. So are tables in house order (`house`) and the calls on windows
-//! (`windows`).
+//! place and program word are compared, with some cells past those lent. So are tables in house order (`house`), rankings of candidates
+//! (`ranks`) and the calls on windows (`windows`).
 //!
 //!     differential [SEED [CALLS]]
 mod forge;
@@ -9,6 +9,7 @@ mod house;
 mod inside;
 mod pair;
 mod random;
+mod ranks;
 mod records;
 mod segments;
 mod tables;
@@ -183,6 +184,21 @@ impl Comparison {
         Ok(())
     }
 
+    /// A ranking after some of the runs. What its candidates come to is counted apart.
+    fn rank(&mut self, table: &Table) -> Result<(), String> {
+        if !self.r.chance(15) {
+            return Ok(());
+        }
+        let mut lengths = self.lengths();
+        lengths.program -= if self.r.chance(4) { 3 } else { 0 };
+        let (number, refusals) = ranks::compared(&mut self.r, table, lengths)?;
+        self.count("rank", number);
+        for refusal in refusals {
+            *self.answers.entry(("ranked candidate", refusal)).or_default() += 1;
+        }
+        Ok(())
+    }
+
     /// A window after some of the runs.
     fn window(&mut self) -> Result<(), String> {
         if !self.r.chance(5) {
@@ -213,7 +229,7 @@ impl Comparison {
     /// The numbers of 01 and 02 that no call was refused with.
     fn missing(&self) -> Vec<u32> {
         let seen = |n: &u32| self.answers.keys().any(|(_, number)| number == n);
-        (1..=14).chain(20..=24).chain(30..=35).chain([36, 38, 40, 42]).filter(|n| !seen(n)).collect()
+        (1..=14).chain(20..=24).chain(30..=35).chain(36..=38).chain([40, 42]).filter(|n| !seen(n)).collect()
     }
 }
 
@@ -236,7 +252,7 @@ fn main() {
     let mut c = Comparison { r: Random::new(seed), made: 0, windows: 0, answers: BTreeMap::new(), samples };
     while c.made < calls {
         let table = c.table();
-        let outcome = c.judge(&table.bytes).and_then(|()| c.run(&table)).and_then(|()| c.window());
+        let outcome = c.judge(&table.bytes).and_then(|()| c.run(&table)).and_then(|()| c.rank(&table)).and_then(|()| c.window());
         if let Err(difference) = outcome {
             println!("call {} differs: {difference}", c.made + 1);
             std::process::exit(1);

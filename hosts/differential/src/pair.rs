@@ -7,7 +7,7 @@ use segment::lent::{self, Memory, Record};
 use std::fmt::Debug;
 
 /// Cells past those lent, which no call may touch.
-const GUARDS: usize = 4;
+pub(crate) const GUARDS: usize = 4;
 
 #[derive(Clone, Copy, Debug)]
 pub enum Call<'a> {
@@ -55,17 +55,27 @@ pub struct Lengths {
 }
 
 impl Cells {
-    fn new(r: &mut Random, l: Lengths) -> Cells {
+    pub fn new(r: &mut Random, l: Lengths) -> Cells {
         let (a, b, c) = (r.number() as i64, r.number() as u32, r.number() as u32);
         Cells { registers: vec![a; l.registers + GUARDS], places: vec![b; l.places + GUARDS], program: vec![c; l.program + GUARDS] }
     }
 
-    fn lent(&mut self, l: Lengths) -> Memory<'_> {
+    pub fn lent(&mut self, l: Lengths) -> Memory<'_> {
         Memory {
             registers: &mut self.registers[..l.registers],
             places: &mut self.places[..l.places],
             program: &mut self.program[..l.program],
         }
+    }
+
+    /// Whether these cells, of the proved engine, are those of the plain one.
+    pub fn same(&self, plain: &Cells) -> Result<(), String> {
+        if self != plain {
+            same_cells("register", &self.registers, &plain.registers)?;
+            same_cells("place", &self.places, &plain.places)?;
+            same_cells("program word", &self.program, &plain.program)?;
+        }
+        Ok(())
     }
 }
 
@@ -132,7 +142,7 @@ fn in_plain(table: &[u8], records: &mut Records, m: Memory, call: Call) -> Answe
     }
 }
 
-fn same<T: PartialEq + Debug>(what: &str, proved: T, plain: T) -> Result<(), String> {
+pub(crate) fn same<T: PartialEq + Debug>(what: &str, proved: T, plain: T) -> Result<(), String> {
     if proved == plain {
         return Ok(());
     }
@@ -140,7 +150,7 @@ fn same<T: PartialEq + Debug>(what: &str, proved: T, plain: T) -> Result<(), Str
 }
 
 /// The first cell that differs is named.
-fn same_cells<T: PartialEq + Debug + Copy>(what: &str, proved: &[T], plain: &[T]) -> Result<(), String> {
+pub(crate) fn same_cells<T: PartialEq + Debug + Copy>(what: &str, proved: &[T], plain: &[T]) -> Result<(), String> {
     match (0..proved.len()).find(|&i| proved[i] != plain[i]) {
         Some(i) => same(&format!("{what} {i}"), proved[i], plain[i]),
         None => Ok(()),
@@ -163,7 +173,7 @@ impl Pair {
         same("answer", proved, plain)?;
         same("record", self.records.outer, other.outer)?;
         same("inner record", self.records.inner, other.inner)?;
-        self.same_memory()?;
+        self.cells.same(&self.others)?;
         if let (Call::Feed(kinds, values), Some((records, cells))) = (call, before) {
             self.others = cells;
             let again = self.in_place(table, records.outer, kinds, values)?;
@@ -172,20 +182,11 @@ impl Pair {
         Ok(proved)
     }
 
-    fn same_memory(&self) -> Result<(), String> {
-        if self.cells != self.others {
-            same_cells("register", &self.cells.registers, &self.others.registers)?;
-            same_cells("place", &self.cells.places, &self.others.places)?;
-            same_cells("program word", &self.cells.program, &self.others.program)?;
-        }
-        Ok(())
-    }
-
     /// The feed that was made, in place, on the record and the cells before it: what stands there must be what the feed left.
     fn in_place(&mut self, table: &[u8], mut record: Record, kinds: &[u8], values: &[i32]) -> Result<Answered, String> {
         let answer = lent::feed_in_place(table, &mut record, &mut self.others.lent(self.lengths), kinds, values);
         same("record in place", self.records.outer, record)?;
-        self.same_memory()?;
+        self.cells.same(&self.others)?;
         Ok(answer.map_or_else(|r| (r.number(), 0, r.count()), |moves| (0, 0, moves)))
     }
 

@@ -22,6 +22,7 @@ extern crate alloc;
 
 mod inner;
 pub mod lent;
+mod rank;
 mod refusal;
 mod run;
 pub mod steps;
@@ -30,6 +31,7 @@ pub mod window;
 
 pub use inner::InnerRun;
 pub use lent::check;
+pub use rank::{Entry, Ranking};
 pub use refusal::{Kind, Refusal};
 pub use run::{Run, MOVES};
 pub use table::{house_order, listing, stretch, sum, NotTable, Table};

@@ -78,6 +78,7 @@ kinds! {
     StacksUnfit = 34, "the stacks do not fit";
     TooMuch = 35, "a token after 65,535, or a move after 4,294,967,295 or after the budget";
     OutputShort = 36, "the output buffer is too short";
+    CandidatesUnfit = 37, "there are more than 512 candidates, their lengths do not add up, or the list is too short";
     ListsUnequal = 38, "the lists of kinds and values are of unequal length";
     RunWaiting = 40, "the run waits for its inner run, or a third run would be opened";
     WindowUnfit = 42, "the window's size, buffer or value does not fit";
@@ -96,7 +97,7 @@ impl Refusal {
     }
 
     /// The number: 1 to 14 for a table, 20 to 24 for a segment, 30 to 35 and 40 for the state of a run, 36 for a buffer to
-    /// write into, 38 for lists of tokens, 42 for a window.
+    /// write into, 37 for candidates and their list, 38 for lists of tokens, 42 for a window.
     #[must_use]
     pub const fn number(&self) -> u32 {
         self.number
@@ -122,7 +123,7 @@ impl Refusal {
     }
 
     /// The tokens read before the segment or the run was refused. The refusals 30, 33, 34, 38 and 40 tell none, since no token was
-    /// looked at, nor do 36 and 42.
+    /// looked at, nor do 36, 37 and 42.
     #[must_use]
     pub fn tokens(&self) -> Option<u64> {
         let told = matches!(self.number, 20..=24 | 31 | 32 | 35);

@@ -2,6 +2,7 @@
 mod answers;
 mod inner;
 mod input;
+mod rank;
 mod runs;
 mod session;
 mod tables;
@@ -47,6 +48,8 @@ Bytes are hex digits, `-` for none; numbers are decimal. A line that begins with
   giveup TABLE NPROG              ends it as it stands
   iset STATE TOKENS MOVES RH PH [inner RB PB]
                                   replaces the inner record
+  rank TABLE KINDS VALUES LENGTHS NREGS NPLACES NPROG NLIST
+                                  evaluates candidate segments and lists them by value, into NLIST cells
   trace TABLE TOKENS [NREGS NPLACES [FROM]]
                                   the run of a segment, move by move, from token FROM on
   tracev TABLE KINDS VALUES [NREGS NPLACES [FROM]]

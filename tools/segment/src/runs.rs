@@ -13,8 +13,8 @@ pub const COMMANDS: &[(&str, Command)] =
 type Feed = fn(&[u8], &mut Record, &mut Memory, &[u8], &[i32]) -> Result<u64, Refusal>;
 
 /// What fresh cells hold before an opening.
-const REGISTER: i64 = 7;
-const PLACE: u32 = 9;
+pub const REGISTER: i64 = 7;
+pub const PLACE: u32 = 9;
 
 /// `RECORD | REGISTERS | PLACES`
 fn stands(session: &Session, out: &mut dyn Write) -> Result<(), Fault> {

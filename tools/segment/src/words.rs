@@ -115,6 +115,11 @@ impl<'a> Words<'a> {
         list(self.at(k), usize::MAX, value).ok_or_else(|| self.bad(k, "bad values"))
     }
 
+    /// Lengths of candidates, any number of them.
+    pub fn lengths(self, k: usize) -> Result<Vec<u32>, Bad> {
+        list(self.at(k), usize::MAX, place).ok_or_else(|| self.bad(k, "bad lengths"))
+    }
+
     pub fn registers(self, k: usize) -> Result<Vec<i64>, Bad> {
         list(self.at(k), CELLS, register).ok_or_else(|| self.bad(k, "bad registers"))
     }

@@ -5,6 +5,7 @@ mod class;
 mod files;
 mod house;
 mod notes;
+mod rank;
 mod segments;
 
 pub use args::Args;
@@ -44,7 +45,7 @@ struct Command {
     run: fn(Args, &mut dyn Write) -> Outcome,
 }
 
-const COMMANDS: &[&[Command]] = &[files::COMMANDS, house::COMMANDS, segments::COMMANDS, class::COMMANDS];
+const COMMANDS: &[&[Command]] = &[files::COMMANDS, house::COMMANDS, segments::COMMANDS, rank::COMMANDS, class::COMMANDS];
 
 fn commands() -> impl Iterator<Item = &'static Command> {
     COMMANDS.iter().copied().flatten()

@@ -41,7 +41,7 @@ pub enum Given {
     Lines(Box<dyn BufRead>),
 }
 
-fn open(file: &OsStr) -> Result<Box<dyn BufRead>, Trouble> {
+pub fn open(file: &OsStr) -> Result<Box<dyn BufRead>, Trouble> {
     if file == "-" {
         return Ok(Box::new(BufReader::new(std::io::stdin())));
     }

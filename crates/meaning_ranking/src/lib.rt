@@ -1,0 +1,1 @@
+// The definitions and statements of ranked suggestions; no code.

@@ -1,0 +1,150 @@
+-- What the list comes to, and the cases of the call.
+use Prim.Native.Nat.{ℕ, suc, _+_, _*_, _/_, _≤_, _<_}
+use native.Mathlib.Omega.{arith}
+use mathlib.Core.Path.{_≡_, refl, sym, ap, ap₂, _∙_, subst}
+use mathlib.Core.Bool.{Bool, true, false, _&&_}
+use mathlib.Core.List.{List, _++_}
+use lib.ListN.{length, getD, drop, drop-of-length-le}
+use lib.Seq.{drop-cons}
+use lib.Dec.{T, eqb, ltb, leb}
+use borrow.Author.Tests.{lt-ltb, le-ltb, eq-eqb, ne-eqb, lt-leb, le-leb, leb-true, eqb-true}
+use lib.IntN.{ℤ}
+use Rattle.meaning.specs.Base.{total}
+use Rattle.meaning.specs.Grammar.{Grammar}
+use Rattle.meaning.specs.Table.{State, grammarOf}
+use Rattle.meaning.specs.Program.{programOf}
+use Rattle.meaning.specs.Calls.{Stacks}
+use Rattle.meaning.specs.PublicCalls.{stacksOf, usable, unusable, check, areaLength, written}
+use Rattle.meaning_ranking.specs.Ranking.{Entry, ranking, cellsOf, totalOf, valuedOf}
+use Rattle.meaning_ranking.specs.RankCall.{inOrder, Evaluation, evaluations, RankEffect, rankEffect, unranked, listed, rankEven, rankUnder, rankLong, rankSuited, rankOf}
+use Rattle.theory_base.specs.Members.{T→true, true→T, both}
+use Rattle.theory_ranking.specs.Entries.{entriesOf, Ranged}
+use Rattle.theory_ranking.specs.Cells.{length-cells, length-entries}
+use Rattle.theory_ranking.specs.Listing.{listed-entries, length-ranking}
+use Rattle.theory_ranking.specs.Caller.{listed-ranged, listed-total, listed-valued}
+use Rattle.fit.specs.Shown.{Shown, Readable}
+use Rattle.prepare.specs.Making.{Standing}
+use Rattle.candidates.specs.Each.{AllDone}
+use Rattle.rank.specs.declared.Ranked.{Ranked}
+use Rattle.rank.specs.declared.Ranked.the-variants.{Done, Refused}
+use Rattle.rank.specs.Answers.{rankAnswerIs, rankIs}
+
+-- ---- 37
+
+-- by its tests
+module _ (ns ks : List ℕ) (l : List ℤ) where
+  abbrev tests : Bool → Bool → Bool → Bool
+  tests a b c = a && b && c
+
+  pub too-many : 512 < length ns → false ≡ inOrder ns ks l
+  too-many h = sym (ap (λ a. a && eqb (total ns) (length ks) && leb (length ns) (length l / 3)) (lt-leb (length ns) 512 h))
+
+  module _ (h : length ns ≤ 512) where
+    pub not-summed : (total ns ≡ length ks → ⊥) → false ≡ inOrder ns ks l
+    not-summed q = sym (ap₂ (λ a b. a && b && leb (length ns) (length l / 3)) (le-leb (length ns) 512 h) (ne-eqb (total ns) (length ks) q))
+
+    pub summed : total ns ≡ length ks → leb (length ns) (length l / 3) ≡ inOrder ns ks l
+    summed q = sym (ap₂ (λ a b. a && b && leb (length ns) (length l / 3)) (le-leb (length ns) 512 h) (eq-eqb (total ns) (length ks) q))
+
+  -- what the candidates rely on
+  pub record Suits : Type 0 where
+    pub few : length ns ≤ 512
+    pub summed : total ns ≡ length ks
+    pub room : 3 * length ns ≤ length l
+
+  pub suits : inOrder ns ks l ≡ true → Suits
+  suits e =
+      let t = both (leb (length ns) 512 && eqb (total ns) (length ks)) (leb (length ns) (length l / 3)) (true→T (inOrder ns ks l) e) in
+      let u = both (leb (length ns) 512) (eqb (total ns) (length ks)) (t .0) in
+      let r : length ns ≤ length l / 3 = leb-true (length ns) (length l / 3) (T→true (leb (length ns) (length l / 3)) (t .1)) in
+      record { few = leb-true (length ns) 512 (T→true (leb (length ns) 512) (u .0)); summed = eqb-true (total ns) (length ks) (T→true (eqb (total ns) (length ks)) (u .1)); room = omega arith }
+
+-- the sum, a length at a time
+pub sum-turn : (ns : List ℕ) (i sum n : ℕ) → i < length ns → n ≡ getD ns i 0 → sum + total (drop i ns) ≡ total ns → sum + n + total (drop (i + 1) ns) ≡ total ns
+sum-turn ns i sum n l e q =
+    let j : suc i ≡ i + 1 = omega arith in
+    omega (arith, ap total (drop-cons ns i 0 l), ap (λ k. total (drop k ns)) j)
+
+pub sum-end : (ns : List ℕ) (i sum : ℕ) → length ns ≤ i → sum + total (drop i ns) ≡ total ns → sum ≡ total ns
+sum-end ns i sum l q = omega (arith, ap total (drop-of-length-le ns {i = i} l))
+
+-- ---- the report
+
+pub record Reported (count : ℕ) (l₀ l : List ℤ) (r : Ranked) : Type 0 where
+  pub isList : l ≡ cellsOf (ranking (entriesOf count l₀)) ++ drop (3 * count) l₀
+  pub report : r ≡ Done (valuedOf (entriesOf count l₀)) (totalOf (entriesOf count l₀)) count
+
+module _ (count : ℕ) (l₀ l : List ℤ) (room : 3 * count ≤ length l₀) (q : l ≡ cellsOf (ranking (entriesOf count l₀)) ++ drop (3 * count) l₀) where
+  size : length (entriesOf count l₀) ≡ count
+  size = length-entries count l₀ room
+
+  listed-here : l ≡ cellsOf (ranking (entriesOf count l₀)) ++ drop (3 * length (entriesOf count l₀)) l₀
+  listed-here = q ∙ ap (λ n. cellsOf (ranking (entriesOf count l₀)) ++ drop (3 * n) l₀) (sym size)
+
+  pub report-ranged : Ranged (entriesOf count l₀) → Ranged (entriesOf count l)
+  report-ranged r = subst (λ n. Ranged (entriesOf n l)) size (listed-ranged (entriesOf count l₀) l₀ l listed-here r)
+
+  pub reported : (valued : ℕ) (sum : ℤ) → valued ≡ valuedOf (entriesOf count l) → sum ≡ totalOf (entriesOf count l) → Reported count l₀ l (Done valued sum count)
+  reported valued sum a b =
+      let x : valued ≡ valuedOf (entriesOf count l₀) = a ∙ (ap (λ n. valuedOf (entriesOf n l)) (sym size) ∙ listed-valued (entriesOf count l₀) l₀ l listed-here) in
+      let y : sum ≡ totalOf (entriesOf count l₀) = b ∙ (ap (λ n. totalOf (entriesOf n l)) (sym size) ∙ listed-total (entriesOf count l₀) l₀ l listed-here) in
+      record { isList = q; report = ap₂ (λ n t. Done n t count) x y }
+
+-- ---- under a grammar
+
+abbrev pub ListedAs : List ℕ → List ℕ → List ℕ → List ℤ → List ℤ → List ℤ → List ℕ → List ℤ → List ℤ → List ℕ → Ranked → Type 0
+ListedAs ws ns ks us l₀ vs₀ ps₀ l vs ps r =
+    (g : Grammar) → Shown g ws → (area : List ℕ) → rankIs r l vs ps area ≡ rankEven (eqb (length ks) (length us)) l₀ (stacksOf vs₀ ps₀) area (listed (evaluations g 0 ns ks us (stacksOf vs₀ ps₀)) l₀ area)
+
+module _ (ws ns ks : List ℕ) (us l₀ vs₀ : List ℤ) (ps₀ : List ℕ) where
+  pub uneven-as : (length ks ≡ length us → ⊥) → ListedAs ws ns ks us l₀ vs₀ ps₀ l₀ vs₀ ps₀ (Refused 38 0)
+  uneven-as odd g s area = sym (ap (λ b. rankEven b l₀ (stacksOf vs₀ ps₀) area (listed (evaluations g 0 ns ks us (stacksOf vs₀ ps₀)) l₀ area)) (ne-eqb (length ks) (length us) odd))
+
+  module _ (even : length ks ≡ length us) (room : 3 * length ns ≤ length l₀) (l₁ vs : List ℤ) (ps : List ℕ) (d : AllDone ws ns ks us l₀ vs₀ ps₀ l₁ vs ps) where
+    pub listed-as : (l : List ℤ) (r : Ranked) → 3 * length ns ≤ length l₁ → Reported (length ns) l₁ l r → ListedAs ws ns ks us l₀ vs₀ ps₀ l vs ps r
+    listed-as l r wide p g s area =
+        let es : List Entry = entriesOf (length ns) l₁ in
+        let n : length es ≡ length ns = length-entries (length ns) l₁ wide in
+        let c : 3 * length ns ≡ length (cellsOf es) = ap (λ k. 3 * k) (sym n) ∙ sym (length-cells es) in
+        let x : l ≡ cellsOf (ranking es) ++ drop (length (cellsOf es)) l₀ = p .isList ∙ ap (λ z. cellsOf (ranking es) ++ z) (d .rest ∙ ap (λ k. drop k l₀) c) in
+        let a : rankAnswerIs r ≡ rankAnswerIs (Done (valuedOf es) (totalOf es) (length es)) = ap rankAnswerIs (p .report ∙ ap (Done (valuedOf es) (totalOf es)) (sym n)) in
+        ap₂ (λ y z. rankEffect y z (stacksOf vs ps) area) a x
+        ∙ (ap (λ e. listed e l₀ area) (d .evaluation g s)
+        ∙ sym (ap (λ b. rankEven b l₀ (stacksOf vs₀ ps₀) area (listed (evaluations g 0 ns ks us (stacksOf vs₀ ps₀)) l₀ area)) (eq-eqb (length ks) (length us) even)))
+
+-- ---- the call
+
+module _ (t area ns ks : List ℕ) (us l : List ℤ) (m : Stacks) where
+  pub rank-37 : inOrder ns ks l ≡ false → rankEffect (unranked 37 0) l m area ≡ rankOf programOf t area ns ks us l m
+  rank-37 e = sym (ap (λ b. rankSuited programOf b t area ns ks us l m) e)
+
+  module _ (e : inOrder ns ks l ≡ true) where
+    suited : rankOf programOf t area ns ks us l m ≡ rankLong programOf (ltb (length area) areaLength) t area ns ks us l m
+    suited = ap (λ b. rankSuited programOf b t area ns ks us l m) e
+
+    pub rank-30 : length area < areaLength → rankEffect (unranked 30 0) l m area ≡ rankOf programOf t area ns ks us l m
+    rank-30 h = sym (suited ∙ ap (λ b. rankLong programOf b t area ns ks us l m) (lt-ltb (length area) areaLength h))
+
+    module _ (h : areaLength ≤ length area) where
+      long : rankOf programOf t area ns ks us l m ≡ rankUnder programOf (check t) area ns ks us l m
+      long = suited ∙ ap (λ b. rankLong programOf b t area ns ks us l m) (le-ltb (length area) areaLength h)
+
+      pub rank-refused : (n o : ℕ) → check t ≡ unusable n o → rankEffect (unranked n o) l m area ≡ rankOf programOf t area ns ks us l m
+      rank-refused n o q = sym (long ∙ ap (λ c. rankUnder programOf c area ns ks us l m) q)
+
+      pub rank-usable : (s : State) → check t ≡ usable s → rankOf programOf t area ns ks us l m ≡ rankUnder programOf (usable s) area ns ks us l m
+      rank-usable s q = long ∙ ap (λ c. rankUnder programOf c area ns ks us l m) q
+
+module _ {t area area′ : List ℕ} {size : ℕ} (a : Standing t area area′ size) where
+  pub standing-shown : Shown (grammarOf (a .state)) area′
+  standing-shown = record { formed = a .formed; begins = a .begins }
+
+  pub standing-readable : Readable area′
+  standing-readable = record { grammar = grammarOf (a .state); shown = standing-shown }
+
+  pub standing-ranked : (ns ks : List ℕ) (us l₀ vs₀ : List ℤ) (ps₀ : List ℕ) (l vs : List ℤ) (ps : List ℕ) (r : Ranked) → inOrder ns ks l₀ ≡ true → ListedAs area′ ns ks us l₀ vs₀ ps₀ l vs ps r → rankIs r l vs ps area′ ≡ rankOf programOf t area ns ks us l₀ (stacksOf vs₀ ps₀)
+  standing-ranked ns ks us l₀ vs₀ ps₀ l vs ps r e k =
+      let g : Grammar = grammarOf (a .state) in
+      k g standing-shown area′
+      ∙ (ap (λ w. rankEven (eqb (length ks) (length us)) l₀ (stacksOf vs₀ ps₀) w (listed (evaluations g 0 ns ks us (stacksOf vs₀ ps₀)) l₀ w)) (a .isWritten)
+      ∙ sym (rank-usable t area ns ks us l₀ (stacksOf vs₀ ps₀) e (a .long) (a .state) (a .isUsable)))

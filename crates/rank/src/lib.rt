@@ -1,0 +1,133 @@
+// Ranked suggestions, 02 (b): candidate segments under one table, evaluated and listed, highest value first.
+ghost use Prim.Native.Nat.{_*_, _≤_};
+ghost use mathlib.Core.Path.{_≡_};
+ghost use mathlib.Core.Bool.{true};
+ghost use lib.ListN.{length};
+ghost use Rattle.meaning.specs.Base.{total};
+ghost use Rattle.meaning.specs.Program.{programOf};
+ghost use Rattle.meaning.specs.PublicCalls.{stacksOf};
+ghost use Rattle.meaning_ranking.specs.RankCall.{inOrder, rankOf};
+ghost use Rattle.theory_ranking.specs.Entries.{Distinct, Ranged, entriesOf};
+ghost use Rattle.fit.specs.Shown.{Readable};
+ghost use Rattle.rank.specs.Answers.{rankIs};
+ghost use Rattle.rank.specs.Listing.{Reported, ListedAs};
+use prepare::Made;
+
+pub enum Ranked {
+    // How many were valued, the total of their values, the number of entries written.
+    Done {
+        valued: usize,
+        total: i64,
+        entries: usize,
+    },
+    // 37, 30 or 38 with 0, or one of the table's numbers with its offset.
+    Refused {
+        number: u32,
+        offset: u32,
+    },
+}
+
+// ---- 37
+
+// 02: "up to 512 candidate segments".
+const MOST: usize = 512;
+
+// The exact sum: 512 lengths are below 2^41.
+fn sum_of(lengths: &[u32]) -> usize
+    requires { ⌜ length (now lengths) ≤ 512 ⌝ }
+    ensures { λ r. ⌜ r ≡ total (now (lengths .entry)) ⌝ }
+{
+    let mut sum = 0;
+    let mut i = 0;
+    while i < lengths.len() {
+        sum += moves::word_at(lengths, i);
+        i += 1;
+    }
+    sum
+}
+
+// 02: "More than 512 of them, lengths that don't add up to the list, or a list buffer with fewer entries than candidates".
+fn in_order(lengths: &[u32], kinds: &[u8], list: &[i64]) -> bool
+    ensures { λ r. ⌜ r ≡ inOrder (now (lengths .entry)) (now (kinds .entry)) (now (list .entry)) ⌝ }
+{
+    if MOST < lengths.len() {
+        return false;
+    }
+    if sum_of(lengths) != kinds.len() {
+        return false;
+    }
+    lengths.len() <= list.len() / 3
+}
+
+// ---- the candidates
+
+// The first `count` entries in order, and what they come to.
+fn report(list: &mut [i64], count: usize) -> Ranked
+    requires { ⌜ (count ≤ 512) × (3 * count ≤ length (now list)) × Ranged (entriesOf count (now list)) × Distinct (entriesOf count (now list)) ⌝ }
+    ensures { λ r. ⌜ Reported count (now (list .entry)) (now (list .exit)) r ⌝ }
+{
+    sorting::rank(list, count);
+    let valued = ranking::valued_count(list, count);
+    let total = ranking::total(list, count);
+    Ranked::Done {
+        valued,
+        total,
+        entries: count,
+    }
+}
+
+// 38, and the candidates, under a program that is at hand.
+fn rank_under(
+    registers: &mut [i64],
+    places: &mut [u32],
+    program: &[u32],
+    list: &mut [i64],
+    kinds: &[u8],
+    values: &[i32],
+    lengths: &[u32],
+) -> Ranked
+    requires { ⌜ Readable (now program) × (inOrder (now lengths) (now kinds) (now list) ≡ true) ⌝ }
+    ensures { λ r. ⌜ ListedAs (now (program .entry)) (now (lengths .entry)) (now (kinds .entry)) (now (values .entry)) (now (list .entry)) (now (registers .entry)) (now (places .entry)) (now (list .exit)) (now (registers .exit)) (now (places .exit)) r ⌝ }
+{
+    if kinds.len() != values.len() {
+        return Ranked::Refused {
+            number: 38,
+            offset: 0,
+        };
+    }
+    candidates::evaluate_all(registers, places, program, list, kinds, values, lengths);
+    report(list, lengths.len())
+}
+
+// ---- the call
+
+// Any bytes as a table, any program area, stacks, list, kinds, values and lengths.
+pub fn rank(
+    table: &[u8],
+    registers: &mut [i64],
+    places: &mut [u32],
+    program: &mut [u32],
+    list: &mut [i64],
+    kinds: &[u8],
+    values: &[i32],
+    lengths: &[u32],
+) -> Ranked
+    ensures { λ r. ⌜ rankIs r (now (list .exit)) (now (registers .exit)) (now (places .exit)) (now (program .exit)) ≡ rankOf programOf (now (table .entry)) (now (program .entry)) (now (lengths .entry)) (now (kinds .entry)) (now (values .entry)) (now (list .entry)) (stacksOf (now (registers .entry)) (now (places .entry))) ⌝ }
+{
+    if in_order(lengths, kinds, list) {
+        return match prepare::program_of(table, program) {
+            Made::Short => Ranked::Refused {
+                number: 30,
+                offset: 0,
+            },
+            Made::Refused { number, offset } => Ranked::Refused { number, offset },
+            Made::Written(length) => {
+                rank_under(registers, places, program, list, kinds, values, lengths)
+            }
+        };
+    }
+    Ranked::Refused {
+        number: 37,
+        offset: 0,
+    }
+}
