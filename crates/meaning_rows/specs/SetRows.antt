@@ -119,13 +119,14 @@ other-symbols = refl
 
 -- ---- clashes and entry conditions. S to L, with d = 0 and e = 0; two productions of L to the one token, each with conditions
 
+-- apart, either way; and touching
 apart-turned : entries (low-high 0 1 5 9) (low-high 0 1 0 4) ≡ accepted
 apart-turned = refl
 
 touching : entries (low-high 0 1 0 5) (low-high 0 1 5 9) ≡ rejected 13 81
 touching = refl
 
--- without entry conditions, or with them on one side only
+-- without entry conditions, or with them on the second only
 unconditional : entries [] [] ≡ rejected 13 67
 unconditional = refl
 
