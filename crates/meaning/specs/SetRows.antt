@@ -46,6 +46,6 @@ entries c d =
 apart : entries (low-high 0 1 0 4) (low-high 0 1 5 9) ≡ accepted
 apart = refl
 
--- entry conditions on one side only
-only-first : entries (low-high 0 1 0 4) [] ≡ rejected 13 81
-only-first = refl
+-- a production that no value enters clashes with one that has no entry conditions
+never-entered-unconditional : entries (low-high 0 1 0 4 ++ low-high 0 1 6 9) [] ≡ rejected 13 95
+never-entered-unconditional = refl
