@@ -7,8 +7,7 @@ use mathlib.Core.List.{List, [], _∷_, map}
 use lib.IntN.{ℤ, pos}
 use Rattle.meaning.specs.Grammar.{Symbol, terminal, nonterminal, Function, const, copy, sum, diff, maxi, Rule, range, atmost, Leaf, Production, Grammar}
 use Rattle.meaning.specs.Scheme.{evaluate, expect, test, remove, scheme}
-use Rattle.meaning.specs.Tree.{Tree, leaf, node, noTrees, treeAnd}
-use Rattle.meaning.specs.Drawn.{drawnStacks}
+use Rattle.meaning.specs.Tree.{Tree, leaf, node, noTrees, treeAnd, picture}
 use Rattle.meaning.specs.Calls.{Called, refused, openOf, feedOf}
 use Rattle.meaning.specs.Words.{words, p0, p2, p3, occ, rule, bare}
 use Rattle.meaning.specs.CallRows.{m, state, stacks, called, used}
@@ -109,5 +108,5 @@ mixedTree =
     noTrees)
 
 -- drawn where b is waited at: a's register and the first X's n, none for b
-drawn-at-b : drawnStacks mixed mixedTree 2 false (used 9 4) ≡ stacks (m ∷ m ∷ pos 100 ∷ pos 7 ∷ pos 107 ∷ m ∷ m ∷ m ∷ m ∷ []) (32768 ∷ 0 ∷ 258 ∷ 0 ∷ [])
+drawn-at-b : picture mixed 2 mixedTree ≡ record { places = 258 ∷ 0 ∷ 32768 ∷ []; registers = pos 107 ∷ pos 7 ∷ pos 100 ∷ m ∷ m ∷ [] }
 drawn-at-b = refl
