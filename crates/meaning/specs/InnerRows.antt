@@ -53,7 +53,11 @@ then c k = innerOf words (k .outerState) (k .innerState) (k .stacks) c
 inside-given-up : then giveUp (then (engine (feedOnly (0 ∷ []))) opened-inner) ≡ called (more 7) (at-outer running) (at-inner closed 1 7 5 3) stopped
 inside-given-up = refl
 
--- ---- an opening, from the bytes: 30, outer table, 33, 40, 34, inner table, 31, 32
+-- ---- an opening, under the tables' grammars
+
+-- turned back by 31: no mark
+opened-31 : innerOpenOf words (at-outer running) (over [] []) ≡ called (refused 31 0) (at-outer running) closedRecord (over [] [])
+opened-31 = refl
 
 abbrev pub left : Answer → Record → Record → Stacks → List ℕ → InnerEffect
 left a o i s ws = record { answer = a; outerState = o; innerState = i; stacks = s; area = ws }
@@ -61,6 +65,13 @@ left a o i s ws = record { answer = a; outerState = o; innerState = i; stacks = 
 -- turned back: no mark, the inner record closed and all zero, no cell changed
 abbrev pub back : Answer → Record → Stacks → List ℕ → InnerEffect
 back a o s ws = left a o closedRecord s ws
+
+-- the outer run is judged before anything of the inner one: 40 for one that waits or is an inner one, 34
+judged-40 : (e : InnerEffect) → map (λ r. whenOuterFits words r (used 2 2) [] e) (at-outer waiting ∷ at-inner running 0 0 1 1 ∷ []) ≡ map (λ r. back (refused 40 0) r (used 2 2) []) (at-outer waiting ∷ at-inner running 0 0 1 1 ∷ [])
+judged-40 e = refl
+
+judged-34 : (e : InnerEffect) → whenOuterFits words (at-outer running) (used 16 9) [] e ≡ back (refused 34 0) (at-outer running) (used 16 9) []
+judged-34 e = refl
 
 -- ---- 33 and 34 of a later inner call
 
@@ -71,6 +82,7 @@ brings o i = innerOf words o i (over (replicate 9 m) (32768 ∷ replicate 4 0)) 
 either-closed : brings (at-outer closed) (at-inner running 0 0 1 1) ∷ brings (at-outer waiting) (at-inner closed 0 0 1 1) ∷ brings (at-inner closed 0 0 0 0) (at-outer waiting) ∷ brings closedRecord closedRecord ∷ [] ≡ replicate 4 (refused 33 0)
 either-closed = refl
 
+-- the outer one waits elsewhere
 waits-elsewhere : brings (record-of waiting outer 2 11 6 4) (at-inner running 0 0 1 1) ∷ brings (record-of waiting outer 2 11 7 3) (at-inner running 0 0 1 1) ∷ [] ≡ replicate 2 (refused 34 0)
 waits-elsewhere = refl
 
@@ -84,16 +96,3 @@ waiting-is-40 = refl
 
 inner-is-34 : map (λ s. ordinary (record-of s (inner 0 0) 2 11 7 4)) (running ∷ waiting ∷ []) ≡ replicate 2 (replicate 2 (refused 34 0))
 inner-is-34 = refl
-
--- ---- an opening, under the tables' grammars
-
--- turned back by 31: no mark
-opened-31 : innerOpenOf words (at-outer running) (over [] []) ≡ called (refused 31 0) (at-outer running) closedRecord (over [] [])
-opened-31 = refl
-
--- the outer run is judged before anything of the inner one: 40 for one that waits or is an inner one, 34
-judged-40 : (e : InnerEffect) → map (λ r. whenOuterFits words r (used 2 2) [] e) (at-outer waiting ∷ at-inner running 0 0 1 1 ∷ []) ≡ map (λ r. back (refused 40 0) r (used 2 2) []) (at-outer waiting ∷ at-inner running 0 0 1 1 ∷ [])
-judged-40 e = refl
-
-judged-34 : (e : InnerEffect) → whenOuterFits words (at-outer running) (used 16 9) [] e ≡ back (refused 34 0) (at-outer running) (used 16 9) []
-judged-34 e = refl

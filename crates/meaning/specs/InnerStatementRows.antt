@@ -57,7 +57,7 @@ other-registers b = omega (arith, ap registerBase (b .begins))
 
 -- ---- what is left of the outer run
 
--- a mark that stays, a mark that was never set, a cell below that changed
+-- a mark that stays
 mark-stays : Kept (theOuter running) stopped (two (theOuter waiting) (theInner closed 1 14 1 1) stopped) → ⊥
 mark-stays k = omega (arith, ap (λ r. stateNumber (r .status)) (k .restored refl .0))
 

@@ -13,13 +13,9 @@ use Rattle.meaning.specs.SchemeRows.{wide}
 use Rattle.meaning.specs.WalkRows.{wideTree, wide-tree}
 use Rattle.meaning.specs.PartRows.{last-added}
 
--- ---- telling values apart
-
 abbrev pub number : ℤ → ℕ
 number (pos n) = n
 number (negsuc n) = n
-
--- ---- what a selector finds
 
 -- the register of the attribute named, with another value
 finds-other-value : Finds wide last-added 4 (occ 3 3) (pos 8) → ⊥

@@ -17,8 +17,6 @@ open-node p vs ts = record { production = p; inherited = vs; children = ts }
 abbrev pub waits-at : Open → Symbol → List Symbol → Ancestor
 waits-at o x xs = record { node = o; symbol = x; ahead = xs }
 
--- ---- X to Y 0 X Y, at each point
-
 abbrev pub X : Symbol
 X = nonterminal 1
 
@@ -35,12 +33,10 @@ x3 = node 2 (pos 7 ∷ pos 3 ∷ pos 7 ∷ []) (treeAnd (leaf (bare 1)) noTrees)
 abbrev pub in-X : List Tree → Point → Part
 in-X ts pt = partAt (open-node 1 (pos 3 ∷ pos 4 ∷ []) ts) pt (waits-at (open-node 0 [] []) X [] ∷ waits-at (open-node whole [] []) (nonterminal 0) [] ∷ [])
 
--- ---- values of occurrences
-
+-- before the last Y, its registers added
 abbrev pub last-added : Part
 last-added = in-X (x3 ∷ leaf (bare 0) ∷ y1 ∷ []) (added Y [])
 
--- ---- what a selector finds: registers 1 to 9 of the node
-
+-- what a selector finds
 finds : Finds wide last-added 4 (occ 3 3) (pos 7)
 finds = record { register = record { least = lit≤ tt; most = lit≤ tt; named = refl }; held = refl }

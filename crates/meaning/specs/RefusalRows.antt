@@ -10,7 +10,7 @@ use Rattle.meaning.specs.Words.{words, occ, rule}
 use Rattle.meaning.specs.SchemeRows.{wide}
 use Rattle.meaning.specs.CallRows.{m, state, stacks, called, used, feedKinds, thenFeed, thenFinish}
 
--- ---- 20: not below T, judged before its moves; what was read before stands, the rest of the list is ignored
+-- ---- 20: not below T, judged before its moves
 
 unknown-token : map (λ t. thenFeed words (t ∷ []) (openOf words (used 3 2))) (3 ∷ 255 ∷ []) ≡ replicate 2 (called (refused 20 0) (state false 0 0 1 1) (stacks (m ∷ m ∷ m ∷ []) (32768 ∷ 0 ∷ [])))
 unknown-token = refl
@@ -42,13 +42,12 @@ second-result = refl
 open-without-registers : map (λ n. openOf words (used 0 n)) (0 ∷ 1 ∷ []) ≡ called (refused 31 0) closedRecord (used 0 0) ∷ called (refused 31 0) closedRecord (used 0 1) ∷ []
 open-without-registers = refl
 
--- ---- 33: a closed record, whatever else it holds; nothing changes, and 0 tokens
+-- ---- 33 before 34: these stacks do not fit either
 
--- 33 before 34: these stacks do not fit either
 closed-before-unfit : feedKinds words (state false 0 0 0 0) (used 2 2) (0 ∷ []) .answer ≡ refused 33 0
 closed-before-unfit = refl
 
--- ---- 35: tokens and moves
+-- ---- 35 before 21: the move limit
 
 move-limit-no-alternative : feedKinds wide (state true 7 4294967295 1 1) (stacks (m ∷ []) (32768 ∷ [])) (0 ∷ []) .answer ≡ refused 35 7
 move-limit-no-alternative = refl

@@ -26,7 +26,7 @@ verdict productions = verdictOf (table productions)
 
 -- ---- 12
 
--- hidden behind a symbol that derives nothing
+-- a left recursion hidden behind a symbol that derives nothing
 recursive-hidden : verdict (s (0 ∷ 130 ∷ []) ++ (a [] ++ (b (129 ∷ 130 ∷ 0 ∷ []) ++ b (1 ∷ [])))) ≡ rejected 12 17
 recursive-hidden = refl
 
@@ -46,5 +46,6 @@ entries c d =
 apart : entries (low-high 0 1 0 4) (low-high 0 1 5 9) ≡ accepted
 apart = refl
 
-only-first : entries (low-high 0 1 0 4) [] ≡ rejected 13 81
-only-first = refl
+-- a production that no value enters clashes with one that has no entry conditions
+never-entered-unconditional : entries (low-high 0 1 0 4 ++ low-high 0 1 6 9) [] ≡ rejected 13 95
+never-entered-unconditional = refl

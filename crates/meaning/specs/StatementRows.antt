@@ -31,8 +31,6 @@ area = replicate 16384 5
 pub long : areaLength ≤ length area
 long = subst (λ n. areaLength ≤ n) (sym (length-replicate {A = ℕ} 16384 5)) (lit≤ tt)
 
--- ---- a list of calls: word open close in two pieces
-
 -- kinds, with 0 for every value
 abbrev none : List ℕ → List ℤ
 none ks = map (λ k. pos 0) ks
@@ -50,7 +48,7 @@ stuck g lent us c k b (andThen {vs = vs} {d = d} p i is fs e x f h) =
     let q : blocked k ≡ moved e = sym b ∙ (sym (ap₂ (λ y z. next g lent (lookAt y) z) (s .1) (s .2)) ∙ h) in
     absurd (let z : _≡_ {A = ℕ} 0 1 = cc in omega arith)
 
--- the opening's places and registers, with so many tokens and moves; and those of a start symbol left with value 4
+-- the opening's places and registers, with so many tokens and moves
 abbrev pub fresh : ℕ → ℕ → Config
 fresh t n = configOf words (state true t n 1 1) (stacks (m ∷ []) (32768 ∷ []))
 
@@ -82,7 +80,7 @@ not-by c t j k o w b many unknown other r s ws x = by (x .says .1) (stuck words 
     by (atEnd l d f h) e = absurd (omega (arith, ap length (sym (ap (λ z. z ++ []) l) ∙ e .1)))
     by (between v y h) e = absurd (subst T (sym w ∙ (sym (ap (λ d. waits (d .frames)) (e .2)) ∙ v)) tt)
 
--- it is not refused by 22, by 35, or by the 21 of the move, before which it is judged
+-- token 3 of 0 to 2, where the move is blocked by 21, is not refused by 22
 not-22 : Answered (fresh 5 9) (feedKinds (3 ∷ [])) (refused 22 5)
 not-22 = not-by (fresh 5 9) 3 21 22 5 refl refl (λ q n. omega arith) (λ q n f. omega arith) (λ q n f. omega arith)
 

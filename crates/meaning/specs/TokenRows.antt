@@ -7,9 +7,7 @@ use mathlib.Core.List.{List, [], _∷_, map}
 use lib.IntN.{ℤ, pos}
 use Rattle.meaning.specs.Grammar.{Symbol, terminal, nonterminal, Function, const, copy, sum, diff, maxi, Rule, range, atmost, Leaf, Production, Grammar}
 use Rattle.meaning.specs.Scheme.{evaluate, expect, test, remove, scheme}
-use Rattle.meaning.specs.Tree.{Tree, leaf, node, noTrees, treeAnd}
-use Rattle.meaning.specs.Drawn.{drawnStacks}
-use Rattle.meaning.specs.Part.{left}
+use Rattle.meaning.specs.Tree.{Tree, leaf, node, noTrees, treeAnd, picture}
 use Rattle.meaning.specs.Calls.{Called, refused, openOf, feedOf}
 use Rattle.meaning.specs.Words.{words, p0, p2, p3, occ, rule, bare}
 use Rattle.meaning.specs.CallRows.{m, state, stacks, called, used}
@@ -73,12 +71,12 @@ second-read = refl
 first-read : thenBring pair (0 ∷ []) (pos 4 ∷ []) (openOf pair (used 1 2)) ≡ called (refused 31 0) (state false 0 1 1 2) (stacks (m ∷ []) (32768 ∷ 0 ∷ []))
 first-read = refl
 
--- ---- 38: after 33 and 34, before 20, 31, 35 and any move; everything as brought, 0 beside it
+-- ---- 38: after 33 and 34
 
 unfit-before-uneven : map (λ o. feedOf pair (state o 0 0 0 0) (used 1 1) (0 ∷ []) [] .answer) (true ∷ false ∷ []) ≡ refused 34 0 ∷ refused 33 0 ∷ []
 unfit-before-uneven = refl
 
--- ---- selectors right of valued tokens: X to a X b X, or c. X has inherited d, synthesized n; a and b carry values, c does not
+-- ---- X to a X b X, or c. X has inherited d, synthesized n; a and b carry values, c does not
 
 abbrev pub X : Symbol
 X = nonterminal 1
@@ -110,5 +108,5 @@ mixedTree =
     noTrees)
 
 -- drawn where b is waited at: a's register and the first X's n, none for b
-drawn-at-b : drawnStacks mixed mixedTree 2 false (used 9 4) ≡ stacks (m ∷ m ∷ pos 100 ∷ pos 7 ∷ pos 107 ∷ m ∷ m ∷ m ∷ m ∷ []) (32768 ∷ 0 ∷ 258 ∷ 0 ∷ [])
+drawn-at-b : picture mixed 2 mixedTree ≡ record { places = 258 ∷ 0 ∷ 32768 ∷ []; registers = pos 107 ∷ pos 7 ∷ pos 100 ∷ m ∷ m ∷ [] }
 drawn-at-b = refl

@@ -8,8 +8,6 @@ use Rattle.meaning.specs.Tree.{Tree, leaf, node, noTrees, treeAnd, TreeO
 use Rattle.meaning.specs.Words.{bare, plain}
 use Rattle.meaning.specs.SchemeRows.{wide}
 
--- ---- a tree with conditions and several attributes: X to Y 0 X Y
-
 abbrev pub wideTree : Tree
 wideTree =
     node 0 (pos 7 ∷ []) (treeAnd

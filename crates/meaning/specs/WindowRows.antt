@@ -9,12 +9,12 @@ opened : opensWindow 3 (zeros 12) ≡ outcome empty (pos 3 ∷ zeros 11)
 unfolding opensWindow
 opened = refl
 
--- one cell too few, and a size that is none
+-- one cell too few
 short : opensWindow 3 (zeros 10) ≡ outcome turnedBack (zeros 10)
 unfolding opensWindow
 short = refl
 
--- 5, 2, 6 and 4 after each other
+-- a value is brought
 first : bringsValue (pos 5) (pos 3 ∷ zeros 11) ≡ outcome (stands (pos 5) (pos 5)) (pos 3 ∷ pos 1 ∷ pos 1 ∷ pos 5 ∷ pos 1 ∷ pos 5 ∷ pos 0 ∷ pos 0 ∷ pos 0 ∷ pos 0 ∷ pos 0 ∷ pos 0 ∷ [])
 unfolding bringsValue wellKept
 first = refl

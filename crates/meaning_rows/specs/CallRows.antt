@@ -17,6 +17,7 @@ fed-at-once = refl
 fed-nothing : thenFeed words [] (thenFeed words (0 ∷ []) (openOf words (used 8 5))) ≡ thenFeed words (0 ∷ []) (openOf words (used 8 5))
 fed-nothing = refl
 
+-- the finish makes no further move
 start-left-finished : thenFinish wide (thenFeed wide (2 ∷ 0 ∷ 1 ∷ 2 ∷ []) (openOf wide (used 12 4))) ≡ called (value (pos 7) 30) (state false 4 30 1 1) (stacks (pos 7 ∷ replicate 11 m) (32769 ∷ 0 ∷ 0 ∷ 0 ∷ []))
 start-left-finished = refl
 

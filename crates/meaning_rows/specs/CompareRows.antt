@@ -136,6 +136,7 @@ cycle-of-bounds = record {
   negative = ltZ-yes tt;
 }
 
+-- the limits of values count too
 limits-met : Satisfiable 2 (far (negsuc 1999999999999))
 limits-met = record { values = negsuc 999999999999 ∷ pos 1000000000000 ∷ []; meets = record { size = refl; ranged = tt; each = tt } }
 

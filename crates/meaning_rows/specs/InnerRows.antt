@@ -198,7 +198,7 @@ performs-finish area h = rw (h, innerPerforms)
 fits : brings (at-outer waiting) (at-inner running 0 0 1 1) ≡ more 0
 fits = refl
 
--- the outer one does not wait, or is an inner one; it waits elsewhere
+-- the outer one does not wait, or is an inner one
 outer-not-waiting : brings (at-outer running) (at-inner running 0 0 1 1) ≡ refused 34 0
 outer-not-waiting = refl
 

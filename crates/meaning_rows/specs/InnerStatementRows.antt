@@ -64,6 +64,7 @@ not-outer b = omega (arith, ap registerBase (b .isOuter))
 ended : Kept (theOuter running) stopped (two (theOuter running) (theInner closed 1 14 1 1) stopped)
 ended = record { isBelow = refl; pastRegisters = refl; pastPlaces = refl; waits = λ e. absurd (subst T e tt); restored = λ e. (refl, refl) }
 
+-- a mark that was never set, a cell below that changed
 no-mark : Kept (theOuter running) stopped (two (theOuter running) (theInner running 0 0 1 1) stopped) → ⊥
 no-mark k = omega (arith, ap (λ r. stateNumber (r .status)) (k .waits refl))
 

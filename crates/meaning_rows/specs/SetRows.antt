@@ -119,6 +119,7 @@ other-symbols = refl
 
 -- ---- clashes and entry conditions. S to L, with d = 0 and e = 0; two productions of L to the one token, each with conditions
 
+-- apart, either way; and touching
 apart-turned : entries (low-high 0 1 5 9) (low-high 0 1 0 4) ≡ accepted
 apart-turned = refl
 
@@ -128,6 +129,9 @@ touching = refl
 -- without entry conditions, or with them on one side only
 unconditional : entries [] [] ≡ rejected 13 67
 unconditional = refl
+
+only-first : entries (low-high 0 1 0 4) [] ≡ rejected 13 81
+only-first = refl
 
 only-second : entries [] (low-high 0 1 5 9) ≡ rejected 13 67
 only-second = refl
@@ -139,12 +143,9 @@ other-attribute = refl
 apart-in-second : entries (low-high 0 1 0 4 ++ low-high 0 2 0 4) (low-high 0 1 0 4 ++ low-high 0 2 5 9) ≡ accepted
 apart-in-second = refl
 
--- a production that no value enters clashes with none that has entry conditions, but with one that has none
+-- a production that no value enters clashes with none that has entry conditions
 never-entered : entries (low-high 0 1 0 4 ++ low-high 0 1 6 9) (low-high 0 1 0 9) ≡ accepted
 never-entered = refl
 
 never-entered-later : entries (low-high 0 2 0 9) (low-high 0 1 0 4 ++ low-high 0 1 6 9) ≡ accepted
 never-entered-later = refl
-
-never-entered-unconditional : entries (low-high 0 1 0 4 ++ low-high 0 1 6 9) [] ≡ rejected 13 95
-never-entered-unconditional = refl

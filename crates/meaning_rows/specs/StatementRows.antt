@@ -79,6 +79,7 @@ after-the-end = countsForNothing bytes area (feedKinds (0 ∷ [])) (finished are
 
 -- ---- answers that the moves do not give
 
+-- the places and registers of a start symbol left with value 4
 abbrev left4 : ℕ → Config
 left4 n = configOf words (state true 2 n 1 1) (stacks (pos 4 ∷ []) (32769 ∷ []))
 
@@ -88,6 +89,7 @@ tokens-missing r s ws x =
     let e = stuck words lent (plain (3 ∷ [])) (fresh 5 9) 21 refl (x .made [] tt) in
     absurd (omega (arith, x .says .0, ap (λ z. z .tokens) (e .2)))
 
+-- it is not refused by 35, or by the 21 of the move, before which it is judged
 not-35 : Answered (fresh 5 9) (feedKinds (3 ∷ [])) (refused 35 5)
 not-35 = not-by (fresh 5 9) 3 21 35 5 refl refl (λ q n. omega arith) (λ q n f. omega arith) (λ q n f. omega arith)
 

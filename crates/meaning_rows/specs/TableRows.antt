@@ -67,9 +67,11 @@ counts-length = refl
 eight-together : verdictOf (header 1 2 1 1 ++ counts 3 5) ≡ rejected 3 12
 eight-together = refl
 
+-- 4 before 6
 nine-synthesized : verdictOf (header 1 1 0 1 ++ counts 0 9) ≡ rejected 4 7
 nine-synthesized = refl
 
+-- 6, at the start symbol's own field
 second-is-start : verdictOf (header 1 2 1 1 ++ (counts 1 1 ++ counts 1 1)) ≡ rejected 6 12
 second-is-start = refl
 
@@ -100,6 +102,7 @@ symbols-known = refl
 missing-before-3 : map (λ more. inFirst (handDown ++ more)) ((3 ∷ []) ∷ (3 ∷ 255 ∷ 255 ∷ []) ∷ aToToken ∷ []) ≡ replicate 3 (rejected 8 17)
 missing-before-3 = refl
 
+-- in a later production
 missing-in-second : verdictOf (firstProduction ++ aToToken) ≡ rejected 8 41
 missing-in-second = refl
 

@@ -7,10 +7,12 @@ use Rattle.meaning.specs.Calls.{more, value, refused, tableRefused}
 use Rattle.meaning.specs.Window.{stands, empty, turnedBack, zeros, largest, outcome, opensWindow, bringsValue, bringsRefusal, wellKept}
 use Rattle.meaning.specs.WindowStatements.{opening, later, entered, enteredBy, outside, answerIn}
 
+-- a size that is none
 none : opensWindow 0 (zeros 10) ≡ outcome turnedBack (zeros 10)
 unfolding opensWindow
 none = refl
 
+-- after a 5: 2, 6 and 4 after each other
 second : bringsValue (pos 2) (pos 3 ∷ pos 1 ∷ pos 1 ∷ pos 5 ∷ pos 1 ∷ pos 5 ∷ zeros 5) ≡ outcome (stands (pos 7) (pos 5)) (pos 3 ∷ pos 2 ∷ pos 2 ∷ pos 7 ∷ pos 2 ∷ pos 5 ∷ pos 2 ∷ pos 0 ∷ pos 0 ∷ pos 1 ∷ pos 0 ∷ [])
 unfolding bringsValue wellKept
 second = refl
