@@ -8,7 +8,7 @@ ghost use Rattle.engine.specs.Beginning.{BegunAs};
 use prepare::Made;
 
 pub mod lent;
-mod running;
+pub mod running;
 
 // A run goes on, waits for the inner run above it, or is closed.
 pub enum Status {

@@ -1,0 +1,4 @@
+pub mod Scratch
+pub mod Collecting
+pub mod Judging
+pub mod Answering
