@@ -34,6 +34,16 @@ use Rattle.preview.specs.Scratch.{Cleared, TriedAs}
 use Rattle.preview.specs.Collecting.{isStopped, letsThrough, Collected}
 use Rattle.preview.specs.Judging.{copyNumber, copied-on, copy-passed}
 
+-- as many scratch cells as lent ones
+pub record LentAlike (vs : List ℤ) (ps : List ℕ) (rs : List ℤ) (qs : List ℕ) : Type 0 where
+  pub registers : length rs ≡ length vs
+  pub places : length qs ≡ length ps
+
+-- the set of the tokens whose feed is no refusal, and the scratch cleared
+pub record SetAnswered (g : Grammar) (r : Record) (vs : List ℤ) (ps : List ℕ) (rs : List ℤ) (qs : List ℕ) (v : ℤ) (set : ℕ) (rs′ : List ℤ) (qs′ : List ℕ) : Type 0 where
+  pub isSet : setOf set ≡ passing (λ t. noRefusal (feedOf g r (stacksOf vs ps) (t ∷ []) (v ∷ []) .answer)) (g .terminals)
+  pub isTidy : stacksOf rs′ qs′ ≡ tidied (stacksOf vs ps) (stacksOf rs qs)
+
 -- ---- on exactly the lent cells: vs and ps the caller's, rs and qs the scratch's
 
 module _ {vs : List ℤ} {ps : List ℕ} (few : length vs ≤ 4096) (little : length ps ≤ 1024) (rs : List ℤ) (qs : List ℕ) (er : length rs ≡ length vs) (eq : length qs ≡ length ps) where

@@ -1,3 +1,4 @@
+pub mod May
 pub mod Scratch
 pub mod Collecting
 pub mod Judging

@@ -1,0 +1,56 @@
+use borrow.Author.Needs.{needs}
+use Rattle.preview.proofs.collect.passes.Statement.{statement}
+use Rattle.preview.proofs.collect.passes.Tie as tie
+use Rattle.preview.proofs.collect.passes.Reads as reads
+use Rattle.preview.proofs.collect.passes.Lts as lts
+use Rattle.preview.proofs.scratch.attempt.Reads as attempt-reads
+
+-- src/collect.rt:25:11
+attempt-requires : tie.Need-attempt-requires
+attempt-requires c κs = search needs
+
+-- src/collect.rt:35:24
+enum-known-last : tie.Need-enum-known-last
+enum-known-last c = search needs
+
+-- src/collect.rt:36:23
+enum-known-last-2 : tie.Need-enum-known-last-2
+enum-known-last-2 c = search needs
+
+-- src/collect.rt:12:1
+same-length : tie.Need-same-length
+same-length c = search needs
+
+-- src/collect.rt:12:1
+same-length-2 : tie.Need-same-length-2
+same-length-2 c = search needs
+
+-- src/collect.rt:12:1
+returns : tie.Need-returns
+returns c = ?
+
+-- src/collect.rt:12:1
+same-length-3 : tie.Need-same-length-3
+same-length-3 c = search needs
+
+-- src/collect.rt:12:1
+same-length-4 : tie.Need-same-length-4
+same-length-4 c = search needs
+
+-- src/collect.rt:12:1
+returns-2 : tie.Need-returns-2
+returns-2 c = ?
+
+pub passes-spec : {M : Type 1} → statement M
+passes-spec =
+    tie.close
+    (tie.spec
+    attempt-requires
+    enum-known-last
+    enum-known-last-2
+    same-length
+    same-length-2
+    returns
+    same-length-3
+    same-length-4
+    returns-2)
