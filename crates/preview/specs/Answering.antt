@@ -16,23 +16,25 @@ use Rattle.meaning.specs.Machine.{Settled, stopped, failed, feedAll}
 use Rattle.meaning.specs.Calls as Calls
 use Rattle.meaning.specs.Calls.{Record, Stacks, Called, Answer, lentOf, configOf, tokensFrom, afterFeed, feedOf, refused, asBrought}
 use Rattle.meaning.specs.PublicCalls.{stacksOf}
-use Rattle.meaning.specs.Preview.{isShort, tidied, tried, previewOf, noRefusal, mayFollow, MayAnswer, tokens, turned, MayEffect, mayEffect}
+use Rattle.meaning.specs.Preview.{isShort, tidied, tried, previewOf, noRefusal, mayFollow, MayAnswer, tokens, turned, MayEffect, mayEffect, mayOf}
 use Rattle.theory_base.specs.Feeds.{even-feed}
 use Rattle.theory_preview.specs.Tokens.{passing}
 use Rattle.token_set.specs.declared.TokenSet as Code
 use Rattle.token_set.specs.Words.{setOf}
-use Rattle.fit.specs.Shown.{Shown}
+use Rattle.fit.specs.Shown.{Shown, Readable}
 use Rattle.moves.specs.declared.Run.{Run}
 use Rattle.machine.specs.declared.Ended as Ended
 use Rattle.engine.specs.declared.Called as Handed
 use Rattle.engine.specs.Records.{answerIs, recordIs, calledIs}
 use Rattle.engine.specs.Leaving.{fedFrom}
-use Rattle.engine.specs.Judging.{numberFor, when-not, not-turned}
+use Rattle.engine.specs.Judging.{numberFor, when-not, not-turned, number-cut}
 use Rattle.engine.specs.Performing.{Starts, Judged, feed-made}
 use Rattle.engine.specs.Cutting.{uncut, feed-cut}
 use Rattle.preview.specs.Scratch.{Cleared, TriedAs}
 use Rattle.preview.specs.Collecting.{isStopped, letsThrough, Collected}
-use Rattle.preview.specs.Judging.{copyNumber, copied-on, copy-passed}
+use Rattle.preview.specs.Judging.{copyNumber, copied-on, copy-passed, long-both}
+use Rattle.preview.specs.May.{mayEffectIs}
+use Rattle.preview.specs.declared.May.the-variants.{Tokens}
 
 -- as many scratch cells as lent ones
 pub record LentAlike (vs : List ℤ) (ps : List ℕ) (rs : List ℤ) (qs : List ℕ) : Type 0 where
@@ -43,6 +45,9 @@ pub record LentAlike (vs : List ℤ) (ps : List ℕ) (rs : List ℤ) (qs : List 
 pub record SetAnswered (g : Grammar) (r : Record) (vs : List ℤ) (ps : List ℕ) (rs : List ℤ) (qs : List ℕ) (v : ℤ) (set : ℕ) (rs′ : List ℤ) (qs′ : List ℕ) : Type 0 where
   pub isSet : setOf set ≡ passing (λ t. noRefusal (feedOf g r (stacksOf vs ps) (t ∷ []) (v ∷ []) .answer)) (g .terminals)
   pub isTidy : stacksOf rs′ qs′ ≡ tidied (stacksOf vs ps) (stacksOf rs qs)
+
+pub alike-cleared : {vs rs : List ℤ} {ps qs : List ℕ} → LentAlike vs ps rs qs → (rs₁ : List ℤ) (qs₁ : List ℕ) → rs₁ ≡ replicate (length rs) mark → qs₁ ≡ replicate (length qs) 0 → Cleared vs ps rs₁ qs₁
+alike-cleared a rs₁ qs₁ e d = record { registers = e ∙ ap (λ n. replicate n mark) (a .registers); places = d ∙ ap (λ n. replicate n 0) (a .places) }
 
 -- ---- on exactly the lent cells: vs and ps the caller's, rs and qs the scratch's
 
@@ -136,3 +141,41 @@ module _ (g : Grammar) (r : Record) (vs rs : List ℤ) (ps qs : List ℕ) (n k :
       same : (ts : List ℕ) → map (λ t. ltb t (g .terminals) && noRefusal (feedOf g r cells (t ∷ []) (v ∷ []) .answer)) ts ≡ map (λ t. ltb t (g .terminals) && noRefusal (previewOf g r own scratch t v .answer)) ts
       same [] = refl
       same (t ∷ ts) = ap₂ (λ x xs. x ∷ xs) (ap (λ b. ltb t (g .terminals) && b) (one t)) (same ts)
+
+-- ---- by the judgement
+
+module _ {ws : List ℕ} (readable : Readable ws) (r : Record) (vs rs : List ℤ) (ps qs : List ℕ) (n k : ℕ) (en : n ≡ min (length vs) 4096) (ek : k ≡ min (length ps) 1024)
+    (number : (g : Grammar) → Shown g ws → 0 ≡ copyNumber g r (stacksOf vs ps) (stacksOf rs qs)) where
+  on : (g : Grammar) → Shown g ws → (numberFor 34 g r (stacksOf vs ps) ≡ 0) × (isShort (stacksOf vs ps) (stacksOf rs qs) ≡ false)
+  on g s = copy-passed g r (stacksOf vs ps) (stacksOf rs qs) (sym (number g s))
+
+  pub scratch-long : (n ≤ length rs) × (k ≤ length qs)
+  scratch-long = long-both vs rs ps qs n k en ek (on (readable .grammar) (readable .shown) .1)
+
+  pub cells-judged : Judged ws (take n vs) (take k ps) r
+  cells-judged = record {
+    few = omega (arith, length-take n vs);
+    little = omega (arith, length-take k ps);
+    brought = readable;
+    passed = λ g s. sym (number-cut 34 g r vs ps n k en ek (numberFor 34 g r (stacksOf (take n vs) (take k ps))) refl ∙ on g s .0);
+  }
+
+  pub cells-alike : LentAlike (take n vs) (take k ps) (take n rs) (take k qs)
+  cells-alike = record {
+    registers = length-take-le n rs (scratch-long .0) ∙ sym (length-take-le n vs (omega arith));
+    places = length-take-le k qs (scratch-long .1) ∙ sym (length-take-le k ps (omega arith));
+  }
+
+  pub preview-made : (t : ℕ) (v : ℤ) (c : Handed.Called) (rs′ : List ℤ) (qs′ : List ℕ) → ((g : Grammar) → Shown g ws → calledIs c rs′ qs′ ≡ tried g r (stacksOf (take n vs) (take k ps)) (stacksOf (take n rs) (take k qs)) t v)
+      → (g : Grammar) → Shown g ws → calledIs c (rs′ ++ drop n rs) (qs′ ++ drop k qs) ≡ previewOf g r (stacksOf vs ps) (stacksOf rs qs) t v
+  preview-made t v c rs′ qs′ e g s =
+      tried-whole g r vs rs ps qs n k en ek t v c rs′ qs′ (e g s)
+      ∙ copied-on g r (stacksOf vs ps) (stacksOf rs qs) (λ j. asBrought (refused j 0) r (stacksOf rs qs)) (tried g r (stacksOf vs ps) (stacksOf rs qs) t v) (sym (number g s))
+
+  pub may-made : (v : ℤ) (set : Code.TokenSet) (area : List ℕ) (rs′ : List ℤ) (qs′ : List ℕ) → ((g : Grammar) → Shown g ws → SetAnswered g r (take n vs) (take k ps) (take n rs) (take k qs) v (set .0) rs′ qs′)
+      → (g : Grammar) → Shown g ws → mayEffectIs (Tokens set) (rs′ ++ drop n rs) (qs′ ++ drop k qs) area ≡ mayOf g r (stacksOf vs ps) (stacksOf rs qs) v area
+  may-made v set area rs′ qs′ e g s =
+      let x = e g s .isSet ∙ set-whole g r vs rs ps qs n k en ek (sym (number g s)) v in
+      let y = ap (λ (z : Stacks). stacksOf (z .registers ++ drop n rs) (z .places ++ drop k qs)) (e g s .isTidy) ∙ tidied-whole g r vs rs ps qs n k en ek in
+      (λ i. mayEffect (tokens (x i)) (y i) area)
+      ∙ copied-on g r (stacksOf vs ps) (stacksOf rs qs) (λ j. mayEffect (turned (refused j 0)) (stacksOf rs qs) area) (mayEffect (tokens (mayFollow g r (stacksOf vs ps) (stacksOf rs qs) v)) (tidied (stacksOf vs ps) (stacksOf rs qs)) area) (sym (number g s))

@@ -11,6 +11,8 @@ use Rattle.meaning.specs.Sets.{TokenSet, emptySet, singleton, _∪_}
 use Rattle.meaning.specs.Machine.{Config, Lent, Settled, stopped, failed, feedAll}
 use Rattle.meaning.specs.Calls.{tokensFrom}
 use Rattle.theory_program.specs.Records.{segment-words}
+use Rattle.theory_program.specs.Stands.{stands-within}
+use Rattle.theory_program.specs.Addresses.{segment-at}
 use Rattle.theory_preview.specs.Tokens.{passing, passing-none, passing-not, passing-more}
 use Rattle.token_set.specs.Words.{setOf, set-empty}
 use Rattle.moves.specs.declared.Run.{Run}
@@ -82,3 +84,6 @@ module _ {ws : List ℕ} {v : ℤ} {vs : List ℤ} {ps : List ℕ} {run : Run} w
 -- T is at most 63
 pub few-terminals : {ws : List ℕ} {vs : List ℤ} {ps : List ℕ} {run : Run} → Running ws vs ps run → getD ws 3 0 ≤ 63
 few-terminals r = omega (arith, segment-words (r .held .begins) .terminals, r .held .wellFormed .terminals .1)
+
+pub program-long : {ws : List ℕ} {vs : List ℤ} {ps : List ℕ} {run : Run} → Running ws vs ps run → 3 < length ws
+program-long r = omega (arith, stands-within (segment-at (r .held .begins)))

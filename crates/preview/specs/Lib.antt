@@ -3,3 +3,4 @@ pub mod Scratch
 pub mod Collecting
 pub mod Judging
 pub mod Answering
+pub mod Beginning

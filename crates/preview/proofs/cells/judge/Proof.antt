@@ -1,3 +1,9 @@
+use mathlib.Core.Path.{_≡_, refl, sym, ap, _∙_}
+use native.Mathlib.Omega.{arith}
+use denote.Ref.{now}
+use Rattle.meaning.specs.PublicCalls.{stacksOf}
+use Rattle.engine.specs.Records.{recordIs, calledIs, effectIs}
+use Rattle.preview.specs.Judging.{copy-turned, copy-short, copy-on, short-registers, short-places, not-short}
 use borrow.Author.Needs.{needs}
 use Rattle.preview.proofs.cells.judge.Statement.{statement}
 use Rattle.preview.proofs.cells.judge.Tie as tie
@@ -12,7 +18,12 @@ judge-cells-requires c κs = search needs
 
 -- src/cells.rt:44:9
 returns : tie.Need-returns
-returns c = ?
+returns c =
+    let a = c .before .before .before .before .before .args in
+    let r = recordIs (a .brought) in
+    let m = stacksOf (now (a .registers)) (now (a .places)) in
+    let s = stacksOf (now (a .scratch-registers)) (now (a .scratch-places)) in
+    λ g x. copy-turned g r m s (c .before .judge-cells .result) (c .before .judge-cells .ensures g x) (c .if1 .taken)
 
 -- src/cells.rt:46:34
 smaller-requires : tie.Need-smaller-requires
@@ -20,7 +31,12 @@ smaller-requires c κs = search needs
 
 -- src/cells.rt:47:9
 returns-2 : tie.Need-returns-2
-returns-2 c = ?
+returns-2 c =
+    let a = c .before .before .before .before .before .before .before .args in
+    let r = recordIs (a .brought) in
+    let m = stacksOf (now (a .registers)) (now (a .places)) in
+    let s = stacksOf (now (a .scratch-registers)) (now (a .scratch-places)) in
+    λ g x. copy-short g r m s (sym (c .before .before .before .judge-cells .ensures g x) ∙ c .before .before .if1 .left) (short-registers (now (a .registers)) (now (a .scratch-registers)) (now (a .places)) (now (a .scratch-places)) (c .before .smaller .result) _ (c .before .smaller .ensures) refl (c .if2 .taken))
 
 -- src/cells.rt:49:31
 smaller-requires-2 : tie.Need-smaller-requires-2
@@ -28,11 +44,21 @@ smaller-requires-2 c κs = search needs
 
 -- src/cells.rt:50:9
 returns-3 : tie.Need-returns-3
-returns-3 c = ?
+returns-3 c =
+    let a = c .before .before .before .before .before .before .before .before .before .args in
+    let r = recordIs (a .brought) in
+    let m = stacksOf (now (a .registers)) (now (a .places)) in
+    let s = stacksOf (now (a .scratch-registers)) (now (a .scratch-places)) in
+    λ g x. copy-short g r m s (sym (c .before .before .before .before .before .judge-cells .ensures g x) ∙ c .before .before .before .before .if1 .left) (short-places (now (a .registers)) (now (a .scratch-registers)) (now (a .places)) (now (a .scratch-places)) (c .before .before .before .smaller .result) (c .before .smaller2 .result) (c .before .before .before .smaller .ensures) (c .before .smaller2 .ensures) (omega (arith, c .before .before .if2 .left)) (c .if3 .taken))
 
 -- src/cells.rt:31:1
 returns-4 : tie.Need-returns-4
-returns-4 c = ?
+returns-4 c =
+    let a = c .before .before .before .before .before .before .before .before .before .args in
+    let r = recordIs (a .brought) in
+    let m = stacksOf (now (a .registers)) (now (a .places)) in
+    let s = stacksOf (now (a .scratch-registers)) (now (a .scratch-places)) in
+    λ g x. copy-on g r m s (sym (c .before .before .before .before .before .judge-cells .ensures g x) ∙ c .before .before .before .before .if1 .left) (not-short (now (a .registers)) (now (a .scratch-registers)) (now (a .places)) (now (a .scratch-places)) (c .before .before .before .smaller .result) (c .before .smaller2 .result) (c .before .before .before .smaller .ensures) (c .before .smaller2 .ensures) (omega (arith, c .before .before .if2 .left)) (omega (arith, c .if3 .left)))
 
 pub judge-spec : {M : Type 1} → statement M
 judge-spec =
