@@ -1,3 +1,4 @@
+use Rattle.meaning.specs.Table.{grammarOf}
 use mir.Syntax.{w32}
 use mir.Val.{toZ, ofZ}
 use mir.Facts.{toZ-ofZ}
@@ -67,10 +68,11 @@ returns-2 c =
     let r = recordIs (a .record) in
     let m = stacksOf (now (a .registers)) (now (a .places)) in
     let s = stacksOf (now (a .scratch-registers)) (now (a .scratch-places)) in
+    let g = grammarOf (d .state) in
     let v = toZ w32 (ofZ w32 (a .value)) in
     let e : v ≡ a .value = toZ-ofZ (x .fits .value) in
     let w = c .before .before .before .before .before .before .before .before .before .before .before .begin .last .1 .0 in
-    standing-mays (now (a .table)) (now (a .program)) r m s (a .value) d (mayEffectIs (k .result) (k .last .1 .1 .0) (k .last .1 .1 .1 .0) w) (k .ensures _ (standing-shown d) ∙ ap (λ z. mayOf _ r m s z w) e)
+    standing-mays (now (a .table)) (now (a .program)) r m s (a .value) d (mayEffectIs (k .result) (k .last .1 .1 .0) (k .last .1 .1 .1 .0) w) (k .ensures g (standing-shown d) ∙ ap (λ z. mayOf g r m s z w) e)
 
 pub may-follow-spec : {M : Type 1} → statement M
 may-follow-spec =

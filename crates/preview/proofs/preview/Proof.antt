@@ -1,3 +1,4 @@
+use Rattle.meaning.specs.Table.{grammarOf}
 use mir.Syntax.{w32}
 use mir.Val.{toZ, ofZ}
 use mir.Facts.{toZ-ofZ}
@@ -74,9 +75,10 @@ returns-2 c =
     let r = recordIs (a .record) in
     let m = stacksOf (now (a .registers)) (now (a .places)) in
     let s = stacksOf (now (a .scratch-registers)) (now (a .scratch-places)) in
+    let g = grammarOf (d .state) in
     let v = toZ w32 (ofZ w32 (a .value)) in
     let e : v ≡ a .value = toZ-ofZ (x .fits .value) in
-    standing-called d r s (λ g. previewOf g r m s (a .kind) (a .value)) (calledIs (k .result) (k .last .1 .1 .0) (k .last .1 .1 .1 .0)) (k .ensures _ (standing-shown d) ∙ ap (previewOf _ r m s (a .kind)) e)
+    standing-called d r s (λ g. previewOf g r m s (a .kind) (a .value)) (calledIs (k .result) (k .last .1 .1 .0) (k .last .1 .1 .1 .0)) (k .ensures g (standing-shown d) ∙ ap (previewOf g r m s (a .kind)) e)
 
 pub preview-spec : {M : Type 1} → statement M
 preview-spec =
