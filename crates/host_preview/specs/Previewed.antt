@@ -1,6 +1,6 @@
 -- The set's answer as the numbers that a host lends: the set as a word, number and count of what turns the call back, or 0 and 0.
 use Prim.Native.Nat.{ℕ}
-use mathlib.Core.Path.{_≡_, refl, sym, ap, _∙_}
+use mathlib.Core.Path.{_≡_, ap, _∙_}
 use mathlib.Core.List.{List}
 use lib.IntN.{ℤ}
 use Rattle.meaning.specs.Sets.{TokenSet, emptySet}

@@ -1,10 +1,10 @@
 -- What a preview and the set answer, by what was tried on the lent cells, and with the cells past them.
-use Prim.Native.Nat.{ℕ, _-_, _≤_, _<_, min}
+use Prim.Native.Nat.{ℕ, _≤_, min}
 use native.Mathlib.Omega.{arith}
-use mathlib.Core.Path.{_≡_, refl, sym, ap, ap₂, _∙_, subst}
-use mathlib.Core.Bool.{Bool, true, false, _&&_}
+use mathlib.Core.Path.{_≡_, refl, sym, ap, ap₂, _∙_}
+use mathlib.Core.Bool.{false, _&&_}
 use mathlib.Core.List.{List, [], _∷_, _++_, append-nil, map}
-use lib.ListN.{length, getD, take, drop, replicate, length-take, drop-of-length-le}
+use lib.ListN.{length, take, drop, replicate, length-take, drop-of-length-le}
 use lib.Seq.{length-take-le}
 use lib.Dec.{ltb}
 use lib.IntN.{ℤ}
@@ -13,10 +13,9 @@ use Rattle.meaning.specs.Grammar.{Grammar, leaves}
 use Rattle.meaning.specs.Value.{mark}
 use Rattle.meaning.specs.Sets.{TokenSet}
 use Rattle.meaning.specs.Machine.{Settled, stopped, failed, feedAll}
-use Rattle.meaning.specs.Calls as Calls
-use Rattle.meaning.specs.Calls.{Record, Stacks, Called, Answer, lentOf, configOf, tokensFrom, afterFeed, feedOf, refused, asBrought}
+use Rattle.meaning.specs.Calls.{Record, Stacks, Called, lentOf, configOf, tokensFrom, afterFeed, feedOf, refused, asBrought}
 use Rattle.meaning.specs.PublicCalls.{stacksOf}
-use Rattle.meaning.specs.Preview.{isShort, tidied, tried, previewOf, noRefusal, mayFollow, MayAnswer, tokens, turned, MayEffect, mayEffect, mayOf}
+use Rattle.meaning.specs.Preview.{isShort, tidied, tried, previewOf, noRefusal, mayFollow, tokens, turned, mayEffect, mayOf}
 use Rattle.theory_base.specs.Feeds.{even-feed}
 use Rattle.theory_preview.specs.Tokens.{passing}
 use Rattle.token_set.specs.declared.TokenSet as Code
@@ -25,7 +24,7 @@ use Rattle.fit.specs.Shown.{Shown, Readable}
 use Rattle.moves.specs.declared.Run.{Run}
 use Rattle.machine.specs.declared.Ended as Ended
 use Rattle.engine.specs.declared.Called as Handed
-use Rattle.engine.specs.Records.{answerIs, recordIs, calledIs}
+use Rattle.engine.specs.Records.{calledIs}
 use Rattle.engine.specs.Leaving.{fedFrom}
 use Rattle.engine.specs.Judging.{numberFor, when-not, not-turned, number-cut}
 use Rattle.engine.specs.Performing.{Starts, Judged, feed-made}

@@ -1,14 +1,13 @@
 -- The set's call by what it begins with: 30, the table, and its program written.
 use Prim.Native.Nat.{ℕ}
 use native.Mathlib.Omega.{arith}
-use mathlib.Core.Path.{_≡_, refl, sym, ap, ap₂, _∙_, subst}
+use mathlib.Core.Path.{_≡_, sym, ap, ap₂, _∙_, subst}
 use mathlib.Core.Bool.{Bool, true, false}
 use mathlib.Core.List.{List}
 use lib.ListN.{length}
 use lib.Dec.{ltb}
 use lib.IntN.{ℤ}
 use borrow.Author.Tests.{le-ltb}
-use Rattle.meaning.specs.Grammar.{Grammar}
 use Rattle.meaning.specs.Table.{grammarOf}
 use Rattle.meaning.specs.Program.{programOf}
 use Rattle.meaning.specs.Calls as Calls

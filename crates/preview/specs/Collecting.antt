@@ -1,13 +1,13 @@
 -- The set of tokens that are let through, token by token.
 use Prim.Native.Nat.{ℕ, _+_, _≤_, _<_}
 use native.Mathlib.Omega.{arith}
-use mathlib.Core.Path.{_≡_, refl, sym, ap, ap₂, _∙_, subst}
+use mathlib.Core.Path.{_≡_, sym, ap, _∙_}
 use mathlib.Core.Bool.{Bool, true, false}
 use mathlib.Core.List.{List, [], _∷_}
 use lib.ListN.{length, getD}
 use lib.IntN.{ℤ}
 use Rattle.meaning.specs.Grammar.{Grammar, leaves}
-use Rattle.meaning.specs.Sets.{TokenSet, emptySet, singleton, _∪_}
+use Rattle.meaning.specs.Sets.{TokenSet, singleton, _∪_}
 use Rattle.meaning.specs.Machine.{Config, Lent, Settled, stopped, failed, feedAll}
 use Rattle.meaning.specs.Calls.{tokensFrom}
 use Rattle.theory_program.specs.Records.{segment-words}

@@ -9,7 +9,7 @@ use lib.Dec.{T, ltb}
 use lib.IntN.{ℤ}
 use borrow.Author.Tests.{lt-ltb, le-ltb, ltb-false}
 use Rattle.meaning.specs.Grammar.{Grammar}
-use Rattle.meaning.specs.Calls.{Gate, admitted, turnedBack, gate, Record, Stacks, lentOf, stacksFit}
+use Rattle.meaning.specs.Calls.{Gate, admitted, turnedBack, Record, Stacks, stacksFit}
 use Rattle.meaning.specs.PublicCalls.{stacksOf}
 use Rattle.meaning.specs.Preview.{isShort, whenCopied}
 use Rattle.theory_base.specs.Members.{T→true}

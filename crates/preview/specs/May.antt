@@ -4,7 +4,6 @@ use mathlib.Core.List.{List}
 use lib.IntN.{ℤ}
 use Rattle.meaning.specs.PublicCalls.{stacksOf}
 use Rattle.meaning.specs.Preview.{MayAnswer, tokens, turned, MayEffect, mayEffect}
-use Rattle.token_set.specs.declared.TokenSet as Code
 use Rattle.token_set.specs.Words.{setOf}
 use Rattle.engine.specs.Records.{answerIs}
 use Rattle.preview.specs.declared.May.{May}

@@ -1,16 +1,14 @@
 -- Scratch cells: what stands in the caller's cells is copied to cleared ones, a token is tried there, and what the moves reached is cleared again.
 use Prim.Native.Nat.{ℕ, suc, _+_, _-_, _≤_, _<_}
 use native.Mathlib.Omega.{arith}
-use mathlib.Core.Path.{_≡_, refl, sym, ap, ap₂, _∙_, subst, subst₂}
-use mathlib.Core.List.{List, [], _∷_, _++_, append-assoc, append-nil, map, reverse}
+use mathlib.Core.Path.{_≡_, sym, ap, _∙_, subst₂}
+use mathlib.Core.List.{List, [], _∷_, _++_, append-assoc, append-nil}
 use lib.ListN.{length, getD, set, take, drop, replicate, length-replicate, replicate-append-replicate, drop-of-length-le, take-append-drop}
 use lib.Seq.{drop-at, drop-cons, set-at, take-suc, length-take-le}
 use lib.IntN.{ℤ}
 use Rattle.meaning.specs.Value.{mark}
-use Rattle.meaning.specs.Grammar.{Grammar}
 use Rattle.meaning.specs.Machine.{Config, Settled}
-use Rattle.meaning.specs.Calls.{lay}
-use Rattle.theory_answers.specs.Memory.{lay-front, lay-above}
+use Rattle.theory_answers.specs.Memory.{lay-above}
 use Rattle.registers.specs.Laid.{laid-inside}
 use Rattle.moves.specs.declared.Run.{Run}
 use Rattle.moves.specs.Laid.{LaidIn, laid-size}

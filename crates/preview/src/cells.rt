@@ -71,18 +71,16 @@ fn preview_lent(
     lent::clear_registers(scratch_registers);
     lent::clear_places(scratch_places);
     let run = running::run_of(places, program, brought);
-    running::fed(
-        attempt(
-            registers,
-            places,
-            scratch_registers,
-            scratch_places,
-            program,
-            run,
-            kind,
-            value,
-        ),
-    )
+    running::fed(attempt(
+        registers,
+        places,
+        scratch_registers,
+        scratch_places,
+        program,
+        run,
+        kind,
+        value,
+    ))
 }
 
 // Every token tried.
@@ -127,7 +125,14 @@ pub fn preview_cells(
     requires { ⌜ Readable (now program) ⌝ }
     ensures { λ r. ⌜ ((g : Grammar) → Shown g (now (program .entry)) → calledIs r (now («scratch_registers» .exit)) (now («scratch_places» .exit)) ≡ previewOf g (recordIs brought) (stacksOf (now (registers .entry)) (now (places .entry))) (stacksOf (now («scratch_registers» .entry)) (now («scratch_places» .entry))) kind value) ⌝ }
 {
-    let number = judge(registers, places, scratch_registers, scratch_places, program, brought);
+    let number = judge(
+        registers,
+        places,
+        scratch_registers,
+        scratch_places,
+        program,
+        brought,
+    );
     if number != 0 {
         return running::as_brought(brought, Answer::Refused { number, tokens: 0 });
     }
@@ -157,7 +162,14 @@ pub fn may_cells(
     requires { ⌜ Readable (now program) ⌝ }
     ensures { λ r. ⌜ ((g : Grammar) → Shown g (now (program .entry)) → mayEffectIs r (now («scratch_registers» .exit)) (now («scratch_places» .exit)) (now (program .entry)) ≡ mayOf g (recordIs brought) (stacksOf (now (registers .entry)) (now (places .entry))) (stacksOf (now («scratch_registers» .entry)) (now («scratch_places» .entry))) value (now (program .entry))) ⌝ }
 {
-    let number = judge(registers, places, scratch_registers, scratch_places, program, brought);
+    let number = judge(
+        registers,
+        places,
+        scratch_registers,
+        scratch_places,
+        program,
+        brought,
+    );
     if number != 0 {
         return May::Turned(Answer::Refused { number, tokens: 0 });
     }

@@ -62,7 +62,14 @@ pub fn attempt(
     copy_places(places, scratch_places, run.places);
     let kinds = [kind; 1];
     let values = [value; 1];
-    let ended = machine::feed(scratch_registers, scratch_places, program, run, &kinds, &values);
+    let ended = machine::feed(
+        scratch_registers,
+        scratch_places,
+        program,
+        run,
+        &kinds,
+        &values,
+    );
     let last = reached(ended);
     lent::clear_registers(&mut scratch_registers[..last.registers]);
     lent::clear_places(&mut scratch_places[..last.places]);

@@ -1,20 +1,18 @@
 -- The calls of 02 (g) by their judgement: 30, the table, 33, 40, 34, 39.
 use Prim.Native.Nat.{ℕ, _≤_, _<_}
-use mathlib.Core.Path.{_≡_, refl, sym, ap, ap₂, _∙_}
+use mathlib.Core.Path.{_≡_, refl, ap, ap₂, _∙_}
 use mathlib.Core.Bool.{Bool, true, false}
-use mathlib.Core.List.{List, [], _∷_}
+use mathlib.Core.List.{List}
 use lib.ListN.{length}
-use lib.Dec.{T, ltb, ltb→lt, nltb→le}
+use lib.Dec.{T}
 use lib.IntN.{ℤ}
 use Rattle.meaning.specs.Grammar.{Grammar}
 use Rattle.meaning.specs.Table.{grammarOf}
-use Rattle.meaning.specs.Judgement.{Verdict, accepted, rejected, Accepted, Judged}
-use Rattle.meaning.specs.Decide.{verdictOf}
+use Rattle.meaning.specs.Judgement.{rejected, Accepted}
 use Rattle.meaning.specs.Calls.{Status, running, waiting, closed, Kind, outer, inner, Gate, admitted, turnedBack, gate, isOpen, Record, Stacks, Called, Answer, refused, tableRefused, asBrought, stacksFit}
 use Rattle.meaning.specs.Fit.{Fit}
-use Rattle.meaning.specs.PublicCalls.{Checked, usable, unusable, check, areaLength, written, Effect, effect, called}
+use Rattle.meaning.specs.PublicCalls.{Checked, usable, unusable, check, areaLength, written, effect, called}
 use Rattle.meaning.specs.CallStatements.{Met, Case, short, badTable, isClosed, isWaiting, isInner, unfit, uneven, met}
-use Rattle.meaning.specs.CallStatements as Calls
 use Rattle.meaning.specs.PublicCalls.{finish}
 use Rattle.meaning.specs.Preview.{isShort, tidied, whenCopied, tried, previewOf, previews, turned, MayEffect, mayEffect, mayFollow, mayOf, mays, tokens}
 use Rattle.meaning.specs.PreviewStatements as Statements

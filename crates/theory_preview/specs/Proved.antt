@@ -1,29 +1,26 @@
 -- 02 (g), proved: the statements of meaning's PreviewStatements.
 use Prim.Native.Nat.{ℕ, _≤_, _<_}
 use native.Mathlib.Omega.{arith}
-use mathlib.Core.Path.{_≡_, refl, sym, ap, ap₂, _∙_, subst}
-use mathlib.Core.Logic.{_↔_}
+use mathlib.Core.Path.{_≡_, refl, sym, ap, _∙_, subst}
 use mathlib.Core.Bool.{Bool, true, false}
-use mathlib.Core.List.{List, [], _∷_, map}
-use lib.ListN.{length}
+use mathlib.Core.List.{List, [], _∷_}
 use lib.Dec.{T, ltb, leb, ltb→lt}
 use lib.IntN.{ℤ}
-use Rattle.meaning.specs.Base.{countFrom}
-use Rattle.meaning.specs.Grammar.{Grammar, leafOf, leaves}
-use Rattle.meaning.specs.Sets.{TokenSet, has, endNumber}
-use Rattle.meaning.specs.Machine.{Config, Lent, Settled, stopped, failed, advanceFrom, comes, feedToken, feedAll, tokensLimit}
-use Rattle.meaning.specs.Calls.{Record, Stacks, Called, lentOf, configOf, afterFeed, feedOf, tokensFrom, refused, asBrought}
+use Rattle.meaning.specs.Grammar.{Grammar, leafOf}
+use Rattle.meaning.specs.Sets.{has, endNumber}
+use Rattle.meaning.specs.Machine.{Settled, stopped, failed, advanceFrom, comes, tokensLimit}
+use Rattle.meaning.specs.Calls.{Record, Stacks, Called, lentOf, configOf, afterFeed, feedOf, refused, asBrought}
 use Rattle.meaning.specs.PublicCalls.{feed, written, Effect, effect, performs}
 use Rattle.meaning.specs.CallStatements.{Met}
-use Rattle.meaning.specs.Preview.{isShort, tidied, tried, previewOf, previews, noRefusal, mayFollow, MayEffect, mayEffect, tokens, turned, mayOf, mays}
+use Rattle.meaning.specs.Preview.{isShort, tidied, tried, previewOf, previews, noRefusal, mayFollow, MayEffect, mayEffect, tokens, turned, mays}
 use Rattle.meaning.specs.PreviewStatements as Statements
 use Rattle.meaning.specs.PreviewStatements.{PreviewTurnedBack, PreviewIsFeed, MayExactly, MaySet, PreviewCases}
 use Rattle.theory_table.specs.AcceptedTable.{accepted-well-formed}
 use Rattle.theory_answers.specs.Called.{called-is}
-use Rattle.theory_answers.specs.Answers.{call-is, when-met}
+use Rattle.theory_answers.specs.Answers.{when-met}
 use Rattle.theory_preview.specs.Judging as Judging
 use Rattle.theory_preview.specs.Judging.{copied-by, fits-yes, mays-is, previews-is}
-use Rattle.theory_preview.specs.Tokens.{passing, passing-wide, passing-has, passing-in}
+use Rattle.theory_preview.specs.Tokens.{passing-wide, passing-has, passing-in}
 
 pub preview-turned-back : PreviewTurnedBack
 preview-turned-back = Judging.preview-turned-back

@@ -1,16 +1,15 @@
 -- The set of tokens: what is in it, and how it grows token by token.
-use Prim.Native.Nat.{ℕ, suc, _+_, _≤_, _<_}
+use Prim.Native.Nat.{ℕ, suc, _+_, _<_}
 use native.Mathlib.Omega.{arith}
 use native.Mathlib.Decide.{decLt}
-use mathlib.Core.Path.{_≡_, refl, sym, ap, ap₂, _∙_, subst}
+use mathlib.Core.Path.{_≡_, refl, sym, ap, _∙_, subst}
 use mathlib.Core.Logic.{_⊎_, inl, inr}
-use mathlib.Core.Bool.{Bool, true, false, _&&_, _||_}
-use mathlib.Core.List.{List, [], _∷_, map}
-use lib.ListN.{length, getD, set, replicate, length-map, length-set, length-replicate}
-use lib.Dec.{T, eqb, ltb, leb, ltb→lt, lt→ltb}
-use borrow.Author.Tests.{lt-ltb, le-ltb, ltb-true}
+use mathlib.Core.Bool.{Bool, true, false, _&&_}
+use mathlib.Core.List.{[], _∷_, map}
+use lib.ListN.{length, set, length-map, length-set, length-replicate}
+use lib.Dec.{T, ltb, ltb→lt, lt→ltb}
 use Rattle.meaning.specs.Base.{countFrom}
-use Rattle.meaning.specs.Sets.{TokenSet, emptySet, singleton, _∪_, has, endNumber}
+use Rattle.meaning.specs.Sets.{TokenSet, emptySet, singleton, _∪_, has}
 use Rattle.theory_base.specs.Members.{both, and}
 use Rattle.theory_sets.specs.Tests.{tabled-cases, tabled-at, length-countFrom}
 use Rattle.theory_sets.specs.TokenSets.{single-has, single-only, not-empty, union-left, union-right, union-cases}

@@ -1,4 +1,4 @@
-use mathlib.Core.Path.{_≡_, ap, ap₂, _∙_}
+use mathlib.Core.Path.{ap₂, _∙_}
 use denote.Ref.{now}
 use mir.Facts.{toZ-ofZ}
 use Rattle.meaning.specs.Program.{programOf}
@@ -8,13 +8,6 @@ use Rattle.host_preview.specs.Previewed.{may-passed-on}
 use borrow.Author.Needs.{needs}
 use Rattle.host_preview.proofs.may_follow.Statement.{statement}
 use Rattle.host_preview.proofs.may_follow.Tie as tie
-use Rattle.host_preview.proofs.may_follow.Reads as reads
-use Rattle.host_preview.proofs.may_follow.Lts as lts
-use Rattle.host_numbers.proofs.brought.Reads as brought-reads
-use Rattle.host_preview.proofs.count_of.Reads as count-of-reads
-use Rattle.host_preview.proofs.number_of.Reads as number-of-reads
-use Rattle.host_preview.proofs.tokens_of.Reads as tokens-of-reads
-use Rattle.preview.proofs.may_follow.Reads as may-follow-reads
 
 -- src/lib.rt:88:9
 brought-requires : tie.Need-brought-requires

@@ -1,4 +1,4 @@
-use mathlib.Core.Path.{_≡_, ap, ap₂, _∙_}
+use mathlib.Core.Path.{ap₂, _∙_}
 use denote.Ref.{now}
 use mir.Facts.{toZ-ofZ}
 use Rattle.meaning.specs.Program.{programOf}
@@ -8,11 +8,6 @@ use Rattle.host_numbers.specs.Lent.{passed-on}
 use borrow.Author.Needs.{needs}
 use Rattle.host_preview.proofs.preview_token.Statement.{statement}
 use Rattle.host_preview.proofs.preview_token.Tie as tie
-use Rattle.host_preview.proofs.preview_token.Reads as reads
-use Rattle.host_preview.proofs.preview_token.Lts as lts
-use Rattle.host_numbers.proofs.brought.Reads as brought-reads
-use Rattle.host_numbers.proofs.pass_on.Reads as pass-on-reads
-use Rattle.preview.proofs.preview.Reads as preview-reads
 
 -- src/lib.rt:58:9
 brought-requires : tie.Need-brought-requires

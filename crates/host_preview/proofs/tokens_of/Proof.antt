@@ -5,8 +5,6 @@ use Rattle.host_preview.specs.Previewed.{tokensIn}
 use borrow.Author.Needs.{needs}
 use Rattle.host_preview.proofs.tokens_of.Statement.{statement}
 use Rattle.host_preview.proofs.tokens_of.Tie as tie
-use Rattle.host_preview.proofs.tokens_of.Reads as reads
-use Rattle.host_preview.proofs.tokens_of.Lts as lts
 
 -- src/lib.rt:17:21
 enum-known-may : tie.Need-enum-known-may

@@ -14,10 +14,6 @@ use Rattle.preview.specs.Beginning.{turned-mays, standing-mays}
 use borrow.Author.Needs.{needs}
 use Rattle.preview.proofs.may_follow.Statement.{statement}
 use Rattle.preview.proofs.may_follow.Tie as tie
-use Rattle.preview.proofs.may_follow.Reads as reads
-use Rattle.preview.proofs.may_follow.Lts as lts
-use Rattle.engine.proofs.begin.Reads as begin-reads
-use Rattle.preview.proofs.cells.may_cells.Reads as may-cells-reads
 
 -- src/lib.rt:66:11
 begin-requires : tie.Need-begin-requires

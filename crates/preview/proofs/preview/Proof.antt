@@ -13,11 +13,6 @@ use Rattle.engine.proofs.Cases.{ready-case, turned-case}
 use borrow.Author.Needs.{needs}
 use Rattle.preview.proofs.preview.Statement.{statement}
 use Rattle.preview.proofs.preview.Tie as tie
-use Rattle.preview.proofs.preview.Reads as reads
-use Rattle.preview.proofs.preview.Lts as lts
-use Rattle.engine.proofs.begin.Reads as begin-reads
-use Rattle.engine.proofs.running.as_brought.Reads as as-brought-reads
-use Rattle.preview.proofs.cells.preview_cells.Reads as preview-cells-reads
 
 -- src/lib.rt:38:11
 begin-requires : tie.Need-begin-requires

@@ -1,16 +1,12 @@
-use mathlib.Core.Path.{_≡_, refl, sym, ap, _∙_}
+use mathlib.Core.Path.{refl, sym, _∙_}
 use native.Mathlib.Omega.{arith}
 use denote.Ref.{now}
 use Rattle.meaning.specs.PublicCalls.{stacksOf}
-use Rattle.engine.specs.Records.{recordIs, calledIs, effectIs}
+use Rattle.engine.specs.Records.{recordIs}
 use Rattle.preview.specs.Judging.{copy-turned, copy-short, copy-on, short-registers, short-places, not-short}
 use borrow.Author.Needs.{needs}
 use Rattle.preview.proofs.cells.judge.Statement.{statement}
 use Rattle.preview.proofs.cells.judge.Tie as tie
-use Rattle.preview.proofs.cells.judge.Reads as reads
-use Rattle.preview.proofs.cells.judge.Lts as lts
-use Rattle.engine.proofs.lent.judge_cells.Reads as judge-cells-reads
-use Rattle.engine.proofs.lent.smaller.Reads as smaller-reads
 
 -- src/cells.rt:42:9
 judge-cells-requires : tie.Need-judge-cells-requires

@@ -5,7 +5,7 @@ use Prim.Native.Nat.{_≤_}
 use lib.ListN.{length}
 use Rattle.meaning.specs.Grammar.{Grammar}
 use Rattle.fit.specs.Shown.{Shown}
-use mathlib.Core.Path.{_≡_, refl, sym, ap, _∙_}
+use mathlib.Core.Path.{_≡_, sym, ap, _∙_}
 use native.Mathlib.Omega.{arith}
 use denote.Ref.{now}
 use Rattle.meaning.specs.PublicCalls.{stacksOf}
@@ -18,11 +18,6 @@ use Rattle.preview.specs.Answering.{scratch-long, cells-judged, cells-al
 use borrow.Author.Needs.{needs}
 use Rattle.preview.proofs.cells.may_cells.Statement.{statement}
 use Rattle.preview.proofs.cells.may_cells.Tie as tie
-use Rattle.preview.proofs.cells.may_cells.Reads as reads
-use Rattle.preview.proofs.cells.may_cells.Lts as lts
-use Rattle.engine.proofs.lent.smaller.Reads as smaller-reads
-use Rattle.preview.proofs.cells.judge.Reads as judge-reads
-use Rattle.preview.proofs.cells.may_lent.Reads as may-lent-reads
 
 -- 0 was judged, for the run's own stacks
 judged-none : (c : tie.Else1) → (let a = c .before .before .before .before .before .before .before .args in (g : Grammar) → Shown g (now (a .program)) → 0 ≡ copyNumber g (recordIs (a .brought)) (stacksOf (now (a .registers)) (now (a .places))) (stacksOf (now (a .scratch-registers)) (now (a .scratch-places))))

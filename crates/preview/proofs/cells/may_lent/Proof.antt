@@ -2,22 +2,14 @@ use mir.Syntax.{w32}
 use mir.Val.{toZ, ofZ}
 use mir.Facts.{toZ-ofZ}
 use mathlib.Core.Path.{subst}
-use mathlib.Core.Path.{_≡_, refl, sym, ap, _∙_}
-use native.Mathlib.Omega.{arith}
+use mathlib.Core.Path.{_≡_}
 use denote.Ref.{now}
-use Rattle.meaning.specs.PublicCalls.{stacksOf}
 use Rattle.engine.specs.Records.{recordIs}
 use Rattle.engine.specs.Performing.{judged-fitting, judged-running}
 use Rattle.preview.specs.Answering.{SetAnswered, alike-cleared, set-is, tidied-is}
 use borrow.Author.Needs.{needs}
 use Rattle.preview.proofs.cells.may_lent.Statement.{statement}
 use Rattle.preview.proofs.cells.may_lent.Tie as tie
-use Rattle.preview.proofs.cells.may_lent.Reads as reads
-use Rattle.preview.proofs.cells.may_lent.Lts as lts
-use Rattle.engine.proofs.lent.clear_places.Reads as clear-places-reads
-use Rattle.engine.proofs.lent.clear_registers.Reads as clear-registers-reads
-use Rattle.engine.proofs.running.run_of.Reads as run-of-reads
-use Rattle.preview.proofs.collect.collect.Reads as collect-reads
 
 -- src/cells.rt:101:5
 clear-registers-requires : tie.Need-clear-registers-requires

@@ -2,23 +2,15 @@ use mir.Syntax.{w32}
 use mir.Val.{toZ, ofZ}
 use mir.Facts.{toZ-ofZ}
 use Rattle.meaning.specs.Preview.{tried}
-use mathlib.Core.Path.{_≡_, refl, sym, ap, _∙_}
-use native.Mathlib.Omega.{arith}
+use mathlib.Core.Path.{_≡_, ap, _∙_}
 use denote.Ref.{now}
 use Rattle.meaning.specs.PublicCalls.{stacksOf}
-use Rattle.engine.specs.Records.{recordIs, calledIs, effectIs}
+use Rattle.engine.specs.Records.{recordIs}
 use Rattle.engine.specs.Performing.{judged-fitting, judged-running}
 use Rattle.preview.specs.Answering.{alike-cleared, tried-is}
 use borrow.Author.Needs.{needs}
 use Rattle.preview.proofs.cells.preview_lent.Statement.{statement}
 use Rattle.preview.proofs.cells.preview_lent.Tie as tie
-use Rattle.preview.proofs.cells.preview_lent.Reads as reads
-use Rattle.preview.proofs.cells.preview_lent.Lts as lts
-use Rattle.engine.proofs.lent.clear_places.Reads as clear-places-reads
-use Rattle.engine.proofs.lent.clear_registers.Reads as clear-registers-reads
-use Rattle.engine.proofs.running.fed.Reads as fed-reads
-use Rattle.engine.proofs.running.run_of.Reads as run-of-reads
-use Rattle.preview.proofs.scratch.attempt.Reads as attempt-reads
 
 -- src/cells.rt:71:5
 clear-registers-requires : tie.Need-clear-registers-requires

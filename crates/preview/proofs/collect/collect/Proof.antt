@@ -11,11 +11,6 @@ use Rattle.preview.specs.Scratch.{Cleared}
 use Rattle.preview.specs.Collecting.{CollectedTo, Collected, collected-none, collected-more, collected-all, few-terminals, program-long}
 use Rattle.preview.proofs.collect.collect.Statement.{statement}
 use Rattle.preview.proofs.collect.collect.Tie as tie
-use Rattle.preview.proofs.collect.collect.Reads as reads
-use Rattle.preview.proofs.collect.collect.Lts as lts
-use Rattle.moves.proofs.word_at.Reads as word-at-reads
-use Rattle.preview.proofs.collect.grown.Reads as grown-reads
-use Rattle.preview.proofs.collect.passes.Reads as passes-reads
 
 abbrev Inv-loop : tie.InvT-loop
 Inv-loop registers places scratch-registers₀ scratch-places₀ program run value terminals set₀ token₀ scratch-registers scratch-places set token =

@@ -5,10 +5,6 @@ use Rattle.preview.specs.Collecting.{grownBy}
 use borrow.Author.Needs.{needs}
 use Rattle.preview.proofs.collect.grown.Statement.{statement}
 use Rattle.preview.proofs.collect.grown.Tie as tie
-use Rattle.preview.proofs.collect.grown.Reads as reads
-use Rattle.preview.proofs.collect.grown.Lts as lts
-use Rattle.token_set.proofs.TokenSet.of_token.Reads as of-token-reads
-use Rattle.token_set.proofs.TokenSet.union.Reads as union-reads
 
 -- src/collect.rt:45:26
 of-token-requires : tie.Need-of-token-requires

@@ -8,9 +8,6 @@ use Rattle.preview.specs.Collecting.{PassesAs, passes-stopped, passes-fa
 use borrow.Author.Needs.{needs}
 use Rattle.preview.proofs.collect.passes.Statement.{statement}
 use Rattle.preview.proofs.collect.passes.Tie as tie
-use Rattle.preview.proofs.collect.passes.Reads as reads
-use Rattle.preview.proofs.collect.passes.Lts as lts
-use Rattle.preview.proofs.scratch.attempt.Reads as attempt-reads
 
 -- src/collect.rt:25:11
 attempt-requires : tie.Need-attempt-requires

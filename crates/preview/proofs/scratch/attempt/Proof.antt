@@ -12,14 +12,6 @@ use Rattle.moves.specs.declared.Run.{Run}
 use Rattle.preview.specs.Scratch.{registers-inside, places-inside, scratch-registers-inside, scratch-places-inside, running-copied, fed-copied, registers-reached, places-reached, cleared-by}
 use Rattle.preview.proofs.scratch.attempt.Statement.{statement}
 use Rattle.preview.proofs.scratch.attempt.Tie as tie
-use Rattle.preview.proofs.scratch.attempt.Reads as reads
-use Rattle.preview.proofs.scratch.attempt.Lts as lts
-use Rattle.engine.proofs.lent.clear_places.Reads as clear-places-reads
-use Rattle.engine.proofs.lent.clear_registers.Reads as clear-registers-reads
-use Rattle.machine.proofs.feed.Reads as feed-reads
-use Rattle.preview.proofs.scratch.copy_places.Reads as copy-places-reads
-use Rattle.preview.proofs.scratch.copy_registers.Reads as copy-registers-reads
-use Rattle.preview.proofs.scratch.reached.Reads as reached-reads
 
 -- the token's feed on the caller's own cells
 fed : (c : tie.After-feed) → (let a = c .before .before .before .before .before .before .before .before .before .before .before .before .before .before .before .args in Feeds (now (a .program)) (a .kind ∷ []) (a .value ∷ []) (now (a .registers)) (now (a .places)) (a .run) (c .feed .last .0) (c .feed .last .1 .0) (c .feed .result))

@@ -7,8 +7,6 @@ use borrow.Author.Needs.{needs}
 use Rattle.preview.specs.Scratch.{copiedTo, copied-more}
 use Rattle.preview.proofs.scratch.copy_places.Statement.{statement}
 use Rattle.preview.proofs.scratch.copy_places.Tie as tie
-use Rattle.preview.proofs.scratch.copy_places.Reads as reads
-use Rattle.preview.proofs.scratch.copy_places.Lts as lts
 
 abbrev Inv-loop : tie.InvT-loop
 Inv-loop from to₀ height i₀ to i = (i ≤ height) × (to ≡ copiedTo from to₀ i) × (length to ≡ length to₀)
@@ -41,10 +39,11 @@ loop-again : tie.Need-loop-again Inv-loop μ-loop
 loop-again c =
     let l = c .before .before .loop in
     let a = c .before .before .before in
-    let x = getD (now (a .args .from)) (l .i) 0 in
-    (omega arith,
+    let x = getD (now (a .args .from)) (l .i) 0 in (
+      omega arith,
       ap (λ z. set z (l .i) x) (l .inv .1) ∙ copied-more (now (a .args .from)) (now (a .args .to)) (l .i) 0 (omega (arith, a .pre .0)) (omega (arith, a .pre .1)),
-      length-set (l .to) (l .i) x ∙ l .inv .2)
+      length-set (l .to) (l .i) x ∙ l .inv .2,
+    )
 
 same-length : tie.Need-same-length Inv-loop μ-loop
 same-length c = c .before .loop .inv .2

@@ -11,8 +11,6 @@ use mir.Facts.{toZ-ofZ}
 use Rattle.preview.specs.Scratch.{copiedTo, copied-more}
 use Rattle.preview.proofs.scratch.copy_registers.Statement.{statement}
 use Rattle.preview.proofs.scratch.copy_registers.Tie as tie
-use Rattle.preview.proofs.scratch.copy_registers.Reads as reads
-use Rattle.preview.proofs.scratch.copy_registers.Lts as lts
 
 abbrev Inv-loop : tie.InvT-loop
 Inv-loop from to₀ height i₀ to i = (i ≤ height) × (to ≡ copiedTo from to₀ i) × (length to ≡ length to₀)
@@ -46,10 +44,11 @@ loop-again c =
     let l = c .before .before .loop in
     let a = c .before .before .before in
     let x = getD (now (a .args .from)) (l .i) (pos 0) in
-    let e : toZ w64 (ofZ w64 x) ≡ x = toZ-ofZ (sfits-of (c .to .given)) in
-    (omega arith,
+    let e : toZ w64 (ofZ w64 x) ≡ x = toZ-ofZ (sfits-of (c .to .given)) in (
+      omega arith,
       ap (λ z. set (l .to) (l .i) z) e ∙ (ap (λ z. set z (l .i) x) (l .inv .1) ∙ copied-more (now (a .args .from)) (now (a .args .to)) (l .i) (pos 0) (omega (arith, a .pre .0)) (omega (arith, a .pre .1))),
-      length-set (l .to) (l .i) (toZ w64 (ofZ w64 x)) ∙ l .inv .2)
+      length-set (l .to) (l .i) (toZ w64 (ofZ w64 x)) ∙ l .inv .2,
+    )
 
 same-length : tie.Need-same-length Inv-loop μ-loop
 same-length c = c .before .loop .inv .2
