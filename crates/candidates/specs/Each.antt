@@ -19,7 +19,9 @@ use Rattle.meaning_ranking.specs.RankCall.{evaluated, entryOf, Evaluation, andT
 use Rattle.theory_base.specs.Members.{T→true}
 use Rattle.theory_ranking.specs.Entries.{entriesOf, Ranged}
 use Rattle.theory_ranking.specs.Cells.{cells-append, length-cells, entries-cells, set-three}
-use Rattle.theory_ranking.specs.Caller.{ranged-more}
+use Rattle.theory_ranking.specs.Report.{countedFrom}
+use Rattle.theory_ranking.specs.Caller.{ranged-more, counted-more}
+use Rattle.theory_evaluating.specs.Values.{number-of}
 use Rattle.theory_evaluating.specs.Outcomes.{outcomeOf}
 use Rattle.fit.specs.Shown.{Shown, Readable}
 use Rattle.engine.specs.Records.{answerIs}
@@ -43,6 +45,7 @@ pub record AllDone (ws lengths ks : List ℕ) (us l₀ vs₀ : List ℤ) (ps₀ 
   pub evaluation : (g : Grammar) → Shown g ws → record { entries = entriesOf (length lengths) l; stacks = stacksOf vs ps } ≡ evaluations g 0 lengths ks us (stacksOf vs₀ ps₀)
   pub rest : drop (3 * length lengths) l ≡ drop (3 * length lengths) l₀
   pub ranged : Ranged (entriesOf (length lengths) l)
+  pub counted : countedFrom 0 (entriesOf (length lengths) l)
 
 -- the first i are evaluated, from `at` on the tokens of the others come
 pub record DoneTo (ws lengths ks : List ℕ) (us l₀ vs₀ : List ℤ) (ps₀ : List ℕ) (i at : ℕ) (l vs : List ℤ) (ps : List ℕ) (a b : ℕ) : Type 0 where
@@ -54,6 +57,7 @@ pub record DoneTo (ws lengths ks : List ℕ) (us l₀ vs₀ : List ℤ) (ps₀ :
   pub few : i ≤ length lengths
   pub clean : LentClean vs ps a b
   pub ranged : Ranged entries
+  pub counted : countedFrom 0 entries
 
 module _ (ws lengths ks : List ℕ) (us l₀ vs₀ : List ℤ) (ps₀ : List ℕ) where
   pub done-start : total lengths ≡ length ks → (a b : ℕ) → a ≡ min (length vs₀) 4096 → b ≡ min (length ps₀) 1024 → DoneTo ws lengths ks us l₀ vs₀ ps₀ 0 0 l₀ vs₀ ps₀ a b
@@ -70,6 +74,7 @@ module _ (ws lengths ks : List ℕ) (us l₀ vs₀ : List ℤ) (ps₀ : List ℕ
         few = omega arith;
         clean = subst (λ z. LentClean vs₀ ps₀ z b) x (subst (λ z. LentClean vs₀ ps₀ (length (take (min (length vs₀) 4096) vs₀)) z) y (clean-unknown (take (min (length vs₀) 4096) vs₀) (take (min (length ps₀) 1024) ps₀)));
         ranged = tt;
+        counted = tt;
       }
 
   module _ {i at : ℕ} {l vs : List ℤ} {ps : List ℕ} {a b : ℕ} (k : DoneTo ws lengths ks us l₀ vs₀ ps₀ i at l vs ps a b) where
@@ -98,9 +103,9 @@ module _ (ws lengths ks : List ℕ) (us l₀ vs₀ : List ℤ) (ps₀ : List ℕ
           let whole : l ≡ take (3 * i + 3) l ++ drop (3 * i + 3) l = sym (take-append-drop (3 * i + 3) l) in
           let front : take (3 * i) l ≡ cellsOf (k .entries) = ap (take (3 * i)) (k .isList) ∙ take-at (cellsOf (k .entries)) t (3 * i) cells-size in
           let back : drop (3 * i + 3) l ≡ drop (3 * (i + 1)) l₀ =
-              ap (drop (3 * i + 3)) (k .isList)
-              ∙ (ap (λ z. drop (z + 3) (cellsOf (k .entries) ++ t)) (sym cells-size)
-              ∙ (drop-append-add (cellsOf (k .entries)) t 3 ∙ (drop-drop 3 (3 * i) l₀ ∙ ap (λ z. drop z l₀) s))) in
+          ap (drop (3 * i + 3)) (k .isList)
+          ∙ (ap (λ z. drop (z + 3) (cellsOf (k .entries) ++ t)) (sym cells-size)
+          ∙ (drop-append-add (cellsOf (k .entries)) t 3 ∙ (drop-drop 3 (3 * i) l₀ ∙ ap (λ z. drop z l₀) s))) in
           ap (λ z. set (set (set z (3 * i) n) (3 * i + 1) v) (3 * i + 2) r) whole
           ∙ (set-three l (drop (3 * i + 3) l) (3 * i) n v r m
           ∙ (ap₂ (λ x y. x ++ (n ∷ v ∷ r ∷ y)) front back
@@ -141,6 +146,7 @@ module _ (ws lengths ks : List ℕ) (us l₀ vs₀ : List ℤ) (ps₀ : List ℕ
               few = omega arith;
               clean = d .clean;
               ranged = ranged-more (k .entries) f (k .ranged) (in-limits (answerIs (r .answer)) (d .ranged));
+              counted = counted-more (k .entries) f (k .counted) (number-of i (answerIs (r .answer)) ∙ ap pos (sym (k .size)));
             }
 
     -- none is left
@@ -156,4 +162,5 @@ module _ (ws lengths ks : List ℕ) (us l₀ vs₀ : List ℤ) (ps₀ : List ℕ
               let c : length (cellsOf (k .entries)) ≡ 3 * i = length-cells (k .entries) ∙ ap (λ n. 3 * n) (k .size) in
               ap (λ n. drop (3 * n) l) (sym z) ∙ (ap (drop (3 * i)) (k .isList) ∙ (drop-at (cellsOf (k .entries)) (drop (3 * i) l₀) (3 * i) c ∙ ap (λ n. drop (3 * n) l₀) z));
           ranged = subst Ranged (sym es) (k .ranged);
+          counted = subst (countedFrom 0) (sym es) (k .counted);
         }

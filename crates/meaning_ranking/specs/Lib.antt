@@ -1,3 +1,4 @@
 pub mod Ranking
 pub mod RankCall
+pub mod RankingStatements
 pub mod RankingRows

@@ -7,7 +7,7 @@ ghost use Rattle.meaning.specs.Base.{total};
 ghost use Rattle.meaning.specs.Program.{programOf};
 ghost use Rattle.meaning.specs.PublicCalls.{stacksOf};
 ghost use Rattle.meaning_ranking.specs.RankCall.{inOrder, rankOf};
-ghost use Rattle.theory_ranking.specs.Entries.{Ranged, entriesOf};
+ghost use Rattle.theory_ranking.specs.Entries.{Distinct, Ranged, entriesOf};
 ghost use Rattle.fit.specs.Shown.{Readable};
 ghost use Rattle.rank.specs.Answers.{rankIs};
 ghost use Rattle.rank.specs.Listing.{Reported, ListedAs};
@@ -21,7 +21,10 @@ pub enum Ranked {
         entries: usize,
     },
     // 37, 30 or 38 with 0, or one of the table's numbers with its offset.
-    Refused { number: u32, offset: u32 },
+    Refused {
+        number: u32,
+        offset: u32,
+    },
 }
 
 // ---- 37
@@ -60,10 +63,10 @@ fn in_order(lengths: &[u32], kinds: &[u8], list: &[i64]) -> bool
 
 // The first `count` entries in order, and what they come to.
 fn report(list: &mut [i64], count: usize) -> Ranked
-    requires { ⌜ (count ≤ 512) × (3 * count ≤ length (now list)) × Ranged (entriesOf count (now list)) ⌝ }
+    requires { ⌜ (count ≤ 512) × (3 * count ≤ length (now list)) × Ranged (entriesOf count (now list)) × Distinct (entriesOf count (now list)) ⌝ }
     ensures { λ r. ⌜ Reported count (now (list .entry)) (now (list .exit)) r ⌝ }
 {
-    ranking::rank(list, count);
+    sorting::rank(list, count);
     let valued = ranking::valued_count(list, count);
     let total = ranking::total(list, count);
     Ranked::Done {

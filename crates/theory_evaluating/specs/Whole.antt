@@ -11,20 +11,22 @@ use borrow.Author.Tests.{lt-ltb, le-ltb}
 use Rattle.meaning.specs.Base.{all}
 use Rattle.meaning.specs.Grammar.{Grammar, Leaf, leaves}
 use Rattle.meaning.specs.Rules.{fourBytes, WellFormed}
-use Rattle.meaning.specs.Machine.{Config, Lent, Settled, stopped, failed, opening, feedAll, finishAll}
+use Rattle.meaning.specs.Machine.{Config, Lent, Settled, stopped, failed, ends, opening, feedAll, finishAll}
 use Rattle.meaning.specs.Calls as Calls
 use Rattle.meaning.specs.Calls.{Stacks, Called, lentOf, layAll, recordOf, closedRecord, asBrought, refused, more, result, configOf, tokensFrom, afterFeed, afterFinish, openOf, finishOf}
 use Rattle.meaning_ranking.specs.RankCall.{fedOn, finishedOn, evaluated}
 use Rattle.theory_base.specs.Feeds.{even-feed, leaves-of}
 use Rattle.meaning.specs.Walk.{nothing}
 use Rattle.theory_answers.specs.Memory.{Within, lent-kept, lay-over, read-back, laid-fits}
-use Rattle.theory_answers.specs.Bounds.{within-move}
-use Rattle.theory_answers.specs.ShapeMemory.{at-stop}
+use Rattle.meaning.specs.Tree.{isLeafOf}
+use Rattle.meaning.specs.Value.{inRange}
+use Rattle.theory_answers.specs.Bounds.{Blocks, within-move}
+use Rattle.theory_answers.specs.ShapeMemory.{at-stop, result-ranged}
 use Rattle.theory_answers.specs.ShapeMoves.{ShapedAt}
 use Rattle.theory_answers.specs.Answers.{when-met}
-use Rattle.theory_answers.specs.Runs.{makes-keep, with-nothing, with-end, Fed, fed}
+use Rattle.theory_answers.specs.Runs.{makes-keep, with-nothing, with-end, Fed, FeedBlocks, fed, Finished, finished}
 use Rattle.theory_sound.specs.Follow.{Stopped}
-use Rattle.theory_sound.specs.CallSound.{Held, held-feed, opening-held, feed-is}
+use Rattle.theory_sound.specs.CallSound.{Held, held-feed, held-finish, opening-held, feed-is}
 
 -- what a finish after all tokens, or the refusal of one, leaves
 abbrev pub wholly : Grammar → Stacks → Settled → Called
@@ -54,6 +56,12 @@ module _ (g : Grammar) (m : Stacks) where
 
   abbrev flat : Bool
   flat = ltb (lentOf m .maxPlaces) 1
+
+  pub opened-31 : lentOf m .maxRegisters < length (opening g .registers) → openOf g m ≡ asBrought (refused 31 0) closedRecord m
+  opened-31 l = ap (λ b. openBy b flat) (lt-ltb (lentOf m .maxRegisters) (length (opening g .registers)) l)
+
+  pub opened-32 : length (opening g .registers) ≤ lentOf m .maxRegisters → lentOf m .maxPlaces < 1 → openOf g m ≡ asBrought (refused 32 0) closedRecord m
+  opened-32 r l = ap (λ b. openBy b flat) (le-ltb (lentOf m .maxRegisters) (length (opening g .registers)) r) ∙ ap (openBy false) (lt-ltb (lentOf m .maxPlaces) 1 l)
 
   module _ (ks : List ℕ) (vs : List ℤ) where
     pub evaluated-31 : lentOf m .maxRegisters < length (opening g .registers) → evaluated g m ks vs ≡ asBrought (refused 31 0) closedRecord m
@@ -89,6 +97,35 @@ module _ (g : Grammar) (m : Stacks) where
     stopped-within us c q =
         let l = with-nothing g (lentOf m) us (opening g) [] c (with-end g (lentOf m) us (opening g) [] c (led us c q .0)) in
         makes-keep g (lentOf m) (Within (lentOf m)) (λ k a b s h. within-move g (lentOf m) k a b s h) (l .made) within-opening
+
+    -- what a candidate comes to, keeping within the lent stacks
+    fed-at : (us : List Leaf) → Fed g (lentOf m) (opening g) us (feedAll g (lentOf m) us (opening g))
+    fed-at us = fed g (lentOf m) (opening g) us [] (opening g) (record { moves = []; made = λ vs b. nothing; few = omega arith }) tt (omega arith)
+
+    pub failed-at : (us : List Leaf) (c : Config) (k : ℕ) → feedAll g (lentOf m) us (opening g) ≡ failed c k → Within (lentOf m) c × FeedBlocks c k
+    failed-at us c k q =
+        let z = subst (Fed g (lentOf m) (opening g) us) q (fed-at us) in
+        let l = with-nothing g (lentOf m) us (opening g) (z .0) c (with-end g (lentOf m) us (opening g) (z .0) c (z .1)) in
+        (makes-keep g (lentOf m) (Within (lentOf m)) (λ k a b s h. within-move g (lentOf m) k a b s h) (l .made) within-opening, z .3)
+
+    module _ (us : List Leaf) (c : Config) (q : feedAll g (lentOf m) us (opening g) ≡ stopped c) where
+      finish-at : Finished g (lentOf m) (opening g) us (c .tokens) (finishAll g (lentOf m) c)
+      finish-at = finished g (lentOf m) (opening g) us c (led us c q .0)
+
+      pub ended-at : (d : Config) → finishAll g (lentOf m) c ≡ stopped d → Within (lentOf m) d
+      ended-at d e =
+          let z = subst (Finished g (lentOf m) (opening g) us (c .tokens)) e finish-at in
+          makes-keep g (lentOf m) (Within (lentOf m)) (λ k a b s h. within-move g (lentOf m) k a b s h) (with-nothing g (lentOf m) us (opening g) [] d (z .0) .made) within-opening
+
+      pub refused-at : (d : Config) (k : ℕ) → finishAll g (lentOf m) c ≡ failed d k → Within (lentOf m) d × Blocks ends d k
+      refused-at d k e =
+          let z = subst (Finished g (lentOf m) (opening g) us (c .tokens)) e finish-at in
+          (makes-keep g (lentOf m) (Within (lentOf m)) (λ k a b s h. within-move g (lentOf m) k a b s h) (with-nothing g (lentOf m) us (opening g) [] d (z .0) .made) within-opening, z .1)
+
+      pub value-at : T (all (isLeafOf g) us) → (d : Config) → finishAll g (lentOf m) c ≡ stopped d → T (inRange (result g d))
+      value-at t d e =
+          let h = held-finish g f (lentOf m) us c d (held-feed g f (lentOf m) [] us t (opening g) c start q) e in
+          result-ranged g f d (h .0 .shaped) (h .1)
 
     module _ (ks : List ℕ) (vs : List ℤ) (even : length ks ≡ length vs) where
       -- a token is refused

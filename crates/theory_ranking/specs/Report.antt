@@ -10,6 +10,7 @@ use lib.IntN.{ℤ, pos, _+ℤ_, +ℤ-assoc, +ℤ-comm}
 use lib.Signed.{ltZ}
 use Rattle.meaning.specs.Base.{In}
 use Rattle.meaning.specs.Order.{Shuffled, neither, kept, swapped, through}
+use Rattle.meaning_ranking.specs.RankingStatements.{Front}
 use Rattle.meaning_ranking.specs.Ranking.{Entry, number, value, valued, ahead, stands, before, Ranks, ranking, worth, totalOf, valuedOf}
 use Rattle.theory_ranking.specs.Entries.{Distinct, Ranged}
 use Rattle.theory_ranking.specs.Ordering.{absurdly, not-less, neither-less}
@@ -41,12 +42,6 @@ pub counted-one : (es rs : List Entry) → countedFrom 0 es → Ranks es rs → 
 counted-one es rs c r = ranking-one es rs (counted-distinct 0 es c) r
 
 -- ---- who stands in front
-
-pub record Front (x y : Entry) : Type 0 where
-  pub valuedFirst : valued y ≡ true → valued x ≡ true
-  pub highest : valued x ≡ true → valued y ≡ true → ltZ (value x) (value y) ≡ false
-  pub equals : valued x ≡ true → valued y ≡ true → value x ≡ value y → ltZ (number x) (number y) ≡ true
-  pub refused : valued x ≡ false → valued y ≡ false → ltZ (number x) (number y) ≡ true
 
 test-true : (b : Bool) → (b ≡ false → ⊥) → b ≡ true
 test-true true f = refl

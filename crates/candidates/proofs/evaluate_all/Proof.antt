@@ -8,7 +8,7 @@ use Rattle.candidates.proofs.evaluate_all.Statement.{statement}
 use Rattle.candidates.proofs.evaluate_all.Tie as tie
 
 abbrev Inv-loop : tie.InvT-loop
-Inv-loop registers₀ places₀ program list₀ kinds values lengths a₀ b₀ at₀ i₀ registers places list a b at i = 
+Inv-loop registers₀ places₀ program list₀ kinds values lengths a₀ b₀ at₀ i₀ registers places list a b at i =
     DoneTo program lengths kinds values list₀ registers₀ places₀ i at list registers places a b × (length registers ≡ length registers₀) × (length places ≡ length places₀) × (length list ≡ length list₀)
 
 abbrev μ-loop : tie.MeasureT-loop
@@ -32,7 +32,7 @@ smaller-requires-2 : tie.Need-smaller-requires-2 Inv-loop μ-loop
 smaller-requires-2 c κs = tt
 
 loop-holds : tie.Need-loop-holds Inv-loop μ-loop
-loop-holds c = 
+loop-holds c =
     let s = c .before .before .before .before .before .before in
     (done-start (now (s .args .program)) (now (s .args .lengths)) (now (s .args .kinds)) (now (s .args .values)) (now (s .args .list)) (now (s .args .registers)) (now (s .args .places)) (s .pre .2) (c .before .smaller .result) (c .smaller2 .result) (c .before .smaller .ensures) (c .smaller2 .ensures), refl, refl, refl)
 
@@ -64,7 +64,7 @@ part-evaluate-end-2 : tie.Need-part-evaluate-end-2 Inv-loop μ-loop
 part-evaluate-end-2 c = omega (arith, inside (c .before .before .before), c .before .before .before .before .before .before .before .before .before .before .before .before .pre .1)
 
 evaluate-requires : tie.Need-evaluate-requires Inv-loop μ-loop
-evaluate-requires c κs = 
+evaluate-requires c κs =
     let s = c .before .before .before .before .before .before .before .before .before .before .before .before .before in
     let l = c .before .before .before .before .before .before .loop in
     let n = c .before .before .before .before .word-at .result in
@@ -80,15 +80,18 @@ loop-less : tie.Need-loop-less Inv-loop μ-loop
 loop-less c = omega arith
 
 loop-again : tie.Need-loop-again Inv-loop μ-loop
-loop-again c = 
+loop-again c =
     let s = c .before .before .before .before .before .before .before .before .before .before .before .before .before .before .before .before .before .before .before .before in
     let l = c .before .before .before .before .before .before .before .before .before .before .before .before .before .loop in
     let w = c .before .before .before .before .before .before .before .before .before .before .before .word-at in
     let e = c .before .before .before .before .before .before .evaluate in
     let p = c .before .put in
-    let n : l .at + w .result - l .at ≡ w .result = omega arith in
-    (done-turn (now (s .args .program)) (now (s .args .lengths)) (now (s .args .kinds)) (now (s .args .values)) (now (s .args .list)) (now (s .args .registers)) (now (s .args .places)) (l .inv .0) (some-left (c .before .before .before .before .before .before .before .before .before .before .before)) (w .result) (w .ensures .0) _ _ (ap (λ k. take k (drop (l .at) (now (s .args .kinds)))) n) (ap (λ k. take k (drop (l .at) (now (s .args .values)))) n) (e .last .0) (e .last .1 .0) (e .result) (e .ensures) (omega (arith, some-left (c .before .before .before .before .before .before .before .before .before .before .before), s .pre .3, l .inv .3)) (p .last .0) (p .ensures),
-    e .kept .0 ∙ l .inv .1, e .kept .1 .0 ∙ l .inv .2, p .kept .0 ∙ l .inv .3)
+    let n : l .at + w .result - l .at ≡ w .result = omega arith in (
+      done-turn (now (s .args .program)) (now (s .args .lengths)) (now (s .args .kinds)) (now (s .args .values)) (now (s .args .list)) (now (s .args .registers)) (now (s .args .places)) (l .inv .0) (some-left (c .before .before .before .before .before .before .before .before .before .before .before)) (w .result) (w .ensures .0) _ _ (ap (λ k. take k (drop (l .at) (now (s .args .kinds)))) n) (ap (λ k. take k (drop (l .at) (now (s .args .values)))) n) (e .last .0) (e .last .1 .0) (e .result) (e .ensures) (omega (arith, some-left (c .before .before .before .before .before .before .before .before .before .before .before), s .pre .3, l .inv .3)) (p .last .0) (p .ensures),
+      e .kept .0 ∙ l .inv .1,
+      e .kept .1 .0 ∙ l .inv .2,
+      p .kept .0 ∙ l .inv .3,
+    )
 
 same-length : tie.Need-same-length Inv-loop μ-loop
 same-length c = c .before .loop .inv .1

@@ -39,7 +39,7 @@ same-length : tie.Need-same-length
 same-length c = search needs
 
 returns : tie.Need-returns
-returns c = 
+returns c =
     let s = c .before .before .before .before .before .before in
     let a = c .before .before .before .before .answer .given in
     let v = toZ-ofZ (sfits-of (c .before .before .before .known-told .given .0 .1)) in
@@ -49,7 +49,7 @@ same-length-2 : tie.Need-same-length-2
 same-length-2 c = search needs
 
 returns-2 : tie.Need-returns-2
-returns-2 c = 
+returns-2 c =
     let s = c .before .before .before .before .before .before in
     let a = c .before .before .before .before .answer2 .given in
     c .before .put-cells2 .ensures ∙ ap (λ z. putAt (now (s .args .list)) (s .args .i) (entryOf (s .args .i) (answerIs z))) (sym (a .1))
@@ -58,7 +58,7 @@ same-length-3 : tie.Need-same-length-3
 same-length-3 c = search needs
 
 returns-3 : tie.Need-returns-3
-returns-3 c = 
+returns-3 c =
     let s = c .before .before .before .before .before .before in
     let a = c .before .before .before .before .answer3 .given in
     c .before .put-cells3 .ensures ∙ ap (λ z. putAt (now (s .args .list)) (s .args .i) (entryOf (s .args .i) (answerIs z))) (sym (a .1))
@@ -67,7 +67,7 @@ same-length-4 : tie.Need-same-length-4
 same-length-4 c = search needs
 
 returns-4 : tie.Need-returns-4
-returns-4 c = 
+returns-4 c =
     let s = c .before .before .before .before .before .before in
     let a = c .before .before .before .before .answer4 .given in
     c .before .put-cells4 .ensures ∙ ap (λ z. putAt (now (s .args .list)) (s .args .i) (entryOf (s .args .i) (answerIs z))) (sym (a .1))

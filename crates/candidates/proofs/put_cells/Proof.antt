@@ -43,7 +43,7 @@ mul-t7 : tie.Need-mul-t7
 mul-t7 c = search needs
 
 slice-set-from-list-2 : tie.Need-slice-set-from-list-2
-slice-set-from-list-2 c = 
+slice-set-from-list-2 c =
     let l = set (now (c .args .list)) (3 * c .args .i) (toZ w64 (c .args .i)) in
     omega (arith, length-set l (3 * c .args .i + 1) (toZ w64 (ofZ w64 (c .args .value))), length-set (now (c .args .list)) (3 * c .args .i) (toZ w64 (c .args .i)))
 
@@ -51,7 +51,7 @@ same-length : tie.Need-same-length
 same-length c = search needs
 
 returns : tie.Need-returns
-returns c = 
+returns c =
     let small : c .args .i < 2 ^ 63 = omega (arith, c .pre, c .good .0 .1) in
     let n : toZ w64 (c .args .i) ≡ pos (c .args .i) = back-word (c .args .i) small in
     let r : toZ w64 (c .args .refusal) ≡ pos (c .args .refusal) = back-word (c .args .refusal) (omega (arith, c .fits .refusal .fits)) in

@@ -28,7 +28,7 @@ slice-aggregate-on-lent-2 : tie.Need-slice-aggregate-on-lent-2
 slice-aggregate-on-lent-2 c = sym (length-take-le _ _ (omega (arith, c .before .before .smaller2 .ensures)))
 
 on-lent-requires : tie.Need-on-lent-requires
-on-lent-requires c κs = 
+on-lent-requires c κs =
     let s = c .before .before .before .before .before .before .before in
     let n = c .before .before .before .smaller in
     let k = c .before .before .smaller2 in
@@ -41,7 +41,7 @@ same-length-2 : tie.Need-same-length-2
 same-length-2 c = search needs
 
 returns : tie.Need-returns
-returns c = 
+returns c =
     let s = c .before .before .before .before .before .before .before .before .before .before .before in
     let n = c .before .before .before .before .before .before .before .smaller in
     let k = c .before .before .before .before .before .before .smaller2 in

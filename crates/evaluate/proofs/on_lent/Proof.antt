@@ -13,7 +13,7 @@ unopened-requires : tie.Need-unopened-requires
 unopened-requires c κs = search needs
 
 returns : tie.Need-returns
-returns c = 
+returns c =
     let s = c .before .before .before .before .before .before in
     let w = c .before .before .word-at in
     narrow-as (now (s .args .program)) (now (s .args .kinds)) (now (s .args .values)) (now (s .args .registers)) (now (s .args .places)) (s .pre .0) (s .pre .1) (s .pre .4) (c .unopened .result) (omega (arith, c .before .if1 .taken, w .ensures .0)) (c .unopened .ensures)
@@ -22,7 +22,7 @@ unopened-requires-2 : tie.Need-unopened-requires-2
 unopened-requires-2 c κs = search needs
 
 returns-2 : tie.Need-returns-2
-returns-2 c = 
+returns-2 c =
     let s = c .before .before .before .before .before .before .before in
     let w = c .before .before .before .word-at in
     flat-as (now (s .args .program)) (now (s .args .kinds)) (now (s .args .values)) (now (s .args .registers)) (now (s .args .places)) (s .pre .0) (s .pre .1) (s .pre .4) (c .unopened2 .result) (omega (arith, c .before .before .if1 .left, w .ensures .0)) (c .before .if2 .taken) (c .unopened2 .ensures)
@@ -31,7 +31,7 @@ open-again-requires : tie.Need-open-again-requires
 open-again-requires c κs = search needs
 
 run-through-requires : tie.Need-run-through-requires
-run-through-requires c κs = 
+run-through-requires c κs =
     let s = c .before .before .before .before .before .before .before .before .before .before .before .before .before .before in
     let o = c .before .before .before .before .before .open-again in
     let w = c .before .before .before .before .before .before .before .before .before .before .word-at in
@@ -47,7 +47,7 @@ same-length-2 : tie.Need-same-length-2
 same-length-2 c = search needs
 
 returns-3 : tie.Need-returns-3
-returns-3 c = 
+returns-3 c =
     let s = c .before .before .before .before .before .before .before .before .before .before .before .before .before .before .before .before .before .before .before in
     let o = c .before .before .before .before .before .before .before .before .before .before .open-again in
     let w = c .before .before .before .before .before .before .before .before .before .before .before .before .before .before .before .word-at in

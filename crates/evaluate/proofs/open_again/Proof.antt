@@ -37,7 +37,7 @@ same-length-2 : tie.Need-same-length-2
 same-length-2 c = search needs
 
 returns : tie.Need-returns
-returns c = 
+returns c =
     let s = c .before .before .before .before .before .before .before .before in
     let k = s .pre .0 in
     let r = c .before .before .before .before .before .clear-registers .ensures in
@@ -45,9 +45,10 @@ returns c =
     let a = s .args .a in
     let b = s .args .b in
     let n = length-take-le a (now (s .args .registers)) (k .few) in
-    let m = length-take-le b (now (s .args .places)) (k .little) in
-    (ap (λ z. z ++ drop a (now (s .args .registers))) (r ∙ ap (λ i. replicate i mark) n) ∙ all-cleared mark (now (s .args .registers)) a (k .few) (k .registers),
-    ap (λ z. set z 0 32768) (ap (λ z. z ++ drop b (now (s .args .places))) (p ∙ ap (λ i. replicate i 0) m) ∙ all-cleared 0 (now (s .args .places)) b (k .little) (k .places)))
+    let m = length-take-le b (now (s .args .places)) (k .little) in (
+      ap (λ z. z ++ drop a (now (s .args .registers))) (r ∙ ap (λ i. replicate i mark) n) ∙ all-cleared mark (now (s .args .registers)) a (k .few) (k .registers),
+      ap (λ z. set z 0 32768) (ap (λ z. z ++ drop b (now (s .args .places))) (p ∙ ap (λ i. replicate i 0) m) ∙ all-cleared 0 (now (s .args .places)) b (k .little) (k .places)),
+    )
 
 pub open-again-spec : {M : Type 1} → statement M
 open-again-spec =

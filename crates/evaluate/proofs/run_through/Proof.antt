@@ -16,7 +16,7 @@ enum-known-next : tie.Need-enum-known-next
 enum-known-next c = search needs
 
 finish-requires : tie.Need-finish-requires
-finish-requires c κs = 
+finish-requires c κs =
     let s = c .before .before .before .before .before .before .before .before .before .before .before .before .before .before .before in
     let f = c .before .before .before .before .before .before .before .before .feed in
     let w = c .before .before .before .before .before .before .before .before .before .before .before .word-at in
@@ -24,7 +24,7 @@ finish-requires c κs =
     next-running (s .pre .1) (s .pre .0) (w .result) (w .ensures .0) (now (s .args .kinds)) (now (s .args .values)) (f .last .0) (f .last .1 .0) (f .result) (f .ensures) (n .given .0 .0) (n .given .1)
 
 finished-requires : tie.Need-finished-requires
-finished-requires c κs = 
+finished-requires c κs =
     let s = c .before .before .before .before .before .before .before .before .before .before .before .before .before .before .before .before .before .before .before .before in
     let f = c .before .before .before .before .before .before .before .before .before .before .before .before .before .feed in
     let w = c .before .before .before .before .before .before .before .before .before .before .before .before .before .before .before .before .word-at in
@@ -45,7 +45,7 @@ same-length-2 : tie.Need-same-length-2
 same-length-2 c = search needs
 
 returns : tie.Need-returns
-returns c = 
+returns c =
     let s = c .before .before .before .before .before .before .before .before .before .before .before .before .before .before .before .before .before .before .before .before .before in
     let f = c .before .before .before .before .before .before .before .before .before .before .before .before .before .before .feed in
     let w = c .before .before .before .before .before .before .before .before .before .before .before .before .before .before .before .before .before .word-at in
@@ -60,7 +60,7 @@ same-length-4 : tie.Need-same-length-4
 same-length-4 c = search needs
 
 returns-2 : tie.Need-returns-2
-returns-2 c = 
+returns-2 c =
     let s = c .before .before .before .before .before .before .before .before .before .before .before .before .before .before in
     let f = c .before .before .before .before .before .before .before .feed in
     let w = c .before .before .before .before .before .before .before .before .before .before .word-at in

@@ -25,7 +25,7 @@ same-length-4 : tie.Need-same-length-4
 same-length-4 c = search needs
 
 returns : tie.Need-returns
-returns c = 
+returns c =
     let k = c .before .before .before .before .before .before .before .before .before .rank in
     let n = c .before .n .given in
     passed-done (k .result) (k .last .1 .1 .1 .1 .0) (k .last .1 .0) (k .last .1 .1 .0) (k .last .1 .1 .1 .0) _ (k .ensures) (n .0 .0) (n .0 .1 .0) (n .0 .1 .1 .0) _ (search needs) (n .1)
@@ -43,7 +43,7 @@ same-length-8 : tie.Need-same-length-8
 same-length-8 c = search needs
 
 returns-2 : tie.Need-returns-2
-returns-2 c = 
+returns-2 c =
     let k = c .before .before .before .before .before .before .before .before .before .rank in
     let n = c .before .n2 .given in
     passed-refused (k .result) (k .last .1 .1 .1 .1 .0) (k .last .1 .0) (k .last .1 .1 .0) (k .last .1 .1 .1 .0) _ (k .ensures) (n .0 .0) (n .0 .1 .0) (n .1)

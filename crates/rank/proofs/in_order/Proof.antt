@@ -13,13 +13,13 @@ sum-of-requires : tie.Need-sum-of-requires
 sum-of-requires c κs = search needs
 
 returns-2 : tie.Need-returns-2
-returns-2 c = 
+returns-2 c =
     let s = c .before .before .before .before .before in
     let k = c .before .sum-of in
     not-summed (now (s .args .lengths)) (now (s .args .kinds)) (now (s .args .list)) (omega (arith, c .before .before .if1 .left)) (λ e. c .if2 .taken (k .ensures ∙ e))
 
 returns-3 : tie.Need-returns-3
-returns-3 c = 
+returns-3 c =
     let s = c .before .before .before .before .before in
     let k = c .before .sum-of in
     summed (now (s .args .lengths)) (now (s .args .kinds)) (now (s .args .list)) (omega (arith, c .before .before .if1 .left)) (sym (k .ensures) ∙ c .if2 .left)

@@ -24,7 +24,7 @@ enum-known-length : tie.Need-enum-known-length
 enum-known-length c = search needs
 
 rank-under-requires : tie.Need-rank-under-requires
-rank-under-requires c κs = 
+rank-under-requires c κs =
     let p = c .before .before .before .before .before .before .before .before .before .program-of in
     (standing-readable (written-made (p .ensures .1) (c .before .before .before .before .before .length .given .0 .0) (c .before .before .before .before .before .length .given .1)), sym (c .before .before .before .before .before .before .before .before .before .before .before .before .in-order .ensures) ∙ c .before .before .before .before .before .before .before .before .before .before .before .if1 .taken)
 
@@ -35,7 +35,7 @@ same-length-2 : tie.Need-same-length-2
 same-length-2 c = search needs
 
 returns : tie.Need-returns
-returns c = 
+returns c =
     let s = c .before .before .before .before .before .before .before .before .before .before .before .before .before .before in
     let p = c .before .before .before .before .program-of in
     let z = short-made (p .ensures .1) (c .enum-told .given .1) in
@@ -48,7 +48,7 @@ same-length-4 : tie.Need-same-length-4
 same-length-4 c = search needs
 
 returns-2 : tie.Need-returns-2
-returns-2 c = 
+returns-2 c =
     let s = c .before .before .before .before .before .before .before .before .before .before .before .before .before .before .before in
     let p = c .before .before .before .before .before .program-of in
     let n = c .before .number .given in
@@ -68,7 +68,7 @@ same-length-8 : tie.Need-same-length-8
 same-length-8 c = search needs
 
 returns-3 : tie.Need-returns-3
-returns-3 c = 
+returns-3 c =
     let s = c .before .before .before .before .before .before .before .before .before .before .before .before .before .before .before .before .before .before .before .before .before .before .before .before in
     let p = c .before .before .before .before .before .before .before .before .before .before .before .before .before .before .program-of in
     let n = c .before .before .before .before .before .before .before .before .before .before .length .given in

@@ -1,5 +1,8 @@
 use native.Mathlib.Omega.{arith}
 use denote.Ref.{now}
+use lib.ListN.{length}
+use Rattle.theory_ranking.specs.Entries.{entriesOf}
+use Rattle.theory_ranking.specs.Report.{counted-distinct}
 use Rattle.rank.specs.Listing.{suits, uneven-as, listed-as}
 use borrow.Author.Needs.{needs}
 use Rattle.rank.proofs.rank_under.Statement.{statement}
@@ -12,11 +15,11 @@ evaluate-all-requires : tie.Need-evaluate-all-requires
 evaluate-all-requires c κs = let s = c .before .before .before .before .before .before .before .before in let k = suits (now (s .args .lengths)) (now (s .args .kinds)) (now (s .args .list)) (s .pre .1) in (s .pre .0, c .before .before .before .if1 .left, k .summed, k .room)
 
 report-requires : tie.Need-report-requires
-report-requires c κs = 
+report-requires c κs =
     let s = c .before .before .before .before .before .before .before .before .before .before .before .before .before .before in
     let k = suits (now (s .args .lengths)) (now (s .args .kinds)) (now (s .args .list)) (s .pre .1) in
     let e = c .before .before .before .before .before .evaluate-all in
-    (k .few, omega (arith, k .room, e .kept .1 .1 .1 .0), e .ensures .ranged)
+    (k .few, omega (arith, k .room, e .kept .1 .1 .1 .0), e .ensures .ranged, counted-distinct 0 (entriesOf (length (now (s .args .lengths))) (e .last .1 .1 .1 .0)) (e .ensures .counted))
 
 same-length : tie.Need-same-length
 same-length c = search needs
@@ -28,7 +31,7 @@ same-length-3 : tie.Need-same-length-3
 same-length-3 c = search needs
 
 returns-2 : tie.Need-returns-2
-returns-2 c = 
+returns-2 c =
     let s = c .before .before .before .before .before .before .before .before .before .before .before .before .before .before .before .before in
     let k = suits (now (s .args .lengths)) (now (s .args .kinds)) (now (s .args .list)) (s .pre .1) in
     let e = c .before .before .before .before .before .before .before .evaluate-all in

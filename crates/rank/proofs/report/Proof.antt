@@ -15,7 +15,7 @@ valued-count-requires : tie.Need-valued-count-requires
 valued-count-requires c κs = search needs
 
 total-requires : tie.Need-total-requires
-total-requires c κs = 
+total-requires c κs =
     let s = c .before .before .before .before .before .before in
     let k = c .before .before .before .before .rank in
     (s .pre .0, omega (arith, s .pre .1, k .kept .0), report-ranged (s .args .count) (now (s .args .list)) (k .last .0) (s .pre .1) (k .ensures) (s .pre .2))
@@ -24,7 +24,7 @@ same-length : tie.Need-same-length
 same-length c = search needs
 
 returns : tie.Need-returns
-returns c = 
+returns c =
     let s = c .before .before .before .before .before .before .before in
     let k = c .before .before .before .before .before .rank in
     reported (s .args .count) (now (s .args .list)) (k .last .0) (s .pre .1) (k .ensures) (c .before .before .valued-count .result) _ (c .before .before .valued-count .ensures) (toZ-ofZ (sfits-of (c .total .ok)) ∙ c .total .ensures)

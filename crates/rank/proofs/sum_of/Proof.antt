@@ -30,7 +30,7 @@ loop-less : tie.Need-loop-less Inv-loop μ-loop
 loop-less c = omega arith
 
 loop-again : tie.Need-loop-again Inv-loop μ-loop
-loop-again c = 
+loop-again c =
     let l = c .before .before .loop in
     (omega arith, sum-turn (now (c .before .before .before .before .args .lengths)) (l .i) (l .sum) (c .word-at .result) (omega arith) (c .word-at .ensures .0) (l .inv .1), omega (arith, l .inv .2, c .word-at .ensures .1))
 

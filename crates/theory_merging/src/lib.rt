@@ -1,0 +1,1 @@
+// Two rankings merged are the ranking of both; no code.
