@@ -132,11 +132,13 @@ class Words(unittest.TestCase):
 
     def test_ranking(self):
         ranking = segment.Table(WORDS).rank([[0], [0, 2], [0, 1, 0, 2], [], [0, 0], [1]])
-        order = [(2, 2, None), (4, 2, None), (0, 1, None), (3, 0, None), (1, None, segment.Kind.UNEXPECTED_TOKEN), (5, None, segment.Kind.SEGMENT_OVER)]
+        refused = [(1, None, segment.Kind.UNEXPECTED_TOKEN), (5, None, segment.Kind.SEGMENT_OVER)]
+        order = [(2, 2, None), (4, 2, None), (0, 1, None), (3, 0, None), *refused]
         self.assertEqual((ranking.entries, ranking.valued, ranking.total), (order, 4, 5))
         lengths = segment.Table(LENGTHS)
         ranking = lengths.rank([[0, 0], [0], b""], [[4, 7], [41], []])
-        self.assertEqual([tuple(entry) for entry in ranking.entries], [(0, 11, None), (2, 0, None), (1, None, segment.Kind.CONDITION_FALSE)])
+        order = [(0, 11, None), (2, 0, None), (1, None, segment.Kind.CONDITION_FALSE)]
+        self.assertEqual([tuple(entry) for entry in ranking.entries], order)
         self.assertEqual(segment.Table(WORDS).rank([]), ([], 0, 0))
         self.assertEqual(segment.Table(WORDS).rank([[]] * 512).valued, 512)
         unfit = self.refused(37, 0, segment.Table(WORDS).rank, [[]] * 513)
