@@ -17,6 +17,7 @@
  *         36: the buffer for a table in house order is too short; with 0, and no byte of it is written
  *         37: there are too many candidates to rank, their lengths do not add up, or the list for them is too short; with 0
  *         38: the lists of kinds and values are of unequal length; with 0
+ *         39: the scratch of a preview is too short; with 0, and no cell of it is written
  *         40: the run waits for its inner run, or a third run would be opened; with 0
  *         42: a window's size, buffer or value is refused; no cell of the buffer is written
  * The numbers have names, SEGMENT_..., and segment_reason gives their words. On 1 to 13 and on 30 no register, place or program word is
@@ -79,6 +80,7 @@ enum segment_number {
     SEGMENT_OUTPUT_SHORT = 36,
     SEGMENT_CANDIDATES_UNFIT = 37,
     SEGMENT_LISTS_UNEQUAL = 38,
+    SEGMENT_SCRATCH_SHORT = 39,
     SEGMENT_RUN_WAITING = 40,
     SEGMENT_WINDOW_UNFIT = 42
 };
@@ -192,6 +194,26 @@ void segment_inner_give_up(const uint8_t *table, size_t table_length, segment_re
                            size_t registers_length, uint32_t *places, size_t places_length, uint32_t *program, size_t program_length,
                            uint32_t *number, uint64_t *count);
 
+/* What feeding one more token would give, tried on scratch stacks: the record and the stacks of the run are only read. The scratch has at
+ * least as many registers and places as count of those lent (at most SEGMENT_REGISTERS and SEGMENT_PLACES); that part of it ends cleared,
+ * registers to the mark and places to 0, and cells past it stay.
+ * *number: 0, or what a feed of this token is refused with; or 39 where the scratch is too short, after 34. On 39 and what is judged
+ * before it (30, 1 to 13, 33, 40, 34) no cell of the scratch is written and *after is the record as brought.
+ * *after: the record that the feed would hand back, with both heights. *count: as for a feed. */
+void segment_preview(const uint8_t *table, size_t table_length, const segment_record *record, const int64_t *registers,
+                     size_t registers_length, const uint32_t *places, size_t places_length, int64_t *scratch_registers,
+                     size_t scratch_registers_length, uint32_t *scratch_places, size_t scratch_places_length, uint32_t *program,
+                     size_t program_length, uint8_t kind, int32_t value, segment_record *after, uint32_t *number, uint64_t *count);
+
+/* The tokens whose preview is no refusal, token k as bit k of *tokens; the same value is tried for all of them. The end is no token. The
+ * scratch is as for a preview.
+ * *number: 0, or what turns a preview back: 30, 1 to 13, 33, 40, 34, 39; *tokens is then 0.
+ * *count: 0, or the table's offset. */
+void segment_may(const uint8_t *table, size_t table_length, const segment_record *record, const int64_t *registers,
+                 size_t registers_length, const uint32_t *places, size_t places_length, int64_t *scratch_registers,
+                 size_t scratch_registers_length, uint32_t *scratch_places, size_t scratch_places_length, uint32_t *program,
+                 size_t program_length, int32_t value, uint64_t *tokens, uint32_t *number, uint64_t *count);
+
 /* Ranked suggestions: at most so many candidates, and so many cells of the list for them. */
 #define SEGMENT_CANDIDATES 512
 #define SEGMENT_LIST_CELLS(candidates) (3 * (candidates))
@@ -300,6 +322,8 @@ SEGMENT_INLINE const char *segment_reason(uint32_t number) {
         return "there are more than 512 candidates, their lengths do not add up, or the list is too short";
     case SEGMENT_LISTS_UNEQUAL:
         return "the lists of kinds and values are of unequal length";
+    case SEGMENT_SCRATCH_SHORT:
+        return "the scratch is shorter than the part of the stacks that a run may use";
     case SEGMENT_RUN_WAITING:
         return "the run waits for its inner run, or a third run would be opened";
     case SEGMENT_WINDOW_UNFIT:

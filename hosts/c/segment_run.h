@@ -165,6 +165,71 @@ SEGMENT_INLINE segment_answer segment_run_finish(segment_run *run) {
     return a;
 }
 
+/* Memory to try tokens on: as many cells as the run's own. A segment_scratch_room is enough for every run. */
+typedef struct {
+    int64_t *registers;
+    size_t registers_length;
+    uint32_t *places;
+    size_t places_length;
+} segment_scratch;
+
+typedef struct {
+    int64_t registers[SEGMENT_REGISTERS];
+    uint32_t places[SEGMENT_PLACES];
+} segment_scratch_room;
+
+SEGMENT_INLINE segment_scratch segment_scratch_of(segment_scratch_room *room) {
+    segment_scratch s;
+    s.registers = room->registers;
+    s.registers_length = SEGMENT_REGISTERS;
+    s.places = room->places;
+    s.places_length = SEGMENT_PLACES;
+    return s;
+}
+
+/* The scratch, and the run's program area. */
+SEGMENT_INLINE segment_memory segment_tried(const segment_run *run, segment_scratch scratch) {
+    segment_memory m;
+    m.registers = scratch.registers;
+    m.registers_length = scratch.registers_length;
+    m.places = scratch.places;
+    m.places_length = scratch.places_length;
+    m.program = run->memory.program;
+    m.program_length = run->memory.program_length;
+    return segment_lent(m);
+}
+
+/* What feeding one more token would answer; *after, where it is not NULL, is the record that the feed would hand back. The run stays as it
+ * is, its program area aside, which every call writes. */
+SEGMENT_INLINE segment_answer segment_run_preview(segment_run *run, segment_scratch scratch, uint8_t kind, int32_t value,
+                                                  segment_record *after) {
+    segment_answer a = {0, 0, 0};
+    segment_record next;
+    const segment_memory *m = &run->memory;
+    const segment_memory s = segment_tried(run, scratch);
+    segment_preview(run->table, run->table_length, &run->record, m->registers, m->registers_length, m->places, m->places_length,
+                    s.registers, s.registers_length, s.places, s.places_length, s.program, s.program_length, kind, value, &next,
+                    &a.number, &a.count);
+    if (a.number == SEGMENT_OK) {
+        a.count = next.moves < run->spent ? 0 : next.moves - run->spent;
+    }
+    if (after) {
+        *after = next;
+    }
+    return a;
+}
+
+/* The tokens that may come next, with this value for those that carry one: SEGMENT_HAS(tokens, k) says whether token k is among them. */
+#define SEGMENT_HAS(tokens, kind) ((kind) < 64 && ((tokens) >> (kind) & 1) == 1)
+SEGMENT_INLINE segment_answer segment_run_may(segment_run *run, segment_scratch scratch, int32_t value, uint64_t *tokens) {
+    segment_answer a = {0, 0, 0};
+    const segment_memory *m = &run->memory;
+    const segment_memory s = segment_tried(run, scratch);
+    segment_may(run->table, run->table_length, &run->record, m->registers, m->registers_length, m->places, m->places_length, s.registers,
+                s.registers_length, s.places, s.places_length, s.program, s.program_length, value, tokens, &a.number, &a.count);
+    return a;
+}
+
 /* An inner run, over the memory of an outer one: its table and its record. Read the fields; write none. The outer run's budget of moves is
  * the inner run's too, for its own moves. */
 typedef struct {
