@@ -1,4 +1,5 @@
-/* The functions over a segment_run and a segment_inner_run, at their edges, a ranking, house order, and a window. */
+/* The functions over a segment_run and a segment_inner_run, at their edges, previews, a ranking, house order, and a
+ * window. */
 #include "segment.h"
 
 #include <stdio.h>
@@ -158,6 +159,47 @@ static void inner_runs(void) {
     MUST(is(segment_inner_run_feed(&note, tokens, 4), SEGMENT_TOO_MUCH, 2) && segment_inner_run_moves(&note) == 11);
 }
 
+/* Words and tags, stopped after word open, and what may come: the run stays as it is. */
+static void previews(void) {
+    static const uint8_t tokens[] = {0, 1, 0, 2};
+    static segment_scratch_room cells;
+    segment_scratch scratch = segment_scratch_of(&cells), none;
+    segment_record before, after;
+    segment_inner_run note;
+    segment_answer a;
+    uint64_t set = 7;
+    int64_t register_before;
+    memset(&none, 0, sizeof none);
+    cells.registers[0] = 7;
+    cells.places[0] = 9;
+    MUST(is(segment_run_open(&run, words, sizeof words, segment_memory_of(&room)), SEGMENT_OK, 0));
+    MUST(is(segment_run_may(&run, scratch, 0, &set), SEGMENT_OK, 0) && set == 3 && SEGMENT_HAS(set, 1) && !SEGMENT_HAS(set, 2));
+    MUST(is(segment_run_feed(&run, tokens, 2), SEGMENT_OK, 11));
+    before = run.record;
+    register_before = room.registers[6];
+    a = segment_run_preview(&run, scratch, 0, 0, &after);
+    MUST(is(a, SEGMENT_OK, 15) && after.tokens == 3 && after.registers == 9 && after.places == 5);
+    MUST(is(segment_run_preview(&run, scratch, 2, 0, NULL), SEGMENT_OK, 17));
+    MUST(is(segment_run_preview(&run, scratch, 3, 0, &after), SEGMENT_UNKNOWN_TOKEN, 2) && after.status == SEGMENT_STATUS_CLOSED);
+    MUST(is(segment_run_preview(&run, none, 0, 0, &after), SEGMENT_SCRATCH_SHORT, 0) && memcmp(&after, &before, sizeof after) == 0);
+    scratch.places_length = SEGMENT_PLACES - 1;
+    cells.registers[0] = 7;
+    MUST(is(segment_run_may(&run, scratch, 0, &set), SEGMENT_SCRATCH_SHORT, 0) && set == 0 && cells.registers[0] == 7);
+    scratch.places_length = SEGMENT_PLACES;
+    MUST(is(segment_run_may(&run, scratch, 0, &set), SEGMENT_OK, 0) && set == 7);
+    MUST(cells.registers[0] == SEGMENT_MARK && cells.places[0] == 0 && cells.places[3] == 0 && room.registers[6] == register_before);
+    MUST(memcmp(&run.record, &before, sizeof before) == 0);
+    MUST(is(segment_inner_run_open(&note, &run, words, sizeof words), SEGMENT_OK, 0));
+    MUST(is(segment_run_preview(&run, scratch, 0, 0, NULL), SEGMENT_RUN_WAITING, 0));
+    MUST(is(segment_inner_run_give_up(&note), SEGMENT_OK, 0));
+    MUST(is(segment_run_feed(&run, tokens + 2, 2), SEGMENT_OK, 23) && segment_run_finish(&run).value == 2);
+    MUST(is(segment_run_may(&run, none, 0, &set), SEGMENT_RUN_CLOSED, 0) && set == 0);
+    MUST(is(segment_run_open_with_budget(&run, lengths, sizeof lengths, segment_memory_of(&room), 7), SEGMENT_OK, 0));
+    MUST(is(segment_run_may(&run, scratch, 4, &set), SEGMENT_OK, 0) && set == 2);
+    MUST(is(segment_run_preview(&run, scratch, 0, 4, &after), SEGMENT_TOO_MUCH, 1));
+    MUST(is(segment_run_feed(&run, tokens + 1, 1), SEGMENT_OK, 7));
+}
+
 /* Five candidates of lengths: 4 letters, none, refused, 11 letters, 4 letters; then what is turned back. */
 static void rankings(void) {
     static const uint8_t kinds[] = {0, 2, 0, 1, 0, 2, 0};
@@ -243,6 +285,7 @@ int main(void) {
     many_tokens();
     budgets();
     inner_runs();
+    previews();
     rankings();
     house();
     windows();

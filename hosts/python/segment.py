@@ -63,6 +63,7 @@ class Kind(enum.IntEnum):
     OUTPUT_SHORT = 36
     CANDIDATES_UNFIT = 37
     LISTS_UNEQUAL = 38
+    SCRATCH_SHORT = 39
     RUN_WAITING = 40
     WINDOW_UNFIT = 42
 
@@ -96,6 +97,7 @@ REASONS = {
     Kind.OUTPUT_SHORT: "the output buffer is too short",
     Kind.CANDIDATES_UNFIT: "there are more than 512 candidates, their lengths do not add up, or the list is too short",
     Kind.LISTS_UNEQUAL: "the lists of kinds and values are of unequal length",
+    Kind.SCRATCH_SHORT: "the scratch is shorter than the part of the stacks that a run may use",
     Kind.RUN_WAITING: "the run waits for its inner run, or a third run would be opened",
     Kind.WINDOW_UNFIT: "the window's size, buffer or value does not fit",
 }
@@ -126,8 +128,8 @@ class Refusal(Exception):
 
     @property
     def tokens(self):
-        """The tokens read. The refusals 30, 33, 34, 36, 37, 38, 40 and 42 tell none."""
-        return self.count if self.number > 14 and self.number not in (30, 33, 34, 36, 37, 38, 40, 42) else None
+        """The tokens read. The refusals 30, 33, 34, 36 to 40 and 42 tell none."""
+        return self.count if self.number > 14 and self.number not in (30, 33, 34, 36, 37, 38, 39, 40, 42) else None
 
     def _words(self):
         where = ""
@@ -277,6 +279,9 @@ class Table:
         return rank(self.bytes, candidates, values)
 
 
+Preview = collections.namedtuple("Preview", "refusal tokens moves registers places is_open")
+Preview.__doc__ = "What feeding a token would give: its Refusal or None, tokens, moves and heights then, and whether the run would go on."
+
 Entry = collections.namedtuple("Entry", "number value refusal")
 Entry.__doc__ = "A candidate in a ranking: its number, counted from 0, its value or None, and why it has none, a Kind, or None."
 
@@ -363,6 +368,7 @@ class Run:
         self._memory = [part for cells, n in zip(self._cells, lengths) for part in (cells, ctypes.c_size_t(n))]
         self.record = Record()
         self.value = None
+        self._scratch = None
         self.open()
 
     def with_budget(self, moves):
@@ -400,6 +406,31 @@ class Run:
         """Opens an inner run, say for a footnote, under a table of its own and above what this run has in use. This run waits until the
         inner one ends; then it stands as before. The inner segment has a budget of as many moves as this one."""
         return InnerRun(self, table)
+
+    def preview(self, kind, value=0):
+        """What feeding this token would give, a Preview; the run stays as it is."""
+        after, number, count = Record(), ctypes.c_uint32(), ctypes.c_uint64()
+        token = ctypes.c_uint8(kind), ctypes.c_int32(value)
+        _call("segment_preview", *self._tried(), *token, *map(ctypes.byref, (after, number, count)))
+        refusal = Refusal(number.value, count.value) if number.value else None
+        moves = max(0, after.moves - self._spent)
+        return Preview(refusal, after.tokens, moves, after.registers, after.places, after.status != CLOSED)
+
+    def may_follow(self, value=0):
+        """The tokens that may come next, rising: those whose preview with this value is no refusal. Whether the segment may end here is
+        not among them."""
+        tokens, number, count = ctypes.c_uint64(), ctypes.c_uint32(), ctypes.c_uint64()
+        _call("segment_may", *self._tried(), ctypes.c_int32(value), *map(ctypes.byref, (tokens, number, count)))
+        if number.value:
+            raise Refusal(number.value, count.value)
+        return [kind for kind in range(64) if tokens.value >> kind & 1]
+
+    def _tried(self):
+        """What a preview is brought: the run as it stands, and scratch, which is made with the first."""
+        if self._scratch is None:
+            cells = [type(part)() for part in self._cells[:2]]
+            self._scratch = [part for of in cells for part in (of, ctypes.c_size_t(len(of)))]
+        return *self._table, ctypes.byref(self.record), *self._memory[:4], *self._scratch, *self._memory[4:]
 
     @property
     def moves(self):

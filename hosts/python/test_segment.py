@@ -130,13 +130,38 @@ class Words(unittest.TestCase):
         self.refused(2, 97, segment.house_order, WORDS[:100])
         self.refused(3, 0, segment.house_order, b"")
 
+    def test_previews(self):
+        run = segment.Table(WORDS).run(20, 9)
+        self.assertEqual(run.may_follow(), [0, 1])
+        run.feed([0, 1])
+        before = (run.registers, run.places, bytes(run.record))
+        self.assertEqual([run.preview(k) for k in (0, 2)], [(None, 3, 15, 9, 5, True), (None, 3, 17, 8, 4, True)])
+        unknown = run.preview(3)
+        self.assertEqual((unknown.refusal.number, unknown.refusal.tokens, unknown.is_open), (20, 2, False))
+        self.assertEqual((run.may_follow(), run.registers, run.places, bytes(run.record)), ([0, 1, 2], *before))
+        with run.open_inner(segment.Table(WORDS)):
+            self.refused(40, 0, run.may_follow)
+            self.assertEqual(run.preview(0).refusal.kind, segment.Kind.RUN_WAITING)
+        self.assertEqual(run.may_follow(), [0, 1, 2])
+        run.feed([0, 2])
+        run.finish()
+        self.refused(33, 0, run.may_follow)
+        self.assertEqual((run.preview(0).refusal.number, run.preview(0).tokens), (33, 4))
+        lengths = segment.Table(LENGTHS).run()
+        self.assertEqual((lengths.may_follow(), lengths.may_follow(40), lengths.may_follow(41)), ([1], [0, 1], [1]))
+        self.assertEqual((lengths.preview(0, 40).moves, lengths.preview(0).refusal.number), (8, 22))
+        budget = segment.Table(WORDS).run(budget=7)
+        self.assertEqual((budget.preview(0).moves, budget.preview(1).refusal, budget.with_budget(6).may_follow()), (7, None, []))
+
     def test_ranking(self):
         ranking = segment.Table(WORDS).rank([[0], [0, 2], [0, 1, 0, 2], [], [0, 0], [1]])
-        order = [(2, 2, None), (4, 2, None), (0, 1, None), (3, 0, None), (1, None, segment.Kind.UNEXPECTED_TOKEN), (5, None, segment.Kind.SEGMENT_OVER)]
+        refused = [(1, None, segment.Kind.UNEXPECTED_TOKEN), (5, None, segment.Kind.SEGMENT_OVER)]
+        order = [(2, 2, None), (4, 2, None), (0, 1, None), (3, 0, None), *refused]
         self.assertEqual((ranking.entries, ranking.valued, ranking.total), (order, 4, 5))
         lengths = segment.Table(LENGTHS)
         ranking = lengths.rank([[0, 0], [0], b""], [[4, 7], [41], []])
-        self.assertEqual([tuple(entry) for entry in ranking.entries], [(0, 11, None), (2, 0, None), (1, None, segment.Kind.CONDITION_FALSE)])
+        order = [(0, 11, None), (2, 0, None), (1, None, segment.Kind.CONDITION_FALSE)]
+        self.assertEqual([tuple(entry) for entry in ranking.entries], order)
         self.assertEqual(segment.Table(WORDS).rank([]), ([], 0, 0))
         self.assertEqual(segment.Table(WORDS).rank([[]] * 512).valued, 512)
         unfit = self.refused(37, 0, segment.Table(WORDS).rank, [[]] * 513)
@@ -185,7 +210,7 @@ class Names(unittest.TestCase):
         kinds = re.findall(r'^    (\w+) = (\d+), "(.*)";$', read("rust/src/refusal.rs"), re.M)
         upper = lambda name: re.sub(r"(?<!^)([A-Z])", r"_\1", name).upper()
         self.kinds = [(upper(name), int(number), words) for name, number, words in kinds]
-        self.assertEqual(len(self.kinds), 30)
+        self.assertEqual(len(self.kinds), 31)
 
     def test_python(self):
         self.assertEqual([(k.name, k.value, segment.REASONS[k]) for k in segment.Kind], self.kinds)

@@ -1,5 +1,6 @@
 //! Measures the proved engine beside the plain one: same machine, same run, same input.
 mod engines;
+mod previews;
 mod rankings;
 
 use engines::{Engine, InPlace, Plain, Proved};
@@ -295,6 +296,7 @@ fn main() {
     call_without_tokens();
     run_segments();
     footnotes();
+    previews::previews();
     rankings::rankings();
     house_order();
     windows();

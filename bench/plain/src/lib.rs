@@ -3,6 +3,7 @@ pub mod house;
 pub mod inner;
 pub mod judge;
 pub mod listing;
+pub mod preview;
 pub mod program;
 pub mod rank;
 pub mod run;
@@ -38,6 +39,7 @@ mod tests {
     fn samples_are_what_they_say() {
         assert!(check(&samples::words()).is_ok());
         assert!(check(&samples::lengths()).is_ok());
+        assert!(check(&samples::many_kinds()).is_ok());
         for (n, third, conditions) in [(1, 0, 0), (4, 2, 8), (47, 33, 512)] {
             let table = samples::chain(n, third, conditions);
             assert!(check(&table).is_ok(), "{n}");
@@ -65,6 +67,7 @@ mod tests {
         let is = |answer, v| matches!(answer, run::Answer::Value(found, _) if found == v);
         assert!(is(value(&samples::words(), &[0, 1, 0, 2]), 2));
         assert!(is(value(&samples::lengths(), &[0, 1, 0, 2]), 1 + 3));
+        assert!(is(value(&samples::many_kinds(), &[61, 1, 2, 2, 0, 0, 0, 0, 0, 7, 62]), 11));
         assert!(is(value(&samples::lines(), &samples::lines_segment()), 65535 + 559));
         assert!(is(value(&samples::brackets(), &samples::brackets_segment(1000)), 1000));
         assert!(matches!(value(&samples::chain(47, 33, 512), &samples::chain_segment(10)), run::Answer::Value(..)));

@@ -1,4 +1,5 @@
 //! Answers the commands of the vectors: see vectors/README.md.
+use plain::preview::{may, preview, Scratch, Stopped};
 use plain::run::{feed, finish, open, Answer, Kind, Record, Status, MARK};
 use plain::{inner, rank};
 use std::io::{BufRead, Write};
@@ -63,6 +64,15 @@ fn record_text(r: &Record) -> String {
     format!("{state} {} {} {} {}{begins}", r.tokens, r.moves, r.registers, r.places)
 }
 
+fn answer_text(answer: Answer) -> String {
+    match answer {
+        Answer::Opened => "opened".into(),
+        Answer::More(n) => format!("more {n}"),
+        Answer::Value(v, n) => format!("value {v} {n}"),
+        Answer::Refused(k, n) => format!("refused {k} {n}"),
+    }
+}
+
 fn main() {
     let mut out = std::io::BufWriter::new(std::io::stdout().lock());
     let (mut record, mut inside) = (Record::default(), Record::default());
@@ -122,6 +132,27 @@ fn main() {
                 writeln!(out, " | {} | {} | {}", cells_text(&cells), cells_text(&rs), joined(&ps, |p| p.to_string())).unwrap();
                 continue;
             }
+            "show" => {
+                let shown = (record_text(&record), cells_text(&registers), joined(&places, |p| p.to_string()));
+                writeln!(out, "{} | {} | {}", shown.0, shown.1, shown.2).unwrap();
+                continue;
+            }
+            "preview" | "may" => {
+                let k = w.len() - 1;
+                let (mut rs, mut ps, area) = (vec![7; number(k - 2)], vec![9; number(k - 1)], &mut vec![0; number(k)]);
+                let (table, value) = (hex(w[1]), w[k - 3].parse().unwrap());
+                let stopped = Stopped { record, registers: &registers, places: &places };
+                let scratch = Scratch { registers: &mut rs, places: &mut ps };
+                let text = if w[0] == "preview" {
+                    let (record, answer) = preview(&table, stopped, scratch, area, hex(w[2])[0], value);
+                    format!("{} | {}", answer_text(answer), record_text(&record))
+                } else {
+                    let tokens = |set: u64| joined(&(0..63).filter(|t| set >> t & 1 == 1).collect::<Vec<_>>(), |t| t.to_string());
+                    may(&table, stopped, scratch, area, value).map_or_else(answer_text, |set| format!("tokens {}", tokens(set)))
+                };
+                writeln!(out, "{text} | {} | {}", cells_text(&rs), joined(&ps, |p| p.to_string())).unwrap();
+                continue;
+            }
             "set" => {
                 let (r, k) = record_at(&w, 1);
                 record = r;
@@ -169,12 +200,7 @@ fn main() {
         };
         record = outcome.0;
         inside = outcome.1.unwrap_or(inside);
-        let answer = match outcome.2 {
-            Answer::Opened => "opened".into(),
-            Answer::More(n) => format!("more {n}"),
-            Answer::Value(v, n) => format!("value {v} {n}"),
-            Answer::Refused(k, n) => format!("refused {k} {n}"),
-        };
+        let answer = answer_text(outcome.2);
         let records = match outcome.1 {
             None => record_text(&record),
             Some(inner) => format!("{} | {}", record_text(&record), record_text(&inner)),

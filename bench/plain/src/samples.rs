@@ -252,6 +252,23 @@ pub fn lines_segment() -> Vec<u8> {
     s
 }
 
+/// A list of 63 kinds of tokens, the most there can be, which counts them; a token of an odd number comes only among the first ten.
+pub fn many_kinds() -> Vec<u8> {
+    let mut t = start(&[]);
+    t[3] = 63;
+    for kind in 0..63 {
+        field(&mut t, 3, &[1, 2, kind, 129]);
+        field(&mut t, 4, &[2, 1, 7, 0, 1, 0, 0, 0, 1]);
+        field(&mut t, 4, &[0, 2, 7, 2, 2, 0, 0, 0, 1]);
+        if kind % 2 == 1 {
+            field(&mut t, 5, &[0, 0, 1, 0, 0, 0, 0, 0, 0, 0, 9]);
+        }
+    }
+    field(&mut t, 3, &[1, 0]);
+    field(&mut t, 4, &[0, 2, 0, 0, 0, 0, 0]);
+    t
+}
+
 /// Brackets around one token: 0 opens, 1 closes, 2 is inside; the value is the depth.
 pub fn brackets() -> Vec<u8> {
     let mut t = start(&[]);

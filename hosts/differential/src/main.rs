@@ -1,7 +1,7 @@
 //! Compares the proved engine, through the host library, with the plain one on random calls: valid and damaged tables, segments in any
 //! pieces, inner runs inside them, forged records and stacks, short memory. After each call the answer, both records and every register,
-//! place and program word are compared, with some cells past those lent. So are tables in house order (`house`), rankings of candidates
-//! (`ranks`) and the calls on windows (`windows`).
+//! place and program word are compared, with some cells past those lent. So are previews of tokens (`tries`), tables in house order
+//! (`house`), rankings of candidates (`ranks`) and the calls on windows (`windows`).
 //!
 //!     differential [SEED [CALLS]]
 mod forge;
@@ -13,6 +13,7 @@ mod ranks;
 mod records;
 mod segments;
 mod tables;
+mod tries;
 mod windows;
 
 use pair::{Call, Lengths, Pair};
@@ -166,6 +167,9 @@ impl Comparison {
             if self.r.chance(15) {
                 inside::run(self, &mut pair, &table.bytes)?;
             }
+            if self.r.chance(12) {
+                tries::run(self, &pair, &table.bytes)?;
+            }
             let longest = if self.r.chance(70) { segment.len() - at } else { 3 };
             let end = segment.len().min(at + self.r.below(longest + 1));
             let values = self.values(end - at);
@@ -181,6 +185,9 @@ impl Comparison {
             inside::run(self, &mut pair, &table.bytes)?;
         }
         self.call(&mut pair, &table.bytes, Call::Finish)?;
+        if self.r.chance(5) {
+            tries::run(self, &pair, &table.bytes)?;
+        }
         Ok(())
     }
 
@@ -229,7 +236,7 @@ impl Comparison {
     /// The numbers of 01 and 02 that no call was refused with.
     fn missing(&self) -> Vec<u32> {
         let seen = |n: &u32| self.answers.keys().any(|(_, number)| number == n);
-        (1..=14).chain(20..=24).chain(30..=35).chain(36..=38).chain([40, 42]).filter(|n| !seen(n)).collect()
+        (1..=14).chain(20..=24).chain(30..=35).chain(36..=40).chain([42]).filter(|n| !seen(n)).collect()
     }
 }
 

@@ -4,6 +4,7 @@ use crate::records::{brought, handed};
 use plain::inner;
 use plain::run::{self, Answer};
 use segment::lent::{self, Memory, Record};
+use segment::Refusal;
 use std::fmt::Debug;
 
 /// Cells past those lent, which no call may touch.
@@ -188,6 +189,22 @@ impl Pair {
         same("record in place", self.records.outer, record)?;
         self.cells.same(&self.others)?;
         Ok(answer.map_or_else(|r| (r.number(), 0, r.count()), |moves| (0, 0, moves)))
+    }
+
+    /// The registers and places that are lent.
+    pub fn lent(&self) -> (&[i64], &[u32]) {
+        (&self.cells.registers[..self.lengths.registers], &self.cells.places[..self.lengths.places])
+    }
+
+    /// Feeds one token in the proved engine alone.
+    pub fn feed(&mut self, table: &[u8], kind: u8, value: i32) -> Result<u64, Refusal> {
+        lent::feed(table, &mut self.records.outer, &mut self.cells.lent(self.lengths), &[kind], &[value])
+    }
+
+    /// Whether records and cells are those of another pair.
+    pub fn unchanged(&self, before: &Pair) -> Result<(), String> {
+        same("records", self.records, before.records)?;
+        self.cells.same(&before.cells)
     }
 
     /// Lends other lengths from now on, at most those made.

@@ -22,6 +22,7 @@ extern crate alloc;
 
 mod inner;
 pub mod lent;
+mod preview;
 mod rank;
 mod refusal;
 mod run;
@@ -31,6 +32,7 @@ pub mod window;
 
 pub use inner::InnerRun;
 pub use lent::check;
+pub use preview::{Preview, TokenSet};
 pub use rank::{Entry, Ranking};
 pub use refusal::{Kind, Refusal};
 pub use run::{Run, MOVES};

@@ -80,6 +80,7 @@ kinds! {
     OutputShort = 36, "the output buffer is too short";
     CandidatesUnfit = 37, "there are more than 512 candidates, their lengths do not add up, or the list is too short";
     ListsUnequal = 38, "the lists of kinds and values are of unequal length";
+    ScratchShort = 39, "the scratch is shorter than the part of the stacks that a run may use";
     RunWaiting = 40, "the run waits for its inner run, or a third run would be opened";
     WindowUnfit = 42, "the window's size, buffer or value does not fit";
 }
@@ -97,7 +98,8 @@ impl Refusal {
     }
 
     /// The number: 1 to 14 for a table, 20 to 24 for a segment, 30 to 35 and 40 for the state of a run, 36 for a buffer to
-    /// write into, 37 for candidates and their list, 38 for lists of tokens, 42 for a window.
+    /// write into, 37 for candidates and their list, 38 for lists of tokens, 39 for the scratch of a
+    /// preview, 42 for a window.
     #[must_use]
     pub const fn number(&self) -> u32 {
         self.number
@@ -122,7 +124,7 @@ impl Refusal {
         (self.number <= 14).then_some(self.count)
     }
 
-    /// The tokens read before the segment or the run was refused. The refusals 30, 33, 34, 38 and 40 tell none, since no token was
+    /// The tokens read before the segment or the run was refused. The refusals 30, 33, 34 and 38 to 40 tell none, since no token was
     /// looked at, nor do 36, 37 and 42.
     #[must_use]
     pub fn tokens(&self) -> Option<u64> {

@@ -15,7 +15,7 @@ pub const MOVES: u64 = 4_294_967_295;
 /// table anew, since the library keeps nothing: feed in large pieces (`docs/HOSTING.md` has the figures).
 #[derive(Clone)]
 pub struct Run<'t> {
-    table: &'t Table,
+    pub(crate) table: &'t Table,
     pub(crate) registers: Vec<i64>,
     pub(crate) places: Vec<u32>,
     pub(crate) program: Vec<u32>,
@@ -25,6 +25,8 @@ pub struct Run<'t> {
     pub(crate) spent: u64,
     /// The inner run, open or ended; none before the first.
     pub(crate) inner: Option<Inner<'t>>,
+    /// Registers and places for previews, as many as the run has; none before the first.
+    pub(crate) scratch: (Vec<i64>, Vec<u32>),
 }
 
 impl<'t> Run<'t> {
@@ -50,7 +52,8 @@ impl<'t> Run<'t> {
     fn closed(table: &'t Table, registers: usize, places: usize) -> Run<'t> {
         let registers = vec![lent::MARK; registers.min(lent::REGISTERS)];
         let places = vec![0; places.min(lent::PLACES)];
-        Run { table, registers, places, program: vec![0; lent::PROGRAM], record: Record::default(), value: None, spent: 0, inner: None }
+        let (program, record, scratch) = (vec![0; lent::PROGRAM], Record::default(), (vec![], vec![]));
+        Run { table, registers, places, program, record, value: None, spent: 0, inner: None, scratch }
     }
 
     /// Gives each segment a budget of moves: the move after it is refused by 35. Counts are reported as if it were not there. The run is

@@ -2,6 +2,7 @@
 mod answers;
 mod inner;
 mod input;
+mod preview;
 mod rank;
 mod runs;
 mod session;
@@ -48,6 +49,10 @@ Bytes are hex digits, `-` for none; numbers are decimal. A line that begins with
   giveup TABLE NPROG              ends it as it stands
   iset STATE TOKENS MOVES RH PH [inner RB PB]
                                   replaces the inner record
+  preview TABLE KIND VALUE NSREGS NSPLACES NPROG
+                                  what feeding one more token would give, tried on scratch stacks
+  may TABLE VALUE NSREGS NSPLACES NPROG
+                                  the tokens that may come next
   rank TABLE KINDS VALUES LENGTHS NREGS NPLACES NPROG NLIST
                                   evaluates candidate segments and lists them by value, into NLIST cells
   trace TABLE TOKENS [NREGS NPLACES [FROM]]

@@ -115,6 +115,19 @@ impl<'a> Words<'a> {
         list(self.at(k), usize::MAX, value).ok_or_else(|| self.bad(k, "bad values"))
     }
 
+    /// One token's kind.
+    pub fn kind(self, k: usize) -> Result<u8, Bad> {
+        match self.tokens(k)?[..] {
+            [kind] => Ok(kind),
+            _ => Err(self.bad(k, "bad tokens")),
+        }
+    }
+
+    /// One token's value.
+    pub fn value(self, k: usize) -> Result<i32, Bad> {
+        value(self.at(k)).ok_or_else(|| self.bad(k, "bad values"))
+    }
+
     /// Lengths of candidates, any number of them.
     pub fn lengths(self, k: usize) -> Result<Vec<u32>, Bad> {
         list(self.at(k), usize::MAX, place).ok_or_else(|| self.bad(k, "bad lengths"))

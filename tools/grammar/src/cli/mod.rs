@@ -4,6 +4,7 @@ mod batch;
 mod class;
 mod files;
 mod house;
+mod next;
 mod notes;
 mod rank;
 mod segments;
@@ -45,7 +46,7 @@ struct Command {
     run: fn(Args, &mut dyn Write) -> Outcome,
 }
 
-const COMMANDS: &[&[Command]] = &[files::COMMANDS, house::COMMANDS, segments::COMMANDS, rank::COMMANDS, class::COMMANDS];
+const COMMANDS: &[&[Command]] = &[files::COMMANDS, house::COMMANDS, segments::COMMANDS, next::COMMANDS, rank::COMMANDS, class::COMMANDS];
 
 fn commands() -> impl Iterator<Item = &'static Command> {
     COMMANDS.iter().copied().flatten()

@@ -1,0 +1,65 @@
+use mathlib.Core.Path.{ap₂, _∙_}
+use denote.Ref.{now}
+use mir.Facts.{toZ-ofZ}
+use Rattle.meaning.specs.Program.{programOf}
+use Rattle.meaning.specs.PublicCalls.{stacksOf}
+use Rattle.meaning_preview.specs.Preview.{mays}
+use Rattle.host_preview.specs.Previewed.{may-passed-on}
+use borrow.Author.Needs.{needs}
+use Rattle.host_preview.proofs.may_follow.Statement.{statement}
+use Rattle.host_preview.proofs.may_follow.Tie as tie
+
+-- src/lib.rt:88:9
+brought-requires : tie.Need-brought-requires
+brought-requires c κs = search needs
+
+-- src/lib.rt:87:9
+may-follow-requires : tie.Need-may-follow-requires
+may-follow-requires c κs = search needs
+
+-- src/lib.rt:97:15
+tokens-of-requires : tie.Need-tokens-of-requires
+tokens-of-requires c κs = search needs
+
+-- src/lib.rt:98:15
+number-of-requires : tie.Need-number-of-requires
+number-of-requires c κs = search needs
+
+-- src/lib.rt:99:14
+count-of-requires : tie.Need-count-of-requires
+count-of-requires c κs = search needs
+
+-- src/lib.rt:72:1
+same-length : tie.Need-same-length
+same-length c = search needs
+
+-- src/lib.rt:72:1
+same-length-2 : tie.Need-same-length-2
+same-length-2 c = search needs
+
+-- src/lib.rt:72:1
+same-length-3 : tie.Need-same-length-3
+same-length-3 c = search needs
+
+-- src/lib.rt:72:1
+returns : tie.Need-returns
+returns c =
+    let s = c .before .before .before .before .before .before .before .before .before .before .before .before .before .before .before .before .before in
+    let a = s .args in
+    let f = c .before .before .before .before .before .before .before .before .may-follow in
+    let e = ap₂ (λ z w. mays programOf (now (a .table)) (now (a .program)) z (stacksOf (now (a .registers)) (now (a .places))) (stacksOf (now (a .scratch-registers)) (now (a .scratch-places))) w) (c .before .before .before .before .before .before .before .before .before .before .before .before .brought .ensures) (toZ-ofZ (s .fits .value)) in
+    may-passed-on (f .result) _ _ _ _ (f .ensures ∙ e) _ _ _ (c .before .before .tokens-of .ensures) (c .before .number-of .ensures) (c .count-of .ensures)
+
+pub may-follow-spec : {M : Type 1} → statement M
+may-follow-spec =
+    tie.close
+    (tie.spec
+    brought-requires
+    may-follow-requires
+    tokens-of-requires
+    number-of-requires
+    count-of-requires
+    same-length
+    same-length-2
+    same-length-3
+    returns)

@@ -1,0 +1,55 @@
+use mathlib.Core.Path.{ap₂, _∙_}
+use denote.Ref.{now}
+use mir.Facts.{toZ-ofZ}
+use Rattle.meaning.specs.Program.{programOf}
+use Rattle.meaning.specs.PublicCalls.{stacksOf}
+use Rattle.meaning_preview.specs.Preview.{previews}
+use Rattle.host_numbers.specs.Lent.{passed-on}
+use borrow.Author.Needs.{needs}
+use Rattle.host_preview.proofs.preview_token.Statement.{statement}
+use Rattle.host_preview.proofs.preview_token.Tie as tie
+
+-- src/lib.rt:58:9
+brought-requires : tie.Need-brought-requires
+brought-requires c κs = search needs
+
+-- src/lib.rt:57:9
+preview-requires : tie.Need-preview-requires
+preview-requires c κs = search needs
+
+-- src/lib.rt:68:5
+pass-on-requires : tie.Need-pass-on-requires
+pass-on-requires c κs = search needs
+
+-- src/lib.rt:41:1
+same-length : tie.Need-same-length
+same-length c = search needs
+
+-- src/lib.rt:41:1
+same-length-2 : tie.Need-same-length-2
+same-length-2 c = search needs
+
+-- src/lib.rt:41:1
+same-length-3 : tie.Need-same-length-3
+same-length-3 c = search needs
+
+-- src/lib.rt:41:1
+returns : tie.Need-returns
+returns c =
+    let s = c .before .before .before .before .before .before .before .before .before .before .before .before .before .before .before .before .before .before in
+    let a = s .args in
+    let f = c .before .before .before .before .before .before .before .before .before .preview in
+    let e = ap₂ (λ z w. previews programOf (now (a .table)) (now (a .program)) z (stacksOf (now (a .registers)) (now (a .places))) (stacksOf (now (a .scratch-registers)) (now (a .scratch-places))) (a .kind) w) (c .before .before .before .before .before .before .before .before .before .before .before .before .before .brought .ensures) (toZ-ofZ (s .fits .value)) in
+    passed-on (f .result) _ _ _ _ (f .ensures ∙ e) _ _ _ (c .pass-on .ensures)
+
+pub preview-token-spec : {M : Type 1} → statement M
+preview-token-spec =
+    tie.close
+    (tie.spec
+    brought-requires
+    preview-requires
+    pass-on-requires
+    same-length
+    same-length-2
+    same-length-3
+    returns)

@@ -1,0 +1,1 @@
+// 02 (g): what may be typed now; definitions, statements and rows, no code.

@@ -1,0 +1,6 @@
+pub mod May
+pub mod Scratch
+pub mod Collecting
+pub mod Judging
+pub mod Answering
+pub mod Beginning

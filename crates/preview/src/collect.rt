@@ -1,0 +1,81 @@
+// The set of tokens that are let through, one try after the other.
+ghost use mathlib.Core.Path.{_≡_};
+ghost use Rattle.token_set.specs.Words.{setOf};
+ghost use Rattle.machine.specs.Advancing.{Running};
+ghost use Rattle.preview.specs.Scratch.{Cleared};
+ghost use Rattle.preview.specs.Collecting.{PassesAs, grownBy, Collected};
+use crate::scratch::attempt;
+use machine::Ended;
+use moves::Run;
+use token_set::TokenSet;
+
+fn passes(
+    registers: &[i64],
+    places: &[u32],
+    scratch_registers: &mut [i64],
+    scratch_places: &mut [u32],
+    program: &[u32],
+    run: Run,
+    kind: u8,
+    value: i32,
+) -> bool
+    requires { ⌜ Running (now program) (now registers) (now places) run × Cleared (now registers) (now places) (now «scratch_registers») (now «scratch_places») ⌝ }
+    ensures { λ r. ⌜ PassesAs (now (program .entry)) kind value (now (registers .entry)) (now (places .entry)) run r × Cleared (now (registers .entry)) (now (places .entry)) (now («scratch_registers» .exit)) (now («scratch_places» .exit)) ⌝ }
+{
+    match attempt(
+        registers,
+        places,
+        scratch_registers,
+        scratch_places,
+        program,
+        run,
+        kind,
+        value,
+    ) {
+        Ended::Stopped(last) => true,
+        Ended::Failed(last, number) => false,
+    }
+}
+
+// The set, with a token where it is let through.
+fn grown(set: TokenSet, token: u8, passed: bool) -> TokenSet
+    ensures { λ r. ⌜ setOf (r .0) ≡ grownBy (setOf (set .0)) token passed ⌝ }
+{
+    if passed {
+        return set.union(TokenSet::of_token(token));
+    }
+    set
+}
+
+// Each token below T in turn. The end is none.
+pub fn collect(
+    registers: &[i64],
+    places: &[u32],
+    scratch_registers: &mut [i64],
+    scratch_places: &mut [u32],
+    program: &[u32],
+    run: Run,
+    value: i32,
+) -> TokenSet
+    requires { ⌜ Running (now program) (now registers) (now places) run × Cleared (now registers) (now places) (now «scratch_registers») (now «scratch_places») ⌝ }
+    ensures { λ r. ⌜ Collected (now (program .entry)) value (now (registers .entry)) (now (places .entry)) run (r .0) × Cleared (now (registers .entry)) (now (places .entry)) (now («scratch_registers» .exit)) (now («scratch_places» .exit)) ⌝ }
+{
+    let terminals = moves::word_at(program, 3);
+    let mut set = TokenSet::EMPTY;
+    let mut token = 0u8;
+    while (token as usize) < terminals {
+        let passed = passes(
+            registers,
+            places,
+            scratch_registers,
+            scratch_places,
+            program,
+            run,
+            token,
+            value,
+        );
+        set = grown(set, token, passed);
+        token += 1;
+    }
+    set
+}
