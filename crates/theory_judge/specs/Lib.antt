@@ -1,0 +1,2 @@
+pub mod Longs
+pub mod Described
