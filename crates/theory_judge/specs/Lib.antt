@@ -1,2 +1,4 @@
 pub mod Longs
 pub mod Described
+pub mod Holding
+pub mod Marks
