@@ -2,3 +2,4 @@ pub mod Longs
 pub mod Described
 pub mod Holding
 pub mod Marks
+pub mod Passing
