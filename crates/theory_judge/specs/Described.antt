@@ -15,7 +15,6 @@ use Rattle.meaning.specs.Layout.{fourBytes, Bytes}
 use Rattle.meaning.specs.Tree.{Tree, Forest, leaf, node, noTrees, treeAnd, yield, yields, valueAt, RulesHold, Node, isLeafOf, WellEvaluated, WellEvaluateds}
 use Rattle.meaning.specs.Drawn.{depth, depths}
 use Rattle.meaning_sheet.specs.Sheet.{recordBytes, valueBytes, sheet, sheets}
-use Rattle.theory_base.specs.Members.{all-in, getD-in}
 use Rattle.value.specs.Constants.{wordAt}
 use Rattle.theory_judge.specs.Longs.{drop-past, cons-one, word-back, word-there, longs, longs-size, longs-read, longs-there, values-size}
 
@@ -101,10 +100,10 @@ abbrev pub noLeaf : Leaf
 noLeaf = record { kind = 0; values = [] }
 
 module _ (g : Grammar) (us : List Leaf) (bytes : List ℕ) (at from k d : ℕ) where
-  pub token-made : T (all (isLeafOf g) us) → from < length us → getD us from noLeaf .kind ≡ k → Described g us bytes at from (terminal k) d at (from + 1)
+  pub token-made : T (isLeafOf g (getD us from noLeaf)) → from < length us → getD us from noLeaf .kind ≡ k → Described g us bytes at from (terminal k) d at (from + 1)
   token-made t h e = record {
     tree = leaf (getD us from noLeaf);
-    evaluated = (ap terminal (sym e), all-in (isLeafOf g) us t (getD us from noLeaf) (getD-in us from noLeaf h));
+    evaluated = (ap terminal (sym e), t);
     shallow = omega arith;
     stands = record { written = refl; sheetEnd = omega arith; tokens = cons-one us noLeaf from h; tokensEnd = refl };
   }

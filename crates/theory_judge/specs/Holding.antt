@@ -1,13 +1,13 @@
 -- The rules and conditions of a production, judged by the values of its occurrences from the bytes of their fields.
-use Prim.Native.Nat.{ℕ, zero, suc, _+_, _*_, _/_, _%_, _≤_, _<_}
+use Prim.Native.Nat.{ℕ, zero, suc, _+_, _-_, _*_, _/_, _%_, _≤_, _<_}
 use native.Mathlib.Omega.{arith}
 use mathlib.Core.Path.{_≡_, refl, sym, ap, ap₂, _∙_, subst}
 use mathlib.Core.Logic.{inl, inr}
 use mathlib.Core.Bool.{Bool, true, false, _&&_}
 use mathlib.Core.List.{List, [], _∷_, _++_}
 use mathlib.Core.Option.{none, some}
-use lib.ListN.{length, drop, getD, length-append, length-drop}
-use lib.Seq.{drop-append-seam, drop-drop}
+use lib.ListN.{length, take, drop, getD, length-append, length-drop}
+use lib.Seq.{drop-append-seam, drop-drop, take-all}
 use lib.Dec.{T, eqb, ltb, leb→le}
 use lib.IntN.{ℤ, pos, negsuc, _+ℤ_}
 use lib.Signed.{leZ}
@@ -183,3 +183,37 @@ none-left (condition c {rs} {cs} {bs} own) l = absurd (omega (arith, length-appe
 pub holding-none : (fields : List ℕ) (at : ℕ) → length fields ≤ at → (x : Listed (drop at fields)) (v : Occurrence → ℤ) → listedTrue v x ≡ true
 unfolding allTrue
 holding-none fields at l x v = let e = none-left (x .own) (omega (arith, length-drop at fields)) in rw (e .0, e .1) refl
+
+-- ---- a walk along the fields: whatever the whole lists, what is left lists the rest, and the fields before hold
+
+pub record Going (v : Occurrence → ℤ) (fields : List ℕ) (at : ℕ) : Type 0 where
+  pub goes : (x : Listed fields) → (y : Listed (drop at fields)) × (listedTrue v x ≡ listedTrue v y)
+
+pub going-start : {v : Occurrence → ℤ} {fields : List ℕ} → Going v fields 0
+going-start = record { goes = λ x. (x, refl) }
+
+-- the part of the fields from a place on, as code lends it
+abbrev pub partFrom : List ℕ → ℕ → List ℕ
+partFrom fields at = take (length fields - at) (drop at fields)
+
+part-is : (fields : List ℕ) (at : ℕ) → partFrom fields at ≡ drop at fields
+part-is fields at = take-all (length fields - at) (drop at fields) (omega (arith, length-drop at fields))
+
+module _ {v : Occurrence → ℤ} {fields : List ℕ} {at : ℕ} (g : Going v fields at) (l : at < length fields) where
+  abbrev turn : (size : ℕ) → size ≡ byte (partFrom fields at) 2 → (x : Listed fields) → Turn fields at (at + 3 + size) (g .goes x .0)
+  turn size e x = holding-turn fields at size l (e ∙ ap (λ d. byte d 2) (part-is fields at)) (g .goes x .0)
+
+  here : {b : Bool} → fieldTrue v (partFrom fields at) ≡ b → fieldTrue v (drop at fields) ≡ b
+  here e = ap (fieldTrue v) (sym (part-is fields at)) ∙ e
+
+  pub going-inside : (size : ℕ) → size ≡ byte (partFrom fields at) 2 → Listed fields → at + 3 + size ≤ length fields
+  going-inside size e x = turn size e x .inside
+
+  pub going-on : (size : ℕ) → size ≡ byte (partFrom fields at) 2 → fieldTrue v (partFrom fields at) ≡ true → Going v fields (at + 3 + size)
+  going-on size e t = record { goes = λ x. (turn size e x .later, g .goes x .1 ∙ (turn size e x .truth v ∙ ap (λ b. b && listedTrue v (turn size e x .later)) (here t))) }
+
+  pub going-false : fieldTrue v (partFrom fields at) ≡ false → (x : Listed fields) → false ≡ listedTrue v x
+  going-false t x = let s = turn (byte (partFrom fields at) 2) refl x in sym (g .goes x .1 ∙ (s .truth v ∙ ap (λ b. b && listedTrue v (s .later)) (here t)))
+
+pub going-end : {v : Occurrence → ℤ} {fields : List ℕ} {at : ℕ} → Going v fields at → length fields ≤ at → (x : Listed fields) → true ≡ listedTrue v x
+going-end {v = v} {fields = fields} {at = at} g l x = sym (g .goes x .1 ∙ holding-none fields at l (g .goes x .0) v)

@@ -212,3 +212,13 @@ unfolding longs
 longs-at b i zero k l = absurd (omega arith)
 longs-at b i (suc n) zero l = ap (longAt b) (omega arith)
 longs-at b i (suc n) (suc k) l = longs-at b (i + 8) n k (omega arith) ∙ ap (longAt b) (omega arith)
+
+-- all of them are values, one by one
+pub longs-none : (b : List ℕ) (i n : ℕ) → n ≡ 0 → all inRange (longs b i n) ≡ true
+unfolding longs
+longs-none b i n e = ap (λ k. all inRange (longs b i k)) e
+
+pub longs-more : (b : List ℕ) (i n : ℕ) → 0 < n → all inRange (longs b i n) ≡ inRange (longAt b i) && all inRange (longs b (i + 8) (n - 1))
+unfolding longs
+longs-more b i zero l = absurd (omega arith)
+longs-more b i (suc n) l = let e : n ≡ suc n - 1 = omega arith in ap (λ k. inRange (longAt b i) && all inRange (longs b (i + 8) k)) e

@@ -10,16 +10,15 @@ use lib.Dec.{T, ltb, eqb, leb, le→leb}
 use lib.IntN.{ℤ, pos, negsuc}
 use borrow.Author.Tests.{lt-ltb, le-ltb}
 use Rattle.meaning.specs.Base.{In, all, any}
-use Rattle.meaning.specs.Grammar.{Grammar, Symbol, terminal, nonterminal, Occurrence, Rule, Condition, Production, Leaf, Token, carried, leafOf, leaves, inh, att, symbolAt, productionAt}
-use Rattle.meaning.specs.Rules.{fourBytes, Operands, Reads, InputAt, OutputAt, Input, Output, Operand, WellFormed, WellFormedProduction}
+use Rattle.meaning.specs.Grammar.{Grammar, Symbol, terminal, nonterminal, Occurrence, Rule, Condition, Production, Leaf, Token, attributeIf, carried, leafOf, leaves, inh, att, symbolAt, productionAt}
+use Rattle.meaning.specs.Rules.{Operands, Reads, InputAt, OutputAt, Input, Output, Operand, WellFormed, WellFormedProduction}
 use Rattle.meaning.specs.Value.{inRange, apply, holds, pick}
 use Rattle.meaning.specs.Calls.{tokensFrom}
 use Rattle.meaning.specs.Tree.{Tree, Forest, leaf, node, noTrees, treeAnd, yield, yields, values, child, valueAt, RulesHold, isLeafOf, WellEvaluated, WellEvaluateds}
 use Rattle.meaning_sheet.specs.Sheet.{recordBytes, sheet, sheets}
 use Rattle.theory_base.specs.Members.{T→true, true→T, both, and, all-in}
 use Rattle.theory_base.specs.Agree.{operands-map, apply-agree, reads-map, holds-agree}
-use Rattle.theory_base.specs.Feeds.{four-ranged}
-use Rattle.theory_base.specs.Selectors.{tree-size}
+use Rattle.theory_base.specs.Selectors.{leaf-ranges, tree-size}
 use Rattle.value.specs.Ranged.{ranged, ranged-in, in-ranged}
 use Rattle.theory_judge.specs.Longs.{longAt, longs, longs-at, cons-one}
 use Rattle.theory_judge.specs.Described.{RecordRead, record-read, Stands, yield-small, Described, DescribedAll, noLeaf}
@@ -55,19 +54,6 @@ pub read-token : (bytes : List ℕ) (vals : List ℤ) (m a : ℕ) → length byt
 unfolding readMark
 read-token bytes vals m a l = ap (λ b. pick b (told (longAt bytes (m + 4 + 8 * a))) (getD vals (m - length bytes) (pos 0))) (le-ltb m (length bytes) l)
 
-pub four-at : (vals : List ℤ) → T (all fourBytes vals) → (i : ℕ) → T (inRange (getD vals i (pos 0)))
-four-at [] h i = tt
-four-at (v ∷ vals) h zero = four-ranged v (both (fourBytes v) (all fourBytes vals) h .0)
-four-at (v ∷ vals) h (suc i) = four-at vals (both (fourBytes v) (all fourBytes vals) h .1) i
-
-pub reads-in : (bytes : List ℕ) (vals : List ℤ) (m a : ℕ) → T (all fourBytes vals) → inRange (readMark bytes vals m a) ≡ true
-unfolding readMark
-reads-in bytes vals m a h = go (ltb m (length bytes))
-  where
-    go : (b : Bool) → inRange (pick b (told (longAt bytes (m + 4 + 8 * a))) (getD vals (m - length bytes) (pos 0))) ≡ true
-    go true = told-in (longAt bytes (m + 4 + 8 * a))
-    go false = T→true (inRange (getD vals (m - length bytes) (pos 0))) (four-at vals h (m - length bytes))
-
 -- ---- a mark shows the values of a tree
 
 abbrev pub Shown : List ℕ → List ℤ → ℕ → Tree → Type 0
@@ -94,6 +80,14 @@ leaves-many g (k ∷ ks) (v ∷ vs) e = ap suc (leaves-many g ks vs (omega arith
 carried-one : (b : Bool) (v : ℤ) (a : ℕ) → 1 ≤ a → a ≤ length (carried b v) → v ≡ getD (carried b v) (a - 1) (pos 0)
 carried-one true v a l h = let e : a - 1 ≡ 0 = omega arith in ap (λ i. getD (v ∷ []) i (pos 0)) (sym e)
 carried-one false v a l h = absurd (omega arith)
+
+-- a leaf whose value is in range is one of its terminal
+carried-leaf : (b : Bool) (v : ℤ) → T (inRange v) → T (eqb (length (carried b v)) (attributeIf b) && all inRange (carried b v))
+carried-leaf true v h = and (inRange v) true h tt
+carried-leaf false v h = tt
+
+pub leaf-in : (g : Grammar) (ks : List ℕ) (vs : List ℤ) (i : ℕ) → i < length (leaves g (tokensFrom ks vs)) → inRange (getD vs i (pos 0)) ≡ true → T (isLeafOf g (getD (leaves g (tokensFrom ks vs)) i noLeaf))
+leaf-in g ks vs i l e = subst (λ u. T (isLeafOf g u)) (sym (leaf-at g ks vs i l)) (carried-leaf (any (eqb (getD ks i 0)) (g .carrying)) (getD vs i (pos 0)) (true→T (inRange (getD vs i (pos 0))) e))
 
 -- a member of a list in range
 in-range-at : (vs : List ℤ) → T (all inRange vs) → (i : ℕ) → i < length vs → T (inRange (getD vs i (pos 0)))
@@ -169,8 +163,19 @@ child-size g (treeAnd t f) [] w i l = absurd w
 child-size g (treeAnd t f) (x ∷ xs) w zero l = tree-size g t x (w .0)
 child-size g (treeAnd t f) (x ∷ xs) w (suc i) l = child-size g f xs (w .1) i (omega arith)
 
-module _ (g : Grammar) (bytes : List ℕ) (vals : List ℤ) (four : T (all fourBytes vals)) (marks : List ℕ) (pr : Production) (formed : WellFormedProduction g pr) (vs : List ℤ) (f : Forest)
-    (size : length vs ≡ att g (nonterminal (pr .left))) (kids : WellEvaluateds g f (pr .right))
+tree-ranges : (g : Grammar) (t : Tree) (x : Symbol) → WellEvaluated g t x → T (all inRange (values t))
+tree-ranges g (leaf u) x w = leaf-ranges g u (w .1)
+tree-ranges g (node p vs f) x w = w .0 .ranges
+
+child-ranges : (g : Grammar) (f : Forest) (xs : List Symbol) → WellEvaluateds g f xs → (i : ℕ) → i < length xs → T (all inRange (values (child f i)))
+child-ranges g noTrees [] w i l = absurd (omega arith)
+child-ranges g noTrees (x ∷ xs) w i l = absurd w
+child-ranges g (treeAnd t f) [] w i l = absurd w
+child-ranges g (treeAnd t f) (x ∷ xs) w zero l = tree-ranges g t x (w .0)
+child-ranges g (treeAnd t f) (x ∷ xs) w (suc i) l = child-ranges g f xs (w .1) i (omega arith)
+
+module _ (g : Grammar) (bytes : List ℕ) (vals : List ℤ) (marks : List ℕ) (pr : Production) (formed : WellFormedProduction g pr) (vs : List ℤ) (f : Forest)
+    (size : length vs ≡ att g (nonterminal (pr .left))) (ranges : T (all inRange vs)) (kids : WellEvaluateds g f (pr .right))
     (own : Shown bytes vals (getD marks 0 0) (node 0 vs f)) (shown : (i : ℕ) → i < length (pr .right) → Shown bytes vals (getD marks (suc i) 0) (child f i)) where
   agrees : (o : Occurrence) → Has g pr o → readAt bytes vals marks o ≡ valueAt vs f o
   unfolding readAt
@@ -180,9 +185,12 @@ module _ (g : Grammar) (bytes : List ℕ) (vals : List ℤ) (four : T (all fourB
       go zero a u = own a (u .0) (omega (arith, u .1, size))
       go (suc i) a u = shown i (u .0) a (u .1) (omega (arith, u .2, child-size g f (pr .right) kids i (u .0)))
 
-  ranged-read : (o : Occurrence) → inRange (readAt bytes vals marks o) ≡ true
-  unfolding readAt
-  ranged-read o = reads-in bytes vals (getD marks (o .position) 0) (o .attribute) four
+  value-in : (o : Occurrence) → Has g pr o → T (inRange (valueAt vs f o))
+  value-in o h = go (o .position) (o .attribute) h
+    where
+      go : (k a : ℕ) → HasAt g pr k a → T (inRange (valueAt vs f (record { position = k; attribute = a })))
+      go zero a u = in-range-at vs ranges (a - 1) (omega (arith, u .0, u .1, size))
+      go (suc i) a u = in-range-at (values (child f i)) (child-ranges g f (pr .right) kids i (u .0)) (a - 1) (omega (arith, u .1, u .2, child-size g f (pr .right) kids i (u .0)))
 
   apply-same : (r : Rule Occurrence) → In r (pr .rules) → apply (readAt bytes vals marks) (r .function) ≡ apply (valueAt vs f) (r .function)
   apply-same r i = apply-agree (readAt bytes vals marks) (valueAt vs f) (r .function) (operands-map (λ o u. agrees o (operand-has g pr (r .target .position) o u)) (r .function) (formed .operands r i))
@@ -190,12 +198,15 @@ module _ (g : Grammar) (bytes : List ℕ) (vals : List ℤ) (four : T (all fourB
   target-same : (r : Rule Occurrence) → In r (pr .rules) → readAt bytes vals marks (r .target) ≡ valueAt vs f (r .target)
   target-same r i = agrees (r .target) (output-has g pr (r .target) (formed .targets r i))
 
+  target-in : (r : Rule Occurrence) → In r (pr .rules) → inRange (readAt bytes vals marks (r .target)) ≡ true
+  target-in r i = ap inRange (target-same r i) ∙ T→true (inRange (valueAt vs f (r .target))) (value-in (r .target) (output-has g pr (r .target) (formed .targets r i)))
+
   rule-true : (r : Rule Occurrence) → In r (pr .rules) → T (ruleTrue (readAt bytes vals marks) r) → valueAt vs f (r .target) ≡ apply (valueAt vs f) (r .function)
   rule-true r i t =
       let z : ℤ = apply (readAt bytes vals marks) (r .function) in
       let y : ℤ = readAt bytes vals marks (r .target) in
       let e : ranged z ≡ y = same-exactly (ranged z) y t in
-      let inside : inRange z ≡ true = sym (in-ranged z) ∙ (ap inRange e ∙ ranged-read (r .target)) in
+      let inside : inRange z ≡ true = sym (in-ranged z) ∙ (ap inRange e ∙ target-in r i) in
       sym (target-same r i) ∙ (sym e ∙ (ranged-in z inside ∙ apply-same r i))
 
   same-self : (z : ℤ) → T (sameZ z z)
@@ -210,7 +221,7 @@ module _ (g : Grammar) (bytes : List ℕ) (vals : List ℤ) (four : T (all fourB
       let z : ℤ = apply (readAt bytes vals marks) (r .function) in
       let y : ℤ = readAt bytes vals marks (r .target) in
       let same : z ≡ y = apply-same r i ∙ (sym e ∙ sym (target-same r i)) in
-      let inside : inRange z ≡ true = ap inRange same ∙ ranged-read (r .target) in
+      let inside : inRange z ≡ true = ap inRange same ∙ target-in r i in
       subst (λ w. T (sameZ w y)) (sym (ranged-in z inside ∙ same)) (same-self y)
 
   rules-true : (rs : List (Rule Occurrence)) → ((r : Rule Occurrence) → In r rs → In r (pr .rules)) → T (all (ruleTrue (readAt bytes vals marks)) rs) → RulesHold vs f rs

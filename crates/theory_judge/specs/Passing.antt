@@ -8,9 +8,8 @@ use mathlib.Core.List.{List, [], _∷_}
 use lib.ListN.{getD, length, drop, drop-of-length-le}
 use lib.Dec.{T}
 use lib.IntN.{ℤ}
-use Rattle.meaning.specs.Base.{all}
 use Rattle.meaning.specs.Grammar.{Grammar, Symbol, terminal, nonterminal, Leaf, Production, leaves, att, productionAt}
-use Rattle.meaning.specs.Rules.{fourBytes, WellFormed, WellFormedProduction}
+use Rattle.meaning.specs.Rules.{WellFormed, WellFormedProduction}
 use Rattle.meaning.specs.Layout.{Bytes}
 use Rattle.meaning.specs.Calls.{tokensFrom}
 use Rattle.meaning.specs.Tree.{Tree, Forest, node, treeAnd, yields, child, isLeafOf, WellEvaluateds}
@@ -33,7 +32,7 @@ None P = (m k : ℕ) → P m k → ⊥
 -- ---- a token
 
 module _ (g : Grammar) (us : List Leaf) (bytes : List ℕ) (at from k d : ℕ) where
-  pub token-fits : T (all (isLeafOf g) us) → from < length us → getD us from noLeaf .kind ≡ k → Only (Described g us bytes at from (terminal k) d) at (from + 1)
+  pub token-fits : T (isLeafOf g (getD us from noLeaf)) → from < length us → getD us from noLeaf .kind ≡ k → Only (Described g us bytes at from (terminal k) d) at (from + 1)
   token-fits t l e = (token-made g us bytes at from k d t l e, λ n q h. let o = token-only g us bytes at from k d n q h in (o .sheetStays, o .oneRead))
 
   pub token-over : length us ≤ from → None (Described g us bytes at from (terminal k) d)
@@ -148,7 +147,7 @@ module _ (g : Grammar) (formed : WellFormed g) (ks : List ℕ) (vals : List ℤ)
 
 -- ---- a node
 
-module _ (g : Grammar) (formed : WellFormed g) (ks : List ℕ) (vals : List ℤ) (four : T (all fourBytes vals)) (few : length (leaves g (tokensFrom ks vals)) < 4294967296) (bytes : List ℕ) (isBytes : Bytes bytes) (at from m d : ℕ) (low : from ≤ length (leaves g (tokensFrom ks vals))) where
+module _ (g : Grammar) (formed : WellFormed g) (ks : List ℕ) (vals : List ℤ) (few : length (leaves g (tokensFrom ks vals)) < 4294967296) (bytes : List ℕ) (isBytes : Bytes bytes) (at from m d : ℕ) (low : from ≤ length (leaves g (tokensFrom ks vals))) where
   abbrev leaves₀ : List Leaf
   leaves₀ = leaves g (tokensFrom ks vals)
 
@@ -190,11 +189,11 @@ module _ (g : Grammar) (formed : WellFormed g) (ks : List ℕ) (vals : List ℤ)
       pub node-fits : 1 ≤ d → e - from ≡ wordAt bytes (at + 8) → allTrue (readAt bytes vals marks) (pr .rules) (pr .conditions) ≡ true → Only Here n e
       node-fits deep covered h =
           let c = only .0 in
-          let a = all-hold g bytes vals four marks pr good (ownValues g bytes at m) (c .trees) size (c .evaluated) (own (c .trees)) (marked .shown n e c) h in
+          let a = all-hold g bytes vals marks pr good (ownValues g bytes at m) (c .trees) size (heading .ranges) (c .evaluated) (own (c .trees)) (marked .shown n e c) h in
           (node-made g formed leaves₀ few bytes at from m d n e low isBytes (record { deep = deep; heading = heading; children = c; covered = covered; rules = a .0; conditions = a .1 }), λ n′ e′ x. only .1 n′ e′ (only-node n′ e′ x .children))
 
       pub node-false : allTrue (readAt bytes vals marks) (pr .rules) (pr .conditions) ≡ false → None Here
       node-false h n′ e′ x =
           let q = only-node n′ e′ x in
           let c = q .children in
-          apart (sym (hold-all g bytes vals four marks pr good (ownValues g bytes at m) (c .trees) size (c .evaluated) (own (c .trees)) (marked .shown n′ e′ c) (q .rules) (q .conditions)) ∙ h)
+          apart (sym (hold-all g bytes vals marks pr good (ownValues g bytes at m) (c .trees) size (heading .ranges) (c .evaluated) (own (c .trees)) (marked .shown n′ e′ c) (q .rules) (q .conditions)) ∙ h)
