@@ -16,7 +16,7 @@ use Rattle.value.specs.Constants.{wordAt}
 use Rattle.program.specs.Brought.{fieldsFrom, stretchEnd, fieldsAt}
 use Rattle.theory_judge.specs.Longs.{longs}
 use Rattle.theory_judge.specs.Described.{Described, DescribedAll}
-use Rattle.theory_judge.specs.Passing.{Only, None, Marked}
+use Rattle.theory_judge.specs.Passing.{Only, None, Marked, Upto}
 use Rattle.judge_nodes.specs.declared.Answer.{Answer}
 use Rattle.judge_nodes.specs.declared.Answer.the-variants.{Fits, Wrong}
 use Rattle.judge_nodes.specs.declared.Head.{Head}
@@ -48,7 +48,7 @@ leavesIn g ks vs = leaves g (tokensFrom ks vs)
 -- ---- answers
 
 -- these ends and no others, or none
-abbrev pub Told : (ℕ → ℕ → Type 0) → Answer → Type 0
+unfoldable pub Told : (ℕ → ℕ → Type 0) → Answer → Type 0
 Told P (Fits n e) = Only P n e
 Told P Wrong = None P
 
@@ -68,7 +68,7 @@ pub record HeadIs (rows inherited synthesized sheet : List ℕ) (at from m p beh
   pub next : behind ≡ at + 12 + 8 * (byte inherited m + byte synthesized m)
   pub covers : covered ≡ wordAt sheet (at + 8)
 
-abbrev pub HeadTold : List ℕ → List ℕ → List ℕ → List ℕ → ℕ → ℕ → ℕ → Head → Type 0
+unfoldable pub HeadTold : List ℕ → List ℕ → List ℕ → List ℕ → ℕ → ℕ → ℕ → Head → Type 0
 HeadTold rows inherited synthesized sheet at from m (Found p behind covered) = HeadIs rows inherited synthesized sheet at from m p behind covered
 HeadTold rows inherited synthesized sheet at from m Unfit = Heads rows inherited synthesized sheet at from m → ⊥
 
@@ -94,11 +94,17 @@ pub record ChildrenReady (table rows inherited synthesized offsets ks : List ℕ
   pub low : from ≤ length ks
 
 -- the marks of the children behind that of the node itself
-abbrev pub MarkedTold : Grammar → List ℕ → List ℤ → List ℕ → ℕ → ℕ → ℕ → ℕ → List ℕ → List ℕ → Answer → Type 0
+unfoldable pub MarkedTold : Grammar → List ℕ → List ℤ → List ℕ → ℕ → ℕ → ℕ → ℕ → List ℕ → List ℕ → Answer → Type 0
 MarkedTold g ks vs sheet p at from d old new (Fits n e) =
-    Only (DescribedAll g (leavesIn g ks vs) sheet at from (productionAt g p .right) d) n e × Marked g (leavesIn g ks vs) sheet vs at from (productionAt g p .right) d new × (getD new 0 0 ≡ getD old 0 0)
+    Only (DescribedAll g (leavesIn g ks vs) sheet at from (productionAt g p .right) d) n e × Marked g (leavesIn g ks vs) sheet vs at from (productionAt g p .right) d new × (getD new 0 0 ≡ getD old 0 0) × (length new ≡ 13)
 MarkedTold g ks vs sheet p at from d old new Wrong = None (DescribedAll g (leavesIn g ks vs) sheet at from (productionAt g p .right) d)
 
 abbrev pub ChildrenTold : List ℕ → List ℕ → List ℕ → List ℕ → List ℕ → List ℕ → List ℤ → List ℕ → ℕ → ℕ → ℕ → ℕ → List ℕ → List ℕ → Answer → Type 0
 ChildrenTold table rows inherited synthesized offsets ks vs sheet p at from d old new r =
     (x : ChildrenReady table rows inherited synthesized offsets ks vs sheet p from) → MarkedTold (x .book .grammar) ks vs sheet p at from d old new r
+
+-- k symbols of production p are passed: the marks behind the first are theirs, and the first stays
+pub record Passed (table rows inherited synthesized offsets ks : List ℕ) (vs : List ℤ) (sheet : List ℕ) (p at from d : ℕ) (marks₀ : List ℕ) (k next end : ℕ) (marks : List ℕ) : Type 0 where
+  pub long : length marks ≡ 13
+  pub own : getD marks 0 0 ≡ getD marks₀ 0 0
+  pub upto : (x : ChildrenReady table rows inherited synthesized offsets ks vs sheet p from) → Upto (x .book .grammar) (leavesIn (x .book .grammar) ks vs) sheet vs at from (productionAt (x .book .grammar) p .right) d k next end marks

@@ -1,3 +1,10 @@
+use Prim.Native.Nat.{_+_, _-_, _*_, _≤_}
+use mathlib.Core.Path.{_≡_, refl, sym}
+use native.Mathlib.Omega.{arith}
+use borrow.Author.Needs.{needs}
+use Rattle.meaning.specs.Table.{byte}
+use Rattle.judge_nodes.specs.Checked.{Passed}
+use Rattle.judge_nodes.proofs.Laws as L
 use Prim.Native.Nat.{ℕ, _<_}
 use borrow.Fn.Kinds.{In}
 use borrow.Fn.PlainCycle.{Measures, is, falls, and}
@@ -16,10 +23,10 @@ use Rattle.judge_nodes.proofs.+check_children+check_node.{statement}
 use Rattle.judge_nodes.proofs.+check_children+check_node.Tie.{close}
 
 abbrev μ-check-children : Measures 9 check-children-kinds.ps ℕ
-μ-check-children κs a = ?
+μ-check-children κs a = 2 * a .1 .1 .1 .1 .1 .1 .1 .1 .1 .1 .1 .0 + 1
 
 abbrev μ-check-node : Measures 8 check-node-kinds.ps ℕ
-μ-check-node κs a = ?
+μ-check-node κs a = 2 * a .1 .1 .1 .1 .1 .1 .1 .1 .1 .1 .1 .0
 
 abbrev check-children-at : ℕ → In 9 check-children-kinds.ps
 check-children-at t =
@@ -47,11 +54,11 @@ check-node-below t =
 
 abbrev check-children-Inv-loop : check-children-lts.InvT-loop
 check-children-Inv-loop table rows inherited synthesized offsets kinds values sheet p at from depth-left marks₀ first size next₀ end₀ k₀ marks next end k =
-    ?
+    (size ≡ byte rows (16 * p + 1)) × (k ≤ size) × Passed table rows inherited synthesized offsets kinds values sheet p at from depth-left marks₀ k next end marks
 
 abbrev check-children-μ-loop : check-children-lts.MeasureT-loop
 check-children-μ-loop table rows inherited synthesized offsets kinds values sheet p at from depth-left marks₀ first size next₀ end₀ k₀ marks next end k =
-    ?
+    size - k
 
 -- src/lib.rt:221:17
 check-children-mul-first : (t : ℕ) → check-children-lts.Need-mul-first (
@@ -62,7 +69,7 @@ check-children-mul-first : (t : ℕ) → check-children-lts.Need-mul-first (
   check-node-below t,
   check-node.Post,
 ) (check-children-at t) check-children.Post check-children-Inv-loop check-children-μ-loop
-check-children-mul-first t c = ?
+check-children-mul-first t c = omega (arith, L.row-few (c .before .before .before .before .before .before .before .pre .1 .0))
 
 -- src/lib.rt:222:37
 check-children-add-byte-at : (t : ℕ) → check-children-lts.Need-add-byte-at (
@@ -73,7 +80,7 @@ check-children-add-byte-at : (t : ℕ) → check-children-lts.Need-add-byte-at (
   check-node-below t,
   check-node.Post,
 ) (check-children-at t) check-children.Post check-children-Inv-loop check-children-μ-loop
-check-children-add-byte-at t c = ?
+check-children-add-byte-at t c = omega (arith, L.row-few (c .before .before .before .before .before .before .before .pre .1 .0))
 
 -- src/lib.rt:222:16
 check-children-byte-at-requires : (t : ℕ) → check-children-lts.Need-byte-at-requires (
@@ -84,7 +91,7 @@ check-children-byte-at-requires : (t : ℕ) → check-children-lts.Need-byte-at-
   check-node-below t,
   check-node.Post,
 ) (check-children-at t) check-children.Post check-children-Inv-loop check-children-μ-loop
-check-children-byte-at-requires t c κs = ?
+check-children-byte-at-requires t c κs = tt
 
 -- src/lib.rt:222:16
 check-children-cast-size : (t : ℕ) → check-children-lts.Need-cast-size (
@@ -95,7 +102,7 @@ check-children-cast-size : (t : ℕ) → check-children-lts.Need-cast-size (
   check-node-below t,
   check-node.Post,
 ) (check-children-at t) check-children.Post check-children-Inv-loop check-children-μ-loop
-check-children-cast-size t c = ?
+check-children-cast-size t c = search needs
 
 -- src/lib.rt:226:5
 check-children-loop-holds : (t : ℕ) → check-children-lts.Need-loop-holds (
@@ -106,7 +113,7 @@ check-children-loop-holds : (t : ℕ) → check-children-lts.Need-loop-holds (
   check-node-below t,
   check-node.Post,
 ) (check-children-at t) check-children.Post check-children-Inv-loop check-children-μ-loop
-check-children-loop-holds t c = ?
+check-children-loop-holds t c = (c .byte-at .ensures .0, omega arith, L.passed-none (c .before .before .before .before .before .before .before .before .pre .1 .1))
 
 -- src/lib.rt:227:36
 check-children-add-symbol : (t : ℕ) → check-children-lts.Need-add-symbol (
@@ -117,7 +124,7 @@ check-children-add-symbol : (t : ℕ) → check-children-lts.Need-add-symbol (
   check-node-below t,
   check-node.Post,
 ) (check-children-at t) check-children.Post check-children-Inv-loop check-children-μ-loop
-check-children-add-symbol t c = ?
+check-children-add-symbol t c = omega (arith, L.size-few (c .before .before .before .before .before .before .before .before .before .before .pre .1 .0), c .before .loop .inv .0)
 
 -- src/lib.rt:227:27
 check-children-add-symbol-2 : (t : ℕ) → check-children-lts.Need-add-symbol-2 (
@@ -128,7 +135,7 @@ check-children-add-symbol-2 : (t : ℕ) → check-children-lts.Need-add-symbol-2
   check-node-below t,
   check-node.Post,
 ) (check-children-at t) check-children.Post check-children-Inv-loop check-children-μ-loop
-check-children-add-symbol-2 t c = ?
+check-children-add-symbol-2 t c = omega (arith, L.size-few (c .before .before .before .before .before .before .before .before .before .before .pre .1 .0), L.row-few (c .before .before .before .before .before .before .before .before .before .before .pre .1 .0), c .before .loop .inv .0)
 
 -- src/lib.rt:227:22
 check-children-shared-slice-read-symbol :
@@ -140,7 +147,7 @@ check-children-shared-slice-read-symbol :
       check-node-below t,
       check-node.Post,
     ) (check-children-at t) check-children.Post check-children-Inv-loop check-children-μ-loop
-check-children-shared-slice-read-symbol t c = ?
+check-children-shared-slice-read-symbol t c = omega (arith, L.size-few (c .before .before .before .before .before .before .before .before .before .before .before .pre .1 .0), L.row-inside (c .before .before .before .before .before .before .before .before .before .before .before .pre .1 .0), c .before .before .loop .inv .0)
 
 -- src/lib.rt:228:24
 check-children-mark-of-requires : (t : ℕ) → check-children-lts.Need-mark-of-requires (
@@ -151,7 +158,7 @@ check-children-mark-of-requires : (t : ℕ) → check-children-lts.Need-mark-of-
   check-node-below t,
   check-node.Post,
 ) (check-children-at t) check-children.Post check-children-Inv-loop check-children-μ-loop
-check-children-mark-of-requires t c κs = ?
+check-children-mark-of-requires t c κs = omega (arith, L.end-small (c .before .before .loop .inv .2) (c .before .before .before .before .before .before .before .before .before .before .before .pre .1 .0), c .before .before .before .before .before .before .before .before .before .before .before .good .1 .1 .1 .1 .1 .1 .1 .0)
 
 -- src/lib.rt:228:15
 check-children-add-marks : (t : ℕ) → check-children-lts.Need-add-marks (
@@ -162,7 +169,7 @@ check-children-add-marks : (t : ℕ) → check-children-lts.Need-add-marks (
   check-node-below t,
   check-node.Post,
 ) (check-children-at t) check-children.Post check-children-Inv-loop check-children-μ-loop
-check-children-add-marks t c = ?
+check-children-add-marks t c = omega (arith, L.size-few (c .before .before .before .before .before .before .before .before .before .before .before .before .pre .1 .0), c .before .before .before .loop .inv .0)
 
 -- src/lib.rt:228:9
 check-children-mul-marks : (t : ℕ) → check-children-lts.Need-mul-marks (
@@ -173,7 +180,7 @@ check-children-mul-marks : (t : ℕ) → check-children-lts.Need-mul-marks (
   check-node-below t,
   check-node.Post,
 ) (check-children-at t) check-children.Post check-children-Inv-loop check-children-μ-loop
-check-children-mul-marks t c = ?
+check-children-mul-marks t c = omega (arith, L.size-few (c .before .before .before .before .before .before .before .before .before .before .before .before .pre .1 .0), c .before .before .before .loop .inv .0)
 
 -- src/lib.rt:228:9
 check-children-element-write-marks : (t : ℕ) → check-children-lts.Need-element-write-marks (
@@ -184,7 +191,7 @@ check-children-element-write-marks : (t : ℕ) → check-children-lts.Need-eleme
   check-node-below t,
   check-node.Post,
 ) (check-children-at t) check-children.Post check-children-Inv-loop check-children-μ-loop
-check-children-element-write-marks t c = ?
+check-children-element-write-marks t c = omega (arith, L.size-few (c .before .before .before .before .before .before .before .before .before .before .before .before .pre .1 .0), c .before .before .before .loop .inv .0, c .before .before .before .loop .inv .2 .long)
 
 -- src/lib.rt:229:15
 check-children-check-node-requires : (t : ℕ) → check-children-lts.Need-check-node-requires (
@@ -195,7 +202,7 @@ check-children-check-node-requires : (t : ℕ) → check-children-lts.Need-check
   check-node-below t,
   check-node.Post,
 ) (check-children-at t) check-children.Post check-children-Inv-loop check-children-μ-loop
-check-children-check-node-requires t c κs = ?
+check-children-check-node-requires t c κs = let l = c .before .before .before in (omega arith, L.node-ready (l .loop .inv .2) (omega arith) _ refl (c .before .before .before .before .before .before .before .before .before .before .before .before .pre .1 .0))
 
 -- src/lib.rt:244:17
 check-children-enum-told : (t : ℕ) → check-children-lts.Need-enum-told (
@@ -206,7 +213,7 @@ check-children-enum-told : (t : ℕ) → check-children-lts.Need-enum-told (
   check-node-below t,
   check-node.Post,
 ) (check-children-at t) check-children.Post check-children-Inv-loop check-children-μ-loop
-check-children-enum-told t c = ?
+check-children-enum-told t c = search needs
 
 -- src/lib.rt:244:17
 check-children-returns : (t : ℕ) → check-children-lts.Need-returns (
@@ -217,7 +224,7 @@ check-children-returns : (t : ℕ) → check-children-lts.Need-returns (
   check-node-below t,
   check-node.Post,
 ) (check-children-at t) check-children.Post check-children-Inv-loop check-children-μ-loop
-check-children-returns t c = ?
+check-children-returns t c = let a = c .before .before in let l = a .before .before .before .before in L.passed-wrong (l .loop .inv .2) (omega arith) _ refl _ (a .check-node .ensures) _ (c .enum-told .given .1)
 
 -- src/lib.rt:246:34
 check-children-enum-known-n : (t : ℕ) → check-children-lts.Need-enum-known-n (
@@ -228,7 +235,7 @@ check-children-enum-known-n : (t : ℕ) → check-children-lts.Need-enum-known-n
   check-node-below t,
   check-node.Post,
 ) (check-children-at t) check-children.Post check-children-Inv-loop check-children-μ-loop
-check-children-enum-known-n t c = ?
+check-children-enum-known-n t c = search needs
 
 -- src/lib.rt:251:9
 check-children-add-k : (t : ℕ) → check-children-lts.Need-add-k (
@@ -239,7 +246,7 @@ check-children-add-k : (t : ℕ) → check-children-lts.Need-add-k (
   check-node-below t,
   check-node.Post,
 ) (check-children-at t) check-children.Post check-children-Inv-loop check-children-μ-loop
-check-children-add-k t c = ?
+check-children-add-k t c = search needs
 
 -- src/lib.rt:226:5
 check-children-loop-less : (t : ℕ) → check-children-lts.Need-loop-less (
@@ -250,7 +257,7 @@ check-children-loop-less : (t : ℕ) → check-children-lts.Need-loop-less (
   check-node-below t,
   check-node.Post,
 ) (check-children-at t) check-children.Post check-children-Inv-loop check-children-μ-loop
-check-children-loop-less t c = ?
+check-children-loop-less t c = omega arith
 
 -- src/lib.rt:226:5
 check-children-loop-again : (t : ℕ) → check-children-lts.Need-loop-again (
@@ -261,7 +268,7 @@ check-children-loop-again : (t : ℕ) → check-children-lts.Need-loop-again (
   check-node-below t,
   check-node.Post,
 ) (check-children-at t) check-children.Post check-children-Inv-loop check-children-μ-loop
-check-children-loop-again t c = ?
+check-children-loop-again t c = let a = c .before .before .before in let l = a .before .before .before .before in (l .loop .inv .0, omega arith, L.passed-more (l .loop .inv .2) (omega arith) _ refl _ (a .check-node .ensures) _ _ (c .before .n .given .1) (omega (arith, L.size-few (c .before .before .before .before .before .before .before .before .before .before .before .before .before .before .before .before .pre .1 .0), l .loop .inv .0)) _ (a .before .mark-of .ensures))
 
 -- src/lib.rt:203:1
 check-children-returns-2 : (t : ℕ) → check-children-lts.Need-returns-2 (
@@ -272,7 +279,7 @@ check-children-returns-2 : (t : ℕ) → check-children-lts.Need-returns-2 (
   check-node-below t,
   check-node.Post,
 ) (check-children-at t) check-children.Post check-children-Inv-loop check-children-μ-loop
-check-children-returns-2 t c = ?
+check-children-returns-2 t c = L.passed-end (c .before .loop .inv .2) (omega (arith, c .before .loop .inv .0))
 
 -- src/lib.rt:158:9
 check-node-check-token-requires : (t : ℕ) → check-node-lts.Need-check-token-requires (
@@ -285,7 +292,7 @@ check-node-check-token-requires : (t : ℕ) → check-node-lts.Need-check-token-
   holds-reads.Asked,
   holds-reads.Learnt,
 ) (check-node-at t) check-node.Post
-check-node-check-token-requires t c κs = ?
+check-node-check-token-requires t c κs = tt
 
 -- src/lib.rt:158:9
 check-node-returns : (t : ℕ) → check-node-lts.Need-returns (
@@ -298,7 +305,7 @@ check-node-returns : (t : ℕ) → check-node-lts.Need-returns (
   holds-reads.Asked,
   holds-reads.Learnt,
 ) (check-node-at t) check-node.Post
-check-node-returns t c = ?
+check-node-returns t c = λ x. L.by-token x _ _ (omega arith) _ (c .check-token .ensures)
 
 -- src/lib.rt:161:9
 check-node-returns-2 : (t : ℕ) → check-node-lts.Need-returns-2 (
@@ -311,7 +318,7 @@ check-node-returns-2 : (t : ℕ) → check-node-lts.Need-returns-2 (
   holds-reads.Asked,
   holds-reads.Learnt,
 ) (check-node-at t) check-node.Post
-check-node-returns-2 t c = ?
+check-node-returns-2 t c = λ x. L.flat x _ _ (omega arith) (omega arith)
 
 -- src/lib.rt:163:13
 check-node-cast-m : (t : ℕ) → check-node-lts.Need-cast-m (
@@ -324,7 +331,7 @@ check-node-cast-m : (t : ℕ) → check-node-lts.Need-cast-m (
   holds-reads.Asked,
   holds-reads.Learnt,
 ) (check-node-at t) check-node.Post
-check-node-cast-m t c = ?
+check-node-cast-m t c = search needs
 
 -- src/lib.rt:164:11
 check-node-heading-requires : (t : ℕ) → check-node-lts.Need-heading-requires (
@@ -337,7 +344,7 @@ check-node-heading-requires : (t : ℕ) → check-node-lts.Need-heading-requires
   holds-reads.Asked,
   holds-reads.Learnt,
 ) (check-node-at t) check-node.Post
-check-node-heading-requires t c κs = ?
+check-node-heading-requires t c κs = let x = c .before .before .before .before .before .before .before .before .before .pre .1 in L.attributes-few (x .book) _ (L.known-m x 0 0 (omega arith))
 
 -- src/lib.rt:165:24
 check-node-enum-told : (t : ℕ) → check-node-lts.Need-enum-told (
@@ -350,7 +357,7 @@ check-node-enum-told : (t : ℕ) → check-node-lts.Need-enum-told (
   holds-reads.Asked,
   holds-reads.Learnt,
 ) (check-node-at t) check-node.Post
-check-node-enum-told t c = ?
+check-node-enum-told t c = search needs
 
 -- src/lib.rt:167:13
 check-node-enum-known-production : (t : ℕ) → check-node-lts.Need-enum-known-production (
@@ -363,7 +370,7 @@ check-node-enum-known-production : (t : ℕ) → check-node-lts.Need-enum-known-
   holds-reads.Asked,
   holds-reads.Learnt,
 ) (check-node-at t) check-node.Post
-check-node-enum-known-production t c = ?
+check-node-enum-known-production t c = search needs
 
 -- src/lib.rt:184:17
 check-node-sub-check-children : (t : ℕ) → check-node-lts.Need-sub-check-children (
@@ -376,7 +383,7 @@ check-node-sub-check-children : (t : ℕ) → check-node-lts.Need-sub-check-chil
   holds-reads.Asked,
   holds-reads.Learnt,
 ) (check-node-at t) check-node.Post
-check-node-sub-check-children t c = ?
+check-node-sub-check-children t c = omega arith
 
 -- src/lib.rt:172:19
 check-node-check-children-requires : (t : ℕ) → check-node-lts.Need-check-children-requires (
@@ -389,7 +396,7 @@ check-node-check-children-requires : (t : ℕ) → check-node-lts.Need-check-chi
   holds-reads.Asked,
   holds-reads.Learnt,
 ) (check-node-at t) check-node.Post
-check-node-check-children-requires t c κs = ?
+check-node-check-children-requires t c κs = let h = c .before .before .before .before in let x = c .before .before .before .before .before .before .before .before .before .before .before .before .before .before .pre .1 in (omega arith, (L.ready x _ 0 (omega arith) _ (h .heading .ensures) _ _ _ (c .before .before .production .given .1), search needs))
 
 -- src/lib.rt:187:34
 check-node-enum-told-2 : (t : ℕ) → check-node-lts.Need-enum-told-2 (
@@ -402,7 +409,7 @@ check-node-enum-told-2 : (t : ℕ) → check-node-lts.Need-enum-told-2 (
   holds-reads.Asked,
   holds-reads.Learnt,
 ) (check-node-at t) check-node.Post
-check-node-enum-told-2 t c = ?
+check-node-enum-told-2 t c = search needs
 
 -- src/lib.rt:188:32
 check-node-enum-known-next : (t : ℕ) → check-node-lts.Need-enum-known-next (
@@ -415,7 +422,7 @@ check-node-enum-known-next : (t : ℕ) → check-node-lts.Need-enum-known-next (
   holds-reads.Asked,
   holds-reads.Learnt,
 ) (check-node-at t) check-node.Post
-check-node-enum-known-next t c = ?
+check-node-enum-known-next t c = search needs
 
 -- src/lib.rt:189:24
 check-node-sub-if3 : (t : ℕ) → check-node-lts.Need-sub-if3 (
@@ -428,7 +435,7 @@ check-node-sub-if3 : (t : ℕ) → check-node-lts.Need-sub-if3 (
   holds-reads.Asked,
   holds-reads.Learnt,
 ) (check-node-at t) check-node.Post
-check-node-sub-if3 t c = ?
+check-node-sub-if3 t c = let y = c .before .before .before .before .before .before .before .before .before .before .before .before .before .before .before .before .before .before .pre .1 in let a = c .before .before .before in let h = a .before .before .before .before .before in L.from-end y _ _ (omega arith) _ (h .heading .ensures) _ _ _ (a .before .before .before .production .given .1) _ _ _ (a .check-children .ensures) _ _ (c .before .next .given .1)
 
 -- src/lib.rt:190:25
 check-node-returns-3 : (t : ℕ) → check-node-lts.Need-returns-3 (
@@ -441,7 +448,7 @@ check-node-returns-3 : (t : ℕ) → check-node-lts.Need-returns-3 (
   holds-reads.Asked,
   holds-reads.Learnt,
 ) (check-node-at t) check-node.Post
-check-node-returns-3 t c = ?
+check-node-returns-3 t c = λ x. let a = c .before .before .before .before in let h = a .before .before .before .before .before in L.uncovered x _ _ (omega arith) _ (h .heading .ensures) _ _ _ (a .before .before .before .production .given .1) _ _ _ (a .check-children .ensures) _ _ (c .before .before .next .given .1) (c .if3 .taken)
 
 -- src/lib.rt:192:67
 check-node-slice-aggregate-holds : (t : ℕ) → check-node-lts.Need-slice-aggregate-holds (
@@ -454,7 +461,7 @@ check-node-slice-aggregate-holds : (t : ℕ) → check-node-lts.Need-slice-aggre
   holds-reads.Asked,
   holds-reads.Learnt,
 ) (check-node-at t) check-node.Post
-check-node-slice-aggregate-holds t c = ?
+check-node-slice-aggregate-holds t c = let y = c .before .before .before .before .before .before .before .before .before .before .before .before .before .before .before .before .before .before .before .before .pre .1 in let a = c .before .before .before .before .before in let h = a .before .before .before .before .before in sym (L.thirteen y _ _ (omega arith) _ (h .heading .ensures) _ _ _ (a .before .before .before .production .given .1) _ _ _ (a .check-children .ensures) _ _ (c .before .before .before .next .given .1))
 
 -- src/lib.rt:192:24
 check-node-holds-requires : (t : ℕ) → check-node-lts.Need-holds-requires (
@@ -467,7 +474,7 @@ check-node-holds-requires : (t : ℕ) → check-node-lts.Need-holds-requires (
   holds-reads.Asked,
   holds-reads.Learnt,
 ) (check-node-at t) check-node.Post
-check-node-holds-requires t c κs = ?
+check-node-holds-requires t c κs = let y = c .before .before .before .before .before .before .before .before .before .before .before .before .before .before .before .before .before .before .before .before .pre .1 in let a = c .before .before .before .before .before in let h = a .before .before .before .before .before in let z = L.ready y _ 0 (omega arith) _ (h .heading .ensures) _ _ _ (a .before .before .before .production .given .1) in (L.productions-few (y .book) _ (z .listed), y .book .spans _ (z .listed) .0, y .book .spans _ (z .listed) .1, L.listedAt (y .book) _ (z .listed))
 
 -- src/lib.rt:193:25
 check-node-returns-4 : (t : ℕ) → check-node-lts.Need-returns-4 (
@@ -480,7 +487,7 @@ check-node-returns-4 : (t : ℕ) → check-node-lts.Need-returns-4 (
   holds-reads.Asked,
   holds-reads.Learnt,
 ) (check-node-at t) check-node.Post
-check-node-returns-4 t c = ?
+check-node-returns-4 t c = λ x. let a = c .before .before .before .before .before .before .before in let h = a .before .before .before .before .before in L.fitting x _ _ (omega arith) _ (h .heading .ensures) _ _ _ (a .before .before .before .production .given .1) _ _ _ (a .check-children .ensures) _ _ (c .before .before .before .before .before .next .given .1) refl _ (c .before .holds .ensures) (omega arith) (c .before .before .before .if3 .left) (c .if4 .taken)
 
 -- src/lib.rt:140:1
 check-node-returns-5 : (t : ℕ) → check-node-lts.Need-returns-5 (
@@ -493,7 +500,7 @@ check-node-returns-5 : (t : ℕ) → check-node-lts.Need-returns-5 (
   holds-reads.Asked,
   holds-reads.Learnt,
 ) (check-node-at t) check-node.Post
-check-node-returns-5 t c = ?
+check-node-returns-5 t c = λ x. L.unfit x _ _ (omega arith) _ (c .before .before .heading .ensures) (c .enum-told .given .1)
 
 -- src/lib.rt:140:1
 check-node-returns-6 : (t : ℕ) → check-node-lts.Need-returns-6 (
@@ -506,7 +513,7 @@ check-node-returns-6 : (t : ℕ) → check-node-lts.Need-returns-6 (
   holds-reads.Asked,
   holds-reads.Learnt,
 ) (check-node-at t) check-node.Post
-check-node-returns-6 t c = ?
+check-node-returns-6 t c = λ x. let a = c .before .before in let h = a .before .before .before .before .before in L.wrong x _ _ (omega arith) _ (h .heading .ensures) _ _ _ (a .before .before .before .production .given .1) _ _ _ (a .check-children .ensures) (c .enum-told2 .given .1)
 
 -- src/lib.rt:140:1
 check-node-returns-7 : (t : ℕ) → check-node-lts.Need-returns-7 (
@@ -519,7 +526,7 @@ check-node-returns-7 : (t : ℕ) → check-node-lts.Need-returns-7 (
   holds-reads.Asked,
   holds-reads.Learnt,
 ) (check-node-at t) check-node.Post
-check-node-returns-7 t c = ?
+check-node-returns-7 t c = λ x. let a = c .before .before .before .before .before .before .before in let h = a .before .before .before .before .before in L.unheld x _ _ (omega arith) _ (h .heading .ensures) _ _ _ (a .before .before .before .production .given .1) _ _ _ (a .check-children .ensures) _ _ (c .before .before .before .before .before .next .given .1) refl _ (c .before .holds .ensures) (c .if4 .left)
 
 pub +check-children+check-node-spec : {M : Type 1} → statement M
 +check-children+check-node-spec =

@@ -1,3 +1,5 @@
+use native.Mathlib.Omega.{arith}
+use Rattle.judge_nodes.proofs.Laws as L
 use borrow.Author.Needs.{needs}
 use Rattle.judge_nodes.proofs.heading.Statement.{statement}
 use Rattle.judge_nodes.proofs.heading.Tie as tie
@@ -25,7 +27,7 @@ cast-n c = search needs
 
 -- src/lib.rt:44:9
 returns : tie.Need-returns
-returns c = search needs
+returns c = L.head-short _ _ _ _ _ _ _ _ _ (c .before .before .byte-at .ensures .0) (c .before .byte-at2 .ensures .0) (omega arith)
 
 -- src/lib.rt:46:8
 sub-if2 : tie.Need-sub-if2
@@ -41,7 +43,7 @@ add-if2 c = search needs
 
 -- src/lib.rt:47:9
 returns-2 : tie.Need-returns-2
-returns-2 c = search needs
+returns-2 c = let b = c .before .before in L.head-cut _ _ _ _ _ _ _ _ _ (b .before .byte-at .ensures .0) (b .byte-at2 .ensures .0) (omega arith)
 
 -- src/lib.rt:49:13
 word-at-requires : tie.Need-word-at-requires
@@ -53,7 +55,7 @@ cast-p c = search needs
 
 -- src/lib.rt:51:9
 returns-3 : tie.Need-returns-3
-returns-3 c = search needs
+returns-3 c = let w = c .before in let b = w .before .before .before in L.head-unlisted _ _ _ _ _ _ _ _ _ (b .before .byte-at .ensures .0) (b .byte-at2 .ensures .0) _ (w .word-at .ensures) (omega arith)
 
 -- src/lib.rt:53:29
 mul-byte-at : tie.Need-mul-byte-at
@@ -69,7 +71,7 @@ cast-if4 c = search needs
 
 -- src/lib.rt:54:9
 returns-4 : tie.Need-returns-4
-returns-4 c = ?
+returns-4 c = let q = c .before in let w = q .before .before in let b = w .before .before .before in L.head-other _ _ _ _ _ _ _ _ _ (b .before .byte-at .ensures .0) (b .byte-at2 .ensures .0) _ (w .word-at .ensures) _ (q .byte-at3 .ensures .0) (c .if4 .taken)
 
 -- src/lib.rt:56:30
 add-word-at : tie.Need-add-word-at
@@ -85,7 +87,7 @@ cast-if5 c = search needs
 
 -- src/lib.rt:57:9
 returns-5 : tie.Need-returns-5
-returns-5 c = search needs
+returns-5 c = let v = c .before in let q = v .before .before in let w = q .before .before in let b = w .before .before .before in L.head-before _ _ _ _ _ _ _ _ _ (b .before .byte-at .ensures .0) (b .byte-at2 .ensures .0) _ (w .word-at .ensures) _ (q .byte-at3 .ensures .0) _ (v .word-at2 .ensures) (c .if5 .taken)
 
 -- src/lib.rt:59:40
 add-are-values : tie.Need-add-are-values
@@ -121,11 +123,11 @@ cast-t24 c = search needs
 
 -- src/lib.rt:60:9
 returns-6 : tie.Need-returns-6
-returns-6 c = ?
+returns-6 c = let a = c .before .before in let v = a .before .before in let q = v .before .before in let w = q .before .before in let b = w .before .before .before in L.head-found _ _ _ _ _ _ _ _ _ (b .before .byte-at .ensures .0) (b .byte-at2 .ensures .0) _ (w .word-at .ensures) _ (q .byte-at3 .ensures .0) _ (v .word-at2 .ensures) _ (a .are-values .ensures) (omega arith) (omega arith) (omega arith) (v .before .if4 .left) (a .before .if5 .left) (c .before .if6 .taken) _ (c .word-at3 .ensures)
 
 -- src/lib.rt:29:1
 returns-7 : tie.Need-returns-7
-returns-7 c = ?
+returns-7 c = let a = c .before in let v = a .before .before in let q = v .before .before in let w = q .before .before in let b = w .before .before .before in L.head-far _ _ _ _ _ _ _ _ _ (b .before .byte-at .ensures .0) (b .byte-at2 .ensures .0) _ (w .word-at .ensures) _ (q .byte-at3 .ensures .0) _ (v .word-at2 .ensures) _ (a .are-values .ensures) (c .if6 .left)
 
 pub heading-spec : {M : Type 1} → statement M
 heading-spec =

@@ -1,3 +1,5 @@
+use native.Mathlib.Omega.{arith}
+use Rattle.judge_nodes.proofs.Laws as L
 use borrow.Author.Needs.{needs}
 use Rattle.judge_nodes.proofs.mark_of.Statement.{statement}
 use Rattle.judge_nodes.proofs.mark_of.Tie as tie
@@ -10,11 +12,11 @@ add-result c = search needs
 
 -- src/lib.rt:133:9
 returns : tie.Need-returns
-returns c = ?
+returns c = let s = c .before .args in L.mark-low (s .length) (s .symbol) (s .at) (s .from) (omega arith)
 
 -- src/lib.rt:128:1
 returns-2 : tie.Need-returns-2
-returns-2 c = ?
+returns-2 c = let s = c .before .args in L.mark-high (s .length) (s .symbol) (s .at) (s .from) (omega arith)
 
 pub mark-of-spec : {M : Type 1} → statement M
 mark-of-spec = tie.close (tie.spec add-result returns returns-2)

@@ -1,3 +1,5 @@
+use native.Mathlib.Omega.{arith}
+use Rattle.judge_nodes.proofs.Laws as L
 use borrow.Author.Needs.{needs}
 use Rattle.judge_nodes.proofs.stretch_end.Statement.{statement}
 use Rattle.judge_nodes.proofs.stretch_end.Tie as tie
@@ -23,11 +25,11 @@ cast-result c = search needs
 
 -- src/lib.rt:84:9
 returns : tie.Need-returns
-returns c = ?
+returns c = L.end-next _ _ _ _ _ (omega arith) (c .number-at .ensures)
 
 -- src/lib.rt:79:1
 returns-2 : tie.Need-returns-2
-returns-2 c = ?
+returns-2 c = L.end-last _ _ _ _ (omega arith)
 
 pub stretch-end-spec : {M : Type 1} → statement M
 stretch-end-spec =
