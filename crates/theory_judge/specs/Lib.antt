@@ -5,3 +5,5 @@ pub mod Marks
 pub mod Passing
 pub mod Biased
 pub mod Judged
+pub mod Whole
+pub mod JudgeProved
