@@ -1,0 +1,62 @@
+use borrow.Author.Needs.{needs}
+use Rattle.judge.proofs.judge_sheet.Statement.{statement}
+use Rattle.judge.proofs.judge_sheet.Tie as tie
+use Rattle.judge.proofs.judge_sheet.Reads as reads
+use Rattle.judge.proofs.judge_sheet.Lts as lts
+use Rattle.judge_nodes.proofs.check_node.Reads as check-node-reads
+use Rattle.judge_values.proofs.read_mark.Reads as read-mark-reads
+
+-- src/lib.rt:38:19
+add-symbol : tie.Need-add-symbol
+add-symbol c = search needs
+
+-- src/lib.rt:38:18
+cast-symbol : tie.Need-cast-symbol
+cast-symbol c = search needs
+
+-- src/lib.rt:39:11
+check-node-requires : tie.Need-check-node-requires
+check-node-requires c κs = ?
+
+-- src/lib.rt:53:26
+enum-told : tie.Need-enum-told
+enum-told c = search needs
+
+-- src/lib.rt:54:24
+enum-known-next : tie.Need-enum-known-next
+enum-known-next c = search needs
+
+-- src/lib.rt:56:17
+returns : tie.Need-returns
+returns c = ?
+
+-- src/lib.rt:59:17
+returns-2 : tie.Need-returns-2
+returns-2 c = ?
+
+-- src/lib.rt:61:30
+read-mark-requires : tie.Need-read-mark-requires
+read-mark-requires c κs = ?
+
+-- src/lib.rt:23:1
+returns-3 : tie.Need-returns-3
+returns-3 c = ?
+
+-- src/lib.rt:23:1
+returns-4 : tie.Need-returns-4
+returns-4 c = ?
+
+pub judge-sheet-spec : {M : Type 1} → statement M
+judge-sheet-spec =
+    tie.close
+    (tie.spec
+    add-symbol
+    cast-symbol
+    check-node-requires
+    enum-told
+    enum-known-next
+    returns
+    returns-2
+    read-mark-requires
+    returns-3
+    returns-4)
