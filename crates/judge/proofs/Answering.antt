@@ -41,34 +41,34 @@ use Rattle.judge.specs.Judged.{judgementIs, SheetReady, SheetTold}
 -- ---- the book of an accepted table
 
 module _ {t : List ℕ} {s : State} {sizes : Sizes} {inherited synthesized rows offsets sets : List ℕ} (b : Checked.Brought t s sizes inherited synthesized rows offsets sets) (bytes : Bytes t) where
-  x : Outlined t rows inherited synthesized offsets sets sizes
+  pub x : Outlined t rows inherited synthesized offsets sets sizes
   x = outlined-of b
 
   abbrev cut : List ℕ
   cut = take (16 * sizes .productions) rows
 
-  many : sizes .productions ≡ length (grammarOf s .productions)
+  pub many : sizes .productions ≡ length (grammarOf s .productions)
   unfolding x outlined-of
   many = Brought.count-is x
 
-  fits : 16 * sizes .productions ≤ length rows
+  pub fits : 16 * sizes .productions ≤ length rows
   unfolding x outlined-of
   fits = x .room
 
-  cut-long : length cut ≡ 16 * sizes .productions
+  pub cut-long : length cut ≡ 16 * sizes .productions
   cut-long = length-take-le (16 * sizes .productions) rows fits
 
-  cut-byte : (i : ℕ) → i < 16 * sizes .productions → byte cut i ≡ byte rows i
+  pub cut-byte : (i : ℕ) → i < 16 * sizes .productions → byte cut i ≡ byte rows i
   cut-byte i l = getD-take (16 * sizes .productions) rows i 0 l
 
-  formed : WellFormed (grammarOf s)
+  pub formed : WellFormed (grammarOf s)
   unfolding x outlined-of
   formed = Brought.well-formed x
 
-  from-is : (p : ℕ) → p < sizes .productions → fieldsFrom cut offsets p ≡ fieldsFrom rows offsets p
+  pub from-is : (p : ℕ) → p < sizes .productions → fieldsFrom cut offsets p ≡ fieldsFrom rows offsets p
   from-is p l = ap (λ k. getD offsets p 0 + 5 + k) (cut-byte (16 * p + 1) (omega arith))
 
-  to-is : (p : ℕ) → stretchEnd t offsets (length cut / 16) p ≡ stretchEnd t offsets (sizes .productions) p
+  pub to-is : (p : ℕ) → stretchEnd t offsets (length cut / 16) p ≡ stretchEnd t offsets (sizes .productions) p
   to-is p = let e : length cut / 16 ≡ sizes .productions = omega (arith, cut-long) in ap (λ k. stretchEnd t offsets k p) e
 
   module _ (ks : List ℕ) (vs : List ℤ) (sheet : List ℕ) (even : length ks ≡ length vs) (few : length ks < 4294967296) (isBytes : Bytes sheet) where
@@ -108,7 +108,7 @@ module _ {table rows inherited synthesized offsets ks : List ℕ} {vs : List ℤ
       counts-few : syn g (nonterminal (g .start)) ≤ 8
       counts-few = omega (arith, counts-most g (y .book .formed) (g .start))
 
-  start-is : symbolOf (128 + start) ≡ nonterminal (g .start)
+  pub start-is : symbolOf (128 + start) ≡ nonterminal (g .start)
   start-is = symbol-high (128 + start) (omega arith) ∙ ap nonterminal (omega (arith, y .isStart))
 
   abbrev pub root-ready : NodeReady table rows inherited synthesized offsets ks vs sheet 0 (128 + start)
@@ -162,6 +162,9 @@ module _ (t inherited synthesized rows offsets sets : List ℕ) (q : Table.Judge
 
       pub rows-fit : 16 * sizes .productions ≤ length rows
       rows-fit = fits brought bytes
+
+      pub rows-cut : 16 * sizes .productions ≡ length (take (16 * sizes .productions) rows)
+      rows-cut = sym (cut-long brought bytes)
 
       module _ (even : length ks ≡ length vs) where
         settled : (a : JudgeAnswer) → Settles (grammarOf st) (leavesIn (grammarOf st) ks vs) sheet a → JudgedAs t ks vs sheet a
