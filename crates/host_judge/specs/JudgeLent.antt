@@ -1,12 +1,11 @@
 -- The answer of a check of a sheet as the numbers that a host lends.
 use Prim.Native.Nat.{ℕ}
-use mathlib.Core.Path.{_≡_, refl, ap, subst}
+use mathlib.Core.Path.{_≡_, subst}
 use mathlib.Core.List.{List}
 use lib.IntN.{ℤ, pos}
 use Rattle.meaning_judge.specs.Judge.{JudgeAnswer, worth, turnedBack, JudgedAs}
 use Rattle.judge.specs.Judged.{judgementIs}
 use Rattle.judge.specs.declared.Judgement.{Judgement}
-use Rattle.judge.specs.declared.Judgement.the-variants.{Value, Uneven, Wrong, Unusable}
 
 -- 0, the value and 0; or a refusal's number, 0, and what stands beside it
 abbrev pub lentAs : JudgeAnswer → ℕ → ℤ → ℕ → Type 0

@@ -1,19 +1,16 @@
 -- What the outline of an accepted table says of its productions, and what the answers show.
-use Prim.Native.Nat.{ℕ, suc, _+_, _-_, _*_, _/_, _≤_, _<_}
+use Prim.Native.Nat.{ℕ, _+_, _*_, _/_, _≤_, _<_}
 use native.Mathlib.Omega.{arith}
 use mathlib.Core.Path.{_≡_, refl, sym, ap, ap₂, _∙_, subst}
-use mathlib.Core.Bool.{true, false}
 use mathlib.Core.List.{List}
 use lib.ListN.{length, getD, take}
 use lib.Seq.{length-take-le, getD-take}
 use lib.Dec.{eqb}
 use lib.IntN.{ℤ}
-use Rattle.meaning.specs.Grammar.{Grammar, nonterminal, syn, leaves, productionAt, nonterminalCount}
+use Rattle.meaning.specs.Grammar.{Grammar, nonterminal, syn}
 use Rattle.meaning.specs.Rules.{Known, WellFormed}
 use Rattle.meaning.specs.Layout.{Bytes}
 use Rattle.meaning.specs.Table.{State, byte, grammarOf, symbolOf}
-use Rattle.meaning.specs.Calls.{tokensFrom}
-use Rattle.meaning.specs.PublicCalls.{usable, unusable, check}
 use Rattle.theory_base.specs.Members.{same-true, differ-false}
 use Rattle.theory_base.specs.WellFormed.{well-formed-at, counts-most}
 use Rattle.table.specs.declared.Sizes.{Sizes}
@@ -23,15 +20,15 @@ use Rattle.checker.proofs.Cases.{accepted-case, refused-case}
 use Rattle.checker.specs.declared.judging.Judged as Table
 use Rattle.checker.specs.declared.judging.Judged.the-variants as Case
 use Rattle.program.specs.Brought as Brought
-use Rattle.program.specs.Brought.{fieldsFrom, stretchEnd, fieldsAt, given-at}
+use Rattle.program.specs.Brought.{fieldsFrom, stretchEnd, given-at}
 use Rattle.program.specs.Built.{Outlined}
 use Rattle.program.proofs.Outlined.{outlined-of}
 use Rattle.meaning_judge.specs.Judge.{JudgeAnswer, JudgedAs, SettlesIf, SettlesUnder, Settles, turnedBack, worth}
 use Rattle.theory_judge.specs.Marks.{readMark, leaves-many}
-use Rattle.theory_judge.specs.Passing.{Only, None}
+use Rattle.theory_judge.specs.Passing.{Only}
 use Rattle.theory_judge.specs.Described.{Described}
 use Rattle.theory_judge.specs.Whole.{none-many, none-wrong, none-longer, none-tokens, settles-worth, settles-none}
-use Rattle.judge_nodes.specs.Checked.{fieldsOf, Book, leavesIn, Told, NodeReady, NodeTold}
+use Rattle.judge_nodes.specs.Checked.{Book, leavesIn, Told, NodeReady, NodeTold}
 use Rattle.judge_nodes.proofs.Laws.{fits-told, wrong-told, symbol-high}
 use Rattle.judge_nodes.specs.declared.Answer as Answer
 use Rattle.judge_nodes.specs.declared.Answer.the-variants.{Fits, Wrong}

@@ -1,32 +1,30 @@
 -- What each way out of a node, of its children, of a token and of a record shows.
-use Prim.Native.Nat.{ℕ, zero, suc, _+_, _-_, _*_, _/_, _≤_, _<_}
+use Prim.Native.Nat.{ℕ, suc, _+_, _-_, _*_, _/_, _≤_, _<_}
 use native.Mathlib.Omega.{arith}
 use mathlib.Core.Path.{_≡_, refl, sym, ap, ap₂, _∙_, subst}
 use mathlib.Core.Bool.{Bool, true, false}
 use mathlib.Core.List.{List}
 use lib.ListN.{length, getD, set, length-set}
 use lib.Seq.{getD-set-same, getD-set-other}
-use lib.Dec.{T, ltb}
 use lib.IntN.{ℤ, pos}
 use borrow.Author.Tests.{lt-ltb, le-ltb}
 use Rattle.meaning.specs.Base.{all}
-use Rattle.meaning.specs.Grammar.{Grammar, Symbol, terminal, nonterminal, Leaf, leaves, att, nonterminalCount, productionAt}
-use Rattle.meaning.specs.Rules.{Known, WellFormed}
+use Rattle.meaning.specs.Grammar.{Grammar, Symbol, terminal, nonterminal, att, nonterminalCount, productionAt}
+use Rattle.meaning.specs.Rules.{Known}
 use Rattle.meaning.specs.Table.{byte, symbolOf}
-use Rattle.meaning.specs.Calls.{tokensFrom}
 use Rattle.meaning.specs.Value.{inRange}
 use Rattle.meaning.specs.Scheme.{choose}
 use Rattle.theory_base.specs.Members.{T→true, true→T, apart, getD-in}
 use Rattle.theory_base.specs.WellFormed.{well-formed-at, counts-most}
 use Rattle.value.specs.Constants.{wordAt}
 use Rattle.blocks.specs.Walk.{Listed}
-use Rattle.program.specs.Brought.{fieldsFrom, stretchEnd}
+use Rattle.program.specs.Brought.{stretchEnd}
 use Rattle.theory_judge.specs.Longs.{longs}
 use Rattle.theory_judge.specs.Described.{Described, DescribedAll, noLeaf, Heading}
 use Rattle.theory_judge.specs.Holding.{allTrue, listedTrue}
 use Rattle.theory_judge.specs.Marks.{readAt, markOf, leaf-at, leaves-many, leaf-in}
 use Rattle.theory_judge.specs.Passing as P
-use Rattle.theory_judge.specs.Passing.{Only, None, Marked, Upto}
+use Rattle.theory_judge.specs.Passing.{Only, None, Marked}
 use Rattle.judge_nodes.specs.Checked.{fieldsOf, Book, leavesIn, Told, Heads, HeadIs, HeadTold, TokenTold, NodeReady, NodeTold, ChildrenReady, MarkedTold, ChildrenTold, Passed}
 use Rattle.judge_nodes.specs.declared.Answer.{Answer}
 use Rattle.judge_nodes.specs.declared.Answer.the-variants.{Fits, Wrong}
@@ -342,8 +340,9 @@ module _ {table rows inherited synthesized offsets ks : List ℕ} {vs : List ℤ
     pub passed-end : byte rows (16 * p + 1) ≡ k → ChildrenTold table rows inherited synthesized offsets ks vs sheet p at from d marks₀ marks (Fits next end)
     unfolding MarkedTold
     passed-end l x =
-        let e : k ≡ length (productionAt (x .book .grammar) p .right) = sym l ∙ size-is x in
-        (P.upto-end (x .book .grammar) (x .book .formed) ks vs (few (x .book)) sheet at from (productionAt (x .book .grammar) p .right) d k next end marks (s .upto x) (omega arith),
-        P.upto-marked (x .book .grammar) (x .book .formed) ks vs (few (x .book)) sheet at from (productionAt (x .book .grammar) p .right) d k next end marks (s .upto x) (omega arith) e,
-        s .own,
-        s .long)
+        let e : k ≡ length (productionAt (x .book .grammar) p .right) = sym l ∙ size-is x in (
+          P.upto-end (x .book .grammar) (x .book .formed) ks vs (few (x .book)) sheet at from (productionAt (x .book .grammar) p .right) d k next end marks (s .upto x) (omega arith),
+          P.upto-marked (x .book .grammar) (x .book .formed) ks vs (few (x .book)) sheet at from (productionAt (x .book .grammar) p .right) d k next end marks (s .upto x) (omega arith) e,
+          s .own,
+          s .long,
+        )

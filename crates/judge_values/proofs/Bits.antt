@@ -1,5 +1,5 @@
 -- A signed local holds bits: a value that it holds is read back.
-use mathlib.Core.Path.{_≡_, refl, ap, _∙_}
+use mathlib.Core.Path.{_≡_, ap, _∙_}
 use mathlib.Core.Bool.{true}
 use lib.IntN.{ℤ}
 use mir.Syntax.{w64}

@@ -130,13 +130,7 @@ fn occurrence(field: &[u8], at: usize, sheet: &[u8], values: &[i32], marks: &[us
 
 // ---- rules
 
-fn first(
-    field: &[u8],
-    function: u32,
-    sheet: &[u8],
-    values: &[i32],
-    marks: &[usize],
-) -> i64
+fn first(field: &[u8], function: u32, sheet: &[u8], values: &[i32], marks: &[usize]) -> i64
     ensures { λ r. ⌜ (r ≡ firstHere (readAt (now (sheet .entry)) (now (values .entry)) (now (marks .entry))) (now (field .entry)) function) × (inRange r ≡ true) ⌝ }
 {
     if function == 0 {
@@ -145,13 +139,7 @@ fn first(
     occurrence(field, 6, sheet, values, marks)
 }
 
-fn second(
-    field: &[u8],
-    function: u32,
-    sheet: &[u8],
-    values: &[i32],
-    marks: &[usize],
-) -> i64
+fn second(field: &[u8], function: u32, sheet: &[u8], values: &[i32], marks: &[usize]) -> i64
     ensures { λ r. ⌜ (r ≡ secondHere (readAt (now (sheet .entry)) (now (values .entry)) (now (marks .entry))) (now (field .entry)) function) × (inRange r ≡ true) ⌝ }
 {
     if function < 7 {

@@ -1,18 +1,17 @@
 -- The definitions on sheets from other tools, computed on the grammar of words and tags: one word.
-use Prim.Native.Nat.{ℕ, suc}
+use Prim.Native.Nat.{ℕ}
 use native.Mathlib.Omega.{arith}
-use mathlib.Core.Path.{_≡_, refl, sym, ap, _∙_}
+use mathlib.Core.Path.{_≡_, refl, ap}
 use mathlib.Core.List.{List, [], _∷_, _++_}
 use lib.ListN.{length, getD}
 use lib.Dec.{lit<}
-use lib.IntN.{ℤ, pos}
+use lib.IntN.{pos}
 use Rattle.meaning.specs.Grammar.{Grammar, Leaf, leaves}
 use Rattle.meaning.specs.Calls.{tokensFrom}
 use Rattle.meaning.specs.Tree.{Tree, leaf, node, noTrees, treeAnd, TreeOf, valueOf}
 use Rattle.meaning.specs.Drawn.{depth}
 use Rattle.meaning.specs.Words.{words}
 use Rattle.meaning.specs.TableRows.{bytes}
-use Rattle.meaning_sheet.specs.Sheet.{sheetOf}
 use Rattle.meaning_judge.specs.Judge.{Describes, JudgeAnswer, worth, turnedBack, Settles, JudgedAs}
 
 abbrev pub oneWord : List Leaf
@@ -41,15 +40,15 @@ its-value : valueOf words oneTree ≡ pos 1
 its-value = refl
 
 -- a byte after the records, and a byte too few
-trailing : Describes words oneWord (oneSheet ++ (0 ∷ [])) oneTree → ⊥
+pub trailing : Describes words oneWord (oneSheet ++ (0 ∷ [])) oneTree → ⊥
 trailing h = omega (arith, ap length (h .written))
 
 -- the root's value 2 in place of 1, which its rule does not give
-other-value : (bs : List ℕ) → getD bs 19 0 ≡ 2 → Describes words oneWord bs oneTree → ⊥
+pub other-value : (bs : List ℕ) → getD bs 19 0 ≡ 2 → Describes words oneWord bs oneTree → ⊥
 other-value bs e h = omega (arith, e, ap (λ l. getD l 19 0) (h .written))
 
 -- tokens before: 0 in place of 1 in the last record
-other-before : (bs : List ℕ) → getD bs 55 0 ≡ 0 → Describes words oneWord bs oneTree → ⊥
+pub other-before : (bs : List ℕ) → getD bs 55 0 ≡ 0 → Describes words oneWord bs oneTree → ⊥
 other-before bs e h = omega (arith, e, ap (λ l. getD l 55 0) (h .written))
 
 -- another segment

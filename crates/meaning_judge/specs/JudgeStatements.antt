@@ -32,7 +32,7 @@ AcceptedSheets =
 abbrev pub RefusedSheets : Type 0
 RefusedSheets =
     ((bs : List ℕ) (g : Grammar) (ks : List ℕ) (vs : List ℤ) (bytes : List ℕ) → Accepted bs g → length ks ≡ length vs
-      → JudgedAs bs ks vs bytes (turnedBack 43 0) ↔ ((t : Tree) → Describes g (leaves g (tokensFrom ks vs)) bytes t → ⊥))
+    → JudgedAs bs ks vs bytes (turnedBack 43 0) ↔ ((t : Tree) → Describes g (leaves g (tokensFrom ks vs)) bytes t → ⊥))
     × ((bs : List ℕ) (g : Grammar) (ks : List ℕ) (vs : List ℤ) (bytes : List ℕ) (a : JudgeAnswer) → Accepted bs g → (length ks ≡ length vs → ⊥) → JudgedAs bs ks vs bytes a ↔ (a ≡ turnedBack 38 0))
     × ((bs ks : List ℕ) (vs : List ℤ) (bytes : List ℕ) (a : JudgeAnswer) (n o : ℕ) → verdictOf bs ≡ rejected n o → JudgedAs bs ks vs bytes a ↔ (a ≡ turnedBack n o))
 

@@ -2,18 +2,18 @@
 use Prim.Native.Nat.{ℕ, _+_, _-_, _%_, _≤_, _<_}
 use native.Mathlib.Omega.{arith}
 use native.Mathlib.Decide.{decLt}
-use mathlib.Core.Path.{_≡_, refl, sym, ap, _∙_, subst}
+use mathlib.Core.Path.{_≡_, sym, ap, _∙_, subst}
 use mathlib.Core.List.{List}
-use mathlib.Core.Bool.{Bool, true, false, _&&_}
-use lib.IntN.{ℤ, pos, negsuc, _-ℤ_, natAbs}
-use lib.Signed.{leZ, mag}
-use borrow.Author.Tests.{lt-ltb, le-ltb, lt-leb}
+use mathlib.Core.Bool.{true, false}
+use lib.IntN.{ℤ, pos, negsuc, _-ℤ_}
+use lib.Signed.{leZ}
+use borrow.Author.Tests.{lt-ltb, le-ltb}
 use mir.Syntax.{w32, w64}
 use lib.Dec.{T, le→leb}
 use Rattle.meaning.specs.Rules.{fourBytes}
 use Rattle.theory_base.specs.Members.{and}
 use mir.Val.{SFits}
-use Rattle.meaning.specs.Value.{inRange, mark, pick, lowest}
+use Rattle.meaning.specs.Value.{inRange, mark, pick}
 use Rattle.value.specs.Ranged.{ranged, ranged-in, in-ranged}
 use Rattle.value.specs.Overflow.{large-out}
 use Rattle.theory_judge.specs.Longs.{longOf, long-low, long-high, bitsAt, longAt}
@@ -47,11 +47,8 @@ module _ (n : ℕ) (small : n < 18446744073709551616) where
       go (yes l) = ap inRange (long-low n l) ∙ large-out (pos n) (omega arith)
       go (no l) = ap inRange (long-high n (omega arith)) ∙ large-out (negsuc (18446744073709551615 - n)) (omega arith)
 
--- what is near is the number, and what is far is no value: so the mark stands for it
-pub near-ranged : (z y : ℤ) → z ≡ y → ranged z ≡ ranged y
-near-ranged z y e = ap ranged e
-
-pub far-ranged : (y : ℤ) → inRange y ≡ false → ranged mark ≡ ranged y
+-- what is far is no value, so the mark stands for it
+far-ranged : (y : ℤ) → inRange y ≡ false → ranged mark ≡ ranged y
 far-ranged y e = sym (ap (λ b. pick b y mark) e)
 
 module _ (z y : ℤ) (same : ranged z ≡ ranged y) where

@@ -1,10 +1,9 @@
 -- What a sheet describes from a place on: a tree, or a tree for each symbol of a list, taken apart and put together.
-use Prim.Native.Nat.{ℕ, zero, suc, _+_, _-_, _*_, _≤_, _<_}
+use Prim.Native.Nat.{ℕ, _+_, _-_, _*_, _≤_, _<_}
 use native.Mathlib.Omega.{arith}
 use mathlib.Core.Path.{_≡_, refl, sym, ap, _∙_, subst}
-use mathlib.Core.List.{List, [], _∷_, _++_, append-assoc, append-nil}
+use mathlib.Core.List.{List, [], _∷_, _++_, append-assoc}
 use lib.ListN.{getD, length, drop, length-append, length-drop}
-use lib.Seq.{drop-length}
 use lib.Dec.{T}
 use lib.IntN.{ℤ}
 use Rattle.meaning.specs.Base.{all}
@@ -201,14 +200,17 @@ module _ (g : Grammar) (formed : WellFormed g) (us : List Leaf) (few : length us
       let head : recordBytes p (wordAt bytes (at + 4)) (wordAt bytes (at + 8)) vs ≡ recordBytes p from (length (yields f)) vs = ap (λ k. recordBytes p k (wordAt bytes (at + 8)) vs) (h .heading .before) ∙ ap (λ k. recordBytes p from k vs) covers in
       record {
         tree = node p vs f;
-        evaluated = (record {
-          listed = h .heading .listed;
-          symbol = ap nonterminal (sym (h .heading .left));
-          size = size;
-          ranges = h .heading .ranges;
-          rules = h .rules;
-          conditions = h .conditions;
-        }, h .children .evaluated);
+        evaluated = (
+          record {
+            listed = h .heading .listed;
+            symbol = ap nonterminal (sym (h .heading .left));
+            size = size;
+            ranges = h .heading .ranges;
+            rules = h .rules;
+            conditions = h .conditions;
+          },
+          h .children .evaluated,
+        );
         shallow = omega (arith, h .deep, h .children .shallow);
         stands = record {
           written = there ∙ (ap (λ c. c ++ drop (at + 12 + 8 * att g (nonterminal m)) bytes) head ∙ (ap (λ r. recordBytes p from (length (yields f)) vs ++ r) (s .written) ∙ sym (append-assoc (recordBytes p from (length (yields f)) vs) (sheets from f) (drop n bytes))));

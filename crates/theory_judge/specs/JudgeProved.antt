@@ -1,5 +1,5 @@
 -- The statements on sheets from other tools, proved.
-use Prim.Native.Nat.{ℕ, _≤_, _<_, min}
+use Prim.Native.Nat.{ℕ}
 use native.Mathlib.Omega.{arith}
 use mathlib.Core.Path.{_≡_, refl, sym, ap, _∙_, subst}
 use mathlib.Core.Logic.{_↔_}
@@ -9,12 +9,9 @@ use lib.ListN.{length}
 use lib.Dec.{eqb}
 use lib.IntN.{ℤ}
 use Rattle.meaning.specs.Grammar.{Grammar, Leaf, leaves}
-use Rattle.meaning.specs.Judgement.{Accepted, rejected}
-use Rattle.meaning.specs.Decide.{verdictOf}
-use Rattle.meaning.specs.Tree.{Tree, TreeOf, yield, valueOf}
-use Rattle.meaning.specs.Walk.{walk}
-use Rattle.meaning.specs.Drawn.{depth, WalkFits}
-use Rattle.meaning.specs.Calls.{Stacks, value, lentOf, tokensFrom}
+use Rattle.meaning.specs.Judgement.{Accepted}
+use Rattle.meaning.specs.Tree.{Tree, valueOf}
+use Rattle.meaning.specs.Calls.{tokensFrom}
 use Rattle.meaning.specs.PublicCalls.{Checked, usable, unusable, check}
 use Rattle.meaning_sheet.specs.Sheet.{sheetOf}
 use Rattle.meaning_judge.specs.Judge.{Describes, JudgeAnswer, worth, turnedBack, Settles, SettlesIf, SettlesUnder, JudgedAs}
@@ -103,8 +100,7 @@ written-sheets bs g ks vs m t acc e tree fits =
 pub sheet-value : SheetValue
 sheet-value program bs area g m ks vs bytes v acc long lent e h =
     let d = accepted-exactly bs g ks vs bytes acc e v .0 h in
-    let us : List Leaf = leaves g (tokensFrom ks vs) in
-    (
+    let us : List Leaf = leaves g (tokensFrom ks vs) in (
       (λ t tree fits. value-whole program bs area g m ks vs acc long lent e v _ .1 (t, tree, fits, ap (valueOf g) (only bs g acc us t (d .0) tree (d .1 .tree)) ∙ d .2, refl)),
       (λ w n q. let z = value-whole program bs area g m ks vs acc long lent e w n .0 q in sym (z .3) ∙ (ap (valueOf g) (only bs g acc us (z .0) (d .0) (z .1) (d .1 .tree)) ∙ d .2)),
     )

@@ -7,3 +7,4 @@ pub mod Biased
 pub mod Judged
 pub mod Whole
 pub mod JudgeProved
+pub mod JudgedRows

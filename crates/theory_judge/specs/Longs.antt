@@ -3,10 +3,10 @@ use Prim.Native.Nat.{ℕ, zero, suc, _+_, _-_, _*_, _/_, _%_, _≤_, _<_}
 use native.Mathlib.Omega.{arith}
 use native.Mathlib.Numerals.{add-one}
 use native.Mathlib.Decide.{decLt}
-use mathlib.Core.Path.{_≡_, refl, sym, ap, ap₂, _∙_, subst}
+use mathlib.Core.Path.{_≡_, refl, sym, ap, ap₂, _∙_}
 use mathlib.Core.Bool.{Bool, true, false, _&&_}
 use mathlib.Core.List.{List, [], _∷_, _++_, append-assoc}
-use lib.ListN.{getD, length, drop, length-append, length-drop}
+use lib.ListN.{getD, length, drop, length-append}
 use lib.Seq.{drop-cons, drop-drop, drop-append-seam, getD-drop}
 use lib.Dec.{T, ltb, leb→le}
 use lib.IntN.{ℤ, pos, negsuc}
@@ -15,7 +15,7 @@ use borrow.Author.Tests.{lt-ltb, le-ltb}
 use Rattle.meaning.specs.Base.{all}
 use Rattle.meaning.specs.Layout.{fourBytes, Bytes}
 use Rattle.meaning.specs.Table.{byte}
-use Rattle.meaning.specs.Value.{inRange, lowest, highest, pick}
+use Rattle.meaning.specs.Value.{inRange, lowest}
 use Rattle.meaning_sheet.specs.Sheet.{complement, eightBytes, valueBytes}
 use Rattle.theory_base.specs.Members.{both}
 use Rattle.theory_table.specs.Numbers.{joined, four-joined, small}
@@ -135,9 +135,6 @@ complement-small : (v : ℤ) → T (inRange v) → complement v < 18446744073709
 complement-small (pos n) t = let l = in-low n t in omega arith
 complement-small (negsuc n) t = omega arith
 
-pub eight-long : (v : ℤ) → length (eightBytes v) ≡ 8
-eight-long v = refl
-
 pub long-read : (b : List ℕ) (i : ℕ) (v : ℤ) (r : List ℕ) → T (inRange v) → drop i b ≡ eightBytes v ++ r → longAt b i ≡ v
 unfolding longAt bitsAt
 long-read b i v r t e =
@@ -147,10 +144,6 @@ long-read b i v r t e =
     let behind : drop (i + 4) b ≡ fourBytes c ++ r = drop-past b (fourBytes (c / 4294967296)) (fourBytes c ++ r) i e in
     let low : wordAt b (i + 4) ≡ c % 4294967296 = word-rest b (i + 4) c r behind in
     rw (high, low) (ap longOf (omega arith) ∙ long-back v t)
-
-pub bits-small : (b : List ℕ) → Bytes b → (i : ℕ) → bitsAt b i < 18446744073709551616
-unfolding bitsAt
-bits-small b h i = omega (arith, word-small b h i, word-small b h (i + 4))
 
 pub long-there : (b : List ℕ) → Bytes b → (i : ℕ) → i + 8 ≤ length b → drop i b ≡ eightBytes (longAt b i) ++ drop (i + 8) b
 unfolding longAt bitsAt

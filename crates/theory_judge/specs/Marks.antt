@@ -5,23 +5,23 @@ use mathlib.Core.Path.{_≡_, refl, sym, ap, ap₂, _∙_, subst}
 use mathlib.Core.Logic.{inl, inr}
 use mathlib.Core.Bool.{Bool, true, false, _&&_}
 use mathlib.Core.List.{List, [], _∷_, _++_, append-assoc}
-use lib.ListN.{getD, length, drop, length-append, length-drop}
+use lib.ListN.{getD, length, drop, length-drop}
 use lib.Dec.{T, ltb, eqb, leb, le→leb}
 use lib.IntN.{ℤ, pos, negsuc}
 use borrow.Author.Tests.{lt-ltb, le-ltb}
 use Rattle.meaning.specs.Base.{In, all, any}
-use Rattle.meaning.specs.Grammar.{Grammar, Symbol, terminal, nonterminal, Occurrence, Rule, Condition, Production, Leaf, Token, attributeIf, carried, leafOf, leaves, inh, att, symbolAt, productionAt}
-use Rattle.meaning.specs.Rules.{Operands, Reads, InputAt, OutputAt, Input, Output, Operand, WellFormed, WellFormedProduction}
+use Rattle.meaning.specs.Grammar.{Grammar, Symbol, terminal, nonterminal, Occurrence, Rule, Condition, Production, Leaf, attributeIf, carried, leafOf, leaves, att, symbolAt}
+use Rattle.meaning.specs.Rules.{InputAt, OutputAt, Input, Output, Operand, WellFormed, WellFormedProduction}
 use Rattle.meaning.specs.Value.{inRange, apply, holds, pick}
 use Rattle.meaning.specs.Calls.{tokensFrom}
 use Rattle.meaning.specs.Tree.{Tree, Forest, leaf, node, noTrees, treeAnd, yield, yields, values, child, valueAt, RulesHold, isLeafOf, WellEvaluated, WellEvaluateds}
 use Rattle.meaning_sheet.specs.Sheet.{recordBytes, sheet, sheets}
-use Rattle.theory_base.specs.Members.{T→true, true→T, both, and, all-in}
+use Rattle.theory_base.specs.Members.{T→true, true→T, both, and}
 use Rattle.theory_base.specs.Agree.{operands-map, apply-agree, reads-map, holds-agree}
 use Rattle.theory_base.specs.Selectors.{leaf-ranges, tree-size}
 use Rattle.value.specs.Ranged.{ranged, ranged-in, in-ranged}
 use Rattle.theory_judge.specs.Longs.{longAt, longs, longs-at, cons-one}
-use Rattle.theory_judge.specs.Described.{RecordRead, record-read, Stands, yield-small, Described, DescribedAll, noLeaf}
+use Rattle.theory_judge.specs.Described.{RecordRead, record-read, Stands, yield-small, Described, noLeaf}
 use Rattle.theory_judge.specs.Holding.{sameZ, same-exactly, ruleTrue, allTrue}
 
 -- ---- reading

@@ -1,8 +1,8 @@
 -- The ways out of a node and of a list of children: what is described has these ends and no others, or nothing is described.
-use Prim.Native.Nat.{ℕ, zero, suc, _+_, _-_, _*_, _≤_, _<_}
+use Prim.Native.Nat.{ℕ, suc, _+_, _-_, _*_, _≤_, _<_}
 use native.Mathlib.Omega.{arith}
 use native.Mathlib.Decide.{decLt}
-use mathlib.Core.Path.{_≡_, refl, sym, ap, _∙_, subst}
+use mathlib.Core.Path.{_≡_, sym, ap, _∙_, subst}
 use mathlib.Core.Bool.{true, false}
 use mathlib.Core.List.{List, [], _∷_}
 use lib.ListN.{getD, length, drop, drop-of-length-le}
@@ -12,7 +12,7 @@ use Rattle.meaning.specs.Grammar.{Grammar, Symbol, terminal, nonterminal, Leaf,
 use Rattle.meaning.specs.Rules.{WellFormed, WellFormedProduction}
 use Rattle.meaning.specs.Layout.{Bytes}
 use Rattle.meaning.specs.Calls.{tokensFrom}
-use Rattle.meaning.specs.Tree.{Tree, Forest, node, treeAnd, yields, child, isLeafOf, WellEvaluateds}
+use Rattle.meaning.specs.Tree.{Forest, node, yields, child, isLeafOf, WellEvaluateds}
 use Rattle.meaning_sheet.specs.Sheet.{sheets}
 use Rattle.theory_base.specs.Members.{apart}
 use Rattle.theory_base.specs.WellFormed.{well-formed-at}
@@ -112,8 +112,8 @@ module _ (g : Grammar) (formed : WellFormed g) (ks : List ℕ) (vals : List ℤ)
             record {
               left = moved (s .others) (z .0) (z .1);
               same = λ i.
-                let e₀ : k + 1 + i ≡ k + suc i = omega arith in
-                ap (child (x .trees)) e₀ ∙ (q .same (suc i) ∙ ap (λ f. child f (suc i)) (s .joined));
+                  let e₀ : k + 1 + i ≡ k + suc i = omega arith in
+                  ap (child (x .trees)) e₀ ∙ (q .same (suc i) ∙ ap (λ f. child f (suc i)) (s .joined));
             }
 
         at-hand : (n e : ℕ) (x : DescribedAll g us bytes at from xs d n e) → Shown bytes vals (getD marks′ (suc k) 0) (child (x .trees) k)

@@ -1,9 +1,9 @@
 -- The whole sheet: what it describes from its beginning, up to its end and the segment's.
-use Prim.Native.Nat.{ℕ, _+_, _≤_, _<_}
+use Prim.Native.Nat.{ℕ, _≤_, _<_}
 use native.Mathlib.Omega.{arith}
 use mathlib.Core.Path.{_≡_, refl, sym, ap, _∙_, subst}
 use mathlib.Core.List.{List, _++_, append-nil}
-use lib.ListN.{length, drop}
+use lib.ListN.{length}
 use lib.Seq.{drop-length}
 use lib.IntN.{ℤ}
 use Rattle.meaning.specs.Grammar.{Grammar, nonterminal, Leaf, leaves}
@@ -11,7 +11,7 @@ use Rattle.meaning.specs.Rules.{WellFormed}
 use Rattle.meaning.specs.Calls.{tokensFrom}
 use Rattle.meaning.specs.Tree.{Tree, yield, valueOf}
 use Rattle.meaning_sheet.specs.Sheet.{sheetOf}
-use Rattle.meaning_judge.specs.Judge.{Describes, JudgeAnswer, worth, turnedBack, Settles}
+use Rattle.meaning_judge.specs.Judge.{Describes, worth, turnedBack, Settles}
 use Rattle.theory_base.specs.Selectors.{tree-size}
 use Rattle.theory_judge.specs.Described.{Described}
 use Rattle.theory_judge.specs.Marks.{readMark, described-shown}

@@ -60,7 +60,6 @@ abbrev check-children-μ-loop : check-children-lts.MeasureT-loop
 check-children-μ-loop table rows inherited synthesized offsets kinds values sheet p at from depth-left marks₀ first size next₀ end₀ k₀ marks next end k =
     size - k
 
--- src/lib.rt:221:17
 check-children-mul-first : (t : ℕ) → check-children-lts.Need-mul-first (
   byte-at-reads.Asked,
   byte-at-reads.Learnt,
@@ -71,7 +70,6 @@ check-children-mul-first : (t : ℕ) → check-children-lts.Need-mul-first (
 ) (check-children-at t) check-children.Post check-children-Inv-loop check-children-μ-loop
 check-children-mul-first t c = omega (arith, L.row-few (c .before .before .before .before .before .before .before .pre .1 .0))
 
--- src/lib.rt:222:37
 check-children-add-byte-at : (t : ℕ) → check-children-lts.Need-add-byte-at (
   byte-at-reads.Asked,
   byte-at-reads.Learnt,
@@ -82,7 +80,6 @@ check-children-add-byte-at : (t : ℕ) → check-children-lts.Need-add-byte-at (
 ) (check-children-at t) check-children.Post check-children-Inv-loop check-children-μ-loop
 check-children-add-byte-at t c = omega (arith, L.row-few (c .before .before .before .before .before .before .before .pre .1 .0))
 
--- src/lib.rt:222:16
 check-children-byte-at-requires : (t : ℕ) → check-children-lts.Need-byte-at-requires (
   byte-at-reads.Asked,
   byte-at-reads.Learnt,
@@ -93,7 +90,6 @@ check-children-byte-at-requires : (t : ℕ) → check-children-lts.Need-byte-at-
 ) (check-children-at t) check-children.Post check-children-Inv-loop check-children-μ-loop
 check-children-byte-at-requires t c κs = tt
 
--- src/lib.rt:222:16
 check-children-cast-size : (t : ℕ) → check-children-lts.Need-cast-size (
   byte-at-reads.Asked,
   byte-at-reads.Learnt,
@@ -104,7 +100,6 @@ check-children-cast-size : (t : ℕ) → check-children-lts.Need-cast-size (
 ) (check-children-at t) check-children.Post check-children-Inv-loop check-children-μ-loop
 check-children-cast-size t c = search needs
 
--- src/lib.rt:226:5
 check-children-loop-holds : (t : ℕ) → check-children-lts.Need-loop-holds (
   byte-at-reads.Asked,
   byte-at-reads.Learnt,
@@ -115,7 +110,6 @@ check-children-loop-holds : (t : ℕ) → check-children-lts.Need-loop-holds (
 ) (check-children-at t) check-children.Post check-children-Inv-loop check-children-μ-loop
 check-children-loop-holds t c = (c .byte-at .ensures .0, omega arith, L.passed-none (c .before .before .before .before .before .before .before .before .pre .1 .1))
 
--- src/lib.rt:227:36
 check-children-add-symbol : (t : ℕ) → check-children-lts.Need-add-symbol (
   byte-at-reads.Asked,
   byte-at-reads.Learnt,
@@ -126,7 +120,6 @@ check-children-add-symbol : (t : ℕ) → check-children-lts.Need-add-symbol (
 ) (check-children-at t) check-children.Post check-children-Inv-loop check-children-μ-loop
 check-children-add-symbol t c = omega (arith, L.size-few (c .before .before .before .before .before .before .before .before .before .before .pre .1 .0), c .before .loop .inv .0)
 
--- src/lib.rt:227:27
 check-children-add-symbol-2 : (t : ℕ) → check-children-lts.Need-add-symbol-2 (
   byte-at-reads.Asked,
   byte-at-reads.Learnt,
@@ -135,9 +128,9 @@ check-children-add-symbol-2 : (t : ℕ) → check-children-lts.Need-add-symbol-2
   check-node-below t,
   check-node.Post,
 ) (check-children-at t) check-children.Post check-children-Inv-loop check-children-μ-loop
-check-children-add-symbol-2 t c = omega (arith, L.size-few (c .before .before .before .before .before .before .before .before .before .before .pre .1 .0), L.row-few (c .before .before .before .before .before .before .before .before .before .before .pre .1 .0), c .before .loop .inv .0)
+check-children-add-symbol-2 t c =
+    omega (arith, L.size-few (c .before .before .before .before .before .before .before .before .before .before .pre .1 .0), L.row-few (c .before .before .before .before .before .before .before .before .before .before .pre .1 .0), c .before .loop .inv .0)
 
--- src/lib.rt:227:22
 check-children-shared-slice-read-symbol :
     (t : ℕ) → check-children-lts.Need-shared-slice-read-symbol (
       byte-at-reads.Asked,
@@ -147,9 +140,9 @@ check-children-shared-slice-read-symbol :
       check-node-below t,
       check-node.Post,
     ) (check-children-at t) check-children.Post check-children-Inv-loop check-children-μ-loop
-check-children-shared-slice-read-symbol t c = omega (arith, L.size-few (c .before .before .before .before .before .before .before .before .before .before .before .pre .1 .0), L.row-inside (c .before .before .before .before .before .before .before .before .before .before .before .pre .1 .0), c .before .before .loop .inv .0)
+check-children-shared-slice-read-symbol t c =
+    omega (arith, L.size-few (c .before .before .before .before .before .before .before .before .before .before .before .pre .1 .0), L.row-inside (c .before .before .before .before .before .before .before .before .before .before .before .pre .1 .0), c .before .before .loop .inv .0)
 
--- src/lib.rt:228:24
 check-children-mark-of-requires : (t : ℕ) → check-children-lts.Need-mark-of-requires (
   byte-at-reads.Asked,
   byte-at-reads.Learnt,
@@ -158,9 +151,9 @@ check-children-mark-of-requires : (t : ℕ) → check-children-lts.Need-mark-of-
   check-node-below t,
   check-node.Post,
 ) (check-children-at t) check-children.Post check-children-Inv-loop check-children-μ-loop
-check-children-mark-of-requires t c κs = omega (arith, L.end-small (c .before .before .loop .inv .2) (c .before .before .before .before .before .before .before .before .before .before .before .pre .1 .0), c .before .before .before .before .before .before .before .before .before .before .before .good .1 .1 .1 .1 .1 .1 .1 .0)
+check-children-mark-of-requires t c κs =
+    omega (arith, L.end-small (c .before .before .loop .inv .2) (c .before .before .before .before .before .before .before .before .before .before .before .pre .1 .0), c .before .before .before .before .before .before .before .before .before .before .before .good .1 .1 .1 .1 .1 .1 .1 .0)
 
--- src/lib.rt:228:15
 check-children-add-marks : (t : ℕ) → check-children-lts.Need-add-marks (
   byte-at-reads.Asked,
   byte-at-reads.Learnt,
@@ -169,9 +162,9 @@ check-children-add-marks : (t : ℕ) → check-children-lts.Need-add-marks (
   check-node-below t,
   check-node.Post,
 ) (check-children-at t) check-children.Post check-children-Inv-loop check-children-μ-loop
-check-children-add-marks t c = omega (arith, L.size-few (c .before .before .before .before .before .before .before .before .before .before .before .before .pre .1 .0), c .before .before .before .loop .inv .0)
+check-children-add-marks t c =
+    omega (arith, L.size-few (c .before .before .before .before .before .before .before .before .before .before .before .before .pre .1 .0), c .before .before .before .loop .inv .0)
 
--- src/lib.rt:228:9
 check-children-mul-marks : (t : ℕ) → check-children-lts.Need-mul-marks (
   byte-at-reads.Asked,
   byte-at-reads.Learnt,
@@ -180,9 +173,9 @@ check-children-mul-marks : (t : ℕ) → check-children-lts.Need-mul-marks (
   check-node-below t,
   check-node.Post,
 ) (check-children-at t) check-children.Post check-children-Inv-loop check-children-μ-loop
-check-children-mul-marks t c = omega (arith, L.size-few (c .before .before .before .before .before .before .before .before .before .before .before .before .pre .1 .0), c .before .before .before .loop .inv .0)
+check-children-mul-marks t c =
+    omega (arith, L.size-few (c .before .before .before .before .before .before .before .before .before .before .before .before .pre .1 .0), c .before .before .before .loop .inv .0)
 
--- src/lib.rt:228:9
 check-children-element-write-marks : (t : ℕ) → check-children-lts.Need-element-write-marks (
   byte-at-reads.Asked,
   byte-at-reads.Learnt,
@@ -191,9 +184,9 @@ check-children-element-write-marks : (t : ℕ) → check-children-lts.Need-eleme
   check-node-below t,
   check-node.Post,
 ) (check-children-at t) check-children.Post check-children-Inv-loop check-children-μ-loop
-check-children-element-write-marks t c = omega (arith, L.size-few (c .before .before .before .before .before .before .before .before .before .before .before .before .pre .1 .0), c .before .before .before .loop .inv .0, c .before .before .before .loop .inv .2 .long)
+check-children-element-write-marks t c =
+    omega (arith, L.size-few (c .before .before .before .before .before .before .before .before .before .before .before .before .pre .1 .0), c .before .before .before .loop .inv .0, c .before .before .before .loop .inv .2 .long)
 
--- src/lib.rt:229:15
 check-children-check-node-requires : (t : ℕ) → check-children-lts.Need-check-node-requires (
   byte-at-reads.Asked,
   byte-at-reads.Learnt,
@@ -202,9 +195,10 @@ check-children-check-node-requires : (t : ℕ) → check-children-lts.Need-check
   check-node-below t,
   check-node.Post,
 ) (check-children-at t) check-children.Post check-children-Inv-loop check-children-μ-loop
-check-children-check-node-requires t c κs = let l = c .before .before .before in (omega arith, L.node-ready (l .loop .inv .2) (omega arith) _ refl (c .before .before .before .before .before .before .before .before .before .before .before .before .pre .1 .0))
+check-children-check-node-requires t c κs =
+    let l = c .before .before .before in
+    (omega arith, L.node-ready (l .loop .inv .2) (omega arith) _ refl (c .before .before .before .before .before .before .before .before .before .before .before .before .pre .1 .0))
 
--- src/lib.rt:244:17
 check-children-enum-told : (t : ℕ) → check-children-lts.Need-enum-told (
   byte-at-reads.Asked,
   byte-at-reads.Learnt,
@@ -215,7 +209,6 @@ check-children-enum-told : (t : ℕ) → check-children-lts.Need-enum-told (
 ) (check-children-at t) check-children.Post check-children-Inv-loop check-children-μ-loop
 check-children-enum-told t c = search needs
 
--- src/lib.rt:244:17
 check-children-returns : (t : ℕ) → check-children-lts.Need-returns (
   byte-at-reads.Asked,
   byte-at-reads.Learnt,
@@ -224,9 +217,11 @@ check-children-returns : (t : ℕ) → check-children-lts.Need-returns (
   check-node-below t,
   check-node.Post,
 ) (check-children-at t) check-children.Post check-children-Inv-loop check-children-μ-loop
-check-children-returns t c = let a = c .before .before in let l = a .before .before .before .before in L.passed-wrong (l .loop .inv .2) (omega arith) _ refl _ (a .check-node .ensures) _ (c .enum-told .given .1)
+check-children-returns t c =
+    let a = c .before .before in
+    let l = a .before .before .before .before in
+    L.passed-wrong (l .loop .inv .2) (omega arith) _ refl _ (a .check-node .ensures) _ (c .enum-told .given .1)
 
--- src/lib.rt:246:34
 check-children-enum-known-n : (t : ℕ) → check-children-lts.Need-enum-known-n (
   byte-at-reads.Asked,
   byte-at-reads.Learnt,
@@ -237,7 +232,6 @@ check-children-enum-known-n : (t : ℕ) → check-children-lts.Need-enum-known-n
 ) (check-children-at t) check-children.Post check-children-Inv-loop check-children-μ-loop
 check-children-enum-known-n t c = search needs
 
--- src/lib.rt:251:9
 check-children-add-k : (t : ℕ) → check-children-lts.Need-add-k (
   byte-at-reads.Asked,
   byte-at-reads.Learnt,
@@ -248,7 +242,6 @@ check-children-add-k : (t : ℕ) → check-children-lts.Need-add-k (
 ) (check-children-at t) check-children.Post check-children-Inv-loop check-children-μ-loop
 check-children-add-k t c = search needs
 
--- src/lib.rt:226:5
 check-children-loop-less : (t : ℕ) → check-children-lts.Need-loop-less (
   byte-at-reads.Asked,
   byte-at-reads.Learnt,
@@ -259,7 +252,6 @@ check-children-loop-less : (t : ℕ) → check-children-lts.Need-loop-less (
 ) (check-children-at t) check-children.Post check-children-Inv-loop check-children-μ-loop
 check-children-loop-less t c = omega arith
 
--- src/lib.rt:226:5
 check-children-loop-again : (t : ℕ) → check-children-lts.Need-loop-again (
   byte-at-reads.Asked,
   byte-at-reads.Learnt,
@@ -268,9 +260,11 @@ check-children-loop-again : (t : ℕ) → check-children-lts.Need-loop-again (
   check-node-below t,
   check-node.Post,
 ) (check-children-at t) check-children.Post check-children-Inv-loop check-children-μ-loop
-check-children-loop-again t c = let a = c .before .before .before in let l = a .before .before .before .before in (l .loop .inv .0, omega arith, L.passed-more (l .loop .inv .2) (omega arith) _ refl _ (a .check-node .ensures) _ _ (c .before .n .given .1) (omega (arith, L.size-few (c .before .before .before .before .before .before .before .before .before .before .before .before .before .before .before .before .pre .1 .0), l .loop .inv .0)) _ (a .before .mark-of .ensures))
+check-children-loop-again t c =
+    let a = c .before .before .before in
+    let l = a .before .before .before .before in
+    (l .loop .inv .0, omega arith, L.passed-more (l .loop .inv .2) (omega arith) _ refl _ (a .check-node .ensures) _ _ (c .before .n .given .1) (omega (arith, L.size-few (c .before .before .before .before .before .before .before .before .before .before .before .before .before .before .before .before .pre .1 .0), l .loop .inv .0)) _ (a .before .mark-of .ensures))
 
--- src/lib.rt:203:1
 check-children-returns-2 : (t : ℕ) → check-children-lts.Need-returns-2 (
   byte-at-reads.Asked,
   byte-at-reads.Learnt,
@@ -281,7 +275,6 @@ check-children-returns-2 : (t : ℕ) → check-children-lts.Need-returns-2 (
 ) (check-children-at t) check-children.Post check-children-Inv-loop check-children-μ-loop
 check-children-returns-2 t c = L.passed-end (c .before .loop .inv .2) (omega (arith, c .before .loop .inv .0))
 
--- src/lib.rt:158:9
 check-node-check-token-requires : (t : ℕ) → check-node-lts.Need-check-token-requires (
   check-token-reads.Asked,
   check-token-reads.Learnt,
@@ -294,7 +287,6 @@ check-node-check-token-requires : (t : ℕ) → check-node-lts.Need-check-token-
 ) (check-node-at t) check-node.Post
 check-node-check-token-requires t c κs = tt
 
--- src/lib.rt:158:9
 check-node-returns : (t : ℕ) → check-node-lts.Need-returns (
   check-token-reads.Asked,
   check-token-reads.Learnt,
@@ -307,7 +299,6 @@ check-node-returns : (t : ℕ) → check-node-lts.Need-returns (
 ) (check-node-at t) check-node.Post
 check-node-returns t c = λ x. L.by-token x _ _ (omega arith) _ (c .check-token .ensures)
 
--- src/lib.rt:161:9
 check-node-returns-2 : (t : ℕ) → check-node-lts.Need-returns-2 (
   check-token-reads.Asked,
   check-token-reads.Learnt,
@@ -320,7 +311,6 @@ check-node-returns-2 : (t : ℕ) → check-node-lts.Need-returns-2 (
 ) (check-node-at t) check-node.Post
 check-node-returns-2 t c = λ x. L.flat x _ _ (omega arith) (omega arith)
 
--- src/lib.rt:163:13
 check-node-cast-m : (t : ℕ) → check-node-lts.Need-cast-m (
   check-token-reads.Asked,
   check-token-reads.Learnt,
@@ -333,7 +323,6 @@ check-node-cast-m : (t : ℕ) → check-node-lts.Need-cast-m (
 ) (check-node-at t) check-node.Post
 check-node-cast-m t c = search needs
 
--- src/lib.rt:164:11
 check-node-heading-requires : (t : ℕ) → check-node-lts.Need-heading-requires (
   check-token-reads.Asked,
   check-token-reads.Learnt,
@@ -344,9 +333,10 @@ check-node-heading-requires : (t : ℕ) → check-node-lts.Need-heading-requires
   holds-reads.Asked,
   holds-reads.Learnt,
 ) (check-node-at t) check-node.Post
-check-node-heading-requires t c κs = let x = c .before .before .before .before .before .before .before .before .before .pre .1 in L.attributes-few (x .book) _ (L.known-m x 0 0 (omega arith))
+check-node-heading-requires t c κs =
+    let x = c .before .before .before .before .before .before .before .before .before .pre .1 in
+    L.attributes-few (x .book) _ (L.known-m x 0 0 (omega arith))
 
--- src/lib.rt:165:24
 check-node-enum-told : (t : ℕ) → check-node-lts.Need-enum-told (
   check-token-reads.Asked,
   check-token-reads.Learnt,
@@ -359,7 +349,6 @@ check-node-enum-told : (t : ℕ) → check-node-lts.Need-enum-told (
 ) (check-node-at t) check-node.Post
 check-node-enum-told t c = search needs
 
--- src/lib.rt:167:13
 check-node-enum-known-production : (t : ℕ) → check-node-lts.Need-enum-known-production (
   check-token-reads.Asked,
   check-token-reads.Learnt,
@@ -372,7 +361,6 @@ check-node-enum-known-production : (t : ℕ) → check-node-lts.Need-enum-known-
 ) (check-node-at t) check-node.Post
 check-node-enum-known-production t c = search needs
 
--- src/lib.rt:184:17
 check-node-sub-check-children : (t : ℕ) → check-node-lts.Need-sub-check-children (
   check-token-reads.Asked,
   check-token-reads.Learnt,
@@ -385,7 +373,6 @@ check-node-sub-check-children : (t : ℕ) → check-node-lts.Need-sub-check-chil
 ) (check-node-at t) check-node.Post
 check-node-sub-check-children t c = omega arith
 
--- src/lib.rt:172:19
 check-node-check-children-requires : (t : ℕ) → check-node-lts.Need-check-children-requires (
   check-token-reads.Asked,
   check-token-reads.Learnt,
@@ -396,9 +383,11 @@ check-node-check-children-requires : (t : ℕ) → check-node-lts.Need-check-chi
   holds-reads.Asked,
   holds-reads.Learnt,
 ) (check-node-at t) check-node.Post
-check-node-check-children-requires t c κs = let h = c .before .before .before .before in let x = c .before .before .before .before .before .before .before .before .before .before .before .before .before .before .pre .1 in (omega arith, (L.ready x _ 0 (omega arith) _ (h .heading .ensures) _ _ _ (c .before .before .production .given .1), search needs))
+check-node-check-children-requires t c κs =
+    let h = c .before .before .before .before in
+    let x = c .before .before .before .before .before .before .before .before .before .before .before .before .before .before .pre .1 in
+    (omega arith, (L.ready x _ 0 (omega arith) _ (h .heading .ensures) _ _ _ (c .before .before .production .given .1), search needs))
 
--- src/lib.rt:187:34
 check-node-enum-told-2 : (t : ℕ) → check-node-lts.Need-enum-told-2 (
   check-token-reads.Asked,
   check-token-reads.Learnt,
@@ -411,7 +400,6 @@ check-node-enum-told-2 : (t : ℕ) → check-node-lts.Need-enum-told-2 (
 ) (check-node-at t) check-node.Post
 check-node-enum-told-2 t c = search needs
 
--- src/lib.rt:188:32
 check-node-enum-known-next : (t : ℕ) → check-node-lts.Need-enum-known-next (
   check-token-reads.Asked,
   check-token-reads.Learnt,
@@ -424,7 +412,6 @@ check-node-enum-known-next : (t : ℕ) → check-node-lts.Need-enum-known-next (
 ) (check-node-at t) check-node.Post
 check-node-enum-known-next t c = search needs
 
--- src/lib.rt:189:24
 check-node-sub-if3 : (t : ℕ) → check-node-lts.Need-sub-if3 (
   check-token-reads.Asked,
   check-token-reads.Learnt,
@@ -435,9 +422,12 @@ check-node-sub-if3 : (t : ℕ) → check-node-lts.Need-sub-if3 (
   holds-reads.Asked,
   holds-reads.Learnt,
 ) (check-node-at t) check-node.Post
-check-node-sub-if3 t c = let y = c .before .before .before .before .before .before .before .before .before .before .before .before .before .before .before .before .before .before .pre .1 in let a = c .before .before .before in let h = a .before .before .before .before .before in L.from-end y _ _ (omega arith) _ (h .heading .ensures) _ _ _ (a .before .before .before .production .given .1) _ _ _ (a .check-children .ensures) _ _ (c .before .next .given .1)
+check-node-sub-if3 t c =
+    let y = c .before .before .before .before .before .before .before .before .before .before .before .before .before .before .before .before .before .before .pre .1 in
+    let a = c .before .before .before in
+    let h = a .before .before .before .before .before in
+    L.from-end y _ _ (omega arith) _ (h .heading .ensures) _ _ _ (a .before .before .before .production .given .1) _ _ _ (a .check-children .ensures) _ _ (c .before .next .given .1)
 
--- src/lib.rt:190:25
 check-node-returns-3 : (t : ℕ) → check-node-lts.Need-returns-3 (
   check-token-reads.Asked,
   check-token-reads.Learnt,
@@ -448,9 +438,11 @@ check-node-returns-3 : (t : ℕ) → check-node-lts.Need-returns-3 (
   holds-reads.Asked,
   holds-reads.Learnt,
 ) (check-node-at t) check-node.Post
-check-node-returns-3 t c = λ x. let a = c .before .before .before .before in let h = a .before .before .before .before .before in L.uncovered x _ _ (omega arith) _ (h .heading .ensures) _ _ _ (a .before .before .before .production .given .1) _ _ _ (a .check-children .ensures) _ _ (c .before .before .next .given .1) (c .if3 .taken)
+check-node-returns-3 t c = λ x.
+    let a = c .before .before .before .before in
+    let h = a .before .before .before .before .before in
+    L.uncovered x _ _ (omega arith) _ (h .heading .ensures) _ _ _ (a .before .before .before .production .given .1) _ _ _ (a .check-children .ensures) _ _ (c .before .before .next .given .1) (c .if3 .taken)
 
--- src/lib.rt:192:67
 check-node-slice-aggregate-holds : (t : ℕ) → check-node-lts.Need-slice-aggregate-holds (
   check-token-reads.Asked,
   check-token-reads.Learnt,
@@ -461,9 +453,12 @@ check-node-slice-aggregate-holds : (t : ℕ) → check-node-lts.Need-slice-aggre
   holds-reads.Asked,
   holds-reads.Learnt,
 ) (check-node-at t) check-node.Post
-check-node-slice-aggregate-holds t c = let y = c .before .before .before .before .before .before .before .before .before .before .before .before .before .before .before .before .before .before .before .before .pre .1 in let a = c .before .before .before .before .before in let h = a .before .before .before .before .before in sym (L.thirteen y _ _ (omega arith) _ (h .heading .ensures) _ _ _ (a .before .before .before .production .given .1) _ _ _ (a .check-children .ensures) _ _ (c .before .before .before .next .given .1))
+check-node-slice-aggregate-holds t c =
+    let y = c .before .before .before .before .before .before .before .before .before .before .before .before .before .before .before .before .before .before .before .before .pre .1 in
+    let a = c .before .before .before .before .before in
+    let h = a .before .before .before .before .before in
+    sym (L.thirteen y _ _ (omega arith) _ (h .heading .ensures) _ _ _ (a .before .before .before .production .given .1) _ _ _ (a .check-children .ensures) _ _ (c .before .before .before .next .given .1))
 
--- src/lib.rt:192:24
 check-node-holds-requires : (t : ℕ) → check-node-lts.Need-holds-requires (
   check-token-reads.Asked,
   check-token-reads.Learnt,
@@ -474,9 +469,13 @@ check-node-holds-requires : (t : ℕ) → check-node-lts.Need-holds-requires (
   holds-reads.Asked,
   holds-reads.Learnt,
 ) (check-node-at t) check-node.Post
-check-node-holds-requires t c κs = let y = c .before .before .before .before .before .before .before .before .before .before .before .before .before .before .before .before .before .before .before .before .pre .1 in let a = c .before .before .before .before .before in let h = a .before .before .before .before .before in let z = L.ready y _ 0 (omega arith) _ (h .heading .ensures) _ _ _ (a .before .before .before .production .given .1) in (L.productions-few (y .book) _ (z .listed), y .book .spans _ (z .listed) .0, y .book .spans _ (z .listed) .1, L.listedAt (y .book) _ (z .listed))
+check-node-holds-requires t c κs =
+    let y = c .before .before .before .before .before .before .before .before .before .before .before .before .before .before .before .before .before .before .before .before .pre .1 in
+    let a = c .before .before .before .before .before in
+    let h = a .before .before .before .before .before in
+    let z = L.ready y _ 0 (omega arith) _ (h .heading .ensures) _ _ _ (a .before .before .before .production .given .1) in
+    (L.productions-few (y .book) _ (z .listed), y .book .spans _ (z .listed) .0, y .book .spans _ (z .listed) .1, L.listedAt (y .book) _ (z .listed))
 
--- src/lib.rt:193:25
 check-node-returns-4 : (t : ℕ) → check-node-lts.Need-returns-4 (
   check-token-reads.Asked,
   check-token-reads.Learnt,
@@ -487,9 +486,11 @@ check-node-returns-4 : (t : ℕ) → check-node-lts.Need-returns-4 (
   holds-reads.Asked,
   holds-reads.Learnt,
 ) (check-node-at t) check-node.Post
-check-node-returns-4 t c = λ x. let a = c .before .before .before .before .before .before .before in let h = a .before .before .before .before .before in L.fitting x _ _ (omega arith) _ (h .heading .ensures) _ _ _ (a .before .before .before .production .given .1) _ _ _ (a .check-children .ensures) _ _ (c .before .before .before .before .before .next .given .1) refl _ (c .before .holds .ensures) (omega arith) (c .before .before .before .if3 .left) (c .if4 .taken)
+check-node-returns-4 t c = λ x.
+    let a = c .before .before .before .before .before .before .before in
+    let h = a .before .before .before .before .before in
+    L.fitting x _ _ (omega arith) _ (h .heading .ensures) _ _ _ (a .before .before .before .production .given .1) _ _ _ (a .check-children .ensures) _ _ (c .before .before .before .before .before .next .given .1) refl _ (c .before .holds .ensures) (omega arith) (c .before .before .before .if3 .left) (c .if4 .taken)
 
--- src/lib.rt:140:1
 check-node-returns-5 : (t : ℕ) → check-node-lts.Need-returns-5 (
   check-token-reads.Asked,
   check-token-reads.Learnt,
@@ -502,7 +503,6 @@ check-node-returns-5 : (t : ℕ) → check-node-lts.Need-returns-5 (
 ) (check-node-at t) check-node.Post
 check-node-returns-5 t c = λ x. L.unfit x _ _ (omega arith) _ (c .before .before .heading .ensures) (c .enum-told .given .1)
 
--- src/lib.rt:140:1
 check-node-returns-6 : (t : ℕ) → check-node-lts.Need-returns-6 (
   check-token-reads.Asked,
   check-token-reads.Learnt,
@@ -513,9 +513,11 @@ check-node-returns-6 : (t : ℕ) → check-node-lts.Need-returns-6 (
   holds-reads.Asked,
   holds-reads.Learnt,
 ) (check-node-at t) check-node.Post
-check-node-returns-6 t c = λ x. let a = c .before .before in let h = a .before .before .before .before .before in L.wrong x _ _ (omega arith) _ (h .heading .ensures) _ _ _ (a .before .before .before .production .given .1) _ _ _ (a .check-children .ensures) (c .enum-told2 .given .1)
+check-node-returns-6 t c = λ x.
+    let a = c .before .before in
+    let h = a .before .before .before .before .before in
+    L.wrong x _ _ (omega arith) _ (h .heading .ensures) _ _ _ (a .before .before .before .production .given .1) _ _ _ (a .check-children .ensures) (c .enum-told2 .given .1)
 
--- src/lib.rt:140:1
 check-node-returns-7 : (t : ℕ) → check-node-lts.Need-returns-7 (
   check-token-reads.Asked,
   check-token-reads.Learnt,
@@ -526,7 +528,10 @@ check-node-returns-7 : (t : ℕ) → check-node-lts.Need-returns-7 (
   holds-reads.Asked,
   holds-reads.Learnt,
 ) (check-node-at t) check-node.Post
-check-node-returns-7 t c = λ x. let a = c .before .before .before .before .before .before .before in let h = a .before .before .before .before .before in L.unheld x _ _ (omega arith) _ (h .heading .ensures) _ _ _ (a .before .before .before .production .given .1) _ _ _ (a .check-children .ensures) _ _ (c .before .before .before .before .before .next .given .1) refl _ (c .before .holds .ensures) (c .if4 .left)
+check-node-returns-7 t c = λ x.
+    let a = c .before .before .before .before .before .before .before in
+    let h = a .before .before .before .before .before in
+    L.unheld x _ _ (omega arith) _ (h .heading .ensures) _ _ _ (a .before .before .before .production .given .1) _ _ _ (a .check-children .ensures) _ _ (c .before .before .before .before .before .next .given .1) refl _ (c .before .holds .ensures) (c .if4 .left)
 
 pub +check-children+check-node-spec : {M : Type 1} → statement M
 +check-children+check-node-spec =

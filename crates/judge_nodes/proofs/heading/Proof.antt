@@ -3,131 +3,120 @@ use Rattle.judge_nodes.proofs.Laws as L
 use borrow.Author.Needs.{needs}
 use Rattle.judge_nodes.proofs.heading.Statement.{statement}
 use Rattle.judge_nodes.proofs.heading.Tie as tie
-use Rattle.judge_nodes.proofs.heading.Reads as reads
-use Rattle.judge_nodes.proofs.heading.Lts as lts
-use Rattle.judge_values.proofs.are_values.Reads as are-values-reads
-use Rattle.value.proofs.byte_at.Reads as byte-at-reads
-use Rattle.value.proofs.word_at.Reads as word-at-reads
 
--- src/lib.rt:41:14
 byte-at-requires : tie.Need-byte-at-requires
 byte-at-requires c κs = search needs
 
--- src/lib.rt:41:45
 byte-at-requires-2 : tie.Need-byte-at-requires-2
 byte-at-requires-2 c κs = search needs
 
--- src/lib.rt:41:14
 add-n : tie.Need-add-n
 add-n c = search needs
 
--- src/lib.rt:41:13
 cast-n : tie.Need-cast-n
 cast-n c = search needs
 
--- src/lib.rt:44:9
 returns : tie.Need-returns
 returns c = L.head-short _ _ _ _ _ _ _ _ _ (c .before .before .byte-at .ensures .0) (c .before .byte-at2 .ensures .0) (omega arith)
 
--- src/lib.rt:46:8
 sub-if2 : tie.Need-sub-if2
 sub-if2 c = search needs
 
--- src/lib.rt:46:27
 mul-if2 : tie.Need-mul-if2
 mul-if2 c = search needs
 
--- src/lib.rt:46:22
 add-if2 : tie.Need-add-if2
 add-if2 c = search needs
 
--- src/lib.rt:47:9
 returns-2 : tie.Need-returns-2
 returns-2 c = let b = c .before .before in L.head-cut _ _ _ _ _ _ _ _ _ (b .before .byte-at .ensures .0) (b .byte-at2 .ensures .0) (omega arith)
 
--- src/lib.rt:49:13
 word-at-requires : tie.Need-word-at-requires
 word-at-requires c κs = search needs
 
--- src/lib.rt:49:13
 cast-p : tie.Need-cast-p
 cast-p c = search needs
 
--- src/lib.rt:51:9
 returns-3 : tie.Need-returns-3
-returns-3 c = let w = c .before in let b = w .before .before .before in L.head-unlisted _ _ _ _ _ _ _ _ _ (b .before .byte-at .ensures .0) (b .byte-at2 .ensures .0) _ (w .word-at .ensures) (omega arith)
+returns-3 c =
+    let w = c .before in
+    let b = w .before .before .before in
+    L.head-unlisted _ _ _ _ _ _ _ _ _ (b .before .byte-at .ensures .0) (b .byte-at2 .ensures .0) _ (w .word-at .ensures) (omega arith)
 
--- src/lib.rt:53:29
 mul-byte-at : tie.Need-mul-byte-at
 mul-byte-at c = search needs
 
--- src/lib.rt:53:8
 byte-at-requires-3 : tie.Need-byte-at-requires-3
 byte-at-requires-3 c κs = search needs
 
--- src/lib.rt:53:8
 cast-if4 : tie.Need-cast-if4
 cast-if4 c = search needs
 
--- src/lib.rt:54:9
 returns-4 : tie.Need-returns-4
-returns-4 c = let q = c .before in let w = q .before .before in let b = w .before .before .before in L.head-other _ _ _ _ _ _ _ _ _ (b .before .byte-at .ensures .0) (b .byte-at2 .ensures .0) _ (w .word-at .ensures) _ (q .byte-at3 .ensures .0) (c .if4 .taken)
+returns-4 c =
+    let q = c .before in
+    let w = q .before .before in
+    let b = w .before .before .before in
+    L.head-other _ _ _ _ _ _ _ _ _ (b .before .byte-at .ensures .0) (b .byte-at2 .ensures .0) _ (w .word-at .ensures) _ (q .byte-at3 .ensures .0) (c .if4 .taken)
 
--- src/lib.rt:56:30
 add-word-at : tie.Need-add-word-at
 add-word-at c = search needs
 
--- src/lib.rt:56:8
 word-at-requires-2 : tie.Need-word-at-requires-2
 word-at-requires-2 c κs = search needs
 
--- src/lib.rt:56:8
 cast-if5 : tie.Need-cast-if5
 cast-if5 c = search needs
 
--- src/lib.rt:57:9
 returns-5 : tie.Need-returns-5
-returns-5 c = let v = c .before in let q = v .before .before in let w = q .before .before in let b = w .before .before .before in L.head-before _ _ _ _ _ _ _ _ _ (b .before .byte-at .ensures .0) (b .byte-at2 .ensures .0) _ (w .word-at .ensures) _ (q .byte-at3 .ensures .0) _ (v .word-at2 .ensures) (c .if5 .taken)
+returns-5 c =
+    let v = c .before in
+    let q = v .before .before in
+    let w = q .before .before in
+    let b = w .before .before .before in
+    L.head-before _ _ _ _ _ _ _ _ _ (b .before .byte-at .ensures .0) (b .byte-at2 .ensures .0) _ (w .word-at .ensures) _ (q .byte-at3 .ensures .0) _ (v .word-at2 .ensures) (c .if5 .taken)
 
--- src/lib.rt:59:40
 add-are-values : tie.Need-add-are-values
 add-are-values c = search needs
 
--- src/lib.rt:59:8
 are-values-requires : tie.Need-are-values-requires
 are-values-requires c κs = search needs
 
--- src/lib.rt:62:21
 add-t19 : tie.Need-add-t19
 add-t19 c = search needs
 
--- src/lib.rt:62:31
 mul-t20 : tie.Need-mul-t20
 mul-t20 c = search needs
 
--- src/lib.rt:62:21
 add-t21 : tie.Need-add-t21
 add-t21 c = search needs
 
--- src/lib.rt:63:44
 add-word-at-2 : tie.Need-add-word-at-2
 add-word-at-2 c = search needs
 
--- src/lib.rt:63:22
 word-at-requires-3 : tie.Need-word-at-requires-3
 word-at-requires-3 c κs = search needs
 
--- src/lib.rt:63:22
 cast-t24 : tie.Need-cast-t24
 cast-t24 c = search needs
 
--- src/lib.rt:60:9
 returns-6 : tie.Need-returns-6
-returns-6 c = let a = c .before .before in let v = a .before .before in let q = v .before .before in let w = q .before .before in let b = w .before .before .before in L.head-found _ _ _ _ _ _ _ _ _ (b .before .byte-at .ensures .0) (b .byte-at2 .ensures .0) _ (w .word-at .ensures) _ (q .byte-at3 .ensures .0) _ (v .word-at2 .ensures) _ (a .are-values .ensures) (omega arith) (omega arith) (omega arith) (v .before .if4 .left) (a .before .if5 .left) (c .before .if6 .taken) _ (c .word-at3 .ensures)
+returns-6 c =
+    let a = c .before .before in
+    let v = a .before .before in
+    let q = v .before .before in
+    let w = q .before .before in
+    let b = w .before .before .before in
+    L.head-found _ _ _ _ _ _ _ _ _ (b .before .byte-at .ensures .0) (b .byte-at2 .ensures .0) _ (w .word-at .ensures) _ (q .byte-at3 .ensures .0) _ (v .word-at2 .ensures) _ (a .are-values .ensures) (omega arith) (omega arith) (omega arith) (v .before .if4 .left) (a .before .if5 .left) (c .before .if6 .taken) _ (c .word-at3 .ensures)
 
--- src/lib.rt:29:1
 returns-7 : tie.Need-returns-7
-returns-7 c = let a = c .before in let v = a .before .before in let q = v .before .before in let w = q .before .before in let b = w .before .before .before in L.head-far _ _ _ _ _ _ _ _ _ (b .before .byte-at .ensures .0) (b .byte-at2 .ensures .0) _ (w .word-at .ensures) _ (q .byte-at3 .ensures .0) _ (v .word-at2 .ensures) _ (a .are-values .ensures) (c .if6 .left)
+returns-7 c =
+    let a = c .before in
+    let v = a .before .before in
+    let q = v .before .before in
+    let w = q .before .before in
+    let b = w .before .before .before in
+    L.head-far _ _ _ _ _ _ _ _ _ (b .before .byte-at .ensures .0) (b .byte-at2 .ensures .0) _ (w .word-at .ensures) _ (q .byte-at3 .ensures .0) _ (v .word-at2 .ensures) _ (a .are-values .ensures) (c .if6 .left)
 
 pub heading-spec : {M : Type 1} → statement M
 heading-spec =

@@ -3,18 +3,13 @@ use Rattle.judge_nodes.proofs.Laws as L
 use borrow.Author.Needs.{needs}
 use Rattle.judge_nodes.proofs.mark_of.Statement.{statement}
 use Rattle.judge_nodes.proofs.mark_of.Tie as tie
-use Rattle.judge_nodes.proofs.mark_of.Reads as reads
-use Rattle.judge_nodes.proofs.mark_of.Lts as lts
 
--- src/lib.rt:133:16
 add-result : tie.Need-add-result
 add-result c = search needs
 
--- src/lib.rt:133:9
 returns : tie.Need-returns
 returns c = let s = c .before .args in L.mark-low (s .length) (s .symbol) (s .at) (s .from) (omega arith)
 
--- src/lib.rt:128:1
 returns-2 : tie.Need-returns-2
 returns-2 c = let s = c .before .args in L.mark-high (s .length) (s .symbol) (s .at) (s .from) (omega arith)
 

@@ -9,9 +9,6 @@ use Rattle.meaning.specs.Value.{inRange}
 use Rattle.theory_judge.specs.Longs.{longs, longs-none, longs-more}
 use Rattle.judge_values.proofs.are_values.Statement.{statement}
 use Rattle.judge_values.proofs.are_values.Tie as tie
-use Rattle.judge_values.proofs.are_values.Reads as reads
-use Rattle.judge_values.proofs.are_values.Lts as lts
-use Rattle.judge_values.proofs.is_value.Reads as is-value-reads
 
 abbrev Inv-loop : tie.InvT-loop
 Inv-loop bytes at n place₀ left₀ place left = (place + 8 * left ≤ 9223372036854775872) × (all inRange (longs bytes at n) ≡ all inRange (longs bytes place left))
@@ -19,15 +16,12 @@ Inv-loop bytes at n place₀ left₀ place left = (place + 8 * left ≤ 92233720
 abbrev μ-loop : tie.MeasureT-loop
 μ-loop bytes at n place₀ left₀ place left = left
 
--- src/lib.rt:68:5
 loop-holds : tie.Need-loop-holds Inv-loop μ-loop
 loop-holds c = (omega arith, refl)
 
--- src/lib.rt:69:13
 is-value-requires : tie.Need-is-value-requires Inv-loop μ-loop
 is-value-requires c κs = omega arith
 
--- src/lib.rt:70:13
 returns : tie.Need-returns Inv-loop μ-loop
 returns c =
     let l = c .before .before .before in
@@ -35,19 +29,15 @@ returns c =
     let f = sym (c .before .is-value .ensures) ∙ not-true (c .before .is-value .result) (c .if1 .taken) in
     sym (l .loop .inv .1 ∙ (longs-more _ _ _ (omega arith) ∙ ap (λ b. b && all inRange (longs (now (s .args .bytes)) (l .loop .place + 8) (l .loop .left - 1))) f))
 
--- src/lib.rt:72:9
 add-place : tie.Need-add-place Inv-loop μ-loop
 add-place c = omega arith
 
--- src/lib.rt:73:9
 sub-left : tie.Need-sub-left Inv-loop μ-loop
 sub-left c = omega arith
 
--- src/lib.rt:68:5
 loop-less : tie.Need-loop-less Inv-loop μ-loop
 loop-less c = omega arith
 
--- src/lib.rt:68:5
 loop-again : tie.Need-loop-again Inv-loop μ-loop
 loop-again c =
     let l = c .before .before .before in
@@ -55,7 +45,6 @@ loop-again c =
     let f = sym (c .before .is-value .ensures) ∙ not-false (c .before .is-value .result) (c .if1 .left) in
     (omega arith, l .loop .inv .1 ∙ (longs-more _ _ _ (omega arith) ∙ ap (λ b. b && all inRange (longs (now (s .args .bytes)) (l .loop .place + 8) (l .loop .left - 1))) f))
 
--- src/lib.rt:62:1
 returns-2 : tie.Need-returns-2 Inv-loop μ-loop
 returns-2 c = sym (c .before .loop .inv .1 ∙ longs-none _ _ _ (omega arith))
 

@@ -4,39 +4,28 @@ use Rattle.theory_judge.specs.Longs.{bitsAt}
 use borrow.Author.Needs.{needs}
 use Rattle.judge_values.proofs.bits_at.Statement.{statement}
 use Rattle.judge_values.proofs.bits_at.Tie as tie
-use Rattle.judge_values.proofs.bits_at.Reads as reads
-use Rattle.judge_values.proofs.bits_at.Lts as lts
-use Rattle.value.proofs.word_at.Reads as word-at-reads
 
--- src/lib.rt:25:16
 word-at-requires : tie.Need-word-at-requires
 word-at-requires c κs = search needs
 
--- src/lib.rt:25:16
 cast-high : tie.Need-cast-high
 cast-high c = search needs
 
--- src/lib.rt:26:37
 add-word-at : tie.Need-add-word-at
 add-word-at c = search needs
 
--- src/lib.rt:26:15
 word-at-requires-2 : tie.Need-word-at-requires-2
 word-at-requires-2 c κs = search needs
 
--- src/lib.rt:26:15
 cast-low : tie.Need-cast-low
 cast-low c = search needs
 
--- src/lib.rt:27:5
 mul-result : tie.Need-mul-result
 mul-result c = search needs
 
--- src/lib.rt:27:5
 add-result : tie.Need-add-result
 add-result c = search needs
 
--- src/lib.rt:21:1
 returns : tie.Need-returns
 unfolding bitsAt
 returns c = ap₂ (λ x y. x * 4294967296 + y) (c .before .word-at .ensures) (c .word-at2 .ensures)

@@ -1,41 +1,25 @@
-use native.Mathlib.Omega.{arith}
-use denote.Ref.{now}
 use borrow.Author.Needs.{sfits-of}
-use Rattle.judge_values.proofs.Bits.{held, valued, in-held}
+use Rattle.judge_values.proofs.Bits.{held, in-held}
 use Rattle.theory_judge.specs.Judged.{range-is, compare-is}
 use borrow.Author.Needs.{needs}
 use Rattle.judge_values.proofs.condition_holds.Statement.{statement}
 use Rattle.judge_values.proofs.condition_holds.Tie as tie
-use Rattle.judge_values.proofs.condition_holds.Reads as reads
-use Rattle.judge_values.proofs.condition_holds.Lts as lts
-use Rattle.judge_values.proofs.added.Reads as added-reads
-use Rattle.judge_values.proofs.occurrence.Reads as occurrence-reads
-use Rattle.value.proofs.at_most_plus.Reads as at-most-plus-reads
-use Rattle.value.proofs.byte_at.Reads as byte-at-reads
-use Rattle.value.proofs.constant_at.Reads as constant-at-reads
-use Rattle.value.proofs.in_bounds.Reads as in-bounds-reads
 
--- src/lib.rt:190:9
 occurrence-requires : tie.Need-occurrence-requires
 occurrence-requires c κs = search needs
 
--- src/lib.rt:191:8
 byte-at-requires : tie.Need-byte-at-requires
 byte-at-requires c κs = search needs
 
--- src/lib.rt:192:13
 constant-at-requires : tie.Need-constant-at-requires
 constant-at-requires c κs = search needs
 
--- src/lib.rt:193:13
 constant-at-requires-2 : tie.Need-constant-at-requires-2
 constant-at-requires-2 c κs = search needs
 
--- src/lib.rt:194:9
 in-bounds-requires : tie.Need-in-bounds-requires
 in-bounds-requires c κs = search needs
 
--- src/lib.rt:194:9
 returns : tie.Need-returns
 returns c =
     let h = c .before in
@@ -44,19 +28,16 @@ returns c =
     let a = k .before in
     range-is _ _ (k .byte-at .result) _ _ _ _ (k .byte-at .ensures .0) (l .before .if1 .taken) (held (sfits-of (a .occurrence .ok)) (a .occurrence .ensures .0)) (held (sfits-of (l .constant-at .ok)) (l .constant-at .ensures)) (held (sfits-of (h .constant-at2 .ok)) (h .constant-at2 .ensures)) (c .in-bounds .ensures)
 
--- src/lib.rt:196:9
 occurrence-requires-2 : tie.Need-occurrence-requires-2
 occurrence-requires-2 c κs = search needs
 
--- src/lib.rt:197:31
 added-requires : tie.Need-added-requires
 added-requires c κs = search needs
 
--- src/lib.rt:197:5
 at-most-plus-requires : tie.Need-at-most-plus-requires
-at-most-plus-requires c κs = (in-held (c .before .occurrence2 .result) (sfits-of (c .before .occurrence2 .ok)) (c .before .occurrence2 .ensures .1), in-held (c .added .result) (sfits-of (c .added .ok)) (c .added .ensures .1))
+at-most-plus-requires c κs =
+    (in-held (c .before .occurrence2 .result) (sfits-of (c .before .occurrence2 .ok)) (c .before .occurrence2 .ensures .1), in-held (c .added .result) (sfits-of (c .added .ok)) (c .added .ensures .1))
 
--- src/lib.rt:187:1
 returns-2 : tie.Need-returns-2
 returns-2 c =
     let d = c .before in

@@ -1,5 +1,5 @@
 use Prim.Native.Nat.{_-_, _≤_}
-use mathlib.Core.Path.{refl, sym, _∙_}
+use mathlib.Core.Path.{sym, _∙_}
 use native.Mathlib.Omega.{arith}
 use borrow.Author.Needs.{needs}
 use borrow.Author.Tests.{not-true, not-false}
@@ -8,10 +8,6 @@ use Rattle.theory_judge.specs.Marks.{readAt}
 use Rattle.theory_judge.specs.Holding.{Going, going-start, going-inside, going-on, going-false, going-end}
 use Rattle.judge_values.proofs.fields_hold.Statement.{statement}
 use Rattle.judge_values.proofs.fields_hold.Tie as tie
-use Rattle.judge_values.proofs.fields_hold.Reads as reads
-use Rattle.judge_values.proofs.fields_hold.Lts as lts
-use Rattle.judge_values.proofs.field_holds.Reads as field-holds-reads
-use Rattle.value.proofs.byte_at.Reads as byte-at-reads
 
 abbrev Inv-loop : tie.InvT-loop
 Inv-loop fields sheet values marks at₀ at = (at ≤ length fields) × Going (readAt sheet values marks) fields at
@@ -19,55 +15,52 @@ Inv-loop fields sheet values marks at₀ at = (at ≤ length fields) × Going (r
 abbrev μ-loop : tie.MeasureT-loop
 μ-loop fields sheet values marks at₀ at = length fields - at
 
--- src/lib.rt:217:5
 loop-holds : tie.Need-loop-holds Inv-loop μ-loop
 loop-holds c = (omega arith, going-start)
 
--- src/lib.rt:218:21
 sub-field : tie.Need-sub-field Inv-loop μ-loop
 sub-field c = omega arith
 
--- src/lib.rt:218:21
 part-field-start : tie.Need-part-field-start Inv-loop μ-loop
 part-field-start c = omega arith
 
--- src/lib.rt:218:21
 part-field-end : tie.Need-part-field-end Inv-loop μ-loop
 part-field-end c = omega arith
 
--- src/lib.rt:219:13
 field-holds-requires : tie.Need-field-holds-requires Inv-loop μ-loop
 field-holds-requires c κs = search needs
 
--- src/lib.rt:220:13
 returns : tie.Need-returns Inv-loop μ-loop
-returns c = let l = c .before .before .before .before in going-false (l .loop .inv .1) (omega arith) (sym (c .before .field-holds .ensures) ∙ not-true (c .before .field-holds .result) (c .if1 .taken))
+returns c =
+    let l = c .before .before .before .before in
+    going-false (l .loop .inv .1) (omega arith) (sym (c .before .field-holds .ensures) ∙ not-true (c .before .field-holds .result) (c .if1 .taken))
 
--- src/lib.rt:222:14
 add-at : tie.Need-add-at Inv-loop μ-loop
 add-at c = search needs
 
--- src/lib.rt:222:23
 byte-at-requires : tie.Need-byte-at-requires Inv-loop μ-loop
 byte-at-requires c κs = search needs
 
--- src/lib.rt:222:23
 cast-at : tie.Need-cast-at Inv-loop μ-loop
 cast-at c = search needs
 
--- src/lib.rt:222:14
 add-at-2 : tie.Need-add-at-2 Inv-loop μ-loop
 add-at-2 c = search needs
 
--- src/lib.rt:217:5
 loop-less : tie.Need-loop-less Inv-loop μ-loop
-loop-less c = let h = c .before .before in let l = h .before .before .before in let s = l .before .before .before .before in omega (arith, going-inside (l .loop .inv .1) (omega arith) _ (c .byte-at .ensures .0) (s .pre))
+loop-less c =
+    let h = c .before .before in
+    let l = h .before .before .before in
+    let s = l .before .before .before .before in
+    omega (arith, going-inside (l .loop .inv .1) (omega arith) _ (c .byte-at .ensures .0) (s .pre))
 
--- src/lib.rt:217:5
 loop-again : tie.Need-loop-again Inv-loop μ-loop
-loop-again c = let h = c .before .before in let l = h .before .before .before in let s = l .before .before .before .before in (going-inside (l .loop .inv .1) (omega arith) _ (c .byte-at .ensures .0) (s .pre), going-on (l .loop .inv .1) (omega arith) _ (c .byte-at .ensures .0) (sym (h .field-holds .ensures) ∙ not-false (h .field-holds .result) (c .before .if1 .left)))
+loop-again c =
+    let h = c .before .before in
+    let l = h .before .before .before in
+    let s = l .before .before .before .before in
+    (going-inside (l .loop .inv .1) (omega arith) _ (c .byte-at .ensures .0) (s .pre), going-on (l .loop .inv .1) (omega arith) _ (c .byte-at .ensures .0) (sym (h .field-holds .ensures) ∙ not-false (h .field-holds .result) (c .before .if1 .left)))
 
--- src/lib.rt:212:1
 returns-2 : tie.Need-returns-2 Inv-loop μ-loop
 returns-2 c = going-end (c .before .loop .inv .1) (omega arith)
 

@@ -11,16 +11,10 @@ use Rattle.theory_judge.specs.Biased.{near-at, far-at}
 use borrow.Author.Needs.{needs}
 use Rattle.judge_values.proofs.long_at.Statement.{statement}
 use Rattle.judge_values.proofs.long_at.Tie as tie
-use Rattle.judge_values.proofs.long_at.Reads as reads
-use Rattle.judge_values.proofs.long_at.Lts as lts
-use Rattle.judge_values.proofs.bits_at.Reads as bits-at-reads
-use Rattle.std.proofs.num.wrapping_add_u64.Reads as wrapping-add-u64-reads
 
--- src/lib.rt:35:45
 bits-at-requires : tie.Need-bits-at-requires
 bits-at-requires c κs = search needs
 
--- src/lib.rt:35:9
 wrapping-add-u64-requires : tie.Need-wrapping-add-u64-requires
 wrapping-add-u64-requires c κs = search needs
 
@@ -33,19 +27,15 @@ small-back n l = toZ-ofZ {w = w64} {z = pos n} (record { sfits = omega arith })
 difference : (c : tie.Else1) → toZ w64 (c .before .wrapping-add-u64 .result) -ℤ pos 4611686018427387904 ≡ longAt (now (c .before .before .before .before .args .bytes)) (c .before .before .before .before .args .at)
 difference c = ap (λ z. z -ℤ pos 4611686018427387904) (small-back (c .before .wrapping-add-u64 .result) (omega arith)) ∙ close c .0
 
--- src/lib.rt:37:9
 returns : tie.Need-returns
 returns c = far-at _ _ _ _ (omega arith) (c .before .before .bits-at .ensures) (c .before .wrapping-add-u64 .ensures) (c .if1 .taken)
 
--- src/lib.rt:39:5
 cast-result : tie.Need-cast-result
 cast-result c = search needs
 
--- src/lib.rt:39:5
 sub-result : tie.Need-sub-result
 sub-result c = rw (difference c) (close c .1)
 
--- src/lib.rt:31:1
 returns-2 : tie.Need-returns-2
 returns-2 c = rw (difference c, toZ-ofZ (close c .1)) refl
 

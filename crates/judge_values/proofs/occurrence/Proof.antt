@@ -1,48 +1,34 @@
-use native.Mathlib.Omega.{arith}
-use denote.Ref.{now}
 use borrow.Author.Needs.{sfits-of}
-use Rattle.judge_values.proofs.Bits.{held, valued, in-held}
+use Rattle.judge_values.proofs.Bits.{valued}
 use Rattle.theory_judge.specs.Judged.{occurrence-is}
 use borrow.Author.Needs.{needs}
 use Rattle.judge_values.proofs.occurrence.Statement.{statement}
 use Rattle.judge_values.proofs.occurrence.Tie as tie
-use Rattle.judge_values.proofs.occurrence.Reads as reads
-use Rattle.judge_values.proofs.occurrence.Lts as lts
-use Rattle.judge_values.proofs.mark_at.Reads as mark-at-reads
-use Rattle.judge_values.proofs.read_mark.Reads as read-mark-reads
-use Rattle.value.proofs.byte_at.Reads as byte-at-reads
 
--- src/lib.rt:118:20
 byte-at-requires : tie.Need-byte-at-requires
 byte-at-requires c κs = search needs
 
--- src/lib.rt:118:20
 cast-position : tie.Need-cast-position
 cast-position c = search needs
 
--- src/lib.rt:119:43
 add-byte-at : tie.Need-add-byte-at
 add-byte-at c = search needs
 
--- src/lib.rt:119:21
 byte-at-requires-2 : tie.Need-byte-at-requires-2
 byte-at-requires-2 c κs = search needs
 
--- src/lib.rt:119:21
 cast-attribute : tie.Need-cast-attribute
 cast-attribute c = search needs
 
--- src/lib.rt:120:9
 mark-at-requires : tie.Need-mark-at-requires
 mark-at-requires c κs = search needs
 
--- src/lib.rt:121:5
 read-mark-requires : tie.Need-read-mark-requires
 read-mark-requires c κs = search needs
 
--- src/lib.rt:114:1
 returns : tie.Need-returns
-returns c = valued (sfits-of (c .read-mark .ok)) (occurrence-is _ _ _ _ _ _ _ _ _ (c .before .before .before .byte-at .ensures .0) (c .before .before .byte-at2 .ensures .0) (c .before .mark-at .ensures) (c .read-mark .ensures .0)) (c .read-mark .ensures .1)
+returns c =
+    valued (sfits-of (c .read-mark .ok)) (occurrence-is _ _ _ _ _ _ _ _ _ (c .before .before .before .byte-at .ensures .0) (c .before .before .byte-at2 .ensures .0) (c .before .mark-at .ensures) (c .read-mark .ensures .0)) (c .read-mark .ensures .1)
 
 pub occurrence-spec : {M : Type 1} → statement M
 occurrence-spec =

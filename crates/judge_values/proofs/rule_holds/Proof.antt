@@ -1,45 +1,29 @@
-use native.Mathlib.Omega.{arith}
-use denote.Ref.{now}
 use borrow.Author.Needs.{sfits-of}
-use Rattle.judge_values.proofs.Bits.{held, valued, in-held}
+use Rattle.judge_values.proofs.Bits.{held, in-held}
 use Rattle.theory_judge.specs.Judged.{rule-is}
 use borrow.Author.Needs.{needs}
 use Rattle.judge_values.proofs.rule_holds.Statement.{statement}
 use Rattle.judge_values.proofs.rule_holds.Tie as tie
-use Rattle.judge_values.proofs.rule_holds.Reads as reads
-use Rattle.judge_values.proofs.rule_holds.Lts as lts
-use Rattle.judge_values.proofs.first.Reads as first-reads
-use Rattle.judge_values.proofs.occurrence.Reads as occurrence-reads
-use Rattle.judge_values.proofs.second.Reads as second-reads
-use Rattle.value.proofs.byte_at.Reads as byte-at-reads
-use Rattle.value.proofs.compute.Reads as compute-reads
-use Rattle.value.proofs.in_bounds.Reads as in-bounds-reads
 
--- src/lib.rt:167:9
 byte-at-requires : tie.Need-byte-at-requires
 byte-at-requires c κs = search needs
 
--- src/lib.rt:168:9
 first-requires : tie.Need-first-requires
 first-requires c κs = search needs
 
--- src/lib.rt:169:9
 second-requires : tie.Need-second-requires
 second-requires c κs = search needs
 
--- src/lib.rt:170:9
 compute-requires : tie.Need-compute-requires
-compute-requires c κs = (in-held (c .before .first .result) (sfits-of (c .before .first .ok)) (c .before .first .ensures .1), in-held (c .second .result) (sfits-of (c .second .ok)) (c .second .ensures .1))
+compute-requires c κs =
+    (in-held (c .before .first .result) (sfits-of (c .before .first .ok)) (c .before .first .ensures .1), in-held (c .second .result) (sfits-of (c .second .ok)) (c .second .ensures .1))
 
--- src/lib.rt:171:9
 occurrence-requires : tie.Need-occurrence-requires
 occurrence-requires c κs = search needs
 
--- src/lib.rt:172:5
 in-bounds-requires : tie.Need-in-bounds-requires
 in-bounds-requires c κs = search needs
 
--- src/lib.rt:164:1
 returns : tie.Need-returns
 returns c =
     let o = c .before in

@@ -1,29 +1,20 @@
 use native.Mathlib.Omega.{arith}
-use denote.Ref.{now}
 use borrow.Author.Needs.{sfits-of}
-use Rattle.judge_values.proofs.Bits.{held, valued, in-held}
+use Rattle.judge_values.proofs.Bits.{valued}
 use Rattle.theory_judge.specs.Judged.{second-constant, second-occurrence}
 use borrow.Author.Needs.{needs}
 use Rattle.judge_values.proofs.second.Statement.{statement}
 use Rattle.judge_values.proofs.second.Tie as tie
-use Rattle.judge_values.proofs.second.Reads as reads
-use Rattle.judge_values.proofs.second.Lts as lts
-use Rattle.judge_values.proofs.constant_in.Reads as constant-in-reads
-use Rattle.judge_values.proofs.occurrence.Reads as occurrence-reads
 
--- src/lib.rt:151:9
 occurrence-requires : tie.Need-occurrence-requires
 occurrence-requires c κs = search needs
 
--- src/lib.rt:151:9
 returns : tie.Need-returns
 returns c = valued (sfits-of (c .occurrence .ok)) (second-occurrence _ _ _ _ (omega arith) (c .occurrence .ensures .0)) (c .occurrence .ensures .1)
 
--- src/lib.rt:153:5
 constant-in-requires : tie.Need-constant-in-requires
 constant-in-requires c κs = search needs
 
--- src/lib.rt:141:1
 returns-2 : tie.Need-returns-2
 returns-2 c = valued (sfits-of (c .constant-in .ok)) (second-constant _ _ _ _ (omega arith) (c .constant-in .ensures .0)) (c .constant-in .ensures .1)
 

@@ -9,27 +9,19 @@ use Rattle.judge_values.proofs.Bits.{valued}
 use borrow.Author.Needs.{needs}
 use Rattle.judge_values.proofs.token_value.Statement.{statement}
 use Rattle.judge_values.proofs.token_value.Tie as tie
-use Rattle.judge_values.proofs.token_value.Reads as reads
-use Rattle.judge_values.proofs.token_value.Lts as lts
-use Rattle.judge_values.proofs.widen.Reads as widen-reads
 
--- src/lib.rt:103:9
 returns : tie.Need-returns
 returns c = (sym (List·getD-eq-default (now (c .before .args .values)) (pos 0) {n = c .before .args .i} (omega arith)), refl)
 
--- src/lib.rt:105:11
 mul-widen : tie.Need-mul-widen
 mul-widen c = search needs
 
--- src/lib.rt:105:11
 shared-slice-copy-out-widen : tie.Need-shared-slice-copy-out-widen
 shared-slice-copy-out-widen c = search needs
 
--- src/lib.rt:105:5
 widen-requires : tie.Need-widen-requires
 widen-requires c κs = search needs
 
--- src/lib.rt:99:1
 returns-2 : tie.Need-returns-2
 returns-2 c = valued (sfits-of (c .widen .ok)) (c .widen .ensures .0 ∙ toZ-ofZ (sfits-of (c .before .widen-arg .given))) (c .widen .ensures .1)
 

@@ -1,8 +1,7 @@
 use mir.Facts.{toZ-ofZ}
-use native.Mathlib.Omega.{arith}
 use denote.Ref.{now}
 use borrow.Author.Needs.{sfits-of}
-use Rattle.judge_values.proofs.Bits.{held, valued, in-held}
+use Rattle.judge_values.proofs.Bits.{valued}
 use mathlib.Core.Path.{ap}
 use Rattle.meaning.specs.Value.{inRange}
 use Rattle.theory_judge.specs.Longs.{longAt}
@@ -11,20 +10,13 @@ use Rattle.theory_judge.specs.Biased.{told-value, told-none}
 use borrow.Author.Needs.{needs}
 use Rattle.judge_values.proofs.value_in.Statement.{statement}
 use Rattle.judge_values.proofs.value_in.Tie as tie
-use Rattle.judge_values.proofs.value_in.Reads as reads
-use Rattle.judge_values.proofs.value_in.Lts as lts
-use Rattle.judge_values.proofs.long_at.Reads as long-at-reads
-use Rattle.value.proofs.in_range.Reads as in-range-reads
 
--- src/lib.rt:54:9
 long-at-requires : tie.Need-long-at-requires
 long-at-requires c κs = search needs
 
--- src/lib.rt:55:8
 in-range-requires : tie.Need-in-range-requires
 in-range-requires c κs = search needs
 
--- src/lib.rt:56:9
 returns : tie.Need-returns
 returns c =
     let l = c .before .before in
@@ -33,7 +25,6 @@ returns c =
     let t = sym (ap inRange (toZ-ofZ {z = l .long-at .result} f)) ∙ (sym (c .before .in-range .ensures) ∙ c .if1 .taken) in
     valued f (told-value (l .long-at .result) (longAt (now (s .args .bytes)) (s .args .at)) (l .long-at .ensures) t) t
 
--- src/lib.rt:50:1
 returns-2 : tie.Need-returns-2
 returns-2 c =
     let l = c .before .before in
