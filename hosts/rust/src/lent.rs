@@ -27,10 +27,12 @@ macro_rules! call {
 
 mod in_place;
 mod inner;
+mod judge;
 mod rank;
 
 pub use in_place::feed_in_place;
 pub use inner::{feed_inner, finish_inner, give_up_inner, open_inner, Both};
+pub use judge::{judge, SHEET_STACK};
 pub use rank::{rank, Candidates, Report, CANDIDATES, ENTRY};
 
 /// How many registers a run uses at most; cells past them are neither read nor written.
