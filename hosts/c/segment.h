@@ -212,9 +212,9 @@ void segment_rank(const uint8_t *table, size_t table_length, int64_t *registers,
                   size_t kinds_length, const int32_t *values, size_t values_length, const uint32_t *lengths, size_t lengths_length,
                   size_t *valued, int64_t *total, size_t *entries, uint32_t *number, uint32_t *offset);
 
-/* The native stack that segment_judge may use, in bytes: it calls itself for the nodes of a tree, at most 1,023 deep. All other calls make
- * do with far less. The main thread of a program mostly has as much; give it to a thread of your own (pthread_attr_setstacksize). */
-#define SEGMENT_SHEET_STACK (8 * 1024 * 1024)
+/* A native stack that is enough for segment_judge, in bytes: it calls itself for the nodes of a tree, at most 1,023 deep, and uses up to
+ * 0.6 MB. All other calls make do with far less. Give it to a thread of your own (pthread_attr_setstacksize). */
+#define SEGMENT_SHEET_STACK (4 * 1024 * 1024)
 
 /* Judges a tree sheet that another tool has made, any bytes, against table and segment (docs/SHEETS.md): it is accepted exactly where it
  * describes the segment's well evaluated tree, of depth at most 1,023, a record for each node in the order of entering, and nothing after

@@ -31,7 +31,7 @@ CANDIDATES = 512
 WINDOW = 64
 MARK = -(2**63)
 MOVES = 4_294_967_295
-SHEET_STACK = 8 << 20
+SHEET_STACK = 4 << 20
 
 
 class Kind(enum.IntEnum):

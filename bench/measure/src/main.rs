@@ -1,6 +1,7 @@
 //! Measures the proved engine beside the plain one: same machine, same run, same input.
 mod engines;
 mod rankings;
+mod sheets;
 
 use engines::{Engine, InPlace, Plain, Proved};
 use plain::samples;
@@ -296,6 +297,7 @@ fn main() {
     run_segments();
     footnotes();
     rankings::rankings();
+    sheets::judging();
     house_order();
     windows();
 }

@@ -2,9 +2,9 @@
 use super::answered;
 use crate::Refusal;
 
-/// The native stack that [`judge`] may use, in bytes: it calls itself for the nodes of a tree, at most 1,023 deep. Every other call makes
-/// do with far less. The main thread of a program mostly has it; give a thread of your own as much.
-pub const SHEET_STACK: usize = 8 << 20;
+/// A native stack that is enough for [`judge`], in bytes: it calls itself for the nodes of a tree, at most 1,023 deep, and uses up to 0.6 MB.
+/// Every other call makes do with far less.
+pub const SHEET_STACK: usize = 4 << 20;
 
 extern "C" {
     fn segment_judge(
