@@ -20,6 +20,7 @@
  *         39: the scratch of a preview is too short; with 0, and no cell of it is written
  *         40: the run waits for its inner run, or a third run would be opened; with 0
  *         42: a window's size, buffer or value is refused; no cell of the buffer is written
+ *         43: a tree sheet does not describe the segment's tree; with 0
  * The numbers have names, SEGMENT_..., and segment_reason gives their words. On 1 to 13 and on 30 no register, place or program word is
  * written. */
 #ifndef SEGMENT_H
@@ -82,7 +83,8 @@ enum segment_number {
     SEGMENT_LISTS_UNEQUAL = 38,
     SEGMENT_SCRATCH_SHORT = 39,
     SEGMENT_RUN_WAITING = 40,
-    SEGMENT_WINDOW_UNFIT = 42
+    SEGMENT_WINDOW_UNFIT = 42,
+    SEGMENT_SHEET_WRONG = 43
 };
 
 /* The status of a run; every other number counts as running. */
@@ -232,6 +234,19 @@ void segment_rank(const uint8_t *table, size_t table_length, int64_t *registers,
                   size_t kinds_length, const int32_t *values, size_t values_length, const uint32_t *lengths, size_t lengths_length,
                   size_t *valued, int64_t *total, size_t *entries, uint32_t *number, uint32_t *offset);
 
+/* A native stack that is enough for segment_judge, in bytes: it calls itself for the nodes of a tree, at most 1,023 deep, and uses up to
+ * 0.6 MB. All other calls make do with far less. Give it to a thread of your own (pthread_attr_setstacksize). */
+#define SEGMENT_SHEET_STACK (4 * 1024 * 1024)
+
+/* Judges a tree sheet that another tool has made, any bytes, against table and segment (docs/SHEETS.md): it is accepted exactly where it
+ * describes the segment's well evaluated tree, of depth at most 1,023, a record for each node in the order of entering, and nothing after
+ * it. Limits of stacks, tokens and moves play no part.
+ * *number: 0, or 1 to 13, 38, 43, judged in this order.
+ * *value: the root's value, which is the segment's, or 0 on a refusal.
+ * *offset: 0, or the table's offset. */
+void segment_judge(const uint8_t *table, size_t table_length, const uint8_t *kinds, size_t kinds_length, const int32_t *values,
+                   size_t values_length, const uint8_t *sheet, size_t sheet_length, uint32_t *number, int64_t *value, uint32_t *offset);
+
 /* A window over the values of the last finished segments (docs/WINDOW.md): its size is 1 to 64, and its buffer has at least so many
  * cells. The buffer is only written by these two calls; cells past those are never looked at. */
 #define SEGMENT_WINDOW 64
@@ -328,6 +343,8 @@ SEGMENT_INLINE const char *segment_reason(uint32_t number) {
         return "the run waits for its inner run, or a third run would be opened";
     case SEGMENT_WINDOW_UNFIT:
         return "the window's size, buffer or value does not fit";
+    case SEGMENT_SHEET_WRONG:
+        return "the sheet does not describe the segment's tree";
     default:
         return "the number is not known to this version";
     }

@@ -1,5 +1,5 @@
-/* The functions over a segment_run and a segment_inner_run, at their edges, previews, a ranking, house order, and a
- * window. */
+/* The functions over a segment_run and a segment_inner_run, at their edges, previews, a ranking, a sheet, house order,
+ * and a window. */
 #include "segment.h"
 
 #include <stdio.h>
@@ -241,6 +241,36 @@ static void rankings(void) {
     MUST(r.number == SEGMENT_CANDIDATES_UNFIT);
 }
 
+/* The sheet of a word of 4 letters: the list of words inside the segment, and the empty list inside that. Then the same changed. */
+static void sheets(void) {
+    static const uint8_t kinds[] = {0};
+    static const int32_t letters[] = {4, 5};
+    uint8_t sheet[20 + 28 + 28 + 1];
+    uint32_t number = 7, offset = 7;
+    int64_t value = 7;
+    size_t i;
+    memset(sheet, 0, sizeof sheet);
+    sheet[11] = 1, sheet[19] = 4;                                /* production 0, the token covered, 4 letters */
+    sheet[23] = 1, sheet[31] = 1, sheet[47] = 4;                 /* production 1, the token covered, inside 0 tags, 4 letters */
+    sheet[51] = 3, sheet[55] = 1;                                /* production 3 behind the token */
+    segment_judge(lengths, sizeof lengths, kinds, 1, letters, 1, sheet, 76, &number, &value, &offset);
+    MUST(number == SEGMENT_OK && value == 4 && offset == 0);
+    for (i = 0; i < 76; i++) {
+        sheet[i] ^= 1;
+        segment_judge(lengths, sizeof lengths, kinds, 1, letters, 1, sheet, 76, &number, &value, &offset);
+        MUST(number == SEGMENT_SHEET_WRONG && value == 0 && offset == 0);
+        sheet[i] ^= 1;
+    }
+    segment_judge(lengths, sizeof lengths, kinds, 1, letters + 1, 1, sheet, 76, &number, &value, &offset);
+    MUST(number == SEGMENT_SHEET_WRONG);
+    segment_judge(lengths, sizeof lengths, kinds, 1, letters, 1, sheet, 77, &number, &value, &offset);
+    MUST(number == SEGMENT_SHEET_WRONG);
+    segment_judge(lengths, sizeof lengths, kinds, 1, letters, 2, sheet, 76, &number, &value, &offset);
+    MUST(number == SEGMENT_LISTS_UNEQUAL && value == 0 && offset == 0);
+    segment_judge(lengths, 100, kinds, 1, letters, 2, sheet, 76, &number, &value, &offset);
+    MUST(number == SEGMENT_FIELD_CUT_SHORT && value == 0 && offset == 93);
+}
+
 /* Words and tags, and the same with its condition, the 14 bytes before byte 121, said twice: one table in house order. */
 static void house(void) {
     static uint8_t twice[sizeof words + 14], out[sizeof words + 1], other[sizeof twice];
@@ -287,6 +317,7 @@ int main(void) {
     inner_runs();
     previews();
     rankings();
+    sheets();
     house();
     windows();
     for (number = 0; number <= 43; number++) {

@@ -20,6 +20,7 @@ import ctypes
 import enum
 import json
 import os
+import threading
 
 VERSION = "0.3.0"
 REGISTERS = 4096
@@ -30,6 +31,7 @@ CANDIDATES = 512
 WINDOW = 64
 MARK = -(2**63)
 MOVES = 4_294_967_295
+SHEET_STACK = 4 << 20
 
 
 class Kind(enum.IntEnum):
@@ -66,6 +68,7 @@ class Kind(enum.IntEnum):
     SCRATCH_SHORT = 39
     RUN_WAITING = 40
     WINDOW_UNFIT = 42
+    SHEET_WRONG = 43
 
 
 REASONS = {
@@ -100,6 +103,7 @@ REASONS = {
     Kind.SCRATCH_SHORT: "the scratch is shorter than the part of the stacks that a run may use",
     Kind.RUN_WAITING: "the run waits for its inner run, or a third run would be opened",
     Kind.WINDOW_UNFIT: "the window's size, buffer or value does not fit",
+    Kind.SHEET_WRONG: "the sheet does not describe the segment's tree",
 }
 
 
@@ -128,8 +132,8 @@ class Refusal(Exception):
 
     @property
     def tokens(self):
-        """The tokens read. The refusals 30, 33, 34, 36 to 40 and 42 tell none."""
-        return self.count if self.number > 14 and self.number not in (30, 33, 34, 36, 37, 38, 39, 40, 42) else None
+        """The tokens read. The refusals 30, 33, 34, 36 to 40, 42 and 43 tell none."""
+        return self.count if self.number > 14 and self.number not in (30, 33, 34, 36, 37, 38, 39, 40, 42, 43) else None
 
     def _words(self):
         where = ""
@@ -164,6 +168,27 @@ def _call(name, *arguments):
     function = getattr(_library, name)
     function.restype = None
     function(*arguments)
+
+
+def _call_deep(name, *arguments):
+    """The same on a thread with the stack that sheets need."""
+    failures = []
+
+    def work():
+        try:
+            _call(name, *arguments)
+        except BaseException as failure:
+            failures.append(failure)
+
+    before = threading.stack_size(SHEET_STACK)
+    try:
+        thread = threading.Thread(target=work)
+        thread.start()
+    finally:
+        threading.stack_size(before)
+    thread.join()
+    if failures:
+        raise failures[0]
 
 
 def _bytes(data):
@@ -278,6 +303,10 @@ class Table:
         """Ranks candidate segments: see rank."""
         return rank(self.bytes, candidates, values)
 
+    def judge(self, sheet, kinds, values=None):
+        """Judges a tree sheet of a segment: see judge."""
+        return judge(self.bytes, sheet, kinds, values)
+
 
 Preview = collections.namedtuple("Preview", "refusal tokens moves registers places is_open")
 Preview.__doc__ = "What feeding a token would give: its Refusal or None, tokens, moves and heights then, and whether the run would go on."
@@ -308,6 +337,19 @@ def rank(table, candidates, values=None):
         raise Refusal(number.value, offset.value)
     listed = [cells[3 * i : 3 * i + 3] for i in range(entries.value)]
     return Ranking([Entry(n, None if k else v, Kind(k) if k else None) for n, v, k in listed], valued.value, total.value)
+
+
+def judge(table, sheet, kinds, values=None):
+    """Judges a tree sheet that another tool has made of a segment, any bytes: the segment's value where the sheet describes its tree.
+    Without values each is 0."""
+    kinds = bytes(kinds)
+    values = [0] * len(kinds) if values is None else list(values)
+    number, value, offset = ctypes.c_uint32(), ctypes.c_int64(), ctypes.c_uint32()
+    out = map(ctypes.byref, (number, value, offset))
+    _call_deep("segment_judge", *_bytes(table), *_bytes(kinds), *_values(values), *_bytes(sheet), *out)
+    if number.value:
+        raise Refusal(number.value, offset.value)
+    return value.value
 
 
 def _within(number, low, high):

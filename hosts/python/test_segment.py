@@ -2,6 +2,7 @@
 
 import os
 import re
+import struct
 import threading
 import unittest
 
@@ -169,6 +170,28 @@ class Words(unittest.TestCase):
         self.refused(38, 0, lengths.rank, [[0], [0]], [[1, 2], []])
         self.refused(2, 97, segment.rank, WORDS[:100], [[0]])
 
+    def test_sheets(self):
+        def sheet(*records):
+            return b"".join(struct.pack(f">III{len(r) - 3}q", *r) for r in records)
+
+        table = segment.Table(WORDS)
+        right = sheet((0, 0, 4, 2), (1, 0, 4, 0, 2), (2, 1, 3, 0, 1), (1, 2, 1, 1, 1), (3, 3, 0, 1, 0), (3, 4, 0, 0, 0))
+        self.assertEqual(table.judge(right, [0, 1, 0, 2]), 2)
+        for i in range(len(right)):
+            changed = bytearray(right)
+            changed[i] ^= 1
+            self.refused(43, 0, table.judge, changed, [0, 1, 0, 2])
+        wrong = self.refused(43, 0, table.judge, b"", [0])
+        self.assertEqual((wrong.kind, wrong.tokens), (segment.Kind.SHEET_WRONG, None))
+        lengths, right = segment.Table(LENGTHS), sheet((0, 0, 1, 4), (1, 0, 1, 0, 4), (3, 1, 0, 0, 0))
+        self.assertEqual(lengths.judge(right, [0], [4]), 4)
+        self.refused(43, 0, lengths.judge, right, [0], [5])
+        self.refused(38, 0, lengths.judge, right, [0], [4, 4])
+        self.refused(2, 97, segment.judge, WORDS[:100], right, [0])
+        n = 1021
+        deepest = sheet((0, 0, n, n), *((1, i, n - i, 0, n - i) for i in range(n)), (3, n, 0, 0, 0))
+        self.assertEqual(table.judge(deepest, [0] * n), n)
+
     def test_names(self):
         text = '{"table": {"sum": "%s"}, "tokens": ["word", "open", "close"], "parts": []}'
         names = segment.Names(text % "d30e9953d2057f43")
@@ -210,7 +233,7 @@ class Names(unittest.TestCase):
         kinds = re.findall(r'^    (\w+) = (\d+), "(.*)";$', read("rust/src/refusal.rs"), re.M)
         upper = lambda name: re.sub(r"(?<!^)([A-Z])", r"_\1", name).upper()
         self.kinds = [(upper(name), int(number), words) for name, number, words in kinds]
-        self.assertEqual(len(self.kinds), 31)
+        self.assertEqual(len(self.kinds), 32)
 
     def test_python(self):
         self.assertEqual([(k.name, k.value, segment.REASONS[k]) for k in segment.Kind], self.kinds)

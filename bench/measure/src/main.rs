@@ -2,6 +2,7 @@
 mod engines;
 mod previews;
 mod rankings;
+mod sheets;
 
 use engines::{Engine, InPlace, Plain, Proved};
 use plain::samples;
@@ -298,6 +299,7 @@ fn main() {
     footnotes();
     previews::previews();
     rankings::rankings();
+    sheets::judging();
     house_order();
     windows();
 }

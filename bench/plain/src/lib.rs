@@ -8,6 +8,7 @@ pub mod program;
 pub mod rank;
 pub mod run;
 pub mod samples;
+pub mod sheet;
 pub mod table;
 pub mod window;
 

@@ -1,7 +1,7 @@
 //! Answers the commands of the vectors: see vectors/README.md.
 use plain::preview::{may, preview, Scratch, Stopped};
 use plain::run::{feed, finish, open, Answer, Kind, Record, Status, MARK};
-use plain::{inner, rank};
+use plain::{inner, rank, sheet};
 use std::io::{BufRead, Write};
 
 fn hex(s: &str) -> Vec<u8> {
@@ -9,6 +9,13 @@ fn hex(s: &str) -> Vec<u8> {
         return vec![];
     }
     (0..s.len()).step_by(2).map(|i| u8::from_str_radix(&s[i..i + 2], 16).unwrap()).collect()
+}
+
+fn bytes_text(bytes: &[u8]) -> String {
+    if bytes.is_empty() {
+        return "-".into();
+    }
+    bytes.iter().map(|b| format!("{b:02x}")).collect()
 }
 
 fn list(s: &str) -> impl Iterator<Item = &str> {
@@ -115,8 +122,7 @@ fn main() {
                     Err(r) => write!(out, "refused {} {} | ", r.number, r.offset),
                 }
                 .unwrap();
-                let bytes: String = buffer.iter().map(|b| format!("{b:02x}")).collect();
-                writeln!(out, "{}", if bytes.is_empty() { "-" } else { &bytes }).unwrap();
+                writeln!(out, "{}", bytes_text(&buffer)).unwrap();
                 continue;
             }
             "rank" => {
@@ -151,6 +157,26 @@ fn main() {
                     may(&table, stopped, scratch, area, value).map_or_else(answer_text, |set| format!("tokens {}", tokens(set)))
                 };
                 writeln!(out, "{text} | {} | {}", cells_text(&rs), joined(&ps, |p| p.to_string())).unwrap();
+                continue;
+            }
+            "sheet" => {
+                let values: Vec<i32> = list(w[3]).map(|v| v.parse().unwrap()).collect();
+                let mut buffer = vec![0xa5; number(6)];
+                match sheet::sheet(&hex(w[1]), (&hex(w[2]), &values), number(4), number(5), &mut buffer) {
+                    Ok((value, moves, length)) => write!(out, "value {value} {moves} {length} | "),
+                    Err((number, offset)) => write!(out, "refused {number} {offset} | "),
+                }
+                .unwrap();
+                writeln!(out, "{}", bytes_text(&buffer)).unwrap();
+                continue;
+            }
+            "judge" => {
+                let values: Vec<i32> = list(w[3]).map(|v| v.parse().unwrap()).collect();
+                match sheet::judge(&hex(w[1]), &hex(w[2]), &values, &hex(w[4])) {
+                    Ok(value) => writeln!(out, "value {value}"),
+                    Err((number, offset)) => writeln!(out, "refused {number} {offset}"),
+                }
+                .unwrap();
                 continue;
             }
             "set" => {

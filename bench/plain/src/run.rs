@@ -43,7 +43,7 @@ pub enum Answer {
 /// Kinds and values.
 pub type Tokens<'a> = (&'a [u8], &'a [i32]);
 
-struct Machine<'a> {
+pub(crate) struct Machine<'a> {
     program: &'a [u32],
     registers: &'a mut [i64],
     places: &'a mut [u32],
@@ -64,8 +64,21 @@ fn in_range(v: i64) -> bool {
     (-1_000_000_000_000..=1_000_000_000_000).contains(&v)
 }
 
-impl Machine<'_> {
-    fn register(&self, selector: u32) -> i64 {
+impl<'a> Machine<'a> {
+    fn new(record: Record, registers: &'a mut [i64], places: &'a mut [u32], program: &'a [u32]) -> Machine<'a> {
+        let (rh, ph, records) = (record.registers as usize, record.places as usize, program[2] as usize);
+        let (tokens, moves) = (record.tokens, record.moves);
+        let mut m = Machine { program, registers, places, rh, ph, tokens, moves, at: 0, records };
+        m.at = m.expect_of(m.places[ph - 1]);
+        m
+    }
+
+    /// The production on top of the places, and the tokens read.
+    pub fn standing(&self) -> (usize, u32) {
+        (self.places[self.ph - 1] as usize / 256, self.tokens as u32)
+    }
+
+    pub fn register(&self, selector: u32) -> i64 {
         self.registers[self.rh - selector as usize]
     }
 
@@ -215,8 +228,13 @@ impl Machine<'_> {
         Ok(())
     }
 
-    /// Moves until the token is read, or the start symbol is left, and all that needs no next token is done.
     fn advance(&mut self, look: usize, value: i32) -> Result<(), u32> {
+        self.advance_with(look, value, &mut |_, _| ())
+    }
+
+    /// Moves until the token is read, or the start symbol is left, and all that needs no next token is done. Each move is told by its
+    /// operation.
+    fn advance_with(&mut self, look: usize, value: i32, told: &mut impl FnMut(&Self, u32)) -> Result<(), u32> {
         let before = self.tokens;
         loop {
             let op = self.program[self.at] & 7;
@@ -231,10 +249,15 @@ impl Machine<'_> {
             }
             self.one(look, value)?;
             self.moves += 1;
+            told(self, op);
         }
     }
 
     fn feed(&mut self, tokens: Tokens) -> Result<(), u32> {
+        self.feed_with(tokens, &mut |_, _| ())
+    }
+
+    fn feed_with(&mut self, tokens: Tokens, told: &mut impl FnMut(&Self, u32)) -> Result<(), u32> {
         let terminals = self.program[3];
         for (&t, &value) in tokens.0.iter().zip(tokens.1) {
             if self.tokens == TOKENS {
@@ -243,7 +266,7 @@ impl Machine<'_> {
             if t as u32 >= terminals {
                 return Err(20);
             }
-            self.advance(t as usize, value)?;
+            self.advance_with(t as usize, value, told)?;
         }
         Ok(())
     }
@@ -369,18 +392,7 @@ pub(crate) fn moved(
     program: &[u32],
     tokens: Option<Tokens>,
 ) -> (Record, Answer) {
-    let mut m = Machine {
-        program,
-        registers,
-        places,
-        rh: record.registers as usize,
-        ph: record.places as usize,
-        tokens: record.tokens,
-        moves: record.moves,
-        at: 0,
-        records: program[2] as usize,
-    };
-    m.at = m.expect_of(m.places[m.ph - 1]);
+    let mut m = Machine::new(record, registers, places, program);
     let outcome = match tokens {
         Some(ts) => m.feed(ts),
         None => m.advance(63, 0),
@@ -389,6 +401,25 @@ pub(crate) fn moved(
         (Err(k), _) => (m.record(Status::Closed), Answer::Refused(k, m.tokens)),
         (Ok(()), Some(_)) => (m.record(Status::Running), Answer::More(m.moves)),
         (Ok(()), None) => (m.record(Status::Closed), Answer::Value(m.register(m.program[5]), m.moves)),
+    }
+}
+
+/// A whole segment on stacks opened afresh; each move is told by its operation.
+pub(crate) fn evaluated(
+    registers: &mut [i64],
+    places: &mut [u32],
+    program: &[u32],
+    tokens: Tokens,
+    told: &mut impl FnMut(&Machine, u32),
+) -> Answer {
+    let (record, opened) = open_cells(registers, places, program);
+    if let Answer::Refused(..) = opened {
+        return opened;
+    }
+    let mut m = Machine::new(record, registers, places, program);
+    match m.feed_with(tokens, told).and_then(|()| m.advance_with(63, 0, told)) {
+        Ok(()) => Answer::Value(m.register(program[5]), m.moves),
+        Err(number) => Answer::Refused(number, m.tokens),
     }
 }
 

@@ -19,6 +19,7 @@ ghost use Rattle.host_house.specs.Housed.{housed};
 ghost use Rattle.meaning_ranking.specs.RankCall.{rankOf};
 ghost use Rattle.host_rank.specs.Suggested.{RankPassedOn};
 ghost use Rattle.host_window.specs.Windows.{finishedAs, WindowPassedOn};
+ghost use Rattle.host_judge.specs.JudgeLent.{JudgedLent};
 
 // ---- calls on a table
 
@@ -432,4 +433,23 @@ pub extern "C" fn segment_window_value(
     ensures { λ r. ⌜ WindowPassedOn (bringsAnswer (finishedAs finish value count) (now (buffer .entry))) (now (buffer .exit)) (now (number .exit)) (now (total .exit)) (now (largest .exit)) (now (known .exit)) ⌝ }
 {
     host_window::value(finish, value, count, buffer, number, total, largest, known);
+}
+
+// ---- sheets from other tools
+
+// The value of a sheet that describes the segment's tree; number and offset are then 0. On a refusal these are the refusal's (38 or 43
+// with 0, or the table's), and the value is 0.
+#[no_mangle]
+pub extern "C" fn segment_judge(
+    table: &[u8],
+    kinds: &[u8],
+    values: &[i32],
+    sheet: &[u8],
+    number: &mut u32,
+    value: &mut i64,
+    offset: &mut u32,
+)
+    ensures { λ r. ⌜ JudgedLent (now (table .entry)) (now (kinds .entry)) (now (values .entry)) (now (sheet .entry)) (now (number .exit)) (now (value .exit)) (now (offset .exit)) ⌝ }
+{
+    host_judge::judge(table, kinds, values, sheet, number, value, offset);
 }

@@ -1,7 +1,7 @@
 //! Compares the proved engine, through the host library, with the plain one on random calls: valid and damaged tables, segments in any
 //! pieces, inner runs inside them, forged records and stacks, short memory. After each call the answer, both records and every register,
 //! place and program word are compared, with some cells past those lent. So are previews of tokens (`tries`), tables in house order
-//! (`house`), rankings of candidates (`ranks`) and the calls on windows (`windows`).
+//! (`house`), rankings of candidates (`ranks`), judgements of tree sheets (`sheets`) and the calls on windows (`windows`).
 //!
 //!     differential [SEED [CALLS]]
 mod forge;
@@ -12,6 +12,7 @@ mod random;
 mod ranks;
 mod records;
 mod segments;
+mod sheets;
 mod tables;
 mod tries;
 mod windows;
@@ -206,6 +207,17 @@ impl Comparison {
         Ok(())
     }
 
+    /// Sheets after some of the runs.
+    fn sheet(&mut self, table: &Table) -> Result<(), String> {
+        if !self.r.chance(40) {
+            return Ok(());
+        }
+        for number in sheets::compared(&mut self.r, table)? {
+            self.count("judge", number);
+        }
+        Ok(())
+    }
+
     /// A window after some of the runs.
     fn window(&mut self) -> Result<(), String> {
         if !self.r.chance(5) {
@@ -216,6 +228,15 @@ impl Comparison {
             *windows += 1;
             *answers.entry((call, number)).or_default() += 1;
         })
+    }
+
+    /// All calls on a table.
+    fn all(&mut self, table: &Table) -> Result<(), String> {
+        self.judge(&table.bytes)?;
+        self.run(table)?;
+        self.rank(table)?;
+        self.sheet(table)?;
+        self.window()
     }
 
     fn report(&self) {
@@ -236,7 +257,7 @@ impl Comparison {
     /// The numbers of 01 and 02 that no call was refused with.
     fn missing(&self) -> Vec<u32> {
         let seen = |n: &u32| self.answers.keys().any(|(_, number)| number == n);
-        (1..=14).chain(20..=24).chain(30..=35).chain(36..=40).chain([42]).filter(|n| !seen(n)).collect()
+        (1..=14).chain(20..=24).chain(30..=35).chain(36..=40).chain([42, 43]).filter(|n| !seen(n)).collect()
     }
 }
 
@@ -248,7 +269,15 @@ fn number(argument: Option<String>) -> Option<u64> {
     argument.map(|a| a.parse().expect("differential [SEED [CALLS]]"))
 }
 
+/// On a thread with the stack that sheets need.
 fn main() {
+    let thread = std::thread::Builder::new().stack_size(segment::lent::SHEET_STACK).spawn(compare).expect("a thread");
+    if thread.join().is_err() {
+        std::process::exit(1);
+    }
+}
+
+fn compare() {
     let mut arguments = std::env::args().skip(1);
     let now = std::time::SystemTime::now().duration_since(std::time::UNIX_EPOCH).unwrap();
     let seed = number(arguments.next()).unwrap_or(now.as_nanos() as u64);
@@ -259,8 +288,7 @@ fn main() {
     let mut c = Comparison { r: Random::new(seed), made: 0, windows: 0, answers: BTreeMap::new(), samples };
     while c.made < calls {
         let table = c.table();
-        let outcome = c.judge(&table.bytes).and_then(|()| c.run(&table)).and_then(|()| c.rank(&table)).and_then(|()| c.window());
-        if let Err(difference) = outcome {
+        if let Err(difference) = c.all(&table) {
             println!("call {} differs: {difference}", c.made + 1);
             std::process::exit(1);
         }

@@ -27,11 +27,13 @@ macro_rules! call {
 
 mod in_place;
 mod inner;
+mod judge;
 mod preview;
 mod rank;
 
 pub use in_place::feed_in_place;
 pub use inner::{feed_inner, finish_inner, give_up_inner, open_inner, Both};
+pub use judge::{judge, SHEET_STACK};
 pub use preview::{may_follow, preview, Stopped};
 pub use rank::{rank, Candidates, Report, CANDIDATES, ENTRY};
 

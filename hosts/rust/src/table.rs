@@ -84,6 +84,27 @@ impl Table {
         Table { bytes }
     }
 
+    /// Judges a tree sheet that another tool has made of a segment: the segment's value where the sheet describes its tree. The sheet may be
+    /// any bytes. See [`lent::SHEET_STACK`] for the stack that the thread needs.
+    ///
+    /// ```
+    /// # let bytes = include_bytes!(concat!(env!("CARGO_MANIFEST_DIR"), "/../../grammars/words.table"));
+    /// let table = segment::Table::new(*bytes)?;
+    /// // The segment without tokens: production 0 with its result 0, and in it production 3, which takes a depth of 0 and gives 0.
+    /// let mut sheet = [0; 20 + 28];
+    /// sheet[23] = 3;
+    /// assert_eq!(table.judge(&[], &[], &sheet)?, 0);
+    /// sheet[19] = 1;
+    /// assert_eq!(table.judge(&[], &[], &sheet).unwrap_err().kind(), segment::Kind::SheetWrong);
+    /// # Ok::<(), segment::Refusal>(())
+    /// ```
+    ///
+    /// # Errors
+    /// 38: kinds and values are not equally many. 43: the sheet does not describe the segment's tree, or there is none.
+    pub fn judge(&self, kinds: &[u8], values: &[i32], sheet: &[u8]) -> Result<i64, Refusal> {
+        lent::judge(&self.bytes, kinds, values, sheet)
+    }
+
     /// The table's sum: 64 bits that a changed table has only by a rare chance (FNV-1a). `grammar header` writes it beside the names of a
     /// grammar, so that a host can see that names and table belong together.
     #[must_use]

@@ -15,6 +15,7 @@ pub mod print;
 pub mod resolve;
 pub mod run;
 pub mod same;
+pub mod sheet;
 pub mod slips;
 pub mod source;
 pub mod stacks;

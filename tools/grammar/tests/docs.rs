@@ -30,7 +30,7 @@ fn stands(lines: &[&str], printed: &[&str]) -> bool {
 #[test]
 fn commands_on_the_pages_print_what_they_say() {
     let mut commands = 0;
-    for page in ["README.md", "docs/GRAMMARS.md", "docs/TRACE.md", "docs/CLASSROOM.md", "docs/HOSTING.md"] {
+    for page in ["README.md", "docs/GRAMMARS.md", "docs/TRACE.md", "docs/CLASSROOM.md", "docs/HOSTING.md", "docs/SHEETS.md"] {
         let text = read(page);
         for block in text.split("```console\n").skip(1) {
             let (block, _) = block.split_once("```").expect("the end of a block");

@@ -6,6 +6,7 @@ mod preview;
 mod rank;
 mod runs;
 mod session;
+mod sheets;
 mod tables;
 mod trace;
 mod window;
@@ -55,6 +56,7 @@ Bytes are hex digits, `-` for none; numbers are decimal. A line that begins with
                                   the tokens that may come next
   rank TABLE KINDS VALUES LENGTHS NREGS NPLACES NPROG NLIST
                                   evaluates candidate segments and lists them by value, into NLIST cells
+  judge TABLE KINDS VALUES SHEET  judges a tree sheet that describes the segment
   trace TABLE TOKENS [NREGS NPLACES [FROM]]
                                   the run of a segment, move by move, from token FROM on
   tracev TABLE KINDS VALUES [NREGS NPLACES [FROM]]
@@ -162,6 +164,13 @@ fn answer_all(sources: &[Source]) -> Result<bool, Stop> {
     Ok(all)
 }
 
+/// The same on a thread with the stack that sheets need.
+fn answer_apart(sources: Vec<Source>) -> Result<bool, Stop> {
+    let thread = std::thread::Builder::new().stack_size(engine::lent::SHEET_STACK);
+    let answers = thread.spawn(move || answer_all(&sources)).map_err(|error| Stop::Failed(format!("no thread: {error}")))?;
+    answers.join().unwrap_or_else(|_| Err(Stop::Failed("the answers stopped short".into())))
+}
+
 fn print(text: &str) -> Result<bool, Stop> {
     io::stdout().write_all(text.as_bytes())?;
     Ok(true)
@@ -172,7 +181,7 @@ fn main() -> ExitCode {
     let asked = words.map_err(|word| format!("{}: not in UTF-8", word.to_string_lossy())).and_then(arguments);
     let done = match asked {
         Ok(Asked::Print(text)) => print(&text),
-        Ok(Asked::Answer(sources)) => answer_all(&sources),
+        Ok(Asked::Answer(sources)) => answer_apart(sources),
         Err(message) => Err(Stop::Failed(format!("{message}; `segment --help` says what is"))),
     };
     match done {

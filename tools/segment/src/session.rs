@@ -1,7 +1,7 @@
 //! What stands between commands, and which function answers which.
 use crate::input::Line;
 use crate::words::{bytes, Bad, Fault, Words, AREA};
-use crate::{inner, preview, rank, runs, tables, trace, window};
+use crate::{inner, preview, rank, runs, sheets, tables, trace, window};
 use engine::lent::{Both, Memory, Record};
 use std::collections::HashMap;
 use std::io::Write;
@@ -11,7 +11,7 @@ pub type Command = fn(&mut Session, Words, &mut dyn Write) -> Result<(), Fault>;
 
 /// The commands, a list for each module: a new group of commands is a module whose list is named here.
 const COMMANDS: &[&[(&str, Command)]] =
-    &[tables::COMMANDS, runs::COMMANDS, inner::COMMANDS, preview::COMMANDS, rank::COMMANDS, trace::COMMANDS, window::COMMANDS];
+    &[tables::COMMANDS, runs::COMMANDS, inner::COMMANDS, preview::COMMANDS, rank::COMMANDS, sheets::COMMANDS, trace::COMMANDS, window::COMMANDS];
 
 /// The run, its inner run and the window as they stand, and the tables that have names.
 pub struct Session {

@@ -128,6 +128,10 @@ impl<'a> Words<'a> {
         value(self.at(k)).ok_or_else(|| self.bad(k, "bad values"))
     }
 
+    pub fn sheet(self, k: usize) -> Result<Vec<u8>, Bad> {
+        bytes(self.at(k)).ok_or_else(|| self.bad(k, "bad sheet"))
+    }
+
     /// Lengths of candidates, any number of them.
     pub fn lengths(self, k: usize) -> Result<Vec<u32>, Bad> {
         list(self.at(k), usize::MAX, place).ok_or_else(|| self.bad(k, "bad lengths"))

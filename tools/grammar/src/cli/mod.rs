@@ -8,6 +8,7 @@ mod next;
 mod notes;
 mod rank;
 mod segments;
+mod sheets;
 
 pub use args::Args;
 use std::ffi::OsString;
@@ -46,7 +47,7 @@ struct Command {
     run: fn(Args, &mut dyn Write) -> Outcome,
 }
 
-const COMMANDS: &[&[Command]] = &[files::COMMANDS, house::COMMANDS, segments::COMMANDS, next::COMMANDS, rank::COMMANDS, class::COMMANDS];
+const COMMANDS: &[&[Command]] = &[files::COMMANDS, house::COMMANDS, segments::COMMANDS, next::COMMANDS, rank::COMMANDS, sheets::COMMANDS, class::COMMANDS];
 
 fn commands() -> impl Iterator<Item = &'static Command> {
     COMMANDS.iter().copied().flatten()

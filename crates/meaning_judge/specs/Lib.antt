@@ -1,0 +1,3 @@
+pub mod Judge
+pub mod JudgeStatements
+pub mod JudgeRows

@@ -1,0 +1,1 @@
+// 02 (m): sheets from other tools: the definitions; no code.

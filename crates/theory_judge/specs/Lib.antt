@@ -1,0 +1,10 @@
+pub mod Longs
+pub mod Described
+pub mod Holding
+pub mod Marks
+pub mod Passing
+pub mod Biased
+pub mod Judged
+pub mod Whole
+pub mod JudgeProved
+pub mod JudgedRows

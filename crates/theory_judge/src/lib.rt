@@ -1,0 +1,1 @@
+// 02 (m): a sheet describes a tree; no code.
