@@ -80,6 +80,37 @@ fn answer_text(answer: Answer) -> String {
     }
 }
 
+/// The answer to `rank`.
+fn ranked(w: &[&str]) -> String {
+    let number = |i: usize| w[i].parse::<usize>().unwrap();
+    let (kinds, values): (_, Vec<i32>) = (hex(w[2]), list(w[3]).map(|v| v.parse().unwrap()).collect());
+    let lengths: Vec<u32> = list(w[4]).map(|v| v.parse().unwrap()).collect();
+    let (mut rs, mut ps, mut cells) = (vec![7; number(5)], vec![9; number(6)], vec![-1; number(8)]);
+    let area = &mut vec![0; number(7)];
+    let answer = match rank::rank(&hex(w[1]), &mut rs, &mut ps, area, &mut cells, (&kinds, &values), &lengths) {
+        Ok(report) => format!("ranked {} {}", report.valued, report.total),
+        Err((number, offset)) => format!("refused {number} {offset}"),
+    };
+    format!("{answer} | {} | {} | {}", cells_text(&cells), cells_text(&rs), joined(&ps, |p| p.to_string()))
+}
+
+/// The answer to `preview` or `may`.
+fn tried(w: &[&str], stopped: Stopped) -> String {
+    let k = w.len() - 1;
+    let number = |i: usize| w[i].parse::<usize>().unwrap();
+    let (mut rs, mut ps, area) = (vec![7; number(k - 2)], vec![9; number(k - 1)], &mut vec![0; number(k)]);
+    let (table, value) = (hex(w[1]), w[k - 3].parse().unwrap());
+    let scratch = Scratch { registers: &mut rs, places: &mut ps };
+    let text = if w[0] == "preview" {
+        let (record, answer) = preview(&table, stopped, scratch, area, hex(w[2])[0], value);
+        format!("{} | {}", answer_text(answer), record_text(&record))
+    } else {
+        let tokens = |set: u64| joined(&(0..63).filter(|t| set >> t & 1 == 1).collect::<Vec<_>>(), |t| t.to_string());
+        may(&table, stopped, scratch, area, value).map_or_else(answer_text, |set| format!("tokens {}", tokens(set)))
+    };
+    format!("{text} | {} | {}", cells_text(&rs), joined(&ps, |p| p.to_string()))
+}
+
 fn main() {
     let mut out = std::io::BufWriter::new(std::io::stdout().lock());
     let (mut record, mut inside) = (Record::default(), Record::default());
@@ -126,16 +157,7 @@ fn main() {
                 continue;
             }
             "rank" => {
-                let (kinds, values): (_, Vec<i32>) = (hex(w[2]), list(w[3]).map(|v| v.parse().unwrap()).collect());
-                let lengths: Vec<u32> = list(w[4]).map(|v| v.parse().unwrap()).collect();
-                let (mut rs, mut ps, mut cells) = (vec![7; number(5)], vec![9; number(6)], vec![-1; number(8)]);
-                let area = &mut vec![0; number(7)];
-                match rank::rank(&hex(w[1]), &mut rs, &mut ps, area, &mut cells, (&kinds, &values), &lengths) {
-                    Ok(report) => write!(out, "ranked {} {}", report.valued, report.total),
-                    Err((number, offset)) => write!(out, "refused {number} {offset}"),
-                }
-                .unwrap();
-                writeln!(out, " | {} | {} | {}", cells_text(&cells), cells_text(&rs), joined(&ps, |p| p.to_string())).unwrap();
+                writeln!(out, "{}", ranked(&w)).unwrap();
                 continue;
             }
             "show" => {
@@ -144,19 +166,7 @@ fn main() {
                 continue;
             }
             "preview" | "may" => {
-                let k = w.len() - 1;
-                let (mut rs, mut ps, area) = (vec![7; number(k - 2)], vec![9; number(k - 1)], &mut vec![0; number(k)]);
-                let (table, value) = (hex(w[1]), w[k - 3].parse().unwrap());
-                let stopped = Stopped { record, registers: &registers, places: &places };
-                let scratch = Scratch { registers: &mut rs, places: &mut ps };
-                let text = if w[0] == "preview" {
-                    let (record, answer) = preview(&table, stopped, scratch, area, hex(w[2])[0], value);
-                    format!("{} | {}", answer_text(answer), record_text(&record))
-                } else {
-                    let tokens = |set: u64| joined(&(0..63).filter(|t| set >> t & 1 == 1).collect::<Vec<_>>(), |t| t.to_string());
-                    may(&table, stopped, scratch, area, value).map_or_else(answer_text, |set| format!("tokens {}", tokens(set)))
-                };
-                writeln!(out, "{text} | {} | {}", cells_text(&rs), joined(&ps, |p| p.to_string())).unwrap();
+                writeln!(out, "{}", tried(&w, Stopped { record, registers: &registers, places: &places })).unwrap();
                 continue;
             }
             "sheet" => {

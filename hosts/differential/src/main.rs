@@ -168,9 +168,7 @@ impl Comparison {
             if self.r.chance(15) {
                 inside::run(self, &mut pair, &table.bytes)?;
             }
-            if self.r.chance(12) {
-                tries::run(self, &pair, &table.bytes)?;
-            }
+            tries::sometimes(self, &pair, &table.bytes, 12)?;
             let longest = if self.r.chance(70) { segment.len() - at } else { 3 };
             let end = segment.len().min(at + self.r.below(longest + 1));
             let values = self.values(end - at);
@@ -186,10 +184,7 @@ impl Comparison {
             inside::run(self, &mut pair, &table.bytes)?;
         }
         self.call(&mut pair, &table.bytes, Call::Finish)?;
-        if self.r.chance(5) {
-            tries::run(self, &pair, &table.bytes)?;
-        }
-        Ok(())
+        tries::sometimes(self, &pair, &table.bytes, 5)
     }
 
     /// A ranking after some of the runs. What its candidates come to is counted apart.

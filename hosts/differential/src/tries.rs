@@ -108,8 +108,11 @@ fn compared(t: &mut Try, r: &mut Random) -> Result<(u32, u32), String> {
     Ok((proved.1.err().map_or(0, |e| e.0), set.err().map_or(0, |e| e.0)))
 }
 
-/// Tries a token, and all of them, on the run as it stands or forged; it then goes on as it was.
-pub fn run(c: &mut Comparison, pair: &Pair, table: &[u8]) -> Result<(), String> {
+/// Tries a token, and all of them, on the run as it stands or forged; it then goes on as it was. So often, of a hundred times.
+pub fn sometimes(c: &mut Comparison, pair: &Pair, table: &[u8], often: usize) -> Result<(), String> {
+    if !c.r.chance(often) {
+        return Ok(());
+    }
     let mut own = pair.clone();
     match c.r.below(10) {
         0..=2 => own.forge(&mut c.r),
