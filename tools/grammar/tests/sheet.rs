@@ -76,7 +76,7 @@ fn what_is_wrong_is_told() {
         let output = grammar_on(&["judge", &file, "-", "word", "open", "word close"], &sheet);
         assert_answer(output, 1, "", &format!("{WRONG}; {words}\n"));
     };
-    told(19, 3, "record 1, `S: L`: the rule `n = L.n` on line 19 gives 2, and n is 3");
+    told(19, 3, "record 1, `S: L`: the rule `n = L.n` on line 21 gives 2, and n is 3");
     told(23, 4, "record 2, at byte 20: there is no production 4");
     told(23, 0, "record 2, at byte 20: production 0 is `S: L`, and a `L` stands here");
     told(55, 2, "record 3, at byte 48: 1 token before it, not 2");
@@ -88,7 +88,7 @@ fn what_is_wrong_is_told() {
     judge(&["word"], &right[..30], "record 2, at byte 20: the sheet is over in the record of `L`");
     judge(&SEGMENT, &[&right[..], b"\n"].concat(), "1 byte after the tree");
     judge(&["word", "open", "word", "close", "word"], &right, "the tree ends before token 5, `word`");
-    judge(&["word", "open", "word"], &right, "the segment has none: refused 24 after 3 tokens, at the end: the segment is over where it expects `word`, `open` or `close`");
+    judge(&["word", "open", "word"], &right, "the segment has none: refused 24 after 3 tokens, at the end: the segment is over where it expects `close`");
 }
 
 #[test]
