@@ -1,6 +1,6 @@
-//! Tree sheets: the example of docs/SHEETS.md, and the command `judge`.
+//! Tree sheets: the example of docs/SHEETS.md, and the commands `judge` and `tree`.
 mod common;
-use common::{assert_answer, grammar, grammar_on, scratch, shipped, shipped_file};
+use common::{assert_answer, grammar, grammar_on, scratch, shipped, shipped_file, stdout};
 use grammar::sheet::{deep, read, Child, Node};
 use grammar::{run, to_table, Built};
 
@@ -122,4 +122,25 @@ fn depth() {
         let told = [("1021\n", String::new()), ("", format!("{WRONG}; record 1024 is more than 1,023 nodes deep\n"))];
         assert_answer(output, code, told[code as usize].0, &told[code as usize].1);
     }
+}
+
+/// The tree as text and as a picture, which has a box for each node, a line to each but the root, and the tokens at the bottom.
+#[test]
+fn the_tree_is_drawn() {
+    let (file, (right, _)) = (shipped_file("words"), page());
+    let draw = |sheet: &[u8], more: &[&str]| grammar_on(&[&["tree", &file, "--sheet", "-"], more].concat(), sheet);
+    let text = "S n=2\n\u{2514}\u{2500} L d=0 n=2\n   \u{251c}\u{2500} word\n   \u{2514}\u{2500} L d=0 n=1\n";
+    let output = draw(&right, &SEGMENT);
+    assert!(output.status.success() && stdout(&output).starts_with(text), "{}", stdout(&output));
+    let svg = stdout(&draw(&right, &["--svg", "word", "open", "word", "close"]));
+    let count = |part: &str| svg.matches(part).count();
+    assert_eq!((count("<rect"), count("<polyline"), count("class=\"token\"")), (6, 9, 4));
+    assert!(svg.starts_with("<svg xmlns=") && svg.contains("<title>word open word close</title>") && svg.ends_with("</svg>\n"));
+    let bottoms: Vec<&str> = svg.split("class=\"token\"").skip(1).map(|t| t.split("y=\"").nth(1).unwrap().split('"').next().unwrap()).collect();
+    assert!(bottoms.windows(2).all(|pair| pair[0] == pair[1]), "{bottoms:?}");
+    let mut empty = vec![0; 48];
+    empty[23] = 3;
+    assert_answer(draw(&empty, &["--empty"]), 0, "S n=0\n\u{2514}\u{2500} L d=0 n=0 (nothing)\n", "");
+    assert_answer(draw(&right, &["word"]), 1, "", &format!("{WRONG}; record 3, `L: open L close L`: the segment is over where `open` stands\n"));
+    assert_eq!(grammar(&["tree", &file, "word"]).status.code(), Some(2));
 }
