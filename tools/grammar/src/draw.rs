@@ -131,7 +131,7 @@ impl<'a> Drawing<'a> {
         let title = if words.is_empty() { "no tokens".into() } else { escaped(&words.join(" ")) };
         let (w, h) = (rooms[0], bottom + 10);
         format!(
-            "<svg xmlns=\"http://www.w3.org/2000/svg\" width=\"{w}\" height=\"{h}\" viewBox=\"0 0 {w} {h}\" role=\"img\">\n\
+            "<svg xmlns=\"http://www.w3.org/2000/svg\" width=\"{w}\" height=\"{h}\" viewBox=\"0 -1 {w} {h}\" role=\"img\">\n\
              <title>{title}</title>\n<style>text {{ font: 13px monospace; text-anchor: middle }} .token {{ font-weight: bold }} \
              rect {{ fill: #eef3fa; stroke: #345 }} polyline {{ fill: none; stroke: #789 }}</style>\n{lines}{boxes}</svg>\n"
         )

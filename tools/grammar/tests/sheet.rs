@@ -88,7 +88,11 @@ fn what_is_wrong_is_told() {
     judge(&["word"], &right[..30], "record 2, at byte 20: the sheet is over in the record of `L`");
     judge(&SEGMENT, &[&right[..], b"\n"].concat(), "1 byte after the tree");
     judge(&["word", "open", "word", "close", "word"], &right, "the tree ends before token 5, `word`");
-    judge(&["word", "open", "word"], &right, "the segment has none: refused 24 after 3 tokens, at the end: the segment is over where it expects `close`");
+    judge(
+        &["word", "open", "word"],
+        &right,
+        "the segment has none: refused 24 after 3 tokens, at the end: the segment is over where it expects `close`",
+    );
 }
 
 #[test]
@@ -136,11 +140,17 @@ fn the_tree_is_drawn() {
     let count = |part: &str| svg.matches(part).count();
     assert_eq!((count("<rect"), count("<polyline"), count("class=\"token\"")), (6, 9, 4));
     assert!(svg.starts_with("<svg xmlns=") && svg.contains("<title>word open word close</title>") && svg.ends_with("</svg>\n"));
-    let bottoms: Vec<&str> = svg.split("class=\"token\"").skip(1).map(|t| t.split("y=\"").nth(1).unwrap().split('"').next().unwrap()).collect();
+    let bottoms: Vec<&str> =
+        svg.split("class=\"token\"").skip(1).map(|t| t.split("y=\"").nth(1).unwrap().split('"').next().unwrap()).collect();
     assert!(bottoms.windows(2).all(|pair| pair[0] == pair[1]), "{bottoms:?}");
     let mut empty = vec![0; 48];
     empty[23] = 3;
     assert_answer(draw(&empty, &["--empty"]), 0, "S n=0\n\u{2514}\u{2500} L d=0 n=0 (nothing)\n", "");
-    assert_answer(draw(&right, &["word"]), 1, "", &format!("{WRONG}; record 3, `L: open L close L`: the segment is over where `open` stands\n"));
+    assert_answer(
+        draw(&right, &["word"]),
+        1,
+        "",
+        &format!("{WRONG}; record 3, `L: open L close L`: the segment is over where `open` stands\n"),
+    );
     assert_eq!(grammar(&["tree", &file, "word"]).status.code(), Some(2));
 }
