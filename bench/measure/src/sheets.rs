@@ -25,15 +25,14 @@ fn micros(sheet: &[u8], mut call: impl FnMut()) -> f64 {
 
 pub fn judging() {
     let (words, lines) = (samples::words(), samples::lines());
-    let of = |n: usize| samples::lines_segment()[..n].to_vec();
     let segments = [
         ("words and tags, no words", &words, vec![]),
         ("words and tags, 10 words", &words, vec![0; 10]),
         ("words and tags, 100 words", &words, vec![0; 100]),
         ("words and tags, 1,000 words", &words, vec![0; 1000]),
-        ("lines, 1,000 tokens", &lines, of(1000)),
-        ("lines, 10,000 tokens", &lines, of(10_000)),
-        ("lines, the most tokens", &lines, of(65_535)),
+        ("lines, 1,056 tokens", &lines, vec![0; 8 * 132]),
+        ("lines, 10,560 tokens", &lines, vec![0; 80 * 132]),
+        ("lines, the most tokens", &lines, samples::lines_segment()),
         ("chain of 47, many rules and conditions", &samples::chain(47, 33, 512), samples::chain_segment(10)),
     ];
     println!("\n| sheet | bytes | plain Rust, µs | proved, µs | proved / plain | proved, ns a byte |");

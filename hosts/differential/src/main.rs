@@ -204,7 +204,7 @@ impl Comparison {
 
     /// Sheets after some of the runs.
     fn sheet(&mut self, table: &Table) -> Result<(), String> {
-        if !self.r.chance(40) {
+        if !self.r.chance(15) {
             return Ok(());
         }
         for number in sheets::compared(&mut self.r, table)? {

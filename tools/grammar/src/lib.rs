@@ -1,6 +1,7 @@
 //! Grammars in a readable text form, turned into tables of the segment engine and back. docs/GRAMMARS.md describes the form.
 pub mod cli;
 pub mod cost;
+pub mod draw;
 pub mod examples;
 pub mod exercises;
 pub mod explain;

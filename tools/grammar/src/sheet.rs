@@ -163,7 +163,8 @@ impl Reader<'_> {
         let value = |o: Occurrence| self.value(node, o);
         for (i, item) in p.items.iter().enumerate() {
             let line = self.built.places.productions[self.tree[node].production].items[i].span.line;
-            let told = |kind: &str, words: String| self.wrong(node, format!("the {kind} `{}` on line {line} {words}", print::item(g, p, item)));
+            let told =
+                |kind: &str, words: String| self.wrong(node, format!("the {kind} `{}` on line {line} {words}", print::item(g, p, item)));
             match item {
                 Item::Rule(target, f) => match (result(f, value), value(*target)) {
                     (Some(exact), Some(found)) if exact == i128::from(found) => {}

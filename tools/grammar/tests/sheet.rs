@@ -1,6 +1,6 @@
-//! Tree sheets: the example of docs/SHEETS.md, and the command `judge`.
+//! Tree sheets: the example of docs/SHEETS.md, and the commands `judge` and `tree`.
 mod common;
-use common::{assert_answer, grammar, grammar_on, scratch, shipped, shipped_file};
+use common::{assert_answer, grammar, grammar_on, scratch, shipped, shipped_file, stdout};
 use grammar::sheet::{deep, read, Child, Node};
 use grammar::{run, to_table, Built};
 
@@ -76,7 +76,7 @@ fn what_is_wrong_is_told() {
         let output = grammar_on(&["judge", &file, "-", "word", "open", "word close"], &sheet);
         assert_answer(output, 1, "", &format!("{WRONG}; {words}\n"));
     };
-    told(19, 3, "record 1, `S: L`: the rule `n = L.n` on line 19 gives 2, and n is 3");
+    told(19, 3, "record 1, `S: L`: the rule `n = L.n` on line 21 gives 2, and n is 3");
     told(23, 4, "record 2, at byte 20: there is no production 4");
     told(23, 0, "record 2, at byte 20: production 0 is `S: L`, and a `L` stands here");
     told(55, 2, "record 3, at byte 48: 1 token before it, not 2");
@@ -88,7 +88,11 @@ fn what_is_wrong_is_told() {
     judge(&["word"], &right[..30], "record 2, at byte 20: the sheet is over in the record of `L`");
     judge(&SEGMENT, &[&right[..], b"\n"].concat(), "1 byte after the tree");
     judge(&["word", "open", "word", "close", "word"], &right, "the tree ends before token 5, `word`");
-    judge(&["word", "open", "word"], &right, "the segment has none: refused 24 after 3 tokens, at the end: the segment is over where it expects `word`, `open` or `close`");
+    judge(
+        &["word", "open", "word"],
+        &right,
+        "the segment has none: refused 24 after 3 tokens, at the end: the segment is over where it expects `close`",
+    );
 }
 
 #[test]
@@ -122,4 +126,31 @@ fn depth() {
         let told = [("1021\n", String::new()), ("", format!("{WRONG}; record 1024 is more than 1,023 nodes deep\n"))];
         assert_answer(output, code, told[code as usize].0, &told[code as usize].1);
     }
+}
+
+/// The tree as text and as a picture, which has a box for each node, a line to each but the root, and the tokens at the bottom.
+#[test]
+fn the_tree_is_drawn() {
+    let (file, (right, _)) = (shipped_file("words"), page());
+    let draw = |sheet: &[u8], more: &[&str]| grammar_on(&[&["tree", &file, "--sheet", "-"], more].concat(), sheet);
+    let text = "S n=2\n\u{2514}\u{2500} L d=0 n=2\n   \u{251c}\u{2500} word\n   \u{2514}\u{2500} L d=0 n=1\n";
+    let output = draw(&right, &SEGMENT);
+    assert!(output.status.success() && stdout(&output).starts_with(text), "{}", stdout(&output));
+    let svg = stdout(&draw(&right, &["--svg", "word", "open", "word", "close"]));
+    let count = |part: &str| svg.matches(part).count();
+    assert_eq!((count("<rect"), count("<polyline"), count("class=\"token\"")), (6, 9, 4));
+    assert!(svg.starts_with("<svg xmlns=") && svg.contains("<title>word open word close</title>") && svg.ends_with("</svg>\n"));
+    let bottoms: Vec<&str> =
+        svg.split("class=\"token\"").skip(1).map(|t| t.split("y=\"").nth(1).unwrap().split('"').next().unwrap()).collect();
+    assert!(bottoms.windows(2).all(|pair| pair[0] == pair[1]), "{bottoms:?}");
+    let mut empty = vec![0; 48];
+    empty[23] = 3;
+    assert_answer(draw(&empty, &["--empty"]), 0, "S n=0\n\u{2514}\u{2500} L d=0 n=0 (nothing)\n", "");
+    assert_answer(
+        draw(&right, &["word"]),
+        1,
+        "",
+        &format!("{WRONG}; record 3, `L: open L close L`: the segment is over where `open` stands\n"),
+    );
+    assert_eq!(grammar(&["tree", &file, "word"]).status.code(), Some(2));
 }

@@ -1,18 +1,28 @@
-//! The command on tree sheets: `judge`.
+//! The commands on tree sheets: `judge` and `tree`.
 use super::files::{build, read};
 use super::segments::segment;
-use super::{Args, Command, Outcome, Trouble};
+use super::{misused, Args, Command, Outcome, Trouble};
+use crate::draw::Drawing;
 use crate::run::{self, Token};
 use crate::{sheet, Built};
 use segment::{Kind, Refusal};
+use std::ffi::OsStr;
 use std::io::Write;
 
-pub const COMMANDS: &[Command] = &[Command {
-    name: "judge",
-    options: &["--empty"],
-    usage: &[("judge FILE SHEET TOKENS...", "judges a tree sheet that another tool made of a segment: the value, or what is wrong")],
-    run: judge,
-}];
+pub const COMMANDS: &[Command] = &[
+    Command {
+        name: "judge",
+        options: &["--empty"],
+        usage: &[("judge FILE SHEET TOKENS...", "judges a tree sheet that another tool made of a segment: the value, or what is wrong")],
+        run: judge,
+    },
+    Command {
+        name: "tree",
+        options: &["--sheet=", "--svg", "--empty"],
+        usage: &[("tree FILE --sheet SHEET TOKENS... [--svg]", "the same, and draws the tree: as text, or as a picture")],
+        run: tree,
+    },
+];
 
 /// Why a sheet is not accepted: the segment has no tree, or the first thing that is not as in its tree.
 fn told(built: &Built, tokens: &[Token], bytes: &[u8], refusal: Refusal) -> String {
@@ -31,17 +41,36 @@ fn told(built: &Built, tokens: &[Token], bytes: &[u8], refusal: Refusal) -> Stri
     }
 }
 
+/// The value of a sheet that is accepted, or why it is not.
+fn judged(built: &Built, tokens: &[Token], bytes: &[u8]) -> Result<i64, Trouble> {
+    let (kinds, values) = run::lists(tokens);
+    let answer = sheet::deep(|| built.table.judge(&kinds, &values, bytes).map_err(|refusal| told(built, tokens, bytes, refusal)));
+    answer.map_err(Trouble::Refused)
+}
+
 fn judge(mut args: Args, out: &mut dyn Write) -> Outcome {
     let (file, sheet) = (args.take()?, args.take()?);
+    let (built, bytes) = both(&file, &sheet)?;
+    let tokens = segment(&built, &mut args)?;
+    Ok(writeln!(out, "{}", judged(&built, &tokens, &bytes)?)?)
+}
+
+/// The grammar and the bytes of a sheet.
+fn both(file: &OsStr, sheet: &OsStr) -> Result<(Built, Vec<u8>), Trouble> {
     if file == "-" && sheet == "-" {
         return Err(Trouble::Failed("grammar: standard input cannot be both the grammar and the sheet".into()));
     }
-    let ((_, built), bytes) = (build(&file)?, read(&sheet)?);
+    Ok((build(file)?.1, read(sheet)?))
+}
+
+fn tree(mut args: Args, out: &mut dyn Write) -> Outcome {
+    let file = args.take()?;
+    let Some(sheet) = args.value("--sheet").map(OsStr::to_os_string) else { return misused() };
+    let (built, bytes) = both(&file, &sheet)?;
     let tokens = segment(&built, &mut args)?;
-    let (kinds, values) = run::lists(&tokens);
-    let answer = sheet::deep(|| built.table.judge(&kinds, &values, &bytes).map_err(|refusal| told(&built, &tokens, &bytes, refusal)));
-    match answer {
-        Ok(value) => Ok(writeln!(out, "{value}")?),
-        Err(words) => Err(Trouble::Refused(words)),
-    }
+    judged(&built, &tokens, &bytes)?;
+    let tree = sheet::deep(|| sheet::read(&built, &tokens, &bytes)).map_err(Trouble::Refused)?;
+    let drawing = Drawing::new(&built, &tokens, &tree);
+    let drawn = if args.has("--svg") { drawing.svg() } else { drawing.text() };
+    Ok(out.write_all(drawn.as_bytes())?)
 }
