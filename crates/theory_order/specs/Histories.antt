@@ -9,7 +9,7 @@ use Rattle.meaning.specs.Judgement.{Accepted}
 use Rattle.meaning.specs.Calls.{Record, Stacks}
 use Rattle.meaning.specs.PublicCalls.{feed, finish}
 use Rattle.meaning.specs.CallStatements.{tokensOf}
-use Rattle.meaning.specs.Statements.{History, opened, countsForNothing, fed, finished}
+use Rattle.meaning.specs.Statements.{History, opened, countsForNothing, innerEnded, fed, finished}
 use Rattle.meaning.specs.Order.{SameButOrder, houseGrammar, houseBytes}
 use Rattle.theory_order.specs.Proved.{calls-same, house-accepted}
 
@@ -19,6 +19,7 @@ module _ (program : Grammar → List ℕ) (bs cs : List ℕ) (g h : Grammar) (b 
       let e = calls-same program bs cs g h area m₀ b x y s .0 in
       subst₂ (λ r m. History program cs m₀ [] false r m) (sym (e .state)) (sym (e .stacks)) (opened area (sym (e .answer) ∙ a))
   history-same (countsForNothing other area c d u v) = countsForNothing other area c (history-same d) u v
+  history-same (innerEnded outerTable innerTable area ss d u v) = innerEnded outerTable innerTable area ss (history-same d) u v
   history-same {m₀} (fed {ts} {r} {m} area ks vs u v d l o) =
       let e = calls-same program bs cs g h area m b x y s .1 r (feed ks vs) in
       subst₂ (λ r m. History program cs m₀ (ts ++ tokensOf (feed ks vs)) false r m) (sym (e .state)) (sym (e .stacks)) (fed area ks vs u v (history-same d) l o)

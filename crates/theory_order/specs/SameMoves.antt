@@ -12,7 +12,7 @@ use Rattle.meaning.specs.Value.{mark}
 use Rattle.meaning.specs.Scheme.{Instruction, expect}
 use Rattle.meaning.specs.Machine.{Coming, comes, ends, asLook, Frame, Config, Lent, Outcome, moved, blocked, Settled, stopped, failed, schemeAt, alternatives, entered, push, predict, accept}
 use Rattle.meaning.specs.Machine.{move, next, movesLimit, tokensLimit, waits, isDone, advance, advanceFrom, feedToken, feedAll, finishAll, opening, placeOf, unexpected, writeAll}
-use Rattle.meaning.specs.Calls.{Record, Stacks, Called, Answer, lentOf, lay, layAll, frameOf, configOf, recordOf, stacksFit, result, openOf, afterFeed, afterFinish, tokensFrom, whenEven, feedOf, finishOf, asBrought, closedRecord, refused, more, value}
+use Rattle.meaning.specs.Calls.{outer, statusOf, admitted, turnedBack, gate, Record, Stacks, Called, Answer, lentOf, lay, layAll, frameOf, configOf, recordOf, stacksFit, result, openOf, afterFeed, afterFinish, tokensFrom, whenEven, feedOf, finishOf, asBrought, closedRecord, refused, more, value}
 use Rattle.meaning.specs.PublicCalls.{Call, feed, finish, callOf}
 use Rattle.meaning.specs.Part.{frame, config}
 use Rattle.theory_order.specs.Alike.{Alike, adds, evaluates, awaits, tests, removes, AlikeAll, ended, followed, AlikeFrames, bottom, on, AlikeConfig, alike}
@@ -129,7 +129,7 @@ module _ (g h : Grammar) (w : Matched g h) where
   same-laid m (alike rs t n e) = ap (λ ps. record { registers = lay (lentOf m .maxRegisters) mark rs (m .registers); places = lay (lentOf m .maxPlaces) 0 ps (m .places) }) (same-places e)
 
   pub same-record : (o : Bool) {c d : Config} → AlikeConfig c d → recordOf o c ≡ recordOf o d
-  same-record o (alike rs t n e) = ap (λ k. record { isOpen = o; tokens = t; moves = n; registerHeight = length rs; placeHeight = k }) (alike-height e)
+  same-record o (alike rs t n e) = ap (λ k. record { status = statusOf o; kind = outer; tokens = t; moves = n; registerHeight = length rs; placeHeight = k }) (alike-height e)
 
   pub same-result : {c d : Config} → AlikeConfig c d → result g c ≡ result h d
   same-result (alike {fs} rs t n e) = ap (λ k. lib.ListN.getD rs (k - 1) mark) (w .result)
@@ -161,7 +161,7 @@ module _ (g h : Grammar) (w : Matched g h) where
   same-config r m = alike (reverse (take (r .registerHeight) (m .registers))) (r .tokens) (r .moves) (frames-back (reverse (take (r .placeHeight) (m .places))))
 
   abbrev fit-turn : Record → Stacks → Bool → Called → Called
-  fit-turn r m fits c = elim (r .isOpen) as (λ x. Called) [ false ↦ asBrought (refused 33 0) r m | true ↦ elim fits as (λ x. Called) [ false ↦ asBrought (refused 34 0) r m | true ↦ c ] ]
+  fit-turn r m fits c = elim (gate 34 (r .status) (r .kind)) as (λ x. Called) [ turnedBack n ↦ asBrought (refused n 0) r m | admitted ↦ elim fits as (λ x. Called) [ false ↦ asBrought (refused 34 0) r m | true ↦ c ] ]
 
   same-leaves : (us : List Token) → leaves g us ≡ leaves h us
   same-leaves us = ap (λ ws. map (λ u. record { kind = u .kind; values = carried (any (eqb (u .kind)) ws) (u .value) }) us) (w .carrying)
