@@ -55,7 +55,7 @@ pub record Stand (g : Grammar) (tokens : List Leaf) (o : Open) (bs : List Ancest
   pub split : tokens ≡ (yieldBelow bs ++ yieldsOf (o .children)) ++ drop (c .tokens) tokens
 
 module _ {g : Grammar} {tokens : List Leaf} where
-  pub shows : {o : Open} {bs : List Ancestor} {c : Config} → Stand g tokens o bs c → Shows g (yieldBelow bs ++ yieldsOf (o .children)) c
+  unfoldable pub shows : {o : Open} {bs : List Ancestor} {c : Config} → Stand g tokens o bs c → Shows g (yieldBelow bs ++ yieldsOf (o .children)) c
   shows {o} {bs} s = record { part = partOf o (s .point) bs; good = s .good; frames = s .frames; registers = s .registers; read = refl; tokens = s .count; moves = s .moves }
 
   -- a part that is known to be of a node on its ancestors
