@@ -2,3 +2,4 @@ pub mod Whole
 pub mod Standing
 pub mod Walking
 pub mod Segment
+pub mod Overlay

@@ -1,0 +1,76 @@
+-- Bytes laid over others from an offset on; those past the end are dropped.
+use Prim.Native.Nat.{ℕ, zero, suc, _+_, _-_, _*_, _≤_, _<_}
+use native.Mathlib.Omega.{arith}
+use mathlib.Core.Path.{_≡_, refl, sym, ap, _∙_}
+use mathlib.Core.List.{List, [], _∷_, _++_, append-assoc, append-nil}
+use lib.ListN.{length, set, drop, length-append, length-set}
+use lib.IntN.{ℤ}
+use Rattle.meaning_sheet.specs.Sheet.{valueBytes, recordBytes}
+
+unfoldable pub overlay : ℕ → List ℕ → List ℕ → List ℕ
+overlay k [] mem = mem
+overlay k (b ∷ bs) mem = overlay (suc k) bs (set mem k b)
+
+pub overlay-none : (k : ℕ) (mem : List ℕ) → overlay k [] mem ≡ mem
+unfolding overlay
+overlay-none k mem = refl
+
+-- one byte more
+pub overlay-one : (k b : ℕ) (bs mem : List ℕ) → overlay k (b ∷ bs) mem ≡ overlay (suc k) bs (set mem k b)
+unfolding overlay
+overlay-one k b bs mem = refl
+
+pub overlay-append : (xs ys : List ℕ) (k : ℕ) (mem : List ℕ) → overlay k (xs ++ ys) mem ≡ overlay (k + length xs) ys (overlay k xs mem)
+unfolding overlay
+overlay-append [] ys k mem = ap (λ n. overlay n ys mem) (omega arith)
+overlay-append (x ∷ xs) ys k mem = overlay-append xs ys (suc k) (set mem k x) ∙ ap (λ n. overlay n ys (overlay (suc k) xs (set mem k x))) (omega arith)
+
+set-apart : (mem : List ℕ) (i j x y : ℕ) → i < j → set (set mem i x) j y ≡ set (set mem j y) i x
+set-apart [] i j x y h = refl
+set-apart (b ∷ mem) zero zero x y h = absurd (omega arith)
+set-apart (b ∷ mem) zero (suc j) x y h = refl
+set-apart (b ∷ mem) (suc i) zero x y h = absurd (omega arith)
+set-apart (b ∷ mem) (suc i) (suc j) x y h = ap (λ z. b ∷ z) (set-apart mem i j x y (omega arith))
+
+overlay-set : (ys : List ℕ) (k i x : ℕ) (mem : List ℕ) → i < k → overlay k ys (set mem i x) ≡ set (overlay k ys mem) i x
+unfolding overlay
+overlay-set [] k i x mem h = refl
+overlay-set (y ∷ ys) k i x mem h = ap (overlay (suc k) ys) (set-apart mem i k x y h) ∙ overlay-set ys (suc k) i x (set mem k y) (omega arith)
+
+-- what lies behind may be laid first
+pub overlay-behind : (xs ys : List ℕ) (k n : ℕ) (mem : List ℕ) → n ≡ k + length xs → overlay k xs (overlay n ys mem) ≡ overlay k (xs ++ ys) mem
+unfolding overlay
+overlay-behind [] ys k n mem e = ap (λ j. overlay j ys mem) (omega arith)
+overlay-behind (x ∷ xs) ys k n mem e = ap (overlay (suc k) xs) (sym (overlay-set ys n k x mem (omega arith))) ∙ overlay-behind xs ys (suc k) n (set mem k x) (omega arith)
+
+pub overlay-length : (xs : List ℕ) (k : ℕ) (mem : List ℕ) → length (overlay k xs mem) ≡ length mem
+unfolding overlay
+overlay-length [] k mem = refl
+overlay-length (x ∷ xs) k mem = overlay-length xs (suc k) (set mem k x) ∙ length-set mem k x
+
+-- from the first byte on, where there is room for all of them
+set-at : (front mem : List ℕ) (b x : ℕ) → set (front ++ (b ∷ mem)) (length front) x ≡ front ++ (x ∷ mem)
+set-at [] mem b x = refl
+set-at (f ∷ front) mem b x = ap (λ z. f ∷ z) (set-at front mem b x)
+
+overlay-from : (xs front mem : List ℕ) (k : ℕ) → k ≡ length front → length xs ≤ length mem → overlay k xs (front ++ mem) ≡ front ++ (xs ++ drop (length xs) mem)
+unfolding overlay
+overlay-from [] front mem k e l = refl
+overlay-from (x ∷ xs) front [] k e l = absurd (omega arith)
+overlay-from (x ∷ xs) front (b ∷ mem) k e l =
+    ap (λ j. overlay (suc k) xs (set (front ++ (b ∷ mem)) j x)) e
+    ∙ (ap (overlay (suc k) xs) (set-at front mem b x ∙ sym (append-assoc front (x ∷ []) mem))
+    ∙ (overlay-from xs (front ++ (x ∷ [])) mem (suc k) (omega (arith, length-append front (x ∷ []))) (omega arith)
+    ∙ append-assoc front (x ∷ []) (xs ++ drop (length xs) mem)))
+
+pub overlay-all : (xs mem : List ℕ) → length xs ≤ length mem → overlay 0 xs mem ≡ xs ++ drop (length xs) mem
+overlay-all xs mem l = overlay-from xs [] mem 0 refl l
+
+-- ---- a record's length
+
+pub values-length : (vs : List ℤ) → length (valueBytes vs) ≡ 8 * length vs
+values-length [] = refl
+values-length (v ∷ vs) = omega (arith, values-length vs)
+
+pub record-length : (p b w : ℕ) (vs : List ℤ) → length (recordBytes p b w vs) ≡ 12 + 8 * length vs
+record-length p b w vs = omega (arith, values-length vs)
