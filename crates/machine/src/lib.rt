@@ -32,7 +32,7 @@ pub enum Ended {
 // ---- one move
 
 // What the instruction at hand does.
-fn one(
+pub fn one(
     registers: &mut [i64],
     places: &mut [u32],
     program: &[u32],
@@ -120,7 +120,7 @@ fn go_on(
 // ---- one look after the other
 
 // A token's value, or the mark where its terminal carries none.
-fn carried(program: &[u32], kind: usize, value: i32) -> i64
+pub fn carried(program: &[u32], kind: usize, value: i32) -> i64
     requires { ⌜ (8 < length (now program)) × (kind < 64) ⌝ }
     ensures { λ r. ⌜ r ≡ valueAt (now (program .entry)) kind value ⌝ }
 {

@@ -1,11 +1,15 @@
 -- Bytes laid over others from an offset on; those past the end are dropped.
-use Prim.Native.Nat.{ℕ, zero, suc, _+_, _-_, _*_, _≤_, _<_}
+use Prim.Native.Nat.{ℕ, zero, suc, _+_, _-_, _*_, _/_, _%_, _≤_, _<_}
 use native.Mathlib.Omega.{arith}
 use mathlib.Core.Path.{_≡_, refl, sym, ap, _∙_}
 use mathlib.Core.List.{List, [], _∷_, _++_, append-assoc, append-nil}
-use lib.ListN.{length, set, drop, length-append, length-set}
+use lib.ListN.{length, getD, set, take, drop, length-append, length-set, length-take, length-drop}
+use lib.Seq.{take-add, drop-drop, drop-cons}
 use lib.IntN.{ℤ}
-use Rattle.meaning_sheet.specs.Sheet.{valueBytes, recordBytes}
+use Rattle.meaning.specs.Layout.{fourBytes}
+use Rattle.meaning.specs.Machine.{readRegister}
+use Rattle.meaning.specs.Value.{mark}
+use Rattle.meaning_sheet.specs.Sheet.{complement, eightBytes, valueBytes, recordBytes}
 
 unfoldable pub overlay : ℕ → List ℕ → List ℕ → List ℕ
 overlay k [] mem = mem
@@ -74,3 +78,33 @@ values-length (v ∷ vs) = omega (arith, values-length vs)
 
 pub record-length : (p b w : ℕ) (vs : List ℤ) → length (recordBytes p b w vs) ≡ 12 + 8 * length vs
 record-length p b w vs = omega (arith, values-length vs)
+
+-- ---- numbers, one after the other
+
+pub four-laid : (k n : ℕ) (m a b c d : List ℕ) → a ≡ set m k (n / 16777216 % 256) → b ≡ set a (k + 1) (n / 65536 % 256) → c ≡ set b (k + 2) (n / 256 % 256) → d ≡ set c (k + 3) (n % 256) → d ≡ overlay k (fourBytes n) m
+unfolding overlay
+four-laid k n m a b c d e f g h =
+    let one : k + 1 ≡ suc k = omega arith in
+    let two : k + 2 ≡ suc (suc k) = omega arith in
+    let three : k + 3 ≡ suc (suc (suc k)) = omega arith in
+    h ∙ rw (three, g, two, f, one, e) refl
+
+pub eight-laid : (k n : ℕ) (v : ℤ) (m a b : List ℕ) → n ≡ complement v → a ≡ overlay k (fourBytes (n / 4294967296)) m → b ≡ overlay (k + 4) (fourBytes n) a → b ≡ overlay k (eightBytes v) m
+eight-laid k n v m a b z e f = f ∙ (ap (overlay (k + 4) (fourBytes n)) e ∙ (sym (overlay-append (fourBytes (n / 4294967296)) (fourBytes n) k m) ∙ ap (λ j. overlay k (fourBytes (j / 4294967296) ++ fourBytes j) m) z))
+
+values-append : (vs ws : List ℤ) → valueBytes (vs ++ ws) ≡ valueBytes vs ++ valueBytes ws
+values-append [] ws = refl
+values-append (v ∷ vs) ws = ap (λ z. eightBytes v ++ z) (values-append vs ws) ∙ sym (append-assoc (eightBytes v) (valueBytes vs) (valueBytes ws))
+
+-- the values of some registers from the top: one more
+pub value-laid : (k i above : ℕ) (rs : List ℤ) (v : ℤ) (m a b : List ℕ) → above + i < length rs → v ≡ readRegister rs (above + i + 1) → a ≡ overlay k (valueBytes (take i (drop above rs))) m → b ≡ overlay (k + 8 * i) (eightBytes v) a → b ≡ overlay k (valueBytes (take (i + 1) (drop above rs))) m
+value-laid k i above rs v m a b l r e f =
+    let here : above + i + 1 - 1 ≡ above + i = omega arith in
+    let is : getD rs (above + i) mark ≡ v = ap (λ j. getD rs j mark) (sym here) ∙ sym r in
+    let next : take (i + 1) (drop above rs) ≡ take i (drop above rs) ++ (v ∷ []) = take-add i 1 (drop above rs) ∙ (ap (λ z. take i (drop above rs) ++ take 1 z) (drop-drop i above rs ∙ drop-cons rs (above + i) mark l) ∙ ap (λ z. take i (drop above rs) ++ (z ∷ [])) is) in
+    let size : length (valueBytes (take i (drop above rs))) ≡ 8 * i = values-length (take i (drop above rs)) ∙ omega (arith, length-take i (drop above rs), length-drop above rs) in
+    f
+    ∙ (ap (overlay (k + 8 * i) (eightBytes v)) e
+    ∙ (ap (λ n. overlay (k + n) (eightBytes v) (overlay k (valueBytes (take i (drop above rs))) m)) (sym size)
+    ∙ (sym (overlay-append (valueBytes (take i (drop above rs))) (eightBytes v) k m)
+    ∙ ap (λ z. overlay k z m) (ap (λ z. valueBytes (take i (drop above rs)) ++ z) (sym (append-nil (eightBytes v))) ∙ (sym (values-append (take i (drop above rs)) (v ∷ [])) ∙ ap valueBytes (sym next))))))

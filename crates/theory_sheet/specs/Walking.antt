@@ -208,7 +208,6 @@ module _ (g : Grammar) (f : WellFormed g) (lent : Lent) (tokens : List Leaf) (kn
     pub symbol-left : (x : Symbol) → i ≡ expect x → length (o .children) < length (productionAt g (o .production) .right)
     symbol-left x k = let r = stand-ready f s p i is fs e in some-left (subst (λ j. Due g o j (r .point)) k (r .due)) (r .good)
 
-
   -- a node is left: it is its parent's child
   pub remove-on : {o : Open} {b : Ancestor} {bs : List Ancestor} → Stand g tokens o (b ∷ bs) c → (n : ℕ) → c .frames ≡ frame p (remove n ∷ is) ∷ fs → (l : Coming) (d : Config) → next g lent l c ≡ moved d
       → Stand g tokens (withChild (b .node) (treeOf (o .production) (ownValues g (o .production) n (c .registers)) (o .children))) bs d × (rest g lent tokens c ≡ rest g lent tokens d)
