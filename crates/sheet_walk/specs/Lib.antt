@@ -1,2 +1,4 @@
 pub mod Trying
 pub mod Standing
+pub mod Counting
+pub mod Leaving

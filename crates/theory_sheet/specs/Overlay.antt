@@ -108,3 +108,18 @@ value-laid k i above rs v m a b l r e f =
     ∙ (ap (λ n. overlay (k + n) (eightBytes v) (overlay k (valueBytes (take i (drop above rs))) m)) (sym size)
     ∙ (sym (overlay-append (valueBytes (take i (drop above rs))) (eightBytes v) k m)
     ∙ ap (λ z. overlay k z m) (ap (λ z. valueBytes (take i (drop above rs)) ++ z) (sym (append-nil (eightBytes v))) ∙ (sym (values-append (take i (drop above rs)) (v ∷ [])) ∙ ap valueBytes (sym next))))))
+
+-- a record
+pub record-laid : (k p before covered : ℕ) (vs : List ℤ) (m a b c d : List ℕ) → a ≡ overlay k (fourBytes p) m → b ≡ overlay (k + 4) (fourBytes before) a → c ≡ overlay (k + 8) (fourBytes covered) b → d ≡ overlay (k + 12) (valueBytes vs) c → d ≡ overlay k (recordBytes p before covered vs) m
+record-laid k p before covered vs m a b c d e f g h =
+    let eight : k + 8 ≡ k + 4 + 4 = omega arith in
+    let twelve : k + 12 ≡ k + 4 + 4 + 4 = omega arith in
+    h
+    ∙ (ap (overlay (k + 12) (valueBytes vs)) g
+    ∙ (ap (λ n. overlay n (valueBytes vs) (overlay (k + 8) (fourBytes covered) b)) twelve
+    ∙ (ap (λ n. overlay (k + 4 + 4 + 4) (valueBytes vs) (overlay n (fourBytes covered) b)) eight
+    ∙ (sym (overlay-append (fourBytes covered) (valueBytes vs) (k + 4 + 4) b)
+    ∙ (ap (overlay (k + 4 + 4) (fourBytes covered ++ valueBytes vs)) f
+    ∙ (sym (overlay-append (fourBytes before) (fourBytes covered ++ valueBytes vs) (k + 4) a)
+    ∙ (ap (overlay (k + 4) (fourBytes before ++ (fourBytes covered ++ valueBytes vs))) e
+    ∙ sym (overlay-append (fourBytes p) (fourBytes before ++ (fourBytes covered ++ valueBytes vs)) k m))))))))

@@ -140,12 +140,30 @@ module _ {g : Grammar} {o : Open} {bs : List Ancestor} {n : ℕ} {rs : List ℤ}
       ∙ (ap (take (att g left-side)) (drop-at (synsOf g (o .children)) (o .inherited ++ (v .results ++ base)) (n - inh g left-side) k ∙ sym (append-assoc (o .inherited) (v .results) base))
       ∙ take-at (o .inherited ++ v .results) base (att g left-side) size)
 
+  -- the values stand
+  sizes : (inh g left-side ≤ n) × (n - inh g left-side + att g left-side ≤ length rs)
+  sizes =
+      let k = syns-size in
+      let e = length-append (synsOf g (o .children)) (o .inherited ++ (v .results ++ drawBelow g bs)) in
+      let f = length-append (o .inherited) (v .results ++ drawBelow g bs) in
+      let h = length-append (v .results) (drawBelow g bs) in
+      let z = ap length (v .registers) in
+      (omega (arith, k), omega (arith, k, e, f, h, z, v .good .0 .sized, v .good .1 .2 .sized))
+
   left-over : drop n rs ≡ v .results ++ drawBelow g bs
   left-over =
       let base = drawBelow g bs in
       let size : length (synsOf g (o .children) ++ o .inherited) ≡ n = length-append (synsOf g (o .children)) (o .inherited) ∙ omega (arith, syns-size, v .good .0 .sized) in
       ap (drop n) (sym (v .registers) ∙ sym (append-assoc (synsOf g (o .children)) (o .inherited) (v .results ++ base)))
       ∙ drop-at (synsOf g (o .children) ++ o .inherited) (v .results ++ base) n size
+
+-- the values of a node that is to be removed stand in the registers
+pub own-stand : (g : Grammar) → WellFormed g → {tokens : List Leaf} (p : ℕ) (is : List Instruction) (fs : List Frame) (c : Config) {o : Open} {bs : List Ancestor} → Stand g tokens o bs c → (n : ℕ) → c .frames ≡ frame p (remove n ∷ is) ∷ fs
+    → (inh g (nonterminal (productionAt g (o .production) .left)) ≤ n) × (n - inh g (nonterminal (productionAt g (o .production) .left)) + att g (nonterminal (productionAt g (o .production) .left)) ≤ length (c .registers))
+own-stand g f p is fs c {o} {bs} s n e =
+    let y = stand-ready f s p (remove n) is fs e in
+    let x : Leaving g o bs n (c .registers) = leaving (y .due) (y .good) (y .registers) in
+    sizes x
 
 module _ (g : Grammar) (f : WellFormed g) (lent : Lent) (tokens : List Leaf) (known : T (all (isLeafOf g) tokens)) {p : ℕ} {is : List Instruction} {fs : List Frame} (c : Config) where
   module _ {o : Open} {bs : List Ancestor} (s : Stand g tokens o bs c) (i : Instruction) (e : c .frames ≡ frame p (i ∷ is) ∷ fs) where
