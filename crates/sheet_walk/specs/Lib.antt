@@ -2,3 +2,4 @@ pub mod Trying
 pub mod Standing
 pub mod Counting
 pub mod Leaving
+pub mod Cycle

@@ -8,6 +8,8 @@ ghost use Rattle.moves.specs.Passing.{comingOf};
 ghost use Rattle.machine.specs.Advancing.{Running, Facing};
 ghost use Rattle.sheet_walk.specs.Trying.{Tries};
 ghost use Rattle.sheet_walk.specs.Standing as Standing;
+ghost use Rattle.sheet_walk.specs.Counting.{Nested, Counted};
+ghost use Rattle.sheet_walk.specs.Leaving.{Inner, Records, Leaves};
 ghost use Rattle.sheet_walk.specs.Standing.{Stood, Walking, Settles, Steps, isLook};
 use machine::Ended;
 use moves::Run;
@@ -120,4 +122,70 @@ fn step(
     }
     let held = machine::carried(program, kind, values[n]);
     made(registers, places, program, run, kind, held)
+}
+
+// ---- records
+
+// The attributes of the left side of the node in progress: the place below waits at that symbol.
+fn attributes(places: &[u32], program: &[u32], run: Run) -> Counts
+    requires { ⌜ Nested (now program) (now places) run ⌝ }
+    ensures { λ r. ⌜ Counted (now (program .entry)) (now (places .entry)) run r ⌝ }
+{
+    let place = moves::word_at(places, run.places - 2);
+    if place == SEGMENT {
+        return Counts {
+            inherited: 0,
+            total: moves::word_at(program, 4),
+        };
+    }
+    let waits = moves::word_at(program, 2) + 8 * moves::word_at(program, 6);
+    let word = moves::word_at(program, waits + 12 * (place / 256) + place % 256);
+    let inherited = word / 131072 % 16;
+    Counts {
+        inherited,
+        total: inherited + word / 8192 % 16,
+    }
+}
+
+// The record of the node in progress, whose remove is at hand: the values of its attributes still stand.
+fn write_record(
+    registers: &[i64],
+    places: &[u32],
+    program: &[u32],
+    sheet: &mut [u8],
+    run: Run,
+    at: usize,
+    before: u64,
+)
+    requires { ⌜ Inner (now program) (now registers) (now places) run × (getD (now program) (run .at) 0 % 8 ≡ 5) × (at < 800000000000) × (before ≤ run .tokens) × (length (now registers) ≤ 4096) ⌝ }
+    ensures { λ r. ⌜ Records (now (program .entry)) (now (registers .entry)) (now (places .entry)) run at before (now (sheet .entry)) (now (sheet .exit)) ⌝ }
+{
+    let sizes = attributes(places, program, run);
+    let production = moves::word_at(places, run.places - 1) / 256;
+    let above = moves::word_at(program, run.at) / 8 - sizes.inherited;
+    sheet_bytes::put_four(sheet, at, production as u64);
+    sheet_bytes::put_four(sheet, at + 4, before);
+    sheet_bytes::put_four(sheet, at + 8, run.tokens - before);
+    sheet_bytes::put_values(sheet, at + 12, registers, run.registers, above, sizes.total);
+}
+
+// The node in progress is left: its record is written, then it is removed.
+fn leave(
+    registers: &mut [i64],
+    places: &mut [u32],
+    program: &[u32],
+    sheet: &mut [u8],
+    run: Run,
+    at: usize,
+    before: u64,
+    end: usize,
+) -> Walked
+    requires { ⌜ Inner (now program) (now registers) (now places) run × (getD (now program) (run .at) 0 % 8 ≡ 5) × (at < 800000000000) × (before ≤ run .tokens) × (length (now registers) ≤ 4096) ⌝ }
+    ensures { λ r. ⌜ Leaves (now (program .entry)) (now (registers .entry)) (now (places .entry)) run at before end (now (sheet .entry)) (now (registers .exit)) (now (places .exit)) (now (sheet .exit)) r ⌝ }
+{
+    write_record(registers, places, program, sheet, run, at, before);
+    match made(registers, places, program, run, END, value::MARK) {
+        Ended::Stopped(next) => Walked::Left(next, end),
+        Ended::Failed(last, k) => Walked::Failed(last, k),
+    }
 }
