@@ -2,6 +2,7 @@
 use Prim.Native.Nat.{ℕ, suc, _+_, _-_, _*_, _/_, _%_, _≤_, _<_}
 use native.Mathlib.Omega.{arith}
 use mathlib.Core.Path.{_≡_, refl, sym, ap, ap₂, _∙_, subst}
+use mathlib.Core.Bool.{false}
 use mathlib.Core.List.{List, [], _∷_, _++_, append-nil}
 use lib.ListN.{length, getD, take, drop, length-append, length-map, length-take, length-drop}
 use lib.Dec.{T}
@@ -10,9 +11,10 @@ use Rattle.meaning.specs.Base.{all}
 use Rattle.meaning.specs.Grammar.{Grammar, Leaf, Symbol, terminal, nonterminal, inh, att, productionAt, whole}
 use Rattle.meaning.specs.Rules.{fourBytes}
 use Rattle.meaning.specs.Scheme.{Instruction, expect}
-use Rattle.meaning.specs.Machine.{Config, Lent, lookAt, placeOf, failed, movesLimit}
+use Rattle.meaning.specs.Machine.{Frame, Config, Lent, lookAt, placeOf, failed, movesLimit}
 use Rattle.meaning.specs.Tree.{Tree, Forest, leaf, node, noTrees, treeAnd, yield, yields, width}
 use Rattle.meaning.specs.Part.{Open, Ancestor, forestOnto, yieldBelow, yieldsOf, frame}
+use Rattle.meaning.specs.Walk.{topProduction}
 use Rattle.meaning_sheet.specs.Sheet.{recordBytes, sheet, sheets}
 use Rattle.theory_base.specs.WellFormed.{well-formed-at}
 use Rattle.theory_base.specs.Feeds.{leaves-of}
@@ -72,17 +74,17 @@ ListDone ws ks vs m₀ ps₀ run₀ k sheet₀ m ps sheet₁ w = (g : Grammar) (
 
 -- ---- what the code relies on
 
-pub record ListAt (ws ks : List ℕ) (vs m : List ℤ) (ps : List ℕ) (run : Run) (k depth symbols : ℕ) : Type 0 where
+pub record ListAt (ws ks : List ℕ) (vs m : List ℤ) (ps : List ℕ) (run : Run) (k depthLeft symbolsLeft : ℕ) : Type 0 where
   pub walking : Walking ws ks vs m ps run
-  pub symbols : length (productionAt (walking .grammar) (walking .node .production) .right) ≤ length (walking .node .children) + symbols
-  pub depth : length ps ≤ run .places + depth
+  pub symbols : length (productionAt (walking .grammar) (walking .node .production) .right) ≤ length (walking .node .children) + symbolsLeft
+  pub depth : length ps ≤ run .places + depthLeft
   pub room : k ≤ 76 * run .moves
   pub few : length m ≤ 4096
 
-pub record NodeAt (ws ks : List ℕ) (vs m : List ℤ) (ps : List ℕ) (run : Run) (k depth : ℕ) : Type 0 where
+pub record NodeAt (ws ks : List ℕ) (vs m : List ℤ) (ps : List ℕ) (run : Run) (k depthLeft : ℕ) : Type 0 where
   pub walking : Walking ws ks vs m ps run
   pub three : getD ws (run .at) 0 % 8 ≡ 3
-  pub depth : length ps ≤ run .places + depth
+  pub depth : length ps ≤ run .places + depthLeft
   pub room : k ≤ 76 * run .moves
   pub few : length m ≤ 4096
 
@@ -138,3 +140,156 @@ module _ {ws : List ℕ} (ks : List ℕ) (vs : List ℤ) {m₀ : List ℤ} {ps�
                 room = omega (arith, r .later, x .room, y .room);
                 over = y .over;
               }
+
+-- ---- what the calls of a list rely on
+
+settled-places : {g : Grammar} {ws : List ℕ} {lent : Lent} {tokens : List Leaf} {m m′ : List ℤ} {ps ps′ : List ℕ} {run run′ : Run} {c d : Config} {o o′ : Open} {bs : List Ancestor} → Held g ws lent m ps run c → Stand g tokens o bs c → Held g ws lent m′ ps′ run′ d → Stand g tokens o′ bs d → run′ .places ≡ run .places
+settled-places {g} {c = c} {d = d} h s h′ s′ = omega (arith, h .places .height, h′ .places .height, length-map (c .frames) (placeOf g), length-map (d .frames) (placeOf g), stand-frames s, stand-frames s′)
+
+module _ {ws ks : List ℕ} {vs m₀ : List ℤ} {ps₀ : List ℕ} {run₀ : Run} {k depth symbols : ℕ} (q : ListAt ws ks vs m₀ ps₀ run₀ k depth symbols) (m₁ : List ℤ) (ps₁ : List ℕ) (run₁ : Run) (a : Settles ws m₀ ps₀ run₀ m₁ ps₁ (E.Stopped run₁)) where
+  abbrev w₀ : Walking ws ks vs m₀ ps₀ run₀
+  w₀ = q .walking
+
+  abbrev g : Grammar
+  g = w₀ .grammar
+
+  settled : Reached g ws (w₀ .lent) (tokensAs g ks vs) (w₀ .config) (w₀ .node) (w₀ .below) m₁ ps₁ run₁
+  settled = a g (w₀ .lent) (tokensAs g ks vs) (w₀ .config) (w₀ .node) (w₀ .below) (leaves-of g ks vs (w₀ .four)) (w₀ .held) (w₀ .stand) .0
+
+  pub settled-walking : Walking ws ks vs m₁ ps₁ run₁
+  settled-walking = record { even = w₀ .even; four = w₀ .four; grammar = g; lent = w₀ .lent; config = settled .to; node = w₀ .node; below = w₀ .below; held = settled .held; stand = settled .stand }
+
+  -- what is at hand is no add, evaluate or test
+  pub settled-rests : isInside (getD ws (run₁ .at) 0 % 8) ≡ false
+  settled-rests = a g (w₀ .lent) (tokensAs g ks vs) (w₀ .config) (w₀ .node) (w₀ .below) (leaves-of g ks vs (w₀ .four)) (w₀ .held) (w₀ .stand) .1
+
+  room-kept : k ≤ 76 * run₁ .moves
+  room-kept = omega (arith, q .room, w₀ .held .moves, settled .later, settled .held .moves)
+
+  pub list-node-at : getD ws (run₁ .at) 0 % 8 ≡ 3 → length m₁ ≡ length m₀ → length ps₁ ≡ length ps₀ → NodeAt ws ks vs m₁ ps₁ run₁ k depth
+  list-node-at three e f = record { walking = settled-walking; three = three; depth = omega (arith, q .depth, f, settled-places (w₀ .held) (w₀ .stand) (settled .held) (settled .stand)); room = room-kept; few = omega (arith, q .few, e) }
+
+  pub list-symbols : isLook (getD ws (run₁ .at) 0 % 8) → 1 ≤ symbols
+  list-symbols look =
+      let x = at-look look (settled .held) in
+      omega (arith, q .symbols, symbol-left g (settled .held .wellFormed) (w₀ .lent) (tokensAs g ks vs) (leaves-of g ks vs (w₀ .four)) (settled .to) (settled .stand) (x .0) (x .1 .frames) (x .2) (x .3))
+
+  pub list-more-at : (sheet₀ : List ℕ) (m₂ : List ℤ) (ps₂ sheet₂ : List ℕ) (run₂ : Run) (e₂ : ℕ) → isLook (getD ws (run₁ .at) 0 % 8) → NodeDone ws ks vs m₁ ps₁ run₁ k sheet₀ m₂ ps₂ sheet₂ (Left run₂ e₂) → length m₂ ≡ length m₀ → length ps₂ ≡ length ps₀ → ListAt ws ks vs m₂ ps₂ run₂ e₂ depth (symbols - 1)
+  list-more-at sheet₀ m₂ ps₂ sheet₂ run₂ e₂ look n e f =
+      let x = n g (w₀ .lent) (settled .to) (w₀ .node) (w₀ .below) (w₀ .even) (w₀ .four) (settled .held) (settled .stand) in
+      record {
+        walking = record { even = w₀ .even; four = w₀ .four; grammar = g; lent = w₀ .lent; config = x .to; node = withChild (w₀ .node) (x .tree); below = w₀ .below; held = x .held; stand = x .stand };
+        symbols = omega (arith, q .symbols, list-symbols look);
+        depth = omega (arith, q .depth, f, settled-places (w₀ .held) (w₀ .stand) (x .held) (x .stand));
+        room = omega (arith, x .room, room-kept, settled .held .moves, x .held .moves);
+        few = omega (arith, q .few, e);
+      }
+
+-- ---- a token as a child
+
+pub read-done : {ws : List ℕ} (ks : List ℕ) (vs : List ℤ) {m₀ : List ℤ} {ps₀ : List ℕ} {run₀ : Run} → getD ws (run₀ .at) 0 % 8 ≡ 2 → (k : ℕ) (m : List ℤ) (ps : List ℕ) (run : Run) → Steps ws ks vs m₀ ps₀ run₀ m ps (E.Stopped run) → (sheet₀ : List ℕ) → NodeDone ws ks vs m₀ ps₀ run₀ k sheet₀ m ps sheet₀ (Left run k)
+read-done {ws} ks vs {run₀ = run₀} two k m ps run a sheet₀ g lent c o bs even four h s =
+    let x = a g lent c o bs even four h s in
+    let i = hand-terminal h two in
+    let r = read-on g (h .wellFormed) lent (tokensAs g ks vs) (leaves-of g ks vs four) c s _ (i .frames) (getD ws (run₀ .at) 0 / 8) refl (x .to) (x .made) in
+    record { to = x .to; tree = leaf (r .0); held = x .held; stand = r .1; same = x .same; isEnd = omega arith; written = sym (overlay-none k sheet₀); room = omega (arith, counts g lent (lookAt (comingTo c (tokensAs g ks vs))) c (x .to) (x .made) .moves) }
+
+-- ---- a node: its predict, its children, its remove
+
+-- only a remove is left of a node on another
+pub five-of : {g : Grammar} {ws : List ℕ} {lent : Lent} {tokens : List Leaf} {m : List ℤ} {ps : List ℕ} {run : Run} {c : Config} {o : Open} {b : Ancestor} {bs : List Ancestor} → Held g ws lent m ps run c → Stand g tokens o (b ∷ bs) c → 5 ≤ getD ws (run .at) 0 % 8 → getD ws (run .at) 0 % 8 ≡ 5
+five-of {g} {ws} {run = run} {c = c} {o = o} h s l = go (at-hand h)
+  where
+    first : {a b : ℕ} {x y : List Instruction} {fs gs : List Frame} → frame a x ∷ fs ≡ frame b y ∷ gs → a ≡ b
+    first {a} {b} {x} {y} {fs} {gs} e = ap (λ z. topProduction z) e
+
+    go : AtHand h → getD ws (run .at) 0 % 8 ≡ 5
+    go (some i x k n) = omega (arith, l, k, low-operation i)
+    go (nothing below f w z) = absurd (omega (arith, first (s .frames ∙ f), s .good .stands .0, h .wellFormed .productions .1))
+
+-- the predict leads to a node on the one that waited
+pub record Entered (g : Grammar) (ws : List ℕ) (lent : Lent) (tokens : List Leaf) (c : Config) (o : Open) (bs : List Ancestor) (m : List ℤ) (ps : List ℕ) (run : Run) : Type 0 where
+  pub to : Config
+  pub production : ℕ
+  pub inherited : List ℤ
+  pub symbol : Symbol
+  pub ahead : List Symbol
+  pub held : Held g ws lent m ps run to
+  pub stand : Stand g tokens (nodeOf production inherited []) (waitingAt o symbol ahead ∷ bs) to
+  pub same : rest g lent tokens c ≡ rest g lent tokens to
+  pub moves : to .moves ≡ suc (c .moves)
+  pub tokens-are : to .tokens ≡ c .tokens
+
+module _ {ws : List ℕ} (ks : List ℕ) (vs : List ℤ) {m₀ : List ℤ} {ps₀ : List ℕ} {run₀ : Run} (three : getD ws (run₀ .at) 0 % 8 ≡ 3) (m₁ : List ℤ) (ps₁ : List ℕ) (run₁ : Run) (a : Steps ws ks vs m₀ ps₀ run₀ m₁ ps₁ (E.Stopped run₁)) where
+  pub enters : (g : Grammar) (lent : Lent) (c : Config) (o : Open) (bs : List Ancestor) → length ks ≡ length vs → T (all fourBytes vs) → Held g ws lent m₀ ps₀ run₀ c → Stand g (tokensAs g ks vs) o bs c → Entered g ws lent (tokensAs g ks vs) c o bs m₁ ps₁ run₁
+  enters g lent c o bs even four h s =
+      let x = a g lent c o bs even four h s in
+      let i = hand-nonterminal h three in
+      let r = predict-on g (h .wellFormed) lent (tokensAs g ks vs) (leaves-of g ks vs four) c s _ (i .frames) (getD ws (run₀ .at) 0 / 8) refl (x .to) (x .made) in
+      let n : length ((yieldBelow bs ++ yieldsOf (o .children)) ++ []) ≡ x .to .tokens = r .4 .count in
+      record {
+        to = x .to;
+        production = r .0;
+        inherited = r .1;
+        symbol = r .2;
+        ahead = r .3;
+        held = x .held;
+        stand = r .4;
+        same = x .same;
+        moves = counts g lent (lookAt (comingTo c (tokensAs g ks vs))) c (x .to) (x .made) .moves;
+        tokens-are = omega (arith, n, ap length (append-nil (yieldBelow bs ++ yieldsOf (o .children))), s .count);
+      }
+
+  -- what its calls rely on
+  module _ {k depth : ℕ} (q : NodeAt ws ks vs m₀ ps₀ run₀ k depth) where
+    entered-at : let w = q .walking in Entered (w .grammar) ws (w .lent) (tokensAs (w .grammar) ks vs) (w .config) (w .node) (w .below) m₁ ps₁ run₁
+    entered-at = let w = q .walking in enters (w .grammar) (w .lent) (w .config) (w .node) (w .below) (w .even) (w .four) (w .held) (w .stand)
+
+    pub entered-inner : Inner ws m₁ ps₁ run₁
+    entered-inner =
+        let w = q .walking in
+        let x = entered-at in
+        record { grammar = w .grammar; lent = w .lent; tokens = tokensAs (w .grammar) ks vs; known = leaves-of (w .grammar) ks vs (w .four); config = x .to; node = nodeOf (x .production) (x .inherited) []; parent = waitingAt (w .node) (x .symbol) (x .ahead); below = w .below; held = x .held; stand = x .stand }
+
+    pub entered-places : run₁ .places ≡ suc (run₀ .places)
+    entered-places =
+        let w = q .walking in
+        let x = entered-at in
+        omega (arith, w .held .places .height, x .held .places .height, length-map (w .config .frames) (placeOf (w .grammar)), length-map (x .to .frames) (placeOf (w .grammar)), stand-frames (w .stand), stand-frames (x .stand))
+
+    pub depth-left : length ps₁ ≡ length ps₀ → 1 ≤ depth
+    depth-left e = omega (arith, q .depth, e, entered-places, bounds (entered-at .held) .places)
+
+    pub node-list-at : (size : ℕ) → size ≤ 76 → length m₁ ≡ length m₀ → length ps₁ ≡ length ps₀ → ListAt ws ks vs m₁ ps₁ run₁ (k + size) (depth - 1) 12
+    node-list-at size l e f =
+        let w = q .walking in
+        let x = entered-at in
+        record {
+          walking = record { even = w .even; four = w .four; grammar = w .grammar; lent = w .lent; config = x .to; node = nodeOf (x .production) (x .inherited) []; below = waitingAt (w .node) (x .symbol) (x .ahead) ∷ w .below; held = x .held; stand = x .stand };
+          symbols = omega (arith, well-formed-at (w .grammar) (x .held .wellFormed) (x .production) (x .stand .good .stands .0) .short);
+          depth = omega (arith, q .depth, depth-left f, entered-places, f);
+          room = omega (arith, q .room, l, w .held .moves, x .held .moves, x .moves);
+          few = omega (arith, q .few, e);
+        }
+
+    module _ (size : ℕ) (sheet₀ : List ℕ) (m₂ : List ℤ) (ps₂ sheet₂ : List ℕ) (run₂ : Run) (e₂ : ℕ) (l : ListDone ws ks vs m₁ ps₁ run₁ (k + size) sheet₀ m₂ ps₂ sheet₂ (Left run₂ e₂)) where
+      abbrev w : Walking ws ks vs m₀ ps₀ run₀
+      w = q .walking
+
+      listed-at : let x = entered-at in Listed (w .grammar) ws (w .lent) (tokensAs (w .grammar) ks vs) (x .to) (nodeOf (x .production) (x .inherited) []) (waitingAt (w .node) (x .symbol) (x .ahead) ∷ w .below) (k + size) sheet₀ m₂ ps₂ sheet₂ run₂ e₂
+      listed-at = let x = entered-at in l (w .grammar) (w .lent) (x .to) (nodeOf (x .production) (x .inherited) []) (waitingAt (w .node) (x .symbol) (x .ahead) ∷ w .below) (w .even) (w .four) (x .held) (x .stand)
+
+      pub leaving-inner : Inner ws m₂ ps₂ run₂
+      leaving-inner =
+          let x = entered-at in
+          let y = listed-at in
+          record { grammar = w .grammar; lent = w .lent; tokens = tokensAs (w .grammar) ks vs; known = leaves-of (w .grammar) ks vs (w .four); config = y .to; node = withChildren (nodeOf (x .production) (x .inherited) []) (y .trees); parent = waitingAt (w .node) (x .symbol) (x .ahead); below = w .below; held = y .held; stand = y .stand }
+
+      pub leaving-five : getD ws (run₂ .at) 0 % 8 ≡ 5
+      leaving-five = let y = listed-at in five-of (y .held) (y .stand) (y .over)
+
+      pub leaving-tokens : run₀ .tokens ≤ run₂ .tokens
+      leaving-tokens =
+          let x = entered-at in
+          let y = listed-at in
+          omega (arith, w .held .tokens, x .tokens-are, y .held .tokens, stand-tokens (y .trees) (x .stand) (y .stand))
