@@ -19,6 +19,7 @@ use Rattle.meaning_sheet.specs.Sheet.{recordBytes, sheet, sheets}
 use Rattle.theory_base.specs.WellFormed.{well-formed-at}
 use Rattle.theory_base.specs.Feeds.{leaves-of}
 use Rattle.theory_answers.specs.Bounds.{counts}
+use Rattle.theory_program.specs.Proper.{att-most}
 use Rattle.theory_program.specs.Code.{operation, low-operation}
 use Rattle.theory_sound.specs.Moves.{nodeOf, withChild, waitingAt}
 use Rattle.theory_sheet.specs.Overlay.{overlay, overlay-none, overlay-append, overlay-behind, record-length}
@@ -31,8 +32,8 @@ use Rattle.machine.specs.declared.Ended.the-variants as E
 use Rattle.sheet_walk.specs.declared.Walked as Walked
 use Rattle.sheet_walk.specs.declared.Walked.the-variants.{Left, Failed}
 use Rattle.sheet_walk.specs.Standing.{tokensAs, isInside, isLook, Walking, Reached, Refused, refused-from, Settles, Onward, Steps, at-look}
-use Rattle.sheet_walk.specs.Counting.{leftOf}
-use Rattle.sheet_walk.specs.Leaving.{Leaves, Inner}
+use Rattle.sheet_walk.specs.Counting.{leftOf, Counted}
+use Rattle.sheet_walk.specs.Leaving.{LeftAs, Leaves, Inner}
 
 -- a child is passed: a node is left, or a token is read. `end` is where its records end
 pub record Noded (g : Grammar) (ws : List ℕ) (lent : Lent) (tokens : List Leaf) (c : Config) (o : Open) (bs : List Ancestor) (k : ℕ) (sheet₀ : List ℕ) (m : List ℤ) (ps sheet₁ : List ℕ) (run : Run) (end : ℕ) : Type 0 where
@@ -293,3 +294,61 @@ module _ {ws : List ℕ} (ks : List ℕ) (vs : List ℤ) {m₀ : List ℤ} {ps�
           let x = entered-at in
           let y = listed-at in
           omega (arith, w .held .tokens, x .tokens-are, y .held .tokens, stand-tokens (y .trees) (x .stand) (y .stand))
+
+-- ---- what a node comes to
+
+module _ {ws : List ℕ} (ks : List ℕ) (vs : List ℤ) {m₀ : List ℤ} {ps₀ : List ℕ} {run₀ : Run} (k : ℕ) (sheet₀ : List ℕ) where
+  pub step-refused : (m : List ℤ) (ps sheet₁ : List ℕ) (run : Run) (j : ℕ) → Steps ws ks vs m₀ ps₀ run₀ m ps (E.Failed run j) → NodeDone ws ks vs m₀ ps₀ run₀ k sheet₀ m ps sheet₁ (Failed run j)
+  step-refused m ps sheet₁ run j a g lent c o bs even four h s = a g lent c o bs even four h s
+
+  module _ (three : getD ws (run₀ .at) 0 % 8 ≡ 3) (m₁ : List ℤ) (ps₁ : List ℕ) (run₁ : Run) (a : Steps ws ks vs m₀ ps₀ run₀ m₁ ps₁ (E.Stopped run₁)) (i n : ℕ) (sized : Counted ws ps₁ run₁ (record { inherited = i; total = n })) where
+    pub node-list-fails : (m : List ℤ) (ps sheet₁ : List ℕ) (run : Run) (j : ℕ) → ListDone ws ks vs m₁ ps₁ run₁ (k + (12 + 8 * n)) sheet₀ m ps sheet₁ (Failed run j) → NodeDone ws ks vs m₀ ps₀ run₀ k sheet₀ m ps sheet₁ (Failed run j)
+    node-list-fails m ps sheet₁ run j l g lent c o bs even four h s =
+        let x = enters ks vs three m₁ ps₁ run₁ a g lent c o bs even four h s in
+        refused-from (x .same) (l g lent (x .to) (nodeOf (x .production) (x .inherited) []) (waitingAt o (x .symbol) (x .ahead) ∷ bs) even four (x .held) (x .stand))
+
+    pub node-left : (m₂ : List ℤ) (ps₂ sheet₂ : List ℕ) (run₂ : Run) (e₂ : ℕ) → ListDone ws ks vs m₁ ps₁ run₁ (k + (12 + 8 * n)) sheet₀ m₂ ps₂ sheet₂ (Left run₂ e₂)
+        → (m : List ℤ) (ps sheet₁ : List ℕ) (w : Walked.Walked) → Leaves ws m₂ ps₂ run₂ k (run₀ .tokens) e₂ sheet₂ m ps sheet₁ w → NodeDone ws ks vs m₀ ps₀ run₀ k sheet₀ m ps sheet₁ w
+    node-left m₂ ps₂ sheet₂ run₂ e₂ l m ps sheet₁ w v g lent c o bs even four h s =
+        let x = enters ks vs three m₁ ps₁ run₁ a g lent c o bs even four h s in
+        let y = l g lent (x .to) (nodeOf (x .production) (x .inherited) []) (waitingAt o (x .symbol) (x .ahead) ∷ bs) even four (x .held) (x .stand) in
+        go w x y (v g lent (tokensAs g ks vs) (y .to) (withChildren (nodeOf (x .production) (x .inherited) []) (y .trees)) (waitingAt o (x .symbol) (x .ahead)) bs (leaves-of g ks vs four) (y .held) (y .stand))
+      where
+        tokens : List Leaf
+        tokens = tokensAs g ks vs
+
+        go : (w : Walked.Walked) (x : Entered g ws lent (tokensAs g ks vs) c o bs m₁ ps₁ run₁) (y : Listed g ws lent (tokensAs g ks vs) (x .to) (nodeOf (x .production) (x .inherited) []) (waitingAt o (x .symbol) (x .ahead) ∷ bs) (k + (12 + 8 * n)) sheet₀ m₂ ps₂ sheet₂ run₂ e₂)
+            → LeftAs g ws lent (tokensAs g ks vs) (y .to) (withChildren (nodeOf (x .production) (x .inherited) []) (y .trees)) (waitingAt o (x .symbol) (x .ahead)) bs run₂ k (run₀ .tokens) e₂ sheet₂ m ps sheet₁ w → NodedAs g ws lent (tokensAs g ks vs) c o bs k sheet₀ m ps sheet₁ w
+        go (Failed run j) x y z = refused-from (x .same ∙ y .same) z
+        go (Left run e) x y z =
+            let p = x .production in
+            let f = y .trees in
+            let o₁ = nodeOf p (x .inherited) [] in
+            let r = getD ws (run₂ .at) 0 / 8 in
+            let own = ownValues g p r (y .to .registers) in
+            let d = z .0 in
+            let hand = hand-remove (y .held) (five-of (y .held) (y .stand) (y .over)) in
+            let there = own-stand g (y .held .wellFormed) (hand .production) (hand .rest) (hand .below) (y .to) (y .stand) r (hand .frames) in
+            let few : att g (leftOf g o₁) ≡ n = sym (sized g lent (tokensAs g ks vs) m₁ (x .to) o₁ (waitingAt o (x .symbol) (x .ahead)) bs (x .held) (x .stand) .1) in
+            let size : length own ≡ n = length-take (att g (leftOf g o₁)) (drop (r - inh g (leftOf g o₁)) (y .to .registers)) ∙ omega (arith, there, few, length-drop (r - inh g (leftOf g o₁)) (y .to .registers)) in
+            let covered : y .to .tokens ≡ c .tokens + length (yields f) = stand-tokens f (x .stand) (y .stand) ∙ omega (arith, x .tokens-are) in
+            let before : run₀ .tokens ≡ c .tokens = h .tokens in
+            let width-is : y .to .tokens - run₀ .tokens ≡ length (yields f) = omega (arith, covered, before) in
+            let record-is : recordBytes p (run₀ .tokens) (y .to .tokens - run₀ .tokens) own ≡ recordBytes p (c .tokens) (length (yields f)) own = ap₂ (λ b q. recordBytes p b q own) before width-is in
+            let first = recordBytes p (c .tokens) (length (yields f)) own in
+            let long : length first ≡ 12 + 8 * n = record-length p (c .tokens) (length (yields f)) own ∙ omega (arith, size) in
+            let kids : sheets (x .to .tokens) f ≡ sheets (c .tokens) f = ap (λ b. sheets b f) (x .tokens-are) in
+            let most = att-most g (h .wellFormed) (leftOf g o₁) in
+            record {
+              to = d .to;
+              tree = node p own f;
+              held = d .held;
+              stand = subst (λ t. Stand g (tokensAs g ks vs) (withChild o (node p own t)) bs (d .to)) (onto-forest f []) (d .stand);
+              same = x .same ∙ (y .same ∙ d .same);
+              isEnd = z .1 ∙ omega (arith, y .isEnd, ap length kids, long, length-append first (sheets (c .tokens) f));
+              written =
+                z .2
+                ∙ (ap₂ (λ u b. overlay k u b) record-is (y .written ∙ ap (λ u. overlay (k + (12 + 8 * n)) u sheet₀) kids)
+                ∙ overlay-behind first (sheets (c .tokens) f) k (k + (12 + 8 * n)) sheet₀ (omega (arith, long)));
+              room = omega (arith, z .1, y .room, x .moves, d .moves, few, most);
+            }
