@@ -2,10 +2,11 @@
 use Prim.Native.Nat.{ℕ, suc, _+_, _-_, _*_, _/_, _%_, _≤_, _<_}
 use native.Mathlib.Omega.{arith}
 use mathlib.Core.Path.{_≡_, refl, sym, ap, ap₂, _∙_, subst}
-use mathlib.Core.Bool.{false}
+use mathlib.Core.Bool.{Bool, true, false, _||_}
+use borrow.Author.Tests.{eqb-false}
 use mathlib.Core.List.{List, [], _∷_, _++_, append-nil}
 use lib.ListN.{length, getD, take, drop, length-append, length-map, length-take, length-drop}
-use lib.Dec.{T}
+use lib.Dec.{T, eqb}
 use lib.IntN.{ℤ}
 use Rattle.meaning.specs.Base.{all}
 use Rattle.meaning.specs.Grammar.{Grammar, Leaf, Symbol, terminal, nonterminal, inh, att, productionAt, whole}
@@ -29,6 +30,7 @@ use Rattle.moves.specs.declared.Run.{Run}
 use Rattle.moves.specs.Held.{Held, AtHand, some, nothing, at-hand, hand-terminal, hand-nonterminal, hand-remove, bounds}
 use Rattle.machine.specs.declared.Ended as Ended
 use Rattle.machine.specs.declared.Ended.the-variants as E
+use Rattle.sheet_walk.specs.declared.Counts.{Counts}
 use Rattle.sheet_walk.specs.declared.Walked as Walked
 use Rattle.sheet_walk.specs.declared.Walked.the-variants.{Left, Failed}
 use Rattle.sheet_walk.specs.Standing.{tokensAs, isInside, isLook, Walking, Reached, Refused, refused-from, Settles, Onward, Steps, at-look}
@@ -134,10 +136,10 @@ module _ {ws : List ℕ} (ks : List ℕ) (vs : List ℤ) {m₀ : List ℤ} {ps�
                 same = r .same ∙ (x .same ∙ y .same);
                 isEnd = omega (arith, y .isEnd, x .isEnd, ap length own, ap length more, length-append (sheet (c .tokens) t) (sheets (c .tokens + width t) f));
                 written =
-                  y .written
-                  ∙ (ap₂ (λ q z. overlay e₂ q z) more (x .written ∙ ap (λ q. overlay k q sheet₀) own)
-                  ∙ (ap (λ q. overlay q (sheets (c .tokens + width t) f) (overlay k (sheet (c .tokens) t) sheet₀)) (x .isEnd ∙ ap (λ q. k + length q) own)
-                  ∙ sym (overlay-append (sheet (c .tokens) t) (sheets (c .tokens + width t) f) k sheet₀)));
+                    y .written
+                    ∙ (ap₂ (λ q z. overlay e₂ q z) more (x .written ∙ ap (λ q. overlay k q sheet₀) own)
+                    ∙ (ap (λ q. overlay q (sheets (c .tokens + width t) f) (overlay k (sheet (c .tokens) t) sheet₀)) (x .isEnd ∙ ap (λ q. k + length q) own)
+                    ∙ sym (overlay-append (sheet (c .tokens) t) (sheets (c .tokens + width t) f) k sheet₀)));
                 room = omega (arith, r .later, x .room, y .room);
                 over = y .over;
               }
@@ -185,6 +187,16 @@ module _ {ws ks : List ℕ} {vs m₀ : List ℤ} {ps₀ : List ℕ} {run₀ : Ru
         room = omega (arith, x .room, room-kept, settled .held .moves, x .held .moves);
         few = omega (arith, q .few, e);
       }
+
+-- what is at hand after the moves inside a node is a child, if it is neither a remove nor the end
+pub only-read : (k : ℕ) → isInside k ≡ false → k < 5 → (k ≡ 3 → ⊥) → k ≡ 2
+only-read k e l n = go (eqb k 0) refl (eqb k 1) refl (eqb k 4) refl e
+  where
+    go : (a : Bool) → eqb k 0 ≡ a → (b : Bool) → eqb k 1 ≡ b → (d : Bool) → eqb k 4 ≡ d → a || (b || d) ≡ false → k ≡ 2
+    go true x b y d z h = absurd (subst T h tt)
+    go false x true y d z h = absurd (subst T h tt)
+    go false x false y true z h = absurd (subst T h tt)
+    go false x false y false z h = omega (arith, l, n, eqb-false k 0 x, eqb-false k 1 y, eqb-false k 4 z)
 
 -- ---- a token as a child
 
@@ -295,29 +307,29 @@ module _ {ws : List ℕ} (ks : List ℕ) (vs : List ℤ) {m₀ : List ℤ} {ps�
           let y = listed-at in
           omega (arith, w .held .tokens, x .tokens-are, y .held .tokens, stand-tokens (y .trees) (x .stand) (y .stand))
 
+pub counted-few : {ws : List ℕ} {m : List ℤ} {ps : List ℕ} {run : Run} (r : Counts) → Inner ws m ps run → Counted ws ps run r → r .total ≤ 8
+counted-few {m = m} r i k = omega (arith, k (i .grammar) (i .lent) (i .tokens) m (i .config) (i .node) (i .parent) (i .below) (i .held) (i .stand) .1, att-most (i .grammar) (i .held .wellFormed) (leftOf (i .grammar) (i .node)))
+
 -- ---- what a node comes to
 
 module _ {ws : List ℕ} (ks : List ℕ) (vs : List ℤ) {m₀ : List ℤ} {ps₀ : List ℕ} {run₀ : Run} (k : ℕ) (sheet₀ : List ℕ) where
   pub step-refused : (m : List ℤ) (ps sheet₁ : List ℕ) (run : Run) (j : ℕ) → Steps ws ks vs m₀ ps₀ run₀ m ps (E.Failed run j) → NodeDone ws ks vs m₀ ps₀ run₀ k sheet₀ m ps sheet₁ (Failed run j)
   step-refused m ps sheet₁ run j a g lent c o bs even four h s = a g lent c o bs even four h s
 
-  module _ (three : getD ws (run₀ .at) 0 % 8 ≡ 3) (m₁ : List ℤ) (ps₁ : List ℕ) (run₁ : Run) (a : Steps ws ks vs m₀ ps₀ run₀ m₁ ps₁ (E.Stopped run₁)) (i n : ℕ) (sized : Counted ws ps₁ run₁ (record { inherited = i; total = n })) where
-    pub node-list-fails : (m : List ℤ) (ps sheet₁ : List ℕ) (run : Run) (j : ℕ) → ListDone ws ks vs m₁ ps₁ run₁ (k + (12 + 8 * n)) sheet₀ m ps sheet₁ (Failed run j) → NodeDone ws ks vs m₀ ps₀ run₀ k sheet₀ m ps sheet₁ (Failed run j)
+  module _ (three : getD ws (run₀ .at) 0 % 8 ≡ 3) (m₁ : List ℤ) (ps₁ : List ℕ) (run₁ : Run) (a : Steps ws ks vs m₀ ps₀ run₀ m₁ ps₁ (E.Stopped run₁)) (r₁ : Counts) (sized : Counted ws ps₁ run₁ r₁) where
+    pub node-list-fails : (m : List ℤ) (ps sheet₁ : List ℕ) (run : Run) (j : ℕ) → ListDone ws ks vs m₁ ps₁ run₁ (k + (12 + 8 * r₁ .total)) sheet₀ m ps sheet₁ (Failed run j) → NodeDone ws ks vs m₀ ps₀ run₀ k sheet₀ m ps sheet₁ (Failed run j)
     node-list-fails m ps sheet₁ run j l g lent c o bs even four h s =
         let x = enters ks vs three m₁ ps₁ run₁ a g lent c o bs even four h s in
         refused-from (x .same) (l g lent (x .to) (nodeOf (x .production) (x .inherited) []) (waitingAt o (x .symbol) (x .ahead) ∷ bs) even four (x .held) (x .stand))
 
-    pub node-left : (m₂ : List ℤ) (ps₂ sheet₂ : List ℕ) (run₂ : Run) (e₂ : ℕ) → ListDone ws ks vs m₁ ps₁ run₁ (k + (12 + 8 * n)) sheet₀ m₂ ps₂ sheet₂ (Left run₂ e₂)
+    pub node-left : (m₂ : List ℤ) (ps₂ sheet₂ : List ℕ) (run₂ : Run) (e₂ : ℕ) → ListDone ws ks vs m₁ ps₁ run₁ (k + (12 + 8 * r₁ .total)) sheet₀ m₂ ps₂ sheet₂ (Left run₂ e₂)
         → (m : List ℤ) (ps sheet₁ : List ℕ) (w : Walked.Walked) → Leaves ws m₂ ps₂ run₂ k (run₀ .tokens) e₂ sheet₂ m ps sheet₁ w → NodeDone ws ks vs m₀ ps₀ run₀ k sheet₀ m ps sheet₁ w
     node-left m₂ ps₂ sheet₂ run₂ e₂ l m ps sheet₁ w v g lent c o bs even four h s =
         let x = enters ks vs three m₁ ps₁ run₁ a g lent c o bs even four h s in
         let y = l g lent (x .to) (nodeOf (x .production) (x .inherited) []) (waitingAt o (x .symbol) (x .ahead) ∷ bs) even four (x .held) (x .stand) in
         go w x y (v g lent (tokensAs g ks vs) (y .to) (withChildren (nodeOf (x .production) (x .inherited) []) (y .trees)) (waitingAt o (x .symbol) (x .ahead)) bs (leaves-of g ks vs four) (y .held) (y .stand))
       where
-        tokens : List Leaf
-        tokens = tokensAs g ks vs
-
-        go : (w : Walked.Walked) (x : Entered g ws lent (tokensAs g ks vs) c o bs m₁ ps₁ run₁) (y : Listed g ws lent (tokensAs g ks vs) (x .to) (nodeOf (x .production) (x .inherited) []) (waitingAt o (x .symbol) (x .ahead) ∷ bs) (k + (12 + 8 * n)) sheet₀ m₂ ps₂ sheet₂ run₂ e₂)
+        go : (w : Walked.Walked) (x : Entered g ws lent (tokensAs g ks vs) c o bs m₁ ps₁ run₁) (y : Listed g ws lent (tokensAs g ks vs) (x .to) (nodeOf (x .production) (x .inherited) []) (waitingAt o (x .symbol) (x .ahead) ∷ bs) (k + (12 + 8 * r₁ .total)) sheet₀ m₂ ps₂ sheet₂ run₂ e₂)
             → LeftAs g ws lent (tokensAs g ks vs) (y .to) (withChildren (nodeOf (x .production) (x .inherited) []) (y .trees)) (waitingAt o (x .symbol) (x .ahead)) bs run₂ k (run₀ .tokens) e₂ sheet₂ m ps sheet₁ w → NodedAs g ws lent (tokensAs g ks vs) c o bs k sheet₀ m ps sheet₁ w
         go (Failed run j) x y z = refused-from (x .same ∙ y .same) z
         go (Left run e) x y z =
@@ -329,14 +341,14 @@ module _ {ws : List ℕ} (ks : List ℕ) (vs : List ℤ) {m₀ : List ℤ} {ps�
             let d = z .0 in
             let hand = hand-remove (y .held) (five-of (y .held) (y .stand) (y .over)) in
             let there = own-stand g (y .held .wellFormed) (hand .production) (hand .rest) (hand .below) (y .to) (y .stand) r (hand .frames) in
-            let few : att g (leftOf g o₁) ≡ n = sym (sized g lent (tokensAs g ks vs) m₁ (x .to) o₁ (waitingAt o (x .symbol) (x .ahead)) bs (x .held) (x .stand) .1) in
-            let size : length own ≡ n = length-take (att g (leftOf g o₁)) (drop (r - inh g (leftOf g o₁)) (y .to .registers)) ∙ omega (arith, there, few, length-drop (r - inh g (leftOf g o₁)) (y .to .registers)) in
+            let few : att g (leftOf g o₁) ≡ r₁ .total = sym (sized g lent (tokensAs g ks vs) m₁ (x .to) o₁ (waitingAt o (x .symbol) (x .ahead)) bs (x .held) (x .stand) .1) in
+            let size : length own ≡ r₁ .total = length-take (att g (leftOf g o₁)) (drop (r - inh g (leftOf g o₁)) (y .to .registers)) ∙ omega (arith, there, few, length-drop (r - inh g (leftOf g o₁)) (y .to .registers)) in
             let covered : y .to .tokens ≡ c .tokens + length (yields f) = stand-tokens f (x .stand) (y .stand) ∙ omega (arith, x .tokens-are) in
             let before : run₀ .tokens ≡ c .tokens = h .tokens in
             let width-is : y .to .tokens - run₀ .tokens ≡ length (yields f) = omega (arith, covered, before) in
             let record-is : recordBytes p (run₀ .tokens) (y .to .tokens - run₀ .tokens) own ≡ recordBytes p (c .tokens) (length (yields f)) own = ap₂ (λ b q. recordBytes p b q own) before width-is in
             let first = recordBytes p (c .tokens) (length (yields f)) own in
-            let long : length first ≡ 12 + 8 * n = record-length p (c .tokens) (length (yields f)) own ∙ omega (arith, size) in
+            let long : length first ≡ 12 + 8 * r₁ .total = record-length p (c .tokens) (length (yields f)) own ∙ omega (arith, size) in
             let kids : sheets (x .to .tokens) f ≡ sheets (c .tokens) f = ap (λ b. sheets b f) (x .tokens-are) in
             let most = att-most g (h .wellFormed) (leftOf g o₁) in
             record {
@@ -347,8 +359,8 @@ module _ {ws : List ℕ} (ks : List ℕ) (vs : List ℤ) {m₀ : List ℤ} {ps�
               same = x .same ∙ (y .same ∙ d .same);
               isEnd = z .1 ∙ omega (arith, y .isEnd, ap length kids, long, length-append first (sheets (c .tokens) f));
               written =
-                z .2
-                ∙ (ap₂ (λ u b. overlay k u b) record-is (y .written ∙ ap (λ u. overlay (k + (12 + 8 * n)) u sheet₀) kids)
-                ∙ overlay-behind first (sheets (c .tokens) f) k (k + (12 + 8 * n)) sheet₀ (omega (arith, long)));
+                  z .2
+                  ∙ (ap₂ (λ u b. overlay k u b) record-is (y .written ∙ ap (λ u. overlay (k + (12 + 8 * r₁ .total)) u sheet₀) kids)
+                  ∙ overlay-behind first (sheets (c .tokens) f) k (k + (12 + 8 * r₁ .total)) sheet₀ (omega (arith, long)));
               room = omega (arith, z .1, y .room, x .moves, d .moves, few, most);
             }
