@@ -1,4 +1,16 @@
-use Prim.Native.Nat.{ℕ, _<_}
+-- The cycle of node and children, with one number that falls: 16 times the depth left, and for a list the symbols left besides.
+use Prim.Native.Nat.{ℕ, _+_, _*_, _%_, _≤_, _<_}
+use native.Mathlib.Omega.{arith}
+use mathlib.Core.Path.{_≡_, _∙_, subst}
+use lib.ListN.{getD}
+use denote.Ref.{now}
+use borrow.Author.Needs.{needs}
+use Rattle.moves.specs.Held.{bounds}
+use Rattle.machine.specs.declared.Ended.the-variants as Ended
+use Rattle.sheet_walk.specs.declared.Walked.the-variants as Walked
+use Rattle.sheet_walk.specs.Standing.{Settles, Steps, isLook, stood}
+use Rattle.sheet_walk.specs.Leaving.{nested}
+use Rattle.sheet_walk.specs.Cycle.{NodeDone, ListDone, list-fails, list-over, list-child-fails, list-more, settled-walking, settled-rests, list-node-at, list-symbols, list-more-at, only-read, entered-inner, depth-left, node-list-at, leaving-inner, leaving-five, leaving-tokens, counted-few, step-refused, node-list-fails, node-left}
 use borrow.Fn.Kinds.{In}
 use borrow.Fn.PlainCycle.{Measures, is, falls, and}
 use Rattle.sheet_walk.proofs.children.Reads as children
@@ -17,10 +29,10 @@ use Rattle.sheet_walk.proofs.+children+node.{statement}
 use Rattle.sheet_walk.proofs.+children+node.Tie.{close}
 
 abbrev μ-children : Measures 6 children-kinds.ps ℕ
-μ-children κs a = ?
+μ-children κs a = 16 * a .1 .1 .1 .1 .1 .1 .1 .1 .0 + a .1 .1 .1 .1 .1 .1 .1 .1 .1 .0
 
 abbrev μ-node : Measures 6 node-kinds.ps ℕ
-μ-node κs a = ?
+μ-node κs a = 16 * a .1 .1 .1 .1 .1 .1 .1 .1 .0
 
 abbrev children-at : ℕ → In 6 children-kinds.ps
 children-at t = and 6 children-kinds.ps (is 6 children-kinds.ps μ-children t) children.Pre
@@ -35,7 +47,6 @@ node-at t = and 6 node-kinds.ps (is 6 node-kinds.ps μ-node t) node.Pre
 abbrev node-below : ℕ → In 6 node-kinds.ps
 node-below t = and 6 node-kinds.ps (falls 6 node-kinds.ps _<_ μ-node t) node.Pre
 
--- src/lib.rt:281:11
 children-settle-requires : (t : ℕ) → children-lts.Need-settle-requires (
   settle-reads.Asked,
   settle-reads.Learnt,
@@ -48,9 +59,8 @@ children-settle-requires : (t : ℕ) → children-lts.Need-settle-requires (
   read-reads.Asked,
   read-reads.Learnt,
 ) (children-at t) children.Post
-children-settle-requires t c κs = ?
+children-settle-requires t c κs = stood ((c .before .before .before .before .before .before) .pre .1 .walking)
 
--- src/lib.rt:282:23
 children-enum-known-last : (t : ℕ) → children-lts.Need-enum-known-last (
   settle-reads.Asked,
   settle-reads.Learnt,
@@ -63,9 +73,8 @@ children-enum-known-last : (t : ℕ) → children-lts.Need-enum-known-last (
   read-reads.Asked,
   read-reads.Learnt,
 ) (children-at t) children.Post
-children-enum-known-last t c = ?
+children-enum-known-last t c = search needs
 
--- src/lib.rt:283:24
 children-enum-known-ready : (t : ℕ) → children-lts.Need-enum-known-ready (
   settle-reads.Asked,
   settle-reads.Learnt,
@@ -78,9 +87,8 @@ children-enum-known-ready : (t : ℕ) → children-lts.Need-enum-known-ready (
   read-reads.Asked,
   read-reads.Learnt,
 ) (children-at t) children.Post
-children-enum-known-ready t c = ?
+children-enum-known-ready t c = search needs
 
--- src/lib.rt:284:29
 children-word-at-requires : (t : ℕ) → children-lts.Need-word-at-requires (
   settle-reads.Asked,
   settle-reads.Learnt,
@@ -93,9 +101,18 @@ children-word-at-requires : (t : ℕ) → children-lts.Need-word-at-requires (
   read-reads.Asked,
   read-reads.Learnt,
 ) (children-at t) children.Post
-children-word-at-requires t c κs = ?
+children-word-at-requires t c κs =
+    let s = (c .before .before .before .before .before .before .before .before .before .before .before .before .before) in
+    let q = s .pre .1 in
+    let ws = now (s .args .program) in
+    let ks = now (s .args .kinds) in
+    let vs = now (s .args .values) in
+    let st = (c .before .before .before .before .before .before) .settle in
+    let e = (c .before) .ready .given in
+    let run₁ = e .0 .0 in
+    let a : Settles ws (now (s .args .registers)) (now (s .args .places)) (s .args .run) (st .last .0) (st .last .1 .0) (Ended.Stopped run₁) = subst (λ z. Settles ws (now (s .args .registers)) (now (s .args .places)) (s .args .run) (st .last .0) (st .last .1 .0) z) (e .1) (st .ensures) in
+    bounds (settled-walking q (st .last .0) (st .last .1 .0) run₁ a .held) .inside
 
--- src/lib.rt:286:17
 children-same-length : (t : ℕ) → children-lts.Need-same-length (
   settle-reads.Asked,
   settle-reads.Learnt,
@@ -108,9 +125,8 @@ children-same-length : (t : ℕ) → children-lts.Need-same-length (
   read-reads.Asked,
   read-reads.Learnt,
 ) (children-at t) children.Post
-children-same-length t c = ?
+children-same-length t c = (c .before .before .before .before .before .before .before .before) .settle .kept .0
 
--- src/lib.rt:286:17
 children-same-length-2 : (t : ℕ) → children-lts.Need-same-length-2 (
   settle-reads.Asked,
   settle-reads.Learnt,
@@ -123,9 +139,8 @@ children-same-length-2 : (t : ℕ) → children-lts.Need-same-length-2 (
   read-reads.Asked,
   read-reads.Learnt,
 ) (children-at t) children.Post
-children-same-length-2 t c = ?
+children-same-length-2 t c = (c .before .before .before .before .before .before .before .before) .settle .kept .1 .0
 
--- src/lib.rt:286:17
 children-returns : (t : ℕ) → children-lts.Need-returns (
   settle-reads.Asked,
   settle-reads.Learnt,
@@ -138,9 +153,19 @@ children-returns : (t : ℕ) → children-lts.Need-returns (
   read-reads.Asked,
   read-reads.Learnt,
 ) (children-at t) children.Post
-children-returns t c = ?
+children-returns t c =
+    let s = (c .before .before .before .before .before .before .before .before .before .before .before .before .before .before .before) in
+    let q = s .pre .1 in
+    let ws = now (s .args .program) in
+    let ks = now (s .args .kinds) in
+    let vs = now (s .args .values) in
+    let st = (c .before .before .before .before .before .before .before .before) .settle in
+    let e = (c .before .before .before) .ready .given in
+    let run₁ = e .0 .0 in
+    let a : Settles ws (now (s .args .registers)) (now (s .args .places)) (s .args .run) (st .last .0) (st .last .1 .0) (Ended.Stopped run₁) = subst (λ z. Settles ws (now (s .args .registers)) (now (s .args .places)) (s .args .run) (st .last .0) (st .last .1 .0) z) (e .1) (st .ensures) in
+    let o = (c .before) .word-at .ensures .0 in
+    list-over ks vs (s .args .at) (now (s .args .sheet)) (st .last .0) (st .last .1 .0) run₁ a (omega (arith, o, c .if1 .taken))
 
--- src/lib.rt:289:23
 children-node-requires : (t : ℕ) → children-lts.Need-node-requires (
   settle-reads.Asked,
   settle-reads.Learnt,
@@ -153,9 +178,22 @@ children-node-requires : (t : ℕ) → children-lts.Need-node-requires (
   read-reads.Asked,
   read-reads.Learnt,
 ) (children-at t) children.Post
-children-node-requires t c κs = ?
+children-node-requires t c κs =
+    let s = (c .before .before .before .before .before .before .before .before .before .before .before .before .before .before .before .before .before .before .before) in
+    let q = s .pre .1 in
+    let ws = now (s .args .program) in
+    let ks = now (s .args .kinds) in
+    let vs = now (s .args .values) in
+    let st = (c .before .before .before .before .before .before .before .before .before .before .before .before) .settle in
+    let e = (c .before .before .before .before .before .before .before) .ready .given in
+    let run₁ = e .0 .0 in
+    let a : Settles ws (now (s .args .registers)) (now (s .args .places)) (s .args .run) (st .last .0) (st .last .1 .0) (Ended.Stopped run₁) = subst (λ z. Settles ws (now (s .args .registers)) (now (s .args .places)) (s .args .run) (st .last .0) (st .last .1 .0) z) (e .1) (st .ensures) in
+    let o = (c .before .before .before .before .before) .word-at .ensures .0 in
+    let small = (c .before .before .before .before) .if1 .left in
+    let three : getD ws (run₁ .at) 0 % 8 ≡ 3 = omega (arith, o, (c .before .before .before) .if2 .taken) in
+    let look : isLook (getD ws (run₁ .at) 0 % 8) = (omega (arith, three), omega (arith, three)) in
+    (omega (arith, s .pre .0, list-symbols q (st .last .0) (st .last .1 .0) run₁ a look), list-node-at q (st .last .0) (st .last .1 .0) run₁ a three (st .kept .0) (st .kept .1 .0))
 
--- src/lib.rt:300:36
 children-enum-known-last-2 : (t : ℕ) → children-lts.Need-enum-known-last-2 (
   settle-reads.Asked,
   settle-reads.Learnt,
@@ -168,9 +206,8 @@ children-enum-known-last-2 : (t : ℕ) → children-lts.Need-enum-known-last-2 (
   read-reads.Asked,
   read-reads.Learnt,
 ) (children-at t) children.Post
-children-enum-known-last-2 t c = ?
+children-enum-known-last-2 t c = search needs
 
--- src/lib.rt:301:34
 children-enum-known-next : (t : ℕ) → children-lts.Need-enum-known-next (
   settle-reads.Asked,
   settle-reads.Learnt,
@@ -183,9 +220,8 @@ children-enum-known-next : (t : ℕ) → children-lts.Need-enum-known-next (
   read-reads.Asked,
   read-reads.Learnt,
 ) (children-at t) children.Post
-children-enum-known-next t c = ?
+children-enum-known-next t c = search needs
 
--- src/lib.rt:311:25
 children-sub-children : (t : ℕ) → children-lts.Need-sub-children (
   settle-reads.Asked,
   settle-reads.Learnt,
@@ -198,9 +234,22 @@ children-sub-children : (t : ℕ) → children-lts.Need-sub-children (
   read-reads.Asked,
   read-reads.Learnt,
 ) (children-at t) children.Post
-children-sub-children t c = ?
+children-sub-children t c =
+    let s = (c .before .before .before .before .before .before .before .before .before .before .before .before .before .before .before .before .before .before .before .before .before .before .before .before .before .before .before .before .before .before .before) in
+    let q = s .pre .1 in
+    let ws = now (s .args .program) in
+    let ks = now (s .args .kinds) in
+    let vs = now (s .args .values) in
+    let st = (c .before .before .before .before .before .before .before .before .before .before .before .before .before .before .before .before .before .before .before .before .before .before .before .before) .settle in
+    let e = (c .before .before .before .before .before .before .before .before .before .before .before .before .before .before .before .before .before .before .before) .ready .given in
+    let run₁ = e .0 .0 in
+    let a : Settles ws (now (s .args .registers)) (now (s .args .places)) (s .args .run) (st .last .0) (st .last .1 .0) (Ended.Stopped run₁) = subst (λ z. Settles ws (now (s .args .registers)) (now (s .args .places)) (s .args .run) (st .last .0) (st .last .1 .0) z) (e .1) (st .ensures) in
+    let o = (c .before .before .before .before .before .before .before .before .before .before .before .before .before .before .before .before .before) .word-at .ensures .0 in
+    let small = (c .before .before .before .before .before .before .before .before .before .before .before .before .before .before .before .before) .if1 .left in
+    let three : getD ws (run₁ .at) 0 % 8 ≡ 3 = omega (arith, o, (c .before .before .before .before .before .before .before .before .before .before .before .before .before .before .before) .if2 .taken) in
+    let look : isLook (getD ws (run₁ .at) 0 % 8) = (omega (arith, three), omega (arith, three)) in
+    list-symbols q (st .last .0) (st .last .1 .0) run₁ a look
 
--- src/lib.rt:301:48
 children-children-requires : (t : ℕ) → children-lts.Need-children-requires (
   settle-reads.Asked,
   settle-reads.Learnt,
@@ -213,9 +262,25 @@ children-children-requires : (t : ℕ) → children-lts.Need-children-requires (
   read-reads.Asked,
   read-reads.Learnt,
 ) (children-at t) children.Post
-children-children-requires t c κs = ?
+children-children-requires t c κs =
+    let s = (c .before .before .before .before .before .before .before .before .before .before .before .before .before .before .before .before .before .before .before .before .before .before .before .before .before .before .before .before .before .before .before) in
+    let q = s .pre .1 in
+    let ws = now (s .args .program) in
+    let ks = now (s .args .kinds) in
+    let vs = now (s .args .values) in
+    let st = (c .before .before .before .before .before .before .before .before .before .before .before .before .before .before .before .before .before .before .before .before .before .before .before .before) .settle in
+    let e = (c .before .before .before .before .before .before .before .before .before .before .before .before .before .before .before .before .before .before .before) .ready .given in
+    let run₁ = e .0 .0 in
+    let a : Settles ws (now (s .args .registers)) (now (s .args .places)) (s .args .run) (st .last .0) (st .last .1 .0) (Ended.Stopped run₁) = subst (λ z. Settles ws (now (s .args .registers)) (now (s .args .places)) (s .args .run) (st .last .0) (st .last .1 .0) z) (e .1) (st .ensures) in
+    let o = (c .before .before .before .before .before .before .before .before .before .before .before .before .before .before .before .before .before) .word-at .ensures .0 in
+    let small = (c .before .before .before .before .before .before .before .before .before .before .before .before .before .before .before .before) .if1 .left in
+    let three : getD ws (run₁ .at) 0 % 8 ≡ 3 = omega (arith, o, (c .before .before .before .before .before .before .before .before .before .before .before .before .before .before .before) .if2 .taken) in
+    let look : isLook (getD ws (run₁ .at) 0 % 8) = (omega (arith, three), omega (arith, three)) in
+    let n = (c .before .before .before .before .before .before .before .before .before .before .before) .node in
+    let x = (c .before .before .before .before) .next .given in
+    let k : NodeDone ws ks vs (st .last .0) (st .last .1 .0) run₁ (s .args .at) (now (s .args .sheet)) (n .last .0) (n .last .1 .0) (n .last .1 .1 .1 .1 .1 .0) (Walked.Left (x .0 .0) (x .0 .1 .0)) = subst (λ z. NodeDone ws ks vs (st .last .0) (st .last .1 .0) run₁ (s .args .at) (now (s .args .sheet)) (n .last .0) (n .last .1 .0) (n .last .1 .1 .1 .1 .1 .0) z) (x .1) (n .ensures) in
+    (omega (arith, s .pre .0, list-symbols q (st .last .0) (st .last .1 .0) run₁ a look), list-more-at q (st .last .0) (st .last .1 .0) run₁ a (now (s .args .sheet)) (n .last .0) (n .last .1 .0) (n .last .1 .1 .1 .1 .1 .0) (x .0 .0) (x .0 .1 .0) look k (n .kept .0 ∙ st .kept .0) (n .kept .1 .0 ∙ st .kept .1 .0))
 
--- src/lib.rt:315:23
 children-read-requires : (t : ℕ) → children-lts.Need-read-requires (
   settle-reads.Asked,
   settle-reads.Learnt,
@@ -228,9 +293,22 @@ children-read-requires : (t : ℕ) → children-lts.Need-read-requires (
   read-reads.Asked,
   read-reads.Learnt,
 ) (children-at t) children.Post
-children-read-requires t c κs = ?
+children-read-requires t c κs =
+    let s = (c .before .before .before .before .before .before .before .before .before .before .before .before .before .before .before .before .before .before) in
+    let q = s .pre .1 in
+    let ws = now (s .args .program) in
+    let ks = now (s .args .kinds) in
+    let vs = now (s .args .values) in
+    let st = (c .before .before .before .before .before .before .before .before .before .before .before) .settle in
+    let e = (c .before .before .before .before .before .before) .ready .given in
+    let run₁ = e .0 .0 in
+    let a : Settles ws (now (s .args .registers)) (now (s .args .places)) (s .args .run) (st .last .0) (st .last .1 .0) (Ended.Stopped run₁) = subst (λ z. Settles ws (now (s .args .registers)) (now (s .args .places)) (s .args .run) (st .last .0) (st .last .1 .0) z) (e .1) (st .ensures) in
+    let o = (c .before .before .before .before) .word-at .ensures .0 in
+    let small = (c .before .before .before) .if1 .left in
+    let two : getD ws (run₁ .at) 0 % 8 ≡ 2 = only-read _ (settled-rests q (st .last .0) (st .last .1 .0) run₁ a) (omega (arith, o, small)) (λ z. (c .before .before) .if2 .left (omega (arith, o, z))) in
+    let look : isLook (getD ws (run₁ .at) 0 % 8) = (omega (arith, two), omega (arith, two)) in
+    (settled-walking q (st .last .0) (st .last .1 .0) run₁ a, two)
 
--- src/lib.rt:316:36
 children-enum-known-last-3 : (t : ℕ) → children-lts.Need-enum-known-last-3 (
   settle-reads.Asked,
   settle-reads.Learnt,
@@ -243,9 +321,8 @@ children-enum-known-last-3 : (t : ℕ) → children-lts.Need-enum-known-last-3 (
   read-reads.Asked,
   read-reads.Learnt,
 ) (children-at t) children.Post
-children-enum-known-last-3 t c = ?
+children-enum-known-last-3 t c = search needs
 
--- src/lib.rt:317:34
 children-enum-known-next-2 : (t : ℕ) → children-lts.Need-enum-known-next-2 (
   settle-reads.Asked,
   settle-reads.Learnt,
@@ -258,9 +335,8 @@ children-enum-known-next-2 : (t : ℕ) → children-lts.Need-enum-known-next-2 (
   read-reads.Asked,
   read-reads.Learnt,
 ) (children-at t) children.Post
-children-enum-known-next-2 t c = ?
+children-enum-known-next-2 t c = search needs
 
--- src/lib.rt:327:25
 children-sub-children-2 : (t : ℕ) → children-lts.Need-sub-children-2 (
   settle-reads.Asked,
   settle-reads.Learnt,
@@ -273,9 +349,22 @@ children-sub-children-2 : (t : ℕ) → children-lts.Need-sub-children-2 (
   read-reads.Asked,
   read-reads.Learnt,
 ) (children-at t) children.Post
-children-sub-children-2 t c = ?
+children-sub-children-2 t c =
+    let s = (c .before .before .before .before .before .before .before .before .before .before .before .before .before .before .before .before .before .before .before .before .before .before .before .before .before .before .before .before) in
+    let q = s .pre .1 in
+    let ws = now (s .args .program) in
+    let ks = now (s .args .kinds) in
+    let vs = now (s .args .values) in
+    let st = (c .before .before .before .before .before .before .before .before .before .before .before .before .before .before .before .before .before .before .before .before .before) .settle in
+    let e = (c .before .before .before .before .before .before .before .before .before .before .before .before .before .before .before .before) .ready .given in
+    let run₁ = e .0 .0 in
+    let a : Settles ws (now (s .args .registers)) (now (s .args .places)) (s .args .run) (st .last .0) (st .last .1 .0) (Ended.Stopped run₁) = subst (λ z. Settles ws (now (s .args .registers)) (now (s .args .places)) (s .args .run) (st .last .0) (st .last .1 .0) z) (e .1) (st .ensures) in
+    let o = (c .before .before .before .before .before .before .before .before .before .before .before .before .before .before) .word-at .ensures .0 in
+    let small = (c .before .before .before .before .before .before .before .before .before .before .before .before .before) .if1 .left in
+    let two : getD ws (run₁ .at) 0 % 8 ≡ 2 = only-read _ (settled-rests q (st .last .0) (st .last .1 .0) run₁ a) (omega (arith, o, small)) (λ z. (c .before .before .before .before .before .before .before .before .before .before .before .before) .if2 .left (omega (arith, o, z))) in
+    let look : isLook (getD ws (run₁ .at) 0 % 8) = (omega (arith, two), omega (arith, two)) in
+    list-symbols q (st .last .0) (st .last .1 .0) run₁ a look
 
--- src/lib.rt:317:48
 children-children-requires-2 : (t : ℕ) → children-lts.Need-children-requires-2 (
   settle-reads.Asked,
   settle-reads.Learnt,
@@ -288,9 +377,25 @@ children-children-requires-2 : (t : ℕ) → children-lts.Need-children-requires
   read-reads.Asked,
   read-reads.Learnt,
 ) (children-at t) children.Post
-children-children-requires-2 t c κs = ?
+children-children-requires-2 t c κs =
+    let s = (c .before .before .before .before .before .before .before .before .before .before .before .before .before .before .before .before .before .before .before .before .before .before .before .before .before .before .before .before) in
+    let q = s .pre .1 in
+    let ws = now (s .args .program) in
+    let ks = now (s .args .kinds) in
+    let vs = now (s .args .values) in
+    let st = (c .before .before .before .before .before .before .before .before .before .before .before .before .before .before .before .before .before .before .before .before .before) .settle in
+    let e = (c .before .before .before .before .before .before .before .before .before .before .before .before .before .before .before .before) .ready .given in
+    let run₁ = e .0 .0 in
+    let a : Settles ws (now (s .args .registers)) (now (s .args .places)) (s .args .run) (st .last .0) (st .last .1 .0) (Ended.Stopped run₁) = subst (λ z. Settles ws (now (s .args .registers)) (now (s .args .places)) (s .args .run) (st .last .0) (st .last .1 .0) z) (e .1) (st .ensures) in
+    let o = (c .before .before .before .before .before .before .before .before .before .before .before .before .before .before) .word-at .ensures .0 in
+    let small = (c .before .before .before .before .before .before .before .before .before .before .before .before .before) .if1 .left in
+    let two : getD ws (run₁ .at) 0 % 8 ≡ 2 = only-read _ (settled-rests q (st .last .0) (st .last .1 .0) run₁ a) (omega (arith, o, small)) (λ z. (c .before .before .before .before .before .before .before .before .before .before .before .before) .if2 .left (omega (arith, o, z))) in
+    let look : isLook (getD ws (run₁ .at) 0 % 8) = (omega (arith, two), omega (arith, two)) in
+    let n = (c .before .before .before .before .before .before .before .before .before) .read in
+    let x = (c .before .before .before .before) .next2 .given in
+    let k : NodeDone ws ks vs (st .last .0) (st .last .1 .0) run₁ (s .args .at) (now (s .args .sheet)) (n .last .0) (n .last .1 .0) (now (s .args .sheet)) (Walked.Left (x .0 .0) (x .0 .1 .0)) = subst (λ z. NodeDone ws ks vs (st .last .0) (st .last .1 .0) run₁ (s .args .at) (now (s .args .sheet)) (n .last .0) (n .last .1 .0) (now (s .args .sheet)) z) (x .1) (n .ensures (now (s .args .sheet))) in
+    (omega (arith, s .pre .0, list-symbols q (st .last .0) (st .last .1 .0) run₁ a look), list-more-at q (st .last .0) (st .last .1 .0) run₁ a (now (s .args .sheet)) (n .last .0) (n .last .1 .0) (now (s .args .sheet)) (x .0 .0) (x .0 .1 .0) look k (n .kept .0 ∙ st .kept .0) (n .kept .1 .0 ∙ st .kept .1 .0))
 
--- src/lib.rt:266:1
 children-same-length-3 : (t : ℕ) → children-lts.Need-same-length-3 (
   settle-reads.Asked,
   settle-reads.Learnt,
@@ -303,9 +408,8 @@ children-same-length-3 : (t : ℕ) → children-lts.Need-same-length-3 (
   read-reads.Asked,
   read-reads.Learnt,
 ) (children-at t) children.Post
-children-same-length-3 t c = ?
+children-same-length-3 t c = (c .before .before .before .before .before .before) .settle .kept .0
 
--- src/lib.rt:266:1
 children-same-length-4 : (t : ℕ) → children-lts.Need-same-length-4 (
   settle-reads.Asked,
   settle-reads.Learnt,
@@ -318,9 +422,8 @@ children-same-length-4 : (t : ℕ) → children-lts.Need-same-length-4 (
   read-reads.Asked,
   read-reads.Learnt,
 ) (children-at t) children.Post
-children-same-length-4 t c = ?
+children-same-length-4 t c = (c .before .before .before .before .before .before) .settle .kept .1 .0
 
--- src/lib.rt:266:1
 children-returns-2 : (t : ℕ) → children-lts.Need-returns-2 (
   settle-reads.Asked,
   settle-reads.Learnt,
@@ -333,9 +436,17 @@ children-returns-2 : (t : ℕ) → children-lts.Need-returns-2 (
   read-reads.Asked,
   read-reads.Learnt,
 ) (children-at t) children.Post
-children-returns-2 t c = ?
+children-returns-2 t c =
+    let s = (c .before .before .before .before .before .before .before .before .before .before .before .before .before) in
+    let q = s .pre .1 in
+    let ws = now (s .args .program) in
+    let ks = now (s .args .kinds) in
+    let vs = now (s .args .values) in
+    let st = (c .before .before .before .before .before .before) .settle in
+    let e = (c .before) .last .given in
+    let a : Settles ws (now (s .args .registers)) (now (s .args .places)) (s .args .run) (st .last .0) (st .last .1 .0) (Ended.Failed (e .0 .0) (e .0 .1 .0)) = subst (λ z. Settles ws (now (s .args .registers)) (now (s .args .places)) (s .args .run) (st .last .0) (st .last .1 .0) z) (e .1) (st .ensures) in
+    list-fails ks vs (s .args .at) (now (s .args .sheet)) (st .last .0) (st .last .1 .0) (now (s .args .sheet)) (e .0 .0) (e .0 .1 .0) a
 
--- src/lib.rt:266:1
 children-same-length-5 : (t : ℕ) → children-lts.Need-same-length-5 (
   settle-reads.Asked,
   settle-reads.Learnt,
@@ -348,9 +459,8 @@ children-same-length-5 : (t : ℕ) → children-lts.Need-same-length-5 (
   read-reads.Asked,
   read-reads.Learnt,
 ) (children-at t) children.Post
-children-same-length-5 t c = ?
+children-same-length-5 t c = (c .before .before .before .before .before .before .before .before) .node .kept .0 ∙ (c .before .before .before .before .before .before .before .before .before .before .before .before .before .before .before .before .before .before .before .before .before) .settle .kept .0
 
--- src/lib.rt:266:1
 children-same-length-6 : (t : ℕ) → children-lts.Need-same-length-6 (
   settle-reads.Asked,
   settle-reads.Learnt,
@@ -363,9 +473,8 @@ children-same-length-6 : (t : ℕ) → children-lts.Need-same-length-6 (
   read-reads.Asked,
   read-reads.Learnt,
 ) (children-at t) children.Post
-children-same-length-6 t c = ?
+children-same-length-6 t c = (c .before .before .before .before .before .before .before .before) .node .kept .1 .0 ∙ (c .before .before .before .before .before .before .before .before .before .before .before .before .before .before .before .before .before .before .before .before .before) .settle .kept .1 .0
 
--- src/lib.rt:266:1
 children-same-length-7 : (t : ℕ) → children-lts.Need-same-length-7 (
   settle-reads.Asked,
   settle-reads.Learnt,
@@ -378,9 +487,8 @@ children-same-length-7 : (t : ℕ) → children-lts.Need-same-length-7 (
   read-reads.Asked,
   read-reads.Learnt,
 ) (children-at t) children.Post
-children-same-length-7 t c = ?
+children-same-length-7 t c = (c .before .before .before .before .before .before .before .before) .node .kept .1 .1 .1 .1 .1 .0
 
--- src/lib.rt:266:1
 children-returns-3 : (t : ℕ) → children-lts.Need-returns-3 (
   settle-reads.Asked,
   settle-reads.Learnt,
@@ -393,9 +501,21 @@ children-returns-3 : (t : ℕ) → children-lts.Need-returns-3 (
   read-reads.Asked,
   read-reads.Learnt,
 ) (children-at t) children.Post
-children-returns-3 t c = ?
+children-returns-3 t c =
+    let s = (c .before .before .before .before .before .before .before .before .before .before .before .before .before .before .before .before .before .before .before .before .before .before .before .before .before .before .before .before) in
+    let q = s .pre .1 in
+    let ws = now (s .args .program) in
+    let ks = now (s .args .kinds) in
+    let vs = now (s .args .values) in
+    let st = (c .before .before .before .before .before .before .before .before .before .before .before .before .before .before .before .before .before .before .before .before .before) .settle in
+    let e = (c .before .before .before .before .before .before .before .before .before .before .before .before .before .before .before .before) .ready .given in
+    let run₁ = e .0 .0 in
+    let a : Settles ws (now (s .args .registers)) (now (s .args .places)) (s .args .run) (st .last .0) (st .last .1 .0) (Ended.Stopped run₁) = subst (λ z. Settles ws (now (s .args .registers)) (now (s .args .places)) (s .args .run) (st .last .0) (st .last .1 .0) z) (e .1) (st .ensures) in
+    let n = (c .before .before .before .before .before .before .before .before) .node in
+    let x = (c .before) .last2 .given in
+    let k : NodeDone ws ks vs (st .last .0) (st .last .1 .0) run₁ (s .args .at) (now (s .args .sheet)) (n .last .0) (n .last .1 .0) (n .last .1 .1 .1 .1 .1 .0) (Walked.Failed (x .0 .0) (x .0 .1 .0)) = subst (λ z. NodeDone ws ks vs (st .last .0) (st .last .1 .0) run₁ (s .args .at) (now (s .args .sheet)) (n .last .0) (n .last .1 .0) (n .last .1 .1 .1 .1 .1 .0) z) (x .1) (n .ensures) in
+    list-child-fails ks vs (s .args .at) (now (s .args .sheet)) (st .last .0) (st .last .1 .0) run₁ a (n .last .0) (n .last .1 .0) (n .last .1 .1 .1 .1 .1 .0) (x .0 .0) (x .0 .1 .0) k
 
--- src/lib.rt:266:1
 children-same-length-8 : (t : ℕ) → children-lts.Need-same-length-8 (
   settle-reads.Asked,
   settle-reads.Learnt,
@@ -408,9 +528,8 @@ children-same-length-8 : (t : ℕ) → children-lts.Need-same-length-8 (
   read-reads.Asked,
   read-reads.Learnt,
 ) (children-at t) children.Post
-children-same-length-8 t c = ?
+children-same-length-8 t c = (c .before .before .before .before .before) .children .kept .0 ∙ ((c .before .before .before .before .before .before .before .before .before .before .before .before .before .before .before .before .before) .node .kept .0 ∙ (c .before .before .before .before .before .before .before .before .before .before .before .before .before .before .before .before .before .before .before .before .before .before .before .before .before .before .before .before .before .before) .settle .kept .0)
 
--- src/lib.rt:266:1
 children-same-length-9 : (t : ℕ) → children-lts.Need-same-length-9 (
   settle-reads.Asked,
   settle-reads.Learnt,
@@ -423,9 +542,8 @@ children-same-length-9 : (t : ℕ) → children-lts.Need-same-length-9 (
   read-reads.Asked,
   read-reads.Learnt,
 ) (children-at t) children.Post
-children-same-length-9 t c = ?
+children-same-length-9 t c = (c .before .before .before .before .before) .children .kept .1 .0 ∙ ((c .before .before .before .before .before .before .before .before .before .before .before .before .before .before .before .before .before) .node .kept .1 .0 ∙ (c .before .before .before .before .before .before .before .before .before .before .before .before .before .before .before .before .before .before .before .before .before .before .before .before .before .before .before .before .before .before) .settle .kept .1 .0)
 
--- src/lib.rt:266:1
 children-same-length-10 : (t : ℕ) → children-lts.Need-same-length-10 (
   settle-reads.Asked,
   settle-reads.Learnt,
@@ -438,9 +556,8 @@ children-same-length-10 : (t : ℕ) → children-lts.Need-same-length-10 (
   read-reads.Asked,
   read-reads.Learnt,
 ) (children-at t) children.Post
-children-same-length-10 t c = ?
+children-same-length-10 t c = (c .before .before .before .before .before) .children .kept .1 .1 .1 .1 .1 .0 ∙ (c .before .before .before .before .before .before .before .before .before .before .before .before .before .before .before .before .before) .node .kept .1 .1 .1 .1 .1 .0
 
--- src/lib.rt:266:1
 children-returns-4 : (t : ℕ) → children-lts.Need-returns-4 (
   settle-reads.Asked,
   settle-reads.Learnt,
@@ -453,9 +570,22 @@ children-returns-4 : (t : ℕ) → children-lts.Need-returns-4 (
   read-reads.Asked,
   read-reads.Learnt,
 ) (children-at t) children.Post
-children-returns-4 t c = ?
+children-returns-4 t c =
+    let s = (c .before .before .before .before .before .before .before .before .before .before .before .before .before .before .before .before .before .before .before .before .before .before .before .before .before .before .before .before .before .before .before .before .before .before .before .before .before) in
+    let q = s .pre .1 in
+    let ws = now (s .args .program) in
+    let ks = now (s .args .kinds) in
+    let vs = now (s .args .values) in
+    let st = (c .before .before .before .before .before .before .before .before .before .before .before .before .before .before .before .before .before .before .before .before .before .before .before .before .before .before .before .before .before .before) .settle in
+    let e = (c .before .before .before .before .before .before .before .before .before .before .before .before .before .before .before .before .before .before .before .before .before .before .before .before .before) .ready .given in
+    let run₁ = e .0 .0 in
+    let a : Settles ws (now (s .args .registers)) (now (s .args .places)) (s .args .run) (st .last .0) (st .last .1 .0) (Ended.Stopped run₁) = subst (λ z. Settles ws (now (s .args .registers)) (now (s .args .places)) (s .args .run) (st .last .0) (st .last .1 .0) z) (e .1) (st .ensures) in
+    let n = (c .before .before .before .before .before .before .before .before .before .before .before .before .before .before .before .before .before) .node in
+    let x = (c .before .before .before .before .before .before .before .before .before .before) .next .given in
+    let k : NodeDone ws ks vs (st .last .0) (st .last .1 .0) run₁ (s .args .at) (now (s .args .sheet)) (n .last .0) (n .last .1 .0) (n .last .1 .1 .1 .1 .1 .0) (Walked.Left (x .0 .0) (x .0 .1 .0)) = subst (λ z. NodeDone ws ks vs (st .last .0) (st .last .1 .0) run₁ (s .args .at) (now (s .args .sheet)) (n .last .0) (n .last .1 .0) (n .last .1 .1 .1 .1 .1 .0) z) (x .1) (n .ensures) in
+    let m = (c .before .before .before .before .before) .children in
+    list-more ks vs (s .args .at) (now (s .args .sheet)) (st .last .0) (st .last .1 .0) run₁ a (n .last .0) (n .last .1 .0) (n .last .1 .1 .1 .1 .1 .0) (x .0 .0) (x .0 .1 .0) k (m .last .0) (m .last .1 .0) (m .last .1 .1 .1 .1 .1 .0) (m .result) (m .ensures)
 
--- src/lib.rt:266:1
 children-same-length-11 : (t : ℕ) → children-lts.Need-same-length-11 (
   settle-reads.Asked,
   settle-reads.Learnt,
@@ -468,9 +598,8 @@ children-same-length-11 : (t : ℕ) → children-lts.Need-same-length-11 (
   read-reads.Asked,
   read-reads.Learnt,
 ) (children-at t) children.Post
-children-same-length-11 t c = ?
+children-same-length-11 t c = (c .before .before .before .before .before .before) .read .kept .0 ∙ (c .before .before .before .before .before .before .before .before .before .before .before .before .before .before .before .before .before .before) .settle .kept .0
 
--- src/lib.rt:266:1
 children-same-length-12 : (t : ℕ) → children-lts.Need-same-length-12 (
   settle-reads.Asked,
   settle-reads.Learnt,
@@ -483,9 +612,8 @@ children-same-length-12 : (t : ℕ) → children-lts.Need-same-length-12 (
   read-reads.Asked,
   read-reads.Learnt,
 ) (children-at t) children.Post
-children-same-length-12 t c = ?
+children-same-length-12 t c = (c .before .before .before .before .before .before) .read .kept .1 .0 ∙ (c .before .before .before .before .before .before .before .before .before .before .before .before .before .before .before .before .before .before) .settle .kept .1 .0
 
--- src/lib.rt:266:1
 children-returns-5 : (t : ℕ) → children-lts.Need-returns-5 (
   settle-reads.Asked,
   settle-reads.Learnt,
@@ -498,9 +626,21 @@ children-returns-5 : (t : ℕ) → children-lts.Need-returns-5 (
   read-reads.Asked,
   read-reads.Learnt,
 ) (children-at t) children.Post
-children-returns-5 t c = ?
+children-returns-5 t c =
+    let s = (c .before .before .before .before .before .before .before .before .before .before .before .before .before .before .before .before .before .before .before .before .before .before .before .before .before) in
+    let q = s .pre .1 in
+    let ws = now (s .args .program) in
+    let ks = now (s .args .kinds) in
+    let vs = now (s .args .values) in
+    let st = (c .before .before .before .before .before .before .before .before .before .before .before .before .before .before .before .before .before .before) .settle in
+    let e = (c .before .before .before .before .before .before .before .before .before .before .before .before .before) .ready .given in
+    let run₁ = e .0 .0 in
+    let a : Settles ws (now (s .args .registers)) (now (s .args .places)) (s .args .run) (st .last .0) (st .last .1 .0) (Ended.Stopped run₁) = subst (λ z. Settles ws (now (s .args .registers)) (now (s .args .places)) (s .args .run) (st .last .0) (st .last .1 .0) z) (e .1) (st .ensures) in
+    let n = (c .before .before .before .before .before .before) .read in
+    let x = (c .before) .last3 .given in
+    let k : NodeDone ws ks vs (st .last .0) (st .last .1 .0) run₁ (s .args .at) (now (s .args .sheet)) (n .last .0) (n .last .1 .0) (now (s .args .sheet)) (Walked.Failed (x .0 .0) (x .0 .1 .0)) = subst (λ z. NodeDone ws ks vs (st .last .0) (st .last .1 .0) run₁ (s .args .at) (now (s .args .sheet)) (n .last .0) (n .last .1 .0) (now (s .args .sheet)) z) (x .1) (n .ensures (now (s .args .sheet))) in
+    list-child-fails ks vs (s .args .at) (now (s .args .sheet)) (st .last .0) (st .last .1 .0) run₁ a (n .last .0) (n .last .1 .0) (now (s .args .sheet)) (x .0 .0) (x .0 .1 .0) k
 
--- src/lib.rt:266:1
 children-same-length-13 : (t : ℕ) → children-lts.Need-same-length-13 (
   settle-reads.Asked,
   settle-reads.Learnt,
@@ -513,9 +653,8 @@ children-same-length-13 : (t : ℕ) → children-lts.Need-same-length-13 (
   read-reads.Asked,
   read-reads.Learnt,
 ) (children-at t) children.Post
-children-same-length-13 t c = ?
+children-same-length-13 t c = (c .before .before .before .before .before) .children2 .kept .0 ∙ ((c .before .before .before .before .before .before .before .before .before .before .before .before .before .before .before) .read .kept .0 ∙ (c .before .before .before .before .before .before .before .before .before .before .before .before .before .before .before .before .before .before .before .before .before .before .before .before .before .before .before) .settle .kept .0)
 
--- src/lib.rt:266:1
 children-same-length-14 : (t : ℕ) → children-lts.Need-same-length-14 (
   settle-reads.Asked,
   settle-reads.Learnt,
@@ -528,9 +667,8 @@ children-same-length-14 : (t : ℕ) → children-lts.Need-same-length-14 (
   read-reads.Asked,
   read-reads.Learnt,
 ) (children-at t) children.Post
-children-same-length-14 t c = ?
+children-same-length-14 t c = (c .before .before .before .before .before) .children2 .kept .1 .0 ∙ ((c .before .before .before .before .before .before .before .before .before .before .before .before .before .before .before) .read .kept .1 .0 ∙ (c .before .before .before .before .before .before .before .before .before .before .before .before .before .before .before .before .before .before .before .before .before .before .before .before .before .before .before) .settle .kept .1 .0)
 
--- src/lib.rt:266:1
 children-same-length-15 : (t : ℕ) → children-lts.Need-same-length-15 (
   settle-reads.Asked,
   settle-reads.Learnt,
@@ -543,9 +681,8 @@ children-same-length-15 : (t : ℕ) → children-lts.Need-same-length-15 (
   read-reads.Asked,
   read-reads.Learnt,
 ) (children-at t) children.Post
-children-same-length-15 t c = ?
+children-same-length-15 t c = (c .before .before .before .before .before) .children2 .kept .1 .1 .1 .1 .1 .0
 
--- src/lib.rt:266:1
 children-returns-6 : (t : ℕ) → children-lts.Need-returns-6 (
   settle-reads.Asked,
   settle-reads.Learnt,
@@ -558,9 +695,22 @@ children-returns-6 : (t : ℕ) → children-lts.Need-returns-6 (
   read-reads.Asked,
   read-reads.Learnt,
 ) (children-at t) children.Post
-children-returns-6 t c = ?
+children-returns-6 t c =
+    let s = (c .before .before .before .before .before .before .before .before .before .before .before .before .before .before .before .before .before .before .before .before .before .before .before .before .before .before .before .before .before .before .before .before .before .before) in
+    let q = s .pre .1 in
+    let ws = now (s .args .program) in
+    let ks = now (s .args .kinds) in
+    let vs = now (s .args .values) in
+    let st = (c .before .before .before .before .before .before .before .before .before .before .before .before .before .before .before .before .before .before .before .before .before .before .before .before .before .before .before) .settle in
+    let e = (c .before .before .before .before .before .before .before .before .before .before .before .before .before .before .before .before .before .before .before .before .before .before) .ready .given in
+    let run₁ = e .0 .0 in
+    let a : Settles ws (now (s .args .registers)) (now (s .args .places)) (s .args .run) (st .last .0) (st .last .1 .0) (Ended.Stopped run₁) = subst (λ z. Settles ws (now (s .args .registers)) (now (s .args .places)) (s .args .run) (st .last .0) (st .last .1 .0) z) (e .1) (st .ensures) in
+    let n = (c .before .before .before .before .before .before .before .before .before .before .before .before .before .before .before) .read in
+    let x = (c .before .before .before .before .before .before .before .before .before .before) .next2 .given in
+    let k : NodeDone ws ks vs (st .last .0) (st .last .1 .0) run₁ (s .args .at) (now (s .args .sheet)) (n .last .0) (n .last .1 .0) (now (s .args .sheet)) (Walked.Left (x .0 .0) (x .0 .1 .0)) = subst (λ z. NodeDone ws ks vs (st .last .0) (st .last .1 .0) run₁ (s .args .at) (now (s .args .sheet)) (n .last .0) (n .last .1 .0) (now (s .args .sheet)) z) (x .1) (n .ensures (now (s .args .sheet))) in
+    let m = (c .before .before .before .before .before) .children2 in
+    list-more ks vs (s .args .at) (now (s .args .sheet)) (st .last .0) (st .last .1 .0) run₁ a (n .last .0) (n .last .1 .0) (now (s .args .sheet)) (x .0 .0) (x .0 .1 .0) k (m .last .0) (m .last .1 .0) (m .last .1 .1 .1 .1 .1 .0) (m .result) (m .ensures)
 
--- src/lib.rt:233:11
 node-step-requires : (t : ℕ) → node-lts.Need-step-requires (
   step-reads.Asked,
   step-reads.Learnt,
@@ -571,9 +721,10 @@ node-step-requires : (t : ℕ) → node-lts.Need-step-requires (
   leave-reads.Asked,
   leave-reads.Learnt,
 ) (node-at t) node.Post
-node-step-requires t c κs = ?
+node-step-requires t c κs =
+    let q = (c .before .before .before .before .before .before) .pre .1 in
+    (q .walking, (omega (arith, q .three), omega (arith, q .three)))
 
--- src/lib.rt:234:23
 node-enum-known-last : (t : ℕ) → node-lts.Need-enum-known-last (
   step-reads.Asked,
   step-reads.Learnt,
@@ -584,9 +735,8 @@ node-enum-known-last : (t : ℕ) → node-lts.Need-enum-known-last (
   leave-reads.Asked,
   leave-reads.Learnt,
 ) (node-at t) node.Post
-node-enum-known-last t c = ?
+node-enum-known-last t c = search needs
 
--- src/lib.rt:235:24
 node-enum-known-entered : (t : ℕ) → node-lts.Need-enum-known-entered (
   step-reads.Asked,
   step-reads.Learnt,
@@ -597,9 +747,8 @@ node-enum-known-entered : (t : ℕ) → node-lts.Need-enum-known-entered (
   leave-reads.Asked,
   leave-reads.Learnt,
 ) (node-at t) node.Post
-node-enum-known-entered t c = ?
+node-enum-known-entered t c = search needs
 
--- src/lib.rt:236:17
 node-attributes-requires : (t : ℕ) → node-lts.Need-attributes-requires (
   step-reads.Asked,
   step-reads.Learnt,
@@ -610,9 +759,18 @@ node-attributes-requires : (t : ℕ) → node-lts.Need-attributes-requires (
   leave-reads.Asked,
   leave-reads.Learnt,
 ) (node-at t) node.Post
-node-attributes-requires t c κs = ?
+node-attributes-requires t c κs =
+    let s = (c .before .before .before .before .before .before .before .before .before .before .before .before .before .before) in
+    let q = s .pre .1 in
+    let ws = now (s .args .program) in
+    let ks = now (s .args .kinds) in
+    let vs = now (s .args .values) in
+    let st = (c .before .before .before .before .before .before .before) .step in
+    let e = (c .before .before) .entered .given in
+    let run₁ = e .0 .0 in
+    let a : Steps ws ks vs (now (s .args .registers)) (now (s .args .places)) (s .args .run) (st .last .0) (st .last .1 .0) (Ended.Stopped run₁) = subst (λ z. Steps ws ks vs (now (s .args .registers)) (now (s .args .places)) (s .args .run) (st .last .0) (st .last .1 .0) z) (e .1) (st .ensures) in
+    nested (entered-inner ks vs (q .three) (st .last .0) (st .last .1 .0) run₁ a q)
 
--- src/lib.rt:245:28
 node-mul-children : (t : ℕ) → node-lts.Need-mul-children (
   step-reads.Asked,
   step-reads.Learnt,
@@ -623,9 +781,20 @@ node-mul-children : (t : ℕ) → node-lts.Need-mul-children (
   leave-reads.Asked,
   leave-reads.Learnt,
 ) (node-at t) node.Post
-node-mul-children t c = ?
+node-mul-children t c =
+    let s = (c .before .before .before .before .before .before .before .before .before .before .before .before .before .before .before .before .before .before .before) in
+    let q = s .pre .1 in
+    let ws = now (s .args .program) in
+    let ks = now (s .args .kinds) in
+    let vs = now (s .args .values) in
+    let st = (c .before .before .before .before .before .before .before .before .before .before .before .before) .step in
+    let e = (c .before .before .before .before .before .before .before) .entered .given in
+    let run₁ = e .0 .0 in
+    let a : Steps ws ks vs (now (s .args .registers)) (now (s .args .places)) (s .args .run) (st .last .0) (st .last .1 .0) (Ended.Stopped run₁) = subst (λ z. Steps ws ks vs (now (s .args .registers)) (now (s .args .places)) (s .args .run) (st .last .0) (st .last .1 .0) z) (e .1) (st .ensures) in
+    let r = (c .before .before .before .before) .attributes in
+    let few : r .result .total ≤ 8 = counted-few (r .result) (entered-inner ks vs (q .three) (st .last .0) (st .last .1 .0) run₁ a q) (r .ensures) in
+    omega (arith, few, q .room, bounds (q .walking .held) .moves)
 
--- src/lib.rt:245:23
 node-add-children : (t : ℕ) → node-lts.Need-add-children (
   step-reads.Asked,
   step-reads.Learnt,
@@ -636,9 +805,20 @@ node-add-children : (t : ℕ) → node-lts.Need-add-children (
   leave-reads.Asked,
   leave-reads.Learnt,
 ) (node-at t) node.Post
-node-add-children t c = ?
+node-add-children t c =
+    let s = (c .before .before .before .before .before .before .before .before .before .before .before .before .before .before .before .before .before .before .before) in
+    let q = s .pre .1 in
+    let ws = now (s .args .program) in
+    let ks = now (s .args .kinds) in
+    let vs = now (s .args .values) in
+    let st = (c .before .before .before .before .before .before .before .before .before .before .before .before) .step in
+    let e = (c .before .before .before .before .before .before .before) .entered .given in
+    let run₁ = e .0 .0 in
+    let a : Steps ws ks vs (now (s .args .registers)) (now (s .args .places)) (s .args .run) (st .last .0) (st .last .1 .0) (Ended.Stopped run₁) = subst (λ z. Steps ws ks vs (now (s .args .registers)) (now (s .args .places)) (s .args .run) (st .last .0) (st .last .1 .0) z) (e .1) (st .ensures) in
+    let r = (c .before .before .before .before) .attributes in
+    let few : r .result .total ≤ 8 = counted-few (r .result) (entered-inner ks vs (q .three) (st .last .0) (st .last .1 .0) run₁ a q) (r .ensures) in
+    omega (arith, few, q .room, bounds (q .walking .held) .moves)
 
--- src/lib.rt:245:17
 node-add-children-2 : (t : ℕ) → node-lts.Need-add-children-2 (
   step-reads.Asked,
   step-reads.Learnt,
@@ -649,9 +829,20 @@ node-add-children-2 : (t : ℕ) → node-lts.Need-add-children-2 (
   leave-reads.Asked,
   leave-reads.Learnt,
 ) (node-at t) node.Post
-node-add-children-2 t c = ?
+node-add-children-2 t c =
+    let s = (c .before .before .before .before .before .before .before .before .before .before .before .before .before .before .before .before .before .before .before) in
+    let q = s .pre .1 in
+    let ws = now (s .args .program) in
+    let ks = now (s .args .kinds) in
+    let vs = now (s .args .values) in
+    let st = (c .before .before .before .before .before .before .before .before .before .before .before .before) .step in
+    let e = (c .before .before .before .before .before .before .before) .entered .given in
+    let run₁ = e .0 .0 in
+    let a : Steps ws ks vs (now (s .args .registers)) (now (s .args .places)) (s .args .run) (st .last .0) (st .last .1 .0) (Ended.Stopped run₁) = subst (λ z. Steps ws ks vs (now (s .args .registers)) (now (s .args .places)) (s .args .run) (st .last .0) (st .last .1 .0) z) (e .1) (st .ensures) in
+    let r = (c .before .before .before .before) .attributes in
+    let few : r .result .total ≤ 8 = counted-few (r .result) (entered-inner ks vs (q .three) (st .last .0) (st .last .1 .0) run₁ a q) (r .ensures) in
+    omega (arith, few, q .room, bounds (q .walking .held) .moves)
 
--- src/lib.rt:246:17
 node-sub-children : (t : ℕ) → node-lts.Need-sub-children (
   step-reads.Asked,
   step-reads.Learnt,
@@ -662,9 +853,18 @@ node-sub-children : (t : ℕ) → node-lts.Need-sub-children (
   leave-reads.Asked,
   leave-reads.Learnt,
 ) (node-at t) node.Post
-node-sub-children t c = ?
+node-sub-children t c =
+    let s = (c .before .before .before .before .before .before .before .before .before .before .before .before .before .before .before .before .before .before .before) in
+    let q = s .pre .1 in
+    let ws = now (s .args .program) in
+    let ks = now (s .args .kinds) in
+    let vs = now (s .args .values) in
+    let st = (c .before .before .before .before .before .before .before .before .before .before .before .before) .step in
+    let e = (c .before .before .before .before .before .before .before) .entered .given in
+    let run₁ = e .0 .0 in
+    let a : Steps ws ks vs (now (s .args .registers)) (now (s .args .places)) (s .args .run) (st .last .0) (st .last .1 .0) (Ended.Stopped run₁) = subst (λ z. Steps ws ks vs (now (s .args .registers)) (now (s .args .places)) (s .args .run) (st .last .0) (st .last .1 .0) z) (e .1) (st .ensures) in
+    depth-left ks vs (q .three) (st .last .0) (st .last .1 .0) run₁ a q (st .kept .1 .0)
 
--- src/lib.rt:237:19
 node-children-requires : (t : ℕ) → node-lts.Need-children-requires (
   step-reads.Asked,
   step-reads.Learnt,
@@ -675,9 +875,21 @@ node-children-requires : (t : ℕ) → node-lts.Need-children-requires (
   leave-reads.Asked,
   leave-reads.Learnt,
 ) (node-at t) node.Post
-node-children-requires t c κs = ?
+node-children-requires t c κs =
+    let s = (c .before .before .before .before .before .before .before .before .before .before .before .before .before .before .before .before .before .before .before) in
+    let q = s .pre .1 in
+    let ws = now (s .args .program) in
+    let ks = now (s .args .kinds) in
+    let vs = now (s .args .values) in
+    let st = (c .before .before .before .before .before .before .before .before .before .before .before .before) .step in
+    let e = (c .before .before .before .before .before .before .before) .entered .given in
+    let run₁ = e .0 .0 in
+    let a : Steps ws ks vs (now (s .args .registers)) (now (s .args .places)) (s .args .run) (st .last .0) (st .last .1 .0) (Ended.Stopped run₁) = subst (λ z. Steps ws ks vs (now (s .args .registers)) (now (s .args .places)) (s .args .run) (st .last .0) (st .last .1 .0) z) (e .1) (st .ensures) in
+    let r = (c .before .before .before .before) .attributes in
+    let few : r .result .total ≤ 8 = counted-few (r .result) (entered-inner ks vs (q .three) (st .last .0) (st .last .1 .0) run₁ a q) (r .ensures) in
+    let d = depth-left ks vs (q .three) (st .last .0) (st .last .1 .0) run₁ a q (st .kept .1 .0) in
+    (omega (arith, s .pre .0, d), node-list-at ks vs (q .three) (st .last .0) (st .last .1 .0) run₁ a q (12 + 8 * r .result .total) (omega (arith, few)) (st .kept .0) (st .kept .1 .0))
 
--- src/lib.rt:249:32
 node-enum-known-last-2 : (t : ℕ) → node-lts.Need-enum-known-last-2 (
   step-reads.Asked,
   step-reads.Learnt,
@@ -688,9 +900,8 @@ node-enum-known-last-2 : (t : ℕ) → node-lts.Need-enum-known-last-2 (
   leave-reads.Asked,
   leave-reads.Learnt,
 ) (node-at t) node.Post
-node-enum-known-last-2 t c = ?
+node-enum-known-last-2 t c = search needs
 
--- src/lib.rt:250:30
 node-enum-known-last-3 : (t : ℕ) → node-lts.Need-enum-known-last-3 (
   step-reads.Asked,
   step-reads.Learnt,
@@ -701,9 +912,8 @@ node-enum-known-last-3 : (t : ℕ) → node-lts.Need-enum-known-last-3 (
   leave-reads.Asked,
   leave-reads.Learnt,
 ) (node-at t) node.Post
-node-enum-known-last-3 t c = ?
+node-enum-known-last-3 t c = search needs
 
--- src/lib.rt:250:44
 node-leave-requires : (t : ℕ) → node-lts.Need-leave-requires (
   step-reads.Asked,
   step-reads.Learnt,
@@ -714,9 +924,22 @@ node-leave-requires : (t : ℕ) → node-lts.Need-leave-requires (
   leave-reads.Asked,
   leave-reads.Learnt,
 ) (node-at t) node.Post
-node-leave-requires t c κs = ?
+node-leave-requires t c κs =
+    let s = (c .before .before .before .before .before .before .before .before .before .before .before .before .before .before .before .before .before .before .before .before .before .before .before .before .before .before .before .before .before .before .before) in
+    let q = s .pre .1 in
+    let ws = now (s .args .program) in
+    let ks = now (s .args .kinds) in
+    let vs = now (s .args .values) in
+    let st = (c .before .before .before .before .before .before .before .before .before .before .before .before .before .before .before .before .before .before .before .before .before .before .before .before) .step in
+    let e = (c .before .before .before .before .before .before .before .before .before .before .before .before .before .before .before .before .before .before .before) .entered .given in
+    let run₁ = e .0 .0 in
+    let a : Steps ws ks vs (now (s .args .registers)) (now (s .args .places)) (s .args .run) (st .last .0) (st .last .1 .0) (Ended.Stopped run₁) = subst (λ z. Steps ws ks vs (now (s .args .registers)) (now (s .args .places)) (s .args .run) (st .last .0) (st .last .1 .0) z) (e .1) (st .ensures) in
+    let r = (c .before .before .before .before .before .before .before .before .before .before .before .before .before .before .before .before) .attributes in
+    let ch = (c .before .before .before .before .before .before .before .before .before .before .before) .children in
+    let x = (c .before .before .before .before) .last3 .given in
+    let l : ListDone ws ks vs (st .last .0) (st .last .1 .0) run₁ (s .args .at + (12 + 8 * r .result .total)) (now (s .args .sheet)) (ch .last .0) (ch .last .1 .0) (ch .last .1 .1 .1 .1 .1 .0) (Walked.Left (x .0 .0) (x .0 .1 .0)) = subst (λ z. ListDone ws ks vs (st .last .0) (st .last .1 .0) run₁ (s .args .at + (12 + 8 * r .result .total)) (now (s .args .sheet)) (ch .last .0) (ch .last .1 .0) (ch .last .1 .1 .1 .1 .1 .0) z) (x .1) (ch .ensures) in
+    (leaving-inner ks vs (q .three) (st .last .0) (st .last .1 .0) run₁ a q (12 + 8 * r .result .total) (now (s .args .sheet)) (ch .last .0) (ch .last .1 .0) (ch .last .1 .1 .1 .1 .1 .0) (x .0 .0) (x .0 .1 .0) l, leaving-five ks vs (q .three) (st .last .0) (st .last .1 .0) run₁ a q (12 + 8 * r .result .total) (now (s .args .sheet)) (ch .last .0) (ch .last .1 .0) (ch .last .1 .1 .1 .1 .1 .0) (x .0 .0) (x .0 .1 .0) l, omega (arith, q .room, bounds (q .walking .held) .moves), leaving-tokens ks vs (q .three) (st .last .0) (st .last .1 .0) run₁ a q (12 + 8 * r .result .total) (now (s .args .sheet)) (ch .last .0) (ch .last .1 .0) (ch .last .1 .1 .1 .1 .1 .0) (x .0 .0) (x .0 .1 .0) l, omega (arith, q .few, ch .kept .0, st .kept .0))
 
--- src/lib.rt:219:1
 node-same-length : (t : ℕ) → node-lts.Need-same-length (
   step-reads.Asked,
   step-reads.Learnt,
@@ -727,9 +950,8 @@ node-same-length : (t : ℕ) → node-lts.Need-same-length (
   leave-reads.Asked,
   leave-reads.Learnt,
 ) (node-at t) node.Post
-node-same-length t c = ?
+node-same-length t c = (c .before .before .before .before .before .before) .step .kept .0
 
--- src/lib.rt:219:1
 node-same-length-2 : (t : ℕ) → node-lts.Need-same-length-2 (
   step-reads.Asked,
   step-reads.Learnt,
@@ -740,9 +962,8 @@ node-same-length-2 : (t : ℕ) → node-lts.Need-same-length-2 (
   leave-reads.Asked,
   leave-reads.Learnt,
 ) (node-at t) node.Post
-node-same-length-2 t c = ?
+node-same-length-2 t c = (c .before .before .before .before .before .before) .step .kept .1 .0
 
--- src/lib.rt:219:1
 node-returns : (t : ℕ) → node-lts.Need-returns (
   step-reads.Asked,
   step-reads.Learnt,
@@ -753,9 +974,17 @@ node-returns : (t : ℕ) → node-lts.Need-returns (
   leave-reads.Asked,
   leave-reads.Learnt,
 ) (node-at t) node.Post
-node-returns t c = ?
+node-returns t c =
+    let s = (c .before .before .before .before .before .before .before .before .before .before .before .before .before) in
+    let q = s .pre .1 in
+    let ws = now (s .args .program) in
+    let ks = now (s .args .kinds) in
+    let vs = now (s .args .values) in
+    let st = (c .before .before .before .before .before .before) .step in
+    let e = (c .before) .last .given in
+    let a : Steps ws ks vs (now (s .args .registers)) (now (s .args .places)) (s .args .run) (st .last .0) (st .last .1 .0) (Ended.Failed (e .0 .0) (e .0 .1 .0)) = subst (λ z. Steps ws ks vs (now (s .args .registers)) (now (s .args .places)) (s .args .run) (st .last .0) (st .last .1 .0) z) (e .1) (st .ensures) in
+    step-refused ks vs (s .args .at) (now (s .args .sheet)) (st .last .0) (st .last .1 .0) (now (s .args .sheet)) (e .0 .0) (e .0 .1 .0) a
 
--- src/lib.rt:219:1
 node-same-length-3 : (t : ℕ) → node-lts.Need-same-length-3 (
   step-reads.Asked,
   step-reads.Learnt,
@@ -766,9 +995,8 @@ node-same-length-3 : (t : ℕ) → node-lts.Need-same-length-3 (
   leave-reads.Asked,
   leave-reads.Learnt,
 ) (node-at t) node.Post
-node-same-length-3 t c = ?
+node-same-length-3 t c = (c .before .before .before .before .before .before .before .before) .children .kept .0 ∙ (c .before .before .before .before .before .before .before .before .before .before .before .before .before .before .before .before .before .before .before .before .before) .step .kept .0
 
--- src/lib.rt:219:1
 node-same-length-4 : (t : ℕ) → node-lts.Need-same-length-4 (
   step-reads.Asked,
   step-reads.Learnt,
@@ -779,9 +1007,8 @@ node-same-length-4 : (t : ℕ) → node-lts.Need-same-length-4 (
   leave-reads.Asked,
   leave-reads.Learnt,
 ) (node-at t) node.Post
-node-same-length-4 t c = ?
+node-same-length-4 t c = (c .before .before .before .before .before .before .before .before) .children .kept .1 .0 ∙ (c .before .before .before .before .before .before .before .before .before .before .before .before .before .before .before .before .before .before .before .before .before) .step .kept .1 .0
 
--- src/lib.rt:219:1
 node-same-length-5 : (t : ℕ) → node-lts.Need-same-length-5 (
   step-reads.Asked,
   step-reads.Learnt,
@@ -792,9 +1019,8 @@ node-same-length-5 : (t : ℕ) → node-lts.Need-same-length-5 (
   leave-reads.Asked,
   leave-reads.Learnt,
 ) (node-at t) node.Post
-node-same-length-5 t c = ?
+node-same-length-5 t c = (c .before .before .before .before .before .before .before .before) .children .kept .1 .1 .1 .1 .1 .0
 
--- src/lib.rt:219:1
 node-returns-2 : (t : ℕ) → node-lts.Need-returns-2 (
   step-reads.Asked,
   step-reads.Learnt,
@@ -805,9 +1031,22 @@ node-returns-2 : (t : ℕ) → node-lts.Need-returns-2 (
   leave-reads.Asked,
   leave-reads.Learnt,
 ) (node-at t) node.Post
-node-returns-2 t c = ?
+node-returns-2 t c =
+    let s = (c .before .before .before .before .before .before .before .before .before .before .before .before .before .before .before .before .before .before .before .before .before .before .before .before .before .before .before .before) in
+    let q = s .pre .1 in
+    let ws = now (s .args .program) in
+    let ks = now (s .args .kinds) in
+    let vs = now (s .args .values) in
+    let st = (c .before .before .before .before .before .before .before .before .before .before .before .before .before .before .before .before .before .before .before .before .before) .step in
+    let e = (c .before .before .before .before .before .before .before .before .before .before .before .before .before .before .before .before) .entered .given in
+    let run₁ = e .0 .0 in
+    let a : Steps ws ks vs (now (s .args .registers)) (now (s .args .places)) (s .args .run) (st .last .0) (st .last .1 .0) (Ended.Stopped run₁) = subst (λ z. Steps ws ks vs (now (s .args .registers)) (now (s .args .places)) (s .args .run) (st .last .0) (st .last .1 .0) z) (e .1) (st .ensures) in
+    let r = (c .before .before .before .before .before .before .before .before .before .before .before .before .before) .attributes in
+    let ch = (c .before .before .before .before .before .before .before .before) .children in
+    let x = (c .before) .last2 .given in
+    let l : ListDone ws ks vs (st .last .0) (st .last .1 .0) run₁ (s .args .at + (12 + 8 * r .result .total)) (now (s .args .sheet)) (ch .last .0) (ch .last .1 .0) (ch .last .1 .1 .1 .1 .1 .0) (Walked.Failed (x .0 .0) (x .0 .1 .0)) = subst (λ z. ListDone ws ks vs (st .last .0) (st .last .1 .0) run₁ (s .args .at + (12 + 8 * r .result .total)) (now (s .args .sheet)) (ch .last .0) (ch .last .1 .0) (ch .last .1 .1 .1 .1 .1 .0) z) (x .1) (ch .ensures) in
+    node-list-fails ks vs (s .args .at) (now (s .args .sheet)) (q .three) (st .last .0) (st .last .1 .0) run₁ a (r .result) (r .ensures) (ch .last .0) (ch .last .1 .0) (ch .last .1 .1 .1 .1 .1 .0) (x .0 .0) (x .0 .1 .0) l
 
--- src/lib.rt:219:1
 node-same-length-6 : (t : ℕ) → node-lts.Need-same-length-6 (
   step-reads.Asked,
   step-reads.Learnt,
@@ -818,9 +1057,8 @@ node-same-length-6 : (t : ℕ) → node-lts.Need-same-length-6 (
   leave-reads.Asked,
   leave-reads.Learnt,
 ) (node-at t) node.Post
-node-same-length-6 t c = ?
+node-same-length-6 t c = (c .before .before .before .before .before) .leave .kept .0 ∙ ((c .before .before .before .before .before .before .before .before .before .before .before .before .before .before .before .before .before) .children .kept .0 ∙ (c .before .before .before .before .before .before .before .before .before .before .before .before .before .before .before .before .before .before .before .before .before .before .before .before .before .before .before .before .before .before) .step .kept .0)
 
--- src/lib.rt:219:1
 node-same-length-7 : (t : ℕ) → node-lts.Need-same-length-7 (
   step-reads.Asked,
   step-reads.Learnt,
@@ -831,9 +1069,8 @@ node-same-length-7 : (t : ℕ) → node-lts.Need-same-length-7 (
   leave-reads.Asked,
   leave-reads.Learnt,
 ) (node-at t) node.Post
-node-same-length-7 t c = ?
+node-same-length-7 t c = (c .before .before .before .before .before) .leave .kept .1 .0 ∙ ((c .before .before .before .before .before .before .before .before .before .before .before .before .before .before .before .before .before) .children .kept .1 .0 ∙ (c .before .before .before .before .before .before .before .before .before .before .before .before .before .before .before .before .before .before .before .before .before .before .before .before .before .before .before .before .before .before) .step .kept .1 .0)
 
--- src/lib.rt:219:1
 node-same-length-8 : (t : ℕ) → node-lts.Need-same-length-8 (
   step-reads.Asked,
   step-reads.Learnt,
@@ -844,9 +1081,8 @@ node-same-length-8 : (t : ℕ) → node-lts.Need-same-length-8 (
   leave-reads.Asked,
   leave-reads.Learnt,
 ) (node-at t) node.Post
-node-same-length-8 t c = ?
+node-same-length-8 t c = (c .before .before .before .before .before) .leave .kept .1 .1 .1 .0 ∙ (c .before .before .before .before .before .before .before .before .before .before .before .before .before .before .before .before .before) .children .kept .1 .1 .1 .1 .1 .0
 
--- src/lib.rt:219:1
 node-returns-3 : (t : ℕ) → node-lts.Need-returns-3 (
   step-reads.Asked,
   step-reads.Learnt,
@@ -857,7 +1093,22 @@ node-returns-3 : (t : ℕ) → node-lts.Need-returns-3 (
   leave-reads.Asked,
   leave-reads.Learnt,
 ) (node-at t) node.Post
-node-returns-3 t c = ?
+node-returns-3 t c =
+    let s = (c .before .before .before .before .before .before .before .before .before .before .before .before .before .before .before .before .before .before .before .before .before .before .before .before .before .before .before .before .before .before .before .before .before .before .before .before .before) in
+    let q = s .pre .1 in
+    let ws = now (s .args .program) in
+    let ks = now (s .args .kinds) in
+    let vs = now (s .args .values) in
+    let st = (c .before .before .before .before .before .before .before .before .before .before .before .before .before .before .before .before .before .before .before .before .before .before .before .before .before .before .before .before .before .before) .step in
+    let e = (c .before .before .before .before .before .before .before .before .before .before .before .before .before .before .before .before .before .before .before .before .before .before .before .before .before) .entered .given in
+    let run₁ = e .0 .0 in
+    let a : Steps ws ks vs (now (s .args .registers)) (now (s .args .places)) (s .args .run) (st .last .0) (st .last .1 .0) (Ended.Stopped run₁) = subst (λ z. Steps ws ks vs (now (s .args .registers)) (now (s .args .places)) (s .args .run) (st .last .0) (st .last .1 .0) z) (e .1) (st .ensures) in
+    let r = (c .before .before .before .before .before .before .before .before .before .before .before .before .before .before .before .before .before .before .before .before .before .before) .attributes in
+    let ch = (c .before .before .before .before .before .before .before .before .before .before .before .before .before .before .before .before .before) .children in
+    let x = (c .before .before .before .before .before .before .before .before .before .before) .last3 .given in
+    let l : ListDone ws ks vs (st .last .0) (st .last .1 .0) run₁ (s .args .at + (12 + 8 * r .result .total)) (now (s .args .sheet)) (ch .last .0) (ch .last .1 .0) (ch .last .1 .1 .1 .1 .1 .0) (Walked.Left (x .0 .0) (x .0 .1 .0)) = subst (λ z. ListDone ws ks vs (st .last .0) (st .last .1 .0) run₁ (s .args .at + (12 + 8 * r .result .total)) (now (s .args .sheet)) (ch .last .0) (ch .last .1 .0) (ch .last .1 .1 .1 .1 .1 .0) z) (x .1) (ch .ensures) in
+    let v = (c .before .before .before .before .before) .leave in
+    node-left ks vs (s .args .at) (now (s .args .sheet)) (q .three) (st .last .0) (st .last .1 .0) run₁ a (r .result) (r .ensures) (ch .last .0) (ch .last .1 .0) (ch .last .1 .1 .1 .1 .1 .0) (x .0 .0) (x .0 .1 .0) l (v .last .0) (v .last .1 .0) (v .last .1 .1 .1 .0) (v .result) (v .ensures)
 
 pub +children+node-spec : {M : Type 1} → statement M
 +children+node-spec = close μ-children μ-node (λ t. children-lts.spec (
