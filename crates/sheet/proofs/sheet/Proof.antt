@@ -1,3 +1,14 @@
+use Prim.Native.Nat.{_≤_}
+use native.Mathlib.Omega.{arith}
+use mathlib.Core.Path.{_≡_, refl}
+use lib.IntN.{pos}
+use lib.ListN.{getD}
+use denote.Ref.{now}
+use borrow.Author.Needs.{needs, sfits-of}
+use Rattle.meaning.specs.Rules.{fourBytes}
+use Rattle.theory_base.specs.Members.{at-all}
+use Rattle.machine.specs.Feeding.{four-of}
+use Rattle.sheet.specs.Calling.{never-short, table-refused, stands, readable, under-table}
 use borrow.Author.Needs.{needs}
 use Rattle.sheet.proofs.sheet.Statement.{statement}
 use Rattle.sheet.proofs.sheet.Tie as tie
@@ -6,53 +17,56 @@ use Rattle.sheet.proofs.sheet.Lts as lts
 use Rattle.prepare.proofs.program_of.Reads as program-of-reads
 use Rattle.sheet.proofs.sheet_under.Reads as sheet-under-reads
 
--- src/lib.rt:188:38
 slice-aggregate-program-of : tie.Need-slice-aggregate-program-of
 slice-aggregate-program-of c = search needs
 
--- src/lib.rt:188:11
 program-of-requires : tie.Need-program-of-requires
 program-of-requires c κs = search needs
 
--- src/lib.rt:189:24
 enum-told : tie.Need-enum-told
 enum-told c = search needs
 
--- src/lib.rt:193:25
 enum-known-number : tie.Need-enum-known-number
 enum-known-number c = search needs
 
--- src/lib.rt:195:21
 cast-t15 : tie.Need-cast-t15
 cast-t15 c = search needs
 
--- src/lib.rt:197:23
 enum-known-length : tie.Need-enum-known-length
 enum-known-length c = search needs
 
--- src/lib.rt:197:46
 slice-aggregate-sheet-under : tie.Need-slice-aggregate-sheet-under
 slice-aggregate-sheet-under c = search needs
 
--- src/lib.rt:197:34
 sheet-under-requires : tie.Need-sheet-under-requires
-sheet-under-requires c κs = ?
+sheet-under-requires c κs =
+    let s = (c .before .before .before .before .before .before .before .before .before .before .before) in
+    let m = (c .before .before .before .before .before .before) .program-of in
+    let x = (c .before .before .before) .length .given in
+    (readable (stands (m .result) (m .ensures .1) (x .0 .0) (x .1)), at-all fourBytes (pos 0) (now (s .args .values)) (λ i l. four-of (getD (now (s .args .values)) i (pos 0)) (sfits-of ((c .before .before .before .before .before .before .before .before .before) .shared-slice-known2 .given i))))
 
--- src/lib.rt:177:1
 returns : tie.Need-returns
-returns c = ?
+returns c =
+    let m = (c .before .before .before) .program-of in
+    never-short (m .result) (m .ensures .1) (c .enum-told .given .1) (omega arith)
 
--- src/lib.rt:177:1
 returns-2 : tie.Need-returns-2
-returns-2 c = ?
+returns-2 c =
+    let s = (c .before .before .before .before .before .before .before .before .before) in
+    let m = (c .before .before .before .before) .program-of in
+    let x = (c .before) .number .given in
+    table-refused (m .result) (m .ensures .1) (x .0 .0) (x .0 .1 .0) (x .1) (s .args .registers) (s .args .places) (now (s .args .kinds)) (now (s .args .values)) (now (s .args .sheet))
 
--- src/lib.rt:177:1
 same-length : tie.Need-same-length
 same-length c = search needs
 
--- src/lib.rt:177:1
 returns-3 : tie.Need-returns-3
-returns-3 c = ?
+returns-3 c =
+    let s = (c .before .before .before .before .before .before .before .before .before .before .before .before .before .before) in
+    let m = (c .before .before .before .before .before .before .before .before .before) .program-of in
+    let x = (c .before .before .before .before .before .before) .length .given in
+    let u = (c .before .before) .sheet-under in
+    under-table (stands (m .result) (m .ensures .1) (x .0 .0) (x .1)) (s .args .registers) (s .args .places) (now (s .args .kinds)) (now (s .args .values)) (now (s .args .sheet)) (u .last .1 .1 .1 .1 .1 .0) (u .result) (u .ensures)
 
 pub sheet-spec : {M : Type 1} → statement M
 sheet-spec =
