@@ -1,12 +1,17 @@
 -- The call from a table's bytes: the table's refusal, or what is done under its grammar.
-use Prim.Native.Nat.{ℕ, _≤_, _<_}
+use Prim.Native.Nat.{ℕ, _+_, _≤_, _<_}
 use native.Mathlib.Omega.{arith}
 use mathlib.Core.Path.{_≡_, refl, sym, ap, _∙_, subst}
 use mathlib.Core.Bool.{Bool, true, false}
 use mathlib.Core.List.{List}
-use lib.ListN.{length, take, length-take}
+use lib.ListN.{length, getD, take, length-take}
 use lib.Seq.{length-take-le}
-use lib.IntN.{ℤ}
+use lib.Dec.{T}
+use lib.IntN.{ℤ, pos}
+use native.Mathlib.Decide.{decLt}
+use Rattle.meaning.specs.Base.{all}
+use Rattle.meaning.specs.Rules.{fourBytes}
+use Rattle.theory_base.specs.Members.{at-all}
 use Rattle.meaning.specs.Table.{State, Read, wellFormed, malformed, readTable, grammarOf}
 use Rattle.meaning.specs.Judgement.{Verdict, accepted, rejected, Accepted}
 use Rattle.meaning.specs.Decide.{judge, verdictOf}
@@ -23,6 +28,25 @@ use Rattle.sheet_walk.specs.Standing.{tokensAs}
 use Rattle.sheet.specs.declared.Answer as Answer
 use Rattle.sheet.specs.declared.Answer.the-variants.{TableRefused}
 use Rattle.sheet.specs.Segments.{sheetIs, SegmentDone, Under}
+
+-- ---- values, one after the other
+
+-- the first i of them are 32-bit numbers
+abbrev pub FourTo : List ℤ → ℕ → Type 0
+FourTo vs i = (j : ℕ) → j < i → T (fourBytes (getD vs j (pos 0)))
+
+pub four-none : (vs : List ℤ) → FourTo vs 0
+four-none vs j l = absurd (omega arith)
+
+pub four-more : (vs : List ℤ) (i : ℕ) → FourTo vs i → T (fourBytes (getD vs i (pos 0))) → FourTo vs (i + 1)
+four-more vs i h t j l = go (decLt j i)
+  where
+    go : Dec (j < i) → T (fourBytes (getD vs j (pos 0)))
+    go (yes k) = h j k
+    go (no k) = let e : i ≡ j = omega arith in subst (λ n. T (fourBytes (getD vs n (pos 0)))) e t
+
+pub four-all : (vs : List ℤ) (i : ℕ) → FourTo vs i → length vs ≤ i → T (all fourBytes vs)
+four-all vs i h l = at-all fourBytes (pos 0) vs (λ j k. h j (omega (arith, k, l)))
 
 -- ---- slices of arrays
 

@@ -173,6 +173,17 @@ fn sheet_under(
     }
 }
 
+// What the type says of each value is said of all of them: the loop does nothing else, and the compiler leaves it out.
+fn all_values(values: &[i32])
+    ensures { λ r. ⌜ T (all fourBytes (now (values .entry))) ⌝ }
+{
+    let mut i = 0;
+    while i < values.len() {
+        let value = values[i];
+        i += 1;
+    }
+}
+
 // Writes the records of the segment's tree, and answers its value, moves and the sheet's length. `registers` and `places` are how many a run on lent stacks would have.
 pub fn sheet(
     table: &[u8],
@@ -194,6 +205,9 @@ pub fn sheet(
             number,
             offset: offset as u64,
         },
-        Made::Written(length) => sheet_under(&program, kinds, values, registers, places, sheet),
+        Made::Written(length) => {
+            all_values(values);
+            sheet_under(&program, kinds, values, registers, places, sheet)
+        }
     }
 }

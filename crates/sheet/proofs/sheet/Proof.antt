@@ -1,21 +1,9 @@
-use Prim.Native.Nat.{_≤_}
 use native.Mathlib.Omega.{arith}
-use mathlib.Core.Path.{_≡_, refl}
-use lib.IntN.{pos}
-use lib.ListN.{getD}
 use denote.Ref.{now}
-use borrow.Author.Needs.{needs, sfits-of}
-use Rattle.meaning.specs.Rules.{fourBytes}
-use Rattle.theory_base.specs.Members.{at-all}
-use Rattle.machine.specs.Feeding.{four-of}
-use Rattle.sheet.specs.Calling.{never-short, table-refused, stands, readable, under-table}
 use borrow.Author.Needs.{needs}
+use Rattle.sheet.specs.Calling.{never-short, table-refused, stands, readable, under-table}
 use Rattle.sheet.proofs.sheet.Statement.{statement}
 use Rattle.sheet.proofs.sheet.Tie as tie
-use Rattle.sheet.proofs.sheet.Reads as reads
-use Rattle.sheet.proofs.sheet.Lts as lts
-use Rattle.prepare.proofs.program_of.Reads as program-of-reads
-use Rattle.sheet.proofs.sheet_under.Reads as sheet-under-reads
 
 slice-aggregate-program-of : tie.Need-slice-aggregate-program-of
 slice-aggregate-program-of c = search needs
@@ -35,15 +23,17 @@ cast-t15 c = search needs
 enum-known-length : tie.Need-enum-known-length
 enum-known-length c = search needs
 
+all-values-requires : tie.Need-all-values-requires
+all-values-requires c κs = search needs
+
 slice-aggregate-sheet-under : tie.Need-slice-aggregate-sheet-under
 slice-aggregate-sheet-under c = search needs
 
 sheet-under-requires : tie.Need-sheet-under-requires
 sheet-under-requires c κs =
-    let s = (c .before .before .before .before .before .before .before .before .before .before .before) in
-    let m = (c .before .before .before .before .before .before) .program-of in
-    let x = (c .before .before .before) .length .given in
-    (readable (stands (m .result) (m .ensures .1) (x .0 .0) (x .1)), at-all fourBytes (pos 0) (now (s .args .values)) (λ i l. four-of (getD (now (s .args .values)) i (pos 0)) (sfits-of ((c .before .before .before .before .before .before .before .before .before) .shared-slice-known2 .given i))))
+    let m = (c .before .before .before .before .before .before .before) .program-of in
+    let x = (c .before .before .before .before) .length .given in
+    (readable (stands (m .result) (m .ensures .1) (x .0 .0) (x .1)), (c .before .before) .all-values .ensures)
 
 returns : tie.Need-returns
 returns c =
@@ -62,9 +52,9 @@ same-length c = search needs
 
 returns-3 : tie.Need-returns-3
 returns-3 c =
-    let s = (c .before .before .before .before .before .before .before .before .before .before .before .before .before .before) in
-    let m = (c .before .before .before .before .before .before .before .before .before) .program-of in
-    let x = (c .before .before .before .before .before .before) .length .given in
+    let s = (c .before .before .before .before .before .before .before .before .before .before .before .before .before .before .before) in
+    let m = (c .before .before .before .before .before .before .before .before .before .before) .program-of in
+    let x = (c .before .before .before .before .before .before .before) .length .given in
     let u = (c .before .before) .sheet-under in
     under-table (stands (m .result) (m .ensures .1) (x .0 .0) (x .1)) (s .args .registers) (s .args .places) (now (s .args .kinds)) (now (s .args .values)) (now (s .args .sheet)) (u .last .1 .1 .1 .1 .1 .0) (u .result) (u .ensures)
 
@@ -78,6 +68,7 @@ sheet-spec =
     enum-known-number
     cast-t15
     enum-known-length
+    all-values-requires
     slice-aggregate-sheet-under
     sheet-under-requires
     returns
