@@ -456,7 +456,16 @@ pub extern "C" fn segment_sheet(
     ensures { λ r. ⌜ SheetLent (now (table .entry)) registers places (now (kinds .entry)) (now (values .entry)) (now (sheet .entry)) (now (sheet .exit)) (now (number .exit)) (now (value .exit)) (now (count .exit)) (now (length .exit)) ⌝ }
 {
     host_sheet::sheet(
-        table, kinds, values, registers, places, sheet, number, value, count, length,
+        table,
+        kinds,
+        values,
+        registers,
+        places,
+        sheet,
+        number,
+        value,
+        count,
+        length,
     );
 }
 
