@@ -19,6 +19,7 @@ ghost use Rattle.host_house.specs.Housed.{housed};
 ghost use Rattle.meaning_ranking.specs.RankCall.{rankOf};
 ghost use Rattle.host_rank.specs.Suggested.{RankPassedOn};
 ghost use Rattle.host_window.specs.Windows.{finishedAs, WindowPassedOn};
+ghost use Rattle.host_sheet.specs.SheetLent.{SheetLent};
 ghost use Rattle.host_judge.specs.JudgeLent.{JudgedLent};
 
 // ---- calls on a table
@@ -433,6 +434,39 @@ pub extern "C" fn segment_window_value(
     ensures { λ r. ⌜ WindowPassedOn (bringsAnswer (finishedAs finish value count) (now (buffer .entry))) (now (buffer .exit)) (now (number .exit)) (now (total .exit)) (now (largest .exit)) (now (known .exit)) ⌝ }
 {
     host_window::value(finish, value, count, buffer, number, total, largest, known);
+}
+
+// ---- sheets
+
+// Writes the records of the segment's tree: the number is 0, the count is that of the moves, and the length that of the sheet. On a refusal
+// the number is the refusal's, the count its tokens read or the table's offset, and value and length are 0; no byte of the sheet is written.
+#[no_mangle]
+pub extern "C" fn segment_sheet(
+    table: &[u8],
+    kinds: &[u8],
+    values: &[i32],
+    registers: usize,
+    places: usize,
+    sheet: &mut [u8],
+    number: &mut u32,
+    value: &mut i64,
+    count: &mut u64,
+    length: &mut u64,
+)
+    ensures { λ r. ⌜ SheetLent (now (table .entry)) registers places (now (kinds .entry)) (now (values .entry)) (now (sheet .entry)) (now (sheet .exit)) (now (number .exit)) (now (value .exit)) (now (count .exit)) (now (length .exit)) ⌝ }
+{
+    host_sheet::sheet(
+        table,
+        kinds,
+        values,
+        registers,
+        places,
+        sheet,
+        number,
+        value,
+        count,
+        length,
+    );
 }
 
 // ---- sheets from other tools
