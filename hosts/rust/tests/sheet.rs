@@ -20,7 +20,9 @@ fn as_a_run() {
 fn compare_with_runs() {
     let table = Table::new(WORDS).unwrap();
     assert_eq!(table.sheet(&[0, 1, 0, 2], &[0; 4]).unwrap().bytes(), TREE);
-    for kinds in [&[][..], &[0], &[0, 0, 0], &[1, 2], &[1, 1, 1, 2, 2, 2, 0], &[2], &[0, 9], &[1, 1, 1, 1], &[1], &[0; 1021], &[0; 1022], &[0; 2000]] {
+    for kinds in
+        [&[][..], &[0], &[0, 0, 0], &[1, 2], &[1, 1, 1, 2, 2, 2, 0], &[2], &[0, 9], &[1, 1, 1, 1], &[1], &[0; 1021], &[0; 1022], &[0; 2000]]
+    {
         let mut run = table.run();
         let value = run.evaluate(kinds);
         let sheet = table.sheet(kinds, &vec![0; kinds.len()]);
@@ -94,7 +96,8 @@ fn the_deepest_tree() {
     }
     let work = move || {
         let table = Table::new(table).unwrap();
-        let sheet = |lines: usize| table.sheet(&vec![0; 11 * lines], &vec![0; 11 * lines]).map(|sheet| (sheet.value(), sheet.bytes().len()));
+        let sheet =
+            |lines: usize| table.sheet(&vec![0; 11 * lines], &vec![0; 11 * lines]).map(|sheet| (sheet.value(), sheet.bytes().len()));
         assert_eq!(sheet(1021), Ok((1021, 20 + 1022 * 28)));
         assert_eq!(sheet(1022).map_err(refused), Err((32, 11 * 1022)));
     };
