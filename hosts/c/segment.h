@@ -19,6 +19,7 @@
  *         38: the lists of kinds and values are of unequal length; with 0
  *         39: the scratch of a preview is too short; with 0, and no cell of it is written
  *         40: the run waits for its inner run, or a third run would be opened; with 0
+ *         41: the buffer for a tree sheet is too short; with 0, and no byte of it is written
  *         42: a window's size, buffer or value is refused; no cell of the buffer is written
  *         43: a tree sheet does not describe the segment's tree; with 0
  * The numbers have names, SEGMENT_..., and segment_reason gives their words. On 1 to 13 and on 30 no register, place or program word is
@@ -83,6 +84,7 @@ enum segment_number {
     SEGMENT_LISTS_UNEQUAL = 38,
     SEGMENT_SCRATCH_SHORT = 39,
     SEGMENT_RUN_WAITING = 40,
+    SEGMENT_SHEET_SHORT = 41,
     SEGMENT_WINDOW_UNFIT = 42,
     SEGMENT_SHEET_WRONG = 43
 };
@@ -234,9 +236,22 @@ void segment_rank(const uint8_t *table, size_t table_length, int64_t *registers,
                   size_t kinds_length, const int32_t *values, size_t values_length, const uint32_t *lengths, size_t lengths_length,
                   size_t *valued, int64_t *total, size_t *entries, uint32_t *number, uint32_t *offset);
 
-/* A native stack that is enough for segment_judge, in bytes: it calls itself for the nodes of a tree, at most 1,023 deep, and uses up to
- * 0.6 MB. All other calls make do with far less. Give it to a thread of your own (pthread_attr_setstacksize). */
-#define SEGMENT_SHEET_STACK (4 * 1024 * 1024)
+/* A native stack that is enough for the next two calls, in bytes. They call themselves for the nodes of a tree, at most 1,023 deep:
+ * segment_sheet uses up to 14 MB, more than most threads have, segment_judge up to 0.6 MB. All others make do with far less. Call from a
+ * thread of your own that has as much (pthread_attr_setstacksize). */
+#define SEGMENT_SHEET_STACK (16 * 1024 * 1024)
+
+/* Evaluates a segment by its tree and writes a tree sheet (docs/SHEETS.md) into the first *length bytes of `sheet`: a record for each node,
+ * in the order of entering. Value and refusals are those of a run on `registers` registers and `places` places, of which at most
+ * SEGMENT_REGISTERS and SEGMENT_PLACES count; no memory is lent for them. Bytes past *length stay as they were.
+ * *number: 0, or 1 to 13, 38, 20 to 24, 31, 32, 35, and 41 where the sheet is too short; on a refusal no byte of it is written.
+ * *value: the segment's value, or 0 on a refusal.
+ * *count: the moves that a run makes; on a refusal the tokens read, or the table's offset.
+ * *length: the length of what was written, or 0 on a refusal.
+ * This function alone is in libhost_sheets.a, which `rt staticlib host_sheets` writes. */
+void segment_sheet(const uint8_t *table, size_t table_length, const uint8_t *kinds, size_t kinds_length, const int32_t *values,
+                   size_t values_length, size_t registers, size_t places, uint8_t *sheet, size_t sheet_length, uint32_t *number,
+                   int64_t *value, uint64_t *count, uint64_t *length);
 
 /* Judges a tree sheet that another tool has made, any bytes, against table and segment (docs/SHEETS.md): it is accepted exactly where it
  * describes the segment's well evaluated tree, of depth at most 1,023, a record for each node in the order of entering, and nothing after
@@ -341,6 +356,8 @@ SEGMENT_INLINE const char *segment_reason(uint32_t number) {
         return "the scratch is shorter than the part of the stacks that a run may use";
     case SEGMENT_RUN_WAITING:
         return "the run waits for its inner run, or a third run would be opened";
+    case SEGMENT_SHEET_SHORT:
+        return "the sheet buffer is too short";
     case SEGMENT_WINDOW_UNFIT:
         return "the window's size, buffer or value does not fit";
     case SEGMENT_SHEET_WRONG:

@@ -241,6 +241,29 @@ static void rankings(void) {
     MUST(r.number == SEGMENT_CANDIDATES_UNFIT);
 }
 
+/* The sheet of a word of 4 letters as it is written, into room that is short and more than enough, and for a segment that is refused. */
+static void written(const uint8_t *right) {
+    static const uint8_t kinds[] = {0};
+    static const int32_t letters[] = {4, 41};
+    uint8_t out[78];
+    uint32_t number = 7;
+    int64_t value = 7;
+    uint64_t count = 7, length = 7;
+    memset(out, 0xa5, sizeof out);
+    segment_sheet(lengths, sizeof lengths, kinds, 1, letters, 1, 4096, 1024, out, 75, &number, &value, &count, &length);
+    MUST(number == SEGMENT_SHEET_SHORT && value == 0 && count == 0 && length == 0 && out[0] == 0xa5 && out[74] == 0xa5);
+    segment_sheet(lengths, sizeof lengths, kinds, 1, letters + 1, 1, 4096, 1024, out, 78, &number, &value, &count, &length);
+    MUST(number == SEGMENT_CONDITION_FALSE && value == 0 && count == 1 && length == 0 && out[0] == 0xa5);
+    segment_sheet(lengths, sizeof lengths, kinds, 1, letters, 2, 0, 0, out, 78, &number, &value, &count, &length);
+    MUST(number == SEGMENT_LISTS_UNEQUAL && count == 0);
+    segment_sheet(lengths, sizeof lengths, kinds, 1, letters, 1, 0, 0, out, 78, &number, &value, &count, &length);
+    MUST(number == SEGMENT_NEEDS_REGISTERS && count == 0);
+    segment_sheet(lengths, 100, kinds, 1, letters, 2, 0, 0, out, 78, &number, &value, &count, &length);
+    MUST(number == SEGMENT_FIELD_CUT_SHORT && count == 93 && out[0] == 0xa5 && out[77] == 0xa5);
+    segment_sheet(lengths, sizeof lengths, kinds, 1, letters, 1, 4096, 1024, out, 78, &number, &value, &count, &length);
+    MUST(number == SEGMENT_OK && value == 4 && length == 76 && memcmp(out, right, 76) == 0 && out[76] == 0xa5 && out[77] == 0xa5);
+}
+
 /* The sheet of a word of 4 letters: the list of words inside the segment, and the empty list inside that. Then the same changed. */
 static void sheets(void) {
     static const uint8_t kinds[] = {0};
@@ -255,6 +278,7 @@ static void sheets(void) {
     sheet[51] = 3, sheet[55] = 1;                                /* production 3 behind the token */
     segment_judge(lengths, sizeof lengths, kinds, 1, letters, 1, sheet, 76, &number, &value, &offset);
     MUST(number == SEGMENT_OK && value == 4 && offset == 0);
+    written(sheet);
     for (i = 0; i < 76; i++) {
         sheet[i] ^= 1;
         segment_judge(lengths, sizeof lengths, kinds, 1, letters, 1, sheet, 76, &number, &value, &offset);

@@ -1,8 +1,8 @@
 """The segment engine for Python programs, by ctypes and without dependencies.
 
-The engine is a static archive, libhost.a; a shared object is made of it once (hosts/README.md):
+The engine is two static archives, libhost.a and libhost_sheets.a; a shared object is made of them once (hosts/README.md):
 
-    gcc -shared -o libsegment.so -Wl,--whole-archive libhost.a
+    gcc -shared -o libsegment.so -Wl,--whole-archive libhost.a libhost_sheets.a
 
 and found as SEGMENT_LIBRARY, or beside this file.
 
@@ -31,7 +31,8 @@ CANDIDATES = 512
 WINDOW = 64
 MARK = -(2**63)
 MOVES = 4_294_967_295
-SHEET_STACK = 4 << 20
+SHEET_STACK = 16 << 20
+SHEET = 1 << 26
 
 
 class Kind(enum.IntEnum):
@@ -67,6 +68,7 @@ class Kind(enum.IntEnum):
     LISTS_UNEQUAL = 38
     SCRATCH_SHORT = 39
     RUN_WAITING = 40
+    SHEET_SHORT = 41
     WINDOW_UNFIT = 42
     SHEET_WRONG = 43
 
@@ -102,6 +104,7 @@ REASONS = {
     Kind.LISTS_UNEQUAL: "the lists of kinds and values are of unequal length",
     Kind.SCRATCH_SHORT: "the scratch is shorter than the part of the stacks that a run may use",
     Kind.RUN_WAITING: "the run waits for its inner run, or a third run would be opened",
+    Kind.SHEET_SHORT: "the sheet buffer is too short",
     Kind.WINDOW_UNFIT: "the window's size, buffer or value does not fit",
     Kind.SHEET_WRONG: "the sheet does not describe the segment's tree",
 }
@@ -132,8 +135,8 @@ class Refusal(Exception):
 
     @property
     def tokens(self):
-        """The tokens read. The refusals 30, 33, 34, 36 to 40, 42 and 43 tell none."""
-        return self.count if self.number > 14 and self.number not in (30, 33, 34, 36, 37, 38, 39, 40, 42, 43) else None
+        """The tokens read. The refusals 30, 33, 34, 36 to 43 tell none."""
+        return self.count if self.number > 14 and self.number not in (30, 33, 34, 36, 37, 38, 39, 40, 41, 42, 43) else None
 
     def _words(self):
         where = ""
@@ -303,6 +306,10 @@ class Table:
         """Ranks candidate segments: see rank."""
         return rank(self.bytes, candidates, values)
 
+    def sheet(self, kinds, values=None):
+        """The tree sheet of a segment: see sheet."""
+        return sheet(self.bytes, kinds, values)
+
     def judge(self, sheet, kinds, values=None):
         """Judges a tree sheet of a segment: see judge."""
         return judge(self.bytes, sheet, kinds, values)
@@ -337,6 +344,30 @@ def rank(table, candidates, values=None):
         raise Refusal(number.value, offset.value)
     listed = [cells[3 * i : 3 * i + 3] for i in range(entries.value)]
     return Ranking([Entry(n, None if k else v, Kind(k) if k else None) for n, v, k in listed], valued.value, total.value)
+
+
+Sheet = collections.namedtuple("Sheet", "bytes value moves")
+Sheet.__doc__ = "A segment's tree as bytes, its value, and the moves that a run makes."
+
+
+def sheet(table, kinds, values=None, registers=REGISTERS, places=PLACES):
+    """The tree sheet of a segment: a record for each node, in the order of entering. Value and refusals are those of a run on so many
+    registers and places. Without values each is 0. A sheet longer than SHEET is refused with 41."""
+    kinds = bytes(kinds)
+    values = [0] * len(kinds) if values is None else list(values)
+    room = (ctypes.c_size_t(registers), ctypes.c_size_t(places))
+    size = 128 * (len(kinds) + 8)
+    while True:
+        buffer = (ctypes.c_uint8 * size)()
+        number, value, count, length = ctypes.c_uint32(), ctypes.c_int64(), ctypes.c_uint64(), ctypes.c_uint64()
+        out = map(ctypes.byref, (number, value, count, length))
+        _call_deep("segment_sheet", *_bytes(table), *_bytes(kinds), *_values(values), *room, buffer, ctypes.c_size_t(size), *out)
+        if number.value != Kind.SHEET_SHORT or size >= SHEET:
+            break
+        size = min(4 * size, SHEET)
+    if number.value:
+        raise Refusal(number.value, count.value)
+    return Sheet(bytes(buffer[: length.value]), value.value, count.value)
 
 
 def judge(table, sheet, kinds, values=None):

@@ -177,6 +177,7 @@ class Words(unittest.TestCase):
         table = segment.Table(WORDS)
         right = sheet((0, 0, 4, 2), (1, 0, 4, 0, 2), (2, 1, 3, 0, 1), (1, 2, 1, 1, 1), (3, 3, 0, 1, 0), (3, 4, 0, 0, 0))
         self.assertEqual(table.judge(right, [0, 1, 0, 2]), 2)
+        self.assertEqual(table.sheet([0, 1, 0, 2]), (right, 2, 32))
         for i in range(len(right)):
             changed = bytearray(right)
             changed[i] ^= 1
@@ -185,12 +186,18 @@ class Words(unittest.TestCase):
         self.assertEqual((wrong.kind, wrong.tokens), (segment.Kind.SHEET_WRONG, None))
         lengths, right = segment.Table(LENGTHS), sheet((0, 0, 1, 4), (1, 0, 1, 0, 4), (3, 1, 0, 0, 0))
         self.assertEqual(lengths.judge(right, [0], [4]), 4)
+        self.assertEqual(lengths.sheet([0], [4])[:2], (right, 4))
+        self.refused(22, 1, lengths.sheet, [0], [41])
+        self.refused(38, 0, lengths.sheet, [0], [])
+        self.refused(31, 0, segment.sheet, WORDS, [0], None, 0, 0)
         self.refused(43, 0, lengths.judge, right, [0], [5])
         self.refused(38, 0, lengths.judge, right, [0], [4, 4])
         self.refused(2, 97, segment.judge, WORDS[:100], right, [0])
         n = 1021
         deepest = sheet((0, 0, n, n), *((1, i, n - i, 0, n - i) for i in range(n)), (3, n, 0, 0, 0))
         self.assertEqual(table.judge(deepest, [0] * n), n)
+        self.assertEqual(table.sheet([0] * n)[:2], (deepest, n))
+        self.refused(32, n + 1, table.sheet, [0] * (n + 1))
 
     def test_names(self):
         text = '{"table": {"sum": "%s"}, "tokens": ["word", "open", "close"], "parts": []}'
@@ -233,7 +240,7 @@ class Names(unittest.TestCase):
         kinds = re.findall(r'^    (\w+) = (\d+), "(.*)";$', read("rust/src/refusal.rs"), re.M)
         upper = lambda name: re.sub(r"(?<!^)([A-Z])", r"_\1", name).upper()
         self.kinds = [(upper(name), int(number), words) for name, number, words in kinds]
-        self.assertEqual(len(self.kinds), 32)
+        self.assertEqual(len(self.kinds), 33)
 
     def test_python(self):
         self.assertEqual([(k.name, k.value, segment.REASONS[k]) for k in segment.Kind], self.kinds)

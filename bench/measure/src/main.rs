@@ -299,6 +299,7 @@ fn main() {
     footnotes();
     previews::previews();
     rankings::rankings();
+    sheets::writing();
     sheets::judging();
     house_order();
     windows();

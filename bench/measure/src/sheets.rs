@@ -1,4 +1,5 @@
-//! Tree sheets of rising length, judged beside the plain judge. The judgement of the table is counted in, and stands in the first line.
+//! Tree sheets of rising length, written and judged beside the plain engine. The judgement of the table is counted in, and is most of the
+//! first lines.
 use crate::beside;
 use plain::{samples, sheet};
 use segment::lent;
@@ -23,21 +24,56 @@ fn micros(sheet: &[u8], mut call: impl FnMut()) -> f64 {
     start.elapsed().as_nanos() as f64 / 1000.0 / calls as f64
 }
 
-pub fn judging() {
+type Sample = (&'static str, Vec<u8>, Vec<u8>);
+
+fn segments() -> Vec<Sample> {
     let (words, lines) = (samples::words(), samples::lines());
-    let segments = [
-        ("words and tags, no words", &words, vec![]),
-        ("words and tags, 10 words", &words, vec![0; 10]),
-        ("words and tags, 100 words", &words, vec![0; 100]),
-        ("words and tags, 1,000 words", &words, vec![0; 1000]),
-        ("lines, 1,056 tokens", &lines, vec![0; 8 * 132]),
-        ("lines, 10,560 tokens", &lines, vec![0; 80 * 132]),
-        ("lines, the most tokens", &lines, samples::lines_segment()),
-        ("chain of 47, many rules and conditions", &samples::chain(47, 33, 512), samples::chain_segment(10)),
-    ];
-    println!("\n| sheet | bytes | plain Rust, µs | proved, µs | proved / plain | proved, ns a byte |");
+    vec![
+        ("words and tags, no words", words.clone(), vec![]),
+        ("words and tags, 10 words", words.clone(), vec![0; 10]),
+        ("words and tags, 100 words", words.clone(), vec![0; 100]),
+        ("words and tags, 1,000 words", words, vec![0; 1000]),
+        ("lines, 1,056 tokens", lines.clone(), vec![0; 8 * 132]),
+        ("lines, 10,560 tokens", lines.clone(), vec![0; 80 * 132]),
+        ("lines, the most tokens", lines, samples::lines_segment()),
+        ("chain of 47, many rules and conditions", samples::chain(47, 33, 512), samples::chain_segment(10)),
+    ]
+}
+
+fn head(what: &str) {
+    println!("\n| {what} | bytes | plain Rust, µs | proved, µs | proved / plain | proved, ns a byte |");
     println!("|---|---|---|---|---|---|");
-    for (name, table, kinds) in &segments {
+}
+
+fn line(name: &str, bytes: usize, (x, y): (f64, f64)) {
+    println!("| {name} | {bytes} | {x:.1} | {y:.1} | {:.2} | {:.2} |", y / x, 1000.0 * y / bytes as f64);
+}
+
+pub fn writing() {
+    head("sheet written");
+    for (name, table, kinds) in &segments() {
+        let values = crate::values(kinds.len());
+        let right = written(table, kinds, &values);
+        let (mut a, mut b) = (right.clone(), vec![0; right.len()]);
+        let plain = || {
+            micros(&right, || {
+                black_box(sheet::sheet(black_box(table), (kinds, &values), 4096, 1024, &mut a)).unwrap();
+            })
+        };
+        let proved = || {
+            micros(&right, || {
+                black_box(lent::sheet(black_box(table), kinds, &values, (4096, 1024), &mut b)).unwrap();
+            })
+        };
+        let times = beside(plain, proved);
+        assert!(a == b, "{name}");
+        line(name, right.len(), times);
+    }
+}
+
+pub fn judging() {
+    head("sheet judged");
+    for (name, table, kinds) in &segments() {
         let values = crate::values(kinds.len());
         let bytes = written(table, kinds, &values);
         assert_eq!(lent::judge(table, kinds, &values, &bytes).ok(), sheet::judge(table, kinds, &values, &bytes).ok(), "{name}");
@@ -51,7 +87,6 @@ pub fn judging() {
                 black_box(lent::judge(table, kinds, &values, black_box(&bytes))).unwrap();
             })
         };
-        let (x, y) = beside(plain, proved);
-        println!("| {name} | {} | {x:.1} | {y:.1} | {:.2} | {:.2} |", bytes.len(), y / x, 1000.0 * y / bytes.len() as f64);
+        line(name, bytes.len(), beside(plain, proved));
     }
 }

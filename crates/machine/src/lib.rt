@@ -61,7 +61,7 @@ fn judged(tokens: u64, kinds: &[u8], limits: Limits) -> u32
 }
 
 // A token's value, or the mark where its terminal carries none.
-fn carried(program: &[u32], kind: usize, value: i32) -> i64
+pub fn carried(program: &[u32], kind: usize, value: i32) -> i64
     requires { ⌜ (8 < length (now program)) × (kind < 64) ⌝ }
     ensures { λ r. ⌜ r ≡ valueAt (now (program .entry)) kind value ⌝ }
 {

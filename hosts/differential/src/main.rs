@@ -1,7 +1,7 @@
 //! Compares the proved engine, through the host library, with the plain one on random calls: valid and damaged tables, segments in any
 //! pieces, inner runs inside them, forged records and stacks, short memory. After each call the answer, both records and every register,
 //! place and program word are compared, with some cells past those lent. So are previews of tokens (`tries`), tables in house order
-//! (`house`), rankings of candidates (`ranks`), judgements of tree sheets (`sheets`) and the calls on windows (`windows`).
+//! (`house`), rankings of candidates (`ranks`), tree sheets written and judged (`sheets`) and the calls on windows (`windows`).
 //!
 //!     differential [SEED [CALLS]]
 mod forge;
@@ -207,6 +207,9 @@ impl Comparison {
         if !self.r.chance(15) {
             return Ok(());
         }
+        for number in sheets::written_alike(&mut self.r, table)? {
+            self.count("sheet", number);
+        }
         for number in sheets::compared(&mut self.r, table)? {
             self.count("judge", number);
         }
@@ -252,7 +255,7 @@ impl Comparison {
     /// The numbers of 01 and 02 that no call was refused with.
     fn missing(&self) -> Vec<u32> {
         let seen = |n: &u32| self.answers.keys().any(|(_, number)| number == n);
-        (1..=14).chain(20..=24).chain(30..=35).chain(36..=40).chain([42, 43]).filter(|n| !seen(n)).collect()
+        (1..=14).chain(20..=24).chain(30..=35).chain(36..=43).filter(|n| !seen(n)).collect()
     }
 }
 

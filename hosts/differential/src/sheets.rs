@@ -1,7 +1,7 @@
-//! Tree sheets judged by both engines: the sheet of a segment of the table's grammar, as the plain engine writes it, the same with damage,
-//! for other tokens and values, and any bytes.
+//! Tree sheets in both engines: written for a segment of the table's grammar, on stacks of any length and into short buffers, every byte
+//! compared, with some past those lent; then judged, with damage, for other tokens and values, and any bytes.
 use crate::hex;
-use crate::pair::same;
+use crate::pair::{same, same_cells, GUARDS};
 use crate::random::Random;
 use crate::segments::Segments;
 use crate::Table;
@@ -15,6 +15,36 @@ fn written(table: &[u8], kinds: &[u8], values: &[i32]) -> Option<Vec<u8>> {
     let (_, _, length) = plain::sheet::sheet(table, (kinds, values), 4096, 1024, &mut sheet).ok()?;
     sheet.truncate(length);
     Some(sheet)
+}
+
+/// A sheet written in both engines on stacks of so many cells, into so many bytes: its length, or the refusal's number.
+fn wrote(table: &[u8], kinds: &[u8], values: &[i32], room: (usize, usize), long: usize) -> Result<Result<usize, u32>, String> {
+    let (mut a, mut b) = (vec![0xa5; long + GUARDS], vec![0xa5; long + GUARDS]);
+    let plain = plain::sheet::sheet(table, (kinds, values), room.0, room.1, &mut a[..long]);
+    let proved = segment::lent::sheet(table, kinds, values, room, &mut b[..long]);
+    let proved = proved.map(|w| (w.value, w.moves, w.length)).map_err(|r| (r.number(), r.count()));
+    let shown = || format!("sheet of {kinds:?} {values:?} on {room:?} into {long} bytes\ntable {}", hex(table));
+    let alike = same("sheet", proved, plain).and_then(|()| same_cells("byte of the sheet", &b, &a));
+    alike.map_err(|e| format!("{e}\n{}", shown()))?;
+    Ok(proved.map(|(_, _, length)| length).map_err(|(number, _)| number))
+}
+
+/// Sheets written for one segment; the numbers of the refusals, 0 for none.
+pub fn written_alike(r: &mut Random, table: &Table) -> Result<Vec<u32>, String> {
+    let kinds = table.outline.as_ref().map_or(vec![0, 1], |outline| Segments::new(outline).random(r));
+    let mut values = values(r, kinds.len());
+    if r.chance(5) {
+        values.push(0);
+    }
+    let full = wrote(&table.bytes, &kinds, &values, (4096 + r.below(3), 1024 + r.below(3)), ROOM)?;
+    let most = full.unwrap_or(100);
+    let mut numbers = vec![full.err().unwrap_or(0)];
+    for _ in 0..3 {
+        let room = if r.chance(60) { (r.below(60), r.below(30)) } else { (4096, 1024) };
+        let long = if r.chance(50) { most.saturating_sub(r.below(3)) } else { r.below(most + 2) };
+        numbers.push(wrote(&table.bytes, &kinds, &values, room, long)?.err().unwrap_or(0));
+    }
+    Ok(numbers)
 }
 
 /// Values that a condition is likelier to hold of than of any.

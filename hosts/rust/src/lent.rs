@@ -30,12 +30,14 @@ mod inner;
 mod judge;
 mod preview;
 mod rank;
+mod sheet;
 
 pub use in_place::feed_in_place;
 pub use inner::{feed_inner, finish_inner, give_up_inner, open_inner, Both};
-pub use judge::{judge, SHEET_STACK};
+pub use judge::judge;
 pub use preview::{may_follow, preview, Stopped};
 pub use rank::{rank, Candidates, Report, CANDIDATES, ENTRY};
+pub use sheet::{sheet, Written, SHEET_STACK};
 
 /// How many registers a run uses at most; cells past them are neither read nor written.
 pub const REGISTERS: usize = 4096;

@@ -82,6 +82,7 @@ kinds! {
     ListsUnequal = 38, "the lists of kinds and values are of unequal length";
     ScratchShort = 39, "the scratch is shorter than the part of the stacks that a run may use";
     RunWaiting = 40, "the run waits for its inner run, or a third run would be opened";
+    SheetShort = 41, "the sheet buffer is too short";
     WindowUnfit = 42, "the window's size, buffer or value does not fit";
     SheetWrong = 43, "the sheet does not describe the segment's tree";
 }
@@ -100,7 +101,7 @@ impl Refusal {
 
     /// The number: 1 to 14 for a table, 20 to 24 for a segment, 30 to 35 and 40 for the state of a run, 36 for a buffer to
     /// write into, 37 for candidates and their list, 38 for lists of tokens, 39 for the scratch of a
-    /// preview, 42 for a window, 43 for a sheet.
+    /// preview, 42 for a window, 41 and 43 for a sheet.
     #[must_use]
     pub const fn number(&self) -> u32 {
         self.number
@@ -126,7 +127,7 @@ impl Refusal {
     }
 
     /// The tokens read before the segment or the run was refused. The refusals 30, 33, 34 and 38 to 40 tell none, since no token was
-    /// looked at, nor do 36, 37, 42 and 43.
+    /// looked at, nor do 36, 37 and 41 to 43.
     #[must_use]
     pub fn tokens(&self) -> Option<u64> {
         let told = matches!(self.number, 20..=24 | 31 | 32 | 35);

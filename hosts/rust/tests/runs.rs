@@ -206,7 +206,7 @@ fn words_for_refusals() {
     let closed = run.finish().unwrap_err();
     assert_eq!((closed.to_string().as_str(), closed.tokens(), closed.offset()), ("refused 33: the run is closed", None, None));
     let numbers: Vec<u32> = Kind::ALL.iter().map(|kind| kind.number()).collect();
-    assert_eq!(numbers, (1..=14).chain(20..=24).chain(30..=40).chain([42, 43]).collect::<Vec<u32>>());
+    assert_eq!(numbers, (1..=14).chain(20..=24).chain(30..=43).collect::<Vec<u32>>());
     assert!(Kind::ALL.iter().all(|&kind| Kind::of(kind.number()) == kind && kind != Kind::Unknown));
     assert_eq!((Kind::of(0), Kind::of(99), Kind::Unknown.number()), (Kind::Unknown, Kind::Unknown, 0));
 }

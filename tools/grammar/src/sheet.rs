@@ -46,7 +46,7 @@ pub fn read(built: &Built, tokens: &[Token], sheet: &[u8]) -> Result<Tree, Strin
 /// Does something on a thread with the stack that sheets need.
 pub fn deep<T: Send>(work: impl FnOnce() -> T + Send) -> T {
     std::thread::scope(|scope| {
-        let thread = std::thread::Builder::new().stack_size(2 * SHEET_STACK).spawn_scoped(scope, work).expect("a thread");
+        let thread = std::thread::Builder::new().stack_size(SHEET_STACK).spawn_scoped(scope, work).expect("a thread");
         thread.join().unwrap_or_else(|panic| std::panic::resume_unwind(panic))
     })
 }

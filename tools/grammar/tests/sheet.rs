@@ -1,4 +1,4 @@
-//! Tree sheets: the example of docs/SHEETS.md, and the commands `judge` and `tree`.
+//! Tree sheets: the example of docs/SHEETS.md, and the commands `sheet`, `tree` and `judge`.
 mod common;
 use common::{assert_answer, grammar, grammar_on, scratch, shipped, shipped_file, stdout};
 use grammar::sheet::{deep, read, Child, Node};
@@ -152,5 +152,23 @@ fn the_tree_is_drawn() {
         "",
         &format!("{WRONG}; record 3, `L: open L close L`: the segment is over where `open` stands\n"),
     );
-    assert_eq!(grammar(&["tree", &file, "word"]).status.code(), Some(2));
+    assert_eq!(grammar(&["tree", &file]).status.code(), Some(2));
+}
+
+/// Without a sheet the engine writes it; what is written is accepted.
+#[test]
+fn sheets_are_written() {
+    let (file, (right, _)) = (shipped_file("words"), page());
+    assert!(grammar(&["sheet", &file, "word open word close"]).stdout == right);
+    let to = scratch("written.sheet", b"");
+    assert_answer(grammar(&["sheet", &file, "-o", &to, "word", "open", "word", "close"]), 0, "", "");
+    assert!(std::fs::read(&to).unwrap() == right);
+    let drawn = grammar(&[&["tree", &file, "--sheet", &to], &SEGMENT[..]].concat());
+    assert_eq!(stdout(&grammar(&["tree", &file, "word open word close"])), stdout(&drawn));
+    let told = "refused 21 after 1 token, at token 2, `close`: the segment is already complete\n";
+    assert_answer(grammar(&["sheet", &file, "word", "close"]), 1, "", told);
+    assert_answer(grammar(&["tree", &file, "word", "close"]), 1, "", told);
+    let clause = shipped_file("clause");
+    let output = grammar(&["sheet", &clause, "one warrants word=4 two limits word=9"]);
+    assert_answer(grammar_on(&["judge", &clause, "-", "one warrants word=4 two limits word=9"], &output.stdout), 0, "5\n", "");
 }

@@ -56,6 +56,8 @@ Bytes are hex digits, `-` for none; numbers are decimal. A line that begins with
                                   the tokens that may come next
   rank TABLE KINDS VALUES LENGTHS NREGS NPLACES NPROG NLIST
                                   evaluates candidate segments and lists them by value, into NLIST cells
+  sheet TABLE KINDS VALUES NREGS NPLACES NSHEET
+                                  writes the segment's tree sheet, into NSHEET bytes
   judge TABLE KINDS VALUES SHEET  judges a tree sheet that describes the segment
   trace TABLE TOKENS [NREGS NPLACES [FROM]]
                                   the run of a segment, move by move, from token FROM on

@@ -2,10 +2,6 @@
 use super::answered;
 use crate::Refusal;
 
-/// A native stack that is enough for [`judge`], in bytes: it calls itself for the nodes of a tree, at most 1,023 deep, and uses up to 0.6 MB.
-/// Every other call makes do with far less.
-pub const SHEET_STACK: usize = 4 << 20;
-
 extern "C" {
     fn segment_judge(
         table: *const u8,
@@ -23,7 +19,7 @@ extern "C" {
 }
 
 /// Judges a tree sheet, any bytes, against a table and a segment: the value of the root where the sheet describes the segment's well
-/// evaluated tree, of depth at most 1,023, and nothing stands after it. Needs [`SHEET_STACK`].
+/// evaluated tree, of depth at most 1,023, and nothing stands after it. Needs [`SHEET_STACK`](super::SHEET_STACK).
 ///
 /// # Errors
 /// 1 to 13: the table is refused. 38: kinds and values are not equally many. 43: the sheet is not that tree's.

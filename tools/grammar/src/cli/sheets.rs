@@ -1,7 +1,7 @@
-//! The commands on tree sheets: `judge` and `tree`.
-use super::files::{build, read};
+//! The commands on tree sheets: `sheet`, `tree` and `judge`.
+use super::files::{build, read, shown};
 use super::segments::segment;
-use super::{misused, Args, Command, Outcome, Trouble};
+use super::{Args, Command, Outcome, Trouble};
 use crate::draw::Drawing;
 use crate::run::{self, Token};
 use crate::{sheet, Built};
@@ -11,16 +11,25 @@ use std::io::Write;
 
 pub const COMMANDS: &[Command] = &[
     Command {
+        name: "tree",
+        options: &["--sheet=", "--svg", "--empty"],
+        usage: &[
+            ("tree FILE TOKENS... [--svg]", "draws a segment's tree: as text, or as a picture"),
+            ("tree FILE --sheet SHEET TOKENS... [--svg]", "the same for a tree sheet that another tool made, which is judged"),
+        ],
+        run: tree,
+    },
+    Command {
+        name: "sheet",
+        options: &["-o=", "--empty"],
+        usage: &[("sheet FILE TOKENS... [-o OUT]", "writes a segment's tree sheet, to standard output without -o")],
+        run: write_sheet,
+    },
+    Command {
         name: "judge",
         options: &["--empty"],
         usage: &[("judge FILE SHEET TOKENS...", "judges a tree sheet that another tool made of a segment: the value, or what is wrong")],
         run: judge,
-    },
-    Command {
-        name: "tree",
-        options: &["--sheet=", "--svg", "--empty"],
-        usage: &[("tree FILE --sheet SHEET TOKENS... [--svg]", "the same, and draws the tree: as text, or as a picture")],
-        run: tree,
     },
 ];
 
@@ -63,12 +72,40 @@ fn both(file: &OsStr, sheet: &OsStr) -> Result<(Built, Vec<u8>), Trouble> {
     Ok((build(file)?.1, read(sheet)?))
 }
 
+/// The tree sheet of a segment that has a tree, or why it has none.
+fn made(built: &Built, tokens: &[Token]) -> Result<Vec<u8>, Trouble> {
+    let (kinds, values) = run::lists(tokens);
+    let sheet = sheet::deep(|| built.table.sheet(&kinds, &values).map(|sheet| sheet.bytes().to_vec()));
+    sheet.map_err(|refusal| {
+        let outcome = run::run(&built.table, tokens);
+        Trouble::Refused(match outcome.answer {
+            Err(refusal) => run::told(built, tokens, &outcome, refusal),
+            Ok(_) => refusal.to_string(),
+        })
+    })
+}
+
+fn write_sheet(mut args: Args, out: &mut dyn Write) -> Outcome {
+    let file = args.take()?;
+    let (_, built) = build(&file)?;
+    let bytes = made(&built, &segment(&built, &mut args)?)?;
+    match args.value("-o") {
+        Some(to) => std::fs::write(to, bytes).map_err(|e| Trouble::Failed(format!("{}: {e}", shown(to)))),
+        None => Ok(out.write_all(&bytes)?),
+    }
+}
+
 fn tree(mut args: Args, out: &mut dyn Write) -> Outcome {
     let file = args.take()?;
-    let Some(sheet) = args.value("--sheet").map(OsStr::to_os_string) else { return misused() };
-    let (built, bytes) = both(&file, &sheet)?;
+    let (built, given) = match args.value("--sheet") {
+        Some(sheet) => both(&file, sheet).map(|(built, bytes)| (built, Some(bytes)))?,
+        None => (build(&file)?.1, None),
+    };
     let tokens = segment(&built, &mut args)?;
-    judged(&built, &tokens, &bytes)?;
+    let bytes = match given {
+        Some(bytes) => judged(&built, &tokens, &bytes).map(|_| bytes)?,
+        None => made(&built, &tokens)?,
+    };
     let tree = sheet::deep(|| sheet::read(&built, &tokens, &bytes)).map_err(Trouble::Refused)?;
     let drawing = Drawing::new(&built, &tokens, &tree);
     let drawn = if args.has("--svg") { drawing.svg() } else { drawing.text() };

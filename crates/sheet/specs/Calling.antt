@@ -1,0 +1,103 @@
+-- The call from a table's bytes: the table's refusal, or what is done under its grammar.
+use Prim.Native.Nat.{ℕ, _+_, _≤_, _<_}
+use native.Mathlib.Omega.{arith}
+use mathlib.Core.Path.{_≡_, refl, sym, ap, _∙_, subst}
+use mathlib.Core.Bool.{Bool, true, false}
+use mathlib.Core.List.{List}
+use lib.ListN.{length, getD, take, length-take}
+use lib.Seq.{length-take-le}
+use lib.Dec.{T}
+use lib.IntN.{ℤ, pos}
+use native.Mathlib.Decide.{decLt}
+use Rattle.meaning.specs.Base.{all}
+use Rattle.meaning.specs.Rules.{fourBytes}
+use Rattle.theory_base.specs.Members.{at-all}
+use Rattle.meaning.specs.Table.{State, Read, wellFormed, malformed, readTable, grammarOf}
+use Rattle.meaning.specs.Judgement.{Verdict, accepted, rejected, Accepted}
+use Rattle.meaning.specs.Decide.{judge, verdictOf}
+use Rattle.meaning.specs.PublicCalls.{Checked, usable, unusable, check, checkedAs, areaLength}
+use Rattle.meaning_sheet.specs.SheetCalls.{Sheets, WhenChecked}
+use Rattle.theory_sets.specs.Accepted.{verdict→accepted}
+use Rattle.theory_answers.specs.Called.{checks}
+use Rattle.theory_complete.specs.Halves.{only}
+use Rattle.fit.specs.Shown.{Readable}
+use Rattle.prepare.specs.declared.Made as Made
+use Rattle.prepare.specs.declared.Made.the-variants as M
+use Rattle.prepare.specs.Making.{MadeAs, Case, Standing}
+use Rattle.sheet_walk.specs.Standing.{tokensAs}
+use Rattle.sheet.specs.declared.Answer as Answer
+use Rattle.sheet.specs.declared.Answer.the-variants.{TableRefused}
+use Rattle.sheet.specs.Segments.{sheetIs, SegmentDone, Under}
+
+-- ---- values, one after the other
+
+-- the first i of them are 32-bit numbers
+abbrev pub FourTo : List ℤ → ℕ → Type 0
+FourTo vs i = (j : ℕ) → j < i → T (fourBytes (getD vs j (pos 0)))
+
+pub four-none : (vs : List ℤ) → FourTo vs 0
+four-none vs j l = absurd (omega arith)
+
+pub four-more : (vs : List ℤ) (i : ℕ) → FourTo vs i → T (fourBytes (getD vs i (pos 0))) → FourTo vs (i + 1)
+four-more vs i h t j l = go (decLt j i)
+  where
+    go : Dec (j < i) → T (fourBytes (getD vs j (pos 0)))
+    go (yes k) = h j k
+    go (no k) = let e : i ≡ j = omega arith in subst (λ n. T (fourBytes (getD vs n (pos 0)))) e t
+
+pub four-all : (vs : List ℤ) (i : ℕ) → FourTo vs i → length vs ≤ i → T (all fourBytes vs)
+four-all vs i h l = at-all fourBytes (pos 0) vs (λ j k. h j (omega (arith, k, l)))
+
+-- ---- slices of arrays
+
+pub cut : {A : Type 0} (n m : ℕ) (xs : List A) → length xs ≡ m → n ≤ m → n ≡ length (take n xs)
+cut n m xs e l = sym (length-take-le n xs (omega (arith, e, l)))
+
+pub cut-few : {A : Type 0} (n m : ℕ) (xs : List A) → n ≤ m → length (take n xs) ≤ m
+cut-few n m xs l = omega (arith, length-take n xs, l)
+
+pub walks-as : (ws ks : List ℕ) (vs : List ℤ) (a b a′ b′ : ℕ) (before after : List ℕ) (r : Answer.Answer) → a ≡ a′ → b ≡ b′ → SegmentDone ws ks vs a b before after r → SegmentDone ws ks vs a′ b′ before after r
+walks-as ws ks vs a b a′ b′ before after r e f w = subst (λ x. SegmentDone ws ks vs a′ x before after r) f (subst (λ x. SegmentDone ws ks vs x b before after r) e w)
+
+-- ---- an accepted table
+
+usable-is : (s u : State) → _≡_ {A = Checked} (usable s) (usable u) → s ≡ u
+usable-is s u e = cc
+
+check-verdict : (t : List ℕ) (s : State) → check t ≡ usable s → verdictOf t ≡ accepted
+check-verdict t s h = go (readTable t) h
+  where
+    by : (u : State) (v : Verdict) → checkedAs u v ≡ usable s → v ≡ accepted
+    by u accepted h = refl
+    by u (rejected n o) h = absurd (let z : _≡_ {A = ℕ} 0 1 = cc in omega arith)
+
+    go : (x : Read) → elim x as (λ z. Checked) [ malformed n o ↦ unusable n o | wellFormed u ↦ checkedAs u (judge u) ] ≡ usable s → elim x as (λ z. Verdict) [ malformed n o ↦ rejected n o | wellFormed u ↦ judge u ] ≡ accepted
+    go (malformed n o) h = absurd (let z : _≡_ {A = ℕ} 0 1 = cc in omega arith)
+    go (wellFormed u) h = by u (judge u) h
+
+usable-accepted : (t : List ℕ) (s : State) → check t ≡ usable s → Accepted t (grammarOf s)
+usable-accepted t s h =
+    let a = verdict→accepted t (check-verdict t s h) in
+    let same : a .1 .state ≡ s = usable-is (a .1 .state) s (sym (checks t (a .0) (a .1)) ∙ h) in
+    subst (Accepted t) (sym (a .1 .isGrammar) ∙ ap grammarOf same) (a .1)
+
+-- ---- by what was made of the table
+
+module _ {t area area′ : List ℕ} (m : Made.Made) (k : MadeAs t area area′ m) where
+  pub never-short : {A : Type 0} → m ≡ M.Short → areaLength ≤ length area → A
+  never-short e l = let c : Case t area area′ M.Short = subst (Case t area area′) e (k .case) in absurd (omega (arith, c .0, l))
+
+  pub table-refused : (number offset : ℕ) → m ≡ M.Refused number offset → (r p : ℕ) (ks : List ℕ) (vs : List ℤ) (out : List ℕ) → Sheets t r p ks vs out (sheetIs (TableRefused number offset) out)
+  table-refused number offset e r p ks vs out = let c : Case t area area′ (M.Refused number offset) = subst (Case t area area′) e (k .case) in subst (λ x. WhenChecked x r p ks vs out (sheetIs (TableRefused number offset) out)) (sym (c .1)) refl
+
+  pub stands : (size : ℕ) → m ≡ M.Written size → Standing t area area′ size
+  stands size e = subst (Case t area area′) e (k .case)
+
+module _ {t area area′ : List ℕ} {size : ℕ} (s : Standing t area area′ size) where
+  pub readable : Readable area′
+  readable = record { grammar = grammarOf (s .state); shown = record { formed = s .formed; begins = s .begins } }
+
+  pub under-table : (r p : ℕ) (ks : List ℕ) (vs : List ℤ) (out sheet : List ℕ) (a : Answer.Answer) → Under area′ ks vs r p out sheet a → Sheets t r p ks vs out (sheetIs a sheet)
+  under-table r p ks vs out sheet a u =
+      let g = grammarOf (s .state) in
+      subst (λ x. WhenChecked x r p ks vs out (sheetIs a sheet)) (sym (s .isUsable)) (u g (s .begins) (s .formed) (only t g (usable-accepted t (s .state) (s .isUsable)) (tokensAs g ks vs)))

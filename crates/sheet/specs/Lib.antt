@@ -1,0 +1,3 @@
+pub mod Opening
+pub mod Segments
+pub mod Calling

@@ -1,0 +1,5 @@
+pub mod Trying
+pub mod Standing
+pub mod Counting
+pub mod Leaving
+pub mod Cycle

@@ -1,0 +1,5 @@
+pub mod Whole
+pub mod Standing
+pub mod Walking
+pub mod Segment
+pub mod Overlay

@@ -1,0 +1,1 @@
+// 02 (i): whatever is brought, there is only one effect; no code.

@@ -1,0 +1,67 @@
+//! Tree sheets: a segment's tree as bytes.
+use crate::lent::{self, Written};
+use crate::{Kind, Refusal, Table};
+use alloc::vec;
+use alloc::vec::Vec;
+
+/// The longest sheet that [`Table::sheet`] makes, in bytes.
+pub const SHEET: usize = 1 << 26;
+
+/// A segment's tree: a record for each node, in the order of entering.
+#[derive(Clone, Debug, PartialEq, Eq)]
+pub struct Sheet {
+    bytes: Vec<u8>,
+    value: i64,
+    moves: u64,
+}
+
+impl Sheet {
+    /// The records one after the other.
+    #[must_use]
+    pub fn bytes(&self) -> &[u8] {
+        &self.bytes
+    }
+
+    /// The segment's value.
+    #[must_use]
+    pub fn value(&self) -> i64 {
+        self.value
+    }
+
+    /// The moves that a run makes.
+    #[must_use]
+    pub fn moves(&self) -> u64 {
+        self.moves
+    }
+}
+
+impl Table {
+    /// The tree sheet of a segment. See [`lent::SHEET_STACK`] for the stack that the thread needs.
+    ///
+    /// ```
+    /// # let bytes = include_bytes!(concat!(env!("CARGO_MANIFEST_DIR"), "/../../grammars/words.table"));
+    /// let table = segment::Table::new(*bytes)?;
+    /// let sheet = table.sheet(&[0, 1, 0, 2], &[0; 4])?;
+    /// assert_eq!((sheet.value(), sheet.moves(), sheet.bytes().len()), (2, 32, 160));
+    /// assert_eq!(table.judge(&[0, 1, 0, 2], &[0; 4], sheet.bytes())?, 2);
+    /// # Ok::<(), segment::Refusal>(())
+    /// ```
+    ///
+    /// # Errors
+    /// 20 to 24, 31, 32, 35: the segment is refused, as by a run on full stacks. 38: kinds and values are not equally many. 41: the sheet
+    /// would be longer than [`SHEET`].
+    pub fn sheet(&self, kinds: &[u8], values: &[i32]) -> Result<Sheet, Refusal> {
+        let mut bytes = vec![0; 128 * (kinds.len() + 8)];
+        loop {
+            let written = lent::sheet(self.bytes(), kinds, values, (lent::REGISTERS, lent::PLACES), &mut bytes);
+            match written {
+                Ok(Written { value, moves, length }) => {
+                    bytes.truncate(length);
+                    return Ok(Sheet { bytes, value, moves });
+                }
+                Err(refusal) if refusal.kind() == Kind::SheetShort && bytes.len() < SHEET => bytes.resize((4 * bytes.len()).min(SHEET), 0),
+                Err(refusal) => return Err(refusal),
+            }
+        }
+    }
+}
