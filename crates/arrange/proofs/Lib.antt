@@ -3,3 +3,5 @@ pub mod Comparing
 pub mod Gap
 pub mod Searching
 pub mod Inserting
+pub mod Merging
+pub mod Sorting
