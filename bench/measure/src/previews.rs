@@ -68,6 +68,9 @@ pub fn previews() {
         ("63 kinds of tokens, 20 read", samples::many_kinds(), vec![0; 20], all()),
         ("63 kinds of tokens, 20 read, 128 and 32 cells", samples::many_kinds(), vec![0; 20], Buffers::small(128, 32)),
         ("63 kinds of tokens, 900 read", samples::many_kinds(), vec![0; 900], all()),
+        ("brackets, 20 open, two of 63 kinds expected", samples::rare_brackets(), vec![0; 20], all()),
+        ("brackets, 900 open, two of 63 kinds expected", samples::rare_brackets(), vec![0; 900], all()),
+        ("brackets, 900 to be closed, one of 63 kinds expected", samples::rare_brackets(), [vec![0; 900], vec![2]].concat(), all()),
     ];
     println!("\n| run | tokens in the set | a preview: plain Rust, µs | proved, µs | proved / plain | the set: plain Rust, µs | proved, µs | proved / plain | 63 previews, proved, µs |");
     println!("|---|---|---|---|---|---|---|---|---|");
@@ -76,9 +79,10 @@ pub fn previews() {
         let set = b.proved_set();
         assert_eq!(set, a.plain_set(), "{name}");
         assert!((0..64).all(|kind| b.proved_preview(kind) == (set >> kind & 1 == 1)), "{name}");
+        let kind = set.trailing_zeros() as u8;
         let (p, q) = beside(
-            || round(&table, || assert!(black_box(a.plain_preview(black_box(0))))) / 1000.0,
-            || round(&table, || assert!(black_box(b.proved_preview(black_box(0))))) / 1000.0,
+            || round(&table, || assert!(black_box(a.plain_preview(black_box(kind))))) / 1000.0,
+            || round(&table, || assert!(black_box(b.proved_preview(black_box(kind))))) / 1000.0,
         );
         let (x, y) = beside(
             || round(&table, || assert_eq!(black_box(a.plain_set()), set)) / 1000.0,

@@ -280,6 +280,13 @@ pub fn brackets() -> Vec<u8> {
     t
 }
 
+/// The same among 63 kinds of tokens: of all others none ever comes.
+pub fn rare_brackets() -> Vec<u8> {
+    let mut t = brackets();
+    t[3] = 63;
+    t
+}
+
 /// A segment of it with so many brackets inside each other.
 pub fn brackets_segment(depth: usize) -> Vec<u8> {
     [vec![0; depth], vec![2], vec![1; depth]].concat()

@@ -1,5 +1,6 @@
 // Refusals 11 and 12, and FIRST-then-FOLLOW of each production, on the image of a table's productions (analysis `Rows`).
 use analysis::closing::closure;
+use first_sets::fronts;
 use follow_sets::starting;
 use left_recursion::left_recursive;
 use reachable::useless;
@@ -35,15 +36,18 @@ pub fn analyse(
             index: useless_at,
         };
     }
-    let null = closure(rows, count, false);
-    let recursive_at = left_recursive(rows, count, nonterminals, null);
+    let null = closure(rows, count, sets, false);
+    let mut led = [0u64; 48];
+    let mut first = [0u64; 48];
+    fronts(rows, count, nonterminals, null, &mut led, &mut first);
+    let recursive_at = left_recursive(&led, nonterminals);
     if recursive_at < nonterminals {
         return Analysis {
             number: 12,
             index: recursive_at,
         };
     }
-    starting(rows, count, start, null, sets);
+    starting(rows, count, nonterminals, start, null, &first, sets);
     Analysis {
         number: 0,
         index: 0,

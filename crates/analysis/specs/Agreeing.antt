@@ -2,18 +2,18 @@
 use Prim.Native.Nat.{ℕ, _<_, zero-le}
 use native.Mathlib.Omega.{arith}
 use mathlib.Core.Path.{_≡_, refl, sym}
-use mathlib.Core.Logic.{_⊎_, inl, inr}
-use mathlib.Core.Bool.{Bool, true, false}
+use mathlib.Core.Logic.{_⊎_, inl, inr, ⊎-elim}
+use mathlib.Core.Bool.{Bool, true, false, _||_}
 use mathlib.Core.List.{List, [], _∷_}
-use lib.Dec.{T, eqb→eq, ltb→lt}
+use lib.Dec.{T, eqb, eqb→eq, ltb→lt}
 use lib.ListN.{getD}
 use Rattle.meaning.specs.Base.{all, any}
 use Rattle.meaning.specs.Grammar.{Symbol, terminal, nonterminal, Grammar, productionAt, nonterminalCount, isNonterminal}
 use Rattle.meaning.specs.Derivation.{Listed}
-use Rattle.meaning.specs.Sets.{singleton, nullable, emptySymbol}
+use Rattle.meaning.specs.Sets.{singleton, endNumber, nullable, emptySymbol}
 use Rattle.meaning.specs.Decide.{productiveSymbol, productive, reachable}
-use Rattle.theory_base.specs.Members.{both, or-cases}
-use Rattle.theory_sets.specs.Productions.{known, symbols}
+use Rattle.theory_base.specs.Members.{both, or-cases, or-left, or-right}
+use Rattle.theory_sets.specs.Productions.{known, symbols, lefts}
 use Rattle.theory_sets.specs.Nullable.{nullable-closed}
 use Rattle.theory_sets.specs.Productive.{productive-closed}
 use Rattle.theory_sets.specs.Reached.{reachable-start, reachable-closed}
@@ -22,7 +22,7 @@ use Rattle.theory_sets.specs.TokenSets.{single-has, single-only}
 use Rattle.theory_sets.specs.Widths.{both-true}
 use Rattle.token_set.specs.Words.{setOf}
 use Rattle.analysis.specs.Rows.{Rows}
-use Rattle.analysis.specs.Views.{members, Within, fit, ClosedAt, ReachAt}
+use Rattle.analysis.specs.Views.{members, Within, fit, symbolBit, ClosedAt, ReachAt}
 use Rattle.analysis.specs.Growth.{Settled, none-in}
 
 -- the word marks the nonterminals of a list of truth values
@@ -50,6 +50,21 @@ known-in g n (x ∷ xs) k t = go x (both (known g x) (all (known g) xs) k .0) (o
     go (terminal s) q (inl h) j = absurd h
     go (nonterminal m) q (inl h) j = rw (sym (eqb→eq m n h)) (ltb→lt m (nonterminalCount g) q)
     go y q (inr h) j = j h
+
+-- the bits of a string: its nonterminals, and that of the end
+bit-cases : (n : ℕ) (xs : List Symbol) → T (any (symbolBit n) xs) → T (any (isNonterminal n) xs) ⊎ T (eqb endNumber n)
+bit-cases n [] t = absurd t
+bit-cases n (terminal s ∷ xs) t = ⊎-elim (λ h. inr h) (bit-cases n xs) (or-cases (eqb endNumber n) (any (symbolBit n) xs) t)
+bit-cases n (nonterminal m ∷ xs) t = go (or-cases (eqb m n) (any (symbolBit n) xs) t) (bit-cases n xs)
+  where
+    go : T (eqb m n) ⊎ T (any (symbolBit n) xs) → (T (any (symbolBit n) xs) → T (any (isNonterminal n) xs) ⊎ T (eqb endNumber n)) → T (any (isNonterminal n) (nonterminal m ∷ xs)) ⊎ T (eqb endNumber n)
+    go (inl h) k = inl (or-left (eqb m n) (any (isNonterminal n) xs) h)
+    go (inr h) k = ⊎-elim (λ q. inl (or-right (eqb m n) (any (isNonterminal n) xs) q)) (λ q. inr q) (k h)
+
+bit-of : (n : ℕ) (xs : List Symbol) → T (any (isNonterminal n) xs) → T (any (symbolBit n) xs)
+bit-of n [] t = absurd t
+bit-of n (terminal s ∷ xs) t = or-right (eqb endNumber n) (any (symbolBit n) xs) (bit-of n xs t)
+bit-of n (nonterminal m ∷ xs) t = ⊎-elim (or-left (eqb m n) (any (symbolBit n) xs)) (λ h. or-right (eqb m n) (any (symbolBit n) xs) (bit-of n xs h)) (or-cases (eqb m n) (any (isNonterminal n) xs) t)
 
 module _ {rows : List ℕ} {count : ℕ} {g : Grammar} (r : Rows rows count g) where
   pub listed : (p : ℕ) → p < count → Listed g p
@@ -85,19 +100,33 @@ module _ {rows : List ℕ} {count : ℕ} {g : Grammar} (r : Rows rows count g) w
       back : (n : ℕ) → T (getD (productive g) n false) → T (members w n)
       back = productive-least (r .sound) (setOf w) (closed-grammar true (members w) (productiveSymbol (setOf w)) (fits-productive (setOf w)) (st .closed))
 
-  pub reachable-marks : (x w : ℕ) → setOf x ≡ singleton (g .start) → Settled (Within (ReachAt rows) 0 count) x w → Marks w (reachable g)
-  reachable-marks x w one st = record { is = λ n. both-true (members w n) (getD (reachable g) n false) (to n) (back n) }
+  -- a word that may have the bit of the end too
+  pub reachable-below : (x w : ℕ) → setOf x ≡ singleton (g .start) → Settled (Within (ReachAt rows) 0 count) x w → (n : ℕ) → n < nonterminalCount g → members w n ≡ getD (reachable g) n false
+  reachable-below x w one st n low = both-true (members w n) (getD (reachable g) n false) to (back n)
     where
-      closed : (p : ℕ) → p < count → ReachAt rows p (λ n. getD (reachable g) n false)
-      closed p l t n a =
+      reached : ℕ → Bool
+      reached m = getD (reachable g) m false || eqb endNumber m
+
+      known-only : (m : ℕ) → m < nonterminalCount g → T (reached m) → T (getD (reachable g) m false)
+      known-only m l t = ⊎-elim (λ h. h) (λ h. absurd (let e : 63 ≡ m = eqb→eq endNumber m h in let a = r .narrow in omega arith)) (or-cases (getD (reachable g) m false) (eqb endNumber m) t)
+
+      closed : (p : ℕ) → p < count → ReachAt rows p reached
+      closed p l t m a =
           let q = listed p l in
-          let b = rw (r .right p l) at a in
-          reachable-closed (r .sound) n p (known-in g n (productionAt g p .right) (symbols (r .sound) p q) b) q (rw (r .left p l) at t) b
+          let c = known-only (productionAt g p .left) (lefts (r .sound) p q) (rw (r .left p l) at t) in
+          go (bit-cases m (productionAt g p .right) (rw (r .right p l) at a)) (λ b. reachable-closed (r .sound) m p (known-in g m (productionAt g p .right) (symbols (r .sound) p q) b) q c b)
+        where
+          go : T (any (isNonterminal m) (productionAt g p .right)) ⊎ T (eqb endNumber m) → (T (any (isNonterminal m) (productionAt g p .right)) → T (getD (reachable g) m false)) → T (reached m)
+          go (inl b) k = or-left (getD (reachable g) m false) (eqb endNumber m) (k b)
+          go (inr e) k = or-right (getD (reachable g) m false) (eqb endNumber m) e
 
-      to : (n : ℕ) → T (members w n) → T (getD (reachable g) n false)
-      to = st .least (λ n. getD (reachable g) n false) (record { at = λ p _. closed p }) (λ n t. rw (single-only (g .start) n (rw one at t)) (reachable-start (r .sound)))
+      begun : (m : ℕ) → T (members x m) → T (reached m)
+      begun m t = rw (single-only (g .start) m (rw one at t)) (or-left (getD (reachable g) (g .start) false) (eqb endNumber (g .start)) (reachable-start (r .sound)))
 
-      back : (n : ℕ) → T (getD (reachable g) n false) → T (members w n)
+      to : T (members w n) → T (getD (reachable g) n false)
+      to t = known-only n low (st .least reached (record { at = λ p _. closed p }) begun n t)
+
+      back : (m : ℕ) → T (getD (reachable g) m false) → T (members w m)
       back =
           reachable-least (r .sound) (setOf w) (st .keeps (g .start) (rw one (single-has (g .start) (let a = r .sound .start in let b = r .narrow in omega arith))))
-          (λ n p l t a. let m = counted p l in st .closed .at p zero-le m (rw (r .left p m) t) n (rw (r .right p m) a))
+          (λ m p l t a. let c = counted p l in st .closed .at p zero-le c (rw (r .left p c) t) m (rw (r .right p c) (bit-of m (productionAt g p .right) a)))

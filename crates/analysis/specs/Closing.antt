@@ -1,32 +1,113 @@
--- The steps of closing: nullable and productive.
-use Prim.Native.Nat.{ℕ, _<_, zero-le}
+-- The steps of closing: nullable and productive. The word of a right side lies in the set, with the bit of the tokens where they may stand.
+use Prim.Native.Nat.{ℕ, suc, _-_, _^_, _<_, zero-le, suc-le-suc}
+use native.Mathlib.Decide.{decLt}
 use native.Mathlib.Omega.{arith}
-use mathlib.Core.Path.{_≡_}
+use mathlib.Core.Path.{_≡_, sym}
+use mathlib.Core.Logic.{⊎-elim}
 use mathlib.Core.Bool.{Bool, true, false}
-use mathlib.Core.List.{List}
+use mathlib.Core.List.{List, [], _∷_}
 use lib.Bits.{bitOr}
-use Rattle.meaning.specs.Base.{all}
-use Rattle.meaning.specs.Sets.{singleton}
-use Rattle.theory_base.specs.Members.{true→T}
+use lib.Dec.{T, eqb→eq, eqb-refl, lit<, ltb, ltb→lt, lt→ltb}
+use lib.ListN.{length, getD}
+use Rattle.meaning.specs.Base.{all, any}
+use Rattle.meaning.specs.Grammar.{Symbol, terminal, nonterminal}
+use Rattle.meaning.specs.Sets.{singleton, endNumber}
+use Rattle.meaning.specs.Table.{symbolOf}
+use Rattle.theory_base.specs.Members.{and, both, or-cases, or-left, or-right}
 use Rattle.theory_sets.specs.Tests.{all-map}
 use Rattle.theory_sets.specs.TokenSets.{single-has, single-only}
-use Rattle.token_set.specs.Words.{setOf}
-use Rattle.analysis.specs.Rows.{Image, leftAt, rightAt}
-use Rattle.analysis.specs.Views.{members, Inside, Within, fit, fit-more, ClosedAt}
-use Rattle.analysis.specs.Growth.{Grown, grown-none, grown-or}
+use Rattle.token_set.specs.Words.{setOf, set-end}
+use Rattle.analysis.specs.Rows.{Image, leftAt, rightAt, byteAt, sizeAt, right-length, right-at, symbol-terminal, symbol-nonterminal}
+use Rattle.analysis.specs.Views.{members, Inside, Within, fit, fit-more, symbolBit, rightBy, ClosedAt}
+use Rattle.analysis.specs.Growth.{Grown, grown-none, grown-or, Rising, or-is, none-in}
 
-module _ (b : Bool) {rows : List ℕ} {count : ℕ} (image : Image rows count) (k : ℕ) (lt : k < count) (s : ℕ) where
+-- only the first 48 numbers are in
+pub record Narrow (w : ℕ) : Type 0 where
+  pub low : Inside (members w) (λ n. ltb n 48)
+
+abbrev lowSymbol : Symbol → Bool
+lowSymbol (terminal t) = true
+lowSymbol (nonterminal m) = ltb m 48
+
+all-by : (f : Symbol → Bool) (d : Symbol) (xs : List Symbol) → ((i : ℕ) → i < length xs → T (f (getD xs i d))) → T (all f xs)
+all-by f d [] h = tt
+all-by f d (x ∷ xs) h = and (f x) (all f xs) (h 0 (suc-le-suc zero-le)) (all-by f d xs (λ i l. h (suc i) (suc-le-suc l)))
+
+low-right : {rows : List ℕ} {count : ℕ} → Image rows count → (p : ℕ) → p < count → T (all lowSymbol (rightAt rows p))
+low-right {rows} {count} image p lt = all-by lowSymbol (symbolOf 0) (rightAt rows p) (λ i l. at i (rw (right-length rows count (image .room) p lt (image .sizes p lt)) at l))
+  where
+    small : (n : ℕ) → n < 176 → Dec (n < 128) → T (lowSymbol (symbolOf n))
+    small n l (yes h) = rw (symbol-terminal n h) tt
+    small n l (no h) = rw (symbol-nonterminal n (omega arith)) (lt→ltb (n - 128) 48 (omega arith))
+
+    at : (i : ℕ) → i < sizeAt rows p → T (lowSymbol (getD (rightAt rows p) i (symbolOf 0)))
+    at i l = rw (right-at rows count (image .room) p lt (image .sizes p lt) i l) (small (byteAt rows p i) (image .symbols p i lt l) (decLt (byteAt rows p i) 128))
+
+-- `known` has what `see` has, and the bit of the end where tokens may stand
+pub record Knows (b : Bool) (see known : ℕ → Bool) : Type 0 where
+  pub tokens : T b → T (known endNumber)
+  pub allowed : T (known endNumber) → T b
+  pub into : Inside see known
+  pub outof : (m : ℕ) → m < 48 → T (known m) → T (see m)
+
+pub knows-none : (s : ℕ) → Narrow s → Knows false (members s) (members s)
+knows-none s w = record { tokens = λ t. absurd t; allowed = λ t. w .low endNumber t; into = λ n t. t; outof = λ m l t. t }
+
+pub knows-tokens : (s : ℕ) → Knows true (members s) (members (bitOr s (2 ^ 63)))
+knows-tokens s =
+    record {
+      tokens = λ _. rw (or-is s (2 ^ 63) endNumber) (or-right (members s endNumber) (members (2 ^ 63) endNumber) (rw set-end (single-has endNumber (lit< tt))));
+      allowed = λ _. tt;
+      into = λ n t. rw (or-is s (2 ^ 63) n) (or-left (members s n) (members (2 ^ 63) n) t);
+      outof = λ m l t. ⊎-elim (λ h. h) (other m l) (or-cases (members s m) (members (2 ^ 63) m) (rw (or-is s (2 ^ 63) m) at t));
+    }
+  where
+    other : (m : ℕ) → m < 48 → T (members (2 ^ 63) m) → T (members s m)
+    other m l h = let e : m ≡ 63 = single-only endNumber m (rw set-end at h) in absurd (omega arith)
+
+-- all symbols of a string are in where its bits are
+module _ {b : Bool} {see known : ℕ → Bool} (k : Knows b see known) where
+  all-known : (xs : List Symbol) → T (all lowSymbol xs) → ((n : ℕ) → T (any (symbolBit n) xs) → T (known n)) → T (all (fit b see) xs)
+  all-known [] low h = tt
+  all-known (x ∷ xs) low h =
+      let w = both (lowSymbol x) (all lowSymbol xs) low in
+      and (fit b see x) (all (fit b see) xs) (one x (w .0) (λ n t. h n (or-left (symbolBit n x) (any (symbolBit n) xs) t))) (all-known xs (w .1) (λ n t. h n (or-right (symbolBit n x) (any (symbolBit n) xs) t)))
+    where
+      one : (x : Symbol) → T (lowSymbol x) → ((n : ℕ) → T (symbolBit n x) → T (known n)) → T (fit b see x)
+      one (terminal t) l f = k .allowed (f endNumber (eqb-refl endNumber))
+      one (nonterminal m) l f = k .outof m (ltb→lt m 48 l) (f m (eqb-refl m))
+
+  known-all : (xs : List Symbol) (n : ℕ) → T (all (fit b see) xs) → T (any (symbolBit n) xs) → T (known n)
+  known-all [] n f t = absurd t
+  known-all (x ∷ xs) n f t = ⊎-elim (here x (both (fit b see x) (all (fit b see) xs) f .0)) (known-all xs n (both (fit b see x) (all (fit b see) xs) f .1)) (or-cases (symbolBit n x) (any (symbolBit n) xs) t)
+    where
+      here : (x : Symbol) → T (fit b see x) → T (symbolBit n x) → T (known n)
+      here (terminal s) f e = rw (sym (eqb→eq endNumber n e)) (k .tokens f)
+      here (nonterminal m) f e = rw (sym (eqb→eq m n e)) (k .into m f)
+
+module _ (b : Bool) {rows : List ℕ} {count : ℕ} (image : Image rows count) (k : ℕ) (lt : k < count) (s known x : ℕ) (knows : Knows b (members s) (members known)) (is : (n : ℕ) → members x n ≡ rightBy rows k n) where
   abbrev pub Closes : ℕ → Type 0
   Closes r = Grown (Within (ClosedAt b rows) 0 count) (ClosedAt b rows k) s r
 
-  pub closes-in : members s (leftAt rows k) ≡ true → Closes s
-  closes-in e = grown-none s (λ _. true→T _ e)
+  pub closes-not : (Inside (members x) (members known) → ⊥) → Closes s
+  closes-not out = grown-none s (λ t. absurd (out (λ n h. known-all knows (rightAt rows k) n t (rw (is n) at h))))
 
-  pub closes-not : all (fit b (members s)) (rightAt rows k) ≡ false → Closes s
-  closes-not e = grown-none s (λ t. absurd (rw e at t))
-
-  pub closes-new : (x : ℕ) → all (fit b (members s)) (rightAt rows k) ≡ true → setOf x ≡ singleton (leftAt rows k) → Closes (bitOr s x)
-  closes-new x e one = grown-or s x fine (λ sub t. sub (leftAt rows k) (rw one (single-has (leftAt rows k) (omega (arith, image .lefts k lt)))))
+  pub closes-new : (y : ℕ) → Inside (members x) (members known) → setOf y ≡ singleton (leftAt rows k) → Closes (bitOr s y)
+  closes-new y i one = grown-or s y fine (λ sub t. sub (leftAt rows k) (rw one (single-has (leftAt rows k) (omega (arith, image .lefts k lt)))))
     where
-      fine : (see : ℕ → Bool) → Within (ClosedAt b rows) 0 count see → Inside (members s) see → Inside (members x) see
-      fine see c i n t = rw (single-only (leftAt rows k) n (rw one at t)) (c .at k zero-le lt (all-map (fit b (members s)) (fit b see) (fit-more b (members s) see i) (rightAt rows k) (true→T _ e)))
+      fits : T (all (fit b (members s)) (rightAt rows k))
+      fits = all-known knows (rightAt rows k) (low-right image k lt) (λ n t. i n (rw (is n) t))
+
+      fine : (see : ℕ → Bool) → Within (ClosedAt b rows) 0 count see → Inside (members s) see → Inside (members y) see
+      fine see c sub n t = rw (single-only (leftAt rows k) n (rw one at t)) (c .at k zero-le lt (all-map (fit b (members s)) (fit b see) (fit-more b (members s) see sub) (rightAt rows k) fits))
+
+-- left sides are low
+module _ (b : Bool) {rows : List ℕ} {count : ℕ} (image : Image rows count) where
+  low-closed : Within (ClosedAt b rows) 0 count (λ n. ltb n 48)
+  low-closed = record { at = λ p _ l _. lt→ltb (leftAt rows p) 48 (image .lefts p l) }
+
+  pub narrow-grown : {P : (ℕ → Bool) → Type 0} (s r : ℕ) → Grown (Within (ClosedAt b rows) 0 count) P s r → Narrow s → Narrow r
+  narrow-grown s r g w = record { low = g .sound (λ n. ltb n 48) low-closed (w .low) }
+
+  pub narrow-rising : (s : ℕ) → Rising (Within (ClosedAt b rows) 0 count) 0 s → Narrow s
+  narrow-rising s w = record { low = w .least (λ n. ltb n 48) low-closed (λ n t. absurd (rw (none-in n) at t)) }

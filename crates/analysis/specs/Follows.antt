@@ -7,7 +7,7 @@ use mathlib.Core.Logic.{⊎-elim}
 use mathlib.Core.Bool.{Bool, true, false, _&&_, _||_}
 use mathlib.Core.List.{List, [], _∷_}
 use lib.Bits.{bitOr}
-use lib.Dec.{T, lit<}
+use lib.Dec.{T, lit<, ltb, ltb→lt, lt→ltb}
 use lib.ListN.{getD, length, drop, replicate}
 use lib.Seq.{drop-drop}
 use Rattle.meaning.specs.Base.{all}
@@ -18,10 +18,10 @@ use Rattle.token_set.specs.Words.{setOf, set-end}
 use Rattle.theory_base.specs.Members.{both}
 use Rattle.theory_sets.specs.TokenSets.{or-false, single-has, single-only}
 use Rattle.analysis.specs.Rows.{Image, leftAt, sizeAt, byteAt, rightAt, right-cons, right-back, right-end, symbol-terminal, symbol-nonterminal}
-use Rattle.analysis.specs.Views.{members, sees, Inside, fit, turn, opens}
+use Rattle.analysis.specs.Views.{members, sees, Inside, fit, turn, opens, Below}
 use Rattle.analysis.specs.Growth.{or-is, none-in}
-use Rattle.analysis.specs.Tables.{Words, Joined, zeros-none, zeros-words}
-use Rattle.analysis.specs.Passes.{Passed, passed-join}
+use Rattle.analysis.specs.Tables.{Added, Short, zeros-none}
+use Rattle.analysis.specs.Spreading.{Spread}
 
 -- from place i of production p on
 pub record BaseFrom (gone : ℕ → Bool) (first rows : List ℕ) (u p i : ℕ) (see : ℕ → Bool) : Type 0 where
@@ -44,36 +44,36 @@ pub record FollowClosed (gone : ℕ → Bool) (first rows : List ℕ) (count u :
 -- a table filled once, with what then holds of it
 pub record Filled (C P : ℕ → (ℕ → Bool) → Type 0) (s r : List ℕ) : Type 0 where
   pub size : length r ≡ length s
-  pub words : Words s → Words r
   pub keeps : (u : ℕ) → Inside (sees s u) (sees r u)
   pub sound : (u : ℕ) (see : ℕ → Bool) → C u see → Inside (sees s u) see → Inside (sees r u) see
   pub holds : (u : ℕ) → P u (sees r u)
 
 module _ {C P : ℕ → (ℕ → Bool) → Type 0} (s : List ℕ) where
   pub filled-none : ((u : ℕ) → P u (sees s u)) → Filled C P s s
-  filled-none p = record { size = refl; words = λ w. w; keeps = λ u n t. t; sound = λ u see c k. k; holds = p }
+  filled-none p = record { size = refl; keeps = λ u n t. t; sound = λ u see c k. k; holds = p }
 
 module _ {C P Q R : ℕ → (ℕ → Bool) → Type 0} (s r q : List ℕ) where
   pub filled-then : Filled C P s r → Filled C Q r q → ((u : ℕ) → Inside (sees r u) (sees q u) → P u (sees r u) → Q u (sees q u) → R u (sees q u)) → Filled C R s q
   filled-then a b joins =
       record {
         size = b .size ∙ a .size;
-        words = λ w. b .words (a .words w);
         keeps = λ u n t. b .keeps u n (a .keeps u n t);
         sound = λ u see c k. b .sound u see c (a .sound u see c k);
         holds = λ u. joins u (b .keeps u) (a .holds u) (b .holds u);
       }
 
+pub filled-map : {C P Q : ℕ → (ℕ → Bool) → Type 0} (s r : List ℕ) → Filled C P s r → ((u : ℕ) → P u (sees r u) → Q u (sees r u)) → Filled C Q s r
+filled-map s r a f = record { size = a .size; keeps = a .keeps; sound = a .sound; holds = λ u. f u (a .holds u) }
+
 -- the set of symbol x has got what `add` has
 pub record Gets (x : Symbol) (add u : ℕ) (see : ℕ → Bool) : Type 0 where
   pub got : (n : ℕ) → x ≡ nonterminal n → T (members add u) → T (see n)
 
-pub filled-join : {C : ℕ → (ℕ → Bool) → Type 0} (s r : List ℕ) (x : Symbol) (add : ℕ) (c : Bool) → Joined s x add c r
+pub filled-join : {C : ℕ → (ℕ → Bool) → Type 0} (s r : List ℕ) (x : Symbol) (add : ℕ) → Added s x add r
     → ((u : ℕ) (see : ℕ → Bool) → C u see → T (members add u) → (n : ℕ) → x ≡ nonterminal n → T (see n)) → Filled C (Gets x add) s r
-filled-join s r x add c j fine =
+filled-join s r x add j fine =
     record {
       size = j .size;
-      words = j .words;
       keeps = j .keeps;
       sound = λ u see k i n t. ⊎-elim (i n) (λ w. fine u see k (w .1) n (w .0)) (j .only u n t);
       holds = λ u. record { got = λ n e t. j .adds n e u t };
@@ -179,49 +179,60 @@ module _ (gone : ℕ → Bool) {rows : List ℕ} {count : ℕ} (image : Image ro
   pub tail-all : (i : ℕ) → i ≡ 0 → T (all (fit false gone) (drop i (rightAt rows k))) → Tail gone rows k i
   tail-all i z t = record { upto = omega arith; inner = λ j l. later i (j + 1) (omega arith) t; outer = λ j n rest l q a. omega arith }
 
--- places r to i - 1 of production k have got what comes after its left side
-pub record TailTo (rows : List ℕ) (k r i : ℕ) (see : ℕ → Bool) : Type 0 where
-  pub at : (j n : ℕ) (rest : List Symbol) → r ≤ j → j < i → drop j (rightAt rows k) ≡ nonterminal n ∷ rest → T (see (leftAt rows k)) → T (see n)
+-- from place i of production p on: a nonterminal behind which all derives nothing has an edge to the left side
+pub record EdgeFrom (gone : ℕ → Bool) (rows : List ℕ) (p i b : ℕ) (see : ℕ → Bool) : Type 0 where
+  pub at : (j n : ℕ) (rest : List Symbol) → i ≤ j → drop j (rightAt rows p) ≡ nonterminal n ∷ rest → T (all (fit false gone) rest) → leftAt rows p ≡ b → T (see n)
 
-module _ (gone : ℕ → Bool) {rows : List ℕ} {count : ℕ} (image : Image rows count) (k : ℕ) (lt : k < count) (r : ℕ) (tail : Tail gone rows k r) where
-  tail-fine : (first s : List ℕ) (add i : ℕ) → r ≤ i → i < sizeAt rows k → ((u : ℕ) → T (members add u) → T (sees s u (leftAt rows k)))
-      → (u : ℕ) (see : ℕ → Bool) → FollowClosed gone first rows count u see → Inside (sees s u) see → T (members add u) → (n : ℕ) → symbolOf (byteAt rows k i) ≡ nonterminal n → T (see n)
-  tail-fine first s add i l m from u see c sub t n e =
-      c .tails .tail k lt .at i n (drop (i + 1) (rightAt rows k)) zero-le (right-cons image k lt i m ∙ ap (λ (x : Symbol). x ∷ drop (i + 1) (rightAt rows k)) e) (tail .inner i l) (sub (leftAt rows k) (from u t))
+-- the productions before k
+pub record EdgesTo (gone : ℕ → Bool) (rows : List ℕ) (k b : ℕ) (see : ℕ → Bool) : Type 0 where
+  pub edge : (p : ℕ) → p < k → EdgeFrom gone rows p 0 b see
 
-  pub tail-step : (first t s q : List ℕ) (i : ℕ) (c : Bool) → r ≤ i → i < sizeAt rows k → ((u : ℕ) → Inside (sees t u) (sees s u)) → Joined s (symbolOf (byteAt rows k i)) (getD t (leftAt rows k) 0) c q
-      → Passed (FollowClosed gone first rows count) (Gets (symbolOf (byteAt rows k i)) (getD t (leftAt rows k) 0)) s q c
-  tail-step first t s q i c l m keeps j =
-      passed-join s q (symbolOf (byteAt rows k i)) (getD t (leftAt rows k) 0) c j (tail-fine first s (getD t (leftAt rows k) 0) i l m (λ u. keeps u (leftAt rows k)))
-      (λ adds u. record { got = λ n e. adds n e u })
+-- places r to i - 1 of production k have got theirs
+pub record EdgeTo (rows : List ℕ) (k r i b : ℕ) (see : ℕ → Bool) : Type 0 where
+  pub at : (j n : ℕ) (rest : List Symbol) → r ≤ j → j < i → drop j (rightAt rows k) ≡ nonterminal n ∷ rest → leftAt rows k ≡ b → T (see n)
 
-  pub tail-more : (add i : ℕ) (u : ℕ) (see : ℕ → Bool) → i < sizeAt rows k → (T (see (leftAt rows k)) → T (members add u)) → TailTo rows k r i see → Gets (symbolOf (byteAt rows k i)) add u see → TailTo rows k r (i + 1) see
-  tail-more add i u see m from b g = record { at = λ j n xs l h e t. go j n xs l h e t (decLt j i) }
+module _ (gone : ℕ → Bool) {rows : List ℕ} {count : ℕ} (image : Image rows count) (k : ℕ) (lt : k < count) (r : ℕ) (tail : Tail gone rows k r) (x : ℕ) (one : setOf x ≡ singleton (leftAt rows k)) where
+  pub edge-step : (s q : List ℕ) (i : ℕ) → r ≤ i → i < sizeAt rows k → Added s (symbolOf (byteAt rows k i)) x q → Filled (EdgesTo gone rows count) (Gets (symbolOf (byteAt rows k i)) x) s q
+  edge-step s q i l m j = filled-join s q (symbolOf (byteAt rows k i)) x j fine
     where
-      go : (j n : ℕ) (xs : List Symbol) → r ≤ j → j < i + 1 → drop j (rightAt rows k) ≡ nonterminal n ∷ xs → T (see (leftAt rows k)) → Dec (j < i) → T (see n)
-      go j n xs l h e t (yes q) = b .at j n xs l q e t
-      go j n xs l h e t (no q) =
+      fine : (b : ℕ) (see : ℕ → Bool) → EdgesTo gone rows count b see → T (members x b) → (n : ℕ) → symbolOf (byteAt rows k i) ≡ nonterminal n → T (see n)
+      fine b see c t n e =
+          c .edge k lt .at i n (drop (i + 1) (rightAt rows k)) zero-le (right-cons image k lt i m ∙ ap (λ (y : Symbol). y ∷ drop (i + 1) (rightAt rows k)) e) (tail .inner i l)
+          (sym (single-only (leftAt rows k) b (rw one at t)))
+
+  pub edge-more : (i b : ℕ) (f h : ℕ → Bool) → i < sizeAt rows k → Inside f h → EdgeTo rows k r i b f → Gets (symbolOf (byteAt rows k i)) x b h → EdgeTo rows k r (i + 1) b h
+  edge-more i b f h m sub c g = record { at = λ j n xs l v e t. go j n xs l v e t (decLt j i) }
+    where
+      own : leftAt rows k ≡ b → T (members x b)
+      own t = rw (one, ← t) (single-has (leftAt rows k) (omega (arith, image .lefts k lt)))
+
+      go : (j n : ℕ) (xs : List Symbol) → r ≤ j → j < i + 1 → drop j (rightAt rows k) ≡ nonterminal n ∷ xs → leftAt rows k ≡ b → Dec (j < i) → T (h n)
+      go j n xs l v e t (yes q) = sub n (c .at j n xs l q e t)
+      go j n xs l v e t (no q) =
           let z : j ≡ i = omega arith in
           let d : symbolOf (byteAt rows k i) ∷ drop (i + 1) (rightAt rows k) ≡ nonterminal n ∷ xs = sym (right-cons image k lt i m) ∙ ap (λ (y : ℕ). drop y (rightAt rows k)) (sym z) ∙ e in
-          let x : symbolOf (byteAt rows k i) ≡ nonterminal n = cc in
-          g .got n x (from t)
+          let y : symbolOf (byteAt rows k i) ≡ nonterminal n = cc in
+          g .got n y (own t)
 
-  pub tail-done : (i : ℕ) (see : ℕ → Bool) → sizeAt rows k ≤ i → TailTo rows k r i see → TailFrom gone rows k 0 see
-  tail-done i see m b = record { at = λ j n xs l e a t. go j n xs e a t (decLt j r) (decLt j (sizeAt rows k)) }
+  pub edge-done : (i b : ℕ) (see : ℕ → Bool) → sizeAt rows k ≤ i → EdgeTo rows k r i b see → EdgeFrom gone rows k 0 b see
+  edge-done i b see m c = record { at = λ j n xs l e a t. go j n xs e a t (decLt j r) (decLt j (sizeAt rows k)) }
     where
-      go : (j n : ℕ) (xs : List Symbol) → drop j (rightAt rows k) ≡ nonterminal n ∷ xs → T (all (fit false gone) xs) → T (see (leftAt rows k)) → Dec (j < r) → Dec (j < sizeAt rows k) → T (see n)
+      go : (j n : ℕ) (xs : List Symbol) → drop j (rightAt rows k) ≡ nonterminal n ∷ xs → T (all (fit false gone) xs) → leftAt rows k ≡ b → Dec (j < r) → Dec (j < sizeAt rows k) → T (see n)
       go j n xs e a t (yes q) d = absurd (tail .outer j n xs q e a)
-      go j n xs e a t (no q) (yes d) = b .at j n xs (omega arith) (omega arith) e t
+      go j n xs e a t (no q) (yes d) = c .at j n xs (omega arith) (omega arith) e t
       go j n xs e a t (no q) (no d) = absurd (let f : [] ≡ nonterminal n ∷ xs = sym (right-end image k lt j (omega arith)) ∙ e in let z : _≡_ {A = ℕ} 0 1 = cc in omega arith)
 
-pub tails-more : (gone : ℕ → Bool) (rows : List ℕ) (k : ℕ) (see : ℕ → Bool) → TailsTo gone rows k see → TailFrom gone rows k 0 see → TailsTo gone rows (k + 1) see
-tails-more gone rows k see b g = record { tail = λ p l. go p l (decLt p k) }
+edge-lift : {gone : ℕ → Bool} {rows : List ℕ} {p b : ℕ} (f h : ℕ → Bool) → Inside f h → EdgeFrom gone rows p 0 b f → EdgeFrom gone rows p 0 b h
+edge-lift f h sub c = record { at = λ j n xs l e a t. sub n (c .at j n xs l e a t) }
+
+pub edges-more : (gone : ℕ → Bool) (rows : List ℕ) (k b : ℕ) (f h : ℕ → Bool) → Inside f h → EdgesTo gone rows k b f → EdgeFrom gone rows k 0 b h → EdgesTo gone rows (k + 1) b h
+edges-more gone rows k b f h sub c g = record { edge = λ p l. go p l (decLt p k) }
   where
-    here : (p : ℕ) → p ≡ k → TailFrom gone rows p 0 see
+    here : (p : ℕ) → p ≡ k → EdgeFrom gone rows p 0 b h
     here p e = rw e g
 
-    go : (p : ℕ) → p < k + 1 → Dec (p < k) → TailFrom gone rows p 0 see
-    go p l (yes m) = b .tail p m
+    go : (p : ℕ) → p < k + 1 → Dec (p < k) → EdgeFrom gone rows p 0 b h
+    go p l (yes m) = edge-lift f h sub (c .edge p m)
     go p l (no m) = here p (omega arith)
 
 -- ---- the whole
@@ -230,20 +241,16 @@ pub record Followed (gone : ℕ → Bool) (first rows : List ℕ) (count start :
   pub closed : (u : ℕ) → FollowClosed gone first rows count u (sees r u)
   pub least : (u : ℕ) (see : ℕ → Bool) → FollowClosed gone first rows count u see → (u ≡ endNumber → T (see start)) → Inside (sees r u) see
 
--- on the way there
+-- before it is spread
 pub record Following (gone : ℕ → Bool) (first rows : List ℕ) (count start : ℕ) (t : List ℕ) : Type 0 where
-  pub size : length t ≡ 48
-  pub words : Words t
   pub begun : T (sees t endNumber start)
   pub bases : (u : ℕ) → BasesTo gone first rows count u (sees t u)
   pub least : (u : ℕ) (see : ℕ → Bool) → FollowClosed gone first rows count u see → (u ≡ endNumber → T (see start)) → Inside (sees t u) see
 
 module _ (gone : ℕ → Bool) (first rows : List ℕ) (count start : ℕ) where
-  pub following-start : (s t : List ℕ) (c : Bool) → Joined (replicate 48 0) (nonterminal start) (2 ^ 63) c s → Filled (FollowClosed gone first rows count) (BasesTo gone first rows count) s t → Following gone first rows count start t
-  following-start s t c j f =
+  pub following : (s t : List ℕ) → Added (replicate 48 0) (nonterminal start) (2 ^ 63) s → Filled (FollowClosed gone first rows count) (BasesTo gone first rows count) s t → Following gone first rows count start t
+  following s t j f =
       record {
-        size = f .size ∙ j .size;
-        words = f .words (j .words (zeros-words 48));
         begun = f .keeps endNumber start (j .adds start refl endNumber (rw set-end (single-has endNumber (lit< tt))));
         bases = f .holds;
         least = λ u see k b. f .sound u see k (λ n h. ⊎-elim (λ z. absurd (zeros-none 48 u n z)) (there u see b n) (j .only u n h));
@@ -255,16 +262,33 @@ module _ (gone : ℕ → Bool) (first rows : List ℕ) (count start : ℕ) where
           let e : start ≡ n = cc in
           rw (sym e) (b (single-only endNumber u (rw set-end at (w .1))))
 
-  module _ (s t : List ℕ) (f : Following gone first rows count start s) where
-    pub following-on : (c : Bool) → Passed (FollowClosed gone first rows count) (λ u. TailsTo gone rows count) s t c → Following gone first rows count start t
-    following-on c p =
-        record {
-          size = p .size ∙ f .size;
-          words = p .words (f .words);
-          begun = p .keeps endNumber start (f .begun);
-          bases = λ u. record { base = λ q l. base-lift (sees s u) (sees t u) (p .keeps u) (f .bases u .base q l) };
-          least = λ u see k b. p .sound u see k (f .least u see k b);
-        }
+  module _ (t e : List ℕ) (f : Following gone first rows count start t) (d : Filled (EdgesTo gone rows count) (EdgesTo gone rows count) (replicate 48 0) e) where
+    edges-in : (b : ℕ) (see : ℕ → Bool) → EdgesTo gone rows count b see → Inside (sees e b) see
+    edges-in b see c = d .sound b see c (λ n h. absurd (zeros-none 48 b n h))
 
-    pub followed : Passed (FollowClosed gone first rows count) (λ u. TailsTo gone rows count) s t false → Followed gone first rows count start t
-    followed p = rw (p .stuck refl .0) (record { begun = f .begun; closed = λ u. record { bases = f .bases u; tails = p .stuck refl .1 u }; least = f .least })
+    -- only nonterminals of the table have edges and sets
+    module _ (n : ℕ) (b : Below n rows count) where
+      pub edges-short : Short n e
+      edges-short = record { beyond = λ a u l h. absurd (let m = ltb→lt a n (edges-in u (λ x. ltb x n) (record { edge = λ p q. record { at = λ j x xs _ w _ _. lt→ltb x n (b .rights p j x xs q w) } }) a h) in omega arith) }
+
+      pub follow-short : start < n → Short n t
+      follow-short s =
+          record { beyond = λ a u l h. absurd (let m = ltb→lt a n (f .least u (λ x. ltb x n) (within u) (λ _. lt→ltb start n s) a h) in omega arith) }
+        where
+          within : (u : ℕ) → FollowClosed gone first rows count u (λ x. ltb x n)
+          within u =
+              record {
+                bases = record { base = λ p q. record { at = λ j x xs _ w _. lt→ltb x n (b .rights p j x xs q w) } };
+                tails = record { tail = λ p q. record { at = λ j x xs _ w _ _. lt→ltb x n (b .rights p j x xs q w) } };
+              }
+
+    pub followed : (r : List ℕ) → Spread e t r → Followed gone first rows count start r
+    followed r sp =
+        record {
+          begun = sp .closed endNumber .own start (f .begun);
+          closed = λ u. record { bases = record { base = λ p l. base-lift (sees t u) (sees r u) (sp .closed u .own) (f .bases u .base p l) }; tails = record { tail = λ p l. record { at = after u p l } } };
+          least = λ u see k b. sp .least u see (record { own = f .least u see k b; edge = λ a c h s. edges-in c see (record { edge = λ p l. record { at = λ j n xs _ q v w. k .tails .tail p l .at j n xs zero-le q v (rw w s) } }) a h });
+        }
+      where
+        after : (u p : ℕ) → p < count → (j n : ℕ) (xs : List Symbol) → 0 ≤ j → drop j (rightAt rows p) ≡ nonterminal n ∷ xs → T (all (fit false gone) xs) → T (sees r u (leftAt rows p)) → T (sees r u n)
+        after u p l j n xs z q a h = sp .closed u .edge n (leftAt rows p) (d .holds (leftAt rows p) .edge p l .at j n xs zero-le q a refl) h

@@ -12,14 +12,13 @@ use Rattle.meaning.specs.Decide.{isLeftRecursive}
 use Rattle.theory_sets.specs.Nullable.{nullable-closed}
 use Rattle.token_set.specs.Words.{setOf}
 use Rattle.analysis.specs.Rows.{Rows, leftAt}
-use Rattle.analysis.specs.Views.{members, sees, Within, ClosedAt, ReachAt, FrontAt}
+use Rattle.analysis.specs.Views.{members, sees, Within, WithinAll, ClosedAt, ReachAt, FrontAt, LeadAt}
 use Rattle.analysis.specs.Growth.{Settled, SetsTo, none-in}
-use Rattle.analysis.specs.Passes.{WithinAll, SettledTable}
+use Rattle.analysis.specs.Tables.{SettledTable}
 use Rattle.analysis.specs.Follows.{Followed}
-use Rattle.analysis.specs.Recursion.{Recursive}
 use Rattle.analysis.specs.Numbers.{Found, found-same}
 use Rattle.analysis.specs.Starts.{startsBy}
-use Rattle.analysis.specs.Agreeing.{Marks, counted, productive-marks, reachable-marks}
+use Rattle.analysis.specs.Agreeing.{Marks, counted, productive-marks, reachable-below}
 use Rattle.analysis.specs.TokenAgreeing.{first-holds, follow-holds, starts-is}
 use Rattle.analysis.specs.RecursionAgreeing.{recursive-is}
 use Rattle.analysis.specs.Finding.{isUseless}
@@ -28,10 +27,10 @@ module _ {rows : List ℕ} {count : ℕ} {g : Grammar} (r : Rows rows count g) w
   pub useless-found : (x reached live n : ℕ) → setOf x ≡ singleton (g .start) → Settled (Within (ReachAt rows) 0 count) x reached → Settled (Within (ClosedAt true rows) 0 count) 0 live → Found (λ i. not (members reached i && members live i)) (nonterminalCount g) n → Found (isUseless g) (nonterminalCount g) n
   useless-found x reached live n one a b =
       found-same (λ i. not (members reached i && members live i)) (isUseless g) (nonterminalCount g) n
-      (λ j l. ap₂ (λ (p q : Bool). not (p && q)) (reachable-marks r x reached one a .is j) (productive-marks r live b .is j))
+      (λ j l. ap₂ (λ (p q : Bool). not (p && q)) (reachable-below r x reached one a j l) (productive-marks r live b .is j))
 
-  pub recursive-found : (null set n : ℕ) → Marks null (nullable g) → Recursive (members null) rows count set → Found (members set) (nonterminalCount g) n → Found (isLeftRecursive g) (nonterminalCount g) n
-  recursive-found null set n gone st = found-same (members set) (isLeftRecursive g) (nonterminalCount g) n (λ j l. recursive-is r null gone set st j)
+  pub recursive-found : (null n : ℕ) (t : List ℕ) → Marks null (nullable g) → SettledTable (WithinAll (LeadAt (members null) rows) 0 count) (replicate 48 0) t → Found (λ i. sees t i i) (nonterminalCount g) n → Found (isLeftRecursive g) (nonterminalCount g) n
+  recursive-found null n t gone st = found-same (λ i. sees t i i) (isLeftRecursive g) (nonterminalCount g) n (λ j l. recursive-is r null gone t st j)
 
   -- FOLLOW is needed only where some nonterminal derives nothing
   pub starts-found : (null : ℕ) (f t sets : List ℕ) → Marks null (nullable g) → SettledTable (WithinAll (FrontAt true (members null) rows) 0 count) (replicate 48 0) f

@@ -1,15 +1,15 @@
 pub mod Rows
 pub mod Views
 pub mod Growth
+pub mod Bits
 pub mod Closing
 pub mod Reaching
 pub mod Tables
-pub mod Passes
+pub mod Spreading
 pub mod Fronts
 pub mod Follows
 pub mod Agreeing
 pub mod TokenAgreeing
-pub mod Recursion
 pub mod RecursionAgreeing
 pub mod Numbers
 pub mod Starts

@@ -1,26 +1,28 @@
 -- The steps of reaching.
-use Prim.Native.Nat.{ℕ, _-_, _≤_, _<_, zero-le}
+use Prim.Native.Nat.{ℕ, _-_, _^_, _≤_, _<_, zero-le}
 use mathlib.Core.Path.{_≡_, sym, ap, _∙_}
 use mathlib.Core.Bool.{Bool, true, false, _||_}
 use mathlib.Core.List.{List, [], _∷_}
 use native.Mathlib.Omega.{arith}
 use lib.Bits.{bitOr}
+use lib.Dec.{lit<}
 use Rattle.meaning.specs.Base.{any}
-use Rattle.meaning.specs.Grammar.{Symbol, isNonterminal}
-use Rattle.meaning.specs.Sets.{singleton}
+use Rattle.meaning.specs.Grammar.{Symbol}
+use Rattle.meaning.specs.Sets.{singleton, endNumber}
 use Rattle.meaning.specs.Table.{symbolOf}
 use Rattle.theory_base.specs.Members.{true→T}
 use Rattle.theory_sets.specs.TokenSets.{or-false}
-use Rattle.token_set.specs.Words.{setOf}
-use Rattle.analysis.specs.Rows.{leftAt, rightAt, symbol-terminal, symbol-nonterminal}
-use Rattle.analysis.specs.Views.{members, Within, ReachAt}
+use Rattle.token_set.specs.Words.{setOf, set-end}
+use Rattle.analysis.specs.Rows.{leftAt, symbol-terminal, symbol-nonterminal}
+use Rattle.analysis.specs.Views.{members, Within, symbolBit, rightBy, ReachAt}
 use Rattle.analysis.specs.Growth.{Grown, grown-none, grown-or, or-is, or-assoc, none-in, single-is}
 
-pub token-set : (s n : ℕ) → s < 128 → members 0 n ≡ isNonterminal n (symbolOf s)
-token-set s n h = none-in n ∙ sym (ap (isNonterminal n) (symbol-terminal s h))
+-- the word of one symbol
+pub token-bit : (s n : ℕ) → s < 128 → members (2 ^ 63) n ≡ symbolBit n (symbolOf s)
+token-bit s n h = rw set-end (single-is endNumber n (lit< tt)) ∙ sym (ap (symbolBit n) (symbol-terminal s h))
 
-pub nonterminal-set : (s x n : ℕ) → 128 ≤ s → s < 176 → setOf x ≡ singleton (s - 128) → members x n ≡ isNonterminal n (symbolOf s)
-nonterminal-set s x n h l e = rw e (single-is (s - 128) n (omega arith)) ∙ sym (ap (isNonterminal n) (symbol-nonterminal s h))
+pub nonterminal-bit : (s x n : ℕ) → 128 ≤ s → s < 176 → setOf x ≡ singleton (s - 128) → members x n ≡ symbolBit n (symbolOf s)
+nonterminal-bit s x n h l e = rw e (single-is (s - 128) n (omega arith)) ∙ sym (ap (symbolBit n) (symbol-nonterminal s h))
 
 -- ---- a right side, symbol by symbol: what is gathered, or still to come
 pub record Gathered (f : ℕ → Symbol → Bool) (xs : List Symbol) (out : ℕ) (rest : List Symbol) : Type 0 where
@@ -44,7 +46,7 @@ module _ (rows : List ℕ) {count : ℕ} (k : ℕ) (lt : k < count) (s : ℕ) wh
   pub reaches-not : members s (leftAt rows k) ≡ false → Reaches s
   reaches-not e = grown-none s (λ t. absurd (rw e at t))
 
-  pub reaches-new : (x : ℕ) → members s (leftAt rows k) ≡ true → ((n : ℕ) → members x n ≡ any (isNonterminal n) (rightAt rows k)) → Reaches (bitOr s x)
+  pub reaches-new : (x : ℕ) → members s (leftAt rows k) ≡ true → ((n : ℕ) → members x n ≡ rightBy rows k n) → Reaches (bitOr s x)
   reaches-new x e is =
       grown-or s x (λ see c i n t. c .at k zero-le lt (i (leftAt rows k) (true→T _ e)) n (rw (is n) at t))
       (λ sub t n a. sub n (rw (is n) a))

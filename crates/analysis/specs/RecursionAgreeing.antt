@@ -1,12 +1,11 @@
 -- The left recursive nonterminals over the rows are those that 01's definition computes.
 use Prim.Native.Nat.{ℕ, _<_, zero-le}
-use native.Mathlib.Omega.{arith}
-use mathlib.Core.Path.{_≡_, refl, sym, _∙_, subst}
+use mathlib.Core.Path.{_≡_, refl, sym, _∙_}
 use mathlib.Core.Logic.{_⊎_, inl, inr}
 use mathlib.Core.Bool.{Bool, false, _&&_, _||_}
 use mathlib.Core.List.{List, [], _∷_, _++_, nil≢cons, head-eq-of-cons-eq}
 use lib.Dec.{T, eqb, eqb→eq, eqb-refl, ltb→lt}
-use lib.ListN.{getD}
+use lib.ListN.{getD, replicate}
 use Rattle.meaning.specs.Base.{all, any}
 use Rattle.meaning.specs.Grammar.{Symbol, terminal, nonterminal, Grammar, productionAt, nonterminalCount, isNonterminal}
 use Rattle.meaning.specs.Derivation.{Listed, LeftRecursive}
@@ -21,9 +20,9 @@ use Rattle.theory_sets.specs.Spread.{spread-grows, spread-closed}
 use Rattle.theory_sets.specs.LeftRecursion.{recursive→LeftRecursive}
 use Rattle.theory_sets.specs.LeastSets.{led-least}
 use Rattle.theory_sets.specs.Widths.{both-true}
-use Rattle.analysis.specs.Rows.{Rows, leftAt, rightAt}
-use Rattle.analysis.specs.Views.{members, sees, Inside, opens, opens-more}
-use Rattle.analysis.specs.Recursion.{Recursive}
+use Rattle.analysis.specs.Rows.{Rows, leftAt}
+use Rattle.analysis.specs.Views.{members, sees, WithinAll, opens, LeadAt}
+use Rattle.analysis.specs.Tables.{SettledTable, zeros-none}
 use Rattle.analysis.specs.Agreeing.{Marks, listed, counted}
 
 -- a front that is seen stands behind symbols that derive nothing
@@ -88,54 +87,42 @@ module _ {rows : List ℕ} {count : ℕ} {g : Grammar} (r : Rows rows count g) (
           on (inl e) = rw (eqb→eq (w .0) n e) at (led-start p (w .0) l (w .1))
           on (inr h) = led-trans (productionAt g p .left) (w .0) n (led-start p (w .0) l (w .1)) h
 
-  module _ (w : ℕ) (st : Recursive (members null) rows count w) where
-    fronts-inside : (n : ℕ) → Inside (sees (st .fronts) n) (reaches n)
-    fronts-inside n = st .settled .least n (reaches n) (record { at = λ p _ l t. rw (r .left p l) (or-right (eqb (productionAt g p .left) n) (getD (led (productionAt g p .left)) n false) (lead-on n p (listed r p l) (rw (r .right p l) at t))) }) own
-      where
-        own : Inside (sees (st .own) n) (reaches n)
-        own m t = or-left (eqb m n) (getD (led m) n false) (rw (st .each .only n m t) (eqb-refl m))
+  module _ (t : List ℕ) (st : SettledTable (WithinAll (LeadAt (members null) rows) 0 count) (replicate 48 0) t) where
+    to : (n : ℕ) → T (sees t n n) → T (isLeftRecursive g n)
+    to n = st .least n (λ m. getD (led m) n false) (record { at = λ p _ l h. rw (r .left p l) (lead-on n p (listed r p l) (rw (r .right p l) at h)) }) (λ m h. absurd (zeros-none 48 n m h)) n
 
-    to : (n : ℕ) → T (members w n) → T (isLeftRecursive g n)
-    to n t =
-        let q = st .found .outof n t in
-        let l = q .1 in
-        let e : productionAt g (q .0) .left ≡ n = sym (r .left (q .0) l) ∙ q .2 in
-        let b = opens-more false (members null) (sees (st .fronts) n) (reaches n) n (fronts-inside n) false false (λ h. h) (rightAt rows (q .0)) (q .3) in
-        subst (λ (m : ℕ). T (getD (led m) n false)) e (lead-on n (q .0) (listed r (q .0) l) (rw (r .right (q .0) l) at b))
+    -- a is m or leads to m, by the table
+    abbrev near : ℕ → ℕ → Bool
+    near m a = eqb a m || sees t m a
 
-    -- a string that derives one with m at its front begins with m by the fronts
-    yields-front : (m : ℕ) {xs ys : List Symbol} → Yields g xs ys → (a : List Symbol) → ys ≡ nonterminal m ∷ a → T (all (known g) xs) → T (opens false (members null) (sees (st .fronts) m) m false xs)
-    yields-front m nothing a e k = absurd (nil≢cons e)
-    yields-front m (same x {xs} d) a e k =
-        let h = head-eq-of-cons-eq e in
-        let l = ltb→lt m (nonterminalCount g) (rw h at (both (known g x) (all (known g) xs) k .0)) in
-        rw h (or-left (sees (st .fronts) m m) (members null m && opens false (members null) (sees (st .fronts) m) m false xs) (st .settled .keeps m m (st .each .own m (let z = r .narrow in omega arith))))
-    yields-front m (expand p {xs} {zs} {ys} l d d′) a e k = go zs e d (λ b h i. yields-front m d b h i) (λ b h i. yields-front m d′ b h i)
+    abbrev fronts : ℕ → List Symbol → Bool
+    fronts m xs = opens false (members null) (near m) m false xs
+
+    -- a string that derives one with m at its front has m, or one that leads to m, at its front
+    yields-front : (m : ℕ) {xs ys : List Symbol} → Yields g xs ys → (a : List Symbol) → ys ≡ nonterminal m ∷ a → T (fronts m xs)
+    yields-front m nothing a e = absurd (nil≢cons e)
+    yields-front m (same x {xs} d) a e = rw (head-eq-of-cons-eq e) (or-left (near m m) (members null m && fronts m xs) (or-left (eqb m m) (sees t m m) (eqb-refl m)))
+    yields-front m (expand p {xs} {zs} {ys} l d d′) a e = go zs e d (λ b h. yields-front m d b h) (λ b h. yields-front m d′ b h)
       where
-        go : (zs : List Symbol) → zs ++ ys ≡ nonterminal m ∷ a → Yields g (productionAt g p .right) zs
-            → ((b : List Symbol) → zs ≡ nonterminal m ∷ b → T (all (known g) (productionAt g p .right)) → T (opens false (members null) (sees (st .fronts) m) m false (productionAt g p .right)))
-            → ((b : List Symbol) → ys ≡ nonterminal m ∷ b → T (all (known g) xs) → T (opens false (members null) (sees (st .fronts) m) m false xs))
-            → T (opens false (members null) (sees (st .fronts) m) m false (nonterminal (productionAt g p .left) ∷ xs))
+        go : (zs : List Symbol) → zs ++ ys ≡ nonterminal m ∷ a → Yields g (productionAt g p .right) zs → ((b : List Symbol) → zs ≡ nonterminal m ∷ b → T (fronts m (productionAt g p .right)))
+            → ((b : List Symbol) → ys ≡ nonterminal m ∷ b → T (fronts m xs)) → T (fronts m (nonterminal (productionAt g p .left) ∷ xs))
         go [] e d i j =
-            or-right (sees (st .fronts) m (productionAt g p .left)) (members null (productionAt g p .left) && opens false (members null) (sees (st .fronts) m) m false xs)
-            (and (members null (productionAt g p .left)) (opens false (members null) (sees (st .fronts) m) m false xs)
-            (rw (gone .is (productionAt g p .left)) (nullable-closed (r .sound) p l (yields→emptyString (r .sound) d refl)))
-            (j a e (both (known g (nonterminal (productionAt g p .left))) (all (known g) xs) k .1)))
+            or-right (near m (productionAt g p .left)) (members null (productionAt g p .left) && fronts m xs)
+            (and (members null (productionAt g p .left)) (fronts m xs) (rw (gone .is (productionAt g p .left)) (nullable-closed (r .sound) p l (yields→emptyString (r .sound) d refl))) (j a e))
         go (z ∷ zs) e d i j =
             let c = counted r p l in
-            let b = i zs (cc (head-eq-of-cons-eq e)) (symbols (r .sound) p l) in
-            or-left (sees (st .fronts) m (productionAt g p .left)) (members null (productionAt g p .left) && opens false (members null) (sees (st .fronts) m) m false xs)
-            (rw (r .left p c) at (st .settled .closed m .at p zero-le c (rw (r .right p c) b)))
+            or-left (near m (productionAt g p .left)) (members null (productionAt g p .left) && fronts m xs)
+            (or-right (eqb (productionAt g p .left) m) (sees t m (productionAt g p .left))
+            (rw (r .left p c) at (st .closed m .at p zero-le c (rw (r .right p c) (i zs (cc (head-eq-of-cons-eq e)))))))
 
-    back : (n : ℕ) → T (isLeftRecursive g n) → T (members w n)
-    back n t = go (recursive→LeftRecursive (r .sound) n t)
+    back : (n : ℕ) → T (isLeftRecursive g n) → T (sees t n n)
+    back n h = go (recursive→LeftRecursive (r .sound) n h)
       where
-        go : LeftRecursive g n → T (members w n)
+        go : LeftRecursive g n → T (sees t n n)
         go q =
             let c = counted r (q .0) (q .2) in
             let e : leftAt rows (q .0) ≡ n = r .left (q .0) c ∙ q .3 in
-            let b = yields-front n (derives→yields (q .4)) (q .1) refl (symbols (r .sound) (q .0) (q .2)) in
-            rw e at (st .found .into (q .0) c (rw (e, r .right (q .0) c) b))
+            rw e at (st .closed n .at (q .0) zero-le c (rw (r .right (q .0) c) (yields-front n (derives→yields (q .4)) (q .1) refl)))
 
-    pub recursive-is : (n : ℕ) → members w n ≡ isLeftRecursive g n
-    recursive-is n = both-true (members w n) (isLeftRecursive g n) (to n) (back n)
+    pub recursive-is : (n : ℕ) → sees t n n ≡ isLeftRecursive g n
+    recursive-is n = both-true (sees t n n) (isLeftRecursive g n) (to n) (back n)

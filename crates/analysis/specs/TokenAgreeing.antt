@@ -13,7 +13,7 @@ use Rattle.meaning.specs.Derivation.{Listed}
 use Rattle.meaning.specs.Sets.{TokenSet, endNumber, emptySet, has, singleton, onlyIf, nullable, emptySymbol, emptyString, firstString, first, follow, starts}
 use Rattle.theory_base.specs.Members.{both}
 use Rattle.theory_sets.specs.Tests.{all-right}
-use Rattle.theory_sets.specs.Productions.{known, symbols}
+use Rattle.theory_sets.specs.Productions.{known, symbols, lefts}
 use Rattle.theory_sets.specs.FirstSets.{first-closed}
 use Rattle.theory_sets.specs.AfterSets.{Source, byStart, byProduction, follow-closed}
 use Rattle.theory_sets.specs.LeastSets.{first-least, follow-least}
@@ -21,9 +21,8 @@ use Rattle.theory_sets.specs.TokenSets.{or-false, has-union, has-empty}
 use Rattle.theory_sets.specs.Widths.{both-true, same-set, starts-wide}
 use Rattle.token_set.specs.Words.{setOf, set-empty, setOf-wide}
 use Rattle.analysis.specs.Rows.{Rows, rightAt}
-use Rattle.analysis.specs.Views.{members, sees, fit, opens, FrontAt}
-use Rattle.analysis.specs.Tables.{zeros-none}
-use Rattle.analysis.specs.Passes.{WithinAll, SettledTable}
+use Rattle.analysis.specs.Views.{members, sees, WithinAll, fit, opens, FrontAt, Below}
+use Rattle.analysis.specs.Tables.{SettledTable, zeros-none}
 use Rattle.analysis.specs.Follows.{FollowClosed, Followed}
 use Rattle.analysis.specs.Agreeing.{Marks, fits-empty, all-same, listed, counted}
 
@@ -71,6 +70,14 @@ known-head : (g : Grammar) (n j : ℕ) (xs rest : List Symbol) → T (all (known
 known-head g n j xs rest k e =
     let d : T (all (known g) (drop j xs)) = all-right (known g) (take j xs) (drop j xs) (rw (take-append-drop j xs) k) in
     ltb→lt n (nonterminalCount g) (both (known g (nonterminal n)) (all (known g) rest) (rw e at d) .0)
+
+-- the nonterminals of the rows are those of the grammar
+pub below : {rows : List ℕ} {count : ℕ} {g : Grammar} → Rows rows count g → Below (nonterminalCount g) rows count
+below {g = g} r =
+    record {
+      lefts = λ p l. rw (r .left p l) (lefts (r .sound) p (listed r p l));
+      rights = λ p j m rest l e. known-head g m j (productionAt g p .right) rest (symbols (r .sound) p (listed r p l)) (rw (r .right p l) at e);
+    }
 
 module _ {rows : List ℕ} {count : ℕ} {g : Grammar} (r : Rows rows count g) (null : ℕ) (gone : Marks null (nullable g)) where
   pub first-holds : (t : List ℕ) → SettledTable (WithinAll (FrontAt true (members null) rows) 0 count) (replicate 48 0) t → Holds t (first g)

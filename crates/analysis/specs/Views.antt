@@ -6,11 +6,11 @@ use mathlib.Core.Path.{_≡_}
 use mathlib.Core.Logic.{_⊎_, inl, inr}
 use mathlib.Core.Bool.{Bool, true, false, _&&_, _||_}
 use mathlib.Core.List.{List, [], _∷_}
-use lib.Dec.{T}
-use lib.ListN.{getD}
+use lib.Dec.{T, eqb}
+use lib.ListN.{getD, drop}
 use Rattle.meaning.specs.Base.{all, any}
-use Rattle.meaning.specs.Grammar.{Symbol, terminal, nonterminal, isNonterminal}
-use Rattle.meaning.specs.Sets.{has, singleton}
+use Rattle.meaning.specs.Grammar.{Symbol, terminal, nonterminal}
+use Rattle.meaning.specs.Sets.{has, singleton, endNumber}
 use Rattle.token_set.specs.Words.{setOf}
 use Rattle.analysis.specs.Rows.{leftAt, rightAt}
 use Rattle.theory_base.specs.Members.{and, both, or-cases, or-left, or-right}
@@ -49,6 +49,10 @@ module _ {At : ℕ → (ℕ → Bool) → Type 0} {see : ℕ → Bool} where
       go p m (yes h) f l = f (omega arith)
       go p m (no h) f l = k .at p (omega arith) m
 
+-- the same for the view of each token
+abbrev pub WithinAll : (ℕ → ℕ → (ℕ → Bool) → Type 0) → ℕ → ℕ → ℕ → (ℕ → Bool) → Type 0
+WithinAll At i j u = Within (At u) i j
+
 -- ---- nonterminals whose symbols are all in: nullable, and with the tokens productive
 abbrev pub fit : Bool → (ℕ → Bool) → Symbol → Bool
 fit b see (terminal t) = b
@@ -61,13 +65,17 @@ pub fit-more : (b : Bool) (f h : ℕ → Bool) → Inside f h → (x : Symbol) �
 fit-more b f h k (terminal t) u = u
 fit-more b f h k (nonterminal n) u = k n u
 
+-- ---- the bits of a right side as one word: a nonterminal has its own, tokens have that of the end
+abbrev pub symbolBit : ℕ → Symbol → Bool
+symbolBit n (terminal t) = eqb endNumber n
+symbolBit n (nonterminal m) = eqb m n
+
+abbrev pub rightBy : List ℕ → ℕ → ℕ → Bool
+rightBy rows p n = any (symbolBit n) (rightAt rows p)
+
 -- ---- nonterminals on the right of one that is in: reachable
 abbrev pub ReachAt : List ℕ → ℕ → (ℕ → Bool) → Type 0
-ReachAt rows p see = T (see (leftAt rows p)) → (n : ℕ) → T (any (isNonterminal n) (rightAt rows p)) → T (see n)
-
--- the nonterminals on the right of production p
-abbrev pub rightBy : List ℕ → ℕ → ℕ → Bool
-rightBy rows p n = any (isNonterminal n) (rightAt rows p)
+ReachAt rows p see = T (see (leftAt rows p)) → (n : ℕ) → T (rightBy rows p n) → T (see n)
 
 -- ---- what a string begins with, and what comes after it where it derives nothing.
 -- `gone` is the view of what derives nothing, `see` that of what begins with u; w says whether u comes after, b whether tokens count.
@@ -95,9 +103,18 @@ opens-more b gone f h u k v w j (x ∷ xs) s = turn-more b gone f h u k x (opens
 abbrev pub FrontAt : Bool → (ℕ → Bool) → List ℕ → ℕ → ℕ → (ℕ → Bool) → Type 0
 FrontAt b gone rows u p see = T (opens b gone see u false (rightAt rows p)) → T (see (leftAt rows p))
 
--- ---- walks along a right side, by what is left of it
-pub all-next : (f : Symbol → Bool) (x : Symbol) (xs rest : List Symbol) → xs ≡ x ∷ rest → f x ≡ true → all f xs ≡ all f rest
-all-next f x xs rest e t = rw (e, t)
+-- what stands at the front of a string behind symbols that derive nothing: nonterminal n, or token u
+abbrev pub heads : (ℕ → Bool) → ℕ → List Symbol → Bool
+heads gone n xs = opens false gone (λ m. eqb m n) n false xs
 
-pub all-stop : (f : Symbol → Bool) (x : Symbol) (xs rest : List Symbol) → xs ≡ x ∷ rest → f x ≡ false → all f xs ≡ false
-all-stop f x xs rest e t = rw (e, t)
+abbrev pub leading : (ℕ → Bool) → ℕ → List Symbol → Bool
+leading gone u xs = opens true gone (λ m. false) u false xs
+
+-- left recursion: where u, or one that leads to u, stands at the front of the right side, the left side leads to u
+abbrev pub LeadAt : (ℕ → Bool) → List ℕ → ℕ → ℕ → (ℕ → Bool) → Type 0
+LeadAt gone rows u p see = T (opens false gone (λ m. eqb m u || see m) u false (rightAt rows p)) → T (see (leftAt rows p))
+
+-- the numbers of the nonterminals are below n
+pub record Below (n : ℕ) (rows : List ℕ) (count : ℕ) : Type 0 where
+  pub lefts : (p : ℕ) → p < count → leftAt rows p < n
+  pub rights : (p j m : ℕ) (rest : List Symbol) → p < count → drop j (rightAt rows p) ≡ nonterminal m ∷ rest → m < n

@@ -1,8 +1,7 @@
-// The lowest nonterminal that is useless or left recursive.
+// The lowest nonterminal that is useless.
 use token_set::TokenSet;
-ghost use mathlib.Core.Path.{_≡_};
-ghost use mathlib.Core.Bool.{true, false, not, _&&_};
-ghost use Prim.Native.Nat.{ℕ, _+_, _<_, _≤_};
+ghost use mathlib.Core.Bool.{not, _&&_};
+ghost use Prim.Native.Nat.{_<_, _≤_};
 ghost use Rattle.analysis.specs.Views.{members};
 ghost use Rattle.analysis.specs.Numbers.{Found};
 
@@ -17,21 +16,6 @@ pub fn lowest_useless(reached: u64, productive: u64, n: usize) -> usize
             return i;
         }
         if !TokenSet(productive).has(i as u8) {
-            return i;
-        }
-        i += 1;
-    }
-    i
-}
-
-// The lowest of the first n numbers that is in the set; n where there is none.
-pub fn lowest_in(set: u64, n: usize) -> usize
-    requires { ⌜ n ≤ 48 ⌝ }
-    ensures { λ r. ⌜ Found (members set) n r ⌝ }
-{
-    let mut i: usize = 0;
-    while i < n {
-        if TokenSet(set).has(i as u8) {
             return i;
         }
         i += 1;

@@ -1,5 +1,6 @@
 -- A rule or a condition as words, from the bytes of its field: a tag, two bytes of length, then the body. What follows the field does not matter.
-use Prim.Native.Nat.{ℕ, zero, suc, _+_, _-_, _*_, _<_, max}
+use Prim.Native.Nat.{ℕ, _+_, _-_, _*_, _≤_, max}
+use native.Mathlib.Omega.{arith}
 use mathlib.Core.Path.{_≡_, refl, ap, ap₂}
 use mathlib.Core.Bool.{Bool, true, false}
 use mathlib.Core.List.{List, [], _∷_, _++_}
@@ -107,6 +108,44 @@ item-length false top below d = go (eqb (byte d 3) 0)
     go : (b : Bool) → length (chooseWords b (packed (selectorAt top below d 4) 0 0 0 ∷ wordAt d 6 ∷ wordAt d 10 ∷ []) (packed (selectorAt top below d 4) (byte d 3) (selectorAt top below d 6) 0 ∷ comparedWith d ∷ 0 ∷ [])) ≡ 3
     go true = refl
     go false = refl
+
+-- ---- the bytes that a field has
+
+-- a rule's, by its function
+pub record WholeRule (d : List ℕ) : Type 0 where
+  pub target : 8 ≤ length d
+  pub constant : byte d 5 ≡ 0 → 10 ≤ length d
+  pub second : 2 ≤ byte d 5 → 10 ≤ length d
+  pub behind : 7 ≤ byte d 5 → 12 ≤ length d
+
+-- a condition's, by its kind
+pub record WholeCondition (d : List ℕ) : Type 0 where
+  pub first : 8 ≤ length d
+  pub bounds : byte d 3 ≡ 0 → 14 ≤ length d
+  pub compared : (byte d 3 ≡ 1 → ⊥) → 12 ≤ length d
+
+abbrev pub Whole : Bool → List ℕ → Type 0
+Whole true d = WholeRule d
+Whole false d = WholeCondition d
+
+pub rule-whole : (r : Rule Occurrence) (rest : List ℕ) → WholeRule (field 4 (ruleBytes r) ++ rest)
+rule-whole r rest = go (r .target) (r .function)
+  where
+    go : (o : Occurrence) (f : Function Occurrence) → WholeRule (field 4 (ruleBytes (record { target = o; function = f })) ++ rest)
+    go o (const c) = record { target = omega arith; constant = λ e. omega arith; second = λ l. omega arith; behind = λ l. omega arith }
+    go o (copy a) = record { target = omega arith; constant = λ e. omega arith; second = λ l. omega arith; behind = λ l. omega arith }
+    go o (sum a b) = record { target = omega arith; constant = λ e. omega arith; second = λ l. omega arith; behind = λ l. omega arith }
+    go o (diff a b) = record { target = omega arith; constant = λ e. omega arith; second = λ l. omega arith; behind = λ l. omega arith }
+    go o (prod a b) = record { target = omega arith; constant = λ e. omega arith; second = λ l. omega arith; behind = λ l. omega arith }
+    go o (maxi a b) = record { target = omega arith; constant = λ e. omega arith; second = λ l. omega arith; behind = λ l. omega arith }
+    go o (mini a b) = record { target = omega arith; constant = λ e. omega arith; second = λ l. omega arith; behind = λ l. omega arith }
+    go o (addc a c) = record { target = omega arith; constant = λ e. omega arith; second = λ l. omega arith; behind = λ l. omega arith }
+    go o (quot a c) = record { target = omega arith; constant = λ e. omega arith; second = λ l. omega arith; behind = λ l. omega arith }
+
+pub condition-whole : (c : Condition Occurrence) (rest : List ℕ) → WholeCondition (field 5 (conditionBytes c) ++ rest)
+condition-whole (range o l h) rest = record { first = omega arith; bounds = λ e. omega arith; compared = λ n. omega arith }
+condition-whole (atmost o u none) rest = record { first = omega arith; bounds = λ e. omega arith; compared = λ n. absurd (n refl) }
+condition-whole (atmost o u (some c)) rest = record { first = omega arith; bounds = λ e. omega arith; compared = λ n. omega arith }
 
 -- its slot: 2 k for a rule of position k, 2 k + 1 for a condition
 abbrev pub slotAt : Bool → ℕ → ℕ

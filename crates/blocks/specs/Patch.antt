@@ -1,11 +1,10 @@
 -- Words written into an area one after the other, from an address on.
 use Prim.Native.Nat.{ℕ, zero, suc, _+_, _≤_, _<_}
-use native.Mathlib.Numerals.{add-one}
 use native.Mathlib.Omega.{arith}
 use mathlib.Core.Path.{_≡_, refl, sym, ap, _∙_}
-use mathlib.Core.List.{List, [], _∷_, _++_, append-nil}
-use lib.ListN.{length, take, drop, set, getD, length-append, length-set}
-use lib.Seq.{sets, length-sets, sets-eq, set-comm, getD-set-same, getD-set-other, append-snoc}
+use mathlib.Core.List.{List, [], _∷_, _++_}
+use lib.ListN.{length, drop, set, getD, length-append, length-set}
+use lib.Seq.{sets, length-sets, sets-eq, set-comm, getD-set-same, getD-set-other}
 use Rattle.meaning.specs.PublicCalls.{written}
 
 unfoldable pub patch : List ℕ → ℕ → List ℕ → List ℕ

@@ -18,7 +18,7 @@ use Rattle.meaning.specs.Scheme.{mapRule, mapCondition}
 use Rattle.meaning.specs.Program.{concat, ruleWords, conditionWords}
 use Rattle.meaning.specs.Table.{byte}
 use Rattle.theory_program.specs.Proper.{keep-few}
-use Rattle.blocks.specs.Items.{selectorOf, rule-item, condition-item, condition-place, chooseWords, placeOf, itemOf, itemHere}
+use Rattle.blocks.specs.Items.{selectorOf, rule-item, condition-item, condition-place, chooseWords, placeOf, itemOf, itemHere, Whole, rule-whole, condition-whole}
 
 -- the rules and conditions that a list of bytes holds
 pub record Listed (d : List ℕ) : Type 0 where
@@ -71,6 +71,8 @@ fieldSize d = 3 + byte d 2
 pub record Step (d : List ℕ) (x : Listed d) : Type 0 where
   pub next : Listed (drop (fieldSize d) d)
   pub inside : fieldSize d ≤ length d
+  pub long : 8 ≤ length d
+  pub whole : (rules : Bool) → placeOf rules d < 255 → Whole rules d
   pub fewer : fieldCount x ≡ fieldCount next + 1
   pub words : (rules : Bool) (top : ℕ) (below : List ℕ) (k : ℕ) → k < 255 → itemWords rules top below k x ≡ itemHere rules top below k d ++ itemWords rules top below k next
   pub counts : (rules : Bool) (k : ℕ) → k < 255 → itemCount rules k x ≡ countHere rules k d + itemCount rules k next
@@ -119,6 +121,8 @@ step-of (rule r {rs} {cs} {bs} own) constants proper l =
     record {
       next = record { rules = rs; conditions = cs; own = subst (λ z. RulesAndConditions rs cs z) (sym behind) own; constants = λ q i. constants q (inr i); proper = proper };
       inside = omega (arith, rule-size r, length-append (field 4 (ruleBytes r)) bs);
+      long = rule-whole r bs .target;
+      whole = λ b m. elim b as (λ y. placeOf y d < 255 → Whole y d) [ true ↦ λ n. rule-whole r bs | false ↦ λ n. absurd (omega arith) ] m;
       fewer = omega arith;
       words = λ b top below k m. elim b as (λ y. wordsOf y top below k (r ∷ rs) cs ≡ itemHere y top below k d ++ wordsOf y top below k rs cs) [
         | true ↦ concat-if ruleWords (mapRule (selectorOf top below)) (eqb (r .target .position) k) r (rulesAt k rs) ∙ ap (λ z. chooseWords (eqb (r .target .position) k) z [] ++ wordsOf true top below k rs cs) (sym (rule-item top below r bs (constants r (inl refl))))
@@ -136,6 +140,8 @@ step-of (condition c {rs} {cs} {bs} own) constants proper l =
     record {
       next = record { rules = rs; conditions = cs; own = subst (λ z. RulesAndConditions rs cs z) (sym behind) own; constants = constants; proper = λ q i. proper q (inr i) };
       inside = omega (arith, condition-size c, length-append (field 5 (conditionBytes c)) bs);
+      long = condition-whole c bs .first;
+      whole = λ b m. elim b as (λ y. placeOf y d < 255 → Whole y d) [ true ↦ λ n. absurd (omega arith) | false ↦ λ n. condition-whole c bs ] m;
       fewer = omega arith;
       words = λ b top below k m. elim b as (λ y. wordsOf y top below k rs (c ∷ cs) ≡ itemHere y top below k d ++ wordsOf y top below k rs cs) [
         | true ↦ other-words k (itemOf true top below d) (wordsOf true top below k rs cs) m
@@ -157,6 +163,8 @@ listed-step d x l = step-of (x .own) (x .constants) (x .proper) l
 pub record Turn (fields : List ℕ) (at next : ℕ) (x : Listed (drop at fields)) : Type 0 where
   pub later : Listed (drop next fields)
   pub inside : next ≤ length fields
+  pub long : 8 ≤ length (drop at fields)
+  pub whole : (rules : Bool) → placeOf rules (drop at fields) < 255 → Whole rules (drop at fields)
   pub fewer : fieldCount x ≡ fieldCount later + 1
   pub words : (rules : Bool) (top : ℕ) (below : List ℕ) (k : ℕ) → k < 255 → itemWords rules top below k x ≡ itemHere rules top below k (drop at fields) ++ itemWords rules top below k later
   pub counts : (rules : Bool) (k : ℕ) → k < 255 → itemCount rules k x ≡ countHere rules k (drop at fields) + itemCount rules k later
@@ -170,6 +178,8 @@ listed-turn fields at size l e x =
     record {
       later = record { rules = s .next .rules; conditions = s .next .conditions; own = subst (λ z. RulesAndConditions (s .next .rules) (s .next .conditions) z) there (s .next .own); constants = s .next .constants; proper = s .next .proper };
       inside = omega (arith, s .inside, length-drop at fields, e);
+      long = s .long;
+      whole = s .whole;
       fewer = s .fewer;
       words = s .words;
       counts = s .counts;

@@ -1,8 +1,9 @@
 -- The definitions of specs/ by the tests that the code makes.
 use Prim.Native.Nat.{ℕ, _+_, _-_, _*_, _≤_, _<_}
+use native.Mathlib.Omega.{arith}
 use mathlib.Core.Path.{_≡_, sym, ap, _∙_}
 use mathlib.Core.Bool.{Bool}
-use mathlib.Core.List.{List}
+use mathlib.Core.List.{List, [], _∷_}
 use lib.ListN.{length, set, getD, List·getD-eq-default}
 use borrow.Author.Tests.{lt-ltb, le-ltb, eq-eqb, ne-eqb}
 use Rattle.meaning.specs.Grammar.{attributeIf}
@@ -10,7 +11,7 @@ use Rattle.meaning.specs.Sets.{has}
 use Rattle.meaning.specs.Table.{byte}
 use Rattle.token_set.specs.Words.{setOf}
 use Rattle.blocks.specs.Items.{itemSize}
-use Rattle.blocks.specs.Patch.{Wrote, wrote-none, wrote-one}
+use Rattle.blocks.specs.Patch.{patch, Wrote, wrote-none, wrote-one, patch-swap}
 use Rattle.bodies.specs.Words.{addWords, addSize, blockSize}
 use Rattle.bodies.specs.Given.{countAt, synthesizedAt, headOf}
 
@@ -41,10 +42,6 @@ pub head-nonterminal : (b : ℕ) → 128 ≤ b → 3 + 8 * (b - 128) ≡ headOf 
 unfolding headOf
 head-nonterminal b l = rw (le-ltb b 128 l)
 
-pub add-none : (n : ℕ) → n ≡ 0 → 0 ≡ addSize n
-unfolding addSize
-add-none n e = rw (eq-eqb n 0 e)
-
 pub add-some : (n : ℕ) → (n ≡ 0 → ⊥) → 1 ≡ addSize n
 unfolding addSize
 add-some n e = rw (ne-eqb n 0 e)
@@ -57,13 +54,16 @@ pub add-written : (area : List ℕ) (a n : ℕ) → (n ≡ 0 → ⊥) → Wrote 
 unfolding addWords
 add-written area a n e = rw (ne-eqb n 0 e) (wrote-one area a (8 * n))
 
-pub size-none : (rules : Bool) (n : ℕ) → n ≡ 0 → 0 ≡ blockSize rules n
-unfolding blockSize
-size-none rules n e = rw (eq-eqb n 0 e)
-
 pub size-some : (rules : Bool) (n : ℕ) → (n ≡ 0 → ⊥) → 1 + itemSize rules * n ≡ blockSize rules n
 unfolding blockSize
 size-some rules n e = rw (ne-eqb n 0 e)
 
-pub size-of : {rules b : Bool} → rules ≡ b → (n : ℕ) → itemSize rules * n ≡ itemSize b * n
-size-of e n = ap (λ z. itemSize z * n) e
+-- ---- words that stand before those written
+
+module _ {old new : List ℕ} {a next : ℕ} {ws : List ℕ} where
+  pub patch-beside : (i : ℕ) (vs : List ℕ) → i + length vs ≤ a → Wrote old new a next ws → Wrote (patch old i vs) (patch new i vs) a next ws
+  patch-beside i vs l w = record { memory = ap (λ m. patch m i vs) (w .memory) ∙ sym (patch-swap old i vs a ws l); address = w .address }
+
+  pub set-beside : (i v : ℕ) → i < a → Wrote old new a next ws → Wrote (set old i v) (set new i v) a next ws
+  unfolding patch
+  set-beside i v l w = patch-beside i (v ∷ []) (omega arith) w

@@ -1,43 +1,60 @@
--- All symbols of a production, the end of its scheme, and the addresses of its expects.
+-- All symbols of a production with the addresses of their expects, and the end of its scheme.
 use Prim.Native.Nat.{ℕ, suc, _+_, _-_, _*_, _≤_, _<_}
 use native.Mathlib.Omega.{arith}
-use mathlib.Core.Path.{_≡_, refl, sym, ap, ap₂, _∙_}
-use mathlib.Core.Bool.{true, false}
+use mathlib.Core.Path.{_≡_, sym, ap, ap₂, _∙_}
+use mathlib.Core.Bool.{true}
 use mathlib.Core.List.{List, [], _∷_}
 use lib.ListN.{length, set, getD, length-append}
-use Rattle.meaning.specs.Grammar.{Production, Grammar, nonterminal, inh, addedFor, symbolAt}
+use Rattle.meaning.specs.Grammar.{Production, Grammar, nonterminal, inh, symbolAt}
 use Rattle.meaning.specs.Scheme.{synBetween, removed, synthesizedRules}
 use Rattle.meaning.specs.Table.{byte}
 use Rattle.theory_base.specs.Selectors.{syn-none}
 use Rattle.theory_program.specs.Proper.{syn-most}
-use Rattle.blocks.specs.Patch.{Wrote, wrote-as, wrote-one, wrote-then, wrote-length, Onward, onward-start, onward-as, onward-then, onward-end}
+use Rattle.blocks.specs.Patch.{patch, patch-none, patch-length, Wrote, wrote-as, wrote-one, wrote-then, wrote-length, Onward, onward-start, onward-as, onward-then, onward-end}
 use Rattle.blocks.specs.Chains.{BlockFits}
-use Rattle.blocks.specs.Walk.{itemCount, wordsOf, blockWords, block, count-few}
+use Rattle.blocks.specs.Walk.{itemCount, wordsOf, blockWords, block}
 use Rattle.bodies.specs.Levels.{synthesized-words}
-use Rattle.bodies.specs.Words.{addSize, blockSize, aheadSize, symbol-length, evaluateWords, evaluate-length, endWords}
-use Rattle.bodies.specs.Given.{Given, rightOf, listedOf, countAt, inherited-at, marked-at, left-inherited, Prepared, wordsAt, SymbolFits, SymbolsFit, restWords, words-turn, words-end, EndFits, ExpectsFit, restExpects, expects-turn, expects-over}
-use Rattle.bodies.proofs.Symbols.{inherited-count, synthesized-count, tests-count, block-fits}
+use Rattle.bodies.specs.Words.{blockSize, evaluateWords, evaluate-length, endWords}
+use Rattle.bodies.specs.Given.{Given, rightOf, listedOf, countAt, inherited-at, left-inherited, Prepared, wordsAt, aheadAt, SymbolFits, SymbolWrote, SymbolsFit, SymbolsWrote, restWords, words-turn, words-end, EndFits, restExpects, expects-turn, expects-over}
+use Rattle.bodies.proofs.Laws.{patch-beside}
+use Rattle.bodies.proofs.Symbols.{synthesized-count, block-fits}
 
 -- ---- all symbols
 
-module _ (row fields inherited synthesized marks links levels old : List ℕ) (address : ℕ) where
+module _ (row fields inherited synthesized marks links levels old : List ℕ) (address expects : ℕ) where
   -- the first k symbols are written
+  pub record SymbolsPart (x : SymbolsFit row fields inherited synthesized marks links levels old address expects) (k : ℕ) (area : List ℕ) (to : ℕ) : Type 0 where
+    pub onward : Onward (patch old expects (restExpects (x .prepared .given .grammar) (x .prepared .given .production) 0 address)) address (restWords (x .prepared .given .grammar) (x .prepared .given .production) 0)
+        (patch area (expects + k) (restExpects (x .prepared .given .grammar) (x .prepared .given .production) k to)) to (restWords (x .prepared .given .grammar) (x .prepared .given .production) k)
+    pub rest : k + length (restExpects (x .prepared .given .grammar) (x .prepared .given .production) k to) ≡ length (restExpects (x .prepared .given .grammar) (x .prepared .given .production) 0 address)
+    pub behind : address ≤ to
+
   pub record SymbolsGo (k : ℕ) (area : List ℕ) (to : ℕ) : Type 0 where
-    pub go : (x : SymbolsFit row fields inherited synthesized marks links levels old address) → Onward old address (restWords (x .prepared .given .grammar) (x .prepared .given .production) 0) area to (restWords (x .prepared .given .grammar) (x .prepared .given .production) k)
+    pub go : (x : SymbolsFit row fields inherited synthesized marks links levels old address expects) → SymbolsPart x k area to
 
-module _ {row fields inherited synthesized marks links levels old : List ℕ} {address : ℕ} where
-  pub symbols-start : SymbolsGo row fields inherited synthesized marks links levels old address 0 old address
-  symbols-start = record { go = λ x. onward-start _ _ _ }
+module _ {row fields inherited synthesized marks links levels old : List ℕ} {address expects : ℕ} where
+  pub symbols-start : SymbolsGo row fields inherited synthesized marks links levels old address expects 0 old address
+  symbols-start = record { go = λ x. record { onward = let e : expects + 0 ≡ expects = omega arith in rw e (onward-start _ _ _); rest = omega arith; behind = omega arith } }
 
-  module _ {k : ℕ} {area : List ℕ} {to : ℕ} (s : SymbolsGo row fields inherited synthesized marks links levels old address k area to) (n : ℕ) (is : n ≡ byte row 1) where
-    pub symbols-end : n ≤ k → (x : SymbolsFit row fields inherited synthesized marks links levels old address) → Wrote old area address to (restWords (x .prepared .given .grammar) (x .prepared .given .production) 0)
-    symbols-end l x = onward-end (onward-as (words-end (x .prepared .given .grammar) (x .prepared .given .production) k (omega (arith, is, x .prepared .given .size))) (s .go x))
+  module _ {k : ℕ} {area : List ℕ} {to : ℕ} (s : SymbolsGo row fields inherited synthesized marks links levels old address expects k area to) (n : ℕ) (is : n ≡ byte row 1) where
+    pub symbols-end : n ≤ k → (x : SymbolsFit row fields inherited synthesized marks links levels old address expects) → SymbolsWrote x area to
+    symbols-end l x =
+        let gr = x .prepared .given .grammar in
+        let pr = x .prepared .given .production in
+        let past : length (pr .right) ≤ k = omega (arith, is, x .prepared .given .size) in
+        let same : patch area (expects + k) (restExpects gr pr k to) ≡ area = ap (patch area (expects + k)) (expects-over gr pr k to past) ∙ patch-none area (expects + k) in
+        let wrote = onward-end (onward-as (words-end gr pr k past) (s .go x .onward)) in
+        rw same at wrote
 
-    pub symbols-size : SymbolsFit row fields inherited synthesized marks links levels old address → length area ≡ length old
-    symbols-size x = s .go x .size
+    pub symbols-size : SymbolsFit row fields inherited synthesized marks links levels old address expects → length area ≡ length old
+    symbols-size x = omega (arith, s .go x .onward .size, patch-length old expects (restExpects (x .prepared .given .grammar) (x .prepared .given .production) 0 address), patch-length area (expects + k) (restExpects (x .prepared .given .grammar) (x .prepared .given .production) k to))
 
     module _ (l : k < n) where
-      pub symbol-fits : SymbolsFit row fields inherited synthesized marks links levels old address → SymbolFits row fields inherited synthesized marks links levels k area to
+      rest-more : (x : SymbolsFit row fields inherited synthesized marks links levels old address expects)
+          → restExpects (x .prepared .given .grammar) (x .prepared .given .production) k to ≡ (to + aheadAt (x .prepared .given) k) ∷ restExpects (x .prepared .given .grammar) (x .prepared .given .production) (k + 1) (to + length (wordsAt (x .prepared .given) k))
+      rest-more x = expects-turn (x .prepared .given .grammar) (x .prepared .given .production) k to (omega (arith, is, x .prepared .given .size))
+
+      pub symbol-fits : SymbolsFit row fields inherited synthesized marks links levels old address expects → SymbolFits row fields inherited synthesized marks links levels k area to expects
       symbol-fits x =
           let given = x .prepared .given in
           let here : k < length (rightOf given) = omega (arith, is, given .size) in
@@ -45,18 +62,44 @@ module _ {row fields inherited synthesized marks links levels old : List ℕ} {a
           record {
             prepared = x .prepared;
             here = here;
-            room = omega (arith, x .room, o .address, ap length (words-turn (given .grammar) (given .production) k here), length-append (wordsAt given k) (restWords (given .grammar) (given .production) (k + 1)));
-            long = omega (arith, x .long, o .size);
+            room = omega (arith, x .room, o .onward .address, ap length (words-turn (given .grammar) (given .production) k here), length-append (wordsAt given k) (restWords (given .grammar) (given .production) (k + 1)));
+            long = omega (arith, x .long, symbols-size x);
+            apart = omega (arith, x .apart, o .rest, o .behind, ap length (rest-more x));
           }
 
-      pub symbols-turn : {new : List ℕ} {next : ℕ} → ((y : SymbolFits row fields inherited synthesized marks links levels k area to) → Wrote area new to next (wordsAt (y .prepared .given) k)) → SymbolsGo row fields inherited synthesized marks links levels old address (k + 1) new next
-      unfolding symbol-fits
-      symbols-turn f = record {
-        go = λ x.
-            let given = x .prepared .given in
-            let here : k < length (rightOf given) = omega (arith, is, given .size) in
-            onward-then (onward-as (words-turn (given .grammar) (given .production) k here) (s .go x)) (f (symbol-fits x));
-      }
+      module _ {new : List ℕ} {next : ℕ} (f : (y : SymbolFits row fields inherited synthesized marks links levels k area to expects) → SymbolWrote y new next) where
+        module _ (x : SymbolsFit row fields inherited synthesized marks links levels old address expects) where
+          abbrev tg : Grammar
+          tg = x .prepared .given .grammar
+
+          abbrev tp : Production
+          tp = x .prepared .given .production
+
+          abbrev ahead : ℕ
+          ahead = to + aheadAt (x .prepared .given) k
+
+          wrote : Wrote (set area (expects + k) ahead) new to next (wordsAt (x .prepared .given) k)
+          unfolding symbol-fits
+          wrote = f (symbol-fits x)
+
+          rest-is : restExpects tg tp k to ≡ ahead ∷ restExpects tg tp (k + 1) next
+          rest-is = rest-more x ∙ ap (λ z. ahead ∷ restExpects tg tp (k + 1) z) (sym (wrote .address))
+
+          both : Wrote (patch area (expects + k) (restExpects tg tp k to)) (patch new (expects + (k + 1)) (restExpects tg tp (k + 1) next)) to next (wordsAt (x .prepared .given) k)
+          unfolding patch
+          both =
+              let e : suc (expects + k) ≡ expects + (k + 1) = omega arith in
+              rw (rest-is, sym e) (patch-beside (suc (expects + k)) (restExpects tg tp (k + 1) next) (omega (arith, x .apart, s .go x .rest, s .go x .behind, ap length rest-is)) wrote)
+
+          part-turn : SymbolsPart row fields inherited synthesized marks links levels old address expects x (k + 1) new next
+          part-turn = record {
+            onward = onward-then (onward-as (words-turn tg tp k (omega (arith, is, x .prepared .given .size))) (s .go x .onward)) both;
+            rest = omega (arith, s .go x .rest, ap length rest-is);
+            behind = omega (arith, s .go x .behind, wrote .address);
+          }
+
+        pub symbols-turn : SymbolsGo row fields inherited synthesized marks links levels old address expects (k + 1) new next
+        symbols-turn = record { go = part-turn }
 
 -- ---- the end
 
@@ -134,88 +177,3 @@ module _ {row fields inherited synthesized marks links levels area : List ℕ} {
       end-written =
           let e : own + sum ≡ removed gr pr = ap₂ (λ y z. y + z) left-is (f (x .prepared)) in
           wrote-then so-far (wrote-as (ap (λ z. (5 + 8 * z) ∷ []) e) (wrote-one mid next (5 + 8 * (own + sum))))
-
--- ---- the addresses of the expects
-
-module _ (row fields inherited synthesized marks links levels old : List ℕ) (address scheme : ℕ) where
-  pub record ExpectsGo (k : ℕ) (area : List ℕ) (at : ℕ) : Type 0 where
-    pub go : (x : ExpectsFit row fields inherited synthesized marks links levels old address scheme) →
-        Onward old address (restExpects (x .prepared .given .grammar) (x .prepared .given .production) 0 scheme) area (address + k) (restExpects (x .prepared .given .grammar) (x .prepared .given .production) k at)
-        × (scheme + length (restWords (x .prepared .given .grammar) (x .prepared .given .production) 0) ≡ at + length (restWords (x .prepared .given .grammar) (x .prepared .given .production) k))
-
-module _ {row fields inherited synthesized marks links levels old : List ℕ} {address scheme : ℕ} where
-  pub expects-start : ExpectsGo row fields inherited synthesized marks links levels old address scheme 0 old scheme
-  expects-start = record { go = λ x. (let e : address ≡ address + 0 = omega arith in rw (sym e) (onward-start _ _ _), refl) }
-
-  module _ {k : ℕ} {area : List ℕ} {at : ℕ} (s : ExpectsGo row fields inherited synthesized marks links levels old address scheme k area at) (n : ℕ) (is : n ≡ byte row 1) where
-    pub expects-last : k ≤ n → n ≤ k → (x : ExpectsFit row fields inherited synthesized marks links levels old address scheme) → Wrote old area address (address + n) (restExpects (x .prepared .given .grammar) (x .prepared .given .production) 0 scheme)
-    expects-last m l x =
-        let e : n ≡ k = omega arith in
-        rw e (onward-end (onward-as (expects-over (x .prepared .given .grammar) (x .prepared .given .production) k at (omega (arith, is, x .prepared .given .size))) (s .go x .0)))
-
-    pub expects-size : ExpectsFit row fields inherited synthesized marks links levels old address scheme → length area ≡ length old
-    expects-size x = s .go x .0 .size
-
-    module _ (l : k < n) where
-      module _ (x : ExpectsFit row fields inherited synthesized marks links levels old address scheme) where
-        abbrev gi : Given row fields inherited synthesized
-        gi = x .prepared .given
-
-        abbrev gg : Grammar
-        gg = gi .grammar
-
-        abbrev gp : Production
-        gp = gi .production
-
-        here : k < length (gp .right)
-        here = omega (arith, is, gi .size)
-
-        pub place-small : (address + k < 16384) × (address + k < length area)
-        place-small = (omega (arith, x .room, here), omega (arith, x .room, here, x .long, s .go x .0 .size))
-
-        index-small : k + 1 < 13
-        index-small = omega (arith, here, gi .ofGrammar .short)
-
-        rules-at : (q : ℕ) → q ≡ getD marks (2 * k + 2) 0 → q ≡ itemCount true (k + 1) (listedOf gi)
-        rules-at q e = let s : 2 * k + 2 ≡ 2 * (k + 1) = omega arith in e ∙ (ap (λ z. getD marks z 0) s ∙ x .prepared .found .counts true (k + 1) index-small)
-
-        tests-at : (t : ℕ) → t ≡ getD marks (2 * k + 3) 0 → t ≡ itemCount false (k + 1) (listedOf gi)
-        tests-at t e = let s : 2 * k + 3 ≡ 2 * (k + 1) + 1 = omega arith in e ∙ (ap (λ z. getD marks z 0) s ∙ x .prepared .found .counts false (k + 1) index-small)
-
-        pub rules-few : (q : ℕ) → q ≡ getD marks (2 * k + 2) 0 → q ≤ 32768
-        rules-few q e = omega (arith, rules-at q e, count-few fields (listedOf gi) true (k + 1), gi .short)
-
-        pub tests-few : (t : ℕ) → t ≡ getD marks (2 * k + 3) 0 → t ≤ 32768
-        tests-few t e = omega (arith, tests-at t e, count-few fields (listedOf gi) false (k + 1), gi .short)
-
-      module _ {b own out q t u v w : ℕ} (eb : b ≡ byte row (k + 2)) (eo : own ≡ countAt inherited b) (es : out ≡ countAt synthesized b) (eq : q ≡ getD marks (2 * k + 2) 0) (et : t ≡ getD marks (2 * k + 3) 0) (eu : u ≡ addSize (own + out)) (ev : v ≡ blockSize true q) (ew : w ≡ blockSize false t) where
-        module _ (x : ExpectsFit row fields inherited synthesized marks links levels old address scheme) where
-          all-is : own + out ≡ addedFor (gg x) (symbolAt (gp x) (suc k))
-          all-is = ap₂ (λ y z. y + z) (eo ∙ (ap (countAt inherited) eb ∙ inherited-at (gi x) k (here x))) (es ∙ (ap (countAt synthesized) eb ∙ marked-at (gi x) k (here x)))
-
-          more : k + 1 ≡ suc k
-          more = omega arith
-
-          ahead-is : u + v ≡ aheadSize (gg x) (gp x) (suc k) (symbolAt (gp x) (suc k))
-          unfolding aheadSize
-          ahead-is = ap₂ (λ y z. y + z) (eu ∙ ap addSize all-is) (ev ∙ ap (blockSize true) (rules-at x q eq ∙ (ap (λ z. itemCount true z (listedOf (gi x))) more ∙ sym (inherited-count (gg x) (gp x) (suc k)))))
-
-          whole-is : u + v + 1 + w ≡ length (wordsAt (gi x) k)
-          whole-is = omega (arith, ahead-is, symbol-length (gg x) (gp x) (suc k) (symbolAt (gp x) (suc k)), ew ∙ ap (blockSize false) (tests-at x t et ∙ (ap (λ z. itemCount false z (listedOf (gi x))) more ∙ sym (tests-count (gg x) (gp x) (suc k)))))
-
-          left-is′ : length (restWords (gg x) (gp x) k) ≡ length (wordsAt (gi x) k) + length (restWords (gg x) (gp x) (k + 1))
-          left-is′ = ap length (words-turn (gg x) (gp x) k (here x)) ∙ length-append (wordsAt (gi x) k) (restWords (gg x) (gp x) (k + 1))
-
-          pub expect-small : at + (u + v) + 1 + w ≤ 16384
-          expect-small = omega (arith, whole-is, left-is′, s .go x .1, x .behind)
-
-        pub expects-go : ExpectsGo row fields inherited synthesized marks links levels old address scheme (k + 1) (set area (address + k) (at + (u + v))) (at + (u + v) + 1 + w)
-        expects-go = record { go = λ x. (on x, omega (arith, whole-is x, left-is′ x, s .go x .1)) }
-          where
-            on : (x : ExpectsFit row fields inherited synthesized marks links levels old address scheme) → Onward old address (restExpects (gg x) (gp x) 0 scheme) (set area (address + k) (at + (u + v))) (address + (k + 1)) (restExpects (gg x) (gp x) (k + 1) (at + (u + v) + 1 + w))
-            on x =
-                let ahead : at + aheadSize (gg x) (gp x) (suc k) (symbolAt (gp x) (suc k)) ≡ at + (u + v) = omega (arith, ahead-is x) in
-                let next : at + length (wordsAt (gi x) k) ≡ at + (u + v) + 1 + w = omega (arith, whole-is x) in
-                let place : address + k + 1 ≡ address + (k + 1) = omega arith in
-                let turn = expects-turn (gg x) (gp x) k at (here x) ∙ ap₂ (λ y z. y ∷ restExpects (gg x) (gp x) (k + 1) z) ahead next in
-                rw place at (onward-then {ws = (at + (u + v)) ∷ []} (onward-as turn (s .go x .0)) (wrote-one area (address + k) (at + (u + v))))

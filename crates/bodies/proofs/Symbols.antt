@@ -1,7 +1,7 @@
 -- The instructions of one symbol.
 use Prim.Native.Nat.{ℕ, suc, _+_, _-_, _≤_, _<_}
 use native.Mathlib.Omega.{arith}
-use mathlib.Core.Path.{_≡_, sym, ap, ap₂, _∙_}
+use mathlib.Core.Path.{_≡_, sym, ap, ap₂, _∙_, subst}
 use mathlib.Core.Bool.{Bool, true, false}
 use mathlib.Core.List.{List, _∷_, _++_, append-assoc}
 use lib.ListN.{length, set, getD, length-append, length-map, length-set}
@@ -15,8 +15,8 @@ use Rattle.blocks.specs.Chains.{Found, BlockFits}
 use Rattle.blocks.specs.Walk.{Listed, countOf, wordsOf, itemCount, blockWords, block, count-few}
 use Rattle.bodies.specs.Levels.{level, inherited-words, tests-words}
 use Rattle.bodies.specs.Words.{addWords, addSize, blockSize, add-length, aheadSize, symbolWords, symbol-length, evaluateWords, evaluate-length, testWords}
-use Rattle.bodies.specs.Given.{Given, listedOf, countAt, headOf, inherited-at, marked-at, head-at, SymbolFits, wordsAt}
-use Rattle.bodies.proofs.Laws.{size-some}
+use Rattle.bodies.specs.Given.{Given, listedOf, countAt, headOf, inherited-at, marked-at, head-at, SymbolFits, wordsAt, aheadAt}
+use Rattle.bodies.proofs.Laws.{size-some, set-beside}
 
 -- ---- how many
 
@@ -38,7 +38,7 @@ module _ (g : Grammar) (p : Production) where
 abbrev pub block-fits : {fields links marks : List ℕ} (x : Listed fields) (found : Found fields links marks x) (short : length fields ≤ 32768) (rules : Bool) (k : ℕ) {area : List ℕ} {a : ℕ} → k < 13 → a + blockSize rules (itemCount rules k x) ≤ length area → BlockFits fields links marks rules k area a
 block-fits {fields} x found short rules k h l = record { listed = x; found = found; here = h; few = omega (arith, count-few fields x rules k); room = λ some. omega (arith, size-some rules (itemCount rules k x) (omega arith)) }
 
-module _ {row fields inherited synthesized marks links levels : List ℕ} {k : ℕ} {area : List ℕ} {a : ℕ} (x : SymbolFits row fields inherited synthesized marks links levels k area a) where
+module _ {row fields inherited synthesized marks links levels : List ℕ} {k : ℕ} {area : List ℕ} {a e : ℕ} (x : SymbolFits row fields inherited synthesized marks links levels k area a e) where
   abbrev given : Given row fields inherited synthesized
   given = x .prepared .given
 
@@ -54,6 +54,9 @@ module _ {row fields inherited synthesized marks links levels : List ℕ} {k : �
   words-size : length (wordsAt given k) ≡ addSize (addedFor g (symbolAt p (suc k))) + blockSize true (length (inheritedRules g p (suc k))) + 1 + blockSize false (length (testsAfter g p (suc k)))
   unfolding aheadSize
   words-size = symbol-length g p (suc k) (symbolAt p (suc k))
+
+  pub note-inside : (e + k < 16384) × (e + k < length area)
+  note-inside = (omega (arith, x .apart, x .room), omega (arith, x .apart, x .room, x .long))
 
   pub index-small : k < 12
   index-small = omega (arith, short, x .here)
@@ -104,8 +107,11 @@ module _ {row fields inherited synthesized marks links levels : List ℕ} {k : �
           pub next-small : next < 16384
           next-small = omega (arith, next-is, words-size, x .room)
 
-          pub next-inside : next < length then
-          next-inside = omega (arith, next-is, wrote-length so-far, words-size, x .room, x .long)
+          pub note-there : e + k < length then
+          note-there = omega (arith, note-inside .1, wrote-length so-far)
+
+          pub next-inside : next < length (set then (e + k) next)
+          next-inside = omega (arith, next-is, length-set then (e + k) next, wrote-length so-far, words-size, x .room, x .long)
 
           module _ {h : ℕ} (eh : h ≡ headOf b) where
             tests-length : length (testsAfter g p (suc k)) ≡ itemCount false (k + 1) (listedOf given)
@@ -116,12 +122,25 @@ module _ {row fields inherited synthesized marks links levels : List ℕ} {k : �
                 let e : k + 1 ≡ suc k = omega arith in
                 ap₂ (λ y z. block false y z) (sym tests-length) (ap₂ (λ y z. wordsOf false y levels z (p .rules) (p .conditions)) after-is e ∙ tests-words g p (given .ofGrammar) levels (x .prepared .leveled) (suc k) (omega (arith, x .here)))
 
-            pub test-fits : BlockFits fields links marks false (k + 1) (set then next h) (next + 1)
-            test-fits = block-fits (listedOf given) (x .prepared .found) (given .short) false (k + 1) (omega (arith, index-small)) (omega (arith, next-is, length-set then next h, wrote-length so-far, words-size, x .room, x .long, ap (blockSize false) tests-length))
+            -- the area with the head word
+            abbrev headed : List ℕ
+            headed = set (set then (e + k) next) next h
 
-            pub symbol-written : {new : List ℕ} {end : ℕ} → ((y : BlockFits fields links marks false (k + 1) (set then next h) (next + 1)) → Wrote (set then next h) new (next + 1) end (blockWords false (top - own) levels (k + 1) (y .listed))) → Wrote area new a end (wordsAt given k)
-            unfolding symbolWords test-fits
-            symbol-written q =
+            pub test-fits : BlockFits fields links marks false (k + 1) headed (next + 1)
+            test-fits =
+                block-fits (listedOf given) (x .prepared .found) (given .short) false (k + 1) (omega (arith, index-small))
+                (omega (arith, next-is, length-set (set then (e + k) next) next h, length-set then (e + k) next, wrote-length so-far, words-size, x .room, x .long, ap (blockSize false) tests-length))
+
+            pub symbol-written : {new : List ℕ} {end : ℕ} → ((y : BlockFits fields links marks false (k + 1) headed (next + 1)) → Wrote headed new (next + 1) end (blockWords false (top - own) levels (k + 1) (y .listed))) → Wrote (set area (e + k) (a + aheadAt given k)) new a end (wordsAt given k)
+            unfolding symbolWords test-fits aheadSize
+            symbol-written {new} {end} q =
                 let here : h ≡ symbolHead (symbolAt p (suc k)) = eh ∙ (ap headOf eb ∙ head-at given k (x .here)) in
-                let last = wrote-then (wrote-one then next h) (wrote-as test-words (q test-fits)) in
-                wrote-as (append-assoc (addWords (addedFor g (symbolAt p (suc k)))) (evaluateWords (inheritedRules g p (suc k))) (symbolHead (symbolAt p (suc k)) ∷ testWords (testsAfter g p (suc k)))) (wrote-then so-far (wrote-as (ap (λ z. z ∷ testWords (testsAfter g p (suc k))) here) last))
+                let last = wrote-then (wrote-one (set then (e + k) next) next h) (wrote-as test-words (q test-fits)) in
+                let beside = set-beside (e + k) next (x .apart) so-far in
+                let tests = testWords (testsAfter g p (suc k)) in
+                let order = append-assoc (addWords (addedFor g (symbolAt p (suc k)))) (evaluateWords (inheritedRules g p (suc k))) (symbolHead (symbolAt p (suc k)) ∷ tests) in
+                let all : Wrote (set area (e + k) next) new a end (wordsAt given k) = wrote-as order (wrote-then beside (wrote-as (ap (λ z. z ∷ tests) here) last)) in
+                subst (λ z. Wrote (set area (e + k) z) new a end (wordsAt given k)) next-is all
+
+            pub symbol-size : {new : List ℕ} {end : ℕ} → ((y : BlockFits fields links marks false (k + 1) headed (next + 1)) → Wrote headed new (next + 1) end (blockWords false (top - own) levels (k + 1) (y .listed))) → length new ≡ length area
+            symbol-size q = wrote-length (symbol-written q) ∙ length-set area (e + k) (a + aheadAt given k)

@@ -4,7 +4,7 @@ use native.Mathlib.Omega.{arith}
 use mathlib.Core.Path.{_≡_, refl, sym, ap, _∙_, subst}
 use mathlib.Core.Bool.{Bool, true, false}
 use mathlib.Core.List.{List, [], _∷_, _++_, append-assoc}
-use lib.ListN.{length, drop, length-append, drop-of-length-le}
+use lib.ListN.{length, set, drop, length-append, drop-of-length-le}
 use lib.Seq.{drop-cons}
 use lib.Dec.{ltb}
 use Rattle.meaning.specs.Grammar.{Symbol, terminal, nonterminal, Production, Grammar, inh, syn, markedFor, attributeIf, symbolAt, nonterminalCount}
@@ -12,11 +12,12 @@ use Rattle.meaning.specs.Rules.{Known, WellFormed, WellFormedProduction}
 use Rattle.meaning.specs.Layout.{RulesAndConditions}
 use Rattle.meaning.specs.Scheme.{Instruction, choose, scheme, symbolsScheme, entryTests}
 use Rattle.meaning.specs.Sets.{has}
-use Rattle.meaning.specs.Program.{symbolHead, schemeWords, expectsAt, entryWords, schemeOffset, bodyWords, bodySize}
+use Rattle.meaning.specs.Program.{waitRow, symbolHead, schemeWords, expectsAt, entryWords, schemeOffset, bodyWords, bodySize}
 use Rattle.meaning.specs.Table.{byte, symbolOf}
 use Rattle.theory_base.specs.Members.{getD-in}
 use Rattle.theory_program.specs.Code.{conditions-length}
 use Rattle.token_set.specs.Words.{setOf}
+use Rattle.blocks.specs.Patch.{patch, Wrote}
 use Rattle.blocks.specs.Walk.{Listed}
 use Rattle.blocks.specs.Chains.{Found}
 use Rattle.bodies.specs.Levels.{Leveled}
@@ -120,12 +121,21 @@ pub record Prepared (row fields inherited synthesized marks links levels : List 
 abbrev pub wordsAt : {row fields inherited synthesized : List ℕ} → Given row fields inherited synthesized → ℕ → List ℕ
 wordsAt x k = symbolWords (x .grammar) (x .production) (suc k) (symbolAt (x .production) (suc k))
 
--- there is room for the words of the symbol at position k + 1
-pub record SymbolFits (row fields inherited synthesized marks links levels : List ℕ) (k : ℕ) (area : List ℕ) (a : ℕ) : Type 0 where
+-- the words of its symbol before the expect
+abbrev pub aheadAt : {row fields inherited synthesized : List ℕ} → Given row fields inherited synthesized → ℕ → ℕ
+aheadAt x k = aheadSize (x .grammar) (x .production) (suc k) (symbolAt (x .production) (suc k))
+
+-- there is room for the words of the symbol at position k + 1, behind that for the address of its expect
+pub record SymbolFits (row fields inherited synthesized marks links levels : List ℕ) (k : ℕ) (area : List ℕ) (a e : ℕ) : Type 0 where
   pub prepared : Prepared row fields inherited synthesized marks links levels
   pub here : k < length (rightOf (prepared .given))
   pub room : a + length (wordsAt (prepared .given) k) ≤ 16384
   pub long : 16384 ≤ length area
+  pub apart : e + k < a
+
+-- they are written, and the address of the expect
+abbrev pub SymbolWrote : {row fields inherited synthesized marks links levels : List ℕ} {k : ℕ} {area : List ℕ} {a e : ℕ} → SymbolFits row fields inherited synthesized marks links levels k area a e → List ℕ → ℕ → Type 0
+SymbolWrote {k = k} {area = area} {a = a} {e = e} x new next = Wrote (set area (e + k) (a + aheadAt (x .prepared .given) k)) new a next (wordsAt (x .prepared .given) k)
 
 -- ---- all symbols
 
@@ -137,34 +147,39 @@ symbolsWords g p k (x ∷ xs) = symbolWords g p k x ++ symbolsWords g p (suc k) 
 unfoldable pub restWords : Grammar → Production → ℕ → List ℕ
 restWords g p k = symbolsWords g p (suc k) (drop k (p .right))
 
-pub record SymbolsFit (row fields inherited synthesized marks links levels area : List ℕ) (a : ℕ) : Type 0 where
+-- the addresses of the expects from position k + 1 on, where its instructions begin at a
+unfoldable pub restExpects : Grammar → Production → ℕ → ℕ → List ℕ
+restExpects g p k a = expectsAt a (symbolsScheme g p (suc k) (drop k (p .right)) (endScheme g p))
+
+pub record SymbolsFit (row fields inherited synthesized marks links levels area : List ℕ) (a e : ℕ) : Type 0 where
   pub prepared : Prepared row fields inherited synthesized marks links levels
   pub room : a + length (restWords (prepared .given .grammar) (prepared .given .production) 0) ≤ 16384
   pub long : 16384 ≤ length area
+  pub apart : e + length (restExpects (prepared .given .grammar) (prepared .given .production) 0 a) ≤ a
+
+-- the words of all symbols are written, and the addresses of their expects
+abbrev pub SymbolsWrote : {row fields inherited synthesized marks links levels area : List ℕ} {a e : ℕ} → SymbolsFit row fields inherited synthesized marks links levels area a e → List ℕ → ℕ → Type 0
+SymbolsWrote {area = area} {a = a} {e = e} x new next =
+    Wrote (patch area e (restExpects (x .prepared .given .grammar) (x .prepared .given .production) 0 a)) new a next (restWords (x .prepared .given .grammar) (x .prepared .given .production) 0)
 
 pub record EndFits (row fields inherited synthesized marks links levels area : List ℕ) (a : ℕ) : Type 0 where
   pub prepared : Prepared row fields inherited synthesized marks links levels
   pub room : a + length (endWords (prepared .given .grammar) (prepared .given .production)) ≤ 16384
   pub long : 16384 ≤ length area
 
--- the addresses of the expects from position k + 1 on, where its instructions begin at a
-unfoldable pub restExpects : Grammar → Production → ℕ → ℕ → List ℕ
-restExpects g p k a = expectsAt a (symbolsScheme g p (suc k) (drop k (p .right)) (endScheme g p))
-
-pub record ExpectsFit (row fields inherited synthesized marks links levels area : List ℕ) (a b : ℕ) : Type 0 where
-  pub prepared : Prepared row fields inherited synthesized marks links levels
-  pub room : a + length (rightOf (prepared .given)) ≤ 16384
-  pub long : 16384 ≤ length area
-  pub behind : b + length (restWords (prepared .given .grammar) (prepared .given .production) 0) ≤ 16384
-
 -- ---- the whole body
 
-pub record BodyFits (row fields inherited synthesized : List ℕ) (carrying : ℕ) (marks links area : List ℕ) (a : ℕ) : Type 0 where
+pub record BodyFits (row fields inherited synthesized : List ℕ) (carrying : ℕ) (marks links area : List ℕ) (a wait : ℕ) : Type 0 where
   pub given : Given row fields inherited synthesized
   pub carried : Carried carrying (given .grammar)
   pub found : Found fields links marks (listedOf given)
   pub room : a + bodySize (given .grammar) (given .production) ≤ 16384
   pub long : 16384 ≤ length area
+  pub apart : wait + 12 ≤ a
+
+-- it is written, and what the places wait at
+abbrev pub BodyWrote : {row fields inherited synthesized : List ℕ} {carrying : ℕ} {marks links area : List ℕ} {a wait : ℕ} → BodyFits row fields inherited synthesized carrying marks links area a wait → List ℕ → ℕ → Type 0
+BodyWrote {area = area} {a = a} {wait = wait} x new next = Wrote (patch area wait (waitRow (x .given .grammar) (x .given .production))) new a next (bodyWords (x .given .grammar) a (x .given .production))
 
 -- ---- laws
 

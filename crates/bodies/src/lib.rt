@@ -1,13 +1,12 @@
-// The body of a production: the addresses of its expects, its entry tests, its scheme.
-ghost use Prim.Native.Nat.{_+_, _≤_, _<_};
+// The body of a production: the addresses of its expects, its entry tests, its scheme; and what its places wait at.
+ghost use Prim.Native.Nat.{_+_, _-_, _*_, _≤_, _<_};
 ghost use mathlib.Core.Path.{_≡_};
-ghost use lib.ListN.{length, getD};
+ghost use lib.ListN.{length, getD, replicate};
 ghost use Rattle.meaning.specs.Scheme.{synBetween};
-ghost use Rattle.meaning.specs.Program.{bodyWords};
-ghost use Rattle.blocks.specs.Patch.{Wrote};
-ghost use Rattle.bodies.specs.Levels.{Leveled};
-ghost use Rattle.bodies.specs.Words.{addWords, addSize, blockSize, endWords};
-ghost use Rattle.bodies.specs.Given.{Given, rightOf, countAt, synthesizedAt, Carried, headOf, Prepared, SymbolFits, wordsAt, SymbolsFit, restWords, EndFits, ExpectsFit, restExpects, BodyFits};
+ghost use Rattle.blocks.specs.Patch.{patch, Wrote};
+ghost use Rattle.bodies.specs.Words.{addWords, addSize, endWords};
+ghost use Rattle.bodies.specs.Given.{Given, rightOf, countAt, synthesizedAt, Carried, headOf, Prepared, SymbolFits, SymbolWrote, SymbolsFit, SymbolsWrote, EndFits, BodyFits, BodyWrote};
+ghost use Rattle.bodies.specs.Waits.{LeveledAndWaiting};
 use token_set::TokenSet;
 
 // ---- numbers
@@ -56,50 +55,57 @@ fn head_of(symbol: u32) -> u32
     3 + 8 * (symbol - 128)
 }
 
-fn add_size(n: u32) -> usize
-    ensures { λ r. ⌜ (r ≡ addSize n) × (r ≤ 1) ⌝ }
+// 0 in the words of a range.
+pub fn clear(area: &mut [u32], from: usize, to: usize)
+    requires { ⌜ (from ≤ to) × (to ≤ length (now area)) ⌝ }
+    ensures { λ r. ⌜ now (area .exit) ≡ patch (now (area .entry)) from (replicate (to - from) 0) ⌝ }
 {
-    if n == 0 {
-        return 0;
+    let mut at = from;
+    while at < to {
+        area[at] = 0;
+        at += 1;
     }
-    1
 }
 
-fn block_size(rules: bool, n: u32) -> usize
-    requires { ⌜ n ≤ 32768 ⌝ }
-    ensures { λ r. ⌜ (r ≡ blockSize rules n) × (r ≤ 98305) ⌝ }
+// ---- levels, and what the places wait at
+
+// What one place waits at: the left side, the registers passed, those of the symbol that stand marked, those it inherits, its byte,
+// and a bit.
+fn wait_word(left: u32, passed: u32, marked: u32, own: u32, symbol: u32) -> u32
+    requires { ⌜ (left < 256) × (passed < 65536) × (marked < 256) × (own < 256) × (symbol < 256) ⌝ }
+    ensures { λ r. ⌜ r ≡ left + 64 * passed + 8192 * marked + 131072 * own + 2097152 * symbol + 536870912 ⌝ }
 {
-    if n == 0 {
-        return 0;
-    }
-    if rules {
-        return 1 + 2 * n as usize;
-    }
-    1 + 3 * n as usize
+    left + 64 * passed + 8192 * marked + 131072 * own + 2097152 * symbol + 536870912
 }
 
-// ---- levels
-
+// The levels of the positions. On the way what the production's places wait at is written: a word for each symbol, then zeros.
 pub fn find_levels(
     row: &[u8],
     fields: &[u8],
     inherited: &[u8],
     synthesized: &[u8],
     carrying: u64,
+    area: &mut [u32],
+    wait: usize,
 ) -> [u32; 13]
-    requires { ⌜ Given (now row) (now fields) (now inherited) (now synthesized) ⌝ }
-    ensures { λ r. ⌜ (length r ≡ 13) × ((x : Given (now (row .entry)) (now (fields .entry)) (now (inherited .entry)) (now (synthesized .entry))) → Carried carrying (x .grammar) → Leveled (x .grammar) (x .production) r) ⌝ }
+    requires { ⌜ Given (now row) (now fields) (now inherited) (now synthesized) × (wait + 12 ≤ length (now area)) ⌝ }
+    ensures { λ r. ⌜ (length r ≡ 13) × ((x : Given (now (row .entry)) (now (fields .entry)) (now (inherited .entry)) (now (synthesized .entry))) → Carried carrying (x .grammar) → LeveledAndWaiting x r (now (area .entry)) (now (area .exit)) wait) ⌝ }
 {
     let mut levels = [0u32; 13];
+    let left = value::byte_at(row, 0);
     let size = value::byte_at(row, 1) as usize;
     let mut sum = 0u32;
     let mut k: usize = 0;
     while k < size {
         let symbol = value::byte_at(row, k + 2);
+        let marked = count_at(synthesized, symbol);
+        let own = count_at(inherited, symbol);
+        area[wait + k] = wait_word(left, sum, marked, own, symbol);
         sum = sum + synthesized_at(carrying, synthesized, symbol);
-        levels[k + 1] = sum + count_at(inherited, symbol);
+        levels[k + 1] = sum + own;
         k += 1;
     }
+    clear(area, wait + size, wait + 12);
     levels
 }
 
@@ -116,7 +122,8 @@ fn write_add(n: u32, area: &mut [u32], address: usize) -> usize
     address + 1
 }
 
-// The instructions of the symbol at position k + 1.
+// The instructions of the symbol at position k + 1; the address of its expect is noted among those of the production's expects, which
+// stand from another address on.
 fn write_symbol(
     row: &[u8],
     fields: &[u8],
@@ -128,9 +135,10 @@ fn write_symbol(
     k: usize,
     area: &mut [u32],
     address: usize,
+    expects: usize,
 ) -> usize
-    requires { ⌜ SymbolFits (now row) (now fields) (now inherited) (now synthesized) (now marks) (now links) (now levels) k (now area) address ⌝ }
-    ensures { λ r. ⌜ ((x : SymbolFits (now (row .entry)) (now (fields .entry)) (now (inherited .entry)) (now (synthesized .entry)) (now (marks .entry)) (now (links .entry)) (now (levels .entry)) k (now (area .entry)) address) → Wrote (now (area .entry)) (now (area .exit)) address r (wordsAt (x .prepared .given) k)) ⌝ }
+    requires { ⌜ SymbolFits (now row) (now fields) (now inherited) (now synthesized) (now marks) (now links) (now levels) k (now area) address expects ⌝ }
+    ensures { λ r. ⌜ ((x : SymbolFits (now (row .entry)) (now (fields .entry)) (now (inherited .entry)) (now (synthesized .entry)) (now (marks .entry)) (now (links .entry)) (now (levels .entry)) k (now (area .entry)) address expects) → SymbolWrote x (now (area .exit)) r) ⌝ }
 {
     let symbol = value::byte_at(row, k + 2);
     let own = count_at(inherited, symbol);
@@ -148,6 +156,7 @@ fn write_symbol(
         area,
         evaluate,
     );
+    area[expects + k] = expect as u32;
     area[expect] = head_of(symbol);
     blocks::write_block(
         fields,
@@ -162,7 +171,7 @@ fn write_symbol(
     )
 }
 
-// The instructions of all symbols.
+// The instructions of all symbols, and the addresses of their expects.
 fn write_symbols(
     row: &[u8],
     fields: &[u8],
@@ -173,9 +182,10 @@ fn write_symbols(
     levels: &[u32],
     area: &mut [u32],
     address: usize,
+    expects: usize,
 ) -> usize
-    requires { ⌜ SymbolsFit (now row) (now fields) (now inherited) (now synthesized) (now marks) (now links) (now levels) (now area) address ⌝ }
-    ensures { λ r. ⌜ ((x : SymbolsFit (now (row .entry)) (now (fields .entry)) (now (inherited .entry)) (now (synthesized .entry)) (now (marks .entry)) (now (links .entry)) (now (levels .entry)) (now (area .entry)) address) → Wrote (now (area .entry)) (now (area .exit)) address r (restWords (x .prepared .given .grammar) (x .prepared .given .production) 0)) ⌝ }
+    requires { ⌜ SymbolsFit (now row) (now fields) (now inherited) (now synthesized) (now marks) (now links) (now levels) (now area) address expects ⌝ }
+    ensures { λ r. ⌜ ((x : SymbolsFit (now (row .entry)) (now (fields .entry)) (now (inherited .entry)) (now (synthesized .entry)) (now (marks .entry)) (now (links .entry)) (now (levels .entry)) (now (area .entry)) address expects) → SymbolsWrote x (now (area .exit)) r) ⌝ }
 {
     let size = value::byte_at(row, 1) as usize;
     let mut k: usize = 0;
@@ -192,6 +202,7 @@ fn write_symbols(
             k,
             area,
             to,
+            expects,
         );
         k += 1;
     }
@@ -241,40 +252,9 @@ fn write_end(
     remove + 1
 }
 
-// ---- the addresses of the expects of a scheme
-
-fn write_expects(
-    row: &[u8],
-    fields: &[u8],
-    inherited: &[u8],
-    synthesized: &[u8],
-    marks: &[u32],
-    links: &[u32],
-    levels: &[u32],
-    area: &mut [u32],
-    address: usize,
-    scheme: usize,
-) -> usize
-    requires { ⌜ ExpectsFit (now row) (now fields) (now inherited) (now synthesized) (now marks) (now links) (now levels) (now area) address scheme ⌝ }
-    ensures { λ r. ⌜ ((x : ExpectsFit (now (row .entry)) (now (fields .entry)) (now (inherited .entry)) (now (synthesized .entry)) (now (marks .entry)) (now (links .entry)) (now (levels .entry)) (now (area .entry)) address scheme) → Wrote (now (area .entry)) (now (area .exit)) address r (restExpects (x .prepared .given .grammar) (x .prepared .given .production) 0 scheme)) ⌝ }
-{
-    let size = value::byte_at(row, 1) as usize;
-    let mut k: usize = 0;
-    let mut at = scheme;
-    while k < size {
-        let symbol = value::byte_at(row, k + 2);
-        let all = count_at(inherited, symbol) + count_at(synthesized, symbol);
-        let ahead = add_size(all) + block_size(true, number_at(marks, 2 * k + 2));
-        let behind = block_size(false, number_at(marks, 2 * k + 3));
-        area[address + k] = (at + ahead) as u32;
-        at = at + ahead + 1 + behind;
-        k += 1;
-    }
-    address + size
-}
-
 // ---- the body
 
+// The body from an address on, and from another one on what the places wait at.
 pub fn write_body(
     row: &[u8],
     fields: &[u8],
@@ -285,26 +265,15 @@ pub fn write_body(
     links: &[u32],
     area: &mut [u32],
     address: usize,
+    wait: usize,
 ) -> usize
-    requires { ⌜ BodyFits (now row) (now fields) (now inherited) (now synthesized) carrying (now marks) (now links) (now area) address ⌝ }
-    ensures { λ r. ⌜ ((x : BodyFits (now (row .entry)) (now (fields .entry)) (now (inherited .entry)) (now (synthesized .entry)) carrying (now (marks .entry)) (now (links .entry)) (now (area .entry)) address) → Wrote (now (area .entry)) (now (area .exit)) address r (bodyWords (x .given .grammar) address (x .given .production))) ⌝ }
+    requires { ⌜ BodyFits (now row) (now fields) (now inherited) (now synthesized) carrying (now marks) (now links) (now area) address wait ⌝ }
+    ensures { λ r. ⌜ ((x : BodyFits (now (row .entry)) (now (fields .entry)) (now (inherited .entry)) (now (synthesized .entry)) carrying (now (marks .entry)) (now (links .entry)) (now (area .entry)) address wait) → BodyWrote x (now (area .exit)) r) ⌝ }
 {
-    let levels = find_levels(row, fields, inherited, synthesized, carrying);
+    let levels = find_levels(row, fields, inherited, synthesized, carrying, area, wait);
     let size = value::byte_at(row, 1) as usize;
     let tests = number_at(marks, 1);
-    let scheme = address + size + 3 * tests as usize;
-    let entry = write_expects(
-        row,
-        fields,
-        inherited,
-        synthesized,
-        marks,
-        links,
-        &levels,
-        area,
-        address,
-        scheme,
-    );
+    let entry = address + size;
     let last = number_at(marks, 33);
     let first = blocks::write_items(fields, links, false, tests, last, 0, &levels, area, entry);
     let end = write_symbols(
@@ -317,6 +286,7 @@ pub fn write_body(
         &levels,
         area,
         first,
+        address,
     );
     write_end(
         row,

@@ -1,8 +1,8 @@
 -- Candidates that are evaluated, and those that are left.
-use Prim.Native.Nat.{ℕ, zero, suc, _+_, _-_, _*_, _≤_, _<_, min}
+use Prim.Native.Nat.{ℕ, suc, _+_, _-_, _*_, _≤_, _<_, min}
 use native.Mathlib.Omega.{arith}
 use mathlib.Core.Path.{_≡_, refl, sym, ap, ap₂, _∙_, subst}
-use mathlib.Core.Bool.{Bool, true, false}
+use mathlib.Core.Bool.{true}
 use mathlib.Core.List.{List, [], _∷_, _++_, append-nil, append-assoc}
 use lib.ListN.{length, getD, set, take, drop, length-append, length-take, length-drop, take-append-drop, drop-of-length-le}
 use lib.Seq.{drop-cons, drop-drop, drop-append-add, drop-at, take-at, length-take-le}
@@ -12,10 +12,9 @@ use Rattle.meaning.specs.Base.{total}
 use Rattle.meaning.specs.Grammar.{Grammar}
 use Rattle.meaning.specs.Value as Value
 use Rattle.meaning.specs.Calls as Calls
-use Rattle.meaning.specs.Calls.{Stacks}
 use Rattle.meaning.specs.PublicCalls.{stacksOf}
 use Rattle.meaning_ranking.specs.Ranking.{Entry, entry, value, cellsOf}
-use Rattle.meaning_ranking.specs.RankCall.{evaluated, entryOf, Evaluation, andThen, evaluations}
+use Rattle.meaning_ranking.specs.RankCall.{evaluated, entryOf, Evaluation, evaluations}
 use Rattle.theory_base.specs.Members.{T→true}
 use Rattle.theory_ranking.specs.Entries.{entriesOf, Ranged}
 use Rattle.theory_ranking.specs.Cells.{cells-append, length-cells, entries-cells, set-three}
@@ -23,8 +22,8 @@ use Rattle.theory_ranking.specs.Report.{countedFrom}
 use Rattle.theory_ranking.specs.Caller.{ranged-more, counted-more}
 use Rattle.theory_evaluating.specs.Values.{number-of}
 use Rattle.theory_evaluating.specs.Outcomes.{outcomeOf}
-use Rattle.fit.specs.Shown.{Shown, Readable}
-use Rattle.engine.specs.Records.{answerIs}
+use Rattle.fit.specs.Shown.{Shown}
+use Rattle.records.specs.Records.{answerIs}
 use Rattle.evaluate.specs.declared.Candidate.{Candidate}
 use Rattle.evaluate.specs.Opened.{LentClean, clean-unknown}
 use Rattle.evaluate.specs.Ran.{answerRanged, EvaluatedAs}

@@ -7,10 +7,9 @@ ghost use Rattle.meaning.specs.Base.{total};
 ghost use Rattle.meaning_ranking.specs.Ranking.{entry};
 ghost use Rattle.meaning_ranking.specs.RankCall.{entryOf};
 ghost use Rattle.fit.specs.Shown.{Readable};
-ghost use Rattle.engine.specs.Records.{answerIs};
+ghost use Rattle.records.specs.Records.{answerIs};
 ghost use Rattle.candidates.specs.Each.{putAt, AllDone};
-use engine::Answer;
-use engine::lent;
+use records::Answer;
 
 // An entry's three cells.
 fn put_cells(list: &mut [i64], i: usize, value: i64, refusal: u32)
@@ -49,8 +48,8 @@ pub fn evaluate_all(
     requires { ⌜ Readable (now program) × (length (now kinds) ≡ length (now values)) × (total (now lengths) ≡ length (now kinds)) × (3 * length (now lengths) ≤ length (now list)) ⌝ }
     ensures { λ r. ⌜ AllDone (now (program .entry)) (now (lengths .entry)) (now (kinds .entry)) (now (values .entry)) (now (list .entry)) (now (registers .entry)) (now (places .entry)) (now (list .exit)) (now (registers .exit)) (now (places .exit)) ⌝ }
 {
-    let mut a = lent::smaller(registers.len(), lent::REGISTERS);
-    let mut b = lent::smaller(places.len(), lent::PLACES);
+    let mut a = cells::smaller(registers.len(), cells::REGISTERS);
+    let mut b = cells::smaller(places.len(), cells::PLACES);
     let mut at = 0;
     let mut i = 0;
     while i < lengths.len() {

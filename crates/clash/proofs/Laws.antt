@@ -1,51 +1,30 @@
 -- The ways of the functions on two productions.
-use Prim.Native.Nat.{ℕ, _+_, _-_, _*_, _≤_, _<_, min, max}
+use Prim.Native.Nat.{ℕ, _+_, _-_, _≤_, _<_}
+use native.Mathlib.Decide.{decLt, ℕ-discrete}
 use native.Mathlib.Omega.{arith}
-use mathlib.Core.Path.{_≡_, sym, ap, _∙_, subst}
+use mathlib.Core.Path.{_≡_, refl, sym, ap, _∙_, subst}
+use mathlib.Core.Logic.{_⊎_, inl, inr}
 use mathlib.Core.Bool.{Bool, true, false, _&&_}
 use mathlib.Core.List.{List, [], _++_}
-use borrow.Author.Tests.{lt-leb}
-use lib.Dec.{T, eqb, leb, leb→le, le→leb}
+use lib.Dec.{T, eqb}
 use lib.ListN.{getD, length, take, drop}
-use Rattle.meaning.specs.Base.{all, countFrom}
+use Rattle.meaning.specs.Base.{all}
 use lib.IntN.{ℤ}
 use Rattle.meaning.specs.Grammar.{Production, Grammar, productionAt}
 use Rattle.meaning.specs.Sets.{has, singleton}
 use Rattle.meaning.specs.Decide.{meet}
 use Rattle.meaning.specs.Differences.{constrained, matrixOf, closed, noneNegative, solvable}
-use Rattle.theory_base.specs.Members.{T→true}
 use Rattle.theory_sets.specs.Intervals.{entry}
-use Rattle.theory_sets.specs.Widths.{both-true}
 use Rattle.token_set.specs.Words.{setOf}
+use Rattle.analysis.specs.Rows.{leftAt}
 use Rattle.analysis.specs.Views.{members}
 use Rattle.analysis.specs.Growth.{none-in, single-is}
-use Rattle.analysis.specs.Numbers.{all-count, count-all}
+use Rattle.analysis.specs.Numbers.{Clear, clear-none}
 use Rattle.entry_conditions.specs.Entry.{atEntry, rankBy, raised, lowered, Stretch}
-use Rattle.clash.specs.Together.{enterTogether, grammarIn, rank-most, matrix-told, ranges-told, compared-told}
+use Rattle.rivals.specs.Rivals.{leaveValues, startTogether, rival, NextRival, rival-starts, rival-values, no-rival}
+use Rattle.clash.specs.Together.{enterTogether, grammarIn, later-free, earlier-free, rank-most, matrix-told, ranges-told, compared-told}
 use Rattle.entry_conditions.specs.Walk.{afterAll, from-on}
-use Rattle.clash.specs.Kept.{leaveValues}
-use Rattle.clash.specs.Clashing.{Placed, Kept}
-
--- ---- all intervals
-
-module _ (l h m i : ℕ) where
-  pub apart : min h i < max l m → false ≡ leb (max l m) (min h i)
-  apart e = sym (lt-leb (max l m) (min h i) e)
-
-  pub overlapping : l ≤ h → m ≤ h → l ≤ i → leb m i ≡ leb (max l m) (min h i)
-  overlapping x y z = both-true (leb m i) (leb (max l m) (min h i)) (λ t. let u = leb→le m i t in le→leb (max l m) (min h i) (omega arith)) (λ t. let u = leb→le (max l m) (min h i) t in le→leb m i (omega arith))
-
-module _ (lows highs : List ℕ) (p q : ℕ) where
-  abbrev pub overlapAt : ℕ → Bool
-  overlapAt a = leb (max (getD lows (8 * p + a) 0) (getD lows (8 * q + a) 0)) (min (getD highs (8 * p + a) 0) (getD highs (8 * q + a) 0))
-
-  pub values-left : ((a : ℕ) → a < 8 → T (overlapAt a)) → true ≡ leaveValues lows highs p q
-  unfolding leaveValues
-  values-left k = sym (T→true _ (all-count overlapAt 0 8 (λ a l m. k a m)))
-
-  pub none-left : (a : ℕ) → a < 8 → overlapAt a ≡ false → false ≡ leaveValues lows highs p q
-  unfolding leaveValues
-  none-left a l h = both-true false (all overlapAt (countFrom 0 8)) (λ t. absurd t) (λ t. rw h at (count-all overlapAt 0 8 t a (omega arith) l))
+use Rattle.clash.specs.Clashing.{Placed, Kept, KeptTo, Given, Meeting, Seen, FirstRival, clashIn, enterIn, clash-apart, clash-met, both-kept, unmet-clear}
 
 -- ---- two productions
 
@@ -63,14 +42,71 @@ values-told {t} {p = p} {q = q} x kp y kq i j sum e =
     let b = kq .rank in
     e ∙ ranges-told (grammarIn t) (productionAt (grammarIn t) p) (productionAt (grammarIn t) q) (omega arith) (omega arith) (x .stretch .fits) (y .stretch .fits) (omega arith) (kp .low) (kq .low) (kp .high) (kq .high)
 
-pub differences-told :
-    (g : Grammar) (p q : Production) {first second : ℕ} {r : Bool} → first ≡ afterAll rankBy p 0 → (first ≡ 0 → ⊥) → second ≡ afterAll rankBy q 0 → (second ≡ 0 → ⊥) → 3 ≤ first + second
-    → r ≡ solvable 8 (atEntry (p .conditions) ++ atEntry (q .conditions)) → r ≡ enterTogether g p q
-differences-told g p q a i b j sum e = e ∙ compared-told g p q (omega arith) (omega arith) (omega arith)
+-- where none compares
+pub ranges-free :
+    (g : Grammar) (p q : Production) (first second : ℕ) → first ≡ afterAll rankBy p 0 → second ≡ afterAll rankBy q 0 → first + second ≤ 2
+    → (first ≡ 1 → second ≡ 1 → enterTogether g p q ≡ true) → true ≡ enterTogether g p q
+ranges-free g p q first second a b sum k = go (ℕ-discrete first 0) (ℕ-discrete second 0)
+  where
+    go : Dec (first ≡ 0) → Dec (second ≡ 0) → true ≡ enterTogether g p q
+    go (yes i) d = later-free g p q (sym a ∙ i)
+    go (no i) (yes j) = earlier-free g p q (sym b ∙ j)
+    go (no i) (no j) = sym (k (omega arith) (omega arith))
 
 -- a rank is at most 2
 pub rank-small : (p : Production) {n : ℕ} → n ≡ afterAll rankBy p 0 → n ≤ 2
 rank-small p e = omega (arith, rank-most (atEntry (p .conditions)) 0 (omega arith))
+
+-- where one compares
+pub differences-told :
+    (g : Grammar) (p q : Production) {first second : ℕ} {r : Bool} → first ≡ afterAll rankBy p 0 → second ≡ afterAll rankBy q 0 → 2 < first + second
+    → r ≡ solvable 8 (atEntry (p .conditions) ++ atEntry (q .conditions)) → r ≡ enterTogether g p q
+differences-told g p q a b sum e =
+    let l = rank-small p a in
+    let m = rank-small q b in
+    e ∙ compared-told g p q (omega arith) (omega arith) (omega arith)
+
+-- what the intervals that are kept tell of two productions
+module _
+    {t rows offsets sets : List ℕ} {count met : ℕ} {lows highs ranks : List ℕ} (x : Given t rows offsets sets count) (m : Meeting rows sets count met) (p : ℕ) (k : KeptTo t rows met lows highs ranks (p + 1)) (l : p < count) where
+  kept-told : (q : ℕ) → q < p → startTogether rows sets p q ≡ true → getD ranks p 0 ≡ 1 → getD ranks q 0 ≡ 1 → rival rows sets lows highs ranks p q ≡ enterIn t p q
+  kept-told q h s i j =
+      let w = both-kept m p q k l h _ refl s in
+      sym (rival-values rows sets lows highs ranks p q s i j)
+      ∙ values-told (x .placed p l) (w .0) (x .placed q (omega arith)) (w .1) (λ z. absurd (omega arith)) (λ z. absurd (omega arith)) (omega arith) refl
+
+  -- a rival's entry conditions can be met together with the others where both are ranges
+  pub rival-enters : (q : ℕ) → q < p → rival rows sets lows highs ranks p q ≡ true → getD ranks p 0 ≡ 1 → getD ranks q 0 ≡ 1 → enterIn t p q ≡ true
+  rival-enters q h e i j = sym (kept-told q h (rival-starts rows sets lows highs ranks p q e) i j) ∙ e
+
+  -- no rival, no clash
+  apart-clear : (q : ℕ) → q < p → rival rows sets lows highs ranks p q ≡ false → clashIn t p q ≡ false
+  apart-clear q h e = go (no-rival rows sets lows highs ranks p q e)
+    where
+      go : (startTogether rows sets p q ≡ false) ⊎ ((startTogether rows sets p q ≡ true) × (getD ranks p 0 ≡ 1) × (getD ranks q 0 ≡ 1)) → clashIn t p q ≡ false
+      go (inl s) = clash-apart x p q l (omega arith) _ refl s
+      go (inr w) = clash-met x p q l (omega arith) _ refl (w .0) _ (kept-told q h (w .0) (w .1) (w .2)) _ e
+
+  pub clear-on : (from r : ℕ) → Clear (clashIn t p) from → NextRival (rival rows sets lows highs ranks p) p from r → Clear (clashIn t p) r
+  clear-on from r c n = record { clear = λ j h t. go j h t (decLt j from) }
+    where
+      go : (j : ℕ) → j < r → T (clashIn t p j) → Dec (j < from) → ⊥
+      go j h t (yes i) = c .clear j i t
+      go j h t (no i) = subst T (apart-clear j (omega (arith, n .upto)) (n .passed j (omega arith) h)) t
+
+  -- what is known where the search among the earlier ones begins
+  pub first-known :
+      (seen : List ℕ) → Seen rows sets p seen → (r : ℕ) → FirstRival (meet (setOf (getD seen (leftAt rows p) 0)) (setOf (getD sets p 0))) (rival rows sets lows highs ranks p) p r
+      → (r ≤ p) × Clear (clashIn t p) r × (r < p → rival rows sets lows highs ranks p r ≡ true)
+  first-known seen s r f = go (meet (setOf (getD seen (leftAt rows p) 0)) (setOf (getD sets p 0))) refl
+    where
+      go : (b : Bool) → meet (setOf (getD seen (leftAt rows p) 0)) (setOf (getD sets p 0)) ≡ b → (r ≤ p) × Clear (clashIn t p) r × (r < p → rival rows sets lows highs ranks p r ≡ true)
+      go true e =
+          let n = f .met e in
+          (n .upto, clear-on 0 r (clear-none (clashIn t p)) n, n .here)
+      go false e =
+          let i = f .unmet e in
+          (omega arith, subst (Clear (clashIn t p)) (sym i) (unmet-clear x p seen l s e), λ h. absurd (omega arith))
 
 -- by the matrix
 pub solved-told :

@@ -5,8 +5,7 @@ use native.Mathlib.Omega.{arith}
 use mathlib.Core.Path.{_≡_, refl, sym, ap, ap₂, _∙_, subst}
 use mathlib.Core.Bool.{Bool, true, false, _&&_, _||_}
 use mathlib.Core.List.{List, _++_}
-use borrow.Author.Tests.{eq-eqb, ne-eqb}
-use lib.Dec.{T, eqb, eqb→eq, eqb-refl}
+use lib.Dec.{T, eqb, eqb-refl}
 use lib.ListN.{getD, length, replicate, set, length-set, drop, length-replicate}
 use lib.Seq.{getD-set-same, getD-set-other}
 use lib.Bits.{bitOr}
@@ -26,6 +25,7 @@ use Rattle.analysis.specs.Growth.{or-left, or-right, none-in}
 use Rattle.analysis.specs.Numbers.{Clear, clear-any, any-count, count-any}
 use Rattle.entry_conditions.specs.Entry.{Stretch, rankBy, raiseBy, lowerBy, lowest, highest}
 use Rattle.entry_conditions.specs.Walk.{afterAll}
+use Rattle.rivals.specs.Rivals.{startTogether, NextRival, start-tells}
 use Rattle.clash.specs.Kept.{Own, Stored, stored-own, stored-other}
 use Rattle.clash.specs.Together.{enterTogether, grammarIn}
 
@@ -36,9 +36,13 @@ pub record Placed (t offsets : List ℕ) (p : ℕ) : Type 0 where
   pub few : inh (grammarIn t) (nonterminal (productionAt (grammarIn t) p .left)) ≤ 8
   pub fits : T (all (entry (inh (grammarIn t) (nonterminal (productionAt (grammarIn t) p .left)))) (entryTests (grammarIn t) (productionAt (grammarIn t) p)))
 
--- what is kept of the entry conditions of production p of a table: what there are, and the ends that they leave
+-- what there are of the entry conditions of production p of a table
+abbrev pub Ranked : List ℕ → List ℕ → ℕ → Type 0
+Ranked t ranks p = getD ranks p 0 ≡ afterAll rankBy (productionAt (grammarIn t) p) 0
+
+-- what is kept of them: what there are, and the ends that they leave
 pub record Kept (t lows highs ranks : List ℕ) (p : ℕ) : Type 0 where
-  pub rank : getD ranks p 0 ≡ afterAll rankBy (productionAt (grammarIn t) p) 0
+  pub rank : Ranked t ranks p
   pub low : Own (afterAll raiseBy (productionAt (grammarIn t) p) lowest) lows p
   pub high : Own (afterAll lowerBy (productionAt (grammarIn t) p) highest) highs p
 
@@ -107,26 +111,11 @@ pub record Given (t rows offsets sets : List ℕ) (count : ℕ) : Type 0 where
 abbrev pub clashIn : List ℕ → ℕ → ℕ → Bool
 clashIn t p q = clash (grammarIn t) (productionAt (grammarIn t) p) (productionAt (grammarIn t) q)
 
+-- some values meet the entry conditions of both
+abbrev pub enterIn : List ℕ → ℕ → ℕ → Bool
+enterIn t p q = enterTogether (grammarIn t) (productionAt (grammarIn t) p) (productionAt (grammarIn t) q)
+
 -- ---- two productions
-
--- one left side and sets that meet
-unfoldable pub startTogether : List ℕ → List ℕ → ℕ → ℕ → Bool
-startTogether rows sets p q = eqb (leftAt rows p) (leftAt rows q) && meet (setOf (getD sets p 0)) (setOf (getD sets q 0))
-
-module _ (rows sets : List ℕ) (p q : ℕ) where
-  pub start-other : (leftAt rows p ≡ leftAt rows q → ⊥) → false ≡ startTogether rows sets p q
-  unfolding startTogether
-  start-other n = sym (ap (λ b. b && meet (setOf (getD sets p 0)) (setOf (getD sets q 0))) (ne-eqb (leftAt rows p) (leftAt rows q) n))
-
-  pub start-same : leftAt rows p ≡ leftAt rows q → (r : Bool) → r ≡ meet (setOf (getD sets p 0)) (setOf (getD sets q 0)) → r ≡ startTogether rows sets p q
-  unfolding startTogether
-  start-same e r h = h ∙ sym (ap (λ b. b && meet (setOf (getD sets p 0)) (setOf (getD sets q 0))) (eq-eqb (leftAt rows p) (leftAt rows q) e))
-
-  pub start-tells : startTogether rows sets p q ≡ true → (leftAt rows p ≡ leftAt rows q) × T (meet (setOf (getD sets p 0)) (setOf (getD sets q 0)))
-  unfolding startTogether
-  start-tells e =
-      let u = both (eqb (leftAt rows p) (leftAt rows q)) (meet (setOf (getD sets p 0)) (setOf (getD sets q 0))) (true→T _ e) in
-      (eqb→eq (leftAt rows p) (leftAt rows q) (u .0), u .1)
 
 -- the last part of a clash
 abbrev entersWith : Grammar → Production → Production → Bool
@@ -179,10 +168,6 @@ module _ (t : List ℕ) where
   clashes-none p c = clear-any (clashIn t p) p c
 
 -- ---- what the productions of each left side have had so far
-pub record Rivals (seen s later r : ℕ) : Type 0 where
-  pub upto : r ≤ later
-  pub apart : 0 < r → meet (setOf seen) (setOf s) ≡ false
-
 pub record Seen (rows sets : List ℕ) (k : ℕ) (seen : List ℕ) : Type 0 where
   pub size : length seen ≡ 48
   pub has : (p : ℕ) → p < k → (u : ℕ) → T (members (getD sets p 0) u) → T (sees seen u (leftAt rows p))
@@ -210,11 +195,16 @@ seen-met rows sets k j seen s l e =
     let i : T (sees seen (w .0) (leftAt rows k)) = subst (λ (n : ℕ). T (sees seen (w .0) n)) (sym (c .0)) (s .has j l (w .0) (w .2)) in
     meet-at (setOf (getD seen (leftAt rows k) 0)) (setOf (getD sets k 0)) (w .0) i (w .1)
 
--- before the place to begin there is no clash
-pub rivals-clear :
-    {t rows offsets sets : List ℕ} {count : ℕ} → Given t rows offsets sets count → (k r : ℕ) (seen : List ℕ) → k < count → Seen rows sets k seen
-    → Rivals (getD seen (leftAt rows k) 0) (getD sets k 0) k r → Clear (clashIn t k) r
-rivals-clear {t} {rows} {offsets} {sets} x k r seen l s v = record { clear = λ j h c. rw (v .apart (omega arith)) at (seen-met rows sets k j seen s (omega (arith, v .upto)) (clash-tells x k j l (omega (arith, v .upto)) c)) }
+-- where it meets nothing that they have had, nothing clashes
+pub unmet-clear :
+    {t rows offsets sets : List ℕ} {count : ℕ} → Given t rows offsets sets count → (k : ℕ) (seen : List ℕ) → k < count → Seen rows sets k seen
+    → meet (setOf (getD seen (leftAt rows k) 0)) (setOf (getD sets k 0)) ≡ false → Clear (clashIn t k) k
+unmet-clear {t} {rows} {offsets} {sets} x k seen l s e = record { clear = λ j h c. rw e at (seen-met rows sets k j seen s h (clash-tells x k j l (omega arith) c)) }
+
+-- r is the first rival, if the set meets what its left side has had, or none
+pub record FirstRival (meets : Bool) (f : ℕ → Bool) (later r : ℕ) : Type 0 where
+  pub met : meets ≡ true → NextRival f later 0 r
+  pub unmet : meets ≡ false → r ≡ later
 
 -- ---- left sides with productions whose sets meet
 pub record Meeting (rows sets : List ℕ) (k met : ℕ) : Type 0 where

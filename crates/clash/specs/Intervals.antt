@@ -1,5 +1,5 @@
 -- The interval that entry conditions leave to each attribute, and that ranges agree by twos exactly where no interval is empty. Comparisons leave the intervals as they are.
-use Prim.Native.Nat.{ℕ, zero, suc, _+_, _≤_, _<_, min, max}
+use Prim.Native.Nat.{ℕ, zero, suc, _≤_, _<_, min, max}
 use native.Mathlib.Omega.{arith}
 use mathlib.Core.Path.{_≡_, sym, _∙_}
 use mathlib.Core.Logic.{_⊎_, inl, inr}

@@ -1,19 +1,11 @@
 -- Ends that are kept for all productions, production p's from 8 p on.
-use Prim.Native.Nat.{ℕ, _+_, _*_, _≤_, _<_, min, max}
+use Prim.Native.Nat.{ℕ, _+_, _*_, _≤_, _<_}
 use native.Mathlib.Decide.{ℕ-discrete}
 use native.Mathlib.Omega.{arith}
 use mathlib.Core.Path.{_≡_, refl, _∙_, subst}
-use mathlib.Core.Bool.{Bool}
 use mathlib.Core.List.{List}
-use lib.Dec.{leb}
 use lib.ListN.{getD, length, set, length-set}
 use lib.Seq.{getD-set-same, getD-set-other}
-use Rattle.meaning.specs.Base.{all, countFrom}
-
--- no interval of both p and q is empty: from the higher low end to the lower high end
-unfoldable pub leaveValues : List ℕ → List ℕ → ℕ → ℕ → Bool
-leaveValues lows highs p q =
-    all (λ a. leb (max (getD lows (8 * p + a) 0) (getD lows (8 * q + a) 0)) (min (getD highs (8 * p + a) 0) (getD highs (8 * q + a) 0))) (countFrom 0 8)
 
 -- p's ends among those of all
 pub record Own (own ends : List ℕ) (p : ℕ) : Type 0 where

@@ -4,37 +4,38 @@ pub mod together;
 
 use crate::kept::keep;
 use crate::together::enters_together;
+use rivals::next_rival;
 use token_set::TokenSet;
 ghost use mathlib.Core.Path.{_≡_};
 ghost use mathlib.Core.Bool.{_&&_};
 ghost use Prim.Native.Nat.{ℕ, _<_};
 ghost use lib.Dec.{eqb};
+ghost use lib.ListN.{getD};
 ghost use Rattle.meaning.specs.Decide as Decide;
 ghost use Rattle.meaning.specs.Decide.{meet};
 ghost use Rattle.token_set.specs.Words.{setOf};
 ghost use Rattle.analysis.specs.Rows.{Image};
 ghost use Rattle.analysis.specs.Views.{members};
 ghost use Rattle.analysis.specs.Numbers.{Found};
+ghost use Rattle.rivals.specs.Rivals.{rival};
 ghost use Rattle.clash.specs.Together.{grammarIn};
-ghost use Rattle.clash.specs.Clashing.{Given, Meeting, Rivals, startTogether};
+ghost use Rattle.clash.specs.Clashing.{Given, Meeting, FirstRival};
 
-// Whether productions p and q have one left side and sets that meet.
-fn starts_together(rows: &[u8; 2048], sets: &[u64; 128], p: usize, q: usize) -> bool
-    requires { ⌜ (p < 128) × (q < 128) ⌝ }
-    ensures { λ r. ⌜ r ≡ startTogether (now (rows .entry)) (now (sets .entry)) p q ⌝ }
+// The first rival of `later` among the productions before it; `later` where its set meets nothing that they have.
+fn first_rival(
+    rows: &[u8; 2048],
+    sets: &[u64; 128],
+    lows: &[u32; 1024],
+    highs: &[u32; 1024],
+    ranks: &[u8; 128],
+    later: usize,
+    seen: u64,
+) -> usize
+    requires { ⌜ later < 128 ⌝ }
+    ensures { λ r. ⌜ FirstRival (meet (setOf seen) (setOf (getD (now (sets .entry)) later 0))) (rival (now (rows .entry)) (now (sets .entry)) (now (lows .entry)) (now (highs .entry)) (now (ranks .entry)) later) later r ⌝ }
 {
-    if rows[p * 16] != rows[q * 16] {
-        return false;
-    }
-    TokenSet(sets[p]).meets(TokenSet(sets[q]))
-}
-
-// Where to begin among the productions before `later`: behind them all where its set meets nothing that they have.
-fn rivals(seen: u64, set: u64, later: usize) -> usize
-    ensures { λ r. ⌜ Rivals seen set later r ⌝ }
-{
-    if TokenSet(seen).meets(TokenSet(set)) {
-        return 0;
+    if TokenSet(seen).meets(TokenSet(sets[later])) {
+        return next_rival(rows, sets, lows, highs, ranks, later, 0);
     }
     later
 }
@@ -98,14 +99,12 @@ fn lowest_by_entry(
             &mut highs,
             &mut ranks,
         );
-        let mut earlier = rivals(seen[at], sets[later], later);
+        let mut earlier = first_rival(rows, sets, &lows, &highs, &ranks, later, seen[at]);
         while earlier < later {
-            if starts_together(rows, sets, later, earlier) {
-                if enters_together(table, offsets, &lows, &highs, &ranks, later, earlier) {
-                    break 'pairs;
-                }
+            if enters_together(table, offsets, &ranks, later, earlier) {
+                break 'pairs;
             }
-            earlier += 1;
+            earlier = next_rival(rows, sets, &lows, &highs, &ranks, later, earlier + 1);
         }
         seen[at] = seen[at] | sets[later];
         later += 1;

@@ -1,11 +1,11 @@
 -- Laws for the proofs of the functions: bits of signed locals, the filling of the matrix, and the loops of the elimination.
-use Prim.Native.Nat.{ℕ, zero, suc, _+_, _-_, _*_, _/_, _%_, _^_, _≤_, _<_}
+use Prim.Native.Nat.{ℕ, zero, suc, _+_, _-_, _*_, _/_, _^_, _≤_, _<_}
 use native.Mathlib.Omega.{arith}
 use native.Mathlib.Decide.{ℕ-discrete, decLt}
 use native.Mathlib.Numerals.{add-one}
 use mathlib.Core.Path.{_≡_, refl, sym}
 use mathlib.Core.Bool.{Bool, true, false}
-use mathlib.Core.List.{List, [], _∷_}
+use mathlib.Core.List.{List, []}
 use lib.Dec.{T}
 use Rattle.theory_base.specs.Members.{T→true}
 use lib.IntN.{ℤ, pos, negsuc, negℤ, natAbs, _+ℤ_}
@@ -15,7 +15,7 @@ use mir.Syntax.{w64}
 use mir.Facts.{toZ-ofZ}
 use mir.Val.{SFits, toZ, ofZ}
 use lib.Signed.{ltZ, _≤ℤ_, _<ℤ_, ltZ-yes, ltZ-no, clashℤ}
-use Rattle.meaning.specs.Differences.{matrixOf, noneNegative, at, bound, closed, closing, eliminated, lowered, put, relaxed, rowRelaxed, shorter}
+use Rattle.meaning.specs.Differences.{matrixOf, noneNegative, at, bound, closing, eliminated, lowered, put, relaxed, rowRelaxed, shorter}
 use Rattle.theory_differences.specs.Order.{lesser-keeps, natAbs-add}
 use Rattle.theory_differences.specs.Graph.{bound-there, bound-absent}
 use Rattle.theory_differences.specs.Solving.{NoneNegative}

@@ -14,11 +14,11 @@ use Rattle.prepare.specs.declared.Made as Code
 use Rattle.prepare.specs.declared.Made.the-variants as Variant
 use Rattle.prepare.proofs.Cases.{short-made, refused-made, written-made}
 use Rattle.prepare.specs.Making.{MadeAs, Standing}
-use Rattle.engine.specs.declared.Answer.{Answer}
-use Rattle.engine.specs.declared.Answer.the-variants.{Refused, TableRefused}
+use Rattle.records.specs.declared.Answer.{Answer}
+use Rattle.records.specs.declared.Answer.the-variants.{Refused, TableRefused}
 use Rattle.engine.specs.declared.Begun.{Begun}
 use Rattle.engine.specs.declared.Begun.the-variants.{Turned, Ready}
-use Rattle.engine.specs.Records.{answerIs}
+use Rattle.records.specs.Records.{answerIs}
 use Rattle.engine.specs.Beginning.{Case, BegunAs, called-short, called-refused}
 
 -- ---- from the program that is made

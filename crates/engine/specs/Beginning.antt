@@ -14,8 +14,8 @@ use Rattle.prepare.specs.Making.{Standing}
 use Rattle.fit.specs.Shown.{Shown, Readable}
 use Rattle.engine.specs.declared.Begun.{Begun}
 use Rattle.engine.specs.declared.Begun.the-variants.{Turned, Ready}
-use Rattle.engine.specs.declared.Answer.{Answer}
-use Rattle.engine.specs.Records.{answerIs}
+use Rattle.records.specs.declared.Answer.{Answer}
+use Rattle.records.specs.Records.{answerIs}
 
 -- whatever a call brings and would make, it is turned back with answer a
 abbrev pub TurnedBack : List ℕ → List ℕ → Answer → Type 0

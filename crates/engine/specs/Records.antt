@@ -1,43 +1,24 @@
--- 01's numbers and values for the records and answers of the code.
+-- 01's values for the records of the code, and what its calls hand back.
 use Prim.Native.Nat.{ℕ}
 use mathlib.Core.List.{List}
 use lib.IntN.{ℤ}
 use Rattle.meaning.specs.Calls as Calls
-use Rattle.meaning.specs.Calls.{running, waiting, closed, outer, inner, more, value, refused, tableRefused}
-use Rattle.meaning.specs.PublicCalls.{Effect, effect}
-use Rattle.meaning.specs.PublicCalls.{stacksOf}
-use Rattle.engine.specs.declared.Status.{Status}
-use Rattle.engine.specs.declared.Status.the-variants.{Running, Waiting, Closed}
-use Rattle.engine.specs.declared.Kind.{Kind}
-use Rattle.engine.specs.declared.Kind.the-variants.{Outer, Inner}
+use Rattle.meaning.specs.PublicCalls.{Effect, effect, stacksOf}
+use Rattle.records.specs.declared.Handed.{Handed}
+use Rattle.records.specs.Records.{stateIs, answerIs, handedIs}
 use Rattle.engine.specs.declared.Record.{Record}
-use Rattle.engine.specs.declared.Answer.{Answer}
-use Rattle.engine.specs.declared.Answer.the-variants.{More, Value, Refused, TableRefused}
 use Rattle.engine.specs.declared.Called.{Called}
 
-abbrev pub statusIs : Status → Calls.Status
-statusIs Running = running
-statusIs Waiting = waiting
-statusIs Closed = closed
-
-abbrev pub kindIs : Kind → Calls.Kind
-kindIs Outer = outer
-kindIs (Inner registers places) = inner registers places
-
 abbrev pub recordIs : Record → Calls.Record
-recordIs r = record { status = statusIs (r .status); kind = kindIs (r .kind); tokens = r .tokens; moves = r .moves; registerHeight = r .registers; placeHeight = r .places }
+recordIs r = stateIs (r .state)
 
--- 01: "The answer carries the moves made since opening"; "Turned back because of the input", "because of the state"
-abbrev pub answerIs : Answer → Calls.Answer
-answerIs (More moves) = more moves
-answerIs (Value v moves) = value v moves
-answerIs (Refused number tokens) = refused number tokens
-answerIs (TableRefused number offset) = tableRefused number offset
-
--- what a call answers, and the stacks that it leaves
-abbrev pub calledIs : Called → List ℤ → List ℕ → Calls.Called
-calledIs r m ps = record { answer = answerIs (r .answer); state = recordIs (r .record); stacks = stacksOf m ps }
-
--- the same with the program area
+-- what a call answers, and the stacks and the program area that it leaves
 abbrev pub effectIs : Called → List ℤ → List ℕ → List ℕ → Effect
-effectIs r m ps area = effect (calledIs r m ps) area
+effectIs r m ps area = effect (record { answer = answerIs (r .answer); state = recordIs (r .«record»); stacks = stacksOf m ps }) area
+
+-- the same of what is handed back below
+abbrev pub leavesAs : Handed → List ℤ → List ℕ → List ℕ → Effect
+leavesAs h m ps area = effect (handedIs h m ps) area
+
+abbrev pub calledFrom : Handed → Called
+calledFrom h = record { «record» = record { state = h .state }; answer = h .answer }

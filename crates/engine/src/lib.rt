@@ -1,52 +1,36 @@
 // 01's calls on a run: it is opened, fed lists of tokens, and finished.
 ghost use mathlib.Core.Path.{_≡_};
 ghost use Rattle.meaning.specs.Program.{programOf};
-ghost use Rattle.meaning.specs.PublicCalls.{opens, performs, feed, finish};
-ghost use Rattle.meaning.specs.PublicCalls.{stacksOf};
-ghost use Rattle.engine.specs.Records.{recordIs, effectIs};
+ghost use Rattle.meaning.specs.PublicCalls.{opens, performs, feed, finish, stacksOf};
+ghost use Rattle.records.specs.Records.{stateIs};
+ghost use Rattle.lent.specs.Performing.{callIs};
+ghost use Rattle.engine.specs.Records.{recordIs, effectIs, leavesAs, calledFrom};
 ghost use Rattle.engine.specs.Beginning.{BegunAs};
+use lent::Call;
 use prepare::Made;
+use records::Answer;
+use records::Handed;
+use records::State;
 
-pub mod lent;
-pub mod running;
-
-// A run goes on, waits for the inner run above it, or is closed.
-pub enum Status {
-    Running,
-    Waiting,
-    Closed,
-}
-
-// 02 (h): "The inner record keeps the heights where it begins": of the registers, of the places.
-pub enum Kind {
-    Outer,
-    Inner(u64, u64),
-}
-
-// What kind of run it is and how it stands, tokens read, moves made, and the heights of both stacks.
+// The run record: a state, with the calls as its methods.
 pub struct Record {
-    pub status: Status,
-    pub kind: Kind,
-    pub tokens: u64,
-    pub moves: u64,
-    pub registers: u64,
-    pub places: u64,
-}
-
-pub enum Answer {
-    // Opened or fed: the moves made since opening.
-    More(u64),
-    // Finished: the segment's value, and the moves.
-    Value(i64, u64),
-    // One of 20 to 24, 30 to 35, 38 or 40, with the tokens read.
-    Refused { number: u32, tokens: u64 },
-    // One of 1 to 13, with the field's offset.
-    TableRefused { number: u32, offset: u64 },
+    pub state: State,
 }
 
 pub struct Called {
     pub record: Record,
     pub answer: Answer,
+}
+
+pub fn hand_back(handed: Handed) -> Called
+    ensures { λ r. ⌜ r ≡ calledFrom handed ⌝ }
+{
+    let state = handed.state;
+    let answer = handed.answer;
+    Called {
+        record: Record { state },
+        answer,
+    }
 }
 
 // What a call begins with: it is turned back by 30 or by its table, or the table is accepted and its program written.
@@ -72,6 +56,25 @@ pub fn begin(table: &[u8], program: &mut [u32]) -> Begun
     }
 }
 
+// A call on a run that is opened. Kinds and values are a feed's.
+fn perform(
+    call: Call,
+    state: State,
+    table: &[u8],
+    registers: &mut [i64],
+    places: &mut [u32],
+    program: &mut [u32],
+    kinds: &[u8],
+    values: &[i32],
+) -> Handed
+    ensures { λ r. ⌜ leavesAs r (now (registers .exit)) (now (places .exit)) (now (program .exit)) ≡ performs programOf (now (table .entry)) (now (program .entry)) (stateIs state) (stacksOf (now (registers .entry)) (now (places .entry))) (callIs call (now (kinds .entry)) (now (values .entry))) ⌝ }
+{
+    match begin(table, program) {
+        Begun::Turned(answer) => records::as_brought(state, answer),
+        Begun::Ready => { lent::call_cells(call, registers, places, program, state, kinds, values) }
+    }
+}
+
 impl Record {
     // Opens a run. A refusal hands back a closed record, all zero.
     pub fn open(
@@ -83,8 +86,8 @@ impl Record {
         ensures { λ r. ⌜ effectIs r (now (registers .exit)) (now (places .exit)) (now (program .exit)) ≡ opens programOf (now (table .entry)) (now (program .entry)) (stacksOf (now (registers .entry)) (now (places .entry))) ⌝ }
     {
         match begin(table, program) {
-            Begun::Turned(answer) => running::closed(answer),
-            Begun::Ready => lent::open_cells(registers, places, program),
+            Begun::Turned(answer) => hand_back(records::not_opened(answer)),
+            Begun::Ready => hand_back(opening::open_cells(registers, places, program)),
         }
     }
 
@@ -100,10 +103,17 @@ impl Record {
     ) -> Called
         ensures { λ r. ⌜ effectIs r (now (registers .exit)) (now (places .exit)) (now (program .exit)) ≡ performs programOf (now (table .entry)) (now (program .entry)) (recordIs self) (stacksOf (now (registers .entry)) (now (places .entry))) (feed (now (kinds .entry)) (now (values .entry))) ⌝ }
     {
-        match begin(table, program) {
-            Begun::Turned(answer) => running::as_brought(self, answer),
-            Begun::Ready => { lent::feed_cells(registers, places, program, self, kinds, values) }
-        }
+        let state = self.state;
+        hand_back(perform(
+            Call::Feed,
+            state,
+            table,
+            registers,
+            places,
+            program,
+            kinds,
+            values,
+        ))
     }
 
     // Finishes the segment.
@@ -116,9 +126,18 @@ impl Record {
     ) -> Called
         ensures { λ r. ⌜ effectIs r (now (registers .exit)) (now (places .exit)) (now (program .exit)) ≡ performs programOf (now (table .entry)) (now (program .entry)) (recordIs self) (stacksOf (now (registers .entry)) (now (places .entry))) finish ⌝ }
     {
-        match begin(table, program) {
-            Begun::Turned(answer) => running::as_brought(self, answer),
-            Begun::Ready => lent::finish_cells(registers, places, program, self),
-        }
+        let state = self.state;
+        let kinds = [0u8; 1];
+        let values = [0i32; 1];
+        hand_back(perform(
+            Call::Finish,
+            state,
+            table,
+            registers,
+            places,
+            program,
+            &kinds,
+            &values,
+        ))
     }
 }

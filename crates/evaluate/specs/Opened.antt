@@ -1,16 +1,15 @@
 -- Stacks of which all but the first cells are clear, and what opening them leaves.
-use Prim.Native.Nat.{ℕ, zero, suc, _+_, _-_, _≤_, _<_, min}
+use Prim.Native.Nat.{ℕ, zero, suc, _+_, _-_, _≤_, min}
 use native.Mathlib.Omega.{arith}
 use mathlib.Core.Path.{_≡_, refl, sym, ap, ap₂, _∙_, subst, subst₂}
 use mathlib.Core.Bool.{true}
 use mathlib.Core.List.{List, [], _∷_, _++_}
-use lib.ListN.{length, getD, set, take, drop, replicate, length-replicate, length-append, length-set, drop-of-length-le}
+use lib.ListN.{length, getD, set, take, drop, replicate, length-replicate, drop-of-length-le}
 use lib.IntN.{ℤ}
 use Rattle.meaning.specs.Grammar.{Grammar, nonterminal, syn}
 use Rattle.meaning.specs.Value.{mark}
-use Rattle.meaning.specs.Rules.{WellFormed}
-use Rattle.meaning.specs.Machine.{Config, opening, tokensLimit}
-use Rattle.meaning.specs.Calls.{Stacks, lentOf, layAll, recordOf, configOf}
+use Rattle.meaning.specs.Machine.{opening}
+use Rattle.meaning.specs.Calls.{lentOf, layAll, recordOf, configOf}
 use Rattle.meaning.specs.Fit.{Fit}
 use Rattle.meaning.specs.PublicCalls.{stacksOf}
 use Rattle.theory_answers.specs.Memory.{Within, read-back, laid-fits}
@@ -21,9 +20,9 @@ use Rattle.theory_program.specs.Resuming.{placeAddress}
 use Rattle.theory_evaluating.specs.Whole.{is-open}
 use Rattle.moves.specs.declared.Run.{Run}
 use Rattle.moves.specs.Held.{Held}
-use Rattle.fit.specs.Shown.{Shown, Readable}
-use Rattle.engine.specs.Starting.{held-start}
-use Rattle.engine.specs.Opening.{open-made}
+use Rattle.fit.specs.Shown.{Shown}
+use Rattle.running.specs.Starting.{held-start}
+use Rattle.opening.specs.Opening.{open-made}
 
 -- the cells from a and b on are clear
 pub record Clean (vs : List ℤ) (ps : List ℕ) (a b : ℕ) : Type 0 where

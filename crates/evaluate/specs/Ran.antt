@@ -4,13 +4,13 @@ use native.Mathlib.Omega.{arith}
 use mathlib.Core.Path.{_≡_, refl, sym, ap, ap₂, _∙_, subst, subst₂}
 use mathlib.Core.Bool.{Bool, true}
 use lib.Dec.{T}
-use mathlib.Core.List.{List, [], _++_, append-nil, reverse, map}
+use mathlib.Core.List.{List, _++_, append-nil}
 use lib.ListN.{length, getD, set, take, drop, replicate, length-replicate, length-append, length-drop, length-set, drop-of-length-le}
 use lib.Seq.{take-at}
 use lib.IntN.{ℤ}
 use Rattle.meaning.specs.Value.{mark, inRange}
 use Rattle.meaning.specs.Grammar.{Grammar, leaves}
-use Rattle.meaning.specs.Machine.{Config, Lent, Settled, stopped, failed, opening, feedAll, finishAll, placeOf}
+use Rattle.meaning.specs.Machine.{Config, Lent, Settled, stopped, failed, opening, feedAll, finishAll}
 use Rattle.meaning.specs.Calls as Calls
 use Rattle.meaning.specs.Calls.{Stacks, lentOf, refused, tokensFrom, afterFeed, afterFinish}
 use Rattle.meaning.specs.PublicCalls.{stacksOf}
@@ -27,19 +27,19 @@ use Rattle.machine.specs.declared.Ended.the-variants.{Stopped, Failed}
 use Rattle.machine.specs.Advancing.{Settles, Running}
 use Rattle.machine.specs.Feeding.{Feeds, Finishes}
 use Rattle.fit.specs.Shown.{Shown, Readable}
-use Rattle.engine.specs.declared.Called.{Called}
-use Rattle.engine.specs.declared.Answer.the-variants.{Refused}
-use Rattle.engine.specs.Records.{answerIs, calledIs}
-use Rattle.engine.specs.Leaving.{fedFrom, finishedFrom, Ending, feed-leaves, finish-leaves, is-finished, ended-by}
+use Rattle.records.specs.declared.Handed.{Handed}
+use Rattle.records.specs.declared.Answer.the-variants.{Refused}
+use Rattle.records.specs.Records.{answerIs, handedIs}
+use Rattle.running.specs.Leaving.{fedFrom, finishedFrom, Ending, feed-leaves, finish-leaves, is-finished, ended-by}
 use Rattle.evaluate.specs.declared.Candidate.{Candidate}
 use Rattle.evaluate.specs.Opened.{Clean, LentClean, Opened, startRun, held-opened, opening-count, roomy, placed, opened-lays, opening-within}
-use Rattle.engine.specs.Cutting.{uncut, lent-same, put-back, fed-cut, finished-cut}
+use Rattle.cells.specs.Cutting.{uncut, lent-same, put-back, fed-cut, finished-cut}
 
 abbrev pub unopenedFrom : ℕ → ℕ → ℕ → Candidate
 unopenedFrom number a b = record { answer = Refused number 0; registers = a; places = b }
 
-abbrev pub leftFrom : Called → Candidate
-leftFrom c = record { answer = c .answer; registers = c .«record» .registers; places = c .«record» .places }
+abbrev pub leftFrom : Handed → Candidate
+leftFrom c = record { answer = c .answer; registers = c .state .registers; places = c .state .places }
 
 -- a value is within its limits
 abbrev pub answerRanged : Calls.Answer → Bool
@@ -52,9 +52,9 @@ answerRanged (Calls.tableRefused k o) = true
 abbrev pub Through : List ℕ → List ℕ → List ℤ → List ℤ → List ℕ → Calls.Called → Type 0
 Through ws ks us vs ps k = (g : Grammar) → Shown g ws → Goes g (stacksOf vs ps) ks us (outcomeOf k)
 
-pub record Ran (ws ks : List ℕ) (us vs : List ℤ) (ps : List ℕ) (vs′ : List ℤ) (ps′ : List ℕ) (r : Called) : Type 0 where
-  pub through : Through ws ks us vs ps (calledIs r vs′ ps′)
-  pub clean : Clean vs′ ps′ (r .«record» .registers) (r .«record» .places)
+pub record Ran (ws ks : List ℕ) (us vs : List ℤ) (ps : List ℕ) (vs′ : List ℤ) (ps′ : List ℕ) (r : Handed) : Type 0 where
+  pub through : Through ws ks us vs ps (handedIs r vs′ ps′)
+  pub clean : Clean vs′ ps′ (r .state .registers) (r .state .places)
   pub ranged : T (answerRanged (answerIs (r .answer)))
 
 pub record CandidateAs (ws ks : List ℕ) (us vs : List ℤ) (ps : List ℕ) (vs′ : List ℤ) (ps′ : List ℕ) (r : Candidate) : Type 0 where
@@ -98,15 +98,15 @@ module _ {ws : List ℕ} {vs : List ℤ} {ps : List ℕ} (b : Readable ws) (o : 
     one g = omega (arith, o .some, o .little)
 
     -- a token is refused
-    pub failed-ran : (run : Run) (j : ℕ) (r : Called) → x ≡ Failed run j → r ≡ fedFrom (Failed run j) → Ran ws ks us vs ps vs₁ ps₁ r
+    pub failed-ran : (run : Run) (j : ℕ) (r : Handed) → x ≡ Failed run j → r ≡ fedFrom (Failed run j) → Ran ws ks us vs ps vs₁ ps₁ r
     failed-ran run j r q d =
         let at : (g : Grammar) (s : Shown g ws) → Settles g ws (lentOf (stacksOf vs ps)) (feedAll g (lentOf (stacksOf vs ps)) (leaves g (tokensFrom ks us)) (opening g)) vs₁ ps₁ (Failed run j) = λ g s. subst (Settles g ws (lentOf (stacksOf vs ps)) (feedAll g (lentOf (stacksOf vs ps)) (leaves g (tokensFrom ks us)) (opening g)) vs₁ ps₁) q (settled g s) in
         record {
           through = λ g s.
               let z = at g s in
-              let k : calledIs r vs₁ ps₁ ≡ afterFeed g (stacksOf vs ps) (failed (z .0) j) = ap (λ c. calledIs c vs₁ ps₁) d ∙ (feed-leaves g ws vs ps (o .few) (o .little) vs₁ ps₁ (Failed run j) (failed (z .0) j) (z .0, refl, z .2)) in
+              let k : handedIs r vs₁ ps₁ ≡ afterFeed g (stacksOf vs ps) (failed (z .0) j) = ap (λ c. handedIs c vs₁ ps₁) d ∙ (feed-leaves g ws vs ps (o .few) (o .little) vs₁ ps₁ (Failed run j) (failed (z .0) j) (z .0, refl, z .2)) in
               subst (λ y. Goes g (stacksOf vs ps) ks us (outcomeOf y)) (sym k) (failing (enough g s) (one g) (z .0) j (z .1));
-          clean = subst (λ c. Clean vs₁ ps₁ (c .«record» .registers) (c .«record» .places)) (sym d) (held-clean (at (b .grammar) (b .shown) .2));
+          clean = subst (λ c. Clean vs₁ ps₁ (c .state .registers) (c .state .places)) (sym d) (held-clean (at (b .grammar) (b .shown) .2));
           ranged = subst (λ c. T (answerRanged (answerIs (c .answer)))) (sym d) tt;
         }
 
@@ -125,7 +125,7 @@ module _ {ws : List ℕ} {vs : List ℤ} {ps : List ℕ} (b : Readable ws) (o : 
         pub next-ending : Ending ws vs₂ y
         next-ending = let z = stopped-at (b .grammar) (b .shown) in ended-by (b .grammar) ws vs ps (o .few) (o .little) (z .0) (z .2 .fewMoves) (b .shown .begins) vs₂ ps₂ y (finish-settled (b .grammar) (b .shown))
 
-        heights : (w : Ended.Ended) → Settles (b .grammar) ws (lentOf (stacksOf vs ps)) (finishAll (b .grammar) (lentOf (stacksOf vs ps)) (stopped-at (b .grammar) (b .shown) .0)) vs₂ ps₂ w → Clean vs₂ ps₂ (finishedFrom (getD ws 5 0) vs₂ w .«record» .registers) (finishedFrom (getD ws 5 0) vs₂ w .«record» .places)
+        heights : (w : Ended.Ended) → Settles (b .grammar) ws (lentOf (stacksOf vs ps)) (finishAll (b .grammar) (lentOf (stacksOf vs ps)) (stopped-at (b .grammar) (b .shown) .0)) vs₂ ps₂ w → Clean vs₂ ps₂ (finishedFrom (getD ws 5 0) vs₂ w .state .registers) (finishedFrom (getD ws 5 0) vs₂ w .state .places)
         heights (Stopped run) z = held-clean (z .2)
         heights (Failed run j) z = held-clean (z .2)
 
@@ -135,17 +135,17 @@ module _ {ws : List ℕ} {vs : List ℤ} {ps : List ℕ} (b : Readable ws) (o : 
             subst (λ o. T (answerRanged (afterFinish (b .grammar) (stacksOf vs ps) o .answer))) (sym (z .1)) (result-ranged (b .grammar) (b .shown .formed) (z .0) (z .2 .shaped) (is-finished (b .grammar) ws vs ps (o .few) (o .little) (c .0) (c .2 .fewMoves) (z .0) (z .1)))
         ends-ranged (Failed run j) z = subst (λ o. T (answerRanged (afterFinish (b .grammar) (stacksOf vs ps) o .answer))) (sym (z .1)) tt
 
-        pub finished-ran : (r : Called) → r ≡ finishedFrom (getD ws 5 0) vs₂ y → Ran ws ks us vs ps vs₂ ps₂ r
+        pub finished-ran : (r : Handed) → r ≡ finishedFrom (getD ws 5 0) vs₂ y → Ran ws ks us vs ps vs₂ ps₂ r
         finished-ran r d =
             record {
               through = λ g s.
                   let z = stopped-at g s in
-                  let k : calledIs r vs₂ ps₂ ≡ afterFinish g (stacksOf vs ps) (finishAll g (lentOf (stacksOf vs ps)) (z .0)) = ap (λ c. calledIs c vs₂ ps₂) d ∙ finish-leaves g ws vs ps (o .few) (o .little) (z .0) (z .2 .fewMoves) vs₂ ps₂ y (finish-settled g s) in
+                  let k : handedIs r vs₂ ps₂ ≡ afterFinish g (stacksOf vs ps) (finishAll g (lentOf (stacksOf vs ps)) (z .0)) = ap (λ c. handedIs c vs₂ ps₂) d ∙ finish-leaves g ws vs ps (o .few) (o .little) (z .0) (z .2 .fewMoves) vs₂ ps₂ y (finish-settled g s) in
                   subst (λ c. Goes g (stacksOf vs ps) ks us (outcomeOf c)) (sym k) (ending (enough g s) (one g) (z .0) (z .1) (z .2 .shaped));
-              clean = subst (λ c. Clean vs₂ ps₂ (c .«record» .registers) (c .«record» .places)) (sym d) (heights y (finish-settled (b .grammar) (b .shown)));
+              clean = subst (λ c. Clean vs₂ ps₂ (c .state .registers) (c .state .places)) (sym d) (heights y (finish-settled (b .grammar) (b .shown)));
               ranged =
                   let z = stopped-at (b .grammar) (b .shown) in
-                  let k = ap (λ c. calledIs c vs₂ ps₂ .answer) d ∙ ap (λ x. x .answer) (finish-leaves (b .grammar) ws vs ps (o .few) (o .little) (z .0) (z .2 .fewMoves) vs₂ ps₂ y (finish-settled (b .grammar) (b .shown))) in
+                  let k = ap (λ c. handedIs c vs₂ ps₂ .answer) d ∙ ap (λ x. x .answer) (finish-leaves (b .grammar) ws vs ps (o .few) (o .little) (z .0) (z .2 .fewMoves) vs₂ ps₂ y (finish-settled (b .grammar) (b .shown))) in
                   subst (λ a. T (answerRanged a)) (sym k) (ends-ranged y (finish-settled (b .grammar) (b .shown)));
             }
 
@@ -177,13 +177,13 @@ module _ (ws ks : List ℕ) (us vs : List ℤ) (ps : List ℕ) (few : length vs 
           some = omega (arith, same-size′);
         }
 
-    pub left-as : (vs′ : List ℤ) (ps′ : List ℕ) (c : Called) (r : Candidate) → Ran ws ks us vs₁ ps₁ vs′ ps′ c → r ≡ leftFrom c → CandidateAs ws ks us vs ps vs′ ps′ r
+    pub left-as : (vs′ : List ℤ) (ps′ : List ℕ) (c : Handed) (r : Candidate) → Ran ws ks us vs₁ ps₁ vs′ ps′ c → r ≡ leftFrom c → CandidateAs ws ks us vs ps vs′ ps′ r
     left-as vs′ ps′ c r z q =
         subst (CandidateAs ws ks us vs ps vs′ ps′) (sym q)
         (record {
           goes = λ g s.
               goes-over g (opening g) (stacksOf vs ps) (opening-within g ws s vs ps few little room some) ks us (roomy g ws s vs ps few little room some) (placed g ws s vs ps few little room some)
-              (subst (λ m. Goes g m ks us (outcomeOf (calledIs c vs′ ps′))) (opened-lays g ws s vs ps few little room some vs₁ ps₁ e d) (z .through g s));
+              (subst (λ m. Goes g m ks us (outcomeOf (handedIs c vs′ ps′))) (opened-lays g ws s vs ps few little room some vs₁ ps₁ e d) (z .through g s));
           clean = z .clean;
           ranged = z .ranged;
         })
@@ -213,10 +213,10 @@ module _ (g : Grammar) (vs : List ℤ) (ps : List ℕ) (ks : List ℕ) (us : Lis
   goes-cut (narrow l) = subst (Goes g (stacksOf vs ps) ks us) (ap (outcome (refused 31 0)) (sym (put-back g vs ps))) (narrow (subst (λ z. z .maxRegisters < length (opening g .registers)) same-lent l))
   goes-cut (flat r l) = subst (Goes g (stacksOf vs ps) ks us) (ap (outcome (refused 32 0)) (sym (put-back g vs ps))) (flat (subst (λ z. length (opening g .registers) ≤ z .maxRegisters) same-lent r) (subst (λ z. z .maxPlaces < 1) same-lent l))
   goes-cut (failing r p c j q) =
-      subst (Goes g (stacksOf vs ps) ks us) (ap outcomeOf (sym (fed-cut g vs ps Calls.closedRecord (failed c j))))
+      subst (Goes g (stacksOf vs ps) ks us) (ap outcomeOf (sym (fed-cut g vs ps (failed c j))))
       (failing (subst (λ z. length (opening g .registers) ≤ z .maxRegisters) same-lent r) (subst (λ z. 1 ≤ z .maxPlaces) same-lent p) c j (feeds-same (failed c j) q))
   goes-cut (ending r p c q s) =
-      subst (Goes g (stacksOf vs ps) ks us) (ap outcomeOf (sym (ap (λ l. uncut n k vs ps (afterFinish g cells (finishAll g l c))) same-lent ∙ finished-cut g vs ps Calls.closedRecord (finishAll g (lentOf (stacksOf vs ps)) c))))
+      subst (Goes g (stacksOf vs ps) ks us) (ap outcomeOf (sym (ap (λ l. uncut n k vs ps (afterFinish g cells (finishAll g l c))) same-lent ∙ finished-cut g vs ps (finishAll g (lentOf (stacksOf vs ps)) c))))
       (ending (subst (λ z. length (opening g .registers) ≤ z .maxRegisters) same-lent r) (subst (λ z. 1 ≤ z .maxPlaces) same-lent p) c (feeds-same (stopped c) q) s)
 
 -- the lent cells of what is put back

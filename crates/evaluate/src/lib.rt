@@ -6,13 +6,12 @@ ghost use Rattle.meaning.specs.Value.{mark};
 ghost use Rattle.fit.specs.Shown.{Readable};
 ghost use Rattle.evaluate.specs.Opened.{Clean, LentClean, Opened};
 ghost use Rattle.evaluate.specs.Ran.{unopenedFrom, leftFrom, Ran, CandidateAs, EvaluatedAs};
-use engine::Answer;
-use engine::Called;
-use engine::lent;
-use engine::running::fed;
-use engine::running::finished;
 use machine::Ended;
 use moves::Run;
+use records::Answer;
+use records::Handed;
+use running::fed;
+use running::finished;
 
 // What a candidate answers, and how many cells of each stack may not be clear after it.
 pub struct Candidate {
@@ -29,8 +28,8 @@ fn open_again(registers: &mut [i64], places: &mut [u32], a: usize, b: usize)
     requires { ⌜ Clean (now registers) (now places) a b × (1 ≤ length (now places)) ⌝ }
     ensures { λ r. ⌜ (now (registers .exit) ≡ replicate (length (now (registers .entry))) mark) × (now (places .exit) ≡ set (replicate (length (now (places .entry))) 0) 0 32768) ⌝ }
 {
-    lent::clear_registers(&mut registers[..a]);
-    lent::clear_places(&mut places[..b]);
+    cells::clear_registers(&mut registers[..a]);
+    cells::clear_places(&mut places[..b]);
     places[0] = SEGMENT;
 }
 
@@ -41,7 +40,7 @@ fn run_through(
     program: &[u32],
     kinds: &[u8],
     values: &[i32],
-) -> Called
+) -> Handed
     requires { ⌜ Opened (now program) (now registers) (now places) × Readable (now program) × (length (now kinds) ≡ length (now values)) ⌝ }
     ensures { λ r. ⌜ Ran (now (program .entry)) (now (kinds .entry)) (now (values .entry)) (now (registers .entry)) (now (places .entry)) (now (registers .exit)) (now (places .exit)) r ⌝ }
 {
@@ -73,15 +72,15 @@ fn unopened(number: u32, a: usize, b: usize) -> Candidate
 }
 
 // A run leaves all clear above its heights.
-fn left(called: Called) -> Candidate
-    ensures { λ r. ⌜ r ≡ leftFrom called ⌝ }
+fn left(handed: Handed) -> Candidate
+    ensures { λ r. ⌜ r ≡ leftFrom handed ⌝ }
 {
-    let answer = called.answer;
-    let record = called.record;
+    let answer = handed.answer;
+    let state = handed.state;
     Candidate {
         answer,
-        registers: record.registers as usize,
-        places: record.places as usize,
+        registers: state.registers as usize,
+        places: state.places as usize,
     }
 }
 
@@ -121,8 +120,8 @@ pub fn evaluate(
     requires { ⌜ Readable (now program) × (length (now kinds) ≡ length (now values)) × LentClean (now registers) (now places) a b ⌝ }
     ensures { λ r. ⌜ EvaluatedAs (now (program .entry)) (now (kinds .entry)) (now (values .entry)) (now (registers .entry)) (now (places .entry)) (now (registers .exit)) (now (places .exit)) r ⌝ }
 {
-    let n = lent::smaller(registers.len(), lent::REGISTERS);
-    let k = lent::smaller(places.len(), lent::PLACES);
+    let n = cells::smaller(registers.len(), cells::REGISTERS);
+    let k = cells::smaller(places.len(), cells::PLACES);
     on_lent(
         &mut registers[..n],
         &mut places[..k],

@@ -1,5 +1,5 @@
 -- The loop over the places, a turn at a time.
-use Prim.Native.Nat.{ℕ, _+_, _*_, _/_, _%_, _<_, _≤_}
+use Prim.Native.Nat.{ℕ, _+_, _/_, _%_, _<_, _≤_}
 use native.Mathlib.Numerals.{add-one}
 use native.Mathlib.Omega.{arith}
 use mathlib.Core.Path.{_≡_, refl, sym, ap, _∙_}
@@ -7,14 +7,13 @@ use mathlib.Core.Bool.{Bool, true, false, _&&_, or-false}
 use mathlib.Core.List.{List, [], _∷_, _++_, append-nil}
 use borrow.Author.Tests.{ne-eqb}
 use lib.IntN.{ℤ}
-use lib.Dec.{T, eqb, ltb, ltb→lt}
+use lib.Dec.{eqb}
 use lib.ListN.{length, getD, drop, replicate, drop-of-length-le}
 use lib.Seq.{drop-cons}
-use Rattle.meaning.specs.Grammar.{Symbol, nonterminal, Grammar, productionAt, syn}
+use Rattle.meaning.specs.Grammar.{Symbol, nonterminal, Grammar, syn}
 use Rattle.meaning.specs.Table.{symbolOf}
 use Rattle.meaning.specs.Calls.{valued, marked, cellsFit, awaited}
-use Rattle.theory_base.specs.Members.{true→T, both}
-use Rattle.fit.specs.Upward.{Passes, stretches, fitsFrom, from-start, from-end, standsFit, placesAbove, cellsOf, cellsAbove}
+use Rattle.fit.specs.Upward.{Passes, fitsFrom, from-start, from-end, standsFit, placesAbove, cellsOf, cellsAbove}
 use Rattle.fit.specs.Shown.{Shown, waitAt, wordOn, cellsIn, on-word, start-count, symbol-awaited, cells-of}
 
 -- the places above one that waits at x stand, and the registers from `at` up are theirs

@@ -3,7 +3,6 @@ use Prim.Native.Nat.{ℕ, _/_, _%_}
 use mathlib.Core.Path.{_≡_, refl}
 use mathlib.Core.Bool.{true, false}
 use mathlib.Core.List.{List, [], _∷_, _++_}
-use lib.ListN.{replicate}
 use lib.IntN.{ℤ, pos}
 use Rattle.meaning.specs.Value.{mark}
 use Rattle.meaning.specs.Words.{words}

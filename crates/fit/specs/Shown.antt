@@ -7,7 +7,7 @@ use mathlib.Core.List.{List, _++_}
 use borrow.Author.Tests.{lt-ltb, le-ltb, ltb-true, ltb-false, eq-eqb, ne-eqb, eqb-true, eqb-false}
 use lib.ListN.{getD, length, replicate}
 use lib.Dec.{T, eqb, ltb, ltb→lt}
-use Rattle.meaning.specs.Grammar.{terminal, nonterminal, Symbol, Grammar, productionAt, syn, isNonterminal}
+use Rattle.meaning.specs.Grammar.{terminal, nonterminal, Grammar, productionAt, syn, isNonterminal}
 use Rattle.meaning.specs.Rules.{WellFormed}
 use Rattle.meaning.specs.Table.{symbolOf}
 use Rattle.meaning.specs.Calls.{Cell, valued, marked, awaited}

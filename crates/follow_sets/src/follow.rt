@@ -1,28 +1,27 @@
-// FOLLOW: what comes after a nonterminal from the rest of a right side, then what comes after left sides.
+// FOLLOW: what comes after a nonterminal from the rest of a right side, then along the edges from the tails of right sides to left sides.
 use analysis::closing::symbol_in;
-use first_sets::join;
+use analysis::spreading::add;
+use analysis::spreading::spread;
 use token_set::TokenSet;
 ghost use mathlib.Core.Path.{_≡_};
 ghost use mathlib.Core.Bool.{true, false};
-ghost use mathlib.Core.List.{List};
 ghost use Prim.Native.Nat.{ℕ, _+_, _*_, _<_, _≤_};
 ghost use lib.ListN.{length};
 ghost use Rattle.meaning.specs.Table.{symbolOf};
 ghost use Rattle.analysis.specs.Rows.{Image};
-ghost use Rattle.analysis.specs.Views.{members, sees, turn};
-ghost use Rattle.analysis.specs.Tables.{Joined};
-ghost use Rattle.analysis.specs.Passes.{Passed};
-ghost use Rattle.analysis.specs.Follows.{BaseFrom, TailFrom, FollowClosed, Filled, BasesTo, TailsTo, Tail, Followed};
+ghost use Rattle.analysis.specs.Views.{members, sees, turn, Below};
+ghost use Rattle.analysis.specs.Tables.{Added};
+ghost use Rattle.analysis.specs.Follows.{BaseFrom, FollowClosed, Filled, BasesTo, EdgeFrom, EdgesTo, Tail, Followed};
 
-// Adds a set to the entry of a symbol; whether that changed it. A token has none.
-fn mark(table: &mut [u64; 48], s: u8, add: u64) -> bool
+// Adds a set to the entry of a symbol. A token has none.
+fn mark(table: &mut [u64; 48], s: u8, more: u64)
     requires { ⌜ (s < 176) × (length (now table) ≡ 48) ⌝ }
-    ensures { λ r. ⌜ Joined (now (table .entry)) (symbolOf s) add r (now (table .exit)) ⌝ }
+    ensures { λ r. ⌜ Added (now (table .entry)) (symbolOf s) more (now (table .exit)) ⌝ }
 {
     if s < 128 {
-        return false;
+        return;
     }
-    join(table, (s - 128) as usize, add)
+    add(table, (s - 128) as usize, more);
 }
 
 // What a string begins with whose first symbol is s, from what the rest begins with.
@@ -91,61 +90,50 @@ fn tail(rows: &[u8; 2048], count: usize, k: usize, null: u64) -> usize
     i
 }
 
-// Adds what comes after the left side of production k to what comes after the places of its tail; whether anything is new.
-fn tail_by(rows: &[u8; 2048], count: usize, k: usize, null: u64, table: &mut [u64; 48]) -> bool
-    requires { ⌜ Image (now rows) count × (k < count) × (length (now table) ≡ 48) ⌝ }
-    ensures { λ r. ⌜ ((first : List ℕ) → Passed (FollowClosed (members null) first (now (rows .entry)) count) (λ u. TailFrom (members null) (now (rows .entry)) k 0) (now (table .entry)) (now (table .exit)) r) ⌝ }
+// Adds the left side of production k to the edges of the nonterminals of its tail.
+fn tail_by(rows: &[u8; 2048], count: usize, k: usize, null: u64, edges: &mut [u64; 48])
+    requires { ⌜ Image (now rows) count × (k < count) × (length (now edges) ≡ 48) ⌝ }
+    ensures { λ r. ⌜ Filled (EdgesTo (members null) (now (rows .entry)) count) (EdgeFrom (members null) (now (rows .entry)) k 0) (now (edges .entry)) (now (edges .exit)) ⌝ }
 {
     let at = k * 16;
-    let left = rows[at] as usize;
-    let add = table[left];
+    let left = TokenSet::of_token(rows[at]).0;
     let n = rows[at + 1] as usize;
-    let mut changed = false;
     let mut i = tail(rows, count, k, null);
     while i < n {
-        let s = rows[at + 2 + i];
+        mark(edges, rows[at + 2 + i], left);
         i += 1;
-        if mark(table, s, add) {
-            changed = true;
-        }
     }
-    changed
 }
 
-// One pass over the productions; whether anything is new.
-fn tail_pass(rows: &[u8; 2048], count: usize, null: u64, table: &mut [u64; 48]) -> bool
-    requires { ⌜ Image (now rows) count × (length (now table) ≡ 48) ⌝ }
-    ensures { λ r. ⌜ ((first : List ℕ) → Passed (FollowClosed (members null) first (now (rows .entry)) count) (λ u. TailsTo (members null) (now (rows .entry)) count) (now (table .entry)) (now (table .exit)) r) ⌝ }
+// The same for all productions.
+fn tails(rows: &[u8; 2048], count: usize, null: u64, edges: &mut [u64; 48])
+    requires { ⌜ Image (now rows) count × (length (now edges) ≡ 48) ⌝ }
+    ensures { λ r. ⌜ Filled (EdgesTo (members null) (now (rows .entry)) count) (EdgesTo (members null) (now (rows .entry)) count) (now (edges .entry)) (now (edges .exit)) ⌝ }
 {
-    let mut changed = false;
     let mut k: usize = 0;
     while k < count {
-        let new = tail_by(rows, count, k, null, table);
+        tail_by(rows, count, k, null, edges);
         k += 1;
-        if new {
-            changed = true;
-        }
     }
-    changed
 }
 
-// FOLLOW of each nonterminal.
+// FOLLOW of each nonterminal; n is how many there are.
 pub fn follow(
     rows: &[u8; 2048],
     count: usize,
+    n: usize,
     start: usize,
     null: u64,
     first: &[u64; 48],
 ) -> [u64; 48]
-    requires { ⌜ Image (now rows) count × (start < 48) ⌝ }
-    ensures { λ r. ⌜ Followed (members null) (now (first .entry)) (now (rows .entry)) count start r ⌝ }
+    requires { ⌜ Image (now rows) count × (n ≤ 48) × (start < 48) ⌝ }
+    ensures { λ r. ⌜ (Below n (now (rows .entry)) count → start < n → Followed (members null) (now (first .entry)) (now (rows .entry)) count start r) ⌝ }
 {
     let mut table = [0u64; 48];
-    join(&mut table, start, TokenSet::END.0);
+    let mut edges = [0u64; 48];
+    add(&mut table, start, TokenSet::END.0);
     bases(rows, count, null, first, &mut table);
-    loop {
-        if !tail_pass(rows, count, null, &mut table) {
-            return table;
-        }
-    }
+    tails(rows, count, null, &mut edges);
+    spread(&mut edges, &mut table, n);
+    table
 }

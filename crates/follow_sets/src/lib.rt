@@ -4,16 +4,17 @@ pub mod starts;
 
 use crate::follow::follow;
 use crate::starts::all_starts;
-use first_sets::fronts;
 ghost use mathlib.Core.Path.{_≡_};
-ghost use Prim.Native.Nat.{ℕ, _<_};
-ghost use lib.ListN.{length, getD};
-ghost use Rattle.meaning.specs.Grammar.{Grammar, productionAt};
+ghost use mathlib.Core.Bool.{true};
+ghost use Prim.Native.Nat.{ℕ, _<_, _≤_};
+ghost use lib.ListN.{length, getD, replicate};
+ghost use Rattle.meaning.specs.Grammar.{Grammar, productionAt, nonterminalCount};
 ghost use Rattle.meaning.specs.Derivation.{Listed};
 ghost use Rattle.meaning.specs.Sets.{nullable, starts};
 ghost use Rattle.token_set.specs.Words.{setOf};
 ghost use Rattle.analysis.specs.Rows.{Image, Rows};
-ghost use Rattle.analysis.specs.Views.{members};
+ghost use Rattle.analysis.specs.Views.{members, WithinAll, FrontAt, Below};
+ghost use Rattle.analysis.specs.Tables.{SettledTable};
 ghost use Rattle.analysis.specs.Follows.{Followed};
 ghost use Rattle.analysis.specs.Agreeing.{Marks};
 
@@ -21,27 +22,35 @@ ghost use Rattle.analysis.specs.Agreeing.{Marks};
 fn follow_where(
     rows: &[u8; 2048],
     count: usize,
+    n: usize,
     start: u8,
     null: u64,
     first: &[u64; 48],
 ) -> [u64; 48]
-    requires { ⌜ Image (now rows) count × (start < 48) ⌝ }
-    ensures { λ r. ⌜ ((null ≡ 0 → ⊥) → Followed (members null) (now (first .entry)) (now (rows .entry)) count start r) ⌝ }
+    requires { ⌜ Image (now rows) count × (n ≤ 48) × (start < 48) ⌝ }
+    ensures { λ r. ⌜ ((null ≡ 0 → ⊥) → Below n (now (rows .entry)) count → start < n → Followed (members null) (now (first .entry)) (now (rows .entry)) count start r) ⌝ }
 {
     if null == 0 {
         return [0u64; 48];
     }
-    follow(rows, count, start as usize, null, first)
+    follow(rows, count, n, start as usize, null, first)
 }
 
-// FIRST-then-FOLLOW of each production, from the set of the nonterminals that derive nothing.
-pub fn starting(rows: &[u8; 2048], count: usize, start: u8, null: u64, sets: &mut [u64; 128])
-    requires { ⌜ Image (now rows) count × (start < 48) × (length (now sets) ≡ 128) ⌝ }
-    ensures { λ r. ⌜ ((g : Grammar) → Rows (now (rows .entry)) count g → start ≡ g .start → Marks null (nullable g)
+// FIRST-then-FOLLOW of each production, from the set of the nonterminals that derive nothing and from FIRST; n is how many nonterminals there are.
+pub fn starting(
+    rows: &[u8; 2048],
+    count: usize,
+    n: usize,
+    start: u8,
+    null: u64,
+    first: &[u64; 48],
+    sets: &mut [u64; 128],
+)
+    requires { ⌜ Image (now rows) count × (n ≤ 48) × (start < 48) × (length (now sets) ≡ 128) ⌝ }
+    ensures { λ r. ⌜ ((g : Grammar) → Rows (now (rows .entry)) count g → n ≡ nonterminalCount g → start ≡ g .start → Marks null (nullable g)
+        → SettledTable (WithinAll (FrontAt true (members null) (now (rows .entry))) 0 count) (replicate 48 0) (now (first .entry))
         → (p : ℕ) → Listed g p → setOf (getD (now (sets .exit)) p 0) ≡ starts g (productionAt g p)) ⌝ }
 {
-    let mut first = [0u64; 48];
-    fronts(rows, count, null, true, &mut first);
-    let after = follow_where(rows, count, start, null, &first);
-    all_starts(rows, count, null, &first, &after, sets);
+    let after = follow_where(rows, count, n, start, null, first);
+    all_starts(rows, count, null, first, &after, sets);
 }

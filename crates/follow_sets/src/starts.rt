@@ -21,7 +21,7 @@ pub fn all_starts(
     let mut k: usize = 0;
     while k < count {
         let left = rows[k * 16] as usize;
-        sets[k] = begins(rows, count, k, null, first, follow[left], true);
+        sets[k] = begins(rows, count, k, null, first, follow[left]);
         k += 1;
     }
 }

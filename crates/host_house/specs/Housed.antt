@@ -3,9 +3,9 @@ use Prim.Native.Nat.{ℕ}
 use mathlib.Core.Path.{_≡_, refl, sym, ap, _∙_, subst}
 use mathlib.Core.List.{List}
 use Rattle.meaning.specs.House.{HouseAnswer, HouseCalled, wrote, turnedBack}
-use Rattle.house.specs.Answers.{houseIs}
-use Rattle.house.specs.declared.Written.{Written}
-use Rattle.house.specs.declared.Written.the-variants.{Done, Short, Unusable}
+use Rattle.house_write.specs.Answers.{houseIs}
+use Rattle.house_write.specs.declared.Written.{Written}
+use Rattle.house_write.specs.declared.Written.the-variants.{Done, Short, Unusable}
 
 -- the answer as three numbers: the length, with 0 and 0; or 0, with the refusal's number and offset
 abbrev pub answered : ℕ → ℕ → ℕ → HouseAnswer → Type 0

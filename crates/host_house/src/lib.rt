@@ -1,7 +1,7 @@
 // The writer of house order over lent numbers.
 ghost use Rattle.meaning.specs.House.{houseOf};
 ghost use Rattle.host_house.specs.Housed.{housed};
-use house::Written;
+use house_write::Written;
 
 // An accepted table in house order, in the lent buffer, and its length; number and offset are then 0. On a refusal these are the
 // refusal's (36 and 0 where the buffer is too short), the length is 0, and not a byte of the buffer changes.

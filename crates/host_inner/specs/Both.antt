@@ -5,9 +5,10 @@ use mathlib.Core.List.{List}
 use lib.IntN.{ℤ}
 use Rattle.meaning.specs.PublicCalls.{stacksOf}
 use Rattle.meaning.specs.Inner.{InnerEffect}
-use Rattle.engine.specs.Records.{recordIs, answerIs}
-use Rattle.inner_records.specs.declared.InnerCalled.{InnerCalled}
-use Rattle.inner_records.specs.Records.{innerEffectIs}
+use Rattle.records.specs.Records.{answerIs}
+use Rattle.engine.specs.Records.{recordIs}
+use Rattle.inner.specs.declared.InnerCalled.{InnerCalled}
+use Rattle.inner.specs.Records.{innerEffectIs}
 use Rattle.host_numbers.specs.Lent.{numbersOf, numberOf, countOf}
 
 -- os and is are the numbers of the records, n and k number and count of the answer

@@ -6,7 +6,7 @@ ghost use Rattle.meaning.specs.Inner as Inner;
 ghost use Rattle.meaning.specs.Inner.{giveUp, innerOpens, innerPerforms};
 ghost use Rattle.host_numbers.specs.Lent.{broughtIn, valueOf};
 ghost use Rattle.host_inner.specs.Both.{NumbersPassed, BothPassedOn};
-use inner_records::InnerCalled;
+use inner::InnerCalled;
 
 fn pass_on(
     called: InnerCalled,

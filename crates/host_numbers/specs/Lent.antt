@@ -9,10 +9,11 @@ use lib.IntN.{ℤ, pos}
 use borrow.Author.Tests.{eq-eqb, ne-eqb}
 use Rattle.meaning.specs.Calls.{Status, running, waiting, closed, Kind, outer, inner, Record, Answer, more, value, refused, tableRefused}
 use Rattle.meaning.specs.PublicCalls.{Effect}
-use Rattle.meaning.specs.Inner.{registerBase, placeBase}
+use Rattle.meaning.specs.Inner.{registerBase, placeBase, withStatus, withKind}
 use Rattle.meaning.specs.PublicCalls.{stacksOf}
 use Rattle.engine.specs.declared.Called.{Called}
-use Rattle.engine.specs.Records.{recordIs, answerIs, effectIs}
+use Rattle.records.specs.Records.{answerIs}
+use Rattle.engine.specs.Records.{recordIs, effectIs}
 
 -- ---- a record as eight numbers: how it stands, tokens read, moves, height of the registers, height of the places, its kind, and the two heights where an inner run begins
 
@@ -51,9 +52,9 @@ kind-outer n r p e = ap (λ b. kindBy b r p) (sym (ne-eqb n 1 e))
 abbrev pub broughtIn : List ℕ → Record
 broughtIn ns = record { status = statusFrom (getD ns 0 0); kind = kindFrom (getD ns 5 0) (getD ns 6 0) (getD ns 7 0); tokens = getD ns 1 0; moves = getD ns 2 0; registerHeight = getD ns 3 0; placeHeight = getD ns 4 0 }
 
-pub brought-by : (ns : List ℕ) {s : Status} {k : Kind} → s ≡ statusFrom (getD ns 0 0) → k ≡ kindFrom (getD ns 5 0) (getD ns 6 0) (getD ns 7 0)
-    → record { status = s; kind = k; tokens = getD ns 1 0; moves = getD ns 2 0; registerHeight = getD ns 3 0; placeHeight = getD ns 4 0 } ≡ broughtIn ns
-brought-by ns e d = λ j. record { status = e j; kind = d j; tokens = getD ns 1 0; moves = getD ns 2 0; registerHeight = getD ns 3 0; placeHeight = getD ns 4 0 }
+pub brought-by : (ns : List ℕ) {counted placed r : Record} → counted ≡ record { status = running; kind = outer; tokens = getD ns 1 0; moves = getD ns 2 0; registerHeight = getD ns 3 0; placeHeight = getD ns 4 0 }
+    → placed ≡ withKind (kindFrom (getD ns 5 0) (getD ns 6 0) (getD ns 7 0)) counted → r ≡ withStatus (statusFrom (getD ns 0 0)) placed → r ≡ broughtIn ns
+brought-by ns e f g = g ∙ ap (withStatus (statusFrom (getD ns 0 0))) (f ∙ ap (withKind (kindFrom (getD ns 5 0) (getD ns 6 0) (getD ns 7 0))) e)
 
 abbrev pub statusNumber : Status → ℕ
 statusNumber closed = 0

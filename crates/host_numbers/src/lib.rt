@@ -1,48 +1,48 @@
 // A run's record and answer as the numbers that a host lends.
 ghost use mathlib.Core.Path.{_≡_};
-ghost use Rattle.meaning.specs.Inner.{registerBase, placeBase};
-ghost use Rattle.engine.specs.Records.{statusIs, kindIs, recordIs, answerIs};
+ghost use Rattle.meaning.specs.Inner.{registerBase, placeBase, withStatus, withKind};
+ghost use Rattle.records.specs.Records.{statusIs, kindIs, stateIs, answerIs};
+ghost use Rattle.engine.specs.Records.{recordIs};
 ghost use Rattle.host_numbers.specs.Lent.{statusFrom, kindFrom, broughtIn, statusNumber, kindNumber, flagOf, numbersOf, numberOf, countOf, valueOf};
-use engine::Answer;
 use engine::Called;
-use engine::Kind;
 use engine::Record;
-use engine::Status;
+use records::Answer;
+use records::Kind;
+use records::State;
+use records::Status;
 
 // ---- a record as eight numbers
 
-fn status_in(number: u64) -> Status
-    ensures { λ r. ⌜ statusIs r ≡ statusFrom number ⌝ }
+// 0 for closed, 2 for waiting, every other number for open.
+fn with_status(state: State, number: u64) -> State
+    ensures { λ r. ⌜ stateIs r ≡ withStatus (statusFrom number) (stateIs state) ⌝ }
 {
     if number == 0 {
-        return Status::Closed;
+        return state.closed();
     }
     if number == 2 {
-        return Status::Waiting;
+        return state.waiting();
     }
-    Status::Running
+    state.resumed()
 }
 
-fn kind_in(number: u64, registers: u64, places: u64) -> Kind
-    ensures { λ r. ⌜ kindIs r ≡ kindFrom number registers places ⌝ }
+// 1 for inner, every other number for outer.
+fn with_kind(state: State, number: u64, registers: u64, places: u64) -> State
+    ensures { λ r. ⌜ stateIs r ≡ withKind (kindFrom number registers places) (stateIs state) ⌝ }
 {
     if number == 1 {
-        return Kind::Inner(registers, places);
+        return state.inside(registers, places);
     }
-    Kind::Outer
+    state.alone()
 }
 
 pub fn brought(numbers: &[u64; 8]) -> Record
     ensures { λ r. ⌜ recordIs r ≡ broughtIn (now (numbers .entry)) ⌝ }
 {
-    Record {
-        status: status_in(numbers[0]),
-        kind: kind_in(numbers[5], numbers[6], numbers[7]),
-        tokens: numbers[1],
-        moves: numbers[2],
-        registers: numbers[3],
-        places: numbers[4],
-    }
+    let counted = State::running(numbers[1], numbers[2], numbers[3], numbers[4]);
+    let placed = with_kind(counted, numbers[5], numbers[6], numbers[7]);
+    let state = with_status(placed, numbers[0]);
+    Record { state }
 }
 
 fn status_out(status: Status) -> u64
@@ -85,14 +85,15 @@ fn place_base(kind: Kind) -> u64
 pub fn hand_back(record: Record, numbers: &mut [u64; 8])
     ensures { λ r. ⌜ now (numbers .exit) ≡ numbersOf (recordIs «record») ⌝ }
 {
-    let status = record.status;
-    let kind = record.kind;
+    let state = record.state;
+    let status = state.status;
+    let kind = state.kind;
     *numbers = [
         status_out(status),
-        record.tokens,
-        record.moves,
-        record.registers,
-        record.places,
+        state.tokens,
+        state.moves,
+        state.registers,
+        state.places,
         kind_out(kind),
         register_base(kind),
         place_base(kind),

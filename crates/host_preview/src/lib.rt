@@ -8,7 +8,6 @@ ghost use Rattle.preview.specs.May.{mayIs};
 ghost use Rattle.host_numbers.specs.Lent.{broughtIn, PassedOn};
 ghost use Rattle.host_preview.specs.Previewed.{tokensIn, mayNumber, mayCount, MayPassedOn};
 use preview::May;
-use token_set::TokenSet;
 
 fn tokens_of(may: May) -> u64
     ensures { λ r. ⌜ setOf r ≡ tokensIn (mayIs may) ⌝ }

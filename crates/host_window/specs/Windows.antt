@@ -7,7 +7,7 @@ use mathlib.Core.List.{List}
 use borrow.Author.Tests.{ne-eqb}
 use lib.Dec.{eqb}
 use lib.IntN.{ℤ, pos}
-use Rattle.meaning.specs.Calls.{Answer, more, value, refused, tableRefused}
+use Rattle.meaning.specs.Calls.{Answer, value, refused, tableRefused}
 use Rattle.meaning.specs.Window.{WindowAnswer, stands, empty, turnedBack, windowNumber, Outcome, outcome, bringsAnswer}
 use Rattle.host_numbers.specs.Lent.{numberOf, countOf, valueOf}
 

@@ -1,10 +1,10 @@
 // The window over the last values: an answer is four numbers, a finish's answer comes as the three that `segment_finish` hands out.
 ghost use mathlib.Core.Path.{_≡_};
 ghost use Rattle.meaning.specs.Window.{opensWindow, bringsAnswer};
-ghost use Rattle.engine.specs.Records as Records;
+ghost use Rattle.records.specs.Records as Records;
 ghost use Rattle.window.specs.Answers as Answers;
 ghost use Rattle.host_window.specs.Windows.{finishedAs, NumbersOf, WindowPassedOn};
-use engine::Answer;
+use records::Answer;
 use window::WindowAnswer;
 use window::window_open;
 use window_answers::window_brings;

@@ -18,9 +18,10 @@ use Rattle.checker.specs.Judging.{Brought, Judges}
 use Rattle.checker.proofs.Cases.{accepted-case, refused-case}
 use Rattle.checker.specs.declared.judging.Judged.{Judged}
 use Rattle.checker.specs.declared.judging.Judged.the-variants.{Usable, Unusable}
-use Rattle.house.specs.Answers.{houseIs, Ready, Writes}
-use Rattle.house.specs.declared.Written.{Written}
-use Rattle.house.specs.declared.Written.the-variants as Variant
+use Rattle.house_write.specs.Answers.{houseIs}
+use Rattle.house.specs.Answers.{Ready, Writes}
+use Rattle.house_write.specs.declared.Written.{Written}
+use Rattle.house_write.specs.declared.Written.the-variants as Variant
 
 -- ---- an accepted table is
 

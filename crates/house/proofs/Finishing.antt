@@ -6,9 +6,10 @@ use mathlib.Core.List.{List, _++_}
 use lib.ListN.{getD, take}
 use Rattle.meaning.specs.House.{writing}
 use Rattle.theory_order.specs.Planning.{copied}
-use Rattle.house.specs.Plans.{TablePlanned}
-use Rattle.house.specs.Answers.{houseIs, Ready}
-use Rattle.house.specs.declared.Written.{Written}
+use Rattle.house_plan.specs.Plans.{TablePlanned}
+use Rattle.house_write.specs.Answers.{houseIs}
+use Rattle.house.specs.Answers.{Ready}
+use Rattle.house_write.specs.declared.Written.{Written}
 
 -- ---- a table that is ready to be written
 

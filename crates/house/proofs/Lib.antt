@@ -1,4 +1,2 @@
-pub mod Planning
-pub mod Writing
 pub mod Finishing
 pub mod Answering

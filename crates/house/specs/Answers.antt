@@ -1,18 +1,12 @@
--- 02's numbers for the writer's answers, and what the writer asks and promises of a table that is accepted.
+-- What the writer asks and promises of a table that is accepted.
 use Prim.Native.Nat.{ℕ, _≤_, _<_}
 use mathlib.Core.Path.{_≡_}
 use mathlib.Core.List.{List, _++_}
 use lib.ListN.{length, getD, take}
-use Rattle.meaning.specs.House.{HouseCalled, wrote, turnedBack, writing}
+use Rattle.meaning.specs.House.{writing}
 use Rattle.theory_order.specs.Planning.{Planned, copied}
-use Rattle.house.specs.declared.Written.{Written}
-use Rattle.house.specs.declared.Written.the-variants.{Done, Short, Unusable}
-
--- 02: "A table or sheet written comes with its length"; "An output buffer that is too short is turned back as 36", with 0 beside it; the table's number and offset
-abbrev pub houseIs : Written → List ℕ → HouseCalled
-houseIs (Done n) buffer = record { answer = wrote n; buffer = buffer }
-houseIs Short buffer = record { answer = turnedBack 36 0; buffer = buffer }
-houseIs (Unusable number offset) buffer = record { answer = turnedBack number offset; buffer = buffer }
+use Rattle.house_write.specs.declared.Written.{Written}
+use Rattle.house_write.specs.Answers.{houseIs}
 
 -- the plan of a table whose productions begin at these offsets, with room for it
 pub record Ready (t offsets : List ℕ) (count size : ℕ) : Type 0 where

@@ -3,18 +3,10 @@
 ghost use mathlib.Core.Path.{_≡_};
 ghost use lib.ListN.{length};
 ghost use Rattle.meaning.specs.House.{houseOf};
-ghost use Rattle.house.specs.Answers.{houseIs, Ready, Writes};
+ghost use Rattle.house_write.specs.Answers.{houseIs};
+ghost use Rattle.house.specs.Answers.{Ready, Writes};
 use checker::judging::Judged;
-
-pub mod plan;
-pub mod write;
-
-// The table in house order is written, with its length; the buffer is too short (36); or the table is refused.
-pub enum Written {
-    Done(usize),
-    Short,
-    Unusable { number: u32, offset: u32 },
-}
+use house_write::Written;
 
 // Writes a table whose productions begin at these offsets.
 fn write_house(
@@ -27,9 +19,9 @@ fn write_house(
     requires { ⌜ Ready (now table) (now offsets) count (length (now plan)) ⌝ }
     ensures { λ r. ⌜ Writes (now (table .entry)) (now (offsets .entry)) count (length (now (plan .entry))) (now (out .entry)) (now (out .exit)) r ⌝ }
 {
-    let n = plan::plan_table(table, offsets, count, plan);
-    let first = arrange::offset_at(offsets, 0);
-    write::write_planned(table, &plan[..n], first, out)
+    let n = house_plan::plan_table(table, offsets, count, plan);
+    let first = field_keys::offset_at(offsets, 0);
+    house_write::write_planned(table, &plan[..n], first, out)
 }
 
 // Writes any bytes as a table in house order; on a refusal not a byte of the buffer changes, and bytes past the length stay.

@@ -4,8 +4,8 @@ ghost use Rattle.meaning.specs.Program.{programOf};
 ghost use Rattle.meaning.specs.PublicCalls.{performs, feed, stacksOf};
 ghost use Rattle.engine.specs.Records.{recordIs};
 ghost use Rattle.in_place.specs.Lent.{leaves};
-use engine::Answer;
 use engine::Record;
+use records::Answer;
 
 // `Record::feed`, with the record changed where it stands: it is copied, fed by value, and what is handed back is stored.
 pub fn feed_in_place(

@@ -1,9 +1,9 @@
 -- What each inner call begins with: 30, the table, and its program written.
-use Prim.Native.Nat.{ℕ, _+_, _-_, _≤_, _<_}
+use Prim.Native.Nat.{ℕ, _≤_}
 use native.Mathlib.Omega.{arith}
-use mathlib.Core.Path.{_≡_, refl, sym, ap, ap₂, _∙_, subst}
+use mathlib.Core.Path.{_≡_, sym, ap, ap₂, _∙_, subst}
 use mathlib.Core.Bool.{Bool, true, false}
-use mathlib.Core.List.{List, _++_}
+use mathlib.Core.List.{List}
 use lib.ListN.{length, drop, length-append, length-drop}
 use lib.Dec.{ltb}
 use borrow.Author.Tests.{le-ltb}
@@ -11,16 +11,16 @@ use Rattle.meaning.specs.Grammar.{Grammar}
 use Rattle.meaning.specs.Table.{grammarOf}
 use Rattle.meaning.specs.Program.{programOf}
 use Rattle.meaning.specs.Calls as Calls
-use Rattle.meaning.specs.Calls.{Record, Stacks, Called, more, value, refused, tableRefused, closedRecord, asBrought}
+use Rattle.meaning.specs.Calls.{Record, Stacks, more, value, refused, tableRefused, closedRecord, asBrought}
 use Rattle.meaning.specs.PublicCalls.{Checked, usable, unusable, check, areaLength, written, Effect, effect}
 use Rattle.meaning.specs.Inner.{InnerCalled, handedBack, innerOpenOf, InnerEffect, innerEffect, byTable, whenOuterFits, innerOpens}
 use Rattle.prepare.specs.Making.{Standing}
-use Rattle.engine.specs.declared.Answer.{Answer}
-use Rattle.engine.specs.Records.{answerIs}
+use Rattle.records.specs.declared.Answer.{Answer}
+use Rattle.records.specs.Records.{answerIs}
 use Rattle.engine.specs.declared.Begun.{Begun}
 use Rattle.engine.specs.declared.Begun.the-variants.{Turned}
 use Rattle.engine.specs.Beginning.{TurnedBack, Case, BegunAs}
-use Rattle.engine.specs.Judging.{numberFor, judged-back, judged-on}
+use Rattle.lent.specs.Judging.{numberFor, judged-back, judged-on}
 
 -- a call with area and table: 30, the table's refusals, or what is made of the grammar and the words written
 abbrev pub insideBy : List ℕ → Record → Record → Stacks → (Grammar → List ℕ → InnerEffect) → Bool → Checked → InnerEffect

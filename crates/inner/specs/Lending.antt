@@ -1,9 +1,9 @@
 -- The stretch as the cells that are lent on, and the calls on it.
-use Prim.Native.Nat.{ℕ, _+_, _-_, _≤_, _<_, min}
+use Prim.Native.Nat.{ℕ, _-_, _≤_, min}
 use native.Mathlib.Omega.{arith}
 use mathlib.Core.Path.{_≡_, refl, sym, ap, ap₂, _∙_, subst}
-use mathlib.Core.Bool.{Bool, true, false, not, _&&_, _||_}
-use mathlib.Core.List.{List, [], _++_}
+use mathlib.Core.Bool.{Bool, true, false, _||_}
+use mathlib.Core.List.{List, _++_}
 use borrow.Rule.Slice.PartMut.{putMid, post-is}
 use lib.ListN.{length, take, drop, replicate}
 use lib.Dec.{T, ltb}
@@ -11,20 +11,19 @@ use lib.IntN.{ℤ}
 use Rattle.meaning.specs.Grammar.{Grammar}
 use Rattle.meaning.specs.Value.{mark}
 use Rattle.meaning.specs.Machine.{opening}
-use Rattle.meaning.specs.Calls as Calls
 use Rattle.meaning.specs.Calls.{running, closed, Kind, inner, Record, Stacks, Called, lentOf, layAll, recordOf, closedRecord, asBrought, refused, more, isOpen, openOf}
 use Rattle.meaning.specs.PublicCalls.{stacksOf, callOf}
 use Rattle.meaning.specs.Inner.{above, paste, cleared, withStatus, withKind, alone, beginning, InnerCalled, handedBack, openedAbove, innerOpenOf, InnerCall, engineCall, onStretch, ends, afterInner, isClosed, belongs, innerOf}
 use Rattle.theory_inner.specs.Stretch.{paste-same}
 use Rattle.theory_inner.specs.Slices.{capped, above-capped, paste-capped, above-cells, paste-cells}
 use Rattle.theory_inner.specs.Calling.{belongs-is}
-use Rattle.engine.specs.declared.Called as Code
-use Rattle.engine.specs.declared.Record as Brought
-use Rattle.engine.specs.Records.{recordIs, answerIs, calledIs}
-use Rattle.inner_records.specs.declared.InnerCalled as Handed
+use Rattle.records.specs.declared.Handed as Code
+use Rattle.records.specs.declared.State as Brought
+use Rattle.records.specs.Records.{stateIs, answerIs, handedIs}
+use Rattle.inner_records.specs.declared.InnerHanded as Handed
 use Rattle.inner_records.specs.declared.Call as CodeCall
 use Rattle.inner_records.specs.declared.Call.the-variants.{Feed, Finish, GiveUp}
-use Rattle.inner_records.specs.Records.{innerCalledIs, callIs, apartBy, apartNumber, openedBy, openedFrom, wentOnFrom, endedFrom, endsBy}
+use Rattle.inner_records.specs.Records.{innerHandedIs, callIs, apartBy, apartNumber, openedBy, openedFrom, wentOnFrom, endedFrom, endsBy}
 
 -- ---- the cells
 
@@ -75,29 +74,29 @@ module _ (g : Grammar) (s : Stacks) where
       go false true e = refl
       go false false e = absurd (subst T e tt)
 
-module _ (g : Grammar) (o : Brought.Record) (m : Stacks) where
+module _ (g : Grammar) (o : Brought.State) (m : Stacks) where
   abbrev from : Kind
-  from = beginning (recordIs o)
+  from = beginning (stateIs o)
 
-  pub opened-is : (c : Code.Called) (vs : List ℤ) (ps : List ℕ) → calledIs c vs ps ≡ openOf g (above from m) → (vs′ : List ℤ) (ps′ : List ℕ) → stacksOf vs′ ps′ ≡ paste from (stacksOf vs ps) m
-      → innerCalledIs (openedFrom o c) vs′ ps′ ≡ innerOpenOf g (recordIs o) m
+  pub opened-is : (c : Code.Handed) (vs : List ℤ) (ps : List ℕ) → handedIs c vs ps ≡ openOf g (above from m) → (vs′ : List ℤ) (ps′ : List ℕ) → stacksOf vs′ ps′ ≡ paste from (stacksOf vs ps) m
+      → innerHandedIs (openedFrom o c) vs′ ps′ ≡ innerOpenOf g (stateIs o) m
   opened-is c vs ps e vs′ ps′ q =
-      go (isOpen (recordIs (c .record))) refl
-      ∙ ap (λ (k : Called). openedAbove (isOpen (k .state)) (recordIs o) m k) e
+      go (isOpen (stateIs (c .state))) refl
+      ∙ ap (λ (k : Called). openedAbove (isOpen (k .state)) (stateIs o) m k) e
     where
-      go : (b : Bool) → isOpen (recordIs (c .record)) ≡ b → innerCalledIs (openedBy b o c) vs′ ps′ ≡ openedAbove b (recordIs o) m (calledIs c vs ps)
+      go : (b : Bool) → isOpen (stateIs (c .state)) ≡ b → innerHandedIs (openedBy b o c) vs′ ps′ ≡ openedAbove b (stateIs o) m (handedIs c vs ps)
       go true d = ap (handedBack _ _ _) q
       go false d =
           let kept : stacksOf vs ps ≡ above from m = ap (λ (k : Called). k .stacks) e ∙ open-kept g (above from m) (ap (λ (k : Called). isOpen (k .state)) (sym e) ∙ d) in
           ap (handedBack _ _ _) (q ∙ (ap (λ part. paste from part m) kept ∙ paste-same from m))
 
-module _ (g : Grammar) (o : Brought.Record) (vs : List ℤ) (ps : List ℕ) (n k a b : ℕ) (en : n ≡ min (length vs) 4096) (ek : k ≡ min (length ps) 1024) (ea : a ≡ min (o .registers) n) (eb : b ≡ min (o .places) k) where
-  pub open-is : (r : Code.Called) (ws : List ℤ) (qs : List ℕ) → calledIs r ws qs ≡ openOf g (stacksOf (take (n - a) (drop a vs)) (take (k - b) (drop b ps))) → (z : Handed.InnerCalled) → z ≡ openedFrom o r
-      → innerCalledIs z (putMid a (n - a) vs ws) (putMid b (k - b) ps qs) ≡ innerOpenOf g (recordIs o) (stacksOf vs ps)
+module _ (g : Grammar) (o : Brought.State) (vs : List ℤ) (ps : List ℕ) (n k a b : ℕ) (en : n ≡ min (length vs) 4096) (ek : k ≡ min (length ps) 1024) (ea : a ≡ min (o .registers) n) (eb : b ≡ min (o .places) k) where
+  pub open-is : (r : Code.Handed) (ws : List ℤ) (qs : List ℕ) → handedIs r ws qs ≡ openOf g (stacksOf (take (n - a) (drop a vs)) (take (k - b) (drop b ps))) → (z : Handed.InnerHanded) → z ≡ openedFrom o r
+      → innerHandedIs z (putMid a (n - a) vs ws) (putMid b (k - b) ps qs) ≡ innerOpenOf g (stateIs o) (stacksOf vs ps)
   open-is r ws qs e z q =
       let h = o .registers in
       let p = o .places in
-      ap (λ y. innerCalledIs y (putMid a (n - a) vs ws) (putMid b (k - b) ps qs)) q
+      ap (λ y. innerHandedIs y (putMid a (n - a) vs ws) (putMid b (k - b) ps qs)) q
       ∙ opened-is g o (stacksOf vs ps) r ws qs (e ∙ ap (openOf g) (stretch-is h p vs ps n k a b en ek ea eb)) (putMid a (n - a) vs ws) (putMid b (k - b) ps qs) (pasted-is h p vs ps n k a b en ek ea eb ws qs)
 
 -- ---- a later call
@@ -117,22 +116,22 @@ stretchCalled g o i s c = let k = callOf g (alone i) s (engineCall c) in stretch
 pub clears : (vs vs₁ vs₂ : List ℤ) (ps ps₁ ps₂ : List ℕ) → vs₂ ≡ replicate (length vs₁) mark → ps₂ ≡ replicate (length ps₁) 0 → length vs₁ ≡ length vs → length ps₁ ≡ length ps → stacksOf vs₂ ps₂ ≡ cleared (stacksOf vs ps)
 clears vs vs₁ vs₂ ps ps₁ ps₂ e d h l = ap₂ stacksOf (e ∙ ap (λ n. replicate n mark) h) (d ∙ ap (λ n. replicate n 0) l)
 
-ends-is : (c : CodeCall.Call) (ks : List ℕ) (us : List ℤ) (r : Code.Called) (vs : List ℤ) (ps : List ℕ) → endsBy c r ≡ ends (callIs c ks us) (calledIs r vs ps)
+ends-is : (c : CodeCall.Call) (ks : List ℕ) (us : List ℤ) (r : Code.Handed) (vs : List ℤ) (ps : List ℕ) → endsBy c r ≡ ends (callIs c ks us) (handedIs r vs ps)
 ends-is Feed ks us r vs ps = refl
 ends-is Finish ks us r vs ps = refl
 ends-is GiveUp ks us r vs ps = refl
 
-module _ (c : CodeCall.Call) (ks : List ℕ) (us : List ℤ) (o i : Brought.Record) (s : Stacks) (r : Code.Called) (vs : List ℤ) (ps : List ℕ) (k : Called) (e : calledIs r vs ps ≡ k) where
-  after : (b : Bool) → endsBy c r ≡ b → stretchAfter b (recordIs o) (recordIs i) s (calledIs r vs ps) ≡ stretchAfter (ends (callIs c ks us) k) (recordIs o) (recordIs i) s k
+module _ (c : CodeCall.Call) (ks : List ℕ) (us : List ℤ) (o i : Brought.State) (s : Stacks) (r : Code.Handed) (vs : List ℤ) (ps : List ℕ) (k : Called) (e : handedIs r vs ps ≡ k) where
+  after : (b : Bool) → endsBy c r ≡ b → stretchAfter b (stateIs o) (stateIs i) s (handedIs r vs ps) ≡ stretchAfter (ends (callIs c ks us) k) (stateIs o) (stateIs i) s k
   after b d =
-      ap (λ x. stretchAfter x (recordIs o) (recordIs i) s (calledIs r vs ps)) (sym d ∙ ends-is c ks us r vs ps)
-      ∙ ap (λ (z : Called). stretchAfter (ends (callIs c ks us) z) (recordIs o) (recordIs i) s z) e
+      ap (λ x. stretchAfter x (stateIs o) (stateIs i) s (handedIs r vs ps)) (sym d ∙ ends-is c ks us r vs ps)
+      ∙ ap (λ (z : Called). stretchAfter (ends (callIs c ks us) z) (stateIs o) (stateIs i) s z) e
 
-  pub goes-on-is : endsBy c r ≡ false → (z : Handed.InnerCalled) → z ≡ wentOnFrom o i r → innerCalledIs z vs ps ≡ stretchAfter (ends (callIs c ks us) k) (recordIs o) (recordIs i) s k
-  goes-on-is d z q = ap (λ y. innerCalledIs y vs ps) q ∙ after false d
+  pub goes-on-is : endsBy c r ≡ false → (z : Handed.InnerHanded) → z ≡ wentOnFrom o i r → innerHandedIs z vs ps ≡ stretchAfter (ends (callIs c ks us) k) (stateIs o) (stateIs i) s k
+  goes-on-is d z q = ap (λ y. innerHandedIs y vs ps) q ∙ after false d
 
-  pub ended-is : endsBy c r ≡ true → (z : Handed.InnerCalled) → z ≡ endedFrom o i r → (ws : List ℤ) (qs : List ℕ) → stacksOf ws qs ≡ cleared s → innerCalledIs z ws qs ≡ stretchAfter (ends (callIs c ks us) k) (recordIs o) (recordIs i) s k
-  ended-is d z q ws qs l = ap (λ y. innerCalledIs y ws qs) q ∙ (ap (λ y. handedBack (answerIs (r .answer)) (recordIs (endedFrom o i r .outer)) (recordIs (endedFrom o i r .inner)) y) l ∙ after true d)
+  pub ended-is : endsBy c r ≡ true → (z : Handed.InnerHanded) → z ≡ endedFrom o i r → (ws : List ℤ) (qs : List ℕ) → stacksOf ws qs ≡ cleared s → innerHandedIs z ws qs ≡ stretchAfter (ends (callIs c ks us) k) (stateIs o) (stateIs i) s k
+  ended-is d z q ws qs l = ap (λ y. innerHandedIs y ws qs) q ∙ (ap (λ y. handedBack (answerIs (r .answer)) (stateIs (endedFrom o i r .outer)) (stateIs (endedFrom o i r .inner)) y) l ∙ after true d)
 
 -- ---- with the stretch in its place
 
@@ -172,17 +171,17 @@ module _ (g : Grammar) (o i : Record) (m : Stacks) (c : InnerCall) where
   pub begins-is : 0 ≡ apartNumber o i → i .kind ≡ beginning o
   begins-is e = belongs-is o i (together e .1) .begins
 
-module _ (g : Grammar) (o i : Brought.Record) (c : InnerCall) (number : 0 ≡ apartNumber (recordIs o) (recordIs i)) (vs : List ℤ) (ps : List ℕ) (n k a b : ℕ)
+module _ (g : Grammar) (o i : Brought.State) (c : InnerCall) (number : 0 ≡ apartNumber (stateIs o) (stateIs i)) (vs : List ℤ) (ps : List ℕ) (n k a b : ℕ)
     (en : n ≡ min (length vs) 4096) (ek : k ≡ min (length ps) 1024) (ea : a ≡ min (o .registers) n) (eb : b ≡ min (o .places) k) where
-  pub call-is : (z : Handed.InnerCalled) (ws : List ℤ) (qs : List ℕ) → innerCalledIs z ws qs ≡ stretchCalled g (recordIs o) (recordIs i) (stacksOf (take (n - a) (drop a vs)) (take (k - b) (drop b ps))) c
-      → innerCalledIs z (putMid a (n - a) vs ws) (putMid b (k - b) ps qs) ≡ innerOf g (recordIs o) (recordIs i) (stacksOf vs ps) c
+  pub call-is : (z : Handed.InnerHanded) (ws : List ℤ) (qs : List ℕ) → innerHandedIs z ws qs ≡ stretchCalled g (stateIs o) (stateIs i) (stacksOf (take (n - a) (drop a vs)) (take (k - b) (drop b ps))) c
+      → innerHandedIs z (putMid a (n - a) vs ws) (putMid b (k - b) ps qs) ≡ innerOf g (stateIs o) (stateIs i) (stacksOf vs ps) c
   call-is z ws qs e =
-      let r : Record = recordIs o in
-      let j : Record = recordIs i in
+      let r : Record = stateIs o in
+      let j : Record = stateIs i in
       let m₀ : Stacks = stacksOf vs ps in
       let d : j .kind ≡ beginning r = begins-is g r j m₀ c number in
       let s = stretch-is (o .registers) (o .places) vs ps n k a b en ek ea eb ∙ ap (λ x. above x m₀) (sym d) in
       let t = onStretch g j m₀ c in
-      ap (λ x. handedBack (answerIs (z .answer)) (recordIs (z .outer)) (recordIs (z .inner)) x) (pasted-is (o .registers) (o .places) vs ps n k a b en ek ea eb ws qs ∙ ap (λ x. paste x (stacksOf ws qs) m₀) (sym d))
+      ap (λ x. handedBack (answerIs (z .answer)) (stateIs (z .outer)) (stateIs (z .inner)) x) (pasted-is (o .registers) (o .places) vs ps n k a b en ek ea eb ws qs ∙ ap (λ x. paste x (stacksOf ws qs) m₀) (sym d))
       ∙ (ap (pastedCalled (j .kind) m₀) (e ∙ ap (λ x. stretchCalled g r j x c) s)
       ∙ (pasted-after (ends c t) r j m₀ t ∙ engine-is g r j m₀ c number))

@@ -1,5 +1,4 @@
 // 02 (m): sheets from other tools. A sheet is accepted exactly if it describes the segment's well evaluated tree.
-ghost use mathlib.Core.Path.{_≡_};
 ghost use Rattle.meaning_judge.specs.Judge.{JudgedAs};
 ghost use Rattle.judge.specs.Judged.{judgementIs, SheetReady, SheetTold};
 use checker::judging::Judged;

@@ -1,7 +1,7 @@
--- What each way out of a node, of its children, of a token and of a record shows.
-use Prim.Native.Nat.{ℕ, suc, _+_, _-_, _*_, _/_, _≤_, _<_}
+-- What each way out of a node, of its children and of a token shows.
+use Prim.Native.Nat.{ℕ, suc, _+_, _-_, _*_, _≤_, _<_}
 use native.Mathlib.Omega.{arith}
-use mathlib.Core.Path.{_≡_, refl, sym, ap, ap₂, _∙_, subst}
+use mathlib.Core.Path.{_≡_, refl, sym, ap, _∙_, subst}
 use mathlib.Core.Bool.{Bool, true, false}
 use mathlib.Core.List.{List}
 use lib.ListN.{length, getD, set, length-set}
@@ -14,7 +14,7 @@ use Rattle.meaning.specs.Rules.{Known}
 use Rattle.meaning.specs.Table.{byte, symbolOf}
 use Rattle.meaning.specs.Value.{inRange}
 use Rattle.meaning.specs.Scheme.{choose}
-use Rattle.theory_base.specs.Members.{T→true, true→T, apart, getD-in}
+use Rattle.theory_base.specs.Members.{T→true, true→T, getD-in}
 use Rattle.theory_base.specs.WellFormed.{well-formed-at, counts-most}
 use Rattle.value.specs.Constants.{wordAt}
 use Rattle.blocks.specs.Walk.{Listed}
@@ -25,11 +25,13 @@ use Rattle.theory_judge.specs.Holding.{allTrue, listedTrue}
 use Rattle.theory_judge.specs.Marks.{readAt, markOf, leaf-at, leaves-many, leaf-in}
 use Rattle.theory_judge.specs.Passing as P
 use Rattle.theory_judge.specs.Passing.{Only, None, Marked}
-use Rattle.judge_nodes.specs.Checked.{fieldsOf, Book, leavesIn, Told, Heads, HeadIs, HeadTold, TokenTold, NodeReady, NodeTold, ChildrenReady, MarkedTold, ChildrenTold, Passed}
+use Rattle.judge_nodes.specs.Checked.{fieldsOf, Book, leavesIn, Told, TokenTold, NodeReady, NodeTold, ChildrenReady, MarkedTold, ChildrenTold, Passed}
+use Rattle.judge_head.proofs.Laws.{head-is, head-none}
+use Rattle.judge_head.specs.Heads.{Heads, HeadIs, HeadTold}
 use Rattle.judge_nodes.specs.declared.Answer.{Answer}
 use Rattle.judge_nodes.specs.declared.Answer.the-variants.{Fits, Wrong}
-use Rattle.judge_nodes.specs.declared.Head.{Head}
-use Rattle.judge_nodes.specs.declared.Head.the-variants.{Found, Unfit}
+use Rattle.judge_head.specs.declared.Head.{Head}
+use Rattle.judge_head.specs.declared.Head.the-variants.{Found, Unfit}
 
 -- ---- answers
 
@@ -89,63 +91,6 @@ module _ (ks : List ℕ) (vs : List ℤ) (at from k : ℕ) where
   token-fits l q i g sheet d e =
       let m : from < length (leavesIn g ks vs) = omega (arith, leaves-many g ks vs e) in
       told-fits at (from + 1) (P.token-fits g (leavesIn g ks vs) sheet at from k d (leaf-in g ks vs from m i) m (kind-is g e l ∙ q))
-
--- ---- a record
-
-module _ (rows inherited synthesized sheet : List ℕ) (at from m i s : ℕ) (ei : i ≡ byte inherited m) (es : s ≡ byte synthesized m) where
-  both : i + s ≡ byte inherited m + byte synthesized m
-  both = ap₂ _+_ ei es
-
-  pub head-short : length sheet ≤ at → HeadTold rows inherited synthesized sheet at from m Unfit
-  unfolding HeadTold
-  head-short l h = omega (arith, h .inside)
-
-  pub head-cut : length sheet - at < 12 + 8 * (i + s) → HeadTold rows inherited synthesized sheet at from m Unfit
-  unfolding HeadTold
-  head-cut l h = omega (arith, h .inside, both)
-
-  module _ (p : ℕ) (ep : p ≡ wordAt sheet at) where
-    pub head-unlisted : length rows / 16 ≤ p → HeadTold rows inherited synthesized sheet at from m Unfit
-    unfolding HeadTold
-    head-unlisted l h = omega (arith, h .listed)
-
-    module _ (q : ℕ) (eq : q ≡ byte rows (16 * p)) where
-      pub head-other : (q ≡ m → ⊥) → HeadTold rows inherited synthesized sheet at from m Unfit
-      unfolding HeadTold
-      head-other f h = f (eq ∙ (ap (λ k. byte rows (16 * k)) ep ∙ h .left))
-
-      module _ (w : ℕ) (ew : w ≡ wordAt sheet (at + 4)) where
-        pub head-before : (w ≡ from → ⊥) → HeadTold rows inherited synthesized sheet at from m Unfit
-        unfolding HeadTold
-        head-before f h = f (ew ∙ h .before)
-
-        module _ (a : Bool) (ea : a ≡ all inRange (longs sheet (at + 12) (i + s))) where
-          pub head-far : a ≡ false → HeadTold rows inherited synthesized sheet at from m Unfit
-          unfolding HeadTold
-          head-far f h = apart (sym (h .ranges) ∙ (ap (λ n. all inRange (longs sheet (at + 12) n)) (sym both) ∙ (sym ea ∙ f)))
-
-          pub head-found : at < length sheet → 12 + 8 * (i + s) ≤ length sheet - at → p < length rows / 16 → q ≡ m → w ≡ from → a ≡ true → (c : ℕ) → c ≡ wordAt sheet (at + 8) → HeadTold rows inherited synthesized sheet at from m (Found p (at + 12 + 8 * (i + s)) c)
-          unfolding HeadTold
-          head-found l₀ l lp lq lw la c ec = record {
-            heads = record {
-              inside = omega (arith, both);
-              listed = omega (arith, ep);
-              left = ap (λ k. byte rows (16 * k)) (sym ep) ∙ (sym eq ∙ lq);
-              before = sym ew ∙ lw;
-              ranges = ap (λ n. all inRange (longs sheet (at + 12) n)) (sym both) ∙ (sym ea ∙ la);
-            };
-            production = ep;
-            next = ap (λ n. at + 12 + 8 * n) both;
-            covers = ec;
-          }
-
-pub head-is : (rows inherited synthesized sheet : List ℕ) (at from m : ℕ) (r : Head) → HeadTold rows inherited synthesized sheet at from m r → (p b c : ℕ) → r ≡ Found p b c → HeadIs rows inherited synthesized sheet at from m p b c
-unfolding HeadTold
-head-is rows inherited synthesized sheet at from m r t p b c e = subst (λ z. HeadTold rows inherited synthesized sheet at from m z) e t
-
-pub head-none : (rows inherited synthesized sheet : List ℕ) (at from m : ℕ) (r : Head) → HeadTold rows inherited synthesized sheet at from m r → r ≡ Unfit → Heads rows inherited synthesized sheet at from m → ⊥
-unfolding HeadTold
-head-none rows inherited synthesized sheet at from m r t e = subst (λ z. HeadTold rows inherited synthesized sheet at from m z) e t
 
 -- ---- a book
 

@@ -1,26 +1,19 @@
 -- What the functions that go through a sheet ask, and what their answers mean.
 use Prim.Native.Nat.{ℕ, _+_, _*_, _/_, _≤_, _<_}
 use mathlib.Core.Path.{_≡_}
-use mathlib.Core.Bool.{true}
 use mathlib.Core.List.{List}
 use lib.ListN.{length, getD}
 use lib.IntN.{ℤ}
-use Rattle.meaning.specs.Base.{all}
 use Rattle.meaning.specs.Grammar.{Grammar, terminal, nonterminal, Leaf, leaves, att, nonterminalCount, productionAt}
 use Rattle.meaning.specs.Rules.{Known, WellFormed}
 use Rattle.meaning.specs.Layout.{Bytes, RulesAndConditions}
 use Rattle.meaning.specs.Table.{byte, symbolOf}
 use Rattle.meaning.specs.Calls.{tokensFrom}
-use Rattle.meaning.specs.Value.{inRange}
-use Rattle.value.specs.Constants.{wordAt}
 use Rattle.program.specs.Brought.{fieldsFrom, stretchEnd, fieldsAt}
-use Rattle.theory_judge.specs.Longs.{longs}
 use Rattle.theory_judge.specs.Described.{Described, DescribedAll}
 use Rattle.theory_judge.specs.Passing.{Only, None, Marked, Upto}
 use Rattle.judge_nodes.specs.declared.Answer.{Answer}
 use Rattle.judge_nodes.specs.declared.Answer.the-variants.{Fits, Wrong}
-use Rattle.judge_nodes.specs.declared.Head.{Head}
-use Rattle.judge_nodes.specs.declared.Head.the-variants.{Found, Unfit}
 
 -- the bytes of the rules and conditions of production p, where the rows hold all productions
 abbrev pub fieldsOf : List ℕ → List ℕ → List ℕ → ℕ → List ℕ
@@ -51,26 +44,6 @@ leavesIn g ks vs = leaves g (tokensFrom ks vs)
 unfoldable pub Told : (ℕ → ℕ → Type 0) → Answer → Type 0
 Told P (Fits n e) = Only P n e
 Told P Wrong = None P
-
--- ---- a node's own record
-
-pub record Heads (rows inherited synthesized sheet : List ℕ) (at from m : ℕ) : Type 0 where
-  pub inside : at + 12 + 8 * (byte inherited m + byte synthesized m) ≤ length sheet
-  pub listed : 16 * wordAt sheet at + 16 ≤ length rows
-  pub left : byte rows (16 * wordAt sheet at) ≡ m
-  pub before : wordAt sheet (at + 4) ≡ from
-  pub ranges : all inRange (longs sheet (at + 12) (byte inherited m + byte synthesized m)) ≡ true
-
--- its production, where its children's records begin, and the tokens that it says it covers
-pub record HeadIs (rows inherited synthesized sheet : List ℕ) (at from m p behind covered : ℕ) : Type 0 where
-  pub heads : Heads rows inherited synthesized sheet at from m
-  pub production : p ≡ wordAt sheet at
-  pub next : behind ≡ at + 12 + 8 * (byte inherited m + byte synthesized m)
-  pub covers : covered ≡ wordAt sheet (at + 8)
-
-unfoldable pub HeadTold : List ℕ → List ℕ → List ℕ → List ℕ → ℕ → ℕ → ℕ → Head → Type 0
-HeadTold rows inherited synthesized sheet at from m (Found p behind covered) = HeadIs rows inherited synthesized sheet at from m p behind covered
-HeadTold rows inherited synthesized sheet at from m Unfit = Heads rows inherited synthesized sheet at from m → ⊥
 
 -- ---- a token
 

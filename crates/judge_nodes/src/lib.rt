@@ -1,69 +1,19 @@
 // A sheet against a table and a segment: a node goes through its children, and each child is a node again.
 ghost use Prim.Native.Nat.{_+_, _*_, _-_, _/_, _<_, _≤_};
 ghost use mathlib.Core.Path.{_≡_};
-ghost use lib.ListN.{length, getD};
-ghost use Rattle.meaning.specs.Table.{byte, symbolOf};
+ghost use lib.ListN.{length};
+ghost use Rattle.meaning.specs.Table.{symbolOf};
 ghost use Rattle.program.specs.Brought.{fieldsFrom, stretchEnd};
 ghost use Rattle.blocks.specs.Walk.{Listed};
 ghost use Rattle.theory_judge.specs.Marks.{readAt, markOf};
 ghost use Rattle.theory_judge.specs.Holding.{listedTrue};
-ghost use Rattle.judge_nodes.specs.Checked.{fieldsOf, HeadTold, TokenTold, NodeReady, NodeTold, ChildrenReady, ChildrenTold};
+ghost use Rattle.judge_nodes.specs.Checked.{fieldsOf, TokenTold, NodeReady, NodeTold, ChildrenReady, ChildrenTold};
+use judge_head::Head;
 
 // Where the sheet goes on after a tree, and where the tokens do.
 pub enum Answer {
     Fits { next: usize, end: usize },
     Wrong,
-}
-
-// What a node's own record says: its production, where the records of its children begin, and the tokens that it covers.
-pub enum Head {
-    Found {
-        production: usize,
-        behind: usize,
-        covered: usize,
-    },
-    Unfit,
-}
-
-// The record at `at`, if it is one of nonterminal m's, with as many tokens before it as there are, and values in range.
-fn heading(
-    rows: &[u8],
-    inherited: &[u8],
-    synthesized: &[u8],
-    sheet: &[u8],
-    at: usize,
-    from: usize,
-    m: usize,
-) -> Head
-    requires { ⌜ byte (now inherited) m + byte (now synthesized) m ≤ 8 ⌝ }
-    ensures { λ r. ⌜ HeadTold (now (rows .entry)) (now (inherited .entry)) (now (synthesized .entry)) (now (sheet .entry)) at from m r ⌝ }
-{
-    let n = (value::byte_at(inherited, m) + value::byte_at(synthesized, m)) as usize;
-    let length = sheet.len();
-    if length <= at {
-        return Head::Unfit;
-    }
-    if length - at < 12 + 8 * n {
-        return Head::Unfit;
-    }
-    let p = value::word_at(sheet, at) as usize;
-    if rows.len() / 16 <= p {
-        return Head::Unfit;
-    }
-    if value::byte_at(rows, 16 * p) as usize != m {
-        return Head::Unfit;
-    }
-    if value::word_at(sheet, at + 4) as usize != from {
-        return Head::Unfit;
-    }
-    if judge_values::are_values(sheet, at + 12, n) {
-        return Head::Found {
-            production: p,
-            behind: at + 12 + 8 * n,
-            covered: value::word_at(sheet, at + 8) as usize,
-        };
-    }
-    Head::Unfit
 }
 
 // Where the rules and conditions of production p begin in the table.
@@ -161,7 +111,7 @@ pub fn check_node(
         return Answer::Wrong;
     }
     let m = (symbol - 128) as usize;
-    match heading(rows, inherited, synthesized, sheet, at, from, m) {
+    match judge_head::heading(rows, inherited, synthesized, sheet, at, from, m) {
         Head::Unfit => Answer::Wrong,
         Head::Found {
             production,

@@ -2,7 +2,7 @@
 use Prim.Native.Nat.{ℕ, _%_, _≤_}
 use native.Mathlib.Omega.{arith}
 use mathlib.Core.Path.{_≡_, refl, sym, ap, _∙_}
-use mathlib.Core.Bool.{Bool, true, false, _&&_, _||_}
+use mathlib.Core.Bool.{Bool, true, false, _&&_}
 use mathlib.Core.List.{List, [], _∷_}
 use lib.ListN.{getD}
 use lib.Dec.{eqb}
@@ -14,6 +14,7 @@ use Rattle.meaning.specs.Scheme.{Instruction, add, evaluate, expect, test, remo
 use Rattle.meaning.specs.Machine.{Frame, Config, Lent, Coming, asLook, blocked, chooseOutcome, next, nextOf, move, unexpected, needsLook, waits, isFinished, Settled, stopped, failed, movesLimit}
 use Rattle.meaning.specs.Part.{frame}
 use Rattle.theory_program.specs.Code.{operation, low-operation}
+use Rattle.looking.specs.Judging.{looks}
 use Rattle.moves.specs.declared.Run.{Run}
 use Rattle.moves.specs.declared.Step.the-variants.{Blocked}
 use Rattle.machine.specs.declared.Ended as Ended
@@ -33,10 +34,6 @@ pub record Running (ws : List ℕ) (m : List ℤ) (ps : List ℕ) (run : Run) : 
   pub held : Held grammar ws lent m ps run config
 
 -- ---- the operation's number
-
--- the operations that need what comes next; 6 says that nothing is left
-abbrev pub looks : ℕ → Bool
-looks k = eqb k 2 || (eqb k 3 || eqb k 6)
 
 and-none : (a : Bool) → a && false ≡ false
 and-none true = refl

@@ -1,7 +1,7 @@
 -- What comes next, one after the other: tokens that are fed, or the end; as memory and the program's words hold the configuration.
 use Prim.Native.Nat.{ℕ, zero, suc, _+_, _-_, _/_, _%_, _^_, _≤_, _<_}
 use native.Mathlib.Omega.{arith}
-use mathlib.Core.Path.{_≡_, refl, sym, ap, _∙_, subst}
+use mathlib.Core.Path.{_≡_, refl, ap, _∙_, subst}
 use mathlib.Core.Bool.{Bool, true, false, not}
 use mathlib.Core.List.{List, [], _∷_}
 use lib.ListN.{length, getD, drop}
@@ -14,7 +14,6 @@ use borrow.Author.Tests.{le-ltb, ltb-true, eq-eqb, ne-eqb}
 use Rattle.meaning.specs.Base.{any}
 use Rattle.meaning.specs.Grammar.{Grammar, Token, carried, leafOf, leaves}
 use Rattle.meaning.specs.Rules.{fourBytes, WellFormed}
-use Rattle.meaning.specs.Value.{mark}
 use Rattle.meaning.specs.Calls.{isMark, tokensFrom}
 use Rattle.meaning.specs.Machine.{Config, Lent, Coming, comes, ends, Settled, stopped, failed, advanceFrom, feedToken, feedAll, finishAll, tokensLimit}
 use Rattle.theory_base.specs.Members.{true→T, and}
@@ -24,6 +23,7 @@ use Rattle.theory_answers.specs.FitTest.{mark-is}
 use Rattle.theory_answers.specs.ShapeMoves.{IsAhead}
 use Rattle.theory_program.specs.Addresses.{Begins}
 use Rattle.theory_program.specs.Records.{segment-words, carrier-word}
+use Rattle.looking.specs.Judging.{carriesAt, valueIf, valueAt}
 use Rattle.moves.specs.declared.Run.{Run}
 use Rattle.machine.specs.declared.Ended as Ended
 use Rattle.moves.specs.Held.{Held}
@@ -39,25 +39,6 @@ comesIf false g u v = comes (leafOf g (record { kind = u; value = v }))
 
 abbrev pub comesTo : Grammar → ℕ → ℤ → Coming
 comesTo g u v = comesIf (eqb u 63) g u v
-
--- the program's bit of terminal u
-abbrev pub carriesAt : List ℕ → ℕ → Bool
-carriesAt ws u = eqb (getD ws (7 + u / 32) 0 / 2 ^ (u % 32) % 2) 1
-
-abbrev valueIf : Bool → ℤ → ℤ
-valueIf true v = v
-valueIf false v = mark
-
--- its value, or the mark where it carries none
-abbrev pub valueAt : List ℕ → ℕ → ℤ → ℤ
-valueAt ws u v = valueIf (carriesAt ws u) v
-
-module _ (ws : List ℕ) (u : ℕ) (v : ℤ) where
-  pub value-there : carriesAt ws u ≡ true → v ≡ valueAt ws u v
-  value-there e = sym (ap (λ b. valueIf b v) e)
-
-  pub value-none : carriesAt ws u ≡ false → mark ≡ valueAt ws u v
-  value-none e = sym (ap (λ b. valueIf b v) e)
 
 -- a signed 32-bit value has four bytes
 pub four-of : (v : ℤ) → SFits w32 v → T (fourBytes v)

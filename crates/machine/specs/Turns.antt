@@ -8,7 +8,7 @@ use mathlib.Core.List.{List}
 use lib.ListN.{length, getD, drop, drop-of-length-le}
 use lib.Dec.{T, eqb, ltb, leb}
 use lib.IntN.{ℤ, pos}
-use borrow.Author.Tests.{lt-ltb, le-ltb, le-leb, lt-leb, ltb-true, ltb-false, leb-true, leb-false, eq-eqb, ne-eqb}
+use borrow.Author.Tests.{lt-ltb, le-ltb, leb-true, leb-false, eq-eqb, ne-eqb}
 use Rattle.meaning.specs.Grammar.{Grammar, Leaf}
 use Rattle.meaning.specs.Rules.{fourBytes}
 use Rattle.meaning.specs.Calls.{tokensFrom}
@@ -16,6 +16,7 @@ use Rattle.meaning.specs.Machine.{Config, Lent, Coming, comes, ends, asLook, mo
 use Rattle.theory_base.specs.Steps.{advance-stopped, advance-failed, advance-moved}
 use Rattle.theory_answers.specs.Bounds.{Counts, counts, look-free, no-read, Blocks, atLimit, notExpected, conditionFalse, outOfRange, noRegister, noPlace, blocks}
 use Rattle.theory_answers.specs.ShapeMoves.{IsAhead}
+use Rattle.looking.specs.Judging.{looks, judgedBy, judgedOf, taken-of, valueAt}
 use Rattle.moves.specs.declared.Run.{Run}
 use Rattle.moves.specs.declared.Step.{Step}
 use Rattle.moves.specs.declared.Step.the-variants.{Moved, Blocked}
@@ -23,45 +24,13 @@ use Rattle.machine.specs.declared.Ended as Ended
 use Rattle.machine.specs.declared.Ended.the-variants.{Stopped, Failed}
 use Rattle.moves.specs.Held.{Held, Made, Answers, hand-nonterminal}
 use Rattle.moves.specs.Passing.{lookIf, lookOf, comingOf}
-use Rattle.machine.specs.Advancing.{Settles, Running, looks, waits-is, finished-is, blocked-over}
-use Rattle.machine.specs.Feeding.{comesIf, comesTo, valueAt, comes-is, comes-ahead, chosen, goingOn, takeLooks, TakesAll, tokens-few, tokens-turn}
+use Rattle.machine.specs.Advancing.{Settles, Running, waits-is, finished-is, blocked-over}
+use Rattle.machine.specs.Feeding.{comesIf, comesTo, comes-is, comes-ahead, chosen, goingOn, takeLooks, TakesAll, tokens-few, tokens-turn}
 
 -- number 0 is a stop, any other a refusal
 abbrev pub endedBy : Run → ℕ → Ended.Ended
 endedBy run zero = Stopped run
 endedBy run (suc k) = Failed run (suc k)
-
--- ---- what comes next, judged before its moves
-
--- nothing comes; more than the most tokens were read before; it is below the bound, and taken: 1
-abbrev judgedBy : Bool → Bool → Bool → ℕ
-judgedBy over late known = elim over as (λ x. ℕ) [ true ↦ 0 | false ↦ elim late as (λ x. ℕ) [ true ↦ 35 | false ↦ elim known as (λ x. ℕ) [ true ↦ 1 | false ↦ 20 ] ] ]
-
-abbrev pub judgedOf : ℕ → ℕ → List ℕ → ℕ → ℕ → ℕ
-judgedOf bound most us i n = judgedBy (leb (length us) i) (ltb most n) (ltb (getD us i 0) bound)
-
-module _ (bound most : ℕ) (us : List ℕ) (i n : ℕ) where
-  pub judged-over : length us ≤ i → 0 ≡ judgedOf bound most us i n
-  judged-over l = sym (ap (λ a. judgedBy a (ltb most n) (ltb (getD us i 0) bound)) (le-leb (length us) i l))
-
-  pub judged-late : i < length us → most < n → 35 ≡ judgedOf bound most us i n
-  judged-late l m = sym (ap₂ (λ a b. judgedBy a b (ltb (getD us i 0) bound)) (lt-leb (length us) i l) (lt-ltb most n m))
-
-  pub judged-unknown : i < length us → n ≤ most → bound ≤ getD us i 0 → 20 ≡ judgedOf bound most us i n
-  judged-unknown l m b = sym (ap₂ (λ x y. judgedBy x y (ltb (getD us i 0) bound)) (lt-leb (length us) i l) (le-ltb most n m) ∙ ap (judgedBy false false) (le-ltb (getD us i 0) bound b))
-
-  pub judged-taken : i < length us → n ≤ most → getD us i 0 < bound → 1 ≡ judgedOf bound most us i n
-  judged-taken l m b = sym (ap₂ (λ x y. judgedBy x y (ltb (getD us i 0) bound)) (lt-leb (length us) i l) (le-ltb most n m) ∙ ap (judgedBy false false) (lt-ltb (getD us i 0) bound b))
-
-  -- what a token that is taken is
-  pub taken-of : 1 ≡ judgedOf bound most us i n → (i < length us) × (n ≤ most) × (getD us i 0 < bound)
-  taken-of = go (leb (length us) i) (ltb most n) (ltb (getD us i 0) bound) refl refl refl
-    where
-      go : (a b c : Bool) → leb (length us) i ≡ a → ltb most n ≡ b → ltb (getD us i 0) bound ≡ c → 1 ≡ judgedBy a b c → (i < length us) × (n ≤ most) × (getD us i 0 < bound)
-      go true b c x y z e = absurd (omega (arith, e))
-      go false true c x y z e = absurd (omega (arith, e))
-      go false false false x y z e = absurd (omega (arith, e))
-      go false false true x y z e = (leb-false (length us) i x, ltb-false most n y, ltb-true (getD us i 0) bound z)
 
 -- ---- what is left
 

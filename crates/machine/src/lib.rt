@@ -5,10 +5,10 @@ ghost use mathlib.Core.List.{List};
 ghost use lib.IntN.{ℤ};
 ghost use lib.ListN.{getD, length};
 ghost use Rattle.meaning.specs.Machine as Machine;
-ghost use Rattle.machine.specs.Advancing as Advancing;
 ghost use Rattle.machine.specs.Advancing.{Running};
-ghost use Rattle.machine.specs.Feeding.{valueAt, TakesAll, Feeds, Finishes};
-ghost use Rattle.machine.specs.Turns.{endedBy, judgedOf, Fed, Turned, Stays};
+ghost use Rattle.machine.specs.Feeding.{TakesAll, Feeds, Finishes};
+ghost use Rattle.machine.specs.Turns.{endedBy, Fed, Turned, Stays};
+use looking::Limits;
 use moves::Run;
 use moves::Step;
 
@@ -21,55 +21,13 @@ const MOVES_LIMIT: u64 = 4294967295;
 // 01: "35 a token after 65,535": so many are read before the last one.
 const TOKENS_BEFORE: u64 = 65534;
 
-// The operation's number in a word that says that nothing is left; the others are in docs/PROGRAM.md.
-const NOTHING: usize = 6;
-
-// The number of a token that is taken, which is no number of a refusal.
-const TAKEN: u32 = 1;
-
 // What moves lead to until one needs what comes next: a stop, or the number that refuses the move at hand.
 pub enum Ended {
     Stopped(Run),
     Failed(Run, u32),
 }
 
-// What is taken of a list: the tokens read before it, the bound of its kinds, and the most tokens that may be read before one.
-struct Limits {
-    from: u64,
-    bound: usize,
-    most: u64,
-}
-
 // ---- a move that looks at what comes next
-
-// Whether what comes next is taken: 0 where nothing does, and the machine stops; otherwise the number that refuses it before its moves. 01: "35 a token after 65,535", "20 token not below T, judged before its moves".
-fn judged(tokens: u64, kinds: &[u8], limits: Limits) -> u32
-    requires { ⌜ limits .from ≤ tokens ⌝ }
-    ensures { λ r. ⌜ r ≡ judgedOf (limits .bound) (limits .most) (now (kinds .entry)) (tokens - limits .from) tokens ⌝ }
-{
-    let i = (tokens - limits.from) as usize;
-    if kinds.len() <= i {
-        return 0;
-    }
-    if limits.most < tokens {
-        return 35;
-    }
-    if limits.bound <= kinds[i] as usize {
-        return 20;
-    }
-    TAKEN
-}
-
-// A token's value, or the mark where its terminal carries none.
-pub fn carried(program: &[u32], kind: usize, value: i32) -> i64
-    requires { ⌜ (8 < length (now program)) × (kind < 64) ⌝ }
-    ensures { λ r. ⌜ r ≡ valueAt (now (program .entry)) kind value ⌝ }
-{
-    if (moves::word_at(program, 7 + kind / 32) >> (kind % 32)) % 2 == 1 {
-        return value as i64;
-    }
-    value::MARK
-}
 
 // The read of the token at hand.
 fn read_next(
@@ -84,13 +42,13 @@ fn read_next(
     requires { ⌜ Fed (limits .bound) (now program) (now registers) (now places) run (now kinds) (now values) × (getD (now program) (run .at) 0 % 8 ≡ 2) × (run .moves < Machine.movesLimit) × (limits .from ≤ run .tokens) ⌝ }
     ensures { λ r. ⌜ Turned (limits .bound) (limits .most) (now (program .entry)) (now (kinds .entry)) (now (values .entry)) (run .tokens - limits .from) (now (registers .entry)) (now (places .entry)) run (now (registers .exit)) (now (places .exit)) r ⌝ }
 {
-    let k = judged(run.tokens, kinds, limits);
-    if k != TAKEN {
+    let k = looking::judged(run.tokens, kinds, limits);
+    if k != looking::TAKEN {
         return Step::Blocked(k);
     }
     let i = (run.tokens - limits.from) as usize;
     let look = kinds[i] as usize;
-    let held = carried(program, look, values[i]);
+    let held = looking::carried(program, look, values[i]);
     moves::read(registers, places, program, run, look, held)
 }
 
@@ -106,8 +64,8 @@ fn predict_next(
     requires { ⌜ ((vs : List ℤ) × Fed (limits .bound) (now program) (now registers) (now places) run (now kinds) vs) × (getD (now program) (run .at) 0 % 8 ≡ 3) × (run .moves < Machine.movesLimit) × (limits .from ≤ run .tokens) ⌝ }
     ensures { λ r. ⌜ ((vs : List ℤ) → length (now (kinds .entry)) ≡ length vs → Turned (limits .bound) (limits .most) (now (program .entry)) (now (kinds .entry)) vs (run .tokens - limits .from) (now (registers .entry)) (now (places .entry)) run (now (registers .entry)) (now (places .exit)) r) ⌝ }
 {
-    let k = judged(run.tokens, kinds, limits);
-    if k != TAKEN {
+    let k = looking::judged(run.tokens, kinds, limits);
+    if k != looking::TAKEN {
         return Step::Blocked(k);
     }
     let i = (run.tokens - limits.from) as usize;
@@ -119,8 +77,8 @@ fn nothing_next(run: Run, kinds: &[u8], limits: Limits) -> Step
     requires { ⌜ limits .from ≤ run .tokens ⌝ }
     ensures { λ r. ⌜ Stays (limits .bound) (limits .most) (now (kinds .entry)) (run .tokens - limits .from) run 6 r ⌝ }
 {
-    let k = judged(run.tokens, kinds, limits);
-    if k != TAKEN {
+    let k = looking::judged(run.tokens, kinds, limits);
+    if k != looking::TAKEN {
         return Step::Blocked(k);
     }
     let i = (run.tokens - limits.from) as usize;
@@ -130,30 +88,17 @@ fn nothing_next(run: Run, kinds: &[u8], limits: Limits) -> Step
     Step::Blocked(21)
 }
 
-// Whether an operation looks at what comes next.
-fn looks(operation: usize) -> bool
-    ensures { λ r. ⌜ r ≡ Advancing.looks operation ⌝ }
-{
-    if operation == 2 {
-        return true;
-    }
-    if operation == 3 {
-        return true;
-    }
-    operation == NOTHING
-}
-
 // No move is left to be made. What comes next is judged before.
 fn at_limit(operation: usize, run: Run, kinds: &[u8], limits: Limits) -> Step
     requires { ⌜ (limits .from ≤ run .tokens) × (run .moves ≡ Machine.movesLimit) ⌝ }
     ensures { λ r. ⌜ Stays (limits .bound) (limits .most) (now (kinds .entry)) (run .tokens - limits .from) run operation r ⌝ }
 {
-    if operation == NOTHING {
+    if operation == looking::NOTHING {
         return nothing_next(run, kinds, limits);
     }
-    if looks(operation) {
-        let k = judged(run.tokens, kinds, limits);
-        if k != TAKEN {
+    if looking::looks(operation) {
+        let k = looking::judged(run.tokens, kinds, limits);
+        if k != looking::TAKEN {
             return Step::Blocked(k);
         }
         return Step::Blocked(35);
@@ -220,8 +165,8 @@ fn take_all(
         bound,
         most,
     };
-    let first = judged(run.tokens, kinds, limits);
-    if first != TAKEN {
+    let first = looking::judged(run.tokens, kinds, limits);
+    if first != looking::TAKEN {
         return ending(run, first);
     }
     let mut state = run;

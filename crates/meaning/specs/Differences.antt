@@ -1,7 +1,7 @@
 -- Whether some values in range meet a list of conditions, computed. 02 (j): "the check finds such values or shows that the differences close a cycle with a negative sum, bounds counted in".
 -- Node 0 stands for zero, node a for the attribute a (1 to 8). An entry w in row i and column j says: i is at most j plus w. (That this decides it is proved in theory_differences)
 use Prim.Native.Nat.{ℕ, zero, suc, _+_, _*_, _/_, _%_}
-use mathlib.Core.Bool.{Bool, true, false}
+use mathlib.Core.Bool.{Bool}
 use mathlib.Core.List.{List, [], _∷_, map}
 use lib.ListN.{getD, set}
 use lib.Dec.{ltb}

@@ -1,5 +1,5 @@
 -- Demands 2 and 3, as statements: each is a type, and its proof, in theory_demands, is a value of it. (Demand 1 is in CallStatements.)
-use Prim.Native.Nat.{ℕ, _+_, _≤_, _<_}
+use Prim.Native.Nat.{ℕ, _≤_, _<_}
 use mathlib.Core.Path.{_≡_}
 use mathlib.Core.Logic.{_↔_}
 use mathlib.Core.Bool.{Bool, true, false}

@@ -1,5 +1,5 @@
 -- The walk of a tree as a sequence of moves. 01: "The walk makes, after opening, the moves for the tree's nodes from left to right; after j tokens, all before the predict or read that needs the next token or the end."
-use Prim.Native.Nat.{ℕ, zero, suc, _+_}
+use Prim.Native.Nat.{ℕ, zero, suc}
 use mathlib.Core.Path.{_≡_}
 use mathlib.Core.List.{List, [], _∷_, _++_}
 use Rattle.meaning.specs.Grammar.{terminal, nonterminal, Leaf, Grammar, productionAt}

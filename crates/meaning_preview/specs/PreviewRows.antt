@@ -4,19 +4,17 @@ use mathlib.Core.Path.{_≡_, refl}
 use mathlib.Core.Bool.{true, false}
 use mathlib.Core.List.{List, [], _∷_, _++_, map}
 use lib.ListN.{replicate, length, take}
-use lib.Dec.{ltb}
-use lib.IntN.{ℤ, pos, negsuc}
+use lib.IntN.{pos}
 use Rattle.meaning.specs.Grammar.{Grammar}
 use Rattle.meaning.specs.Sets.{TokenSet, emptySet, singleton, _∪_, has, endNumber}
 use Rattle.meaning.specs.Calls.{Status, running, waiting, closed, outer, inner, Record, Stacks, Called, Answer, more, value, refused, tableRefused, openOf, feedOf}
-use Rattle.meaning.specs.PublicCalls.{areaLength, written, Effect}
+use Rattle.meaning.specs.PublicCalls.{Effect}
 use Rattle.meaning.specs.Words.{words}
-use Rattle.meaning.specs.Samples.{small}
 use Rattle.meaning.specs.TokenRows.{lengths}
 use Rattle.meaning.specs.TableRows.{bytes}
 use Rattle.meaning.specs.CallRows.{m, state, stacks, used, called, thenFeed}
 use Rattle.meaning.specs.InnerRows.{record-of}
-use Rattle.meaning_preview.specs.Preview.{isShort, tidied, whenCopied, tried, previewOf, previews, noRefusal, mayFollow, MayAnswer, tokens, turned, MayEffect, mayEffect, mayOf, mays}
+use Rattle.meaning_preview.specs.Preview.{isShort, tidied, whenCopied, tried, previewOf, previews, noRefusal, mayFollow, tokens, turned, mayEffect, mayOf, mays}
 
 -- ---- the scratch
 

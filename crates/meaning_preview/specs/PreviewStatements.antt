@@ -14,9 +14,9 @@ use Rattle.meaning.specs.Sets.{TokenSet, has, endNumber}
 use Rattle.meaning.specs.Judgement.{Accepted, Judged, rejected}
 use Rattle.meaning.specs.Calls.{waiting, closed, outer, Record, isOpen, Stacks, Answer, refused, tableRefused, lentOf}
 use Rattle.meaning.specs.Fit.{Fit}
-use Rattle.meaning.specs.PublicCalls.{feed, areaLength, written, Effect, performs}
+use Rattle.meaning.specs.PublicCalls.{feed, areaLength, written, performs}
 use Rattle.meaning.specs.CallStatements.{Met}
-use Rattle.meaning_preview.specs.Preview.{isShort, tidied, previews, noRefusal, MayAnswer, tokens, turned, MayEffect, mayEffect, mays}
+use Rattle.meaning_preview.specs.Preview.{isShort, previews, noRefusal, tokens, turned, mayEffect, mays}
 
 -- ==== turned back before any token is tried
 

@@ -8,7 +8,7 @@ use lib.IntN.{ℤ, pos}
 use Rattle.meaning.specs.Base.{total}
 use Rattle.meaning.specs.Grammar.{Grammar}
 use Rattle.meaning.specs.Table.{grammarOf}
-use Rattle.meaning.specs.Calls.{Record, Stacks, Answer, more, value, refused, tableRefused, Called, openOf, feedOf, finishOf}
+use Rattle.meaning.specs.Calls.{Stacks, Answer, more, value, refused, tableRefused, Called, openOf, feedOf, finishOf}
 use Rattle.meaning.specs.PublicCalls.{Checked, usable, unusable, check, areaLength, written}
 use Rattle.meaning_ranking.specs.Ranking.{Entry, entry, ranking, cellsOf, totalOf, valuedOf}
 

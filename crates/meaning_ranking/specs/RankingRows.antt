@@ -2,18 +2,18 @@
 use Prim.Native.Nat.{ℕ}
 use mathlib.Core.Path.{_≡_, refl}
 use mathlib.Core.Bool.{true, false}
-use mathlib.Core.List.{List, [], _∷_, _++_, map}
+use mathlib.Core.List.{List, [], _∷_, map}
 use lib.ListN.{length, replicate}
 use lib.Dec.{ltb}
-use lib.IntN.{ℤ, pos, negsuc}
+use lib.IntN.{pos, negsuc}
 use Rattle.meaning.specs.Grammar.{Grammar}
-use Rattle.meaning.specs.Calls.{Answer, more, value, refused, tableRefused, openOf, feedOf, finishOf, Stacks}
+use Rattle.meaning.specs.Calls.{value, refused}
 use Rattle.meaning.specs.PublicCalls.{areaLength, written}
 use Rattle.meaning.specs.Words.{words}
 use Rattle.meaning.specs.TableRows.{bytes}
 use Rattle.meaning.specs.CallRows.{m, state, stacks, used, called}
 use Rattle.meaning_ranking.specs.Ranking.{entry, before, place, rankedOnto, ranking, cellsOf, totalOf, valuedOf}
-use Rattle.meaning_ranking.specs.RankCall.{evaluated, evaluations, entryOf, inOrder, ranked, unranked, RankEffect, rankEffect, rankEven, rankLong, rankSuited, rankOf}
+use Rattle.meaning_ranking.specs.RankCall.{evaluated, evaluations, inOrder, ranked, unranked, rankEffect, rankOf}
 
 -- ---- the order
 

@@ -9,7 +9,7 @@ use lib.IntN.{ℤ, pos}
 use Rattle.meaning.specs.Grammar.{Grammar, Leaf, leaves}
 use Rattle.meaning.specs.Table.{grammarOf}
 use Rattle.meaning.specs.Tree.{Tree, TreeOf}
-use Rattle.meaning.specs.Calls.{Stacks, Called, Answer, more, value, refused, tableRefused, openOf, feedOf, finishOf, tokensFrom}
+use Rattle.meaning.specs.Calls.{Stacks, Answer, more, value, refused, tableRefused, openOf, feedOf, finishOf, tokensFrom}
 use Rattle.meaning.specs.PublicCalls.{Checked, usable, unusable, check}
 use Rattle.meaning_sheet.specs.Sheet.{sheetOf}
 

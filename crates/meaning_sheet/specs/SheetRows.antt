@@ -1,14 +1,10 @@
 -- 02 (i) by example, on the grammar of words and tags.
-use Prim.Native.Nat.{ℕ}
 use mathlib.Core.Path.{_≡_, refl}
-use mathlib.Core.List.{List, [], _∷_, _++_, map}
-use lib.ListN.{length, replicate}
+use mathlib.Core.List.{[], _∷_, _++_, map}
 use lib.IntN.{pos, negsuc}
-use Rattle.meaning.specs.Grammar.{Leaf}
-use Rattle.meaning.specs.Calls.{value, refused}
-use Rattle.meaning.specs.Tree.{Tree, Forest, leaf, node, noTrees, treeAnd}
+use Rattle.meaning.specs.Tree.{Tree, leaf, node, noTrees, treeAnd}
 use Rattle.meaning_sheet.specs.Sheet.{eightBytes, recordBytes, sheetOf}
-use Rattle.meaning_sheet.specs.SheetCalls.{sheetEffect, sheeted, turnedBack, withSheet, unlessRefused}
+use Rattle.meaning_sheet.specs.SheetCalls.{sheetEffect, sheeted, turnedBack, withSheet}
 
 -- ---- a record: production, tokens before, tokens covered, values; all big-endian
 

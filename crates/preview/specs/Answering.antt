@@ -23,12 +23,13 @@ use Rattle.token_set.specs.Words.{setOf}
 use Rattle.fit.specs.Shown.{Shown, Readable}
 use Rattle.moves.specs.declared.Run.{Run}
 use Rattle.machine.specs.declared.Ended as Ended
-use Rattle.engine.specs.declared.Called as Handed
-use Rattle.engine.specs.Records.{calledIs}
-use Rattle.engine.specs.Leaving.{fedFrom}
-use Rattle.engine.specs.Judging.{numberFor, when-not, not-turned, number-cut}
-use Rattle.engine.specs.Performing.{Starts, Judged, feed-made}
-use Rattle.engine.specs.Cutting.{uncut, feed-cut}
+use Rattle.records.specs.declared.Handed as Handed
+use Rattle.records.specs.Records.{handedIs}
+use Rattle.running.specs.Leaving.{fedFrom}
+use Rattle.lent.specs.Judging.{numberFor, when-not, not-turned, number-cut}
+use Rattle.lent.specs.Performing.{Starts, Judged, feed-made}
+use Rattle.cells.specs.Cutting.{uncut}
+use Rattle.lent.specs.Cutting.{feed-cut}
 use Rattle.preview.specs.Scratch.{Cleared, TriedAs}
 use Rattle.preview.specs.Collecting.{isStopped, letsThrough, Collected}
 use Rattle.preview.specs.Judging.{copyNumber, copied-on, copy-passed, long-both}
@@ -60,8 +61,8 @@ module _ {vs : List ℤ} {ps : List ℕ} (few : length vs ≤ 4096) (little : le
       ap₂ stacksOf (c .registers ∙ (sym a ∙ ap (λ i. replicate i mark ++ drop i rs) n)) (c .places ∙ (sym b ∙ ap (λ i. replicate i 0 ++ drop i qs) k))
 
   module _ {ws : List ℕ} {r : Record} (j : Judged ws vs ps r) (run : Run) (f : Starts ws ps r run) (g : Grammar) (s : Shown g ws) where
-    pub tried-is : (k : ℕ) (v : ℤ) (e : Ended.Ended) → TriedAs ws k v vs ps run e → (c : Handed.Called) → c ≡ fedFrom e → (rs′ : List ℤ) (qs′ : List ℕ) → Cleared vs ps rs′ qs′
-        → calledIs c rs′ qs′ ≡ tried g r (stacksOf vs ps) (stacksOf rs qs) k v
+    pub tried-is : (k : ℕ) (v : ℤ) (e : Ended.Ended) → TriedAs ws k v vs ps run e → (c : Handed.Handed) → c ≡ fedFrom e → (rs′ : List ℤ) (qs′ : List ℕ) → Cleared vs ps rs′ qs′
+        → handedIs c rs′ qs′ ≡ tried g r (stacksOf vs ps) (stacksOf rs qs) k v
     tried-is k v e t c q rs′ qs′ d =
         let made = feed-made j run f (k ∷ []) (v ∷ []) refl (t .registers) (t .places) e c (t .fed) q g s in
         let a = ap (λ (z : Called). z .answer) made in
@@ -122,7 +123,7 @@ module _ (g : Grammar) (r : Record) (vs rs : List ℤ) (ps qs : List ℕ) (n k :
       ap₂ stacksOf (one-tidied mark rs (min (length (take n vs)) 4096) n (omega (arith, length-take n vs)) ∙ ap (λ i. replicate i mark ++ drop i rs) en)
       (one-tidied 0 qs (min (length (take k ps)) 1024) k (omega (arith, length-take k ps)) ∙ ap (λ i. replicate i 0 ++ drop i qs) ek)
 
-  pub tried-whole : (t : ℕ) (v : ℤ) (c : Handed.Called) (rs′ : List ℤ) (qs′ : List ℕ) → calledIs c rs′ qs′ ≡ tried g r cells part t v → calledIs c (rs′ ++ drop n rs) (qs′ ++ drop k qs) ≡ tried g r own scratch t v
+  pub tried-whole : (t : ℕ) (v : ℤ) (c : Handed.Handed) (rs′ : List ℤ) (qs′ : List ℕ) → handedIs c rs′ qs′ ≡ tried g r cells part t v → handedIs c (rs′ ++ drop n rs) (qs′ ++ drop k qs) ≡ tried g r own scratch t v
   tried-whole t v c rs′ qs′ e =
       let f = feed-answers t v in
       let a = ap (λ (z : Called). z .answer) e ∙ f .0 in
@@ -165,8 +166,8 @@ module _ {ws : List ℕ} (readable : Readable ws) (r : Record) (vs rs : List ℤ
     places = length-take-le k qs (scratch-long .1) ∙ sym (length-take-le k ps (omega arith));
   }
 
-  pub preview-made : (t : ℕ) (v : ℤ) (c : Handed.Called) (rs′ : List ℤ) (qs′ : List ℕ) → ((g : Grammar) → Shown g ws → calledIs c rs′ qs′ ≡ tried g r (stacksOf (take n vs) (take k ps)) (stacksOf (take n rs) (take k qs)) t v)
-      → (g : Grammar) → Shown g ws → calledIs c (rs′ ++ drop n rs) (qs′ ++ drop k qs) ≡ previewOf g r (stacksOf vs ps) (stacksOf rs qs) t v
+  pub preview-made : (t : ℕ) (v : ℤ) (c : Handed.Handed) (rs′ : List ℤ) (qs′ : List ℕ) → ((g : Grammar) → Shown g ws → handedIs c rs′ qs′ ≡ tried g r (stacksOf (take n vs) (take k ps)) (stacksOf (take n rs) (take k qs)) t v)
+      → (g : Grammar) → Shown g ws → handedIs c (rs′ ++ drop n rs) (qs′ ++ drop k qs) ≡ previewOf g r (stacksOf vs ps) (stacksOf rs qs) t v
   preview-made t v c rs′ qs′ e g s =
       tried-whole g r vs rs ps qs n k en ek t v c rs′ qs′ (e g s)
       ∙ copied-on g r (stacksOf vs ps) (stacksOf rs qs) (λ j. asBrought (refused j 0) r (stacksOf rs qs)) (tried g r (stacksOf vs ps) (stacksOf rs qs) t v) (sym (number g s))

@@ -15,8 +15,8 @@ use Rattle.meaning.specs.Calls.{Record, Stacks, more, value, refused, tableRefu
 use Rattle.meaning.specs.PublicCalls.{Checked, usable, unusable, check, areaLength, written, Effect, effect}
 use Rattle.meaning_preview.specs.Preview.{MayEffect, mayEffect, turned, mayOf, mays}
 use Rattle.prepare.specs.Making.{Standing}
-use Rattle.engine.specs.declared.Answer.{Answer}
-use Rattle.engine.specs.Records.{answerIs}
+use Rattle.records.specs.declared.Answer.{Answer}
+use Rattle.records.specs.Records.{answerIs}
 use Rattle.engine.specs.declared.Begun.{Begun}
 use Rattle.engine.specs.declared.Begun.the-variants.{Turned}
 use Rattle.engine.specs.Beginning.{TurnedBack, Case, BegunAs}

@@ -5,7 +5,7 @@ use lib.IntN.{ℤ}
 use Rattle.meaning.specs.PublicCalls.{stacksOf}
 use Rattle.meaning_preview.specs.Preview.{MayAnswer, tokens, turned, MayEffect, mayEffect}
 use Rattle.token_set.specs.Words.{setOf}
-use Rattle.engine.specs.Records.{answerIs}
+use Rattle.records.specs.Records.{answerIs}
 use Rattle.preview.specs.declared.May.{May}
 use Rattle.preview.specs.declared.May.the-variants.{Tokens, Turned}
 

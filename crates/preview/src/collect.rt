@@ -1,14 +1,17 @@
 // The set of tokens that are let through, one try after the other.
+ghost use Prim.Native.Nat.{_<_};
 ghost use mathlib.Core.Path.{_≡_};
 ghost use Rattle.token_set.specs.Words.{setOf};
 ghost use Rattle.machine.specs.Advancing.{Running};
 ghost use Rattle.preview.specs.Scratch.{Cleared};
 ghost use Rattle.preview.specs.Collecting.{PassesAs, grownBy, Collected};
+use crate::expected::expected;
 use crate::scratch::attempt;
 use machine::Ended;
 use moves::Run;
 use token_set::TokenSet;
 
+// A token that is not expected is left out without a try.
 fn passes(
     registers: &[i64],
     places: &[u32],
@@ -19,9 +22,12 @@ fn passes(
     kind: u8,
     value: i32,
 ) -> bool
-    requires { ⌜ Running (now program) (now registers) (now places) run × Cleared (now registers) (now places) (now «scratch_registers») (now «scratch_places») ⌝ }
+    requires { ⌜ Running (now program) (now registers) (now places) run × Cleared (now registers) (now places) (now «scratch_registers») (now «scratch_places») × (kind < 64) ⌝ }
     ensures { λ r. ⌜ PassesAs (now (program .entry)) kind value (now (registers .entry)) (now (places .entry)) run r × Cleared (now (registers .entry)) (now (places .entry)) (now («scratch_registers» .exit)) (now («scratch_places» .exit)) ⌝ }
 {
+    if !expected(program, run.at, kind as usize) {
+        return false;
+    }
     match attempt(
         registers,
         places,

@@ -5,14 +5,15 @@ ghost use Rattle.meaning.specs.PublicCalls.{stacksOf};
 ghost use Rattle.meaning_preview.specs.Preview.{previews, mays};
 ghost use Rattle.engine.specs.Records.{recordIs, effectIs};
 ghost use Rattle.preview.specs.May.{mayEffectIs};
-use engine::Answer;
 use engine::Begun;
 use engine::Called;
 use engine::Record;
+use records::Answer;
 use token_set::TokenSet;
 
-pub mod cells;
 pub mod collect;
+pub mod expected;
+pub mod on_cells;
 pub mod scratch;
 
 // The set of tokens that may come next, or what turns the call back.
@@ -35,18 +36,19 @@ pub fn preview(
 ) -> Called
     ensures { λ r. ⌜ effectIs r (now («scratch_registers» .exit)) (now («scratch_places» .exit)) (now (program .exit)) ≡ previews programOf (now (table .entry)) (now (program .entry)) (recordIs «record») (stacksOf (now (registers .entry)) (now (places .entry))) (stacksOf (now («scratch_registers» .entry)) (now («scratch_places» .entry))) kind value ⌝ }
 {
+    let state = record.state;
     match engine::begin(table, program) {
-        Begun::Turned(answer) => engine::running::as_brought(record, answer),
-        Begun::Ready => cells::preview_cells(
+        Begun::Turned(answer) => Called { record, answer },
+        Begun::Ready => engine::hand_back(on_cells::preview_cells(
             registers,
             places,
             scratch_registers,
             scratch_places,
             program,
-            record,
+            state,
             kind,
             value,
-        ),
+        )),
     }
 }
 
@@ -63,15 +65,16 @@ pub fn may_follow(
 ) -> May
     ensures { λ r. ⌜ mayEffectIs r (now («scratch_registers» .exit)) (now («scratch_places» .exit)) (now (program .exit)) ≡ mays programOf (now (table .entry)) (now (program .entry)) (recordIs «record») (stacksOf (now (registers .entry)) (now (places .entry))) (stacksOf (now («scratch_registers» .entry)) (now («scratch_places» .entry))) value ⌝ }
 {
+    let state = record.state;
     match engine::begin(table, program) {
         Begun::Turned(answer) => May::Turned(answer),
-        Begun::Ready => cells::may_cells(
+        Begun::Ready => on_cells::may_cells(
             registers,
             places,
             scratch_registers,
             scratch_places,
             program,
-            record,
+            state,
             value,
         ),
     }

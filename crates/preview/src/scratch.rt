@@ -5,7 +5,6 @@ ghost use mathlib.Core.List.{_++_};
 ghost use lib.ListN.{length, take, drop};
 ghost use Rattle.machine.specs.Advancing.{Running};
 ghost use Rattle.preview.specs.Scratch.{Cleared, TriedAs, reachedBy};
-use engine::lent;
 use machine::Ended;
 use moves::Run;
 
@@ -71,7 +70,7 @@ pub fn attempt(
         &values,
     );
     let last = reached(ended);
-    lent::clear_registers(&mut scratch_registers[..last.registers]);
-    lent::clear_places(&mut scratch_places[..last.places]);
+    cells::clear_registers(&mut scratch_registers[..last.registers]);
+    cells::clear_places(&mut scratch_places[..last.places]);
     ended
 }

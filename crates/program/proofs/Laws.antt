@@ -1,10 +1,10 @@
 -- What the builder's functions write, by the definitions of specs/.
-use Prim.Native.Nat.{ℕ, suc, _+_, _-_, _*_, _/_, _%_, _^_, _≤_, _<_}
+use Prim.Native.Nat.{ℕ, suc, _+_, _*_, _/_, _%_, _^_, _≤_, _<_}
 use native.Mathlib.Nat.{div-one}
 use native.Mathlib.Decide.{decLt}
 use native.Mathlib.Omega.{arith}
 use mathlib.Core.Path.{_≡_, refl, sym, ap, ap₂, _∙_, subst}
-use mathlib.Core.List.{List, [], _∷_, _++_}
+use mathlib.Core.List.{List, [], _∷_}
 use lib.ListN.{length, set, getD}
 use lib.Count.{trailingZeros}
 use lib.Pow.{shr-shr, shr-le}
@@ -14,11 +14,11 @@ use Rattle.meaning.specs.Sets.{has}
 use Rattle.meaning.specs.Program.{setBits, carriers, segmentWords}
 use Rattle.meaning.specs.Table.{byte}
 use Rattle.theory_program.specs.Proper.{att-most}
-use Rattle.blocks.specs.Patch.{patch, Wrote, Onward, onward-as, onward-then, onward-end, wrote-one, wrote-as, wrote-then}
+use Rattle.blocks.specs.Patch.{patch, Wrote, wrote-one, wrote-as, wrote-then}
 use Rattle.token_set.specs.Words.{bit, has-bit}
 use Rattle.table.specs.CarriedSet.{carried-set}
 use Rattle.program.specs.Brought.{Brought, grammarIn, well-formed, count-is, stretchEnd}
-use Rattle.program.specs.Directory.{zeros, Marked, marked-start, marked-skip, marked-set, marked-end, bits-end, zero-run, bit-there}
+use Rattle.program.specs.Directory.{Marked, marked-start, marked-skip, marked-set, marked-end, bits-end, zero-run, bit-there}
 use Rattle.program.specs.Records.{two-words}
 
 pub four-written : (area : List ℕ) (at a b c d : ℕ) → Wrote area (set (set (set (set area at a) (at + 1) b) (at + 2) c) (at + 3) d) at (at + 4) (a ∷ b ∷ c ∷ d ∷ [])
@@ -36,20 +36,6 @@ end-next table offsets count p r l e = rw (lt-ltb (p + 1) count l) e
 pub end-last : (table offsets : List ℕ) (count p : ℕ) → count ≤ p + 1 → length table ≡ stretchEnd table offsets count p
 unfolding stretchEnd
 end-last table offsets count p l = rw (le-ltb (p + 1) count l)
-
--- ---- a range of zeros
-
-zeros-more : (to at : ℕ) → at < to → zeros (to - at) ≡ (0 ∷ []) ++ zeros (to - (at + 1))
-zeros-more to at l = let e : to - at ≡ suc (to - (at + 1)) = omega arith in ap zeros e
-
-zeros-end : (to at : ℕ) → to ≤ at → zeros (to - at) ≡ []
-zeros-end to at l = let e : to - at ≡ 0 = omega arith in ap zeros e
-
-pub clear-turn : {old area : List ℕ} {from to at : ℕ} → at < to → Onward old from (zeros (to - from)) area at (zeros (to - at)) → Onward old from (zeros (to - from)) (set area at 0) (at + 1) (zeros (to - (at + 1)))
-clear-turn {old} {area} {from} {to} {at} l o = onward-then {ws = 0 ∷ []} (onward-as (zeros-more to at l) o) (wrote-one area at 0)
-
-pub clear-end : {old area : List ℕ} {from to at : ℕ} → to ≤ at → Onward old from (zeros (to - from)) area at (zeros (to - at)) → area ≡ patch old from (zeros (to - from))
-clear-end {old} {area} {from} {to} {at} l o = onward-end (onward-as (zeros-end to at l) o) .memory
 
 -- ---- marks
 

@@ -2,4 +2,3 @@ pub mod Laws
 pub mod Sections
 pub mod Outlined
 pub mod Nexts
-pub mod Waiting

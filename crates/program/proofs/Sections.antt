@@ -3,8 +3,8 @@ use Prim.Native.Nat.{ℕ, suc, _+_, _-_, _*_, _/_, _%_, _^_, _≤_, _<_}
 use native.Mathlib.Omega.{arith}
 use mathlib.Core.Path.{_≡_, refl, sym, ap, ap₂, _∙_, subst}
 use mathlib.Core.Bool.{Bool, false}
-use mathlib.Core.List.{List, [], _∷_, append-assoc}
-use lib.ListN.{length, getD, drop, length-append}
+use mathlib.Core.List.{List, [], _∷_, _++_, append-assoc}
+use lib.ListN.{length, getD, drop, length-append, length-drop, length-take}
 use Rattle.meaning.specs.Grammar.{Production, Grammar, nonterminalCount, productionAt}
 use Rattle.meaning.specs.Layout.{Bytes}
 use Rattle.meaning.specs.Rules.{WellFormed}
@@ -12,24 +12,26 @@ use Rattle.meaning.specs.PublicCalls.{written}
 use Rattle.meaning.specs.Scheme.{entryTests}
 use Rattle.meaning.specs.Sets.{has, starts}
 use lib.Dec.{eqb}
-use Rattle.meaning.specs.Program.{firstOf, setBits, schemeOffset, bodyWords, recordsFrom, bodiesFrom, bodySize, waits, directory, recordsAddress, waitsAddress, bodiesAddress, segmentWords, programOf}
+use Rattle.meaning.specs.Program.{firstOf, setBits, schemeOffset, waitRow, recordsFrom, bodiesFrom, bodySize, waits, directory, recordsAddress, waitsAddress, bodiesAddress, segmentWords, programOf}
 use Rattle.meaning.specs.Table.{byte}
 use Rattle.theory_base.specs.WellFormed.{well-formed-at}
-use Rattle.theory_program.specs.Addresses.{records-length, body-length, bodies-length, waits-length, directory-length, short-productions}
+use Rattle.theory_program.specs.Addresses.{records-length, body-length, bodies-length, wait-row-length, waits-length, directory-length, short-productions}
 use Rattle.theory_program.specs.Code.{conditions-length}
 use Rattle.theory_program.specs.Proper.{production-in}
 use Rattle.theory_program.specs.Sizes.{program-length, program-fits}
-use Rattle.blocks.specs.Patch.{patch, Wrote, wrote-as, wrote-then, wrote-ahead, wrote-length, patch-written}
+use Rattle.blocks.specs.Patch.{patch, patch-none, patch-length, patch-append, patch-swap, Wrote, wrote-as, wrote-then, wrote-ahead, wrote-length, patch-written}
 use Rattle.blocks.specs.Chains.{Listing, Found}
-use Rattle.bodies.specs.Given.{Given, listedOf, BodyFits}
+use Rattle.bodies.specs.Given.{Given, listedOf, BodyFits, BodyWrote}
+use Rattle.bodies.proofs.Laws.{patch-beside}
 use Rattle.bodies.proofs.Symbols.{tests-count}
 use Rattle.table.specs.CarriedSet.{carried-count}
 use Rattle.table.specs.declared.Sizes.{Sizes}
-use Rattle.program.specs.Most.{rules-most, conditions-most}
+use Rattle.program.specs.Most.{rules-most, conditions-most, fields-long}
 use Rattle.program.specs.Brought.{grammarIn, well-formed, count-is, rowAt, stretchEnd, fieldsFrom, fieldsAt, fields-place, given-at}
 use Rattle.program.specs.Directory.{Alternatives, alternatives, zeros, Marked, Filled, filled-start, filled-turn, filled-end}
 use Rattle.program.specs.Records.{two-words, sameLeft, Growing, growing-start, growing-as, growing-turn, growing-end, restRecords, restBodies, recordAt, bodyAt, records-turn, bodies-turn, records-end, bodies-end}
-use Rattle.program.specs.Built.{Outlined, RecordFits, ProductionFits, ProductionWrote, ProductionsWrote}
+use Rattle.program.specs.Waits.{waitAt, restWaits, waits-turn, waits-end}
+use Rattle.program.specs.Built.{Outlined, LinksFit, RecordFits, ProductionFits, ProductionWrote, ProductionsWrote}
 
 -- ---- the directory
 
@@ -139,14 +141,14 @@ module _ {table rows inherited synthesized offsets sets : List ℕ} {sizes : Siz
     abbrev here : Given (rowAt rows p) (fieldsAt table from to) inherited synthesized
     here = given-at (x .brought) bytes p (x .here) from to ef et
 
-    pub fields-listing : {nodes : ℕ} → nodes ≡ 616 → Listing (fieldsAt table from to) nodes
+    pub fields-listing : {nodes : ℕ} → LinksFit (length table) nodes → Listing (fieldsAt table from to) nodes
     unfolding given-at
     fields-listing e =
         let w = well-formed (x .brought) in
         let i = production-in gr w p (omega (arith, x .here, count-is (x .brought))) in
-        record { listed = listedOf here; short = here .short; few = omega (arith, e, rules-most gr w pd i, conditions-most gr w pd i); room = omega (arith, e) }
+        record { listed = listedOf here; short = here .short; few = e .1 _ (omega (arith, rules-most gr w pd i, conditions-most gr w pd i)) (omega (arith, fields-long (here .own), length-take (to - from) (drop from table), length-drop from table)); room = e .0 }
 
-    module _ (marks links : List ℕ) {nodes : ℕ} (e : nodes ≡ 616) (f : (y : Listing (fieldsAt table from to) nodes) → Found (fieldsAt table from to) links marks (y .listed)) where
+    module _ (marks links : List ℕ) {nodes : ℕ} (e : LinksFit (length table) nodes) (f : (y : Listing (fieldsAt table from to) nodes) → Found (fieldsAt table from to) links marks (y .listed)) where
       entries-are : getD marks 1 0 ≡ length (entryTests gr pd)
       unfolding given-at fields-listing
       entries-are = f (fields-listing e) .counts false 0 (omega arith) ∙ sym (tests-count gr pd 0)
@@ -159,52 +161,81 @@ module _ {table rows inherited synthesized offsets sets : List ℕ} {sizes : Siz
         unfolding record-fits
         recorded = let v = w record-fits in record { memory = v .memory; address = refl }
 
-        pub body-fits : BodyFits (rowAt rows p) (fieldsAt table from to) inherited synthesized (sizes .carrying) marks links mid body
-        unfolding given-at fields-listing
-        body-fits = record { given = here; carried = carried-count (sizes .carrying) gr (x .brought .carries); found = f (fields-listing e); room = x .behind; long = omega (arith, x .long, wrote-length recorded) }
+        abbrev wait : ℕ
+        wait = 9 + 64 * sizes .nonterminals + 8 * sizes .productions + 12 * p
 
-        pub production-written : {new : List ℕ} {end : ℕ} → ((y : BodyFits (rowAt rows p) (fieldsAt table from to) inherited synthesized (sizes .carrying) marks links mid body) → Wrote mid new body end (bodyWords (y .given .grammar) body (y .given .production))) → ProductionWrote gr p area new at body end
+        wait-is : wait ≡ waitAt gr p
+        wait-is = omega (arith, x .brought .isNonterminals, count-is (x .brought))
+
+        pub body-fits : BodyFits (rowAt rows p) (fieldsAt table from to) inherited synthesized (sizes .carrying) marks links mid body wait
+        unfolding given-at fields-listing
+        body-fits = record { given = here; carried = carried-count (sizes .carrying) gr (x .brought .carries); found = f (fields-listing e); room = x .behind; long = omega (arith, x .long, wrote-length recorded); apart = omega (arith, wait-is, x .apart) }
+
+        pub production-written : {new : List ℕ} {end : ℕ} → ((y : BodyFits (rowAt rows p) (fieldsAt table from to) inherited synthesized (sizes .carrying) marks links mid body wait) → BodyWrote y new end) → ProductionWrote gr p area new at body end
         unfolding body-fits given-at
-        production-written v = record { between = mid; recorded = recorded; bodied = v body-fits }
+        production-written {new} {end} v = record { between = mid; recorded = recorded; bodied = subst (λ z. Wrote (patch mid z (waitRow gr pd)) new body end (bodyAt gr p body)) wait-is (v body-fits) }
 
 -- ---- all productions
 
 module _ (g : Grammar) where
-  abbrev allRecords : List ℕ
+  abbrev pub allRecords : List ℕ
   allRecords = recordsFrom g (bodiesAddress g) 0 (g .productions)
 
-  abbrev allBodies : List ℕ
+  abbrev pub allBodies : List ℕ
   allBodies = bodiesFrom g (bodiesAddress g) (g .productions)
 
   -- an area into which both are written
-  abbrev withAll : List ℕ → List ℕ
+  abbrev pub withAll : List ℕ → List ℕ
   withAll old = patch (patch old (recordsAddress g) allRecords) (bodiesAddress g) allBodies
+
+  -- one into which is written what the places wait at
+  abbrev pub withWaits : List ℕ → List ℕ
+  withWaits old = patch old (waitsAddress g) (waits g)
 
   -- where the bodies end is where the program ends
   end-is : WellFormed g → bodiesAddress g + length allBodies ≡ length (programOf g)
   end-is w = omega (arith, bodies-length g (bodiesAddress g) (g .productions), program-length g w)
 
+-- the first p productions are written
+pub record ProductionsPart (g : Grammar) (old : List ℕ) (p : ℕ) (area : List ℕ) (at body : ℕ) : Type 0 where
+  pub growing : Growing (withWaits g old) (withAll g (withWaits g old)) (bodiesAddress g + length (allBodies g)) (patch area (waitAt g p) (restWaits g p)) at body (restRecords g p body) (restBodies g p body)
+  pub place : at ≡ recordsAddress g + 8 * p
+  pub above : bodiesAddress g ≤ body
+  pub waiting : length (restWaits g p) + 12 * p ≡ 12 * length (g .productions)
+
 module _ (table rows inherited synthesized offsets sets : List ℕ) (sizes : Sizes) (old : List ℕ) where
   pub record ProductionsGo (p : ℕ) (area : List ℕ) (at body : ℕ) : Type 0 where
-    pub go : (x : Outlined table rows inherited synthesized offsets sets sizes) → Growing old (withAll (grammarIn x) old) (bodiesAddress (grammarIn x) + length (allBodies (grammarIn x))) area at body (restRecords (grammarIn x) p body) (restBodies (grammarIn x) p body)
+    pub go : (x : Outlined table rows inherited synthesized offsets sets sizes) → ProductionsPart (grammarIn x) old p area at body
 
 module _ {table rows inherited synthesized offsets sets : List ℕ} {sizes : Sizes} {old : List ℕ} (long : 16384 ≤ length old) where
   pub productions-start : ProductionsGo table rows inherited synthesized offsets sets sizes old 0 old (9 + 64 * sizes .nonterminals) (9 + 64 * sizes .nonterminals + 20 * sizes .productions)
-  unfolding restRecords restBodies
-  productions-start = record {
-    go = λ x.
-        let g = grammarIn x in
-        let r : recordsAddress g ≡ 9 + 64 * sizes .nonterminals = omega (arith, x .isNonterminals) in
-        let a : bodiesAddress g ≡ 9 + 64 * sizes .nonterminals + 20 * sizes .productions = omega (arith, x .isNonterminals, count-is x) in
-        let end = bodiesAddress g + length (allBodies g) in
-        subst (λ z. Growing old (withAll g old) end old z (9 + 64 * sizes .nonterminals + 20 * sizes .productions) (restRecords g 0 (9 + 64 * sizes .nonterminals + 20 * sizes .productions)) (restBodies g 0 (9 + 64 * sizes .nonterminals + 20 * sizes .productions))) r
-        (subst (λ z. Growing old (withAll g old) end old (recordsAddress g) z (restRecords g 0 z) (restBodies g 0 z)) a
-        (growing-start old (recordsAddress g) (bodiesAddress g) (allRecords g) (allBodies g) (omega (arith, records-length g (bodiesAddress g) 0 (g .productions)))));
-  }
+  unfolding restRecords restBodies restWaits
+  productions-start = record { go = start }
+    where
+      start : (x : Outlined table rows inherited synthesized offsets sets sizes) → ProductionsPart (grammarIn x) old 0 old (9 + 64 * sizes .nonterminals) (9 + 64 * sizes .nonterminals + 20 * sizes .productions)
+      start x =
+          let g = grammarIn x in
+          let r : recordsAddress g ≡ 9 + 64 * sizes .nonterminals = omega (arith, x .isNonterminals) in
+          let a : bodiesAddress g ≡ 9 + 64 * sizes .nonterminals + 20 * sizes .productions = omega (arith, x .isNonterminals, count-is x) in
+          let q : waitsAddress g ≡ waitAt g 0 = omega arith in
+          let end = bodiesAddress g + length (allBodies g) in
+          let all = withAll g (withWaits g old) in
+          let ra = 9 + 64 * sizes .nonterminals in
+          let ba = ra + 20 * sizes .productions in
+          record {
+            growing =
+                subst (λ z. Growing (withWaits g old) all end (patch old z (waits g)) ra ba (restRecords g 0 ba) (restBodies g 0 ba)) q
+                (subst (λ z. Growing (withWaits g old) all end (withWaits g old) z ba (restRecords g 0 ba) (restBodies g 0 ba)) r
+                (subst (λ z. Growing (withWaits g old) all end (withWaits g old) (recordsAddress g) z (restRecords g 0 z) (restBodies g 0 z)) a
+                (growing-start (withWaits g old) (recordsAddress g) (bodiesAddress g) (allRecords g) (allBodies g) (omega (arith, records-length g (bodiesAddress g) 0 (g .productions))))));
+            place = omega (arith, r);
+            above = omega (arith, a);
+            waiting = omega (arith, waits-length g (g .productions) (short-productions (well-formed x)));
+          }
 
   module _ {p : ℕ} {area : List ℕ} {at body : ℕ} (s : ProductionsGo table rows inherited synthesized offsets sets sizes old p area at body) where
     pub productions-size : Outlined table rows inherited synthesized offsets sets sizes → length area ≡ length old
-    productions-size x = s .go x .size
+    productions-size x = let g = grammarIn x in omega (arith, s .go x .growing .size, patch-length area (waitAt g p) (restWaits g p), patch-length old (waitsAddress g) (waits g))
 
     module _ (l : p < sizes .productions) where
       listed : (x : Outlined table rows inherited synthesized offsets sets sizes) → p < length (grammarIn x .productions)
@@ -222,50 +253,93 @@ module _ {table rows inherited synthesized offsets sets : List ℕ} {sizes : Siz
           record {
             brought = x;
             here = l;
-            behind = omega (arith, o .address, end-is g (well-formed x), program-fits g (well-formed x), bodies-left x);
-            low = omega (arith, o .apart, ap length (records-turn g (well-formed x) p body (listed x)), length-append (recordAt g p body) (restRecords g (p + 1) (body + bodySize g (productionAt g p))));
-            long = omega (arith, long, o .size);
+            behind = omega (arith, o .growing .address, end-is g (well-formed x), program-fits g (well-formed x), bodies-left x);
+            low = omega (arith, o .place, o .above, listed x);
+            long = omega (arith, long, productions-size x);
+            apart = omega (arith, o .above, listed x);
           }
 
       pub record-low : Outlined table rows inherited synthesized offsets sets sizes → at + 8 ≤ 16384
       record-low x = let f = production-fits x in omega (arith, f .low, f .behind)
 
-      pub productions-turn : {new : List ℕ} {end : ℕ} → ((y : ProductionFits table rows inherited synthesized offsets sets sizes p area at body) → ProductionWrote (grammarIn (y .brought)) p area new at body end) → ProductionsGo table rows inherited synthesized offsets sets sizes old (p + 1) new (at + 8) end
-      unfolding production-fits
-      productions-turn {new} {end} f = record {
-        go = λ x.
-            let g = grammarIn x in
-            let w = f (production-fits x) in
-            let e : body + bodySize g (productionAt g p) ≡ end = omega (arith, w .bodied .address, body-length g body (productionAt g p)) in
-            subst (λ z. Growing old (withAll g old) (bodiesAddress g + length (allBodies g)) new (at + 8) end (restRecords g (p + 1) z) (restBodies g (p + 1) z)) e
-            (growing-turn (growing-as (records-turn g (well-formed x) p body (listed x)) (bodies-turn g (well-formed x) p body (listed x)) (s .go x)) (w .recorded) (w .bodied));
-      }
+      module _ {new : List ℕ} {end : ℕ} (f : (y : ProductionFits table rows inherited synthesized offsets sets sizes p area at body) → ProductionWrote (grammarIn (y .brought)) p area new at body end) where
+        module _ (x : Outlined table rows inherited synthesized offsets sets sizes) where
+          abbrev tg : Grammar
+          tg = grammarIn x
 
-    pub productions-end : sizes .productions ≤ p → (x : Outlined table rows inherited synthesized offsets sets sizes) → ProductionsWrote (grammarIn x) old area body
+          abbrev row : List ℕ
+          row = waitRow tg (productionAt tg p)
+
+          wrote : ProductionWrote tg p area new at body end
+          unfolding production-fits
+          wrote = f (production-fits x)
+
+          row-long : length row ≡ 12
+          row-long = wait-row-length tg (productionAt tg p) (well-formed-at tg (well-formed x) p (listed x) .short)
+
+          left-is : restWaits tg p ≡ row ++ restWaits tg (p + 1)
+          left-is = waits-turn tg (well-formed x) p (listed x)
+
+          left-long : length (restWaits tg (p + 1)) + 12 * (p + 1) ≡ 12 * length (tg .productions)
+          left-long = omega (arith, s .go x .waiting, ap length left-is, length-append row (restWaits tg (p + 1)), row-long)
+
+          next-is : waitAt tg p + length row ≡ waitAt tg (p + 1)
+          next-is = omega (arith, row-long)
+
+          -- the record stands before what the places wait at, which stands before the body
+          first-wrote : Wrote (patch area (waitAt tg p) (restWaits tg p)) (patch (wrote .between) (waitAt tg p) (restWaits tg p)) at (at + 8) (recordAt tg p body)
+          first-wrote = record {
+            memory = ap (λ z. patch z (waitAt tg p) (restWaits tg p)) (wrote .recorded .memory) ∙ patch-swap area at (recordAt tg p body) (waitAt tg p) (restWaits tg p) (omega (arith, wrote .recorded .address, s .go x .place, listed x));
+            address = wrote .recorded .address;
+          }
+
+          waits-put : patch (patch (wrote .between) (waitAt tg p) row) (waitAt tg (p + 1)) (restWaits tg (p + 1)) ≡ patch (wrote .between) (waitAt tg p) (restWaits tg p)
+          waits-put = ap (λ z. patch (patch (wrote .between) (waitAt tg p) row) z (restWaits tg (p + 1))) (sym next-is) ∙ (sym (patch-append (wrote .between) (waitAt tg p) row (restWaits tg (p + 1))) ∙ ap (patch (wrote .between) (waitAt tg p)) (sym left-is))
+
+          then-wrote : Wrote (patch (wrote .between) (waitAt tg p) (restWaits tg p)) (patch new (waitAt tg (p + 1)) (restWaits tg (p + 1))) body end (bodyAt tg p body)
+          then-wrote = subst (λ z. Wrote z (patch new (waitAt tg (p + 1)) (restWaits tg (p + 1))) body end (bodyAt tg p body)) waits-put (patch-beside (waitAt tg (p + 1)) (restWaits tg (p + 1)) (omega (arith, left-long, s .go x .above)) (wrote .bodied))
+
+          end-at : body + bodySize tg (productionAt tg p) ≡ end
+          end-at = omega (arith, wrote .bodied .address, body-length tg body (productionAt tg p))
+
+          part-turn : ProductionsPart tg old (p + 1) new (at + 8) end
+          part-turn = record {
+            growing =
+                subst (λ z. Growing (withWaits tg old) (withAll tg (withWaits tg old)) (bodiesAddress tg + length (allBodies tg)) (patch new (waitAt tg (p + 1)) (restWaits tg (p + 1))) (at + 8) end (restRecords tg (p + 1) z) (restBodies tg (p + 1) z)) end-at
+                (growing-turn (growing-as (records-turn tg (well-formed x) p body (listed x)) (bodies-turn tg (well-formed x) p body (listed x)) (s .go x .growing)) first-wrote then-wrote);
+            place = omega (arith, s .go x .place);
+            above = omega (arith, s .go x .above, end-at);
+            waiting = left-long;
+          }
+
+        pub productions-turn : ProductionsGo table rows inherited synthesized offsets sets sizes old (p + 1) new (at + 8) end
+        productions-turn = record { go = part-turn }
+
+    pub productions-end : sizes .productions ≤ p → (x : Outlined table rows inherited synthesized offsets sets sizes) → ProductionsWrote (grammarIn x) (withWaits (grammarIn x) old) area body
     productions-end l x =
         let g = grammarIn x in
         let m : length (g .productions) ≤ p = omega (arith, count-is x) in
-        let e = growing-end (growing-as (records-end g (well-formed x) p body m) (bodies-end g (well-formed x) p body m) (s .go x)) in
+        let none : patch area (waitAt g p) (restWaits g p) ≡ area = ap (patch area (waitAt g p)) (waits-end g (well-formed x) p m) ∙ patch-none area (waitAt g p) in
+        let e = growing-end (growing-as (records-end g (well-formed x) p body m) (bodies-end g (well-formed x) p body m) (s .go x .growing)) in
         record {
-          between = patch old (recordsAddress g) (allRecords g);
+          between = patch (withWaits g old) (recordsAddress g) (allRecords g);
           recorded = record { memory = refl; address = omega (arith, records-length g (bodiesAddress g) 0 (g .productions)) };
-          bodied = record { memory = e .0; address = e .1 };
+          bodied = record { memory = sym none ∙ e .0; address = e .1 };
         }
 
-pub productions-length : {g : Grammar} {old new : List ℕ} {next : ℕ} → ProductionsWrote g old new next → length new ≡ length old
-productions-length w = wrote-length (w .bodied) ∙ wrote-length (w .recorded)
+pub productions-length : (g : Grammar) (old : List ℕ) {new : List ℕ} {next : ℕ} → ProductionsWrote g (withWaits g old) new next → length new ≡ length old
+productions-length g old w = wrote-length (w .bodied) ∙ (wrote-length (w .recorded) ∙ patch-length old (waitsAddress g) (waits g))
 
 -- ---- the whole
 
-pub program-written : {table rows inherited synthesized offsets sets : List ℕ} {sizes : Sizes} (x : Outlined table rows inherited synthesized offsets sets sizes) {old a b c new : List ℕ} {s d e r : ℕ} → 16384 ≤ length old
-    → Wrote old a 0 s (segmentWords (grammarIn x)) → Wrote a b 9 d (directory (grammarIn x)) → Wrote b c (9 + 64 * sizes .nonterminals + 8 * sizes .productions) e (waits (grammarIn x)) → ProductionsWrote (grammarIn x) c new r
+pub program-written : {table rows inherited synthesized offsets sets : List ℕ} {sizes : Sizes} (x : Outlined table rows inherited synthesized offsets sets sizes) {old a b new : List ℕ} {s d r : ℕ} → 16384 ≤ length old
+    → Wrote old a 0 s (segmentWords (grammarIn x)) → Wrote a b 9 d (directory (grammarIn x)) → ProductionsWrote (grammarIn x) (withWaits (grammarIn x) b) new r
     → (new ≡ written (programOf (grammarIn x)) old) × (r ≡ length (programOf (grammarIn x)))
-program-written {sizes = sizes} x {old} {a} {b} {c} {new} {s} {d} {e} {r} long f h v k =
+program-written x {old} {a} {b} {new} {s} {d} {r} long f h k =
     let g = grammarIn x in
-    let from : 9 + 64 * sizes .nonterminals + 8 * sizes .productions ≡ waitsAddress g = omega (arith, x .isNonterminals, count-is x) in
     let f′ : Wrote old a 0 9 (segmentWords g) = record { memory = f .memory; address = refl } in
     let h′ : Wrote a b 9 (recordsAddress g) (directory g) = record { memory = h .memory; address = omega (arith, directory-length g) } in
-    let v′ : Wrote b c (waitsAddress g) (bodiesAddress g) (waits g) = record { memory = v .memory ∙ ap (λ z. patch b z (waits g)) from; address = omega (arith, waits-length g (g .productions) (short-productions (well-formed x))) } in
+    let v′ : Wrote b (withWaits g b) (waitsAddress g) (bodiesAddress g) (waits g) = record { memory = refl; address = omega (arith, waits-length g (g .productions) (short-productions (well-formed x))) } in
     let behind = wrote-as (append-assoc (allRecords g) (waits g) (allBodies g)) (wrote-then (wrote-ahead v′ (k .recorded)) (k .bodied)) in
     let all = wrote-then f′ (wrote-then h′ behind) in
     (all .memory ∙ patch-written old (programOf g) (omega (arith, program-fits g (well-formed x), long)), all .address ∙ omega arith)

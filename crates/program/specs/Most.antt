@@ -1,19 +1,21 @@
--- One production has at most 104 rules, 8 for each of 13 positions, and 512 conditions.
+-- One production has at most 104 rules, 8 for each of 13 positions, and 512 conditions; each takes eight bytes of the table.
 use Prim.Native.Nat.{ℕ, zero, suc, _+_, _*_, _≤_, _<_}
 use native.Mathlib.Omega.{arith}
 use mathlib.Core.Path.{_≡_, refl, ap}
 use mathlib.Core.Logic.{inl, inr}
 use mathlib.Core.Bool.{Bool, true, false, not}
 use mathlib.Core.List.{List, [], _∷_, map}
-use lib.ListN.{length}
+use lib.ListN.{length, length-append}
 use lib.Dec.{T, eqb, eqb→eq, eqb-refl, T-not}
 use Rattle.meaning.specs.Base.{In, keep, consIf, total}
-use Rattle.meaning.specs.Grammar.{nonterminal, Occurrence, Rule, Production, Grammar, symbolAt}
+use Rattle.meaning.specs.Grammar.{nonterminal, Occurrence, Rule, Condition, Production, Grammar, symbolAt}
 use Rattle.meaning.specs.Rules.{OutputAt, Distinct, WellFormed}
+use Rattle.meaning.specs.Layout.{field, ruleBytes, conditionBytes, RulesAndConditions, nothing, rule, condition}
 use Rattle.theory_base.specs.Members.{in-keep}
 use Rattle.theory_base.specs.Evaluate.{distinct-keep}
 use Rattle.theory_program.specs.Proper.{att-most}
 use Rattle.theory_program.specs.RuleCounts.{rules-few}
+use Rattle.blocks.specs.Items.{rule-whole, condition-whole}
 
 in-total : {A : Type 0} (f : A → ℕ) (xs : List A) (x : A) → In x xs → f x ≤ total (map f xs)
 in-total f [] x i = absurd i
@@ -61,3 +63,9 @@ module _ (g : Grammar) (w : WellFormed g) (p : Production) where
 
   pub conditions-most : In p (g .productions) → length (p .conditions) ≤ 512
   conditions-most i = omega (arith, in-total (λ q. length (q .conditions)) (g .productions) p i, w .conditions)
+
+-- each takes eight bytes of the table at least
+pub fields-long : {rs : List (Rule Occurrence)} {cs : List (Condition Occurrence)} {d : List ℕ} → RulesAndConditions rs cs d → 8 * (length rs + length cs) ≤ length d
+fields-long nothing = omega arith
+fields-long (rule r {rs} {cs} {bs} own) = omega (arith, fields-long own, length-append (field 4 (ruleBytes r)) bs, rule-whole r [] .target, length-append (field 4 (ruleBytes r)) [])
+fields-long (condition c {rs} {cs} {bs} own) = omega (arith, fields-long own, length-append (field 5 (conditionBytes c)) bs, condition-whole c [] .first, length-append (field 5 (conditionBytes c)) [])

@@ -1,23 +1,21 @@
 -- The records and the bodies, one production after the other.
-use Prim.Native.Nat.{ℕ, zero, suc, _+_, _-_, _*_, _/_, _%_, _^_, _≤_, _<_}
+use Prim.Native.Nat.{ℕ, zero, suc, _+_, _*_, _/_, _%_, _^_, _≤_, _<_}
 use native.Mathlib.Nat.{div-one}
 use native.Mathlib.Omega.{arith}
 use native.Mathlib.Decide.{ℕ-discrete}
 use mathlib.Core.Path.{_≡_, refl, sym, ap, ap₂, _∙_, subst}
 use mathlib.Core.Bool.{Bool, true, false}
-use mathlib.Core.List.{List, [], _∷_, _++_, append-nil}
-use lib.ListN.{length, getD, drop, length-append, length-drop, drop-of-length-le}
+use mathlib.Core.List.{List, [], _∷_, _++_}
+use lib.ListN.{length, getD, drop, length-append, drop-of-length-le}
 use lib.Seq.{drop-cons}
 use lib.Pow.{shr-shr, pow-add}
-use lib.Dec.{T, eqb, eqb→eq}
+use lib.Dec.{eqb, eqb→eq}
 use borrow.Author.Tests.{eq-eqb, ne-eqb}
 use Rattle.meaning.specs.Grammar.{Production, Grammar, wholeProduction, productionAt}
 use Rattle.meaning.specs.Rules.{WellFormed}
-use Rattle.meaning.specs.Scheme.{entryTests}
-use Rattle.meaning.specs.Sets.{TokenSet, has, starts}
-use Rattle.meaning.specs.Program.{bitIf, setBits, firstOf, schemeOffset, recordWords, recordsFrom, bodyWords, bodySize, bodiesFrom}
+use Rattle.meaning.specs.Sets.{TokenSet, has}
+use Rattle.meaning.specs.Program.{bitIf, setBits, firstOf, recordWords, recordsFrom, bodyWords, bodySize, bodiesFrom}
 use Rattle.theory_base.specs.WellFormed.{listed-at}
-use Rattle.theory_program.specs.Addresses.{records-length, bodies-length, body-length}
 use Rattle.theory_program.specs.SetWords.{bits-step, bits-small, both-words}
 use Rattle.blocks.specs.Patch.{patch, Wrote, patch-none, patch-length, patch-append, patch-swap}
 use Rattle.program.specs.Directory.{Alternatives}

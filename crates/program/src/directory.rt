@@ -1,10 +1,10 @@
 // The directory: 64 words for each nonterminal.
-ghost use Prim.Native.Nat.{_+_, _-_, _*_, _≤_, _<_};
+ghost use Prim.Native.Nat.{_+_, _≤_, _<_};
 ghost use mathlib.Core.Path.{_≡_};
 ghost use lib.ListN.{length, getD};
 ghost use Rattle.meaning.specs.Program.{directory};
-ghost use Rattle.blocks.specs.Patch.{patch, Wrote};
-ghost use Rattle.program.specs.Directory.{Alternatives, zeros, Marked};
+ghost use Rattle.blocks.specs.Patch.{Wrote};
+ghost use Rattle.program.specs.Directory.{Alternatives, Marked};
 
 // 0 past the end.
 pub fn set_at(sets: &[u64], at: usize) -> u64
@@ -14,18 +14,6 @@ pub fn set_at(sets: &[u64], at: usize) -> u64
         return 0;
     }
     sets[at]
-}
-
-// 0 in the words of a range.
-pub fn clear(area: &mut [u32], from: usize, to: usize)
-    requires { ⌜ (from ≤ to) × (to ≤ length (now area)) ⌝ }
-    ensures { λ r. ⌜ now (area .exit) ≡ patch (now (area .entry)) from (zeros (to - from)) ⌝ }
-{
-    let mut at = from;
-    while at < to {
-        area[at] = 0;
-        at += 1;
-    }
 }
 
 // The number is written at each bit of a set, in a row of 64 words.
@@ -55,7 +43,7 @@ pub fn write_directory(
     ensures { λ r. ⌜ ((x : Alternatives (now (rows .entry)) (now (sets .entry)) nonterminals count) → Wrote (now (area .entry)) (now (area .exit)) 9 r (directory (x .grammar))) ⌝ }
 {
     let end = 9 + 64 * nonterminals;
-    clear(area, 9, end);
+    bodies::clear(area, 9, end);
     let mut p = count;
     while 0 < p {
         let left = value::byte_at(rows, 16 * (p - 1)) as usize;

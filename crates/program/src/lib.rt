@@ -14,7 +14,6 @@ use table::Sizes;
 
 pub mod directory;
 pub mod records;
-pub mod waits;
 
 // Four words; answers the address behind them.
 pub fn put_four(area: &mut [u32], at: usize, a: u32, b: u32, c: u32, d: u32) -> usize
@@ -81,16 +80,6 @@ pub fn build(
         area,
     );
     directory::write_directory(rows, sets, sizes.nonterminals, sizes.productions, area);
-    let from = 9 + 64 * sizes.nonterminals + 8 * sizes.productions;
-    waits::write_waits(
-        rows,
-        inherited,
-        synthesized,
-        sizes.carrying,
-        sizes.productions,
-        area,
-        from,
-    );
     records::write_productions(
         table,
         rows,

@@ -1,12 +1,12 @@
-// The records and the bodies of the productions, with room between for what places wait at.
+// The records and the bodies of the productions, and between them what the places wait at.
 ghost use Prim.Native.Nat.{_+_, _≤_, _<_};
 ghost use mathlib.Core.Path.{_≡_};
 ghost use lib.ListN.{length};
 ghost use Rattle.blocks.specs.Patch.{Wrote};
-ghost use Rattle.program.specs.Brought.{grammarIn, fieldsFrom, stretchEnd};
+ghost use Rattle.program.specs.Brought.{fieldsFrom, stretchEnd};
 ghost use Rattle.program.specs.Directory.{Alternatives};
 ghost use Rattle.program.specs.Records.{NextOf, Nexts, recordAt};
-ghost use Rattle.program.specs.Built.{Outlined, RecordFits, ProductionFits, ProductionWrote, ProductionsWrote};
+ghost use Rattle.program.specs.Built.{Outlined, LinksFit, RecordFits, ProductionFits, Produced, AllWrote};
 use table::Sizes;
 
 // For each production the number plus 1 of the next one with the same left side, or 0: the last production first, with the first
@@ -73,8 +73,8 @@ fn stretch_end(table: &[u8], offsets: &[u32], count: usize, p: usize) -> usize
     table.len()
 }
 
-// The record and the body of production p; answers the address behind the body. The chains of its rules and conditions are made in
-// `links`: 104 rules and 512 conditions are the most that it can have.
+// The record and the body of production p, and what its places wait at; answers the address behind the body. The chains of
+// its rules and conditions are made in `links`.
 fn write_production(
     table: &[u8],
     rows: &[u8],
@@ -90,8 +90,9 @@ fn write_production(
     at: usize,
     body: usize,
 ) -> usize
-    requires { ⌜ ProductionFits (now table) (now rows) (now inherited) (now synthesized) (now offsets) (now sets) sizes p (now area) at body × Nexts (now rows) (now sets) (sizes .nonterminals) (sizes .productions) (now nexts) × (length (now links) ≡ 616) ⌝ }
-    ensures { λ r. ⌜ (length (now (links .exit)) ≡ 616) × ((x : ProductionFits (now (table .entry)) (now (rows .entry)) (now (inherited .entry)) (now (synthesized .entry)) (now (offsets .entry)) (now (sets .entry)) sizes p (now (area .entry)) at body) → ProductionWrote (grammarIn (x .brought)) p (now (area .entry)) (now (area .exit)) at body r) ⌝ }
+    requires { ⌜ ProductionFits (now table) (now rows) (now inherited) (now synthesized) (now offsets) (now sets) sizes p (now area) at body × Nexts (now rows) (now sets) (sizes .nonterminals) (sizes .productions) (now nexts) × LinksFit (length (now table)) (length (now links)) ⌝ }
+    ensures { λ r. ⌜ (length (now (links .exit)) ≡ length (now (links .entry)))
+        × ((x : ProductionFits (now (table .entry)) (now (rows .entry)) (now (inherited .entry)) (now (synthesized .entry)) (now (offsets .entry)) (now (sets .entry)) sizes p (now (area .entry)) at body) → Produced x (now (area .exit)) r) ⌝ }
 {
     let count = sizes.productions;
     let from = fields_from(rows, offsets, p);
@@ -103,6 +104,7 @@ fn write_production(
     let mut marks = [0u32; 64];
     blocks::find_items(fields, links, &mut marks);
     let entries = marks[1];
+    let wait = 9 + 64 * sizes.nonterminals + 8 * count + 12 * p;
     let next = value::byte_at(nexts, p);
     write_record(
         rows,
@@ -126,28 +128,30 @@ fn write_production(
         links,
         area,
         body,
+        wait,
     )
 }
 
-// All records and bodies; answers the address behind the last body.
-pub fn write_productions(
+// All records and bodies, and what all places wait at; answers the address behind the last body. The chains of each production's
+// rules and conditions are made in `links`.
+fn write_each(
     table: &[u8],
-    rows: &[u8],
-    inherited: &[u8],
-    synthesized: &[u8],
-    offsets: &[u32],
-    sets: &[u64],
+    rows: &[u8; 2048],
+    inherited: &[u8; 48],
+    synthesized: &[u8; 48],
+    offsets: &[u32; 128],
+    sets: &[u64; 128],
     sizes: Sizes,
+    links: &mut [u32],
     area: &mut [u32],
 ) -> usize
-    requires { ⌜ Outlined (now table) (now rows) (now inherited) (now synthesized) (now offsets) (now sets) sizes × (16384 ≤ length (now area)) ⌝ }
-    ensures { λ r. ⌜ ((x : Outlined (now (table .entry)) (now (rows .entry)) (now (inherited .entry)) (now (synthesized .entry)) (now (offsets .entry)) (now (sets .entry)) sizes) → ProductionsWrote (grammarIn x) (now (area .entry)) (now (area .exit)) r) ⌝ }
+    requires { ⌜ Outlined (now table) (now rows) (now inherited) (now synthesized) (now offsets) (now sets) sizes × (16384 ≤ length (now area)) × LinksFit (length (now table)) (length (now links)) ⌝ }
+    ensures { λ r. ⌜ ((x : Outlined (now (table .entry)) (now (rows .entry)) (now (inherited .entry)) (now (synthesized .entry)) (now (offsets .entry)) (now (sets .entry)) sizes) → AllWrote x (now (area .entry)) (now (area .exit)) r) ⌝ }
 {
     let count = sizes.productions;
     let mut at = 9 + 64 * sizes.nonterminals;
     let mut body = at + 20 * count;
     let nexts = find_nexts(rows, sets, sizes.nonterminals, count);
-    let mut links = [0u32; 616];
     let mut p: usize = 0;
     while p < count {
         body = write_production(
@@ -159,7 +163,7 @@ pub fn write_productions(
             sets,
             sizes,
             &nexts,
-            &mut links,
+            links,
             p,
             area,
             at,
@@ -169,4 +173,47 @@ pub fn write_productions(
         p += 1;
     }
     body
+}
+
+// The same with an array for the chains: 104 rules and 512 conditions are the most that a production can have, and each takes eight
+// bytes of the table at least, so that a short table does with a short array.
+pub fn write_productions(
+    table: &[u8],
+    rows: &[u8; 2048],
+    inherited: &[u8; 48],
+    synthesized: &[u8; 48],
+    offsets: &[u32; 128],
+    sets: &[u64; 128],
+    sizes: Sizes,
+    area: &mut [u32],
+) -> usize
+    requires { ⌜ Outlined (now table) (now rows) (now inherited) (now synthesized) (now offsets) (now sets) sizes × (16384 ≤ length (now area)) ⌝ }
+    ensures { λ r. ⌜ ((x : Outlined (now (table .entry)) (now (rows .entry)) (now (inherited .entry)) (now (synthesized .entry)) (now (offsets .entry)) (now (sets .entry)) sizes) → AllWrote x (now (area .entry)) (now (area .exit)) r) ⌝ }
+{
+    if table.len() <= 512 {
+        let mut links = [0u32; 64];
+        return write_each(
+            table,
+            rows,
+            inherited,
+            synthesized,
+            offsets,
+            sets,
+            sizes,
+            &mut links,
+            area,
+        );
+    }
+    let mut links = [0u32; 616];
+    write_each(
+        table,
+        rows,
+        inherited,
+        synthesized,
+        offsets,
+        sets,
+        sizes,
+        &mut links,
+        area,
+    )
 }

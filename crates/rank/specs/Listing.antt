@@ -1,26 +1,21 @@
 -- What the list comes to, and the cases of the call.
-use Prim.Native.Nat.{ℕ, suc, _+_, _*_, _/_, _≤_, _<_}
-use native.Mathlib.Omega.{arith}
-use mathlib.Core.Path.{_≡_, refl, sym, ap, ap₂, _∙_, subst}
-use mathlib.Core.Bool.{Bool, true, false, _&&_}
+use Prim.Native.Nat.{ℕ, _*_, _≤_, _<_}
+use mathlib.Core.Path.{_≡_, sym, ap, ap₂, _∙_, subst}
+use mathlib.Core.Bool.{true, false}
 use mathlib.Core.List.{List, _++_}
-use lib.ListN.{length, getD, drop, drop-of-length-le}
-use lib.Seq.{drop-cons}
-use lib.Dec.{T, eqb, ltb, leb}
-use borrow.Author.Tests.{lt-ltb, le-ltb, eq-eqb, ne-eqb, lt-leb, le-leb, leb-true, eqb-true}
+use lib.ListN.{length, drop}
+use lib.Dec.{eqb, ltb}
+use borrow.Author.Tests.{lt-ltb, le-ltb, eq-eqb, ne-eqb}
 use lib.IntN.{ℤ}
-use Rattle.meaning.specs.Base.{total}
 use Rattle.meaning.specs.Grammar.{Grammar}
 use Rattle.meaning.specs.Table.{State, grammarOf}
 use Rattle.meaning.specs.Program.{programOf}
 use Rattle.meaning.specs.Calls.{Stacks}
-use Rattle.meaning.specs.PublicCalls.{stacksOf, usable, unusable, check, areaLength, written}
+use Rattle.meaning.specs.PublicCalls.{stacksOf, usable, unusable, check, areaLength}
 use Rattle.meaning_ranking.specs.Ranking.{Entry, ranking, cellsOf, totalOf, valuedOf}
-use Rattle.meaning_ranking.specs.RankCall.{inOrder, Evaluation, evaluations, RankEffect, rankEffect, unranked, listed, rankEven, rankUnder, rankLong, rankSuited, rankOf}
-use Rattle.theory_base.specs.Members.{T→true, true→T, both}
+use Rattle.meaning_ranking.specs.RankCall.{inOrder, evaluations, rankEffect, unranked, listed, rankEven, rankUnder, rankLong, rankSuited, rankOf}
 use Rattle.theory_ranking.specs.Entries.{entriesOf, Ranged}
 use Rattle.theory_ranking.specs.Cells.{length-cells, length-entries}
-use Rattle.theory_ranking.specs.Listing.{listed-entries, length-ranking}
 use Rattle.theory_ranking.specs.Caller.{listed-ranged, listed-total, listed-valued}
 use Rattle.fit.specs.Shown.{Shown, Readable}
 use Rattle.prepare.specs.Making.{Standing}
@@ -28,45 +23,6 @@ use Rattle.candidates.specs.Each.{AllDone}
 use Rattle.rank.specs.declared.Ranked.{Ranked}
 use Rattle.rank.specs.declared.Ranked.the-variants.{Done, Refused}
 use Rattle.rank.specs.Answers.{rankAnswerIs, rankIs}
-
--- ---- 37
-
--- by its tests
-module _ (ns ks : List ℕ) (l : List ℤ) where
-  abbrev tests : Bool → Bool → Bool → Bool
-  tests a b c = a && b && c
-
-  pub too-many : 512 < length ns → false ≡ inOrder ns ks l
-  too-many h = sym (ap (λ a. a && eqb (total ns) (length ks) && leb (length ns) (length l / 3)) (lt-leb (length ns) 512 h))
-
-  module _ (h : length ns ≤ 512) where
-    pub not-summed : (total ns ≡ length ks → ⊥) → false ≡ inOrder ns ks l
-    not-summed q = sym (ap₂ (λ a b. a && b && leb (length ns) (length l / 3)) (le-leb (length ns) 512 h) (ne-eqb (total ns) (length ks) q))
-
-    pub summed : total ns ≡ length ks → leb (length ns) (length l / 3) ≡ inOrder ns ks l
-    summed q = sym (ap₂ (λ a b. a && b && leb (length ns) (length l / 3)) (le-leb (length ns) 512 h) (eq-eqb (total ns) (length ks) q))
-
-  -- what the candidates rely on
-  pub record Suits : Type 0 where
-    pub few : length ns ≤ 512
-    pub summed : total ns ≡ length ks
-    pub room : 3 * length ns ≤ length l
-
-  pub suits : inOrder ns ks l ≡ true → Suits
-  suits e =
-      let t = both (leb (length ns) 512 && eqb (total ns) (length ks)) (leb (length ns) (length l / 3)) (true→T (inOrder ns ks l) e) in
-      let u = both (leb (length ns) 512) (eqb (total ns) (length ks)) (t .0) in
-      let r : length ns ≤ length l / 3 = leb-true (length ns) (length l / 3) (T→true (leb (length ns) (length l / 3)) (t .1)) in
-      record { few = leb-true (length ns) 512 (T→true (leb (length ns) 512) (u .0)); summed = eqb-true (total ns) (length ks) (T→true (eqb (total ns) (length ks)) (u .1)); room = omega arith }
-
--- the sum, a length at a time
-pub sum-turn : (ns : List ℕ) (i sum n : ℕ) → i < length ns → n ≡ getD ns i 0 → sum + total (drop i ns) ≡ total ns → sum + n + total (drop (i + 1) ns) ≡ total ns
-sum-turn ns i sum n l e q =
-    let j : suc i ≡ i + 1 = omega arith in
-    omega (arith, ap total (drop-cons ns i 0 l), ap (λ k. total (drop k ns)) j)
-
-pub sum-end : (ns : List ℕ) (i sum : ℕ) → length ns ≤ i → sum + total (drop i ns) ≡ total ns → sum ≡ total ns
-sum-end ns i sum l q = omega (arith, ap total (drop-of-length-le ns {i = i} l))
 
 -- ---- the report
 

@@ -3,7 +3,6 @@ ghost use Prim.Native.Nat.{_*_, _≤_};
 ghost use mathlib.Core.Path.{_≡_};
 ghost use mathlib.Core.Bool.{true};
 ghost use lib.ListN.{length};
-ghost use Rattle.meaning.specs.Base.{total};
 ghost use Rattle.meaning.specs.Program.{programOf};
 ghost use Rattle.meaning.specs.PublicCalls.{stacksOf};
 ghost use Rattle.meaning_ranking.specs.RankCall.{inOrder, rankOf};
@@ -25,38 +24,6 @@ pub enum Ranked {
         number: u32,
         offset: u32,
     },
-}
-
-// ---- 37
-
-// 02: "up to 512 candidate segments".
-const MOST: usize = 512;
-
-// The exact sum: 512 lengths are below 2^41.
-fn sum_of(lengths: &[u32]) -> usize
-    requires { ⌜ length (now lengths) ≤ 512 ⌝ }
-    ensures { λ r. ⌜ r ≡ total (now (lengths .entry)) ⌝ }
-{
-    let mut sum = 0;
-    let mut i = 0;
-    while i < lengths.len() {
-        sum += moves::word_at(lengths, i);
-        i += 1;
-    }
-    sum
-}
-
-// 02: "More than 512 of them, lengths that don't add up to the list, or a list buffer with fewer entries than candidates".
-fn in_order(lengths: &[u32], kinds: &[u8], list: &[i64]) -> bool
-    ensures { λ r. ⌜ r ≡ inOrder (now (lengths .entry)) (now (kinds .entry)) (now (list .entry)) ⌝ }
-{
-    if MOST < lengths.len() {
-        return false;
-    }
-    if sum_of(lengths) != kinds.len() {
-        return false;
-    }
-    lengths.len() <= list.len() / 3
 }
 
 // ---- the candidates
@@ -114,7 +81,7 @@ pub fn rank(
 ) -> Ranked
     ensures { λ r. ⌜ rankIs r (now (list .exit)) (now (registers .exit)) (now (places .exit)) (now (program .exit)) ≡ rankOf programOf (now (table .entry)) (now (program .entry)) (now (lengths .entry)) (now (kinds .entry)) (now (values .entry)) (now (list .entry)) (stacksOf (now (registers .entry)) (now (places .entry))) ⌝ }
 {
-    if in_order(lengths, kinds, list) {
+    if rank_suits::in_order(lengths, kinds, list) {
         return match prepare::program_of(table, program) {
             Made::Short => Ranked::Refused {
                 number: 30,

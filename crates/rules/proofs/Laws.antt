@@ -11,7 +11,7 @@ use borrow.Author.Tests.{eqb-true}
 use Rattle.meaning.specs.Base.{all, countFrom}
 use Rattle.meaning.specs.Table.{byte}
 use Rattle.fields.specs.Demand.{ifEqual}
-use Rattle.fields.proofs.Fine.{equal-fine, differs-fine, atMost-fine, below-fine, holds-fine}
+use Rattle.fields.proofs.Fine.{equal-fine, atMost-fine, below-fine, holds-fine}
 use Rattle.fields.proofs.Demands.{differs-not, equal-yes, equal-no, below-yes, below-no}
 use Rattle.rules.specs.Rule.{Small, classAt, classIn, classFault, orElse, lengthOf, operandCount, operandClass, divisorFits, ruleOrder, ruleUses, ruleFault, atMostFault, allCount}
 use Rattle.fields.proofs.Cases.{lt-or-le, nonzero}

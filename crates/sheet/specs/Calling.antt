@@ -2,7 +2,6 @@
 use Prim.Native.Nat.{ℕ, _+_, _≤_, _<_}
 use native.Mathlib.Omega.{arith}
 use mathlib.Core.Path.{_≡_, refl, sym, ap, _∙_, subst}
-use mathlib.Core.Bool.{Bool, true, false}
 use mathlib.Core.List.{List}
 use lib.ListN.{length, getD, take, length-take}
 use lib.Seq.{length-take-le}
@@ -24,7 +23,7 @@ use Rattle.fit.specs.Shown.{Readable}
 use Rattle.prepare.specs.declared.Made as Made
 use Rattle.prepare.specs.declared.Made.the-variants as M
 use Rattle.prepare.specs.Making.{MadeAs, Case, Standing}
-use Rattle.sheet_walk.specs.Standing.{tokensAs}
+use Rattle.sheet_moves.specs.Standing.{tokensAs}
 use Rattle.sheet.specs.declared.Answer as Answer
 use Rattle.sheet.specs.declared.Answer.the-variants.{TableRefused}
 use Rattle.sheet.specs.Segments.{sheetIs, SegmentDone, Under}

@@ -1,17 +1,17 @@
 -- Stacks that are opened hold the opening's configuration.
-use Prim.Native.Nat.{ℕ, suc, _-_, _≤_, _<_, min}
+use Prim.Native.Nat.{ℕ, _≤_}
 use native.Mathlib.Omega.{arith}
-use mathlib.Core.Path.{_≡_, refl, sym, ap, ap₂, _∙_, subst}
+use mathlib.Core.Path.{_≡_, sym, ap, ap₂, _∙_, subst}
 use mathlib.Core.Bool.{Bool, true, false}
-use mathlib.Core.List.{List, [], _∷_}
+use mathlib.Core.List.{List}
 use lib.ListN.{length, getD, length-replicate}
 use lib.Dec.{ltb}
 use lib.IntN.{ℤ}
-use borrow.Author.Tests.{lt-ltb, le-ltb}
+use borrow.Author.Tests.{le-ltb}
 use Rattle.meaning.specs.Grammar.{Grammar, nonterminal, syn}
 use Rattle.meaning.specs.Rules.{WellFormed}
 use Rattle.meaning.specs.Value.{mark}
-use Rattle.meaning.specs.Machine.{Config, Lent, opening}
+use Rattle.meaning.specs.Machine.{opening}
 use Rattle.meaning.specs.Fit.{Fit}
 use Rattle.meaning.specs.Calls.{Stacks, Called, more, refused, lentOf, layAll, recordOf, closedRecord, asBrought, openOf, configOf}
 use Rattle.meaning.specs.PublicCalls.{stacksOf}
@@ -23,7 +23,7 @@ use Rattle.theory_program.specs.Records.{segment-words}
 use Rattle.theory_program.specs.Resuming.{placeAddress}
 use Rattle.moves.specs.declared.Run.{Run}
 use Rattle.moves.specs.Held.{Held}
-use Rattle.engine.specs.Starting.{held-start}
+use Rattle.running.specs.Starting.{held-start}
 
 -- the run of an opening
 abbrev pub firstRun : ℕ → Run

@@ -1,5 +1,5 @@
 -- A segment walked from its opening to its end: its value and its tree's records, or its refusal.
-use Prim.Native.Nat.{ℕ, suc, _+_, _-_, _*_, _%_, _≤_, _<_, min}
+use Prim.Native.Nat.{ℕ, suc, _-_, _%_, _≤_, _<_, min}
 use native.Mathlib.Omega.{arith}
 use mathlib.Core.Path.{_≡_, refl, sym, ap, ap₂, _∙_, subst}
 use mathlib.Core.Bool.{Bool, true, false}
@@ -9,25 +9,25 @@ use lib.Dec.{T, eqb, ltb, leb}
 use lib.IntN.{ℤ, pos}
 use borrow.Author.Tests.{lt-ltb, le-ltb, leb-true, leb-false, eq-eqb, ne-eqb}
 use Rattle.meaning.specs.Base.{all}
-use Rattle.meaning.specs.Grammar.{Grammar, Leaf, leaves, whole, productionAt}
+use Rattle.meaning.specs.Grammar.{Grammar, Leaf, leaves, whole}
 use Rattle.meaning.specs.Rules.{WellFormed, fourBytes}
 use Rattle.meaning.specs.Scheme as Scheme
 use Rattle.meaning.specs.Grammar as Grammar
 use Rattle.meaning.specs.Scheme.{Instruction, remove}
 use Rattle.meaning.specs.Machine.{Frame, Config, Lent, comes, stopped, failed, blocked, next, nextOf, opening, waits, isFinished, lookAt, tokensLimit, readRegister}
-use Rattle.meaning.specs.Tree.{Tree, Forest, TreeOf, isLeafOf}
-use Rattle.meaning.specs.Part.{Point, closing, Open, frame, GoodNode}
+use Rattle.meaning.specs.Tree.{Tree, Forest, TreeOf}
+use Rattle.meaning.specs.Part.{Point, Open, frame, GoodNode}
 use Rattle.meaning.specs.Selectors.{Due, removes}
 use Rattle.meaning.specs.Calls as Calls
 use Rattle.meaning.specs.Value.{mark, inRange}
 use Rattle.meaning.specs.Calls.{openOf, value, refused, tokensFrom, lentOf, result}
 use Rattle.meaning.specs.PublicCalls.{stacksOf}
-use Rattle.meaning_sheet.specs.Sheet.{sheets, sheetOf}
-use Rattle.meaning_sheet.specs.SheetCalls.{SheetEffect, sheetEffect, sheeted, turnedBack, tableTurned, stacksFor, stackRun, withSheet, AfterRun, WhenEven}
+use Rattle.meaning_sheet.specs.Sheet.{sheetOf}
+use Rattle.meaning_sheet.specs.SheetCalls.{SheetEffect, sheetEffect, sheeted, turnedBack, tableTurned, stacksFor, stackRun, AfterRun, WhenEven}
 use Rattle.theory_base.specs.Members.{true→T}
 use Rattle.theory_answers.specs.ShapeMemory.{result-ranged}
 use Rattle.theory_program.specs.Addresses.{Begins}
-use Rattle.theory_program.specs.Code.{operation, low-operation}
+use Rattle.theory_program.specs.Code.{operation}
 use Rattle.theory_program.specs.Records.{segment-words}
 use Rattle.theory_sheet.specs.Overlay.{overlay, overlay-all}
 use Rattle.theory_sheet.specs.Whole.{runFrom}
@@ -39,7 +39,7 @@ use Rattle.registers.specs.Stack.{stack}
 use Rattle.registers.specs.Laid.{laid-stack}
 use Rattle.fit.specs.Shown.{Readable}
 use Rattle.moves.specs.Held.{Held, AtHand, some, nothing, at-hand, bounds}
-use Rattle.sheet_walk.specs.Standing.{tokensAs, leafHere, none-left, one-left}
+use Rattle.sheet_moves.specs.Standing.{tokensAs, leafHere, none-left, one-left}
 use Rattle.sheet_walk.specs.declared.Walked.the-variants as Walked
 use Rattle.sheet_walk.specs.Cycle.{Listed, ListAt, ListDone}
 use Rattle.sheet.specs.declared.Answer as Answer

@@ -85,7 +85,7 @@ fn segment(
             tokens: 0,
         };
     }
-    let opened = engine::lent::open_cells(registers, places, program);
+    let opened = opening::open_cells(registers, places, program);
     let run = Run {
         tokens: 0,
         moves: 0,
@@ -127,8 +127,8 @@ fn walk(
 {
     let mut cells = [0i64; 4096];
     let mut waiting = [0u32; 1024];
-    let n = engine::lent::smaller(registers, REGISTERS);
-    let k = engine::lent::smaller(places, PLACES);
+    let n = cells::smaller(registers, REGISTERS);
+    let k = cells::smaller(places, PLACES);
     segment(
         &mut cells[..n],
         &mut waiting[..k],

@@ -5,37 +5,37 @@ use mathlib.Core.Path.{_≡_, refl, sym, ap, ap₂, _∙_, subst}
 use mathlib.Core.Bool.{Bool, true, false, _||_}
 use borrow.Author.Tests.{eqb-false}
 use mathlib.Core.List.{List, [], _∷_, _++_, append-nil}
-use lib.ListN.{length, getD, take, drop, length-append, length-map, length-take, length-drop}
+use lib.ListN.{length, getD, drop, length-append, length-map, length-take, length-drop}
 use lib.Dec.{T, eqb}
 use lib.IntN.{ℤ}
 use Rattle.meaning.specs.Base.{all}
-use Rattle.meaning.specs.Grammar.{Grammar, Leaf, Symbol, terminal, nonterminal, inh, att, productionAt, whole}
+use Rattle.meaning.specs.Grammar.{Grammar, Leaf, Symbol, inh, att, productionAt}
 use Rattle.meaning.specs.Rules.{fourBytes}
-use Rattle.meaning.specs.Scheme.{Instruction, expect}
-use Rattle.meaning.specs.Machine.{Frame, Config, Lent, lookAt, placeOf, failed, movesLimit}
+use Rattle.meaning.specs.Scheme.{Instruction}
+use Rattle.meaning.specs.Machine.{Frame, Config, Lent, lookAt, placeOf}
 use Rattle.meaning.specs.Tree.{Tree, Forest, leaf, node, noTrees, treeAnd, yield, yields, width}
-use Rattle.meaning.specs.Part.{Open, Ancestor, forestOnto, yieldBelow, yieldsOf, frame}
+use Rattle.meaning.specs.Part.{Open, Ancestor, yieldBelow, yieldsOf, frame}
 use Rattle.meaning.specs.Walk.{topProduction}
 use Rattle.meaning_sheet.specs.Sheet.{recordBytes, sheet, sheets}
 use Rattle.theory_base.specs.WellFormed.{well-formed-at}
 use Rattle.theory_base.specs.Feeds.{leaves-of}
 use Rattle.theory_answers.specs.Bounds.{counts}
 use Rattle.theory_program.specs.Proper.{att-most}
-use Rattle.theory_program.specs.Code.{operation, low-operation}
+use Rattle.theory_program.specs.Code.{low-operation}
 use Rattle.theory_sound.specs.Moves.{nodeOf, withChild, waitingAt}
 use Rattle.theory_sheet.specs.Overlay.{overlay, overlay-none, overlay-append, overlay-behind, record-length}
 use Rattle.theory_sheet.specs.Standing.{Stand, withChildren, onto-forest, stand-tokens, stand-frames}
 use Rattle.theory_sheet.specs.Walking.{rest, comingTo, ownValues, read-on, predict-on, symbol-left, own-stand}
 use Rattle.moves.specs.declared.Run.{Run}
 use Rattle.moves.specs.Held.{Held, AtHand, some, nothing, at-hand, hand-terminal, hand-nonterminal, hand-remove, bounds}
-use Rattle.machine.specs.declared.Ended as Ended
 use Rattle.machine.specs.declared.Ended.the-variants as E
-use Rattle.sheet_walk.specs.declared.Counts.{Counts}
+use Rattle.sheet_record.specs.declared.Counts.{Counts}
 use Rattle.sheet_walk.specs.declared.Walked as Walked
 use Rattle.sheet_walk.specs.declared.Walked.the-variants.{Left, Failed}
-use Rattle.sheet_walk.specs.Standing.{tokensAs, isInside, isLook, Walking, Reached, Refused, refused-from, Settles, Onward, Steps, at-look}
-use Rattle.sheet_walk.specs.Counting.{leftOf, Counted}
-use Rattle.sheet_walk.specs.Leaving.{LeftAs, Leaves, Inner}
+use Rattle.sheet_moves.specs.Standing.{tokensAs, isInside, isLook, Walking, Reached, Refused, refused-from, Settles, Steps, at-look}
+use Rattle.sheet_record.specs.Counting.{leftOf, Counted}
+use Rattle.sheet_walk.specs.Leaving.{LeftAs, Leaves}
+use Rattle.sheet_record.specs.Recording.{Inner}
 
 -- a child is passed: a node is left, or a token is read. `end` is where its records end
 pub record Noded (g : Grammar) (ws : List ℕ) (lent : Lent) (tokens : List Leaf) (c : Config) (o : Open) (bs : List Ancestor) (k : ℕ) (sheet₀ : List ℕ) (m : List ℤ) (ps sheet₁ : List ℕ) (run : Run) (end : ℕ) : Type 0 where

@@ -1,97 +1,29 @@
 -- A node is left: its record is written, and it becomes its parent's child.
-use Prim.Native.Nat.{ℕ, suc, _+_, _-_, _*_, _/_, _%_, _≤_, _<_}
-use native.Mathlib.Omega.{arith}
-use mathlib.Core.Path.{_≡_, refl, sym, ap, _∙_, subst}
-use mathlib.Core.List.{List, _∷_, map}
-use lib.ListN.{length, getD, take, drop}
+use Prim.Native.Nat.{ℕ, suc, _/_, _%_}
+use mathlib.Core.Path.{_≡_, refl}
+use mathlib.Core.List.{List, _∷_}
+use lib.ListN.{getD}
 use lib.Dec.{T}
 use lib.IntN.{ℤ}
 use Rattle.meaning.specs.Base.{all}
-use Rattle.meaning.specs.Grammar.{Grammar, Leaf, inh, att}
-use Rattle.meaning.specs.Scheme.{Instruction, remove}
-use Rattle.meaning.specs.Machine.{Config, Lent, ends, placeOf, expects, pendingTest}
+use Rattle.meaning.specs.Grammar.{Grammar, Leaf}
+use Rattle.meaning.specs.Machine.{Config, Lent, ends}
 use Rattle.meaning.specs.Tree.{isLeafOf}
-use Rattle.meaning.specs.Part.{Open, Ancestor, frame, drawRest}
-use Rattle.meaning.specs.Layout.{fourBytes}
-use Rattle.meaning_sheet.specs.Sheet.{valueBytes, recordBytes}
+use Rattle.meaning.specs.Part.{Open, Ancestor}
 use Rattle.theory_base.specs.Values.{treeOf}
-use Rattle.theory_base.specs.WellFormed.{well-formed-at}
 use Rattle.theory_answers.specs.Bounds.{counts}
-use Rattle.theory_program.specs.Proper.{att-most}
 use Rattle.theory_sound.specs.Moves.{withChild}
-use Rattle.theory_sheet.specs.Overlay.{overlay, record-laid}
+use Rattle.theory_sheet.specs.Overlay.{overlay}
 use Rattle.theory_sheet.specs.Standing.{Stand}
-use Rattle.theory_sheet.specs.Walking.{rest, ownValues, remove-on, remove-stuck, own-stand}
-use Rattle.registers.specs.Stack.{stack}
-use Rattle.registers.specs.Laid.{laid-stack}
+use Rattle.theory_sheet.specs.Walking.{rest, ownValues, remove-on, remove-stuck}
 use Rattle.moves.specs.declared.Run.{Run}
-use Rattle.moves.specs.Laid.{laid-read}
-use Rattle.moves.specs.Held.{Held, hand-remove, bounds}
+use Rattle.moves.specs.Held.{Held, hand-remove}
 use Rattle.machine.specs.declared.Ended.the-variants.{Stopped, Failed}
 use Rattle.sheet_walk.specs.declared.Walked as Walked
 use Rattle.sheet_walk.specs.declared.Walked.the-variants as W
-use Rattle.sheet_walk.specs.Trying.{Tries}
-use Rattle.sheet_walk.specs.Standing.{Refused}
-use Rattle.sheet_walk.specs.Counting.{Nested, leftOf}
-
--- some configuration is held that shows a node in progress on another
-pub record Inner (ws : List ℕ) (m : List ℤ) (ps : List ℕ) (run : Run) : Type 0 where
-  pub grammar : Grammar
-  pub lent : Lent
-  pub tokens : List Leaf
-  pub known : T (all (isLeafOf grammar) tokens)
-  pub config : Config
-  pub node : Open
-  pub parent : Ancestor
-  pub below : List Ancestor
-  pub held : Held grammar ws lent m ps run config
-  pub stand : Stand grammar tokens node (parent ∷ below) config
-
-pub nested : {ws : List ℕ} {m : List ℤ} {ps : List ℕ} {run : Run} → Inner ws m ps run → Nested ws ps run
-nested {m = m} i = record { grammar = i .grammar; lent = i .lent; tokens = i .tokens; registers = m; config = i .config; node = i .node; parent = i .parent; below = i .below; held = i .held; stand = i .stand }
-
--- ---- the record
-
--- of the node whose remove is at hand
-abbrev pub recordHere : Grammar → List ℕ → Run → ℕ → Open → Config → List ℕ
-recordHere g ws run before o c = recordBytes (o .production) before (c .tokens - before) (ownValues g (o .production) (getD ws (run .at) 0 / 8) (c .registers))
-
-abbrev pub Records : List ℕ → List ℤ → List ℕ → Run → ℕ → ℕ → List ℕ → List ℕ → Type 0
-Records ws m ps run k before sheet₀ sheet = (g : Grammar) (lent : Lent) (tokens : List Leaf) (c : Config) (o : Open) (b : Ancestor) (bs : List Ancestor) → Held g ws lent m ps run c → Stand g tokens o (b ∷ bs) c → sheet ≡ overlay k (recordHere g ws run before o c) sheet₀
-
-module _ {g : Grammar} {ws : List ℕ} {lent : Lent} {tokens : List Leaf} {m : List ℤ} {ps : List ℕ} {run : Run} {c : Config} {o : Open} {b : Ancestor} {bs : List Ancestor} (h : Held g ws lent m ps run c) (s : Stand g tokens o (b ∷ bs) c) where
-  -- the production, by its place
-  pub production-here : getD ps (run .places - 1) 0 / 256 ≡ o .production
-  production-here =
-      let f = well-formed-at g (h .wellFormed) (o .production) (s .good .stands .0) in
-      let e : getD ps (run .places - 1) 0 ≡ placeOf g (frame (o .production) (drawRest g o (s .point))) = laid-read (h .places) 1 (omega arith) (bounds h .somePlace) ∙ ap (λ fs. getD (map (placeOf g) fs) 0 0) (sym (s .frames)) in
-      omega (arith, e, f .short)
-
-  module _ (five : getD ws (run .at) 0 % 8 ≡ 5) where
-    pub values-there : (inh g (leftOf g o) ≤ getD ws (run .at) 0 / 8) × (getD ws (run .at) 0 / 8 - inh g (leftOf g o) + att g (leftOf g o) ≤ run .registers)
-    values-there =
-        let x = hand-remove h five in
-        let y = own-stand g (h .wellFormed) (x .production) (x .rest) (x .below) c s (getD ws (run .at) 0 / 8) (x .frames) in
-        (y .0, omega (arith, y .1, h .registers .height))
-
-    pub few-values : att g (leftOf g o) ≤ 8
-    few-values = att-most g (h .wellFormed) (leftOf g o)
-
-    -- the bytes that the code writes
-    pub record-here : (k before q i n : ℕ) (sheet₀ a₁ a₂ a₃ a₄ : List ℕ) → q ≡ getD ps (run .places - 1) 0 / 256 → i ≡ inh g (leftOf g o) → n ≡ att g (leftOf g o)
-        → a₁ ≡ overlay k (fourBytes q) sheet₀ → a₂ ≡ overlay (k + 4) (fourBytes before) a₁ → a₃ ≡ overlay (k + 8) (fourBytes (run .tokens - before)) a₂
-        → a₄ ≡ overlay (k + 12) (valueBytes (take n (drop (getD ws (run .at) 0 / 8 - i) (stack (run .registers) m)))) a₃
-        → a₄ ≡ overlay k (recordHere g ws run before o c) sheet₀
-    record-here k before q i n sheet₀ a₁ a₂ a₃ a₄ x y z e₁ e₂ e₃ e₄ =
-        let r : stack (run .registers) m ≡ c .registers = laid-stack (h .registers) in
-        let vs : take n (drop (getD ws (run .at) 0 / 8 - i) (stack (run .registers) m)) ≡ ownValues g (o .production) (getD ws (run .at) 0 / 8) (c .registers) = rw (y, z, r) refl in
-        record-laid k (o .production) before (c .tokens - before) (ownValues g (o .production) (getD ws (run .at) 0 / 8) (c .registers)) sheet₀ a₁ a₂ a₃ a₄
-        (e₁ ∙ ap (λ p. overlay k (fourBytes p) sheet₀) (x ∙ production-here))
-        e₂
-        (e₃ ∙ ap (λ t. overlay (k + 8) (fourBytes (t - before)) a₂) (h .tokens))
-        (e₄ ∙ ap (λ l. overlay (k + 12) (valueBytes l) a₃) vs)
-
--- ---- the remove
+use Rattle.sheet_record.specs.Recording.{recordHere, Records}
+use Rattle.sheet_moves.specs.Trying.{Tries}
+use Rattle.sheet_moves.specs.Standing.{Refused}
 
 pub record Departed (g : Grammar) (ws : List ℕ) (lent : Lent) (tokens : List Leaf) (c : Config) (o : Open) (b : Ancestor) (bs : List Ancestor) (m : List ℤ) (ps : List ℕ) (run₀ run : Run) : Type 0 where
   pub to : Config

@@ -1,5 +1,2 @@
-pub mod Trying
-pub mod Standing
-pub mod Counting
 pub mod Leaving
 pub mod Cycle

@@ -13,7 +13,7 @@ use borrow.Author.Tests.{ltb-true, ltb-false, le-ltb}
 use Rattle.meaning.specs.Sets.{has}
 use Rattle.token_set.specs.Words.{setOf}
 use Rattle.meaning.specs.Grammar.{Counts, noCounts, attributeIf, Symbol, terminal, nonterminal, countsIn}
-use Rattle.meaning.specs.Table.{byte, Header, Entry, production, readField, kindOf, judgeField, symbolOf}
+use Rattle.meaning.specs.Table.{byte, Header, Entry, readField, kindOf, judgeField, symbolOf}
 use Rattle.fields.specs.Demand.{ifBelow}
 use Rattle.fields.specs.Field.{Whole, Short, rest, bodyAt}
 use Rattle.fields.specs.Judge.{productionFault, symbolKnown}
@@ -25,11 +25,14 @@ use Rattle.fields.proofs.Fine.{ProductionFine, production-fine}
 use Rattle.fields.proofs.Walks.{all-each}
 use Rattle.rules.specs.Rule.{Small}
 use Rattle.rules.specs.Note.{symbolIn}
-use Rattle.table.specs.declared.Uses.{Uses}
-use Rattle.table.specs.Outline.{SmallCounts, Numbered, Carries, countOf, synthesizedOf, symbolByte, countsUpTo, Written}
-use Rattle.table.specs.Progress.{settingOf, Around, UsesRead, Next}
+use Rattle.table_uses.specs.declared.Uses.{Uses}
+use Rattle.table_counts.specs.Counted.{SmallCounts, countsUpTo}
+use Rattle.table.specs.Outline.{Numbered}
+use Rattle.table_carriers.specs.Named.{Carries, countOf, synthesizedOf}
+use Rattle.table_rows.specs.Rows.{symbolByte, Written}
+use Rattle.table_uses.specs.Progress.{settingOf, Around, UsesRead, Next}
 use Rattle.table.specs.Productions.{widthIn, bodyIn, leftIn, rightIn, ProductionKnown, ProductionJudged, SmallBody, CountsAgree, BodyRead}
-use Rattle.table.proofs.Counting.{length-counts}
+use Rattle.table_counts.proofs.Counting.{length-counts}
 use Rattle.fields.proofs.Cases.{lt-or-le, nonzero}
 
 none-of : (es : List Entry) → length es ≡ 0 → es ≡ []

@@ -13,16 +13,19 @@ use Rattle.fields.specs.Reads.{stateOf, entryOf}
 use Rattle.fields.proofs.Rest.{rest-end, judged-fine, judged-refused, body-byte}
 use Rattle.fields.proofs.Judged.{stage-later}
 use Rattle.table.specs.declared.Sizes.{Sizes}
-use Rattle.table.specs.declared.Uses.{Uses}
+use Rattle.table_uses.specs.declared.Uses.{Uses}
 use Rattle.table.specs.declared.Reading.{Reading}
 use Rattle.table.specs.declared.Reading.the-variants.{WellFormed, Malformed}
-use Rattle.table.specs.Outline.{headerIn, countsUpTo, offsetsUpTo, named, Carries, Copied, RowOf, Laid}
-use Rattle.table.specs.Progress.{Next, Over, NoCarrier}
+use Rattle.table_counts.specs.Counted.{headerIn, countsUpTo, offsetsUpTo}
+use Rattle.table.specs.Outline.{named, RowOf, Laid}
+use Rattle.table_carriers.specs.Named.{Carries, NoCarrier}
+use Rattle.table_rows.specs.Rows.{Copied}
+use Rattle.table_uses.specs.Progress.{Next, Over}
 use Rattle.table.specs.Productions.{widthIn, bodyIn, leftIn, rightIn, ProductionKnown, ProductionJudged, BodyRead, ProductionRead, Ready}
 use Rattle.table.specs.Answer.{Answers, AnswersFrom, numberOf, offsetOf}
-use Rattle.table.proofs.Steps.{endBy}
-use Rattle.table.proofs.Counting.{length-counts}
-use Rattle.table.proofs.Walking.{stage-any}
+use Rattle.table_counts.proofs.Steps.{endBy}
+use Rattle.table_counts.proofs.Counting.{length-counts}
+use Rattle.table_uses.proofs.Walking.{stage-any}
 use Rattle.table.proofs.Producing.{counts-agree, right-symbol, left-byte, long-in, numbered}
 
 -- ---- rows that stay

@@ -8,14 +8,15 @@ use Rattle.meaning.specs.Table.{malformed, readTable}
 use Rattle.fields.specs.Field.{rest, judged}
 use Rattle.fields.proofs.Rest.{rest-table, judged-fine, judged-refused}
 use Rattle.table.specs.declared.Sizes.{Sizes}
-use Rattle.table.specs.declared.Carried.{Carried}
-use Rattle.table.specs.declared.Refusal.{Refusal}
+use Rattle.table_carriers.specs.declared.Carried.{Carried}
+use Rattle.table_counts.specs.declared.Refusal.{Refusal}
 use Rattle.table.specs.declared.Reading.{Reading}
-use Rattle.table.specs.Outline.{headerIn, countsUpTo, offsetsUpTo, counted, named}
-use Rattle.table.specs.Progress.{HeaderJudged, CountsRead, CarriersRead}
+use Rattle.table_counts.specs.Counted.{headerIn, countsUpTo, offsetsUpTo, counted, HeaderJudged, CountsRead}
+use Rattle.table.specs.Outline.{named}
+use Rattle.table_carriers.specs.Named.{CarriersRead}
 use Rattle.table.specs.Productions.{Ready, Begun}
 use Rattle.table.specs.Answer.{Answers, AnswersFrom}
-use Rattle.table.proofs.Counting.{length-counts}
+use Rattle.table_counts.proofs.Counting.{length-counts}
 
 module _ (t : List ℕ) (short : length t ≤ 32768) (number : ℕ) (h : HeaderJudged t number) where
   pub header-answer : (number ≡ 0 → ⊥) → readTable t ≡ malformed number 0

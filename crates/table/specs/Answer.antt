@@ -7,7 +7,8 @@ use Rattle.fields.specs.Field.{rest}
 use Rattle.table.specs.declared.Sizes.{Sizes}
 use Rattle.table.specs.declared.Reading.{Reading}
 use Rattle.table.specs.declared.Reading.the-variants.{WellFormed, Malformed}
-use Rattle.table.specs.Outline.{named, Carries, Outline}
+use Rattle.table.specs.Outline.{named, Outline}
+use Rattle.table_carriers.specs.Named.{Carries}
 
 -- 01's number for each answer, 0 for a table that is well formed
 abbrev pub numberOf : Reading → ℕ

@@ -14,7 +14,7 @@ use Rattle.meaning.specs.Sets.{has}
 use Rattle.theory_sets.specs.Tests.{tabled, length-countFrom}
 use Rattle.token_set.specs.Words.{bit, setOf, setOf-wide}
 use Rattle.fields.specs.Demand.{ifBelow}
-use Rattle.table.specs.Outline.{synthesizedOf, Carries}
+use Rattle.table_carriers.specs.Named.{synthesizedOf, Carries}
 
 module _ (word : ℕ) (g : Grammar) (c : Carries word (g .carrying)) where
   -- a terminal's one attribute

@@ -1,5 +1,4 @@
 pub mod Outline
-pub mod Progress
 pub mod Productions
 pub mod Answer
 pub mod Gathered

@@ -11,9 +11,12 @@ use Rattle.fields.specs.Judge.{symbolKnown}
 use Rattle.fields.specs.Reads.{stateOf, entryOf}
 use Rattle.rules.specs.Note.{symbolIn}
 use Rattle.table.specs.declared.Sizes.{Sizes}
-use Rattle.table.specs.declared.Uses.{Uses}
-use Rattle.table.specs.Outline.{SmallCounts, countOf, synthesizedOf, Carries, symbolByte, countsUpTo, Laid}
-use Rattle.table.specs.Progress.{Next, NoCarrier}
+use Rattle.table_uses.specs.declared.Uses.{Uses}
+use Rattle.table_counts.specs.Counted.{SmallCounts, countsUpTo}
+use Rattle.table_carriers.specs.Named.{countOf, synthesizedOf, Carries, NoCarrier}
+use Rattle.table_rows.specs.Rows.{symbolByte}
+use Rattle.table.specs.Outline.{Laid}
+use Rattle.table_uses.specs.Progress.{Next}
 
 -- the length of the right side, the body, the left and the right side of the production at an offset
 abbrev pub widthIn : List ℕ → ℕ → ℕ

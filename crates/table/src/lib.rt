@@ -1,14 +1,14 @@
 // The reader of a table: refusals 1 to 10, or an outline of what was read.
 ghost use mathlib.Core.Path.{_≡_};
+ghost use Prim.Native.Nat.{_+_, _*_};
 ghost use lib.ListN.{length};
 ghost use Rattle.meaning.specs.Table.{readTable};
+ghost use Rattle.fields.specs.Field.{rest};
+ghost use Rattle.table_counts.specs.Counted.{counted};
+ghost use Rattle.table.specs.Productions.{Ready};
 ghost use Rattle.table.specs.Answer.{Answers};
 
-pub mod carriers;
-pub mod counts;
-pub mod header;
 pub mod production;
-pub mod walk;
 
 // The numbers of a table that is well formed.
 pub struct Sizes {
@@ -26,25 +26,36 @@ pub enum Reading {
     Malformed { number: u8, offset: u32 },
 }
 
-// The end of a production's rules and conditions (number 0), or the field that is refused.
-pub struct Uses {
-    pub number: u8,
-    pub at: usize,
-    pub rules: usize,
-    pub conditions: usize,
-}
-
-// The end of the tag 6 fields (number 0) and the set of the terminals that they name, or the field that is refused.
-pub struct Carried {
-    pub number: u8,
-    pub at: usize,
-    pub carrying: u64,
-}
-
-// A refusal by its number and offset; 0 for none.
-pub struct Refusal {
-    pub number: u8,
-    pub offset: usize,
+// The tag 6 fields and the productions, from the last tag 2 field on.
+fn read_after_counts(
+    table: &[u8],
+    sizes: Sizes,
+    inherited: &[u8; 48],
+    synthesized: &[u8; 48],
+    rows: &mut [u8; 2048],
+    offsets: &mut [u32; 128],
+) -> Reading
+    requires { ⌜ Ready (now table) sizes (now inherited) (now synthesized) × (length (now rows) ≡ 2048) × (length (now offsets) ≡ 128) ⌝ }
+    ensures { λ r. ⌜ Answers r (now (inherited .entry)) (now (synthesized .entry)) (now (rows .exit)) (now (offsets .exit)) (rest (now (table .entry)) (counted (now (table .entry)) (now (inherited .entry)) (now (synthesized .entry)) (sizes .nonterminals)) (7 + 5 * sizes .nonterminals)) ⌝ }
+{
+    let from = 7 + 5 * sizes.nonterminals;
+    let c = table_carriers::read_carriers(table, from, sizes.terminals);
+    if c.number != 0 {
+        let offset = c.at as u32;
+        return Reading::Malformed {
+            number: c.number,
+            offset,
+        };
+    }
+    let known = Sizes {
+        terminals: sizes.terminals,
+        nonterminals: sizes.nonterminals,
+        start: sizes.start,
+        result: sizes.result,
+        productions: 0,
+        carrying: c.carrying,
+    };
+    production::read_productions(table, c.at, known, inherited, synthesized, rows, offsets)
 }
 
 // Reads a table. The lent arrays hold the outline of a table that is well formed: the counts of each nonterminal, a row of
@@ -66,7 +77,7 @@ pub fn read_table(
             offset: 0,
         };
     }
-    let number = header::header_number(table);
+    let number = table_counts::header_number(table);
     if number != 0 {
         return Reading::Malformed { number, offset: 0 };
     }
@@ -74,7 +85,14 @@ pub fn read_table(
     let nonterminals = fields::wide(table[4]);
     let start = fields::wide(table[5]);
     let result = fields::wide(table[6]);
-    let counted = counts::read_counts(table, nonterminals, start, result, inherited, synthesized);
+    let counted = table_counts::read_counts(
+        table,
+        nonterminals,
+        start,
+        result,
+        inherited,
+        synthesized,
+    );
     if counted.number != 0 {
         let offset = counted.offset as u32;
         return Reading::Malformed {
@@ -90,5 +108,5 @@ pub fn read_table(
         productions: 0,
         carrying: 0,
     };
-    carriers::read_after_counts(table, sizes, inherited, synthesized, rows, offsets)
+    read_after_counts(table, sizes, inherited, synthesized, rows, offsets)
 }

@@ -1,82 +1,15 @@
-// The tag 3 fields: rows and counts of their symbols.
+// The tag 3 fields, each with its rules and conditions.
 ghost use mathlib.Core.Path.{_≡_};
 ghost use Prim.Native.Nat.{_+_, _<_, _≤_};
 ghost use lib.ListN.{length};
 ghost use Rattle.meaning.specs.Table.{byte};
-ghost use Rattle.table.specs.Outline.{countOf, synthesizedOf, Written, Copied, SmallCounts};
-ghost use Rattle.table.specs.Progress.{Next};
+ghost use Rattle.table_counts.specs.Counted.{SmallCounts};
+ghost use Rattle.table_uses.specs.Progress.{Next};
 ghost use Rattle.table.specs.Productions.{widthIn, ProductionJudged, SmallBody, BodyRead, ProductionRead, Begun};
 ghost use Rattle.table.specs.Answer.{AnswersFrom};
 use crate::Reading;
 use crate::Sizes;
-use crate::Uses;
-use token_set::TokenSet;
-
-// A symbol's count by its byte, 0 for a terminal.
-pub fn count_of(counts: &[u8; 48], symbol: usize) -> u8
-    requires { ⌜ length (now counts) ≡ 48 ⌝ }
-    ensures { λ r. ⌜ r ≡ countOf (now (counts .entry)) symbol ⌝ }
-{
-    if symbol < 128 {
-        return 0;
-    }
-    let n = symbol - 128;
-    if 48 <= n {
-        return 0;
-    }
-    counts[n]
-}
-
-// A symbol's synthesized count by its byte: 1 for a terminal that carries a value, 0 for another.
-pub fn synthesized_of(carrying: u64, counts: &[u8; 48], symbol: usize) -> u8
-    requires { ⌜ length (now counts) ≡ 48 ⌝ }
-    ensures { λ r. ⌜ r ≡ synthesizedOf carrying (now (counts .entry)) symbol ⌝ }
-{
-    if 128 <= symbol {
-        return count_of(counts, symbol);
-    }
-    if TokenSet(carrying).has(symbol as u8) {
-        return 1;
-    }
-    0
-}
-
-// The counts at the positions of a production, by its body.
-pub fn place_counts(
-    body: &[u8],
-    carrying: u64,
-    inherited: &[u8; 48],
-    synthesized: &[u8; 48],
-    inh: &mut [u8; 13],
-    syn: &mut [u8; 13],
-)
-    requires { ⌜ (2 ≤ length (now body)) × (length (now body) ≤ 14) × (length (now inherited) ≡ 48) × (length (now synthesized) ≡ 48) × (length (now inh) ≡ 13) × (length (now syn) ≡ 13) ⌝ }
-    ensures inherits { λ r. ⌜ Written (countOf (now (inherited .entry))) (now (body .entry)) (now (inh .exit)) ⌝ }
-    ensures synthesizes { λ r. ⌜ Written (synthesizedOf carrying (now (synthesized .entry))) (now (body .entry)) (now (syn .exit)) ⌝ }
-{
-    let left = 128 + fields::wide(body[0]);
-    inh[0] = count_of(inherited, left);
-    syn[0] = synthesized_of(carrying, synthesized, left);
-    let mut k: usize = 1;
-    while k + 1 < body.len() {
-        let symbol = fields::wide(body[k + 1]);
-        inh[k] = count_of(inherited, symbol);
-        syn[k] = synthesized_of(carrying, synthesized, symbol);
-        k += 1;
-    }
-}
-
-// The row of production p, its body as it stands in the table.
-pub fn copy_row(rows: &mut [u8; 2048], p: usize, body: &[u8])
-    requires { ⌜ (p < 128) × (length (now body) ≤ 14) × (length (now rows) ≡ 2048) ⌝ }
-    ensures { λ r. ⌜ Copied (now (rows .entry)) p (now (body .entry)) (now (rows .exit)) (length (now (body .entry))) ⌝ }
-{
-    let mut k: usize = 0;
-    while k < body.len() {
-        rows[16 * p + k] = body[k];
-        k += 1;
-    }
-}
+use table_uses::Uses;
 
 // The number of the refusal of the field of production p, or 0.
 pub fn production_number(
@@ -121,7 +54,7 @@ pub fn read_body(
     let end = at + 5 + width;
     let mut inh = [0u8; 13];
     let mut syn = [0u8; 13];
-    place_counts(
+    table_rows::place_counts(
         &table[from..end],
         carrying,
         inherited,
@@ -129,7 +62,7 @@ pub fn read_body(
         &mut inh,
         &mut syn,
     );
-    crate::walk::read_uses(table, end, at, width, &inh, &syn, rules, conditions)
+    table_uses::read_uses(table, end, at, width, &inh, &syn, rules, conditions)
 }
 
 // Production p, with its row, its offset, its rules and conditions.
@@ -159,7 +92,7 @@ pub fn read_production(
     }
     let from = at + 3;
     let end = at + 5 + fields::wide(table[at + 4]);
-    copy_row(rows, p, &table[from..end]);
+    table_rows::copy_row(rows, p, &table[from..end]);
     offsets[p] = at as u32;
     read_body(
         table,

@@ -15,7 +15,7 @@ use lib.Signed.{leZ, _≤ℤ_, ≤ℤ-refl}
 use Rattle.meaning.specs.Base.{In, all, countFrom}
 use Rattle.meaning.specs.Grammar.{Condition, range, atmost}
 use Rattle.meaning.specs.Value.{added, holds}
-use Rattle.meaning.specs.Differences.{bound, at, put, lesser, lowered, constrained, matrixOf, closing, closed, noneNegative, solvable}
+use Rattle.meaning.specs.Differences.{bound, at, put, lesser, lowered, constrained, matrixOf, closed, noneNegative, solvable}
 use Rattle.theory_base.specs.Members.{in-from, from-in, all-in, in-all}
 use Rattle.theory_differences.specs.Order.{lesser-first, lesser-second, lesser-keeps, ≤-is, ≤-trans}
 use Rattle.meaning.specs.CompareStatements.{valueIn, Satisfiable, Edge, highestEdge, lowestEdge, highEdge, lowEdge, atmostEdge, Walk, step, join, NegativeCycle}

@@ -1,5 +1,5 @@
 -- The graph of the differences: node 0 stands for zero, node a for the attribute a. An edge from i to j with the length w says that i's value is at most j's plus w.
-use Prim.Native.Nat.{ℕ, zero, suc, _-_, _≤_, _<_}
+use Prim.Native.Nat.{ℕ, zero, suc, _≤_, _<_}
 use native.Mathlib.Omega.{arith}
 use mathlib.Core.Path.{_≡_, refl, sym, ap, _∙_}
 use mathlib.Core.Bool.{Bool, true, false, _&&_, not}
@@ -7,15 +7,15 @@ use mathlib.Core.Option.{Option}
 use mathlib.Core.List.{List, [], _∷_}
 use borrow.Author.Tests.{lt-ltb, le-ltb}
 use lib.Dec.{T, ltb, ltb→lt, nltb→le}
-use lib.IntN.{ℤ, pos, negℤ, _+ℤ_, +ℤ-idl, +ℤ-idr}
+use lib.IntN.{ℤ, pos, _+ℤ_, +ℤ-idl, +ℤ-idr}
 use lib.ListN.{getD, length, List·getD-eq-default}
-use lib.Signed.{leZ, _≤ℤ_, _<ℤ_, ≤ℤ-refl, clashℤ}
+use lib.Signed.{leZ, _≤ℤ_, ≤ℤ-refl, clashℤ}
 use Rattle.meaning.specs.Base.{all, In}
 use Rattle.meaning.specs.Grammar.{Condition, range, atmost}
 use Rattle.meaning.specs.Value.{inRange, lowest, highest, pick, added, holds}
 use Rattle.meaning.specs.Differences.{bound}
 use Rattle.meaning.specs.CompareStatements.{valueIn, Satisfiable, Edge, highestEdge, lowestEdge, highEdge, lowEdge, atmostEdge, Walk, step, join, NegativeCycle}
-use Rattle.theory_base.specs.Members.{and, both, all-in}
+use Rattle.theory_base.specs.Members.{both, all-in}
 use Rattle.theory_differences.specs.Order.{≤-is, ≤-trans, through, cycle-not-negative, from-below}
 
 -- the attributes of a condition have nodes

@@ -2,10 +2,10 @@
 use Prim.Native.Nat.{ℕ, zero, suc, _≤_, _<_, min}
 use native.Mathlib.Omega.{arith}
 use native.Mathlib.Decide.{decLt}
-use mathlib.Core.Path.{_≡_, refl, sym, ap, ap₂, _∙_, subst}
+use mathlib.Core.Path.{_≡_, refl, sym, ap, _∙_, subst}
 use mathlib.Core.Logic.{_⊎_, inl, inr}
-use mathlib.Core.Bool.{Bool, true, false, _&&_}
-use mathlib.Core.List.{List, [], _∷_, _++_, map}
+use mathlib.Core.Bool.{Bool}
+use mathlib.Core.List.{List, [], _∷_, map}
 use lib.ListN.{length, take, drop, length-take, length-drop}
 use lib.Dec.{T}
 use lib.IntN.{ℤ}
@@ -13,8 +13,8 @@ use Rattle.meaning.specs.Base.{all}
 use Rattle.meaning.specs.Grammar.{Grammar, Leaf, leaves}
 use Rattle.meaning.specs.Rules.{fourBytes, WellFormed}
 use Rattle.meaning.specs.Machine.{Config, Settled, stopped, failed, comes, ends, opening, feedAll, finishAll}
-use Rattle.meaning.specs.Calls.{Stacks, Called, Answer, lentOf, layAll, tokensFrom, afterFeed, afterFinish}
-use Rattle.meaning_ranking.specs.RankCall.{evaluated, entryOf, Evaluation, andThen, evaluations}
+use Rattle.meaning.specs.Calls.{Stacks, Answer, lentOf, layAll, tokensFrom, afterFinish}
+use Rattle.meaning_ranking.specs.RankCall.{evaluated, Evaluation, andThen, evaluations}
 use Rattle.meaning_ranking.specs.RankingStatements.{Candidate, candidatesOf, numbered, lastLeft, isRefusal, candidateAnswer}
 use Rattle.theory_base.specs.Members.{both, and}
 use Rattle.theory_base.specs.Feeds.{leaves-of}

@@ -1,8 +1,8 @@
 -- The statements of 02 (b), proved.
-use Prim.Native.Nat.{ℕ, zero, suc, _+_, _*_, _≤_, _<_}
+use Prim.Native.Nat.{ℕ, suc, _+_, _*_}
 use native.Mathlib.Omega.{arith}
 use mathlib.Core.Path.{_≡_, refl, sym, ap, ap₂, _∙_, subst}
-use mathlib.Core.Logic.{_↔_, inl, inr}
+use mathlib.Core.Logic.{_↔_, inl}
 use mathlib.Core.Bool.{Bool, true, false, cond}
 use mathlib.Core.List.{List, [], _∷_, _++_, map}
 use lib.ListN.{length, take, drop, length-map}
@@ -17,12 +17,12 @@ use Rattle.meaning.specs.Calls as Calls
 use Rattle.meaning.specs.Calls.{Stacks, Answer}
 use Rattle.meaning.specs.PublicCalls.{Checked, usable, unusable, check, areaLength, written}
 use Rattle.meaning_ranking.specs.Ranking.{Entry, entry, number, value, valued, Ranks, ranking, cellsOf, worth, totalOf, valuedOf}
-use Rattle.meaning_ranking.specs.RankCall.{evaluated, entryOf, evaluations, RankAnswer, ranked, unranked, RankEffect, inOrder, listed, rankEven, rankUnder, rankLong, rankSuited, rankOf}
-use Rattle.meaning_ranking.specs.RankingStatements.{Candidate, candidatesOf, entriesFor, Brought, RankedAs, RankedExactly, RankedInFront, numbered, RankedAlone, RankedAnswers, RankedValues, unnumbered, RankedAnyOrder, RankedUntouched}
+use Rattle.meaning_ranking.specs.RankCall.{evaluated, entryOf, evaluations, ranked, unranked, RankEffect, inOrder, listed, rankEven, rankUnder, rankLong, rankSuited, rankOf}
+use Rattle.meaning_ranking.specs.RankingStatements.{Candidate, candidatesOf, entriesFor, Brought, RankedExactly, RankedInFront, numbered, RankedAlone, RankedAnswers, RankedValues, unnumbered, RankedAnyOrder, RankedUntouched}
 use Rattle.theory_base.specs.Members.{same-true}
 use Rattle.theory_table.specs.AcceptedTable.{accepted-well-formed}
 use Rattle.theory_answers.specs.Called.{checks, long-enough}
-use Rattle.theory_order.specs.Shuffles.{shuffled-refl, shuffled-sym, map-shuffled}
+use Rattle.theory_order.specs.Shuffles.{shuffled-sym, map-shuffled}
 use Rattle.theory_ranking.specs.Cells.{length-cells}
 use Rattle.theory_ranking.specs.Sorting.{ranking-ranks, ranks-one}
 use Rattle.theory_ranking.specs.Report.{countedFrom, counted-distinct, ranks-front, total-shuffled, valued-shuffled}

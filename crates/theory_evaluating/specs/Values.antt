@@ -1,19 +1,19 @@
 -- Demand 2 for each candidate, and what entries in candidate order say.
-use Prim.Native.Nat.{ℕ, zero, suc, _+_, _≤_, _<_}
+use Prim.Native.Nat.{ℕ, suc, _+_, _≤_, _<_}
 use native.Mathlib.Omega.{arith}
 use native.Mathlib.Decide.{decLt}
-use mathlib.Core.Path.{_≡_, refl, sym, ap, ap₂, _∙_, subst}
+use mathlib.Core.Path.{_≡_, refl, sym, ap, _∙_, subst}
 use mathlib.Core.Logic.{_↔_, _⊎_, inl, inr}
 use mathlib.Core.Bool.{true}
-use mathlib.Core.List.{List, [], _∷_, _++_, map}
+use mathlib.Core.List.{List, [], _∷_, _++_}
 use lib.ListN.{length, replicate, length-replicate}
 use lib.Dec.{T}
 use lib.IntN.{ℤ, pos}
 use Rattle.meaning.specs.Base.{In, all}
-use Rattle.meaning.specs.Grammar.{Grammar, Leaf, leaves}
+use Rattle.meaning.specs.Grammar.{Grammar, leaves}
 use Rattle.meaning.specs.Rules.{fourBytes, WellFormed}
 use Rattle.meaning.specs.Judgement.{Accepted}
-use Rattle.meaning.specs.Machine.{Config, Settled, stopped, failed, opening, feedAll}
+use Rattle.meaning.specs.Machine.{Settled, stopped, failed, opening, feedAll}
 use Rattle.meaning.specs.Tree.{Tree, TreeOf, valueOf}
 use Rattle.meaning.specs.Walk.{walk}
 use Rattle.meaning.specs.Drawn.{WalkFits}

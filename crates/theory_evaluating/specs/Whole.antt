@@ -1,7 +1,7 @@
 -- A candidate's opening, feed and finish are one run from the opening configuration.
 use Prim.Native.Nat.{ℕ, _≤_, _<_}
 use native.Mathlib.Omega.{arith}
-use mathlib.Core.Path.{_≡_, refl, sym, ap, ap₂, _∙_, subst}
+use mathlib.Core.Path.{_≡_, refl, ap, ap₂, _∙_, subst}
 use mathlib.Core.Bool.{Bool, true, false}
 use mathlib.Core.List.{List, []}
 use lib.ListN.{length}
@@ -11,7 +11,7 @@ use borrow.Author.Tests.{lt-ltb, le-ltb}
 use Rattle.meaning.specs.Base.{all}
 use Rattle.meaning.specs.Grammar.{Grammar, Leaf, leaves}
 use Rattle.meaning.specs.Rules.{fourBytes, WellFormed}
-use Rattle.meaning.specs.Machine.{Config, Lent, Settled, stopped, failed, ends, opening, feedAll, finishAll}
+use Rattle.meaning.specs.Machine.{Config, Settled, stopped, failed, ends, opening, feedAll, finishAll}
 use Rattle.meaning.specs.Calls as Calls
 use Rattle.meaning.specs.Calls.{Stacks, Called, lentOf, layAll, recordOf, closedRecord, asBrought, refused, more, result, configOf, tokensFrom, afterFeed, afterFinish, openOf, finishOf}
 use Rattle.meaning_ranking.specs.RankCall.{fedOn, finishedOn, evaluated}

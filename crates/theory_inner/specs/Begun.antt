@@ -3,7 +3,7 @@ use Prim.Native.Nat.{ℕ, suc, _+_, _-_, _≤_, min}
 use native.Mathlib.Omega.{arith}
 use mathlib.Core.Path.{_≡_, sym, ap, ap₂, _∙_, subst}
 use mathlib.Core.Bool.{true}
-use mathlib.Core.List.{List, [], _++_, map, reverse}
+use mathlib.Core.List.{List, _++_, map, reverse}
 use lib.ListN.{getD, length, take, drop, replicate, length-drop, length-take, drop-of-length-le}
 use lib.Seq.{getD-take, getD-drop}
 use Rattle.meaning.specs.Grammar.{Grammar, syn, nonterminal}

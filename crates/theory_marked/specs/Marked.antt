@@ -8,9 +8,9 @@ use mathlib.Core.Bool.{Bool, true, false}
 use mathlib.Core.List.{List, [], _∷_, _++_, map, append-assoc, append-nil, map-append}
 use lib.ListN.{length, take, length-append, length-map}
 use lib.Seq.{take-at}
-use lib.Dec.{T, ltb, nltb→le}
+use lib.Dec.{ltb, nltb→le}
 use lib.IntN.{ℤ, pos}
-use Rattle.meaning.specs.Grammar.{Grammar, Token, Leaf, leafOf, leaves}
+use Rattle.meaning.specs.Grammar.{Grammar, Token, Leaf, leaves}
 use Rattle.meaning.specs.Table.{grammarOf}
 use Rattle.meaning.specs.Machine.{Config, Lent, comes, Settled, stopped, failed, advanceFrom, feedAll, finishAll, opening, tokensLimit}
 use Rattle.meaning.specs.Calls.{Status, running, waiting, closed, Kind, outer, inner, admitted, turnedBack, gate, Record, Stacks, Called, refused, value, lentOf, layAll, afterFeed, afterFinish, asBrought, whenFit, tokensFrom, stacksFit, feedOf, finishOf}
@@ -22,7 +22,7 @@ use Rattle.theory_sets.specs.Accepted.{Sane, accepted-sane}
 use Rattle.theory_sound.specs.CallSound.{feed-is, finish-is}
 use Rattle.theory_sound.specs.Histories.{OpenRun, Run, runs}
 use Rattle.theory_demands.specs.ByGrammar.{performs-is, by-grammar}
-use Rattle.meaning.specs.MarkedToken.{kinds, TokenString, Begins, Unconditional, OneStart, MarkedWhere, MarkedToken, MarkedByStart, MarkedBegins}
+use Rattle.meaning.specs.MarkedToken.{kinds, TokenString, Begins, OneStart, MarkedToken, MarkedByStart, MarkedBegins}
 use Rattle.theory_marked.specs.Remaining.{kindsOf}
 use Rattle.theory_marked.specs.Prefixes.{Ahead, opening-ahead, ahead-makes, begins}
 use Rattle.theory_marked.specs.Choice.{unconditional-starts}

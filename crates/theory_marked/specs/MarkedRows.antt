@@ -1,5 +1,5 @@
 -- The promises' premises are met, and 21 and 24 are given: words and tags without its entry condition, words and tags itself, whose sets never meet, and a table whose entry conditions choose, for which the promise fails.
-use Prim.Native.Nat.{ℕ, zero, suc, _≤_, _<_}
+use Prim.Native.Nat.{ℕ, zero, suc, _≤_}
 use native.Mathlib.Omega.{arith}
 use mathlib.Core.Path.{_≡_, refl, sym, ap, _∙_, subst}
 use mathlib.Core.Bool.{Bool, true, false, _&&_, _||_, not}
@@ -7,13 +7,13 @@ use mathlib.Core.List.{List, [], _∷_, map}
 use lib.ListN.{length, replicate}
 use lib.Dec.{T, eqb, eqb→eq, eqb-refl}
 use lib.IntN.{ℤ, pos}
-use Rattle.meaning.specs.Base.{all, countFrom, In}
-use Rattle.meaning.specs.Grammar.{Grammar, Symbol, Look, terminal, nonterminal, const, range, Production, productionAt}
+use Rattle.meaning.specs.Base.{all, countFrom}
+use Rattle.meaning.specs.Grammar.{Grammar, Symbol, terminal, nonterminal, const, range, productionAt}
 use Rattle.meaning.specs.Words.{occ, rule, words, p0, p1, p2, p3}
 use Rattle.meaning.specs.Value.{mark}
 use Rattle.meaning.specs.Table.{State, Read, wellFormed, malformed, readTable, nothingRead}
 use Rattle.meaning.specs.TableRows.{bytes}
-use Rattle.meaning.specs.Derivation.{Listed, itself, step}
+use Rattle.meaning.specs.Derivation.{itself, step}
 use Rattle.meaning.specs.Sets.{starts, lookNumber}
 use Rattle.meaning.specs.Decide.{meet}
 use Rattle.meaning.specs.Judgement.{accepted, Accepted}
@@ -22,7 +22,7 @@ use Rattle.meaning.specs.PublicCalls.{Call, feed, finish, callOf, areaLength, w
 use Rattle.meaning.specs.CallStatements.{Lendable, Even, tokensOf}
 use Rattle.meaning.specs.Statements.{History, opened, fed}
 use Rattle.meaning.specs.MarkedToken.{TokenString, Begins, FirstImpossible, Unfinished, Unconditional, OneStart, MarkedWhere}
-use Rattle.theory_base.specs.Members.{and, in-from, all-in, same-true}
+use Rattle.theory_base.specs.Members.{in-from, all-in}
 use Rattle.theory_sets.specs.Accepted.{Sane, judged-is, accepted-sane}
 use Rattle.theory_sets.specs.Clashes.{meet-at}
 use Rattle.theory_sets.specs.StartSets.{Starts→starts}

@@ -15,7 +15,6 @@ use Rattle.meaning.specs.Inner.{above, alone, beginning, InnerCalled, handedBac
 use Rattle.meaning.specs.Order.{SameButOrder}
 use Rattle.meaning.specs.HouseStatements.{SameBothButProgram}
 use Rattle.theory_inner.specs.Cases.{by-accepted}
-use Rattle.theory_order.specs.SameMoves.{Matched}
 use Rattle.theory_order.specs.SameCalls.{matched, open-same, call-same}
 
 -- the program's words may differ

@@ -13,7 +13,7 @@ use Rattle.meaning.specs.Base.{consIf, isEmpty, In}
 use Rattle.meaning.specs.Grammar.{Symbol, nonterminal, Occurrence, Rule, Condition, Production, Grammar, productionAt, symbolAt, addedFor, inh, whole, conditionPosition}
 use Rattle.meaning.specs.Value.{apply, holds, inRange}
 use Rattle.meaning.specs.Rules.{Distinct, OutputAt, WellFormed}
-use Rattle.meaning.specs.Scheme.{Instruction, add, evaluate, test, mapRule, mapCondition, choose, selectInherited, selectAfter, synBetween, rulesFor, conditionsAt, entryTests, testsAfter, inheritedRules, synthesizedRules, removed, symbolsScheme, scheme}
+use Rattle.meaning.specs.Scheme.{Instruction, add, mapRule, mapCondition, choose, selectInherited, selectAfter, synBetween, rulesFor, conditionsAt, entryTests, testsAfter, inheritedRules, synthesizedRules, removed, symbolsScheme, scheme}
 use Rattle.meaning.specs.Machine.{readRegister, writeAll, schemeIf, schemeAt, entered}
 use Rattle.theory_base.specs.WellFormed.{Evaluable}
 use Rattle.theory_base.specs.Selectors.{target-of-inherited, target-of-synthesized}

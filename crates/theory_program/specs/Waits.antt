@@ -1,11 +1,11 @@
 -- The word that says what a place waits at, taken apart by / and %.
 use Prim.Native.Nat.{ℕ, zero, suc, _+_, _-_, _*_, _/_, _%_, _≤_, _<_}
 use native.Mathlib.Omega.{arith}
-use mathlib.Core.Path.{_≡_, refl, sym, ap, _∙_, subst}
+use mathlib.Core.Path.{_≡_, sym, ap, _∙_, subst}
 use mathlib.Core.List.{List, [], _∷_, _++_, map}
 use lib.ListN.{length, getD, take, replicate, getD-replicate, length-take, List·getD-append}
 use lib.Seq.{getD-append-add}
-use Rattle.meaning.specs.Base.{In, total}
+use Rattle.meaning.specs.Base.{total}
 use Rattle.meaning.specs.Grammar.{Symbol, terminal, nonterminal, Production, Grammar, inh, syn, markedFor, symbolAt, productionAt}
 use Rattle.meaning.specs.Rules.{Known, WellFormedProduction, WellFormed}
 use Rattle.meaning.specs.Layout.{symbolByte}

@@ -1,18 +1,16 @@
 -- 02 (j), proved: the clash test is exact for entry conditions that compare; it finds values, or a cycle is negative; where all are ranges it is the test by intervals.
 use Prim.Native.Nat.{ℕ, _≤_}
-use mathlib.Core.Path.{_≡_}
 use mathlib.Core.Logic.{_⊎_, inl, inr}
-use mathlib.Core.Bool.{Bool, _&&_, not}
-use mathlib.Core.List.{List}
+use mathlib.Core.Bool.{_&&_, not}
 use lib.Dec.{T, T-not}
 use Rattle.meaning.specs.Base.{all}
-use Rattle.meaning.specs.Grammar.{Grammar, productionAt, Look}
+use Rattle.meaning.specs.Grammar.{Grammar, productionAt}
 use Rattle.meaning.specs.Value.{holds}
 use Rattle.meaning.specs.Rules.{WellFormed}
 use Rattle.meaning.specs.Scheme.{entryTests}
-use Rattle.meaning.specs.Derivation.{Starts, entryConditional}
+use Rattle.meaning.specs.Derivation.{entryConditional}
 use Rattle.meaning.specs.Decide.{satisfiable, clash}
-use Rattle.meaning.specs.CompareStatements.{valueIn, Satisfiable, NegativeCycle, Alternatives, attributes, ofBoth, ClashExactly, FoundOrShown, ValuesOrCycle, RangesAgree}
+use Rattle.meaning.specs.CompareStatements.{valueIn, Satisfiable, NegativeCycle, Alternatives, attributes, ofBoth, ClashExactly, ValuesOrCycle, RangesAgree}
 use Rattle.theory_base.specs.Members.{both, all-append}
 use Rattle.theory_differences.specs.Graph.{AllKnown, no-negative-cycle}
 use Rattle.theory_differences.specs.Building as Building

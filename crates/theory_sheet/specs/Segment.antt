@@ -1,30 +1,29 @@
 -- A segment from its opening to its end: the stack run's answer is that of its moves, and where the start symbol is left the children of the whole segment are its tree.
-use Prim.Native.Nat.{ℕ, suc, _+_, _-_, _≤_, _<_}
+use Prim.Native.Nat.{ℕ, _≤_}
 use native.Mathlib.Omega.{arith}
-use mathlib.Core.Path.{_≡_, refl, sym, ap, ap₂, _∙_, subst}
+use mathlib.Core.Path.{_≡_, refl, sym, ap, _∙_, subst}
 use mathlib.Core.Bool.{Bool, true, false}
-use mathlib.Core.List.{List, [], _∷_, _++_, append-nil}
-use lib.ListN.{length, drop, length-replicate}
+use mathlib.Core.List.{List, [], _++_, append-nil}
+use lib.ListN.{length, drop}
 use lib.Dec.{T, ltb, nltb→le}
 use lib.IntN.{ℤ}
 use Rattle.meaning.specs.Base.{all}
-use Rattle.meaning.specs.Grammar.{Grammar, Leaf, nonterminal, syn, whole, leaves}
+use Rattle.meaning.specs.Grammar.{Grammar, Leaf, nonterminal, whole, leaves}
 use Rattle.meaning.specs.Rules.{WellFormed, fourBytes}
-use Rattle.meaning.specs.Value.{mark}
 use Rattle.meaning.specs.Machine.{Config, Lent, Settled, stopped, failed, opening, feedAll, finishAll, isFinished}
-use Rattle.meaning.specs.Tree.{Tree, Forest, noTrees, treeAnd, TreeOf, isLeafOf}
+use Rattle.meaning.specs.Tree.{Tree, Forest, noTrees, treeAnd, TreeOf}
 use Rattle.meaning.specs.Part.{Open, valued, forestOnto, yieldsOf}
-use Rattle.meaning.specs.Calls.{Stacks, Called, Answer, more, value, refused, lentOf, layAll, recordOf, closedRecord, asBrought, openOf, feedOf, finishOf, afterFeed, afterFinish, tokensFrom, result}
+use Rattle.meaning.specs.Calls.{Stacks, Called, Answer, more, value, refused, lentOf, layAll, recordOf, closedRecord, asBrought, feedOf, finishOf, afterFeed, afterFinish, tokensFrom, result}
 use Rattle.meaning_sheet.specs.Sheet.{sheet, sheets, sheetOf}
 use Rattle.meaning_sheet.specs.SheetCalls.{unlessRefused, stackRun}
-use Rattle.theory_base.specs.Feeds.{feedLeaves, even-feed, leaves-of}
+use Rattle.theory_base.specs.Feeds.{even-feed, leaves-of}
 use Rattle.theory_answers.specs.Memory.{lay-over}
 use Rattle.theory_sound.specs.Moves.{nodeOf}
-use Rattle.theory_sound.specs.Runs.{emptyPart, empty-good, empty-registers, Shows}
+use Rattle.theory_sound.specs.Runs.{empty-good, empty-registers}
 use Rattle.theory_sound.specs.Sound.{finished-done}
 use Rattle.theory_sound.specs.Follow.{Stopped}
 use Rattle.theory_sound.specs.CallSound.{Held, feed-is, finish-is, opening-held, held-feed}
-use Rattle.theory_sheet.specs.Whole.{andThen, fedFinished, runFrom, run-whole}
+use Rattle.theory_sheet.specs.Whole.{andThen, runFrom, run-whole}
 use Rattle.theory_sheet.specs.Standing.{Stand, withChildren, onto, onto-forest, shows}
 
 -- ---- the answer

@@ -1,23 +1,21 @@
 -- A node in progress, as a configuration shows it: how moves enter a child, pass it and leave it.
-use Prim.Native.Nat.{ℕ, zero, suc, _+_, _-_, _≤_, _<_}
+use Prim.Native.Nat.{ℕ, suc, _+_, _-_, _≤_}
 use native.Mathlib.Omega.{arith}
 use mathlib.Core.Path.{_≡_, refl, sym, ap, _∙_, subst}
 use mathlib.Core.Logic.{_⊎_, inl, inr}
-use mathlib.Core.Bool.{true, false}
 use mathlib.Core.List.{List, [], _∷_, _++_, append-assoc, append-nil}
 use lib.ListN.{length, drop, length-append}
 use lib.Seq.{drop-drop}
 use lib.Dec.{T}
 use lib.IntN.{ℤ}
 use Rattle.meaning.specs.Base.{all}
-use Rattle.meaning.specs.Grammar.{Grammar, Leaf, Symbol, productionAt}
+use Rattle.meaning.specs.Grammar.{Grammar, Leaf, Symbol}
 use Rattle.meaning.specs.Rules.{WellFormed}
 use Rattle.meaning.specs.Scheme.{Instruction}
 use Rattle.meaning.specs.Machine.{Frame, Config, Lent, Coming, comes, moved, next, lookAt, unread}
-use Rattle.meaning.specs.Tree.{Tree, Forest, leaf, node, noTrees, treeAnd, yield, yields, width, isLeafOf}
-use Rattle.meaning.specs.Part.{Open, Point, fresh, left, Ancestor, Part, Good, yieldsOf, yieldBelow, yieldPart, forestOnto, frame, drawRest, drawFrame, drawFrames, drawRegisters}
+use Rattle.meaning.specs.Tree.{Tree, Forest, leaf, node, noTrees, treeAnd, yield, yields, isLeafOf}
+use Rattle.meaning.specs.Part.{Open, Point, left, Ancestor, Part, Good, yieldsOf, yieldBelow, yieldPart, forestOnto, frame, drawRest, drawFrames, drawRegisters}
 use Rattle.theory_base.specs.Values.{treeOf}
-use Rattle.theory_answers.specs.ShapeMoves.{IsAhead}
 use Rattle.theory_answers.specs.Runs.{look-is, is-ahead, all-drop}
 use Rattle.theory_sound.specs.Counting.{MovesAre}
 use Rattle.theory_sound.specs.Moves.{Grown, within, reads, predicts, removes, Moved, nodeOf, partOf, waitingAt, withChild}

@@ -1,20 +1,20 @@
 -- What each kind of move does to the run of the whole segment and to the node in progress.
-use Prim.Native.Nat.{ℕ, zero, suc, _+_, _-_, _≤_, _<_}
+use Prim.Native.Nat.{ℕ, suc, _+_, _-_, _≤_, _<_}
 use native.Mathlib.Omega.{arith}
 use mathlib.Core.Path.{_≡_, refl, sym, ap, ap₂, _∙_, subst}
-use mathlib.Core.Bool.{Bool, true, false, _&&_}
+use mathlib.Core.Bool.{Bool, true, false}
 use mathlib.Core.List.{List, [], _∷_, _++_, append-assoc}
 use lib.ListN.{length, drop, take, length-append}
 use lib.Seq.{drop-at, take-at}
-use lib.Dec.{T, eqb, leb, ltb}
+use lib.Dec.{T, leb, ltb}
 use lib.IntN.{ℤ}
 use borrow.Author.Tests.{lt-ltb, le-ltb, le-leb, lt-leb}
-use Rattle.meaning.specs.Base.{all, isEmpty}
-use Rattle.meaning.specs.Grammar.{Grammar, Leaf, Symbol, terminal, nonterminal, inh, syn, att, productionAt, whole}
+use Rattle.meaning.specs.Base.{all}
+use Rattle.meaning.specs.Grammar.{Grammar, Leaf, Symbol, terminal, nonterminal, inh, att, productionAt}
 use Rattle.meaning.specs.Rules.{WellFormed}
 use Rattle.meaning.specs.Scheme.{Instruction, add, evaluate, expect, test, remove, removed, synBetween}
-use Rattle.meaning.specs.Machine.{Frame, Config, Lent, Coming, Outcome, comes, ends, moved, blocked, Settled, stopped, failed, waits, isFinished, next, lookAt, unread, tokensLimit}
-use Rattle.meaning.specs.Tree.{Tree, leaf, node, noTrees, synthesizedOf, isLeafOf}
+use Rattle.meaning.specs.Machine.{Frame, Config, Lent, Coming, Outcome, ends, moved, blocked, Settled, stopped, failed, waits, isFinished, next, lookAt, unread, tokensLimit}
+use Rattle.meaning.specs.Tree.{leaf, node, synthesizedOf, isLeafOf}
 use Rattle.meaning.specs.Part.{Open, Point, closing, left, Ancestor, GoodNode, frame, synsOf, drawBelow, drawRegisters}
 use Rattle.meaning.specs.Selectors as Selectors
 use Rattle.meaning.specs.Selectors.{Due, removes}
@@ -24,9 +24,8 @@ use Rattle.theory_base.specs.Steps.{move-of, Result, result}
 use Rattle.theory_answers.specs.Bounds.{look-free, length-parent}
 use Rattle.theory_sound.specs.Moves.{nodeOf, partOf, withChild, waitingAt}
 use Rattle.theory_sound.specs.Return.{under, left-on}
-use Rattle.theory_sound.specs.Ready.{Ready}
 use Rattle.theory_sheet.specs.Whole.{Turn, goes, fails, done, asTurn, turn, turnIf, tokenIf, endIf, judged, runFrom, run-fails, run-goes, run-done}
-use Rattle.theory_sheet.specs.Standing.{Stand, Step, stand-step, stand-ready, stand-frames, stays, read, predicted, removed-node}
+use Rattle.theory_sheet.specs.Standing.{Stand, stand-step, stand-ready, stays, read, predicted, removed-node}
 
 -- the moves inside a node that need no next token
 abbrev pub inside : Instruction → Bool

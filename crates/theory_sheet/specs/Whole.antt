@@ -1,5 +1,5 @@
 -- The run of a whole segment as one sequence of moves: a token is judged where it is first looked at, and the end where the tokens are over.
-use Prim.Native.Nat.{ℕ, zero, suc, _+_, _-_, _≤_, _<_}
+use Prim.Native.Nat.{ℕ, zero, suc, _+_, _-_, _≤_}
 use native.Mathlib.Omega.{arith}
 use mathlib.Core.Path.{_≡_, refl, sym, ap, ap₂, _∙_, subst}
 use mathlib.Core.Logic.{_⊎_, inl, inr}
@@ -9,7 +9,7 @@ use lib.ListN.{drop}
 use lib.Dec.{T, ltb, leb}
 use borrow.Author.Tests.{lt-ltb, le-ltb}
 use Rattle.meaning.specs.Grammar.{Grammar, Leaf}
-use Rattle.meaning.specs.Machine.{Config, Lent, Coming, comes, ends, Outcome, moved, blocked, Settled, stopped, failed, waits, next, lookAt, unread, isDone, isFinished, advance, advanceFrom, feedToken, feedAll, finishAll, tokensLimit, movesLimit}
+use Rattle.meaning.specs.Machine.{Config, Lent, comes, ends, Outcome, moved, blocked, Settled, stopped, failed, waits, next, lookAt, unread, isDone, isFinished, advance, advanceFrom, feedAll, finishAll, tokensLimit, movesLimit}
 use Rattle.theory_base.specs.Members.{both, T→true}
 use Rattle.theory_base.specs.Steps.{at-hand, advance-stopped, advance-failed, advance-moved}
 use Rattle.theory_answers.specs.Bounds.{counts, look-free, no-read}

@@ -6,15 +6,14 @@ use mathlib.Core.Bool.{Bool, true, false}
 use mathlib.Core.List.{List}
 use lib.ListN.{length}
 use lib.Dec.{eqb}
-use lib.IntN.{ℤ}
-use Rattle.meaning.specs.Grammar.{Grammar, Leaf, leaves}
+use Rattle.meaning.specs.Grammar.{Grammar, leaves}
 use Rattle.meaning.specs.Table.{State, Read, wellFormed, malformed, readTable, grammarOf}
 use Rattle.meaning.specs.Judgement.{Verdict, accepted, rejected, Accepted}
 use Rattle.meaning.specs.Decide.{judge, verdictOf}
 use Rattle.meaning.specs.Calls.{Answer, more, value, refused, tableRefused, tokensFrom}
 use Rattle.meaning.specs.PublicCalls.{Checked, usable, unusable, check, checkedAs}
 use Rattle.meaning_sheet.specs.Sheet.{sheetOf}
-use Rattle.meaning_sheet.specs.SheetCalls.{SheetEffect, withSheet, stackRun, stacksFor, AfterRun, WhenEven, WhenChecked, SheetsOnce}
+use Rattle.meaning_sheet.specs.SheetCalls.{withSheet, stackRun, stacksFor, AfterRun, WhenEven, WhenChecked, SheetsOnce}
 use Rattle.theory_sets.specs.Accepted.{verdict→accepted}
 use Rattle.theory_answers.specs.Called.{checks}
 use Rattle.theory_complete.specs.Halves.{only}

@@ -10,14 +10,14 @@ use lib.ListN.{getD, length, length-map, length-append, length-reverse}
 use lib.Seq.{getD-at}
 use lib.Signed.{leZ}
 use lib.IntN.{pos}
-use lib.Dec.{T, eqb, ltb, leb, eqb→eq, eqb-refl, le→leb, lt→ltb, not-T}
+use lib.Dec.{T, eqb, ltb, leb, eqb→eq, eqb-refl, le→leb, lt→ltb}
 use Rattle.meaning.specs.Base.{In, all, total}
 use Rattle.meaning.specs.Grammar.{Symbol, terminal, nonterminal, Occurrence, Function, Rule, Condition, range, atmost, Production, Counts, noCounts, Grammar, nonterminalCount}
 use Rattle.meaning.specs.Rules.{Operands, Operand, Distinct, Rising, Proper, Known, WellFormed, WellFormedProduction}
 use Rattle.meaning.specs.Layout as Layout
 use Rattle.meaning.specs.Layout.{field, symbolByte, headerBytes, countsBytes, productionBytes, ruleBytes, conditionBytes, RulesAndConditions, Productions, countsFields, carryingFields, LaidOut}
 use Rattle.meaning.specs.Table.{State, Header, Entry, Kind, header, counts, production, rule, condition, carrier, rises, byte, within, symbolOf, symbolKnown, ruleLength, conditionLength, constantAt, operands, reads, occurrenceKnown, isInput, ordered, hasRule, complete, lastComplete, readField, withRule, withCondition, wellFormed, readTable, nothingRead, productionOf, grammarOf}
-use Rattle.theory_base.specs.Members.{and, both, reverse-in, in-all, in-right, in-reverse, map-in, one-more, map-one-more}
+use Rattle.theory_base.specs.Members.{and, reverse-in, in-all, in-right, in-reverse, map-in, one-more, map-one-more}
 use Rattle.theory_table.specs.Reading.{Passed, tagOf, Full, Next, over, more, reads-table}
 use Rattle.theory_table.specs.Reading as Reading
 use Rattle.theory_table.specs.Occurrences.{input-over, output-over, operand-over, at-output, operands-map, reads-map, operands-inputs, operands-leftward, reads-inputs, once-set, every-complete}

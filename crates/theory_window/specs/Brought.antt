@@ -213,7 +213,7 @@ module _ (b : List ℤ) (kept : PassedIn b) where
     pub push-long : length (valuesWith v b) ≡ grown (sizeIn b) (heldIn b)
     push-long = length-last n h (valuesIn b) v held-long kept-held
 
-    set-long : length (set s k v) ≡ sizeIn b
+    pub set-long : length (set s k v) ≡ sizeIn b
     set-long = length-set s k v ∙ kept-slots
 
     pub push-slots : slotsOf (sizeIn b) (after (sizeIn b) (nextIn b)) (valuesWith v b) ≡ set (slotsIn b) (nextIn b) v
@@ -246,7 +246,7 @@ module _ (b : List ℤ) (kept : PassedIn b) where
 -- ---- what stands in the cells is what a scan gives
 
 -- the value at the first leader of slots with values v and those after it
-first-value : (f : ℕ → ℤ) (is : List ℕ) (v : ℤ) (vs : List ℤ) → map f is ≡ v ∷ vs → (0 < length (leads f is)) × (f (getD (leads f is) 0 0) ≡ largest v vs)
+pub first-value : (f : ℕ → ℤ) (is : List ℕ) (v : ℤ) (vs : List ℤ) → map f is ≡ v ∷ vs → (0 < length (leads f is)) × (f (getD (leads f is) 0 0) ≡ largest v vs)
 first-value f [] v vs e = absurd (let z : _≡_ {A = ℕ} 0 1 = cc in omega arith)
 first-value f (i ∷ is) v vs e =
     let a : f i ≡ v = cc in

@@ -6,6 +6,7 @@ pub mod Sums
 pub mod Kept
 pub mod Walk
 pub mod Brought
+pub mod Next
 pub mod Cases
 pub mod Reached
 pub mod Promises

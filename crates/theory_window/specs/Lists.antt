@@ -4,7 +4,7 @@ use native.Mathlib.Omega.{arith}
 use mathlib.Core.Path.{_≡_, refl, sym, ap, ap₂, _∙_}
 use mathlib.Core.Bool.{Bool, true, false, _&&_}
 use mathlib.Core.List.{List, [], _∷_, _++_, map, reverse, reverse-cons, reverse-reverse}
-use lib.ListN.{length, getD, take, drop, set, replicate}
+use lib.ListN.{length, getD, take, drop, set}
 use lib.Seq.{set-getD}
 use lib.IntN.{ℤ}
 use Rattle.meaning.specs.Base.{all, countFrom}
@@ -136,10 +136,3 @@ pub set-up : (n k : ℕ) → k < n → set (countFrom 0 n) k k ≡ countFrom 0 n
 set-up n k l =
     let e : getD (countFrom 0 n) k 0 ≡ k = omega (arith, getD-up 0 n k l) in
     ap (set (countFrom 0 n) k) (sym e) ∙ set-getD (countFrom 0 n) k 0
-
--- ---- replicate
-
-pub take-replicate : {A : Type 0} (m n : ℕ) (a : A) → m ≤ n → take m (replicate n a) ≡ replicate m a
-take-replicate zero n a l = refl
-take-replicate (suc m) zero a l = absurd (omega arith)
-take-replicate (suc m) (suc n) a l = ap (λ t. a ∷ t) (take-replicate m n a (omega arith))

@@ -43,9 +43,6 @@ module _ {A : Type 0} (s : List A) (k : ℕ) (d v : A) (l : k < length s) where
           rw (w, drop-at (take k s ++ (v ∷ [])) (drop (suc k) s) (suc k) n, take-at (take k s ++ (v ∷ [])) (drop (suc k) s) (suc k) n)
           (sym (append-assoc (drop (suc k) s) (take k s) (v ∷ [])) ∙ sym (ap (λ t. t ++ (v ∷ [])) first-gone))
 
-  pub turned-first : turned k s ≡ getD s k d ∷ drop 1 (turned k s)
-  turned-first = ap (λ t. t ++ take k s) (drop-cons s k d l) ∙ ap (λ t. getD s k d ∷ t) (sym first-gone)
-
 -- ---- one more of n slots
 
 -- the number held after one more value

@@ -2,20 +2,19 @@
 use Prim.Native.Nat.{ℕ, suc, _+_, _-_, _*_}
 use native.Mathlib.Omega.{arith}
 use mathlib.Core.Path.{_≡_, refl, sym, ap, _∙_}
-use mathlib.Core.Bool.{true, cond}
+use mathlib.Core.Bool.{true}
 use mathlib.Core.List.{List, [], _∷_, _++_, append-nil}
-use borrow.Author.Tests.{eq-eqb, ne-eqb}
-use lib.ListN.{length, getD, drop, set, length-replicate, drop-of-length-le, replicate-append-replicate}
+use lib.ListN.{length, drop, set, length-replicate, drop-of-length-le, replicate-append-replicate}
 use lib.Seq.{take-all}
-use lib.Dec.{eqb}
 use lib.IntN.{ℤ, pos}
 use Rattle.meaning.specs.Value.{inRange}
-use Rattle.meaning.specs.Window.{stands, empty, turned, order, zeros, slotsOf, after, leads, leaderCells, valueAt, formOf, formLength, numberAt, sizeIn, heldIn, nextIn, totalIn, sizeFits, wellKept, outcome, written, opensWindow, bringsValue, valuesWith}
+use Rattle.meaning.specs.Window.{stands, empty, turned, order, zeros, slotsOf, after, leads, leadersOf, leaderCells, valueAt, formOf, sizeIn, heldIn, nextIn, slotsIn, sizeFits, wellKept, outcome, written, opensWindow, bringsValue, valuesWith}
 use Rattle.theory_window.specs.Lists.{both}
 use Rattle.theory_window.specs.Ring.{length-order}
-use Rattle.meaning.specs.WindowStatements.{answerIn}
 use Rattle.theory_window.specs.Cases.{opens-met, value-met}
-use Rattle.theory_window.specs.Brought.{answer-form, push-valid, passed}
+use Rattle.theory_window.specs.Brought.{passed}
+use Rattle.theory_window.specs.Next.{topWith, push-shown}
+use Rattle.window_kept.specs.Checks.{foundIn}
 
 -- ---- opening
 
@@ -45,25 +44,15 @@ module _ (n : ℕ) (b : List ℤ) where
       ∙ (ap (λ l. outcome empty (l ++ drop (5 + 2 * n) b)) (sym (form-empty n))
       ∙ sym (opens-met n b t)))
 
--- ---- answers
-
-module _ (b : List ℤ) (h : ℕ) (e : h ≡ heldIn b) where
-  pub answer-none : h ≡ 0 → empty ≡ answerIn b
-  answer-none z = sym (ap (λ x. cond x empty (stands (totalIn b) (getD b (5 + numberAt b (5 + sizeIn b)) (pos 0)))) (ap (λ m. eqb m 0) (sym e) ∙ eq-eqb h 0 z))
-
-  pub answer-some : (h ≡ 0 → ⊥) → (n f : ℕ) (t m : ℤ) → n ≡ sizeIn b → f ≡ numberAt b (5 + n) → t ≡ totalIn b → m ≡ getD b (5 + f) (pos 0) → stands t m ≡ answerIn b
-  answer-some z n f t m en ef et em =
-      (λ i. stands (et i) (em i))
-      ∙ (ap (λ j. stands (totalIn b) (getD b (5 + j) (pos 0))) (ef ∙ ap (λ j. numberAt b (5 + j)) en)
-      ∙ sym (ap (λ x. cond x empty (stands (totalIn b) (getD b (5 + numberAt b (5 + sizeIn b)) (pos 0)))) (ap (λ m. eqb m 0) (sym e) ∙ ne-eqb h 0 z)))
-
 -- ---- one more value
 
--- the buffer written for it answers by a scan
-pub renewed-answer : (b : List ℤ) → wellKept b ≡ true → (v : ℤ) → inRange v ≡ true → (c : List ℤ) → c ≡ written (sizeIn b) (after (sizeIn b) (nextIn b)) (valuesWith v b) b → outcome (answerIn c) c ≡ bringsValue v b
-renewed-answer b kept v r c e =
+-- total and largest as the check has found them, and the buffer written
+pub pushed : (b : List ℤ) → wellKept b ≡ true → (v : ℤ) → inRange v ≡ true → (c : List ℤ) → c ≡ written (sizeIn b) (after (sizeIn b) (nextIn b)) (valuesWith v b) b
+    → (t top : ℤ) → t ≡ foundIn b v .sum → top ≡ foundIn b v .top → outcome (stands t top) c ≡ bringsValue v b
+pushed b kept v r c e t top et em =
     let n = sizeIn b in
     let k = after n (nextIn b) in
-    (λ i. outcome (answerIn (e i)) (e i))
-    ∙ (ap (λ a. outcome a (written n k (valuesWith v b) b)) (answer-form n k (valuesWith v b) (push-valid b (passed b kept) v r) (drop (formLength n) b))
+    let m : top ≡ topWith (slotsIn b) (nextIn b) v (leadersOf n (heldIn b) (nextIn b) (slotsIn b)) = em ∙ ap (topWith (slotsIn b) (nextIn b) v) (passed b kept .leaders) in
+    (λ i. outcome (stands (et i) (m i)) (e i))
+    ∙ (ap (λ a. outcome a (written n k (valuesWith v b) b)) (push-shown b (passed b kept) v)
     ∙ sym (value-met v b (both r kept)))

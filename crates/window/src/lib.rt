@@ -1,15 +1,15 @@
 // A window over the values of the last finished segments, kept in a lent buffer: docs/WINDOW.md states its cells.
 ghost use mathlib.Core.Path.{_≡_};
+ghost use mathlib.Core.Bool.{true};
+ghost use Rattle.meaning.specs.Value.{inRange};
 ghost use Rattle.meaning.specs.Window.{opensWindow, bringsValue, bringsRefusal};
-ghost use Rattle.meaning.specs.WindowStatements.{answerIn};
 ghost use Rattle.theory_window.specs.Parts.{answerOf};
 ghost use Rattle.window_push.specs.Parts as Parts;
 ghost use Rattle.window.specs.Answers.{answerIs, outcomeIs};
 use value::in_range;
-use window_cells::cell;
 use window_cells::clear;
-use window_cells::number_at;
 use window_kept::Checked;
+use window_kept::Found;
 use window_kept::check;
 use window_push::renew;
 
@@ -34,26 +34,16 @@ fn standing(held: usize, total: i64, largest: i64) -> WindowAnswer
     WindowAnswer::Stands { total, largest }
 }
 
-// The total, and the value at the oldest leader.
-fn answer(buffer: &[i64]) -> WindowAnswer
-    ensures { λ r. ⌜ answerIs r ≡ answerIn (now (buffer .entry)) ⌝ }
-{
-    if number_at(buffer, 1) == 0 {
-        return WindowAnswer::Empty;
-    }
-    let size = number_at(buffer, 0);
-    let first = number_at(buffer, 5 + size);
-    let total = cell(buffer, 3);
-    let largest = cell(buffer, 5 + first);
-    WindowAnswer::Stands { total, largest }
-}
-
-fn push(value: i64, buffer: &mut [i64], size: usize, held: usize, next: usize) -> WindowAnswer
-    requires { ⌜ Parts.Brought (now buffer) size held next value ⌝ }
+// The value enters: total and largest with it are what the check has found.
+fn push(value: i64, buffer: &mut [i64], found: Found, leaders: &[u8]) -> WindowAnswer
+    requires { ⌜ Parts.Brought (now buffer) found value (now leaders) × (inRange value ≡ true) ⌝ }
     ensures { λ r. ⌜ outcomeIs r (now (buffer .exit)) ≡ bringsValue value (now (buffer .entry)) ⌝ }
 {
-    renew(buffer, size, held, next, value);
-    answer(buffer)
+    renew(buffer, found, value, leaders);
+    WindowAnswer::Stands {
+        total: found.sum,
+        largest: found.top,
+    }
 }
 
 // Opens a window of a size from 1 to 64 in the first 5 + 2 * size cells of the buffer.
@@ -82,18 +72,20 @@ pub fn window_value(value: i64, buffer: &mut [i64]) -> WindowAnswer
     if !in_range(value) {
         return WindowAnswer::Refused;
     }
-    let Checked::Kept(size, held, next, _, _) = check(buffer) else {
+    let mut leaders = [0u8; 65];
+    let Checked::Kept(found) = check(buffer, value, &mut leaders) else {
         return WindowAnswer::Refused;
     };
-    push(value, buffer, size, held, next)
+    push(value, buffer, found, &leaders)
 }
 
-// A refused segment changes nothing, and gets total and largest as they stand.
+// A refused segment changes nothing, and gets total and largest as they stand: the value that the check takes along plays no part.
 pub fn window_state(buffer: &[i64]) -> WindowAnswer
     ensures { λ r. ⌜ answerIs r ≡ bringsRefusal (now (buffer .entry)) ⌝ }
 {
-    let Checked::Kept(_, held, _, total, largest) = check(buffer) else {
+    let mut leaders = [0u8; 65];
+    let Checked::Kept(found) = check(buffer, 0, &mut leaders) else {
         return WindowAnswer::Refused;
     };
-    standing(held, total, largest)
+    standing(found.held, found.total, found.largest)
 }

@@ -4,7 +4,7 @@ use native.Mathlib.Numerals.{add-one}
 use native.Mathlib.Omega.{arith}
 use mathlib.Core.Path.{_≡_, refl, sym, ap, _∙_}
 use mathlib.Core.Bool.{Bool, true, false, _&&_}
-use mathlib.Core.List.{List, [], _∷_, _++_}
+use mathlib.Core.List.{List, [], _∷_, _++_, map}
 use borrow.Author.Tests.{leb-true, le-leb}
 use lib.IntN.{ℤ, pos, negsuc, natAbs}
 use lib.Signed.{leZ, nonNeg}
@@ -12,11 +12,11 @@ use lib.Dec.{T, leb}
 use mir.Syntax.{w64}
 use mir.Val.{SFits, toZ, ofZ}
 use mir.Facts.{toZ-ofZ}
-use lib.ListN.{length, getD, take, drop, set, drop-of-length-le, length-replicate}
+use lib.ListN.{length, getD, take, drop, set, drop-of-length-le, length-replicate, length-map}
 use lib.Seq.{drop-cons, set-at, append-snoc, take-suc, length-take-le}
 use Rattle.meaning.specs.Base.{all}
 use Rattle.meaning.specs.Window.{zeros, small}
-use Rattle.theory_window.specs.Lists.{and-right}
+use Rattle.theory_window.specs.Lists.{and-right, map-append}
 
 -- ---- tests along cells
 
@@ -44,8 +44,12 @@ zeros-more (suc n) = ap (λ l. pos 0 ∷ l) (zeros-more n)
 pub clear-turn : (d cells : List ℤ) (i : ℕ) → i < length d → cells ≡ zeros i ++ drop i d → set cells i (pos 0) ≡ zeros (i + 1) ++ drop (i + 1) d
 clear-turn d cells i l q = let e : zeros i ++ (pos 0 ∷ []) ≡ zeros (i + 1) = rw (add-one i) (zeros-more i) in ap (λ c. set c i (pos 0)) q ∙ (store (zeros i) d i (pos 0) (length-replicate i (pos 0)) l ∙ ap (λ t. t ++ drop (i + 1) d) e)
 
-pub put-turn : (d f cells : List ℤ) (i : ℕ) (v : ℤ) → i < length d → i < length f → v ≡ getD f i (pos 0) → cells ≡ take i f ++ drop i d → set cells i v ≡ take (i + 1) f ++ drop (i + 1) d
-put-turn d f cells i v l m e q = let t : take i f ++ (getD f i (pos 0) ∷ []) ≡ take (i + 1) f = rw (add-one i) (sym (take-suc f i (pos 0) m)) in (λ j. set (q j) i (e j)) ∙ (store (take i f) d i (getD f i (pos 0)) (length-take-le i f (omega arith)) l ∙ ap (λ x. x ++ drop (i + 1) d) t)
+pub put-turn : (d cells : List ℤ) (f : List ℕ) (i : ℕ) (v : ℤ) → i < length d → i < length f → v ≡ pos (getD f i 0) → cells ≡ map pos (take i f) ++ drop i d → set cells i v ≡ map pos (take (i + 1) f) ++ drop (i + 1) d
+put-turn d cells f i v l m e q =
+    let g : take (i + 1) f ≡ take i f ++ (getD f i 0 ∷ []) = rw (add-one i) (take-suc f i 0 m) in
+    let t : map pos (take i f) ++ (pos (getD f i 0) ∷ []) ≡ map pos (take (i + 1) f) = sym (ap (map pos) g ∙ map-append pos (take i f) (getD f i 0 ∷ [])) in
+    let n : length (map pos (take i f)) ≡ i = length-map (take i f) pos ∙ length-take-le i f (omega arith) in
+    (λ j. set (q j) i (e j)) ∙ (store (map pos (take i f)) d i (pos (getD f i 0)) n l ∙ ap (λ x. x ++ drop (i + 1) d) t)
 
 -- ---- small numbers
 

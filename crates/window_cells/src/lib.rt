@@ -1,6 +1,7 @@
 // Cells of a window's buffer: small numbers read from them, and tests and copies of stretches.
 ghost use Prim.Native.Nat.{_≤_};
 ghost use mathlib.Core.Path.{_≡_};
+ghost use mathlib.Core.List.{map};
 ghost use lib.ListN.{length, getD, take};
 ghost use lib.IntN.{pos};
 ghost use Rattle.meaning.specs.Base.{all};
@@ -29,7 +30,7 @@ pub fn small(v: i64) -> usize
 }
 
 // 0 past the end.
-pub fn cell(cells: &[i64], at: usize) -> i64
+fn cell(cells: &[i64], at: usize) -> i64
     ensures { λ r. ⌜ r ≡ getD (now (cells .entry)) at (pos 0) ⌝ }
 {
     if cells.len() <= at {
@@ -69,13 +70,20 @@ pub fn clear(cells: &mut [i64])
     }
 }
 
-pub fn put(cells: &mut [i64], from: &[i64])
+fn wide(x: u8) -> i64
+    ensures { λ r. ⌜ r ≡ pos x ⌝ }
+{
+    x as i64
+}
+
+// Small numbers written into the cells.
+pub fn put(cells: &mut [i64], from: &[u8])
     requires { ⌜ length (now cells) ≤ length (now from) ⌝ }
-    ensures { λ r. ⌜ now (cells .exit) ≡ take (length (now (cells .entry))) (now (from .entry)) ⌝ }
+    ensures { λ r. ⌜ now (cells .exit) ≡ map pos (take (length (now (cells .entry))) (now (from .entry))) ⌝ }
 {
     let mut i = 0;
     while i < cells.len() {
-        let v = from[i];
+        let v = wide(from[i]);
         cells[i] = v;
         i += 1;
     }

@@ -1,2 +1,4 @@
+pub mod Turning
 pub mod Walking
+pub mod Gathering
 pub mod Checking

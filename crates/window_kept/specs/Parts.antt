@@ -7,15 +7,16 @@ use lib.ListN.{length, take, drop}
 use lib.Dec.{leb}
 use lib.IntN.{ℤ}
 use Rattle.meaning.specs.Window.{small, heldIn, nextIn, totalIn, placeFits}
+use Rattle.window_kept.specs.declared.Numbers.{Numbers}
 use Rattle.theory_window.specs.Parts.{countIn, valuesFit, restZero}
 
 -- slots and leader cells that fit their window's numbers
-pub record Window (s area : List ℤ) (h k c : ℕ) : Type 0 where
+pub record Window (s area : List ℤ) (at : Numbers) : Type 0 where
   pub few : length s ≤ 64
   pub alike : length area ≡ length s
-  pub held : h ≤ length s
-  pub next : k < length s
-  pub count : c ≤ length s
+  pub held : at .held ≤ length s
+  pub next : at .next < length s
+  pub count : at .count ≤ length s
 
 -- of a buffer with this size, all but the size's own tests
 abbrev pub partsKept : List ℤ → ℕ → Bool

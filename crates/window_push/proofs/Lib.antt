@@ -1,2 +1,1 @@
-pub mod Leading
 pub mod Renewing

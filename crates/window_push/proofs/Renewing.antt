@@ -1,34 +1,39 @@
 -- The cells written for one more value are the form of the window with it.
 use Prim.Native.Nat.{ℕ, suc, _+_, _-_, _<_, _≤_}
 use native.Mathlib.Omega.{arith}
-use mathlib.Core.Path.{_≡_, sym, ap, _∙_}
+use mathlib.Core.Path.{_≡_, ap, _∙_, sym}
 use mathlib.Core.Bool.{true}
-use mathlib.Core.List.{List, [], _∷_, _++_, map, append-assoc}
-use lib.ListN.{length, getD, take, drop, set, length-append, length-map, length-set, length-replicate}
-use lib.Seq.{take-at, drop-at, set-append-left, take-append-add}
+use mathlib.Core.List.{List, _∷_, _++_, map, append-assoc, append-nil}
+use lib.ListN.{length, take, drop, set, length-append, length-take, length-drop, length-map, length-set, length-replicate, drop-of-length-le}
+use lib.Seq.{take-all, take-at, drop-at, length-take-le, set-append-left}
 use lib.IntN.{ℤ, pos, _+ℤ_, _-ℤ_}
-use Rattle.meaning.specs.Base.{keep}
-use Rattle.meaning.specs.Window.{total, zeros, after, leadersOf, leaderCells, cells, formLength, sizeIn, heldIn, nextIn, totalIn, slotsIn, wellKept, written, valuesWith}
-use Rattle.theory_window.specs.Parts.{countIn, leaderAreaIn}
-use Rattle.theory_window.specs.Lists.{take-replicate}
-use Rattle.theory_window.specs.Ring.{grown, length-grown}
-use Rattle.theory_window.specs.Leaders.{stays, leaders-push}
+use Rattle.meaning.specs.Window.{total, zeros, after, valueAt, leadersOf, leaderCells, cells, formLength, sizeIn, heldIn, nextIn, totalIn, slotsIn, wellKept, written, valuesWith}
+use Rattle.theory_window.specs.Ring.{grown}
 use Rattle.theory_window.specs.Kept.{leaders-few}
 use Rattle.theory_window.specs.Brought.{passed, kept-held, kept-next, kept-slots, kept-cells, push-form}
-use Rattle.window_push.specs.Parts.{Leading, leadersWith, stored}
-use Rattle.window_push.proofs.Leading.{laid}
-use Rattle.window_push.specs.Sizes.{slot-cell}
+use Rattle.window_kept.specs.Checks.{newLeaders}
+use Rattle.window_push.specs.Parts.{stored}
+use Rattle.window_push.specs.Leading.{new-leaders}
+
+-- the leaders' cells written from the front, and the rest cleared
+pub laid : (area : List ℤ) (ls : List ℕ) (p q : List ℤ) → length ls ≤ length area → p ≡ map pos (take (length (take (length ls) area)) ls)
+    → q ≡ zeros (length (take (length (p ++ drop (length ls) area) - length ls) (drop (length ls) (p ++ drop (length ls) area))))
+    → take (length ls) (p ++ drop (length ls) area) ++ (q ++ drop (length (p ++ drop (length ls) area) - length ls) (drop (length ls) (p ++ drop (length ls) area))) ≡ leaderCells (length area) ls
+laid area ls p q l ep eq =
+    let c : ℕ = length ls in
+    let x : List ℤ = p ++ drop (length ls) area in
+    let m : length (take c area) ≡ c = length-take-le c area l in
+    let e : p ≡ map pos ls = ep ∙ ap (map pos) (ap (λ j. take j ls) m ∙ take-all c ls (omega arith)) in
+    let k : length p ≡ c = ap length e ∙ length-map ls pos in
+    let w : length x ≡ length area = omega (arith, length-append p (drop c area), length-drop c area) in
+    let d : drop c x ≡ drop c area = drop-at p (drop c area) c k in
+    let z : length (drop c x) ≡ length area - c = ap length d ∙ length-drop c area in
+    let n : length (take (length x - c) (drop c x)) ≡ length area - c = omega (arith, length-take (length x - c) (drop c x)) in
+    (λ i. (take-at p (drop c area) c k ∙ e) i ++ ((eq ∙ ap zeros n) i ++ drop-of-length-le (drop c x) {i = length x - c} (omega arith) i))
+    ∙ ap (λ y. map pos ls ++ y) (append-nil (zeros (length area - c)))
 
 area-long : (n : ℕ) (ls : List ℕ) → length ls ≤ n → length (leaderCells n ls) ≡ n
 area-long n ls l = omega (arith, length-append (map pos ls) (zeros (n - length ls)), length-map ls pos, length-replicate (n - length ls) (pos 0))
-
--- the first n of the 65 cells
-first-cells : (n : ℕ) (ls : List ℕ) → length ls ≤ n → n ≤ 65 → take n (laid ls) ≡ leaderCells n ls
-first-cells n ls l m =
-    let e : n ≡ length (map pos ls) + (n - length ls) = omega (arith, length-map ls pos) in
-    ap (λ j. take j (laid ls)) e
-    ∙ (take-append-add (map pos ls) (zeros (65 - length ls)) (n - length ls)
-    ∙ ap (λ z. map pos ls ++ z) (take-replicate (n - length ls) (65 - length ls) (pos 0) (omega arith)))
 
 -- the numbers and the slot written
 stored-cells : (n h k : ℕ) (t : ℤ) (s : List ℤ) (ls : List ℕ) (rest : List ℤ) (h′ k′ : ℕ) (t′ : ℤ) (r slot : ℕ) (v : ℤ) → slot < length s
@@ -55,19 +60,12 @@ module _ (b : List ℤ) (kept : wellKept b ≡ true) (v : ℤ) where
   old = leadersOf (sizeIn b) (heldIn b) (nextIn b) (slotsIn b)
 
   abbrev new : List ℕ
-  new = leadersWith (slotsIn b) (leaderAreaIn b) (countIn b) (nextIn b) v
+  new = newLeaders b (sizeIn b) v
 
-  new-leaders : new ≡ keep (stays s k v) old ++ (k ∷ [])
-  new-leaders = ap (λ ls. keep (stays s k v) ls ++ (k ∷ [])) (passed b kept .leaders)
-
-  few : length new ≤ sizeIn b
-  few =
-      let e : length new ≡ length (leadersOf n (grown n h) (after n k) (set s k v)) = ap length (new-leaders ∙ sym (leaders-push n h k (kept-held b (passed b kept)) (kept-next b (passed b kept)) s (kept-slots b (passed b kept)) v)) in
-      omega (arith, leaders-few n (grown n h) (after n k) (set s k v) (length-grown n h (kept-held b (passed b kept))))
-
-  pub renewed : (out : List ℤ) (r : ℕ) (t : ℤ) (c : List ℤ) → Leading new out r → t ≡ totalIn b -ℤ getD b (5 + nextIn b) (pos 0) +ℤ v → c ≡ stored b (grown (sizeIn b) (heldIn b)) (after (sizeIn b) (nextIn b)) t r (nextIn b) v
-      → (z m j : ℕ) → z ≡ sizeIn b → m ≡ sizeIn b → j ≡ sizeIn b → take (5 + z) c ++ (take m out ++ drop j (drop (5 + z) c)) ≡ written (sizeIn b) (after (sizeIn b) (nextIn b)) (valuesWith v b) b
-  renewed out r t c lead et ec z m j ez em ej =
+  pub renewed : (ls : List ℕ) (r : ℕ) (t : ℤ) (c : List ℤ) → ls ≡ newLeaders b (sizeIn b) v → r ≡ length (newLeaders b (sizeIn b) v) → t ≡ totalIn b -ℤ valueAt (slotsIn b) (nextIn b) +ℤ v
+      → c ≡ stored b (grown (sizeIn b) (heldIn b)) (after (sizeIn b) (nextIn b)) t r (nextIn b) v
+      → (z m j : ℕ) → z ≡ sizeIn b → m ≡ sizeIn b → j ≡ sizeIn b → take (5 + z) c ++ (leaderCells m ls ++ drop j (drop (5 + z) c)) ≡ written (sizeIn b) (after (sizeIn b) (nextIn b)) (valuesWith v b) b
+  renewed ls r t c el er et ec z m j ez em ej =
       let rest : List ℤ = drop (formLength n) b in
       let front : List ℤ = pos n ∷ pos (grown n h) ∷ pos (after n k) ∷ t ∷ pos r ∷ set s k v in
       let q : k < length s = omega (arith, kept-next b (passed b kept), kept-slots b (passed b kept)) in
@@ -75,11 +73,10 @@ module _ (b : List ℤ) (kept : wellKept b ≡ true) (v : ℤ) where
       let f : length front ≡ 5 + n = omega (arith, length-set s k v, kept-slots b (passed b kept)) in
       let a : length (leaderCells n old) ≡ n = area-long n old (leaders-few n h k s (kept-held b (passed b kept))) in
       let e2 : take (5 + z) c ≡ front = ap (λ x. take (5 + x) c) ez ∙ (ap (take (5 + n)) e1 ∙ take-at front (leaderCells n old ++ rest) (5 + n) f) in
-      let e3 : take m out ≡ leaderCells n new = ap (λ x. take x out) em ∙ (ap (take n) (lead .cells) ∙ first-cells n new few (omega (arith, passed b kept .most))) in
+      let e3 : leaderCells m ls ≡ leaderCells n new = (λ i. leaderCells (em i) (el i)) in
       let e4 : drop j (drop (5 + z) c) ≡ rest = (λ i. drop (ej i) (drop (5 + ez i) (e1 i))) ∙ (ap (drop n) (drop-at front (leaderCells n old ++ rest) (5 + n) f) ∙ drop-at (leaderCells n old) rest n a) in
-      let e5 : t ≡ totalIn b -ℤ getD s k (pos 0) +ℤ v = et ∙ ap (λ x. totalIn b -ℤ x +ℤ v) (slot-cell b kept) in
       (λ i. e2 i ++ (e3 i ++ e4 i))
       ∙ (ap (λ x. pos n ∷ pos (grown n h) ∷ pos (after n k) ∷ t ∷ pos r ∷ x) (sym (append-assoc (set s k v) (leaderCells n new) rest))
-      ∙ ((λ i. (pos n ∷ pos (grown n h) ∷ pos (after n k) ∷ e5 i ∷ pos (lead .count i) ∷ (set s k v ++ leaderCells n new)) ++ rest)
-      ∙ (ap (λ ls. cells n (grown n h) (after n k) (totalIn b -ℤ getD s k (pos 0) +ℤ v) (set s k v) ls ++ rest) new-leaders
+      ∙ ((λ i. (pos n ∷ pos (grown n h) ∷ pos (after n k) ∷ et i ∷ pos (er i) ∷ (set s k v ++ leaderCells n new)) ++ rest)
+      ∙ (ap (λ x. cells n (grown n h) (after n k) (totalIn b -ℤ valueAt s k +ℤ v) (set s k v) x ++ rest) (new-leaders b kept v)
       ∙ ap (λ x. x ++ rest) (sym (push-form b (passed b kept) v)))))

@@ -55,6 +55,10 @@ impl Preview {
 pub struct TokenSet(u64);
 
 impl TokenSet {
+    pub(crate) fn of(bits: u64) -> TokenSet {
+        TokenSet(bits)
+    }
+
     /// Whether it holds this token.
     #[must_use]
     pub fn contains(self, kind: u8) -> bool {

@@ -3,8 +3,8 @@
 //! 01: "35 a token after 65,535, or a move after 4,294,967,295". A call that is brought a record with so many moves that m are left
 //! makes its first m moves and then refuses with 35, "earlier ones stand": its stacks are those after m moves. So the call for a token,
 //! or for the end, is made with one move left, then from the same beginning with two left, and so on.
-use crate::lent::{self, Memory, Record, MARK, PROGRAM};
-use crate::{Refusal, MOVES};
+use crate::lent::{self, Memory, Record, Stopped, MARK, PROGRAM};
+use crate::{Refusal, TokenSet, MOVES};
 use alloc::vec;
 use alloc::vec::Vec;
 
@@ -135,6 +135,17 @@ impl Run<'_> {
         self.input = input;
         self.start = self.now.clone();
         self.made = 0;
+    }
+
+    /// The tokens that may come next, on the state as it stands, with this value to try for each of them. It is asked at a stop: at the
+    /// opening, and where a step has come to [`Step::More`].
+    #[must_use]
+    pub fn may_follow(&mut self, value: i32) -> TokenSet {
+        let State { record, registers, places } = &self.now;
+        let (mut cells, mut stack) = (vec![MARK; registers.len()], vec![0; places.len()]);
+        let mut scratch = Memory { registers: &mut cells, places: &mut stack, program: &mut self.program };
+        let set = lent::may_follow(self.table, Stopped { record, registers, places }, &mut scratch, value);
+        set.map_or_else(|_| TokenSet::default(), TokenSet::of)
     }
 
     /// The next move for what is brought. Where there is none, the answer of the call.

@@ -6,7 +6,7 @@ use crate::stacks::{conditions, holds, rules, Place, Stacks};
 use crate::Built;
 use segment::lent::{MARK, PLACES, REGISTERS};
 use segment::steps::{self, Input, Kind, State};
-use segment::Refusal;
+use segment::{Refusal, TokenSet};
 
 /// A move, with the stacks after it.
 #[derive(Clone, Debug)]
@@ -77,6 +77,11 @@ impl<'b> Story<'b> {
     /// The moves made so far, and the tokens read.
     pub fn counts(&self) -> (u64, u64) {
         (self.run.now.record.moves, self.run.now.record.tokens)
+    }
+
+    /// The tokens that may come next, with this value to try for each of them; it is asked where one is coming.
+    pub fn may_follow(&mut self, value: i32) -> TokenSet {
+        self.run.may_follow(value)
     }
 
     fn made(&self, made: steps::Move, before: &Stacks<'b>) -> Move<'b> {

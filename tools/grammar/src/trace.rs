@@ -41,8 +41,13 @@ pub fn tell(built: &Built, tokens: &[Token], wanted: &Wanted, out: &mut dyn Writ
     let mut last = stacks.places;
     while let Some(event) = story.next() {
         match event {
-            Event::Coming(index) if is_over(tokens, index, wanted) => return Ok(true),
-            Event::Coming(index) => writeln!(out, "{}", coming(built, tokens, index))?,
+            Event::Coming(index) => {
+                may_follow(out, built, &mut story, tokens.get(index))?;
+                if is_over(tokens, index, wanted) {
+                    return Ok(true);
+                }
+                writeln!(out, "{}", coming(built, tokens, index))?;
+            }
             Event::Moved(made) => {
                 moved(out, &made, &last, wanted.full)?;
                 last = made.stacks.places;
@@ -65,6 +70,15 @@ fn tokens_words(n: usize) -> String {
 fn is_over(tokens: &[Token], index: usize, wanted: &Wanted) -> bool {
     let stopped = wanted.stop.is_some_and(|stop| tokens[..index].iter().skip(wanted.from.max(1) - 1).any(|t| t.kind == stop));
     stopped || wanted.to.is_some_and(|to| index >= to)
+}
+
+/// `may be typed now: word open`. Where tokens carry values, the one that comes is tried for all of them, and 0 where none does.
+fn may_follow(out: &mut dyn Write, built: &Built, story: &mut Story, coming: Option<&Token>) -> io::Result<()> {
+    let g = &built.grammar;
+    let value = coming.map_or(0, |t| t.value);
+    let names: Vec<String> = story.may_follow(value).iter().map(|kind| Token { kind, value }.written(g)).collect();
+    let with = if g.carried.iter().any(Option::is_some) { format!(", with value {value}") } else { String::new() };
+    writeln!(out, "        may be typed now{with}: {}", if names.is_empty() { "no token".into() } else { names.join(" ") })
 }
 
 /// `token 2 of 4: open`, or `the end`.

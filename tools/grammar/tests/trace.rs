@@ -43,6 +43,23 @@ fn a_part_of_a_run() {
     assert_answer(wrong, 2, "", "token 1, `clsoe`, is not in the grammar; did you mean `close`?\n");
 }
 
+/// At each stop the tokens that may come next, tried with the value of the token that comes.
+#[test]
+fn what_may_be_typed_at_each_stop() {
+    let told = |name: &str, args: &[&str]| {
+        let file = shipped_file(name);
+        let all = [&["trace", file.as_str()], args].concat();
+        let lines = stdout(&grammar(&all));
+        lines.lines().filter_map(|l| l.strip_prefix("        may be typed now")).map(String::from).collect::<Vec<_>>()
+    };
+    let opened = [": word open", ": word open close", ": word open close", ": word close"];
+    assert_eq!(told("words", &["open", "open", "open"]), opened);
+    assert_eq!(told("words", &["open", "open", "--from", "2", "--to", "2"]), opened[1..3]);
+    assert_eq!(told("words", &["word", "close"]), [": word open"; 2]);
+    let lengths = [", with value 4: word=4 open", ", with value 0: open", ", with value 41: open close"];
+    assert_eq!(told("lengths", &["word=4", "open", "word=41"]), lengths);
+}
+
 #[test]
 fn deep_stacks_are_cut_unless_all_is_wanted() {
     let words = vec!["word"; 30];

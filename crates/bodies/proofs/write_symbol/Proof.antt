@@ -1,5 +1,4 @@
 use native.Mathlib.Omega.{arith}
-use Rattle.blocks.specs.Patch.{wrote-length}
 use Rattle.bodies.proofs.Symbols as S
 use borrow.Author.Needs.{needs}
 use Rattle.bodies.proofs.write_symbol.Statement.{statement}
@@ -47,11 +46,31 @@ write-block-requires c κs =
     let add = c .before .before .before .write-add .ensures in
     (S.top-small x b o u t, S.evaluate-fits x b o u t add)
 
+cast-area : tie.Need-cast-area
+cast-area c =
+    let x = c .before .before .before .before .before .before .before .before .before .before .before .before .before .before .before .before .before .before .before .before .pre in
+    let b = c .before .before .before .before .before .before .before .before .before .before .before .byte-at .ensures .0 in
+    let o = c .before .before .before .before .before .before .before .before .before .before .count-at .ensures .0 in
+    let u = c .before .before .before .before .before .before .before .before .before .count-at2 .ensures .0 in
+    let t = c .before .before .before .before .before .before .before .before .number-at .ensures in
+    let add = c .before .before .before .before .before .before .write-add .ensures in
+    let rules = c .before .before .write-block .ensures in
+    omega (arith, S.next-small x b o u t add rules)
+
+add-area : tie.Need-add-area
+add-area c = search needs
+
+mul-area : tie.Need-mul-area
+mul-area c = search needs
+
+slice-write-area : tie.Need-slice-write-area
+slice-write-area c = search needs
+
 head-of-requires : tie.Need-head-of-requires
 head-of-requires c κs = search needs
 
-mul-area : tie.Need-mul-area
-mul-area c =
+mul-area-2 : tie.Need-mul-area-2
+mul-area-2 c =
     let x = c .before .before .before .before .before .before .before .before .before .before .before .before .before .before .before .before .before .before .before .before .before .pre in
     let b = c .before .before .before .before .before .before .before .before .before .before .before .before .byte-at .ensures .0 in
     let o = c .before .before .before .before .before .before .before .before .before .before .before .count-at .ensures .0 in
@@ -61,8 +80,8 @@ mul-area c =
     let rules = c .before .before .before .write-block .ensures in
     omega (arith, S.next-small x b o u t add rules)
 
-slice-write-area : tie.Need-slice-write-area
-slice-write-area c =
+slice-write-area-2 : tie.Need-slice-write-area-2
+slice-write-area-2 c =
     let x = c .before .before .before .before .before .before .before .before .before .before .before .before .before .before .before .before .before .before .before .before .before .pre in
     let b = c .before .before .before .before .before .before .before .before .before .before .before .before .byte-at .ensures .0 in
     let o = c .before .before .before .before .before .before .before .before .before .before .before .count-at .ensures .0 in
@@ -118,7 +137,7 @@ same-length c =
     let rules = c .before .before .before .before .before .before .before .write-block .ensures in
     let head = c .before .before .before .before .head-of .ensures in
     let tests = c .before .before .write-block2 .ensures in
-    wrote-length (S.symbol-written x b o u t add rules head tests)
+    S.symbol-size x b o u t add rules head tests
 
 returns : tie.Need-returns
 returns c =
@@ -146,9 +165,13 @@ write-symbol-spec =
     write-add-requires
     add-write-block
     write-block-requires
-    head-of-requires
+    cast-area
+    add-area
     mul-area
     slice-write-area
+    head-of-requires
+    mul-area-2
+    slice-write-area-2
     add-write-block-2
     sub-write-block
     add-write-block-3

@@ -6,10 +6,10 @@ use Rattle.bodies.proofs.write_symbols.Statement.{statement}
 use Rattle.bodies.proofs.write_symbols.Tie as tie
 
 abbrev Inv-loop : tie.InvT-loop
-Inv-loop row fields inherited synthesized rules tests levels area₀ address size k₀ to₀ area k to = (k ≤ size) × S.SymbolsGo row fields inherited synthesized rules tests levels area₀ address k area to
+Inv-loop row fields inherited synthesized rules tests levels area₀ address expects size k₀ to₀ area k to = (k ≤ size) × S.SymbolsGo row fields inherited synthesized rules tests levels area₀ address expects k area to
 
 abbrev μ-loop : tie.MeasureT-loop
-μ-loop row fields inherited synthesized rules tests levels area₀ address size k₀ to₀ area k to = size - k
+μ-loop row fields inherited synthesized rules tests levels area₀ address expects size k₀ to₀ area k to = size - k
 
 byte-at-requires : tie.Need-byte-at-requires Inv-loop μ-loop
 byte-at-requires c κs = search needs

@@ -1,7 +1,7 @@
 use Prim.Native.Nat.{_+_, _-_, _≤_, _<_}
 use native.Mathlib.Omega.{arith}
-use mathlib.Core.Path.{_≡_, refl, sym, ap, _∙_}
-use lib.ListN.{length, getD, take, drop}
+use mathlib.Core.Path.{_≡_, refl, ap, _∙_}
+use lib.ListN.{length, take, drop}
 use denote.Ref.{now}
 use Rattle.candidates.specs.Each.{same-parts, DoneTo, done-start, next-inside, done-turn, done-all}
 use Rattle.candidates.proofs.evaluate_all.Statement.{statement}

@@ -4,7 +4,7 @@ use mir.Facts.{toZ-ofZ}
 use denote.Ref.{now}
 use Rattle.meaning_ranking.specs.Ranking.{entry}
 use Rattle.meaning_ranking.specs.RankCall.{entryOf}
-use Rattle.engine.specs.Records.{answerIs}
+use Rattle.records.specs.Records.{answerIs}
 use Rattle.candidates.specs.Each.{putAt}
 use borrow.Author.Needs.{sfits-of}
 use borrow.Author.Needs.{needs}

@@ -1,19 +1,20 @@
 use Prim.Native.Nat.{_≤_, _<_, _-_, _+_}
 use native.Mathlib.Omega.{arith}
 use borrow.Author.Needs.{needs}
-use mathlib.Core.Path.{_≡_}
-use mathlib.Core.Logic.{⊎-elim}
-use mathlib.Core.Bool.{false}
+use mathlib.Core.Path.{_≡_, refl}
+use mathlib.Core.Bool.{true}
 use Rattle.meaning.specs.Decide.{clashes}
 use Rattle.analysis.specs.Rows.{leftAt, image-of}
 use Rattle.analysis.specs.Numbers.{Clear, clear-none, clear-more, found-here, found-none}
+use Rattle.rivals.specs.Rivals.{startTogether, rival, rival-starts}
 use Rattle.clash.specs.Together.{grammarIn}
-use Rattle.clash.specs.Clashing.{clashIn, KeptTo, kept-none, kept-next, both-kept, clash-apart, clash-met, clashes-one, clashes-none, Seen, seen-none, seen-next, rivals-clear}
+use Rattle.clash.specs.Clashing.{clashIn, KeptTo, kept-none, kept-next, both-kept, clash-met, clashes-one, clashes-none, Seen, seen-none, seen-next}
+use Rattle.clash.proofs.Laws.{rival-enters, clear-on, first-known}
 use Rattle.clash.proofs.lowest_by_entry.Statement.{statement}
 use Rattle.clash.proofs.lowest_by_entry.Tie as tie
 
 abbrev Inv-loop : tie.InvT-loop
-Inv-loop table rows offsets sets count met lows highs ranks seen later left at wanted earlier₀ earlier = (earlier ≤ later) × Clear (clashIn table later) earlier
+Inv-loop table rows offsets sets count met lows highs ranks seen later left at wanted earlier₀ earlier = (earlier ≤ later) × Clear (clashIn table later) earlier × (earlier < later → rival rows sets lows highs ranks later earlier ≡ true)
 
 abbrev μ-loop : tie.MeasureT-loop
 μ-loop table rows offsets sets count met lows highs ranks seen later left at wanted earlier₀ earlier = later - earlier
@@ -28,7 +29,7 @@ abbrev start : tie.At-pairs Inv-loop μ-loop Inv-pairs μ-pairs → tie.Start In
 start c = c .before .before
 
 abbrev kept-at : tie.At-loop Inv-loop μ-loop Inv-pairs μ-pairs → tie.After-keep Inv-loop μ-loop Inv-pairs μ-pairs
-kept-at c = c .before .before .before
+kept-at c = c .before .before .before .before .before
 
 abbrev in-pairs : tie.In-loop Inv-loop μ-loop Inv-pairs μ-pairs → tie.In-pairs Inv-loop μ-loop Inv-pairs μ-pairs
 in-pairs c = kept-at (c .before) .before .before .before .before .before .before
@@ -62,17 +63,13 @@ keeping c =
 listed : (c : tie.In-loop Inv-loop μ-loop Inv-pairs μ-pairs) → c .before .loop .earlier < start (in-pairs c .before) .args .count
 listed c = omega (arith, in-pairs c .pairs-test .taken, c .loop-test .taken)
 
--- no clash with it
-passed : (c : tie.Joined1 Inv-loop μ-loop Inv-pairs μ-pairs) → let lp = c .before .before in let pr = in-pairs lp in clashIn (start (pr .before) .args .table .now) (pr .before .pairs .later) (lp .before .loop .earlier) ≡ false
-passed c =
-    let lp = c .before .before in
-    let pr = in-pairs lp in
-    let x = start (pr .before) .pre .0 in
-    let s = c .before .starts-together .ensures in
-    ⊎-elim
-    (λ w. clash-met x _ _ (pr .pairs-test .taken) (listed lp) _ s (w .0 .taken) _ (w .4 .ensures) _ (w .5 .left))
-    (λ w. clash-apart x _ _ (pr .pairs-test .taken) (listed lp) _ s (w .left))
-    (c .if1 .came)
+-- it is a rival of the later one, and starts together with it
+rivalling :
+    (c : tie.In-loop Inv-loop μ-loop Inv-pairs μ-pairs)
+    → let pr = in-pairs c in
+    let args = start (pr .before) .args in
+    startTogether (args .rows .now) (args .sets .now) (pr .before .pairs .later) (c .before .loop .earlier) ≡ true
+rivalling c = rival-starts _ _ _ _ _ _ _ (c .before .loop .inv .2 (c .loop-test .taken))
 
 pairs-holds : tie.Need-pairs-holds Inv-loop μ-loop Inv-pairs μ-pairs
 pairs-holds c = (omega arith, seen-none _ _, clear-none _, kept-none)
@@ -97,49 +94,61 @@ keep-requires c κs =
     let l = pr .pairs-test .taken in
     (omega arith, start (pr .before) .pre .0 .placed _ l, k .lows-all, k .highs-all)
 
-mul-rivals : tie.Need-mul-rivals Inv-loop μ-loop Inv-pairs μ-pairs
-mul-rivals c = omega (arith, below (c .before .before .before .before .before .before))
+mul-first-rival : tie.Need-mul-first-rival Inv-loop μ-loop Inv-pairs μ-pairs
+mul-first-rival c = omega (arith, below (c .before .before .before .before .before .before .before .before .before))
 
-array-read-rivals : tie.Need-array-read-rivals Inv-loop μ-loop Inv-pairs μ-pairs
-array-read-rivals c = omega (arith, below (c .before .before .before .before .before .before))
+array-read-first-rival : tie.Need-array-read-first-rival Inv-loop μ-loop Inv-pairs μ-pairs
+array-read-first-rival c = omega (arith, below (c .before .before .before .before .before .before .before .before .before))
 
-mul-rivals-2 : tie.Need-mul-rivals-2 Inv-loop μ-loop Inv-pairs μ-pairs
-mul-rivals-2 c = omega (arith, few (c .before .before .before .before .before .before))
-
-element-copy-out-rivals : tie.Need-element-copy-out-rivals Inv-loop μ-loop Inv-pairs μ-pairs
-element-copy-out-rivals c = omega (arith, few (c .before .before .before .before .before .before))
-
-rivals-requires : tie.Need-rivals-requires Inv-loop μ-loop Inv-pairs μ-pairs
-rivals-requires c κs = search needs
+first-rival-requires : tie.Need-first-rival-requires Inv-loop μ-loop Inv-pairs μ-pairs
+first-rival-requires c κs =
+    let pr = c .before .before .before .before .before .before .before .before .before in
+    omega (arith, few pr, pr .pairs-test .taken)
 
 loop-holds : tie.Need-loop-holds Inv-loop μ-loop Inv-pairs μ-pairs
 loop-holds c =
-    let pr = c .before .before .before .before .before .before .before .before in
-    (c .rivals .ensures .upto, rivals-clear (start (pr .before) .pre .0) _ _ _ (pr .pairs-test .taken) (pr .before .pairs .inv .1) (c .rivals .ensures))
-
-starts-together-requires : tie.Need-starts-together-requires Inv-loop μ-loop Inv-pairs μ-pairs
-starts-together-requires c κs = let n = few (in-pairs c) in let m = listed c in (omega (arith, in-pairs c .pairs-test .taken), omega arith)
+    let kp = c .before .before .before .before in
+    let pr = kp .before .before .before .before .before .before in
+    let pre = start (pr .before) .pre in
+    first-known (pre .0) (pre .1) _ (keeping kp) (pr .pairs-test .taken) _ (pr .before .pairs .inv .1) _ (c .first-rival .ensures)
 
 enters-together-requires : tie.Need-enters-together-requires Inv-loop μ-loop Inv-pairs μ-pairs
 enters-together-requires c κs =
-    let t1 = c .before .before .before in
-    let lp = t1 .before .before in
+    let lp = c .before in
     let pr = in-pairs lp in
-    let st = start (pr .before) in
+    let pre = start (pr .before) .pre in
     let n = few pr in
     let l = pr .pairs-test .taken in
     let m = listed lp in
-    let k = both-kept (st .pre .1) _ _ (keeping (kept-at (lp .before))) l (lp .loop-test .taken) _ (t1 .before .starts-together .ensures) (t1 .if1 .taken) in
-    ((omega arith, st .pre .0 .placed _ l, k .0), (omega arith, st .pre .0 .placed _ m, k .1))
+    let kept = keeping (kept-at (lp .before)) in
+    let k = both-kept (pre .1) _ _ kept l (lp .loop-test .taken) _ refl (rivalling lp) in
+    ((omega arith, pre .0 .placed _ l, k .0 .rank), ((omega arith, pre .0 .placed _ m, k .1 .rank), rival-enters (pre .0) (pre .1) _ kept l _ (lp .loop-test .taken) (lp .before .loop .inv .2 (lp .loop-test .taken))))
 
-add-earlier : tie.Need-add-earlier Inv-loop μ-loop Inv-pairs μ-pairs
-add-earlier c = omega arith
+add-next-rival : tie.Need-add-next-rival Inv-loop μ-loop Inv-pairs μ-pairs
+add-next-rival c =
+    let lp = c .before .before .before .before .before .before in
+    omega (arith, few (in-pairs lp), listed lp)
+
+next-rival-requires : tie.Need-next-rival-requires Inv-loop μ-loop Inv-pairs μ-pairs
+next-rival-requires c κs =
+    let lp = c .before .before .before .before .before .before in
+    let pr = in-pairs lp in
+    (omega (arith, few pr, pr .pairs-test .taken), omega (arith, lp .loop-test .taken))
 
 loop-less : tie.Need-loop-less Inv-loop μ-loop Inv-pairs μ-pairs
-loop-less c = omega arith
+loop-less c = omega (arith, c .next-rival .ensures .least)
 
 loop-again : tie.Need-loop-again Inv-loop μ-loop Inv-pairs μ-pairs
-loop-again c = (omega arith, clear-more _ _ (c .before .before .before .loop .inv .1) (λ t. rw (passed c) at t))
+loop-again c =
+    let el = c .before .before .before .before in
+    let et = el .before in
+    let lp = et .before .before in
+    let pr = in-pairs lp in
+    let pre = start (pr .before) .pre in
+    let l = pr .pairs-test .taken in
+    let n = c .next-rival .ensures in
+    let e = clash-met (pre .0) _ _ l (listed lp) _ refl (rivalling lp) _ (et .enters-together .ensures) _ (el .if1 .left) in
+    (n .upto, clear-on (pre .0) (pre .1) _ (keeping (kept-at (lp .before))) l _ _ (clear-more _ _ (lp .before .loop .inv .1) (λ t. rw e at t)) n, n .here)
 
 mul-seen : tie.Need-mul-seen Inv-loop μ-loop Inv-pairs μ-pairs
 mul-seen c = omega (arith, below (kept-at (c .before) .before .before .before .before .before .before))
@@ -178,11 +187,10 @@ returns c = found-none _ _ _ (omega arith) (c .before .pairs .inv .2)
 
 returns-2 : tie.Need-returns-2 Inv-loop μ-loop Inv-pairs μ-pairs
 returns-2 c =
-    let t1 = c .before .before .before .before .before in
-    let lp = t1 .before .before in
+    let et = c .before in
+    let lp = et .before .before in
     let pr = in-pairs lp in
-    let x = start (pr .before) .pre .0 in
-    let e = clash-met x _ _ (pr .pairs-test .taken) (listed lp) _ (t1 .before .starts-together .ensures) (t1 .if1 .taken) _ (c .before .enters-together .ensures) _ (c .if2 .taken) in
+    let e = clash-met (start (pr .before) .pre .0) _ _ (pr .pairs-test .taken) (listed lp) _ refl (rivalling lp) _ (et .enters-together .ensures) _ (c .if1 .taken) in
     found-here _ _ _ (pr .pairs-test .taken) (pr .before .pairs .inv .2) (clashes-one _ _ _ (lp .loop-test .taken) e)
 
 pub lowest-by-entry-spec : {M : Type 1} → statement M
@@ -199,15 +207,13 @@ lowest-by-entry-spec =
     cast-at
     has-requires
     keep-requires
-    mul-rivals
-    array-read-rivals
-    mul-rivals-2
-    element-copy-out-rivals
-    rivals-requires
+    mul-first-rival
+    array-read-first-rival
+    first-rival-requires
     loop-holds
-    starts-together-requires
     enters-together-requires
-    add-earlier
+    add-next-rival
+    next-rival-requires
     loop-less
     loop-again
     mul-seen

@@ -6,15 +6,15 @@ use lib.ListN.{drop}
 use mathlib.Core.Path.{sym, _∙_}
 use Rattle.analysis.specs.Rows.{rightAt, byteAt, right-token, right-nonterminal, right-end}
 use Rattle.analysis.specs.Views.{members}
-use Rattle.analysis.specs.Fronts.{Scanned, scan-start, scan-token, scan-silent, scan-next, scan-stop, scan-end}
+use Rattle.analysis.specs.Fronts.{Scanned, scan-start, scan-token, scan-next, scan-stop, scan-end}
 use Rattle.first_sets.proofs.begins.Statement.{statement}
 use Rattle.first_sets.proofs.begins.Tie as tie
 
 abbrev Inv-loop : tie.InvT-loop
-Inv-loop rows count k null table after tokens at n out₀ i₀ out i = Scanned tokens (members null) table after (rightAt rows k) out (drop i (rightAt rows k))
+Inv-loop rows count k null table after at n out₀ i₀ out i = Scanned (members null) table after (rightAt rows k) out (drop i (rightAt rows k))
 
 abbrev μ-loop : tie.MeasureT-loop
-μ-loop rows count k null table after tokens at n out₀ i₀ out i = n - i
+μ-loop rows count k null table after at n out₀ i₀ out i = n - i
 
 -- in a turn the symbol is one
 symbol : (c : tie.In-loop Inv-loop μ-loop) → byteAt (c .before .before .before .args .rows .now) (c .before .before .before .args .k) (c .before .loop .i) < 176
@@ -33,7 +33,7 @@ cast-n : tie.Need-cast-n Inv-loop μ-loop
 cast-n c = let st = c .before in omega (arith, st .pre .0 .sizes _ (st .pre .1))
 
 loop-holds : tie.Need-loop-holds Inv-loop μ-loop
-loop-holds c = scan-start _ _ _ _ _
+loop-holds c = scan-start _ _ _ _
 
 add-s : tie.Need-add-s Inv-loop μ-loop
 add-s c = omega arith
@@ -49,17 +49,10 @@ of-token-requires c κs = search needs
 
 returns : tie.Need-returns Inv-loop μ-loop
 returns c =
-    let th = c .before .before .before in
+    let th = c .before .before in
     let lp = th .before .before in
     let st = lp .before .before .before in
-    scan-token _ _ _ _ _ _ _ (lp .before .loop .inv) _ _ _ (right-token (st .pre .0) _ (st .pre .1) _ (lp .loop-test .taken) (th .if1 .taken)) (c .before .before .if2 .taken) (c .before .of-token .ensures)
-
-returns-2 : tie.Need-returns-2 Inv-loop μ-loop
-returns-2 c =
-    let th = c .before in
-    let lp = th .before .before in
-    let st = lp .before .before .before in
-    scan-silent _ _ _ _ _ _ _ (lp .before .loop .inv) _ _ (right-token (st .pre .0) _ (st .pre .1) _ (lp .loop-test .taken) (th .if1 .taken)) (c .if2 .left)
+    scan-token _ _ _ _ _ _ (lp .before .loop .inv) _ _ _ (right-token (st .pre .0) _ (st .pre .1) _ (lp .loop-test .taken) (th .if1 .taken)) (c .before .of-token .ensures)
 
 cast-a : tie.Need-cast-a Inv-loop μ-loop
 cast-a c = omega (arith, symbol (c .before .before))
@@ -73,12 +66,12 @@ element-copy-out-out c = omega (arith, symbol (c .before .before))
 has-requires : tie.Need-has-requires Inv-loop μ-loop
 has-requires c κs = search needs
 
-returns-3 : tie.Need-returns-3 Inv-loop μ-loop
-returns-3 c =
+returns-2 : tie.Need-returns-2 Inv-loop μ-loop
+returns-2 c =
     let el = c .before .before .before in
     let lp = el .before .before in
     let st = lp .before .before .before in
-    scan-stop _ _ _ _ _ _ _ (lp .before .loop .inv) _ _ (right-nonterminal (st .pre .0) _ (st .pre .1) _ (lp .loop-test .taken) (el .if1 .left)) (sym (c .before .has .ensures) ∙ not-true _ (c .if3 .taken))
+    scan-stop _ _ _ _ _ _ (lp .before .loop .inv) _ _ (right-nonterminal (st .pre .0) _ (st .pre .1) _ (lp .loop-test .taken) (el .if1 .left)) (sym (c .before .has .ensures) ∙ not-true _ (c .if2 .taken))
 
 add-i : tie.Need-add-i Inv-loop μ-loop
 add-i c = let st = c .before .before .before .before .before .before .before .before in omega (arith, st .pre .0 .sizes _ (st .pre .1))
@@ -91,12 +84,12 @@ loop-again c =
     let el = c .before .before .before in
     let lp = el .before .before in
     let st = lp .before .before .before in
-    scan-next _ _ _ _ _ _ _ (lp .before .loop .inv) _ _ (right-nonterminal (st .pre .0) _ (st .pre .1) _ (lp .loop-test .taken) (el .if1 .left)) (sym (c .before .has .ensures) ∙ not-false _ (c .if3 .left))
+    scan-next _ _ _ _ _ _ (lp .before .loop .inv) _ _ (right-nonterminal (st .pre .0) _ (st .pre .1) _ (lp .loop-test .taken) (el .if1 .left)) (sym (c .before .has .ensures) ∙ not-false _ (c .if2 .left))
 
-returns-4 : tie.Need-returns-4 Inv-loop μ-loop
-returns-4 c =
+returns-3 : tie.Need-returns-3 Inv-loop μ-loop
+returns-3 c =
     let st = c .before .before .before in
-    scan-end _ _ _ _ _ _ _ (c .before .loop .inv) (right-end (st .pre .0) _ (st .pre .1) _ (c .loop-test .left))
+    scan-end _ _ _ _ _ _ (c .before .loop .inv) (right-end (st .pre .0) _ (st .pre .1) _ (c .loop-test .left))
 
 pub begins-spec : {M : Type 1} → statement M
 begins-spec =
@@ -114,13 +107,12 @@ begins-spec =
     element-copy-out-s
     of-token-requires
     returns
-    returns-2
     cast-a
     mul-out
     element-copy-out-out
     has-requires
-    returns-3
+    returns-2
     add-i
     loop-less
     loop-again
-    returns-4)
+    returns-3)

@@ -1,43 +1,24 @@
-use Prim.Native.Nat.{_-_, _*_, _^_}
-use borrow.Author.Tests.{not-true, not-false}
-use lib.ListN.{length}
-use mathlib.Core.Path.{_≡_, _∙_}
-use Rattle.analysis.specs.Views.{members, FrontAt}
-use Rattle.analysis.specs.Tables.{total, room-falls}
-use Rattle.analysis.specs.Passes.{WithinAll, RisingTable, table-start, table-on, table-settled}
+use Rattle.analysis.specs.Fronts.{gathers-short, first-settled, lead-settled}
 use Rattle.first_sets.proofs.fronts.Statement.{statement}
 use Rattle.first_sets.proofs.fronts.Tie as tie
 
-abbrev Inv-loop : tie.InvT-loop
-Inv-loop rows count null tokens table₀ table = (length table ≡ 48) × RisingTable (WithinAll (FrontAt tokens (members null) rows) 0 count) table₀ table
+edges-of-requires : tie.Need-edges-of-requires
+edges-of-requires c κs = let st = c .before .before in (st .pre .0, st .pre .2, st .pre .3)
 
-abbrev μ-loop : tie.MeasureT-loop
-μ-loop rows count null tokens table₀ table = 48 * 2 ^ 64 - total table
+spread-requires : tie.Need-spread-requires
+spread-requires c κs =
+    let eo = c .before .before in
+    let st = eo .before .before .before in
+    (eo .edges-of .ensures .0 .size, eo .edges-of .ensures .1 .size, st .pre .1)
 
-loop-holds : tie.Need-loop-holds Inv-loop μ-loop
-loop-holds c = (c .pre .2, table-start _ (c .pre .1))
-
-front-pass-requires : tie.Need-front-pass-requires Inv-loop μ-loop
-front-pass-requires c κs = (c .before .before .pre .0, c .before .loop .inv .0)
-
-returns : tie.Need-returns Inv-loop μ-loop
+returns : tie.Need-returns
 returns c =
-    let q = c .before .front-pass .ensures in
-    table-settled _ _ _ (c .before .before .before .loop .inv .1) (rw (not-true (c .before .front-pass .result) (c .if1 .taken)) at q)
-
-loop-less : tie.Need-loop-less Inv-loop μ-loop
-loop-less c =
-    let at = c .before .before .before in
-    let q = c .before .front-pass .ensures in
-    room-falls (at .loop .table) _ (q .size ∙ at .loop .inv .0) (q .words (at .loop .inv .1 .words)) (q .rises (not-false _ (c .if1 .left)))
-
-loop-again : tie.Need-loop-again Inv-loop μ-loop
-loop-again c =
-    let at = c .before .before .before in
-    let q = c .before .front-pass .ensures in
-    (q .size ∙ at .loop .inv .0, table-on _ _ _ _ (at .loop .inv .1) q)
+    let eo = c .before .before .before in
+    let ge = eo .edges-of .ensures .0 in
+    let gs = eo .edges-of .ensures .1 in (
+      λ b. lead-settled _ _ _ _ ge _ (c .spread .ensures .edges (gathers-short _ _ _ _ _ b ge) (gathers-short _ _ _ _ _ b gs)),
+      λ b. first-settled _ _ _ _ ge _ _ gs (c .spread .ensures .sets (gathers-short _ _ _ _ _ b ge) (gathers-short _ _ _ _ _ b gs)),
+    )
 
 pub fronts-spec : {M : Type 1} → statement M
-fronts-spec =
-    tie.close
-    (tie.spec Inv-loop μ-loop loop-holds front-pass-requires returns loop-less loop-again)
+fronts-spec = tie.close (tie.spec edges-of-requires spread-requires returns)

@@ -1,4 +1,4 @@
-use Prim.Native.Nat.{ℕ, _+_, _-_, _/_, _%_, _≤_}
+use Prim.Native.Nat.{_+_, _-_, _/_, _%_, _≤_}
 use native.Mathlib.Omega.{arith}
 use mathlib.Core.Path.{_≡_, sym, ap, _∙_}
 use borrow.Author.Needs.{needs}
@@ -6,8 +6,7 @@ use denote.Ref.{now}
 use lib.ListN.{length, getD, drop}
 use Rattle.meaning.specs.Grammar.{Grammar, nonterminal}
 use Rattle.meaning.specs.Table.{symbolOf}
-use Rattle.fit.specs.Upward.{Passes}
-use Rattle.fit.specs.Shown.{Shown, waitAt, wordOn, cellsIn, header-inside, start-symbol}
+use Rattle.fit.specs.Shown.{Shown, waitAt, wordOn, header-inside, start-symbol}
 use Rattle.fit.proofs.Places.{stands, stands-not, stands-turn, stands-end}
 use Rattle.fit.proofs.stand_above.Statement.{statement}
 use Rattle.fit.proofs.stand_above.Tie as tie

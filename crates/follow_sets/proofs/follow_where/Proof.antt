@@ -9,7 +9,7 @@ follow-requires : tie.Need-follow-requires
 follow-requires c κs = search needs
 
 returns-2 : tie.Need-returns-2
-returns-2 c = search needs
+returns-2 c = λ k. c .follow .ensures
 
 pub follow-where-spec : {M : Type 1} → statement M
 follow-where-spec = tie.close (tie.spec returns follow-requires returns-2)

@@ -1,6 +1,6 @@
+use borrow.Author.Needs.{needs}
 use Rattle.engine.specs.Records.{recordIs}
 use Rattle.host_numbers.specs.Lent.{numbers-by}
-use borrow.Author.Needs.{needs}
 use Rattle.host_numbers.proofs.hand_back.Statement.{statement}
 use Rattle.host_numbers.proofs.hand_back.Tie as tie
 
@@ -17,7 +17,7 @@ place-base-requires : tie.Need-place-base-requires
 place-base-requires c κs = search needs
 
 returns : tie.Need-returns
-returns c = numbers-by (recordIs (c .before .before .before .before .before .args .«record»)) (c .before .before .before .before .status-out .ensures) (c .before .before .before .kind-out .ensures) (c .before .before .register-base .ensures) (c .before .place-base .ensures)
+returns c = numbers-by (recordIs (c .before .before .before .before .before .before .args .«record»)) (c .before .before .before .before .status-out .ensures) (c .before .before .before .kind-out .ensures) (c .before .before .register-base .ensures) (c .before .place-base .ensures)
 
 pub hand-back-spec : {M : Type 1} → statement M
 hand-back-spec =

@@ -1,6 +1,6 @@
 use mir.Facts.{toZ-ofZ}
 use mathlib.Core.Path.{sym, ap, _∙_}
-use Rattle.engine.specs.Records.{answerIs}
+use Rattle.records.specs.Records.{answerIs}
 use Rattle.host_numbers.specs.Lent.{valueOf}
 use borrow.Author.Needs.{needs, sfits-of}
 use Rattle.host_numbers.proofs.value_of.Statement.{statement}

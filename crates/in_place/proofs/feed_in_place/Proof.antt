@@ -49,12 +49,12 @@ use Rattle.meaning.specs.PublicCalls.{performs, stacksOf}
 use Rattle.meaning.specs.PublicCalls as Public
 use Rattle.engine.specs.Records.{recordIs, effectIs}
 use Rattle.engine.specs.declared.Record.{Record}
-use Rattle.engine.specs.declared.Answer.{Answer}
+use Rattle.records.specs.declared.Answer.{Answer}
 use Rattle.engine.specs.declared.Called.{Called}
 use Rattle.engine.proofs.Record as T
 use Rattle.engine.proofs.Record.Laws as T′
-use Rattle.engine.proofs.Answer as N
-use Rattle.engine.proofs.Answer.Laws as N′
+use Rattle.records.proofs.Answer as N
+use Rattle.records.proofs.Answer.Laws as N′
 use Rattle.engine.proofs.Called as D
 use Rattle.engine.proofs.Called.Laws as D′
 use Rattle.engine.proofs.Record.feed as feed

@@ -1,42 +1,17 @@
 use mathlib.Core.Path.{ap, _∙_}
-use denote.Ref.{now}
-use Rattle.meaning.specs.Calls.{closedRecord}
-use Rattle.meaning.specs.PublicCalls.{stacksOf}
-use Rattle.engine.specs.Records.{recordIs}
-use Rattle.engine.specs.Beginning.{standing-shown, standing-readable}
-use Rattle.engine.proofs.Cases.{ready-case}
-use Rattle.inner_records.specs.Records.{innerEffectIs}
-use Rattle.inner.specs.Beginning.{openedOver, turned-call, standing-opens}
 use borrow.Author.Needs.{needs}
+use Rattle.inner.specs.Records.{innerEffectIs}
 use Rattle.inner.proofs.open_inner.Statement.{statement}
 use Rattle.inner.proofs.open_inner.Tie as tie
 
-begin-requires : tie.Need-begin-requires
-begin-requires c κs = search needs
+open-outside-requires : tie.Need-open-outside-requires
+open-outside-requires c κs = search needs
 
-enum-known-answer : tie.Need-enum-known-answer
-enum-known-answer c = search needs
-
-not-opened-requires : tie.Need-not-opened-requires
-not-opened-requires c κs = search needs
-
-enum-told : tie.Need-enum-told
-enum-told c = search needs
-
-open-over-requires : tie.Need-open-over-requires
-open-over-requires c κs = standing-readable (ready-case (c .before .before .before .before .before .before .before .begin .ensures) (c .before .before .before .enum-told .given .1) .1)
+hand-back-requires : tie.Need-hand-back-requires
+hand-back-requires c κs = search needs
 
 same-length : tie.Need-same-length
 same-length c = search needs
-
-returns : tie.Need-returns
-returns c =
-    let a = c .before .before .before .before .before .before .before .before .before .before .before .before .args in
-    let b = c .before .before .before .before .before .before .begin in
-    let m = stacksOf (now (a .registers)) (now (a .places)) in
-    let o = recordIs (a .outer) in
-    let w = c .before .before .answer .given in
-    ap (λ z. innerEffectIs z (now (a .registers)) (now (a .places)) (b .last .1 .0)) (c .not-opened .ensures) ∙ turned-call (now (a .outer-table)) (now (a .program)) o closedRecord m (openedOver (now (a .inner-table)) o m) (b .ensures) (w .0 .0) (w .1)
 
 same-length-2 : tie.Need-same-length-2
 same-length-2 c = search needs
@@ -44,29 +19,10 @@ same-length-2 c = search needs
 same-length-3 : tie.Need-same-length-3
 same-length-3 c = search needs
 
-same-length-4 : tie.Need-same-length-4
-same-length-4 c = search needs
-
-returns-2 : tie.Need-returns-2
-returns-2 c =
-    let a = c .before .before .before .before .before .before .before .before .before .before .before .before .before .before .before .before .before .before .before .args in
-    let f = c .before .before .before .before .before .open-over in
-    let m = stacksOf (now (a .registers)) (now (a .places)) in
-    let s = ready-case (c .before .before .before .before .before .before .before .before .before .before .before .before .before .begin .ensures) (c .before .before .before .before .before .before .before .before .before .enum-told .given .1) .1 in
-    standing-opens s (now (a .inner-table)) (recordIs (a .outer)) m (innerEffectIs (f .result) (f .last .1 .1 .0) (f .last .1 .1 .1 .0) (f .last .1 .1 .1 .1 .0)) (f .ensures _ (standing-shown s))
+returns : tie.Need-returns
+returns c =
+    let p = c .before .before .before .before .before .before .open-outside in
+    ap (λ z. innerEffectIs z (p .last .1 .1 .1 .0) (p .last .1 .1 .1 .1 .0) (p .last .1 .1 .1 .1 .1 .0)) (c .hand-back .ensures) ∙ p .ensures
 
 pub open-inner-spec : {M : Type 1} → statement M
-open-inner-spec =
-    tie.close
-    (tie.spec
-    begin-requires
-    enum-known-answer
-    not-opened-requires
-    enum-told
-    open-over-requires
-    same-length
-    returns
-    same-length-2
-    same-length-3
-    same-length-4
-    returns-2)
+open-inner-spec = tie.close (tie.spec open-outside-requires hand-back-requires same-length same-length-2 same-length-3 returns)

@@ -3,10 +3,10 @@ use denote.Ref.{now}
 use Rattle.meaning.specs.Calls.{closedRecord}
 use Rattle.meaning.specs.PublicCalls.{stacksOf}
 use Rattle.meaning.specs.Inner.{innerOpenOf}
-use Rattle.engine.specs.Records.{recordIs}
+use Rattle.records.specs.Records.{stateIs}
 use Rattle.engine.specs.Beginning.{standing-shown}
 use Rattle.engine.proofs.Cases.{area-long, ready-case}
-use Rattle.inner_records.specs.Records.{innerCalledIs, innerEffectIs}
+use Rattle.inner_records.specs.Records.{innerHandedIs, innerLeaves}
 use Rattle.inner.specs.Beginning.{openedInside, turned-call, standing-call}
 use borrow.Author.Needs.{needs}
 use Rattle.inner.proofs.open_inside.Statement.{statement}
@@ -35,9 +35,9 @@ returns c =
     let a = c .before .before .before .before .before .before .before .before .before .before .before .args in
     let b = c .before .before .before .before .before .before .begin in
     let m = stacksOf (now (a .registers)) (now (a .places)) in
-    let o = recordIs (a .outer) in
+    let o = stateIs (a .outer) in
     let w = c .before .before .answer .given in
-    ap (λ z. innerEffectIs z (now (a .registers)) (now (a .places)) (b .last .1 .0)) (c .not-opened .ensures) ∙ turned-call (now (a .table)) (now (a .program)) o closedRecord m (openedInside o m) (b .ensures) (w .0 .0) (w .1)
+    ap (λ z. innerLeaves z (now (a .registers)) (now (a .places)) (b .last .1 .0)) (c .not-opened .ensures) ∙ turned-call (now (a .table)) (now (a .program)) o closedRecord m (openedInside o m) (b .ensures) (w .0 .0) (w .1)
 
 same-length-2 : tie.Need-same-length-2
 same-length-2 c = search needs
@@ -53,9 +53,9 @@ returns-2 c =
     let a = c .before .before .before .before .before .before .before .before .before .before .before .before .before .before .before .before .args in
     let f = c .before .before .before .open-above in
     let m = stacksOf (now (a .registers)) (now (a .places)) in
-    let o = recordIs (a .outer) in
+    let o = stateIs (a .outer) in
     let s = ready-case (c .before .before .before .before .before .before .before .before .before .before .before .begin .ensures) (c .before .before .before .before .before .before .before .enum-told .given .1) .1 in
-    standing-call s o closedRecord m (λ g. innerOpenOf g o m) (innerCalledIs (f .result) (f .last .1 .0) (f .last .1 .1 .0)) (f .ensures _ (standing-shown s .begins))
+    standing-call s o closedRecord m (λ g. innerOpenOf g o m) (innerHandedIs (f .result) (f .last .1 .0) (f .last .1 .1 .0)) (f .ensures _ (standing-shown s .begins))
 
 pub open-inside-spec : {M : Type 1} → statement M
 open-inside-spec =

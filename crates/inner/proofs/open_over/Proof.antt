@@ -2,8 +2,8 @@ use mathlib.Core.Path.{ap, _∙_}
 use denote.Ref.{now}
 use Rattle.meaning.specs.Calls.{closedRecord}
 use Rattle.meaning.specs.PublicCalls.{stacksOf}
-use Rattle.engine.specs.Records.{recordIs}
-use Rattle.inner_records.specs.Records.{innerEffectIs}
+use Rattle.records.specs.Records.{stateIs}
+use Rattle.inner_records.specs.Records.{innerLeaves}
 use Rattle.inner.specs.Beginning.{calledInside, openedInside, over-turned, over-fits}
 use borrow.Author.Needs.{needs}
 use Rattle.inner.proofs.open_over.Statement.{statement}
@@ -28,9 +28,9 @@ returns : tie.Need-returns
 returns c =
     let a = c .before .before .before .before .before .before .before .before .before .args in
     let n = c .before .before .judge-cells in
-    let o = recordIs (a .outer) in
+    let o = stateIs (a .outer) in
     let m = stacksOf (now (a .registers)) (now (a .places)) in
-    λ g s. ap (λ z. innerEffectIs z (now (a .registers)) (now (a .places)) (now (a .program))) (c .not-opened .ensures) ∙ over-turned g o m (now (a .program)) (calledInside (now (a .table)) (now (a .program)) o closedRecord m (openedInside o m)) (n .result) (n .ensures g s) (c .before .if1 .taken)
+    λ g s. ap (λ z. innerLeaves z (now (a .registers)) (now (a .places)) (now (a .program))) (c .not-opened .ensures) ∙ over-turned g o m (now (a .program)) (calledInside (now (a .table)) (now (a .program)) o closedRecord m (openedInside o m)) (n .result) (n .ensures g s) (c .before .if1 .taken)
 
 open-inside-requires : tie.Need-open-inside-requires
 open-inside-requires c κs = search needs
@@ -49,7 +49,7 @@ returns-2 c =
     let a = c .before .before .before .before .before .before .before .before .before .before .before .before .before .before .before .before .before .args in
     let n = c .before .before .before .before .before .before .before .before .before .before .judge-cells in
     let f = c .before .before .before .before .before .open-inside in
-    let o = recordIs (a .outer) in
+    let o = stateIs (a .outer) in
     let m = stacksOf (now (a .registers)) (now (a .places)) in
     λ g s. f .ensures ∙ over-fits g o m (now (a .program)) (calledInside (now (a .table)) (now (a .program)) o closedRecord m (openedInside o m)) (n .result) (n .ensures g s) (c .before .before .before .before .before .before .before .before .before .if1 .left)
 

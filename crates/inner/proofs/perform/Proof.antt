@@ -1,10 +1,10 @@
 use denote.Ref.{now}
 use Rattle.meaning.specs.PublicCalls.{stacksOf}
 use Rattle.meaning.specs.Inner.{innerEffect, innerOf}
-use Rattle.engine.specs.Records.{recordIs}
+use Rattle.records.specs.Records.{stateIs}
 use Rattle.engine.specs.Beginning.{standing-shown, standing-readable}
 use Rattle.engine.proofs.Cases.{ready-case}
-use Rattle.inner_records.specs.Records.{callIs, innerCalledIs}
+use Rattle.inner_records.specs.Records.{callIs, innerHandedIs}
 use Rattle.inner.specs.Beginning.{turned-call, standing-call}
 use borrow.Author.Needs.{needs}
 use Rattle.inner.proofs.perform.Statement.{statement}
@@ -31,8 +31,8 @@ returns c =
     let b = c .before .before .before .before .before .begin in
     let m = stacksOf (now (a .registers)) (now (a .places)) in
     let x = callIs (a .call) (now (a .kinds)) (now (a .values)) in
-    let o = recordIs (a .outer) in
-    let i = recordIs (a .inner) in
+    let o = stateIs (a .outer) in
+    let i = stateIs (a .inner) in
     turned-call (now (a .table)) (now (a .program)) o i m (λ g words. innerEffect (innerOf g o i m x) words) (b .ensures) (c .before .answer .given .0 .0) (c .before .answer .given .1)
 
 same-length-2 : tie.Need-same-length-2
@@ -50,10 +50,10 @@ returns-2 c =
     let f = c .before .before .before .call-above in
     let m = stacksOf (now (a .registers)) (now (a .places)) in
     let x = callIs (a .call) (now (a .kinds)) (now (a .values)) in
-    let o = recordIs (a .outer) in
-    let i = recordIs (a .inner) in
+    let o = stateIs (a .outer) in
+    let i = stateIs (a .inner) in
     let s = ready-case (c .before .before .before .before .before .before .before .before .before .before .before .begin .ensures) (c .before .before .before .before .before .before .before .enum-told .given .1) .1 in
-    standing-call s o i m (λ g. innerOf g o i m x) (innerCalledIs (f .result) (f .last .1 .1 .1 .0) (f .last .1 .1 .1 .1 .0)) (f .ensures _ (standing-shown s))
+    standing-call s o i m (λ g. innerOf g o i m x) (innerHandedIs (f .result) (f .last .1 .1 .1 .0) (f .last .1 .1 .1 .1 .0)) (f .ensures _ (standing-shown s))
 
 pub perform-spec : {M : Type 1} → statement M
 perform-spec =

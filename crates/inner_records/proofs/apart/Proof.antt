@@ -1,5 +1,5 @@
 use mathlib.Core.Path.{sym, _∙_}
-use Rattle.engine.specs.Records.{recordIs}
+use Rattle.records.specs.Records.{stateIs}
 use Rattle.inner_records.specs.Records.{apart-by}
 use borrow.Author.Needs.{needs}
 use Rattle.inner_records.proofs.apart.Statement.{statement}
@@ -25,14 +25,14 @@ returns-3 c =
     let a = c .before .before .before .before .before .before .args in
     let o = c .before .before .before .before .before .is-closed in
     let i = c .before .before .before .is-closed2 in
-    apart-by (recordIs (a .outer)) (recordIs (a .inner)) (sym (o .ensures) ∙ c .before .before .before .before .if1 .left) (sym (i .ensures) ∙ c .before .before .if2 .left) (sym (c .before .belongs .ensures) ∙ c .if3 .taken)
+    apart-by (stateIs (a .outer)) (stateIs (a .inner)) (sym (o .ensures) ∙ c .before .before .before .before .if1 .left) (sym (i .ensures) ∙ c .before .before .if2 .left) (sym (c .before .belongs .ensures) ∙ c .if3 .taken)
 
 returns-4 : tie.Need-returns-4
 returns-4 c =
     let a = c .before .before .before .before .before .before .args in
     let o = c .before .before .before .before .before .is-closed in
     let i = c .before .before .before .is-closed2 in
-    apart-by (recordIs (a .outer)) (recordIs (a .inner)) (sym (o .ensures) ∙ c .before .before .before .before .if1 .left) (sym (i .ensures) ∙ c .before .before .if2 .left) (sym (c .before .belongs .ensures) ∙ c .if3 .left)
+    apart-by (stateIs (a .outer)) (stateIs (a .inner)) (sym (o .ensures) ∙ c .before .before .before .before .if1 .left) (sym (i .ensures) ∙ c .before .before .if2 .left) (sym (c .before .belongs .ensures) ∙ c .if3 .left)
 
 pub apart-spec : {M : Type 1} → statement M
 apart-spec =

@@ -1,6 +1,6 @@
 use mathlib.Core.Path.{refl, sym, _∙_}
 use borrow.Author.Tests.{not-true, not-false}
-use Rattle.engine.specs.Records.{recordIs}
+use Rattle.records.specs.Records.{stateIs}
 use Rattle.inner_records.specs.Records.{belongs-by}
 use borrow.Author.Needs.{needs}
 use Rattle.inner_records.proofs.belongs.Statement.{statement}
@@ -12,7 +12,7 @@ is-waiting-requires c κs = search needs
 returns : tie.Need-returns
 returns c =
     let a = c .before .before .args in
-    belongs-by (recordIs (a .outer)) (recordIs (a .inner)) (sym (c .before .is-waiting .ensures) ∙ not-true (c .before .is-waiting .result) (c .if1 .taken)) refl refl refl
+    belongs-by (stateIs (a .outer)) (stateIs (a .inner)) (sym (c .before .is-waiting .ensures) ∙ not-true (c .before .is-waiting .result) (c .if1 .taken)) refl refl refl
 
 is-outer-requires : tie.Need-is-outer-requires
 is-outer-requires c κs = search needs
@@ -21,7 +21,7 @@ returns-2 : tie.Need-returns-2
 returns-2 c =
     let a = c .before .before .before .before .args in
     let w = c .before .before .before .is-waiting in
-    belongs-by (recordIs (a .outer)) (recordIs (a .inner)) (sym (w .ensures) ∙ not-false (w .result) (c .before .before .if1 .left)) (sym (c .before .is-outer .ensures) ∙ not-true (c .before .is-outer .result) (c .if2 .taken)) refl refl
+    belongs-by (stateIs (a .outer)) (stateIs (a .inner)) (sym (w .ensures) ∙ not-false (w .result) (c .before .before .if1 .left)) (sym (c .before .is-outer .ensures) ∙ not-true (c .before .is-outer .result) (c .if2 .taken)) refl refl
 
 is-running-requires : tie.Need-is-running-requires
 is-running-requires c κs = search needs
@@ -31,7 +31,7 @@ returns-3 c =
     let a = c .before .before .before .before .before .before .args in
     let w = c .before .before .before .before .before .is-waiting in
     let u = c .before .before .before .is-outer in
-    belongs-by (recordIs (a .outer)) (recordIs (a .inner)) (sym (w .ensures) ∙ not-false (w .result) (c .before .before .before .before .if1 .left)) (sym (u .ensures) ∙ not-false (u .result) (c .before .before .if2 .left)) (sym (c .before .is-running .ensures) ∙ not-true (c .before .is-running .result) (c .if3 .taken)) refl
+    belongs-by (stateIs (a .outer)) (stateIs (a .inner)) (sym (w .ensures) ∙ not-false (w .result) (c .before .before .before .before .if1 .left)) (sym (u .ensures) ∙ not-false (u .result) (c .before .before .if2 .left)) (sym (c .before .is-running .ensures) ∙ not-true (c .before .is-running .result) (c .if3 .taken)) refl
 
 begins-at-requires : tie.Need-begins-at-requires
 begins-at-requires c κs = search needs
@@ -42,7 +42,7 @@ returns-4 c =
     let w = c .before .before .before .before .before .before .is-waiting in
     let u = c .before .before .before .before .is-outer in
     let r = c .before .before .is-running in
-    belongs-by (recordIs (a .outer)) (recordIs (a .inner)) (sym (w .ensures) ∙ not-false (w .result) (c .before .before .before .before .before .if1 .left)) (sym (u .ensures) ∙ not-false (u .result) (c .before .before .before .if2 .left)) (sym (r .ensures) ∙ not-false (r .result) (c .before .if3 .left)) (sym (c .begins-at .ensures))
+    belongs-by (stateIs (a .outer)) (stateIs (a .inner)) (sym (w .ensures) ∙ not-false (w .result) (c .before .before .before .before .before .if1 .left)) (sym (u .ensures) ∙ not-false (u .result) (c .before .before .before .if2 .left)) (sym (r .ensures) ∙ not-false (r .result) (c .before .if3 .left)) (sym (c .begins-at .ensures))
 
 pub belongs-spec : {M : Type 1} → statement M
 belongs-spec =

@@ -1,16 +1,22 @@
-use mathlib.Core.Path.{ap₂}
+use mathlib.Core.Path.{ap, ap₂, _∙_}
 use borrow.Author.Needs.{needs}
+use Rattle.records.specs.States.{withKind}
 use Rattle.inner_records.proofs.ended.Statement.{statement}
 use Rattle.inner_records.proofs.ended.Tie as tie
 
-changed-requires : tie.Need-changed-requires
-changed-requires c κs = search needs
+resumed-requires : tie.Need-resumed-requires
+resumed-requires c κs = search needs
 
-changed-requires-2 : tie.Need-changed-requires-2
-changed-requires-2 c κs = search needs
+closed-requires : tie.Need-closed-requires
+closed-requires c κs = search needs
+
+like-requires : tie.Need-like-requires
+like-requires c κs = search needs
 
 returns : tie.Need-returns
-returns c = ap₂ (λ x y. record { outer = x; inner = y; answer = c .before .before .before .args .called .answer }) (c .before .changed .ensures) (c .changed2 .ensures)
+returns c =
+    let a = c .before .before .before .before .args in
+    ap₂ (λ x y. record { outer = x; inner = y; answer = a .handed .answer }) (c .before .before .resumed .ensures) (c .like .ensures ∙ ap (withKind (a .inner .kind)) (c .before .closed .ensures))
 
 pub ended-spec : {M : Type 1} → statement M
-ended-spec = tie.close (tie.spec changed-requires changed-requires-2 returns)
+ended-spec = tie.close (tie.spec resumed-requires closed-requires like-requires returns)

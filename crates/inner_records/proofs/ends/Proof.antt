@@ -24,10 +24,10 @@ goes-on-requires : tie.Need-goes-on-requires
 goes-on-requires c κs = search needs
 
 returns : tie.Need-returns
-returns c = ap not (c .is-open .ensures) ∙ ap (λ z. endsBy z (c .before .before .before .before .args .called)) (sym (c .before .enum-told .given .1))
+returns c = ap not (c .is-open .ensures) ∙ ap (λ z. endsBy z (c .before .before .before .before .args .handed)) (sym (c .before .enum-told .given .1))
 
 returns-2 : tie.Need-returns-2
-returns-2 c = ap not (c .is-open2 .ensures) ∙ ap (λ z. endsBy z (c .before .before .before .before .args .called)) (sym (c .before .enum-told2 .given .1))
+returns-2 c = ap not (c .is-open2 .ensures) ∙ ap (λ z. endsBy z (c .before .before .before .before .args .handed)) (sym (c .before .enum-told2 .given .1))
 
 returns-3 : tie.Need-returns-3
 returns-3 c = search needs

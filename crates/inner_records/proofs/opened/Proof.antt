@@ -15,19 +15,19 @@ returns : tie.Need-returns
 returns c =
     let a = c .before .before .before .before .args in
     let q = c .before .before .is-open in
-    c .not-opened .ensures ∙ ap (λ b. openedBy b (a .outer) (a .called)) (sym (sym (q .ensures) ∙ not-true (q .result) (c .before .if1 .taken)))
+    c .not-opened .ensures ∙ ap (λ b. openedBy b (a .outer) (a .handed)) (sym (sym (q .ensures) ∙ not-true (q .result) (c .before .if1 .taken)))
 
-changed-requires : tie.Need-changed-requires
-changed-requires c κs = search needs
+waiting-requires : tie.Need-waiting-requires
+waiting-requires c κs = search needs
 
-changed-requires-2 : tie.Need-changed-requires-2
-changed-requires-2 c κs = search needs
+inside-requires : tie.Need-inside-requires
+inside-requires c κs = search needs
 
 returns-2 : tie.Need-returns-2
 returns-2 c =
     let a = c .before .before .before .before .before .args in
     let q = c .before .before .before .is-open in
-    ap₂ (λ x y. record { outer = x; inner = y; answer = a .called .answer }) (c .before .changed .ensures) (c .changed2 .ensures) ∙ ap (λ b. openedBy b (a .outer) (a .called)) (sym (sym (q .ensures) ∙ not-false (q .result) (c .before .before .if1 .left)))
+    ap₂ (λ x y. record { outer = x; inner = y; answer = a .handed .answer }) (c .before .waiting .ensures) (c .inside .ensures) ∙ ap (λ b. openedBy b (a .outer) (a .handed)) (sym (sym (q .ensures) ∙ not-false (q .result) (c .before .before .if1 .left)))
 
 pub opened-spec : {M : Type 1} → statement M
 opened-spec =
@@ -36,6 +36,6 @@ opened-spec =
     is-open-requires
     not-opened-requires
     returns
-    changed-requires
-    changed-requires-2
+    waiting-requires
+    inside-requires
     returns-2)

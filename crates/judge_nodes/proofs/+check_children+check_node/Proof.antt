@@ -15,7 +15,7 @@ use Rattle.judge_nodes.proofs.check_node.Reads as check-node
 use Rattle.judge_nodes.proofs.check_node.Kinds as check-node-kinds
 use Rattle.judge_nodes.proofs.+check_children+check_node.Lts-check_node as check-node-lts
 use Rattle.judge_nodes.proofs.check_token.Reads as check-token-reads
-use Rattle.judge_nodes.proofs.heading.Reads as heading-reads
+use Rattle.judge_head.proofs.heading.Reads as heading-reads
 use Rattle.judge_nodes.proofs.holds.Reads as holds-reads
 use Rattle.judge_nodes.proofs.mark_of.Reads as mark-of-reads
 use Rattle.value.proofs.byte_at.Reads as byte-at-reads

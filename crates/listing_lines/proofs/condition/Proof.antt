@@ -4,11 +4,6 @@ use Rattle.listing_lines.specs.Line.{is-range, is-atmost, is-atmost-plus
 use borrow.Author.Needs.{needs}
 use Rattle.listing_lines.proofs.condition.Statement.{statement}
 use Rattle.listing_lines.proofs.condition.Tie as tie
-use Rattle.listing_lines.proofs.condition.Reads as reads
-use Rattle.listing_lines.proofs.condition.Lts as lts
-use Rattle.listing_lines.proofs.number_and_constant.Reads as number-and-constant-reads
-use Rattle.listing_lines.proofs.two_numbers.Reads as two-numbers-reads
-use Rattle.text.proofs.spaced_integer.Reads as spaced-integer-reads
 
 -- src/lib.rt:70:46
 slice-aggregate-number-and-constant : tie.Need-slice-aggregate-number-and-constant

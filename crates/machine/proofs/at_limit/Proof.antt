@@ -4,7 +4,8 @@ use borrow.Author.Needs.{needs}
 use denote.Ref.{now}
 use Rattle.meaning.specs.Machine.{ends}
 use Rattle.moves.specs.declared.Step.the-variants.{Blocked}
-use Rattle.machine.specs.Advancing.{looks, blocked-limit, limit-answers}
+use Rattle.looking.specs.Judging.{looks}
+use Rattle.machine.specs.Advancing.{blocked-limit, limit-answers}
 use Rattle.machine.specs.Turns.{turned-judged, turned-look, turned-quiet}
 use Rattle.machine.proofs.at_limit.Statement.{statement}
 use Rattle.machine.proofs.at_limit.Tie as tie

@@ -4,14 +4,15 @@ use mathlib.Core.Path.{_≡_, sym, ap, _∙_}
 use lib.ListN.{length, getD}
 use borrow.Author.Needs.{needs}
 use denote.Ref.{now}
-use Rattle.machine.specs.Advancing.{looks}
+use Rattle.looking.specs.Judging.{looks}
 use lib.IntN.{pos}
 use mir.Facts.{toZ-ofZ}
 use borrow.Author.Needs.{sfits-of}
 use Rattle.theory_program.specs.Addresses.{segment-at}
 use Rattle.theory_program.specs.Stands.{stands-within}
 use Rattle.machine.specs.Feeding.{four-of}
-use Rattle.machine.specs.Turns.{judgedOf, taken-of, turned-judged, turned-read}
+use Rattle.looking.specs.Judging.{judgedOf, taken-of}
+use Rattle.machine.specs.Turns.{turned-judged, turned-read}
 use Rattle.machine.proofs.read_next.Statement.{statement}
 use Rattle.machine.proofs.read_next.Tie as tie
 

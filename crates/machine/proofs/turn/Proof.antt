@@ -10,7 +10,8 @@ use denote.Ref.{now}
 use Rattle.meaning.specs.Machine.{ends, movesLimit}
 use Rattle.moves.specs.declared.Step.{Step}
 use Rattle.moves.specs.Held.{Ready, Answers, bounds}
-use Rattle.machine.specs.Advancing.{looks, number-most}
+use Rattle.looking.specs.Judging.{looks}
+use Rattle.machine.specs.Advancing.{number-most}
 use Rattle.machine.specs.Turns.{Turned, turned-quiet}
 use Rattle.machine.proofs.turn.Statement.{statement}
 use Rattle.machine.proofs.turn.Tie as tie

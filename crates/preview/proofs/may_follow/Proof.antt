@@ -15,50 +15,40 @@ use borrow.Author.Needs.{needs}
 use Rattle.preview.proofs.may_follow.Statement.{statement}
 use Rattle.preview.proofs.may_follow.Tie as tie
 
--- src/lib.rt:66:11
 begin-requires : tie.Need-begin-requires
 begin-requires c κs = search needs
 
--- src/lib.rt:67:23
 enum-known-answer : tie.Need-enum-known-answer
 enum-known-answer c = search needs
 
--- src/lib.rt:71:13
 enum-told : tie.Need-enum-told
 enum-told c = search needs
 
--- src/lib.rt:68:25
 may-cells-requires : tie.Need-may-cells-requires
 may-cells-requires c κs = standing-readable (ready-case (c .before .before .before .before .before .before .before .begin .ensures) (c .before .before .before .enum-told .given .1) .1)
 
--- src/lib.rt:54:1
 same-length : tie.Need-same-length
 same-length c = search needs
 
--- src/lib.rt:54:1
 returns : tie.Need-returns
 returns c =
     let b = c .before .before .before .before .before .begin in
-    let a = c .before .before .before .before .before .before .before .before .before .before .before .args in
+    let a = c .before .before .before .before .before .before .before .before .before .before .before .before .args in
     turned-mays (now (a .table)) (now (a .program)) (recordIs (a .record)) (stacksOf (now (a .registers)) (now (a .places))) (stacksOf (now (a .scratch-registers)) (now (a .scratch-places))) (a .value) (b .ensures) (c .before .answer .given .0 .0) (c .before .answer .given .1)
 
--- src/lib.rt:54:1
 same-length-2 : tie.Need-same-length-2
 same-length-2 c = search needs
 
--- src/lib.rt:54:1
 same-length-3 : tie.Need-same-length-3
 same-length-3 c = search needs
 
--- src/lib.rt:54:1
 same-length-4 : tie.Need-same-length-4
 same-length-4 c = search needs
 
--- src/lib.rt:54:1
 returns-2 : tie.Need-returns-2
 returns-2 c =
     let k = c .before .before .before .may-cells in
-    let x = c .before .before .before .before .before .before .before .before .before .before .before .before .before .before .before .before .before in
+    let x = c .before .before .before .before .before .before .before .before .before .before .before .before .before .before .before .before .before .before in
     let a = x .args in
     let d = ready-case (c .before .before .before .before .before .before .before .before .before .before .before .begin .ensures) (c .before .before .before .before .before .before .before .enum-told .given .1) .1 in
     let r = recordIs (a .record) in

@@ -7,73 +7,65 @@ use mathlib.Core.Path.{ap, _∙_}
 use denote.Ref.{now}
 use Rattle.meaning.specs.PublicCalls.{stacksOf}
 use Rattle.meaning_preview.specs.Preview.{previewOf}
-use Rattle.engine.specs.Records.{recordIs, calledIs, effectIs}
+use Rattle.records.specs.Records.{handedIs}
+use Rattle.engine.specs.Records.{recordIs, effectIs}
 use Rattle.engine.specs.Beginning.{standing-shown, standing-readable, standing-called}
 use Rattle.engine.proofs.Cases.{ready-case, turned-case}
 use borrow.Author.Needs.{needs}
 use Rattle.preview.proofs.preview.Statement.{statement}
 use Rattle.preview.proofs.preview.Tie as tie
 
--- src/lib.rt:38:11
 begin-requires : tie.Need-begin-requires
 begin-requires c κs = search needs
 
--- src/lib.rt:39:23
 enum-known-answer : tie.Need-enum-known-answer
 enum-known-answer c = search needs
 
--- src/lib.rt:39:34
-as-brought-requires : tie.Need-as-brought-requires
-as-brought-requires c κs = search needs
-
--- src/lib.rt:43:13
 enum-told : tie.Need-enum-told
 enum-told c = search needs
 
--- src/lib.rt:40:25
 preview-cells-requires : tie.Need-preview-cells-requires
 preview-cells-requires c κs = standing-readable (ready-case (c .before .before .before .before .before .before .before .begin .ensures) (c .before .before .before .enum-told .given .1) .1)
 
--- src/lib.rt:25:1
+hand-back-requires : tie.Need-hand-back-requires
+hand-back-requires c κs = search needs
+
 same-length : tie.Need-same-length
 same-length c = search needs
 
--- src/lib.rt:25:1
 returns : tie.Need-returns
 returns c =
-    let b = c .before .before .before .before .before .before .begin in
+    let b = c .before .before .before .before .before .begin in
     let a = c .before .before .before .before .before .before .before .before .before .before .before .before .args in
     let r = recordIs (a .record) in
     let m = stacksOf (now (a .registers)) (now (a .places)) in
     let s = stacksOf (now (a .scratch-registers)) (now (a .scratch-places)) in
-    ap (λ z. effectIs z (now (a .scratch-registers)) (now (a .scratch-places)) (b .last .1 .0)) (c .as-brought .ensures) ∙ turned-case (b .ensures) (c .before .before .answer .given .0 .0) (c .before .before .answer .given .1) r s (λ g. previewOf g r m s (a .kind) (a .value))
+    turned-case (b .ensures) (c .before .answer .given .0 .0) (c .before .answer .given .1) r s (λ g. previewOf g r m s (a .kind) (a .value))
 
--- src/lib.rt:25:1
 same-length-2 : tie.Need-same-length-2
 same-length-2 c = search needs
 
--- src/lib.rt:25:1
 same-length-3 : tie.Need-same-length-3
 same-length-3 c = search needs
 
--- src/lib.rt:25:1
 same-length-4 : tie.Need-same-length-4
 same-length-4 c = search needs
 
--- src/lib.rt:25:1
 returns-2 : tie.Need-returns-2
 returns-2 c =
-    let k = c .before .before .before .preview-cells in
-    let x = c .before .before .before .before .before .before .before .before .before .before .before .before .before .before .before .before .before in
+    let k = c .before .before .before .before .preview-cells in
+    let x = c .before .before .before .before .before .before .before .before .before .before .before .before .before .before .before .before .before .before .before in
     let a = x .args in
-    let d = ready-case (c .before .before .before .before .before .before .before .before .before .before .before .begin .ensures) (c .before .before .before .before .before .before .before .enum-told .given .1) .1 in
+    let b = c .before .before .before .before .before .before .before .before .before .before .before .before .begin in
+    let d = ready-case (b .ensures) (c .before .before .before .before .before .before .before .before .enum-told .given .1) .1 in
     let r = recordIs (a .record) in
     let m = stacksOf (now (a .registers)) (now (a .places)) in
     let s = stacksOf (now (a .scratch-registers)) (now (a .scratch-places)) in
     let g = grammarOf (d .state) in
     let v = toZ w32 (ofZ w32 (a .value)) in
     let e : v ≡ a .value = toZ-ofZ (x .fits .value) in
-    standing-called d r s (λ g. previewOf g r m s (a .kind) (a .value)) (calledIs (k .result) (k .last .1 .1 .0) (k .last .1 .1 .1 .0)) (k .ensures g (standing-shown d) ∙ ap (previewOf g r m s (a .kind)) e)
+    ap (λ z. effectIs z (k .last .1 .1 .0) (k .last .1 .1 .1 .0) (b .last .1 .0)) (c .hand-back .ensures)
+    ∙ standing-called d r s (λ g. previewOf g r m s (a .kind) (a .value)) (handedIs (k .result) (k .last .1 .1 .0) (k .last .1 .1 .1 .0)) (k .ensures g (standing-shown d) ∙ ap (previewOf g r m s (a .kind)) e)
 
 pub preview-spec : {M : Type 1} → statement M
 preview-spec =
@@ -81,9 +73,9 @@ preview-spec =
     (tie.spec
     begin-requires
     enum-known-answer
-    as-brought-requires
     enum-told
     preview-cells-requires
+    hand-back-requires
     same-length
     returns
     same-length-2

@@ -2,8 +2,6 @@ use native.Mathlib.Omega.{arith}
 use mathlib.Core.Path.{_∙_}
 use Rattle.blocks.specs.Patch.{wrote-length}
 use Rattle.program.specs.Directory.{alternatives}
-use Rattle.program.specs.Waits.{rowsIn}
-use Rattle.program.proofs.Laws as L
 use Rattle.program.proofs.Sections as S
 use Rattle.program.proofs.Outlined.{outlined-of}
 use Rattle.program.proofs.build.Statement.{statement}
@@ -22,66 +20,33 @@ write-directory-requires c κs =
     let segment = c .before .before .before .before .before .write-segment .ensures in
     (alternatives x, omega (arith, start .pre .1, wrote-length (segment x)))
 
-mul-from : tie.Need-mul-from
-mul-from c = let x = outlined-of (c .before .before .before .before .before .before .before .before .before .before .before .before .before .before .before .before .before .before .pre .0 .1) in omega (arith, L.numbers-small x .0, L.numbers-small x .3)
-
-add-from : tie.Need-add-from
-add-from c = let x = outlined-of (c .before .before .before .before .before .before .before .before .before .before .before .before .before .before .before .before .before .before .pre .0 .1) in omega (arith, L.numbers-small x .0, L.numbers-small x .3)
-
-mul-from-2 : tie.Need-mul-from-2
-mul-from-2 c = let x = outlined-of (c .before .before .before .before .before .before .before .before .before .before .before .before .before .before .before .before .before .before .before .pre .0 .1) in omega (arith, L.numbers-small x .0, L.numbers-small x .3)
-
-add-from-2 : tie.Need-add-from-2
-add-from-2 c = let x = outlined-of (c .before .before .before .before .before .before .before .before .before .before .before .before .before .before .before .before .before .before .before .pre .0 .1) in omega (arith, L.numbers-small x .0, L.numbers-small x .3)
-
-write-waits-requires : tie.Need-write-waits-requires
-write-waits-requires c κs =
-    let start = c .before .before .before .before .before .before .before .before .before .before .before .before .before .before .before .before .before .before .before .before .before .before .before in
-    let x = outlined-of (start .pre .0 .1) in
-    let segment = c .before .before .before .before .before .before .before .before .before .before .before .before .before .before .write-segment .ensures in
-    let marked = c .before .before .before .before .before .before .before .before .write-directory .ensures in
-    (rowsIn x, omega (arith, start .pre .1, L.numbers-small x .0, L.numbers-small x .3, wrote-length (segment x), wrote-length (marked (alternatives x))))
-
 write-productions-requires : tie.Need-write-productions-requires
 write-productions-requires c κs =
-    let start = c .before .before .before .before .before .before .before .before .before .before .before .before .before .before .before .before .before .before .before .before .before .before .before .before .before .before .before .before .before .before .before .before in
+    let start = c .before .before .before .before .before .before .before .before .before .before .before .before .before .before .before .before .before .before in
     let x = outlined-of (start .pre .0 .1) in
-    let segment = c .before .before .before .before .before .before .before .before .before .before .before .before .before .before .before .before .before .before .before .before .before .before .before .write-segment .ensures in
-    let marked = c .before .before .before .before .before .before .before .before .before .before .before .before .before .before .before .before .before .write-directory .ensures in
-    let waiting = c .before .before .before .before .before .before .before .before .write-waits .ensures in
-    (x, omega (arith, start .pre .1, wrote-length (segment x), wrote-length (marked (alternatives x)), wrote-length (waiting (rowsIn x))))
+    let segment = c .before .before .before .before .before .before .before .before .before .write-segment .ensures in
+    let marked = c .before .before .before .write-directory .ensures in
+    (x, omega (arith, start .pre .1, wrote-length (segment x), wrote-length (marked (alternatives x))))
 
 same-length : tie.Need-same-length
 same-length c =
-    let start = c .before .before .before .before .before .before .before .before .before .before .before .before .before .before .before .before .before .before .before .before .before .before .before .before .before .before .before .before .before .before .before .before .before .before .before in
+    let start = c .before .before .before .before .before .before .before .before .before .before .before .before .before .before .before .before .before .before .before .before .before in
     let x = outlined-of (start .pre .0 .1) in
-    let segment = c .before .before .before .before .before .before .before .before .before .before .before .before .before .before .before .before .before .before .before .before .before .before .before .before .before .before .write-segment .ensures in
-    let marked = c .before .before .before .before .before .before .before .before .before .before .before .before .before .before .before .before .before .before .before .before .write-directory .ensures in
-    let waiting = c .before .before .before .before .before .before .before .before .before .before .before .write-waits .ensures in
+    let segment = c .before .before .before .before .before .before .before .before .before .before .before .before .write-segment .ensures in
+    let marked = c .before .before .before .before .before .before .write-directory .ensures in
     let productions = c .before .before .write-productions .ensures in
-    S.productions-length (productions x) ∙ (wrote-length (waiting (rowsIn x)) ∙ (wrote-length (marked (alternatives x)) ∙ wrote-length (segment x)))
+    S.productions-length _ _ (productions x) ∙ (wrote-length (marked (alternatives x)) ∙ wrote-length (segment x))
 
 returns : tie.Need-returns
 unfolding outlined-of
 returns c = λ s b.
     let x = outlined-of b in
-    let long = c .before .before .before .before .before .before .before .before .before .before .before .before .before .before .before .before .before .before .before .before .before .before .before .before .before .before .before .before .before .before .before .before .before .before .before .pre .1 in
-    let segment = c .before .before .before .before .before .before .before .before .before .before .before .before .before .before .before .before .before .before .before .before .before .before .before .before .before .before .write-segment .ensures in
-    let marked = c .before .before .before .before .before .before .before .before .before .before .before .before .before .before .before .before .before .before .before .before .write-directory .ensures in
-    let waiting = c .before .before .before .before .before .before .before .before .before .before .before .write-waits .ensures in
-    S.program-written x long (segment x) (marked (alternatives x)) (waiting (rowsIn x)) (c .before .before .write-productions .ensures x)
+    let long = c .before .before .before .before .before .before .before .before .before .before .before .before .before .before .before .before .before .before .before .before .before .pre .1 in
+    let segment = c .before .before .before .before .before .before .before .before .before .before .before .before .write-segment .ensures in
+    let marked = c .before .before .before .before .before .before .write-directory .ensures in
+    S.program-written x long (segment x) (marked (alternatives x)) (c .before .before .write-productions .ensures x)
 
 pub build-spec : {M : Type 1} → statement M
 build-spec =
     tie.close
-    (tie.spec
-    write-segment-requires
-    write-directory-requires
-    mul-from
-    add-from
-    mul-from-2
-    add-from-2
-    write-waits-requires
-    write-productions-requires
-    same-length
-    returns)
+    (tie.spec write-segment-requires write-directory-requires write-productions-requires same-length returns)

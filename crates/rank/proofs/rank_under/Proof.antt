@@ -3,7 +3,8 @@ use denote.Ref.{now}
 use lib.ListN.{length}
 use Rattle.theory_ranking.specs.Entries.{entriesOf}
 use Rattle.theory_ranking.specs.Report.{counted-distinct}
-use Rattle.rank.specs.Listing.{suits, uneven-as, listed-as}
+use Rattle.rank_suits.specs.Suiting.{suits}
+use Rattle.rank.specs.Listing.{uneven-as, listed-as}
 use borrow.Author.Needs.{needs}
 use Rattle.rank.proofs.rank_under.Statement.{statement}
 use Rattle.rank.proofs.rank_under.Tie as tie

@@ -8,8 +8,6 @@ use Rattle.machine.specs.Feeding.{four-of}
 use Rattle.sheet.specs.Calling.{FourTo, four-none, four-more, four-all}
 use Rattle.sheet.proofs.all_values.Statement.{statement}
 use Rattle.sheet.proofs.all_values.Tie as tie
-use Rattle.sheet.proofs.all_values.Reads as reads
-use Rattle.sheet.proofs.all_values.Lts as lts
 
 abbrev Inv-loop : tie.InvT-loop
 Inv-loop values i₀ i = FourTo values i × (i ≤ length values)

@@ -10,10 +10,6 @@ use Rattle.sheet.specs.Segments.{ends-value, ended-result, ends-35, ends
 use borrow.Author.Needs.{needs}
 use Rattle.sheet.proofs.ended.Statement.{statement}
 use Rattle.sheet.proofs.ended.Tie as tie
-use Rattle.sheet.proofs.ended.Reads as reads
-use Rattle.sheet.proofs.ended.Lts as lts
-use Rattle.moves.proofs.word_at.Reads as word-at-reads
-use Rattle.registers.proofs.read.Reads as read-reads
 
 shared-slice-read-read : tie.Need-shared-slice-read-read
 shared-slice-read-read c = omega (arith, stands-within (segment-at ((c .before .before .before .before) .pre .held .begins)))

@@ -1,6 +1,6 @@
-use Prim.Native.Nat.{_≤_, _<_}
+use Prim.Native.Nat.{_≤_}
 use native.Mathlib.Omega.{arith}
-use mathlib.Core.Path.{_≡_, sym, ap, subst}
+use mathlib.Core.Path.{sym, ap, subst}
 use lib.ListN.{length, getD}
 use denote.Ref.{now}
 use borrow.Author.Needs.{needs}
@@ -13,12 +13,6 @@ use Rattle.sheet.specs.Segments.{segment-31, segment-32, first-at, segme
 use borrow.Author.Needs.{needs}
 use Rattle.sheet.proofs.segment.Statement.{statement}
 use Rattle.sheet.proofs.segment.Tie as tie
-use Rattle.sheet.proofs.segment.Reads as reads
-use Rattle.sheet.proofs.segment.Lts as lts
-use Rattle.engine.proofs.lent.open_cells.Reads as open-cells-reads
-use Rattle.moves.proofs.word_at.Reads as word-at-reads
-use Rattle.sheet.proofs.ended.Reads as ended-reads
-use Rattle.sheet_walk.proofs.children.Reads as children-reads
 
 word-at-requires : tie.Need-word-at-requires
 word-at-requires c κs = omega (arith, stands-within (segment-at ((c .before .before .before .before) .pre .0 .shown .begins)))

@@ -1,4 +1,4 @@
-use Prim.Native.Nat.{_≤_, _<_, min}
+use Prim.Native.Nat.{min}
 use native.Mathlib.Omega.{arith}
 use mathlib.Core.Path.{_≡_, subst}
 use mathlib.Core.List.{[], _∷_}
@@ -9,9 +9,6 @@ use Rattle.sheet.specs.Segments.{SegmentDone, under-uneven, under-refuse
 use borrow.Author.Needs.{needs}
 use Rattle.sheet.proofs.sheet_under.Statement.{statement}
 use Rattle.sheet.proofs.sheet_under.Tie as tie
-use Rattle.sheet.proofs.sheet_under.Reads as reads
-use Rattle.sheet.proofs.sheet_under.Lts as lts
-use Rattle.sheet.proofs.walk.Reads as walk-reads
 
 returns : tie.Need-returns
 returns c =

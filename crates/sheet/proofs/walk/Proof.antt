@@ -1,4 +1,4 @@
-use Prim.Native.Nat.{_≤_, min}
+use Prim.Native.Nat.{min}
 use native.Mathlib.Omega.{arith}
 use mathlib.Core.Path.{refl, sym, _∙_}
 use denote.Ref.{now}
@@ -7,10 +7,6 @@ use Rattle.sheet.specs.Calling.{cut, cut-few, walks-as}
 use borrow.Author.Needs.{needs}
 use Rattle.sheet.proofs.walk.Statement.{statement}
 use Rattle.sheet.proofs.walk.Tie as tie
-use Rattle.sheet.proofs.walk.Reads as reads
-use Rattle.sheet.proofs.walk.Lts as lts
-use Rattle.engine.proofs.lent.smaller.Reads as smaller-reads
-use Rattle.sheet.proofs.segment.Reads as segment-reads
 
 smaller-requires : tie.Need-smaller-requires
 smaller-requires c κs = search needs

@@ -5,10 +5,6 @@ use Rattle.meaning_sheet.specs.Sheet.{complement}
 use borrow.Author.Needs.{needs}
 use Rattle.sheet_bytes.proofs.put_eight.Statement.{statement}
 use Rattle.sheet_bytes.proofs.put_eight.Tie as tie
-use Rattle.sheet_bytes.proofs.put_eight.Reads as reads
-use Rattle.sheet_bytes.proofs.put_eight.Lts as lts
-use Rattle.sheet_bytes.proofs.complement.Reads as complement-reads
-use Rattle.sheet_bytes.proofs.put_four.Reads as put-four-reads
 
 complement-requires : tie.Need-complement-requires
 complement-requires c κs = search needs

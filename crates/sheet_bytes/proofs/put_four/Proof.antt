@@ -2,9 +2,6 @@ use Rattle.theory_sheet.specs.Overlay.{four-laid}
 use borrow.Author.Needs.{needs}
 use Rattle.sheet_bytes.proofs.put_four.Statement.{statement}
 use Rattle.sheet_bytes.proofs.put_four.Tie as tie
-use Rattle.sheet_bytes.proofs.put_four.Reads as reads
-use Rattle.sheet_bytes.proofs.put_four.Lts as lts
-use Rattle.sheet_bytes.proofs.put.Reads as put-reads
 
 cast-put : tie.Need-cast-put
 cast-put c = search needs

@@ -10,10 +10,6 @@ use mir.Facts.{toZ-ofZ}
 use borrow.Author.Needs.{needs, sfits-of}
 use Rattle.sheet_bytes.proofs.put_values.Statement.{statement}
 use Rattle.sheet_bytes.proofs.put_values.Tie as tie
-use Rattle.sheet_bytes.proofs.put_values.Reads as reads
-use Rattle.sheet_bytes.proofs.put_values.Lts as lts
-use Rattle.registers.proofs.read.Reads as read-reads
-use Rattle.sheet_bytes.proofs.put_eight.Reads as put-eight-reads
 
 abbrev Inv-loop : tie.InvT-loop
 Inv-loop sheet₀ at registers height above count i₀ sheet i = (sheet ≡ overlay at (valueBytes (take i (drop above (stack height registers)))) sheet₀) × (i ≤ count) × (length sheet ≡ length sheet₀)

@@ -8,8 +8,8 @@ use borrow.Author.Needs.{needs}
 use Rattle.moves.specs.Held.{bounds}
 use Rattle.machine.specs.declared.Ended.the-variants as Ended
 use Rattle.sheet_walk.specs.declared.Walked.the-variants as Walked
-use Rattle.sheet_walk.specs.Standing.{Settles, Steps, isLook, stood}
-use Rattle.sheet_walk.specs.Leaving.{nested}
+use Rattle.sheet_moves.specs.Standing.{Settles, Steps, isLook, stood}
+use Rattle.sheet_record.specs.Recording.{nested}
 use Rattle.sheet_walk.specs.Cycle.{NodeDone, ListDone, list-fails, list-over, list-child-fails, list-more, settled-walking, settled-rests, list-node-at, list-symbols, list-more-at, only-read, entered-inner, depth-left, node-list-at, leaving-inner, leaving-five, leaving-tokens, counted-few, step-refused, node-list-fails, node-left}
 use borrow.Fn.Kinds.{In}
 use borrow.Fn.PlainCycle.{Measures, is, falls, and}
@@ -20,11 +20,11 @@ use Rattle.sheet_walk.proofs.node.Reads as node
 use Rattle.sheet_walk.proofs.node.Kinds as node-kinds
 use Rattle.sheet_walk.proofs.+children+node.Lts-node as node-lts
 use Rattle.moves.proofs.word_at.Reads as word-at-reads
-use Rattle.sheet_walk.proofs.attributes.Reads as attributes-reads
+use Rattle.sheet_record.proofs.attributes.Reads as attributes-reads
 use Rattle.sheet_walk.proofs.leave.Reads as leave-reads
 use Rattle.sheet_walk.proofs.read.Reads as read-reads
-use Rattle.sheet_walk.proofs.settle.Reads as settle-reads
-use Rattle.sheet_walk.proofs.step.Reads as step-reads
+use Rattle.sheet_moves.proofs.settle.Reads as settle-reads
+use Rattle.sheet_moves.proofs.step.Reads as step-reads
 use Rattle.sheet_walk.proofs.+children+node.{statement}
 use Rattle.sheet_walk.proofs.+children+node.Tie.{close}
 

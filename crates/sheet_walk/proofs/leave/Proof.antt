@@ -1,18 +1,13 @@
-use native.Mathlib.Omega.{arith}
 use mathlib.Core.Path.{_≡_, subst}
 use denote.Ref.{now}
 use Rattle.meaning.specs.Machine.{ends}
 use Rattle.machine.specs.declared.Ended as Ended
-use Rattle.machine.specs.declared.Ended.the-variants.{Stopped, Failed}
-use Rattle.sheet_walk.specs.Trying.{Tries}
+use Rattle.machine.specs.declared.Ended.the-variants.{Stopped}
+use Rattle.sheet_moves.specs.Trying.{Tries}
 use Rattle.sheet_walk.specs.Leaving.{left-done, left-fails}
 use borrow.Author.Needs.{needs}
 use Rattle.sheet_walk.proofs.leave.Statement.{statement}
 use Rattle.sheet_walk.proofs.leave.Tie as tie
-use Rattle.sheet_walk.proofs.leave.Reads as reads
-use Rattle.sheet_walk.proofs.leave.Lts as lts
-use Rattle.sheet_walk.proofs.made.Reads as made-reads
-use Rattle.sheet_walk.proofs.write_record.Reads as write-record-reads
 
 write-record-requires : tie.Need-write-record-requires
 write-record-requires c κs = search needs

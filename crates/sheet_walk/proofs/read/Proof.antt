@@ -2,15 +2,12 @@ use native.Mathlib.Omega.{arith}
 use mathlib.Core.Path.{_≡_, subst}
 use denote.Ref.{now}
 use Rattle.machine.specs.declared.Ended as Ended
-use Rattle.machine.specs.declared.Ended.the-variants.{Stopped, Failed}
-use Rattle.sheet_walk.specs.Standing.{Steps}
+use Rattle.machine.specs.declared.Ended.the-variants.{Stopped}
+use Rattle.sheet_moves.specs.Standing.{Steps}
 use Rattle.sheet_walk.specs.Cycle.{read-done, step-refused}
 use borrow.Author.Needs.{needs}
 use Rattle.sheet_walk.proofs.read.Statement.{statement}
 use Rattle.sheet_walk.proofs.read.Tie as tie
-use Rattle.sheet_walk.proofs.read.Reads as reads
-use Rattle.sheet_walk.proofs.read.Lts as lts
-use Rattle.sheet_walk.proofs.step.Reads as step-reads
 
 step-requires : tie.Need-step-requires
 step-requires c κs = let s = c .before .before .before .before .before in (s .pre .0, (omega (arith, s .pre .1), omega (arith, s .pre .1)))

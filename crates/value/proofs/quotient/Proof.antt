@@ -8,7 +8,7 @@ use lib.Signed.{leZ}
 use mir.Syntax.{w64}
 use mir.Facts.{toZ-ofZ}
 use mir.Val.{SFits, toZ, ofZ}
-use Rattle.meaning.specs.Value.{inRange, floored, quotient}
+use Rattle.meaning.specs.Value.{floored, quotient}
 use Rattle.value.specs.Ranged.{ranged, ranged-in}
 use Rattle.value.specs.Sizes.{natAbs-add}
 use Rattle.value.specs.Nearest.{floor-is, quotient-low, doubled}

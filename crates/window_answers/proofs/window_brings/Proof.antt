@@ -5,8 +5,8 @@ use denote.Ref.{now}
 use lib.IntN.{ℤ}
 use Rattle.meaning.specs.Window as Window
 use Rattle.meaning.specs.Window.{outcome, bringsAnswer, bringsRefusal, bringsValue}
-use Rattle.engine.specs.Records.{answerIs}
-use Rattle.engine.specs.declared.Answer.{Answer}
+use Rattle.records.specs.Records.{answerIs}
+use Rattle.records.specs.declared.Answer.{Answer}
 use borrow.Author.Needs.{needs, sfits-of}
 use Rattle.window_answers.proofs.window_brings.Statement.{statement}
 use Rattle.window_answers.proofs.window_brings.Tie as tie

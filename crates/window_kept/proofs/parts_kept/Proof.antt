@@ -4,6 +4,8 @@ use mathlib.Core.Bool.{true}
 use denote.Ref.{now}
 use lib.ListN.{getD}
 use lib.IntN.{pos}
+use mir.Syntax.{w64}
+use mir.Val.{toZ, ofZ}
 use borrow.Author.Needs.{sfits-of, needs}
 use borrow.Author.Tests.{not-true, not-false}
 use Rattle.meaning.specs.Window.{placeFits}
@@ -26,7 +28,7 @@ returns c =
     let s = c .before .before .before .before in
     let h = c .before .before .before .number-at in
     let k = c .before .before .number-at2 in
-    place-not (now (s .args .buffer)) (s .args .size) (s .pre .0) (s .pre .1) (h .result) (k .result) (h .ensures .0) (k .ensures .0) (sym (c .before .place-fits .ensures) ∙ not-true (c .before .place-fits .result) (c .if1 .taken))
+    place-not (now (s .args .buffer)) _ _ (s .args .size) (s .pre .0) (s .pre .1) (h .result) (k .result) (h .ensures .0) (k .ensures .0) (sym (c .before .place-fits .ensures) ∙ not-true (c .before .place-fits .result) (c .if1 .taken))
 
 -- the place passed its test
 placed : (c : tie.Else1) → placeFits (c .before .before .before .before .args .size) (c .before .before .before .number-at .result) (c .before .before .number-at2 .result) ≡ true
@@ -42,7 +44,7 @@ returns-2 c =
     let h = e .before .before .before .number-at in
     let k = e .before .before .number-at2 in
     let q = c .before .number-at3 in
-    count-not (now (s .args .buffer)) (s .args .size) (s .pre .0) (s .pre .1) (h .result) (k .result) (h .ensures .0) (k .ensures .0) (placed e) (q .result) (q .ensures .0) (omega arith)
+    count-not (now (s .args .buffer)) _ _ (s .args .size) (s .pre .0) (s .pre .1) (h .result) (k .result) (h .ensures .0) (k .ensures .0) (placed e) (q .result) (q .ensures .0) (omega arith)
 
 add-slots : tie.Need-add-slots
 add-slots c = search needs
@@ -84,7 +86,7 @@ rest-zero-requires c κs =
     let h = e .before .before .before .number-at in
     let k = e .before .before .number-at2 in
     let q = c .before .before .before .number-at3 in
-    let w = window-part (now (s .args .buffer)) (s .args .size) (s .pre .0) (s .pre .1) (h .result) (k .result) (h .ensures .0) (k .ensures .0) (placed e) (q .result) (q .ensures .0) (omega arith) in
+    let w = window-part (now (s .args .buffer)) (s .args .value) (now (s .args .leaders)) (s .args .size) (s .pre .0) (s .pre .1) (h .result) (k .result) (h .ensures .0) (k .ensures .0) (placed e) (q .result) (q .ensures .0) (omega arith) (pos 0) in
     (w .held, omega (arith, w .alike, w .count))
 
 returns-3 : tie.Need-returns-3
@@ -94,30 +96,33 @@ returns-3 c =
     let h = e .before .before .before .number-at in
     let k = e .before .before .number-at2 in
     let q = c .before .before .before .before .before .number-at3 in
-    rest-not (now (s .args .buffer)) (s .args .size) (s .pre .0) (s .pre .1) (h .result) (k .result) (h .ensures .0) (k .ensures .0) (placed e) (q .result) (q .ensures .0) (omega arith) (sym (c .before .rest-zero .ensures) ∙ not-true (c .before .rest-zero .result) (c .if3 .taken))
+    rest-not (now (s .args .buffer)) _ _ (s .args .size) (s .pre .0) (s .pre .1) (h .result) (k .result) (h .ensures .0) (k .ensures .0) (placed e) (q .result) (q .ensures .0) (omega arith) (sym (c .before .rest-zero .ensures) ∙ not-true (c .before .rest-zero .result) (c .if3 .taken))
 
-shared-slice-copy-out-values-fit : tie.Need-shared-slice-copy-out-values-fit
-shared-slice-copy-out-values-fit c = search needs
+shared-slice-copy-out-total : tie.Need-shared-slice-copy-out-total
+shared-slice-copy-out-total c = search needs
 
-values-fit-requires : tie.Need-values-fit-requires
-values-fit-requires c κs =
-    let e = c .before .before .before .before .before .before .before in
-    let s = e .before .before .before .before in
-    let h = e .before .before .before .number-at in
-    let k = e .before .before .number-at2 in
-    let q = c .before .before .before .before .before .before .number-at3 in
-    window-part (now (s .args .buffer)) (s .args .size) (s .pre .0) (s .pre .1) (h .result) (k .result) (h .ensures .0) (k .ensures .0) (placed e) (q .result) (q .ensures .0) (omega arith)
-
-returns-4 : tie.Need-returns-4
-returns-4 c =
+walk-back-requires : tie.Need-walk-back-requires
+walk-back-requires c κs =
     let e = c .before .before .before .before .before .before .before .before in
     let s = e .before .before .before .before in
     let h = e .before .before .before .number-at in
     let k = e .before .before .number-at2 in
     let q = c .before .before .before .before .before .before .before .number-at3 in
-    values-by (now (s .args .buffer)) (s .args .size) (s .pre .0) (s .pre .1) (h .result) (k .result) (h .ensures .0) (k .ensures .0) (placed e) (q .result) (q .ensures .0) (omega arith)
-    (sym (c .before .before .before .rest-zero .ensures) ∙ not-false (c .before .before .before .rest-zero .result) (c .before .before .if3 .left)) _
-    (back (getD (now (s .args .buffer)) 3 (pos 0)) (sfits-of (c .before .values-fit-arg .given))) (c .values-fit .ensures)
+    let v : toZ w64 (ofZ w64 (s .args .value)) ≡ s .args .value = back (s .args .value) (s .fits .value) in
+    (window-part (now (s .args .buffer)) (s .args .value) (now (s .args .leaders)) (s .args .size) (s .pre .0) (s .pre .1) (h .result) (k .result) (h .ensures .0) (k .ensures .0) (placed e) (q .result) (q .ensures .0) (omega arith) _, rw v (s .pre .2), s .pre .3)
+
+returns-4 : tie.Need-returns-4
+returns-4 c =
+    let e = c .before .before .before .before .before .before .before .before .before in
+    let s = e .before .before .before .before in
+    let h = e .before .before .before .number-at in
+    let k = e .before .before .number-at2 in
+    let q = c .before .before .before .before .before .before .before .before .number-at3 in
+    let z = c .before .before .before in
+    let v : toZ w64 (ofZ w64 (s .args .value)) ≡ s .args .value = back (s .args .value) (s .fits .value) in
+    values-by (now (s .args .buffer)) (s .args .value) (c .walk-back .last .1 .1 .1 .1 .0) (s .args .size) (s .pre .0) (s .pre .1) (h .result) (k .result) (h .ensures .0) (k .ensures .0) (placed e) (q .result) (q .ensures .0) (omega arith)
+    (sym (z .before .rest-zero .ensures) ∙ not-false (z .before .rest-zero .result) (z .if3 .left)) _
+    (back (getD (now (s .args .buffer)) 3 (pos 0)) (sfits-of (c .before .before .total .given))) (rw v at (c .walk-back .ensures))
 
 pub parts-kept-spec : {M : Type 1} → statement M
 parts-kept-spec =
@@ -142,6 +147,6 @@ parts-kept-spec =
     part-area-end
     rest-zero-requires
     returns-3
-    shared-slice-copy-out-values-fit
-    values-fit-requires
+    shared-slice-copy-out-total
+    walk-back-requires
     returns-4)

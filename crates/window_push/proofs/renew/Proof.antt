@@ -1,32 +1,24 @@
-use lib.ListN.{length-take, length-drop, length, getD, take, drop}
 use Prim.Native.Nat.{_+_, _-_, _*_}
 use native.Mathlib.Omega.{arith}
 use mathlib.Core.Path.{_≡_, ap, _∙_}
 use mathlib.Core.List.{List, _++_}
 use denote.Ref.{now}
-use lib.IntN.{ℤ, pos, _+ℤ_, _-ℤ_}
+use lib.ListN.{length, take, drop, length-take, length-drop}
+use lib.Seq.{take-all}
+use lib.IntN.{ℤ}
 use mir.Syntax.{w64}
 use mir.Val.{toZ, ofZ}
-use borrow.Author.Needs.{sfits-of, needs}
-use Rattle.theory_window.specs.Ring as Ring
 use Rattle.meaning.specs.Window as Window
-use Rattle.meaning.specs.Window.{sizeIn, heldIn, nextIn, totalIn, slotsIn}
-use Rattle.theory_window.specs.Parts.{countIn, leaderAreaIn}
-use Rattle.window_push.specs.Parts.{leadersWith, stored}
+use Rattle.meaning.specs.Window.{sizeIn, heldIn, nextIn}
+use Rattle.theory_window.specs.Ring as Ring
 use Rattle.window_cells.specs.Signed.{back}
-use Rattle.window_push.proofs.Leading.{leading-same}
+use Rattle.window_kept.specs.Checks.{newLeaders}
+use Rattle.window_push.specs.Parts.{stored}
+use Rattle.window_push.specs.Leading.{few-leaders}
 use Rattle.window_push.proofs.Renewing.{renewed}
+use borrow.Author.Needs.{needs}
 use Rattle.window_push.proofs.renew.Statement.{statement}
 use Rattle.window_push.proofs.renew.Tie as tie
-
-sum-with-requires : tie.Need-sum-with-requires
-sum-with-requires c κs = search needs
-
-slice-aggregate-lead-in : tie.Need-slice-aggregate-lead-in
-slice-aggregate-lead-in c = search needs
-
-lead-in-requires : tie.Need-lead-in-requires
-lead-in-requires c κs = search needs
 
 grown-requires : tie.Need-grown-requires
 grown-requires c κs = search needs
@@ -34,79 +26,96 @@ grown-requires c κs = search needs
 after-requires : tie.Need-after-requires
 after-requires c κs = search needs
 
+sub-store : tie.Need-sub-store
+sub-store c = search needs
+
 store-requires : tie.Need-store-requires
 store-requires c κs = search needs
 
-add-put : tie.Need-add-put
-add-put c = search needs
+add-lay : tie.Need-add-lay
+add-lay c = search needs
 
-mul-put : tie.Need-mul-put
-mul-put c = search needs
+mul-lay : tie.Need-mul-lay
+mul-lay c = search needs
 
-add-put-2 : tie.Need-add-put-2
-add-put-2 c = search needs
+add-lay-2 : tie.Need-add-lay-2
+add-lay-2 c = search needs
 
-mul-put-2 : tie.Need-mul-put-2
-mul-put-2 c = search needs
+mul-lay-2 : tie.Need-mul-lay-2
+mul-lay-2 c = search needs
 
-sub-put : tie.Need-sub-put
-sub-put c = search needs
+sub-lay : tie.Need-sub-lay
+sub-lay c = search needs
 
-part-put-start : tie.Need-part-put-start
-part-put-start c = search needs
+part-lay-start : tie.Need-part-lay-start
+part-lay-start c = search needs
 
-part-put-end : tie.Need-part-put-end
-part-put-end c = search needs
+part-lay-end : tie.Need-part-lay-end
+part-lay-end c = search needs
 
-slice-aggregate-put : tie.Need-slice-aggregate-put
-slice-aggregate-put c = search needs
+sub-lay-2 : tie.Need-sub-lay-2
+sub-lay-2 c = search needs
 
-put-requires : tie.Need-put-requires
-put-requires c κs = search needs
+part-lay-start-2 : tie.Need-part-lay-start-2
+part-lay-start-2 c = search needs
+
+part-lay-end-2 : tie.Need-part-lay-end-2
+part-lay-end-2 c = search needs
+
+lay-requires : tie.Need-lay-requires
+lay-requires c κs = search needs
 
 same-length : tie.Need-same-length
 same-length c = search needs
 
 returns : tie.Need-returns
 returns c =
-    let s = c .before .before .before .before .before .before .before .before .before .before .before .before .before .before .before in
+    let s = c .before .before .before .before .before .before .before .before .before .before .before in
     let b = now (s .args .buffer) in
-    let n = s .args .size in
+    let f = s .args .found in
     let p = s .pre in
+    let n = f .size in
+    let cells = now (s .args .leaders) in
+    let size : n ≡ sizeIn b = ap (λ x. x .size) (p .told .found) in
+    let held : f .held ≡ heldIn b = ap (λ x. x .held) (p .told .found) in
+    let next : f .next ≡ nextIn b = ap (λ x. x .next) (p .told .found) in
+    let from : f .from ≡ 65 - length (newLeaders b (sizeIn b) (s .args .value)) = ap (λ x. x .from) (p .told .found) in
     let v : toZ w64 (ofZ w64 (s .args .value)) ≡ s .args .value = back (s .args .value) (s .fits .value) in
-    let lead = leading-same (λ i. leadersWith (slotsIn b) (leaderAreaIn b) (countIn b) (p .next i) (v i)) (c .before .before .before .before .before .before .before .before .before .before .lead-in .ensures) in
-    let x : ℤ = c .before .before .before .before .before .before .before .before .before .before .before .before .before .sum-with .result in
-    let t : toZ w64 (ofZ w64 x) ≡ totalIn b -ℤ getD b (5 + nextIn b) (pos 0) +ℤ s .args .value = back x (sfits-of (c .before .before .before .before .before .before .before .before .before .before .before .before .before .sum-with .ok))
-    ∙ (c .before .before .before .before .before .before .before .before .before .before .before .before .before .sum-with .ensures ∙ (λ i. totalIn b -ℤ getD b (5 + p .next i) (pos 0) +ℤ v i)) in
-    let h : c .before .before .before .before .before .before .before .before .grown .result ≡ Ring.grown (sizeIn b) (heldIn b) = c .before .before .before .before .before .before .before .before .grown .ensures .0 ∙ (λ i. Ring.grown (p .size i) (p .held i)) in
-    let k : c .before .before .before .before .before .before .before .after .result ≡ Window.after (sizeIn b) (nextIn b) = c .before .before .before .before .before .before .before .after .ensures .0 ∙ (λ i. Window.after (p .size i) (p .next i)) in
-    let y : List ℤ = c .before .before .before .before .before .store .last .0 in
-    let e : y ≡ stored b (Ring.grown (sizeIn b) (heldIn b)) (Window.after (sizeIn b) (nextIn b)) (toZ w64 (ofZ w64 x)) (c .before .before .before .before .before .before .before .before .before .before .lead-in .result) (nextIn b)
-    (s .args .value) = c .before .before .before .before .before .store .ensures ∙ (λ i. stored b (h i) (k i) (toZ w64 (ofZ w64 x)) (c .before .before .before .before .before .before .before .before .before .before .lead-in .result) (p .next i) (v i)) in
-    let l : length y ≡ length b = c .before .before .before .before .before .store .kept .0 in
-    let m : length (take (5 + 2 * n - (5 + n)) (drop (5 + n) y)) ≡ sizeIn b = omega (arith, length-take (5 + 2 * n - (5 + n)) (drop (5 + n) y), length-drop (5 + n) y, p .size, p .long) in
-    let j : 5 + 2 * n - (5 + n) ≡ sizeIn b = omega (arith, p .size) in
-    ap (λ (ys : List ℤ). take (5 + n) y ++ (ys ++ drop (5 + 2 * n - (5 + n)) (drop (5 + n) y))) (c .before .put .ensures)
-    ∙ renewed b (p .kept) (s .args .value) _ (c .before .before .before .before .before .before .before .before .before .before .lead-in .result) (toZ w64 (ofZ w64 x)) y lead t e n _ _ (p .size) m j
+    let t : toZ w64 (ofZ w64 (f .sum)) ≡ f .sum = search needs in
+    let x = c .before .before .before .before .before .store in
+    let y : List ℤ = x .last .0 in
+    let g = c .before .before .before .before .before .before .before .before .before .grown in
+    let a = c .before .before .before .before .before .before .before .before .after in
+    let h : g .result ≡ Ring.grown (sizeIn b) (heldIn b) = g .ensures .0 ∙ (λ i. Ring.grown (size i) (held i)) in
+    let k : a .result ≡ Window.after (sizeIn b) (nextIn b) = a .ensures .0 ∙ (λ i. Window.after (size i) (next i)) in
+    let e : y ≡ stored b (Ring.grown (sizeIn b) (heldIn b)) (Window.after (sizeIn b) (nextIn b)) (f .sum) (65 - f .from) (nextIn b) (s .args .value) = x .ensures ∙ (λ i. stored b (h i) (k i) (t i) (65 - f .from) (next i) (v i)) in
+    let l : length y ≡ length b = x .kept .0 in
+    let m : length (take (5 + 2 * n - (5 + n)) (drop (5 + n) y)) ≡ sizeIn b = omega (arith, length-take (5 + 2 * n - (5 + n)) (drop (5 + n) y), length-drop (5 + n) y, p .long) in
+    let j : 5 + 2 * n - (5 + n) ≡ sizeIn b = omega arith in
+    let new : take (length cells - f .from) (drop (f .from) cells) ≡ newLeaders b (sizeIn b) (s .args .value) =
+    take-all (length cells - f .from) (drop (f .from) cells) (omega (arith, length-drop (f .from) cells)) ∙ (ap (λ i. drop i cells) from ∙ p .told .leaders .tail) in
+    let r : 65 - f .from ≡ length (newLeaders b (sizeIn b) (s .args .value)) = omega (arith, few-leaders b (p .told .kept) (s .args .value), p .most) in
+    ap (λ (ys : List ℤ). take (5 + n) y ++ (ys ++ drop (5 + 2 * n - (5 + n)) (drop (5 + n) y))) (c .before .lay .ensures)
+    ∙ renewed b (p .told .kept) (s .args .value) _ (65 - f .from) (f .sum) y new r (ap (λ x. x .sum) (p .told .found)) e n _ _ size m j
 
 pub renew-spec : {M : Type 1} → statement M
 renew-spec =
     tie.close
     (tie.spec
-    sum-with-requires
-    slice-aggregate-lead-in
-    lead-in-requires
     grown-requires
     after-requires
+    sub-store
     store-requires
-    add-put
-    mul-put
-    add-put-2
-    mul-put-2
-    sub-put
-    part-put-start
-    part-put-end
-    slice-aggregate-put
-    put-requires
+    add-lay
+    mul-lay
+    add-lay-2
+    mul-lay-2
+    sub-lay
+    part-lay-start
+    part-lay-end
+    sub-lay-2
+    part-lay-start-2
+    part-lay-end-2
+    lay-requires
     same-length
     returns)

@@ -58,6 +58,11 @@ impl Grammar {
         self.carriers.contains(&kind)
     }
 
+    /// Whether any token carries a value.
+    pub fn has_carriers(&self) -> bool {
+        !self.carriers.is_empty()
+    }
+
     /// The attributes of the symbol at a position, counted from 1.
     pub fn attributes(&self, production: usize, position: usize) -> Attributes {
         let symbol = if production == WHOLE { 128 + self.start } else { self.productions[production][position - 1] };

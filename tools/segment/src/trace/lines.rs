@@ -36,6 +36,22 @@ pub fn next(grammar: &Grammar, tokens: Tokens, index: usize) -> String {
     }
 }
 
+/// The tokens that may come next, at a stop. Where tokens carry values, the one that comes is tried for all of them, and 0 where none does.
+pub fn may_follow(out: &mut dyn Write, grammar: &Grammar, run: &mut Run, coming: Input) -> io::Result<()> {
+    let value = match coming {
+        Input::Token(kind, value) if grammar.carries(kind) => value,
+        _ => 0,
+    };
+    let with = if grammar.has_carriers() { format!(", with value {value}") } else { String::new() };
+    write!(out, "        may be typed now{with}:")?;
+    let set = run.may_follow(value);
+    if set.is_empty() {
+        write!(out, " no token")?;
+    }
+    set.iter().try_for_each(|kind| write!(out, " {}", written(grammar, kind, value)))?;
+    writeln!(out)
+}
+
 fn production(p: usize) -> String {
     if p == WHOLE {
         return "segment".into();

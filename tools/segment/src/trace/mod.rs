@@ -69,6 +69,7 @@ fn tell(table: &[u8], tokens: Tokens, registers: usize, places: usize, from: usi
     lines::begun(out, &run.now)?;
     stacks::lines(out, &grammar, &run.now)?;
     for index in first..=tokens.kinds.len() {
+        lines::may_follow(out, &grammar, &mut run, tokens.at(index))?;
         let next = lines::next(&grammar, tokens, index);
         writeln!(out, "{next}")?;
         run.bring(tokens.at(index));

@@ -3,14 +3,15 @@ use native.Mathlib.Omega.{arith}
 use mathlib.Core.Path.{_≡_}
 use Rattle.analysis.specs.Views.{Within, within-none, within-before, ClosedAt}
 use Rattle.analysis.specs.Growth.{Grown, grown-none, grown-then}
+use Rattle.analysis.specs.Closing.{narrow-grown}
 use Rattle.analysis.proofs.closing.close_round.Statement.{statement}
 use Rattle.analysis.proofs.closing.close_round.Tie as tie
 
 abbrev Inv-loop : tie.InvT-loop
-Inv-loop rows count set tokens next₀ k₀ next k = (k ≤ count) × Grown (Within (ClosedAt tokens rows) 0 count) (Within (ClosedAt tokens rows) k count) set next
+Inv-loop rows count rights set tokens next₀ k₀ next k = (k ≤ count) × Grown (Within (ClosedAt tokens rows) 0 count) (Within (ClosedAt tokens rows) k count) set next
 
 abbrev μ-loop : tie.MeasureT-loop
-μ-loop rows count set tokens next₀ k₀ next k = k
+μ-loop rows count rights set tokens next₀ k₀ next k = k
 
 loop-holds : tie.Need-loop-holds Inv-loop μ-loop
 loop-holds c = (omega arith, grown-none _ (within-none _ _ (omega arith)))
@@ -19,7 +20,10 @@ sub-k : tie.Need-sub-k Inv-loop μ-loop
 sub-k c = omega arith
 
 close-by-requires : tie.Need-close-by-requires Inv-loop μ-loop
-close-by-requires c κs = (c .before .before .pre, omega arith)
+close-by-requires c κs =
+    let at = c .before in
+    let st = at .before in
+    (st .pre .0, st .pre .1, omega arith, narrow-grown _ (st .pre .0) _ _ (at .loop .inv .1) (st .pre .2))
 
 loop-less : tie.Need-loop-less Inv-loop μ-loop
 loop-less c = omega arith

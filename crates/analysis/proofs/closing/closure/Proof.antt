@@ -3,20 +3,21 @@ use native.Mathlib.Omega.{arith}
 use borrow.Author.Needs.{needs}
 use Rattle.analysis.specs.Views.{Within, ClosedAt}
 use Rattle.analysis.specs.Growth.{Rising, rising-start, rising-on, settled}
+use Rattle.analysis.specs.Closing.{narrow-rising}
 use Rattle.analysis.proofs.closing.closure.Statement.{statement}
 use Rattle.analysis.proofs.closing.closure.Tie as tie
 
 abbrev Inv-loop : tie.InvT-loop
-Inv-loop rows count tokens set₀ set = (set < 2 ^ 64) × Rising (Within (ClosedAt tokens rows) 0 count) 0 set
+Inv-loop rows count rights tokens set₀ set = (set < 2 ^ 64) × Rising (Within (ClosedAt tokens rows) 0 count) 0 set
 
 abbrev μ-loop : tie.MeasureT-loop
-μ-loop rows count tokens set₀ set = 2 ^ 64 - set
+μ-loop rows count rights tokens set₀ set = 2 ^ 64 - set
 
 loop-holds : tie.Need-loop-holds Inv-loop μ-loop
 loop-holds c = (omega arith, rising-start _)
 
 close-round-requires : tie.Need-close-round-requires Inv-loop μ-loop
-close-round-requires c κs = c .before .pre
+close-round-requires c κs = let st = c .before in (st .pre .0, st .pre .1, narrow-rising _ (st .pre .0) _ (c .loop .inv .1))
 
 returns : tie.Need-returns Inv-loop μ-loop
 returns c = settled _ _ _ (c .before .before .loop .inv .1) (c .before .close-round .ensures) (c .if1 .taken)

@@ -3,7 +3,8 @@ use borrow.Author.Needs.{needs}
 use denote.Ref.{now}
 use Rattle.meaning.specs.PublicCalls.{stacksOf}
 use Rattle.meaning.specs.Calls.{closedRecord, openOf}
-use Rattle.engine.specs.Records.{calledIs, effectIs}
+use Rattle.records.specs.Records.{handedIs}
+use Rattle.engine.specs.Records.{effectIs, calledFrom}
 use Rattle.engine.specs.Beginning.{standing-shown, standing-called}
 use Rattle.engine.proofs.Cases.{area-long, ready-case, turned-case}
 use Rattle.engine.proofs.Record.open.Statement.{statement}
@@ -15,8 +16,11 @@ begin-requires c κs = search needs
 enum-known-answer : tie.Need-enum-known-answer
 enum-known-answer c = search needs
 
-closed-requires : tie.Need-closed-requires
-closed-requires c κs = search needs
+not-opened-requires : tie.Need-not-opened-requires
+not-opened-requires c κs = search needs
+
+hand-back-requires : tie.Need-hand-back-requires
+hand-back-requires c κs = search needs
 
 enum-told : tie.Need-enum-told
 enum-told c = search needs
@@ -24,15 +28,20 @@ enum-told c = search needs
 open-cells-requires : tie.Need-open-cells-requires
 open-cells-requires c κs = area-long (ready-case (c .before .before .before .before .before .before .before .begin .ensures) (c .before .before .before .enum-told .given .1) .1)
 
+hand-back-requires-2 : tie.Need-hand-back-requires-2
+hand-back-requires-2 c κs = search needs
+
 same-length : tie.Need-same-length
 same-length c = search needs
 
 returns : tie.Need-returns
 returns c =
-    let b = c .before .before .before .before .before .before .begin in
-    let a = c .before .before .before .before .before .before .before .before .before .before .before .args in
+    let b = c .before .before .before .before .before .before .before .begin in
+    let a = c .before .before .before .before .before .before .before .before .before .before .before .before .args in
     let m = stacksOf (now (a .registers)) (now (a .places)) in
-    ap (λ z. effectIs z (now (a .registers)) (now (a .places)) (b .last .1 .0)) (c .closed .ensures) ∙ turned-case (b .ensures) (c .before .before .answer .given .0 .0) (c .before .before .answer .given .1) closedRecord m (λ g. openOf g m)
+    let t = c .before .before .before .answer .given in
+    ap (λ z. effectIs z (now (a .registers)) (now (a .places)) (b .last .1 .0)) (c .hand-back .ensures ∙ ap calledFrom (c .before .not-opened .ensures))
+    ∙ turned-case (b .ensures) (t .0 .0) (t .1) closedRecord m (λ g. openOf g m)
 
 same-length-2 : tie.Need-same-length-2
 same-length-2 c = search needs
@@ -45,11 +54,12 @@ same-length-4 c = search needs
 
 returns-2 : tie.Need-returns-2
 returns-2 c =
-    let k = c .before .before .before .open-cells in
-    let s = c .before .before .before .before .before .before .before .before .before .before .before .before .before .before .before .before .args in
-    let a = ready-case (c .before .before .before .before .before .before .before .before .before .before .before .begin .ensures) (c .before .before .before .before .before .before .before .enum-told .given .1) .1 in
+    let k = c .before .before .before .before .open-cells in
+    let b = c .before .before .before .before .before .before .before .before .before .before .before .before .begin in
+    let s = c .before .before .before .before .before .before .before .before .before .before .before .before .before .before .before .before .before .args in
+    let a = ready-case (b .ensures) (c .before .before .before .before .before .before .before .before .enum-told .given .1) .1 in
     let m = stacksOf (now (s .registers)) (now (s .places)) in
-    standing-called a closedRecord m (λ g. openOf g m) (calledIs (k .result) (k .last .0) (k .last .1 .0)) (k .ensures _ (standing-shown a .begins))
+    ap (λ z. effectIs z (k .last .0) (k .last .1 .0) (b .last .1 .0)) (c .hand-back2 .ensures) ∙ standing-called a closedRecord m (λ g. openOf g m) (handedIs (k .result) (k .last .0) (k .last .1 .0)) (k .ensures _ (standing-shown a .begins))
 
 pub open-spec : {M : Type 1} → statement M
 open-spec =
@@ -57,9 +67,11 @@ open-spec =
     (tie.spec
     begin-requires
     enum-known-answer
-    closed-requires
+    not-opened-requires
+    hand-back-requires
     enum-told
     open-cells-requires
+    hand-back-requires-2
     same-length
     returns
     same-length-2

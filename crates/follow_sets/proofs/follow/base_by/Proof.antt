@@ -65,7 +65,7 @@ loop-again c =
     let iv = lp .before .loop .inv in
     let more : 0 < lp .before .loop .i = omega arith in (
       omega arith,
-      filled-then _ _ _ (iv .1) (filled-join _ _ _ _ _ (c .before .mark .ensures) (base-fine _ _ (st .pre .0) _ (st .pre .1) _ more (iv .0) _ (iv .2))) (λ u sub b g. base-more _ _ (st .pre .0) _ (st .pre .1) _ more (iv .0) _ (iv .2) u _ _ sub b g),
+      filled-then _ _ _ (iv .1) (filled-join _ _ _ _ (c .before .mark .ensures) (base-fine _ _ (st .pre .0) _ (st .pre .1) _ more (iv .0) _ (iv .2))) (λ u sub b g. base-more _ _ (st .pre .0) _ (st .pre .1) _ more (iv .0) _ (iv .2) u _ _ sub b g),
       rest-step _ _ (st .pre .0) _ (st .pre .1) _ more (iv .0) _ _ (iv .2) (c .begin-with .ensures),
     )
 

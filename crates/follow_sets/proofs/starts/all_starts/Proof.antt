@@ -1,6 +1,5 @@
 use Prim.Native.Nat.{_≤_, _-_}
 use native.Mathlib.Omega.{arith}
-use borrow.Author.Needs.{needs}
 use mathlib.Core.Path.{_≡_}
 use Rattle.analysis.specs.Views.{members}
 use Rattle.analysis.specs.Growth.{SetsTo, sets-none, sets-next}

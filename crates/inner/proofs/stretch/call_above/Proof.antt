@@ -1,7 +1,7 @@
 use mathlib.Core.Path.{sym, _∙_}
 use denote.Ref.{now}
 use Rattle.meaning.specs.PublicCalls.{stacksOf}
-use Rattle.engine.specs.Records.{recordIs}
+use Rattle.records.specs.Records.{stateIs}
 use Rattle.inner_records.specs.Records.{callIs}
 use Rattle.inner.specs.Lending.{turned-is, call-is}
 use borrow.Author.Needs.{needs}
@@ -15,7 +15,7 @@ returns : tie.Need-returns
 returns c =
     let a = c .before .before .before .before .before .args in
     let n = c .before .apart in
-    λ g s. turned-is g (recordIs (a .outer)) (recordIs (a .inner)) (stacksOf (now (a .registers)) (now (a .places))) (callIs (a .call) (now (a .kinds)) (now (a .values))) (n .result) (n .ensures) (c .if1 .taken)
+    λ g s. turned-is g (stateIs (a .outer)) (stateIs (a .inner)) (stacksOf (now (a .registers)) (now (a .places))) (callIs (a .call) (now (a .kinds)) (now (a .values))) (n .result) (n .ensures) (c .if1 .taken)
 
 smaller-requires : tie.Need-smaller-requires
 smaller-requires c κs = search needs

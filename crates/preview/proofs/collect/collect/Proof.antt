@@ -34,7 +34,9 @@ cast-loop c = search needs
 
 -- src/collect.rt:67:13
 passes-requires : tie.Need-passes-requires Inv-loop μ-loop
-passes-requires c κs = (c .before .before .before .before .before .before .before .before .pre .0, c .before .before .before .loop .inv .2)
+passes-requires c κs =
+    let p = c .before .before .before .before .before .before .before .before .pre .0 in
+    (p, c .before .before .before .loop .inv .2, omega (arith, few-terminals p, c .before .before .before .before .word-at .ensures))
 
 -- src/collect.rt:77:9
 grown-requires : tie.Need-grown-requires Inv-loop μ-loop

@@ -3,6 +3,7 @@ use mathlib.Core.Path.{_∙_}
 use native.Mathlib.Omega.{arith}
 use Rattle.blocks.specs.Chains.{clear-zeros}
 use Rattle.clash.specs.Placing.{bytes-of}
+use Rattle.program.proofs.Laws as L
 use Rattle.program.proofs.Sections as S
 use borrow.Author.Needs.{needs}
 use Rattle.program.proofs.records.write_production.Statement.{statement}
@@ -89,32 +90,68 @@ find-items-requires c κs =
 array-read-entries : tie.Need-array-read-entries
 array-read-entries c = search needs
 
+mul-wait : tie.Need-mul-wait
+mul-wait c =
+    let x = c .before .before .before .before .before .before .before .before .before .before .before .before .before .before .before .before .before .before .before .before .pre .0 in
+    let n = L.numbers-small (x .brought) in
+    omega (arith, n .0, n .3, x .here)
+
+add-wait : tie.Need-add-wait
+add-wait c =
+    let x = c .before .before .before .before .before .before .before .before .before .before .before .before .before .before .before .before .before .before .before .before .pre .0 in
+    let n = L.numbers-small (x .brought) in
+    omega (arith, n .0, n .3, x .here)
+
+mul-wait-2 : tie.Need-mul-wait-2
+mul-wait-2 c =
+    let x = c .before .before .before .before .before .before .before .before .before .before .before .before .before .before .before .before .before .before .before .before .pre .0 in
+    let n = L.numbers-small (x .brought) in
+    omega (arith, n .0, n .3, x .here)
+
+add-wait-2 : tie.Need-add-wait-2
+add-wait-2 c =
+    let x = c .before .before .before .before .before .before .before .before .before .before .before .before .before .before .before .before .before .before .before .before .pre .0 in
+    let n = L.numbers-small (x .brought) in
+    omega (arith, n .0, n .3, x .here)
+
+mul-wait-3 : tie.Need-mul-wait-3
+mul-wait-3 c =
+    let x = c .before .before .before .before .before .before .before .before .before .before .before .before .before .before .before .before .before .before .before .before .pre .0 in
+    let n = L.numbers-small (x .brought) in
+    omega (arith, n .0, n .3, x .here)
+
+add-wait-3 : tie.Need-add-wait-3
+add-wait-3 c =
+    let x = c .before .before .before .before .before .before .before .before .before .before .before .before .before .before .before .before .before .before .before .before .pre .0 in
+    let n = L.numbers-small (x .brought) in
+    omega (arith, n .0, n .3, x .here)
+
 byte-at-requires : tie.Need-byte-at-requires
 byte-at-requires c κs = search needs
 
 write-record-requires : tie.Need-write-record-requires
 write-record-requires c κs =
-    let x = c .before .before .before .before .before .before .before .before .before .before .before .before .before .before .before .before .before .before .before .before .before .pre .0 in
-    let known = c .before .before .before .before .before .before .before .before .before .before .before .before .before .before .before .before .before .before .before .before .shared-slice-known .given in
-    let b = bytes-of (now (c .before .before .before .before .before .before .before .before .before .before .before .before .before .before .before .before .before .before .before .before .before .args .table)) (λ i. omega (arith, known i)) in
-    let from = c .before .before .before .before .before .before .before .before .before .before .before .fields-from .ensures in
-    let to = c .before .before .before .before .before .before .before .before .before .before .stretch-end .ensures in
-    let nodes = c .before .before .before .before .before .before .before .before .before .before .before .before .before .before .before .before .before .before .before .before .before .pre .2 in
-    let found = c .before .before .before .before .before .find-items .ensures .1 in
-    (S.record-fits x b from to _ _ nodes found, λ y. c .before .byte-at .ensures .0 ∙ c .before .before .before .before .before .before .before .before .before .before .before .before .before .before .before .before .before .before .before .before .before .pre .1 y _ (x .here))
+    let x = c .before .before .before .before .before .before .before .before .before .before .before .before .before .before .before .before .before .before .before .before .before .before .pre .0 in
+    let known = c .before .before .before .before .before .before .before .before .before .before .before .before .before .before .before .before .before .before .before .before .before .shared-slice-known .given in
+    let b = bytes-of (now (c .before .before .before .before .before .before .before .before .before .before .before .before .before .before .before .before .before .before .before .before .before .before .args .table)) (λ i. omega (arith, known i)) in
+    let from = c .before .before .before .before .before .before .before .before .before .before .before .before .fields-from .ensures in
+    let to = c .before .before .before .before .before .before .before .before .before .before .before .stretch-end .ensures in
+    let nodes = c .before .before .before .before .before .before .before .before .before .before .before .before .before .before .before .before .before .before .before .before .before .before .pre .2 in
+    let found = c .before .before .before .before .before .before .find-items .ensures .1 in
+    (S.record-fits x b from to _ _ nodes found, λ y. c .before .byte-at .ensures .0 ∙ c .before .before .before .before .before .before .before .before .before .before .before .before .before .before .before .before .before .before .before .before .before .before .pre .1 y _ (x .here))
 
 slice-aggregate-write-body : tie.Need-slice-aggregate-write-body
 slice-aggregate-write-body c = search needs
 
 write-body-requires : tie.Need-write-body-requires
 write-body-requires c κs =
-    let x = c .before .before .before .before .before .before .before .before .before .before .before .before .before .before .before .before .before .before .before .before .before .before .before .before .before .before .before .pre .0 in
-    let known = c .before .before .before .before .before .before .before .before .before .before .before .before .before .before .before .before .before .before .before .before .before .before .before .before .before .before .shared-slice-known .given in
-    let b = bytes-of (now (c .before .before .before .before .before .before .before .before .before .before .before .before .before .before .before .before .before .before .before .before .before .before .before .before .before .before .before .args .table)) (λ i. omega (arith, known i)) in
-    let from = c .before .before .before .before .before .before .before .before .before .before .before .before .before .before .before .before .before .fields-from .ensures in
-    let to = c .before .before .before .before .before .before .before .before .before .before .before .before .before .before .before .before .stretch-end .ensures in
-    let nodes = c .before .before .before .before .before .before .before .before .before .before .before .before .before .before .before .before .before .before .before .before .before .before .before .before .before .before .before .pre .2 in
-    let found = c .before .before .before .before .before .before .before .before .before .before .before .find-items .ensures .1 in
+    let x = c .before .before .before .before .before .before .before .before .before .before .before .before .before .before .before .before .before .before .before .before .before .before .before .before .before .before .before .before .pre .0 in
+    let known = c .before .before .before .before .before .before .before .before .before .before .before .before .before .before .before .before .before .before .before .before .before .before .before .before .before .before .before .shared-slice-known .given in
+    let b = bytes-of (now (c .before .before .before .before .before .before .before .before .before .before .before .before .before .before .before .before .before .before .before .before .before .before .before .before .before .before .before .before .args .table)) (λ i. omega (arith, known i)) in
+    let from = c .before .before .before .before .before .before .before .before .before .before .before .before .before .before .before .before .before .before .fields-from .ensures in
+    let to = c .before .before .before .before .before .before .before .before .before .before .before .before .before .before .before .before .before .stretch-end .ensures in
+    let nodes = c .before .before .before .before .before .before .before .before .before .before .before .before .before .before .before .before .before .before .before .before .before .before .before .before .before .before .before .before .pre .2 in
+    let found = c .before .before .before .before .before .before .before .before .before .before .before .before .find-items .ensures .1 in
     let wrote = c .before .before .before .before .before .write-record .ensures in
     S.body-fits x b from to _ _ nodes found wrote
 
@@ -126,15 +163,16 @@ same-length-2 c = search needs
 
 returns : tie.Need-returns
 returns c =
-    let nodes = c .before .before .before .before .before .before .before .before .before .before .before .before .before .before .before .before .before .before .before .before .before .before .before .before .before .before .before .before .before .before .pre .2 in
-    let known = c .before .before .before .before .before .before .before .before .before .before .before .before .before .before .before .before .before .before .before .before .before .before .before .before .before .before .before .before .before .shared-slice-known .given in
-    let b = bytes-of (now (c .before .before .before .before .before .before .before .before .before .before .before .before .before .before .before .before .before .before .before .before .before .before .before .before .before .before .before .before .before .before .args .table)) (λ i. omega (arith, known i)) in
-    let from = c .before .before .before .before .before .before .before .before .before .before .before .before .before .before .before .before .before .before .before .before .fields-from .ensures in
-    let to = c .before .before .before .before .before .before .before .before .before .before .before .before .before .before .before .before .before .before .before .stretch-end .ensures in
-    let found = c .before .before .before .before .before .before .before .before .before .before .before .before .before .before .find-items .ensures .1 in
+    let start = c .before .before .before .before .before .before .before .before .before .before .before .before .before .before .before .before .before .before .before .before .before .before .before .before .before .before .before .before .before .before .before in
+    let nodes = start .pre .2 in
+    let known = c .before .before .before .before .before .before .before .before .before .before .before .before .before .before .before .before .before .before .before .before .before .before .before .before .before .before .before .before .before .before .shared-slice-known .given in
+    let b = bytes-of (now (start .args .table)) (λ i. omega (arith, known i)) in
+    let from = c .before .before .before .before .before .before .before .before .before .before .before .before .before .before .before .before .before .before .before .before .before .fields-from .ensures in
+    let to = c .before .before .before .before .before .before .before .before .before .before .before .before .before .before .before .before .before .before .before .before .stretch-end .ensures in
+    let found = c .before .before .before .before .before .before .before .before .before .before .before .before .before .before .before .find-items .ensures .1 in
     let wrote = c .before .before .before .before .before .before .before .before .write-record .ensures in
     let body = c .before .before .write-body .ensures in
-    (same-length c ∙ nodes, λ x. S.production-written x b from to _ _ nodes found wrote body)
+    (same-length c, λ x. S.production-written x b from to _ _ nodes found wrote body)
 
 pub write-production-spec : {M : Type 1} → statement M
 write-production-spec =
@@ -154,6 +192,12 @@ write-production-spec =
     slice-aggregate-find-items
     find-items-requires
     array-read-entries
+    mul-wait
+    add-wait
+    mul-wait-2
+    add-wait-2
+    mul-wait-3
+    add-wait-3
     byte-at-requires
     write-record-requires
     slice-aggregate-write-body

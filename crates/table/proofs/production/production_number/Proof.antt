@@ -1,6 +1,6 @@
 use native.Mathlib.Omega.{arith}
 use borrow.Author.Needs.{needs}
-use Rattle.table.proofs.Steps.{part-body}
+use Rattle.table_counts.proofs.Steps.{part-body}
 use Rattle.table.proofs.Producing.{production-cut, production-other, production-right}
 use Rattle.table.proofs.production.production_number.Statement.{statement}
 use Rattle.table.proofs.production.production_number.Tie as tie

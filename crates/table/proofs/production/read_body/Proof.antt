@@ -1,8 +1,7 @@
 use mathlib.Core.Path.{refl}
 use native.Mathlib.Omega.{arith}
-use borrow.Author.Needs.{needs}
+use borrow.Author.Needs.{needs, needs}
 use Rattle.table.proofs.Producing.{part-in, body-small, body-read, next-sooner}
-use borrow.Author.Needs.{needs}
 use Rattle.table.proofs.production.read_body.Statement.{statement}
 use Rattle.table.proofs.production.read_body.Tie as tie
 

@@ -1,0 +1,59 @@
+// The record of a node, written when it is left: the values of its attributes still stand.
+ghost use Prim.Native.Nat.{_%_, _≤_, _<_};
+ghost use mathlib.Core.Path.{_≡_};
+ghost use lib.ListN.{length, getD};
+ghost use Rattle.sheet_record.specs.Counting.{Nested, Counted};
+ghost use Rattle.sheet_record.specs.Recording.{Inner, Records};
+use moves::Run;
+
+// 01: the whole segment's place while the start symbol is waited at.
+const SEGMENT: usize = 32768;
+
+// How many attributes a nonterminal has: inherited ones, and all.
+pub struct Counts {
+    pub inherited: usize,
+    pub total: usize,
+}
+
+// The attributes of the left side of the node in progress: the place below waits at that symbol.
+pub fn attributes(places: &[u32], program: &[u32], run: Run) -> Counts
+    requires { ⌜ Nested (now program) (now places) run ⌝ }
+    ensures { λ r. ⌜ Counted (now (program .entry)) (now (places .entry)) run r ⌝ }
+{
+    let place = moves::word_at(places, run.places - 2);
+    if place == SEGMENT {
+        return Counts {
+            inherited: 0,
+            total: moves::word_at(program, 4),
+        };
+    }
+    let waits = moves::word_at(program, 2) + 8 * moves::word_at(program, 6);
+    let word = moves::word_at(program, waits + 12 * (place / 256) + place % 256);
+    let inherited = word / 131072 % 16;
+    Counts {
+        inherited,
+        total: inherited + word / 8192 % 16,
+    }
+}
+
+// The record of the node in progress, whose remove is at hand: the values of its attributes still stand.
+pub fn write_record(
+    registers: &[i64],
+    places: &[u32],
+    program: &[u32],
+    sheet: &mut [u8],
+    run: Run,
+    at: usize,
+    before: u64,
+)
+    requires { ⌜ Inner (now program) (now registers) (now places) run × (getD (now program) (run .at) 0 % 8 ≡ 5) × (at < 800000000000) × (before ≤ run .tokens) × (length (now registers) ≤ 4096) ⌝ }
+    ensures { λ r. ⌜ Records (now (program .entry)) (now (registers .entry)) (now (places .entry)) run at before (now (sheet .entry)) (now (sheet .exit)) ⌝ }
+{
+    let sizes = attributes(places, program, run);
+    let production = moves::word_at(places, run.places - 1) / 256;
+    let above = moves::word_at(program, run.at) / 8 - sizes.inherited;
+    sheet_bytes::put_four(sheet, at, production as u64);
+    sheet_bytes::put_four(sheet, at + 4, before);
+    sheet_bytes::put_four(sheet, at + 8, run.tokens - before);
+    sheet_bytes::put_values(sheet, at + 12, registers, run.registers, above, sizes.total);
+}

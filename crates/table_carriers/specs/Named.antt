@@ -1,0 +1,50 @@
+-- The tag 6 fields as they are read: the terminals that they name, the word that holds these, and the counts of symbols.
+use Prim.Native.Nat.{ℕ, _+_, _-_, _≤_, _<_}
+use mathlib.Core.Path.{_≡_}
+use mathlib.Core.List.{List, [], _∷_, reverse}
+use lib.Dec.{eqb}
+use lib.ListN.{getD, length}
+use Rattle.meaning.specs.Base.{any}
+use Rattle.meaning.specs.Grammar.{Counts, attributeIf}
+use Rattle.meaning.specs.Table.{byte, Header}
+use Rattle.meaning.specs.Sets.{has}
+use Rattle.token_set.specs.Words.{setOf}
+use Rattle.fields.specs.Demand.{ifBelow}
+use Rattle.fields.specs.Reads.{stateOf}
+use Rattle.fields.specs.Field.{rest, judged}
+use Rattle.fields.specs.Judge.{leastAfter}
+use Rattle.table_carriers.specs.declared.Carried.{Carried}
+
+-- a word holds exactly the terminals of a list
+pub record Carries (word : ℕ) (ws : List ℕ) : Type 0 where
+  pub each : (t : ℕ) → has (setOf word) t ≡ any (eqb t) ws
+
+-- a tag 6 field judged, where the numbers from `least` on are above the one before: its number
+pub record CarrierJudged (t : List ℕ) (at terminals least number : ℕ) : Type 0 where
+  pub read :
+      (h : Header) (cs : List Counts) (os ws : List ℕ) → h .terminals ≡ terminals → h .nonterminals ≤ length cs → leastAfter ws ≡ least
+      → rest t (stateOf h cs os ws [] 0 0) at ≡ judged number at (rest t (stateOf h cs os (byte t (at + 3) ∷ ws) [] 0 0) (at + 4))
+  pub long : number ≡ 0 → at + 4 ≤ length t
+  pub known : number ≡ 0 → byte t (at + 3) < terminals
+
+-- no tag 6 field stands at an offset
+abbrev pub NoCarrier : List ℕ → ℕ → Type 0
+NoCarrier t at = at < length t → byte t at ≡ 6 → ⊥
+
+-- all tag 6 fields from an offset on read, with the terminals that they name, the latest first; or a refusal
+pub record CarriersRead (t : List ℕ) (from terminals : ℕ) (r : Carried) : Type 0 where
+  pub list : List ℕ
+  pub read :
+      (h : Header) (cs : List Counts) (os : List ℕ) → h .terminals ≡ terminals → h .nonterminals ≤ length cs
+      → rest t (stateOf h cs os [] [] 0 0) from ≡ judged (r .number) (r .at) (rest t (stateOf h cs os list [] 0 0) (r .at))
+  pub held : Carries (r .carrying) (reverse list)
+  pub inside : r .at ≤ length t
+  pub other : r .number ≡ 0 → NoCarrier t (r .at)
+
+-- a symbol's count by its byte, 0 for a terminal
+unfoldable pub countOf : List ℕ → ℕ → ℕ
+countOf counts n = ifBelow n 128 0 (getD counts (n - 128) 0)
+
+-- a symbol's synthesized count by its byte. 02 (e): "names a terminal with one synthesized attribute"; another terminal has none
+unfoldable pub synthesizedOf : ℕ → List ℕ → ℕ → ℕ
+synthesizedOf carrying counts n = ifBelow n 128 (attributeIf (has (setOf carrying) n)) (getD counts (n - 128) 0)

@@ -1,0 +1,98 @@
+// The tag 6 fields: the terminals that carry a value, and the counts of symbols.
+ghost use mathlib.Core.Path.{_≡_};
+ghost use mathlib.Core.Bool.{true, false};
+ghost use Prim.Native.Nat.{_+_, _<_, _≤_};
+ghost use lib.ListN.{length};
+ghost use Rattle.meaning.specs.Table.{byte};
+ghost use Rattle.table_carriers.specs.Named.{CarrierJudged, CarriersRead, NoCarrier, countOf, synthesizedOf};
+use token_set::TokenSet;
+
+// The end of the tag 6 fields (number 0) and the set of the terminals that they name, or the field that is refused.
+pub struct Carried {
+    pub number: u8,
+    pub at: usize,
+    pub carrying: u64,
+}
+
+// Whether a tag 6 field stands at an offset.
+pub fn is_carrier(table: &[u8], at: usize) -> bool
+    ensures stands { λ r. ⌜ (r ≡ true → (at < length (now (table .entry))) × (byte (now (table .entry)) at ≡ 6)) ⌝ }
+    ensures other { λ r. ⌜ (r ≡ false → NoCarrier (now (table .entry)) at) ⌝ }
+{
+    if table.len() <= at {
+        return false;
+    }
+    fields::wide(table[at]) == 6
+}
+
+// The number of the refusal of the tag 6 field at an offset, or 0. The terminals from `least` on are above the one before.
+pub fn carrier_number(table: &[u8], at: usize, terminals: usize, least: usize) -> u8
+    requires { ⌜ (at < length (now table)) × (byte (now table) at ≡ 6) ⌝ }
+    ensures { λ r. ⌜ CarrierJudged (now (table .entry)) at terminals least r ⌝ }
+{
+    let size = fields::size_at(table, at);
+    if 65535 < size {
+        return 2;
+    }
+    let from = at + 3;
+    let end = from + size;
+    fields::carrier_fault(terminals, least, &table[from..end])
+}
+
+// All tag 6 fields from an offset on.
+pub fn read_carriers(table: &[u8], from: usize, terminals: usize) -> Carried
+    requires { ⌜ (from ≤ length (now table)) × (terminals ≤ 63) ⌝ }
+    ensures { λ r. ⌜ CarriersRead (now (table .entry)) from terminals r ⌝ }
+{
+    let mut at = from;
+    let mut least: usize = 0;
+    let mut carrying = TokenSet::EMPTY.0;
+    while is_carrier(table, at) {
+        let number = carrier_number(table, at, terminals, least);
+        if number != 0 {
+            return Carried {
+                number,
+                at,
+                carrying,
+            };
+        }
+        let terminal = table[at + 3];
+        carrying |= TokenSet::of_token(terminal).0;
+        least = fields::wide(terminal) + 1;
+        at += 4;
+    }
+    Carried {
+        number: 0,
+        at,
+        carrying,
+    }
+}
+
+// A symbol's count by its byte, 0 for a terminal.
+pub fn count_of(counts: &[u8; 48], symbol: usize) -> u8
+    requires { ⌜ length (now counts) ≡ 48 ⌝ }
+    ensures { λ r. ⌜ r ≡ countOf (now (counts .entry)) symbol ⌝ }
+{
+    if symbol < 128 {
+        return 0;
+    }
+    let n = symbol - 128;
+    if 48 <= n {
+        return 0;
+    }
+    counts[n]
+}
+
+// A symbol's synthesized count by its byte: 1 for a terminal that carries a value, 0 for another.
+pub fn synthesized_of(carrying: u64, counts: &[u8; 48], symbol: usize) -> u8
+    requires { ⌜ length (now counts) ≡ 48 ⌝ }
+    ensures { λ r. ⌜ r ≡ synthesizedOf carrying (now (counts .entry)) symbol ⌝ }
+{
+    if 128 <= symbol {
+        return count_of(counts, symbol);
+    }
+    if TokenSet(carrying).has(symbol as u8) {
+        return 1;
+    }
+    0
+}

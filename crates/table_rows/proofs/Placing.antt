@@ -1,0 +1,69 @@
+-- Loops that write counts and rows.
+use Prim.Native.Nat.{ℕ, zero, suc, _+_, _*_, _≤_, _<_}
+use mathlib.Core.Path.{_≡_, refl, sym, _∙_, ap}
+use mathlib.Core.List.{List}
+use mathlib.Core.Logic.{⊎-elim}
+use native.Mathlib.Omega.{arith}
+use native.Mathlib.Nat.{not-suc-le-zero}
+use lib.ListN.{length, getD, set, length-set}
+use lib.Seq.{getD-set-same, getD-set-other}
+use Rattle.meaning.specs.Table.{byte}
+use Rattle.table_rows.specs.Rows.{symbolByte, Copied}
+use Rattle.fields.proofs.Cases.{lt-or-le}
+
+-- the counts of positions below k are written, where f gives the count of a symbol's byte
+pub record Placing (f : ℕ → ℕ) (b places : List ℕ) (k : ℕ) : Type 0 where
+  pub each : (j : ℕ) → j < k → getD places j 0 ≡ f (symbolByte b j)
+  pub kept : length places ≡ 13
+
+pub placing-start : (f : ℕ → ℕ) (b places : List ℕ) (x : ℕ) → length places ≡ 13 → x ≡ f (128 + byte b 0) → Placing f b (set places 0 x) 1
+placing-start f b places x l e = record { each = first; kept = length-set places 0 x ∙ l }
+  where
+    first : (j : ℕ) → j < 1 → getD (set places 0 x) j 0 ≡ f (symbolByte b j)
+    first zero h = getD-set-same places 0 x 0 (omega (arith, l)) ∙ e
+    first (suc j) h = absurd (omega arith)
+
+symbol-byte : (b : List ℕ) (k : ℕ) → 1 ≤ k → byte b (k + 1) ≡ symbolByte b k
+symbol-byte b zero h = absurd (not-suc-le-zero h)
+symbol-byte b (suc k) h = ap (byte b) {x = suc k + 1} {y = k + 2} (omega arith)
+
+module _ (f : ℕ → ℕ) (b places : List ℕ) (k : ℕ) (p : Placing f b places k) (one : 1 ≤ k) where
+  -- position k is written in `now`, and the positions before it stay
+  next-each : (now : List ℕ) → getD now k 0 ≡ f (byte b (k + 1)) → ((j : ℕ) → j < k → getD now j 0 ≡ getD places j 0) → (j : ℕ) → j < k + 1 → getD now j 0 ≡ f (symbolByte b j)
+  next-each now e same j h =
+      ⊎-elim
+      (λ l. same j l ∙ p .each j l)
+      (λ l.
+      let q : j ≡ k = omega arith in
+      ap (λ (i : ℕ). getD now i 0) q ∙ e ∙ ap f (symbol-byte b k one ∙ ap (symbolByte b) (sym q)))
+      (lt-or-le j k)
+
+  pub placing-more : (x : ℕ) → k < 13 → x ≡ f (byte b (k + 1)) → Placing f b (set places k x) (k + 1)
+  placing-more x room e =
+      record {
+        each = next-each (set places k x) (getD-set-same places k x 0 (omega (arith, p .kept)) ∙ e) (λ j l. getD-set-other places k j x 0 (λ q. omega arith));
+        kept = length-set places k x ∙ p .kept;
+      }
+
+pub copying-start : (rows : List ℕ) (p : ℕ) (b : List ℕ) → length rows ≡ 2048 → Copied rows p b rows 0
+copying-start rows p b l = record { before = λ i h. refl; row = λ j h. absurd (not-suc-le-zero h); kept = l }
+
+pub copying-more :
+    (rows₀ : List ℕ) (p : ℕ) (b rows : List ℕ) (k : ℕ) → Copied rows₀ p b rows k → 16 * p + k < 2048
+    → Copied rows₀ p b (set rows (16 * p + k) (byte b k)) (k + 1)
+copying-more rows₀ p b rows k c room =
+    record {
+      before = λ i h. getD-set-other rows (16 * p + k) i (byte b k) 0 (λ q. omega arith) ∙ c .before i h;
+      row = row;
+      kept = length-set rows (16 * p + k) (byte b k) ∙ c .kept;
+    }
+  where
+    row : (j : ℕ) → j < k + 1 → getD (set rows (16 * p + k) (byte b k)) (16 * p + j) 0 ≡ byte b j
+    row j h =
+        ⊎-elim
+        (λ l. getD-set-other rows (16 * p + k) (16 * p + j) (byte b k) 0 (λ q. omega arith) ∙ c .row j l)
+        (λ l.
+        let q : j ≡ k = omega arith in
+        ap (λ (i : ℕ). getD (set rows (16 * p + k) (byte b k)) (16 * p + i) 0) q
+        ∙ getD-set-same rows (16 * p + k) (byte b k) 0 (omega (arith, c .kept)) ∙ ap (byte b) (sym q))
+        (lt-or-le j k)
