@@ -237,9 +237,9 @@ void segment_rank(const uint8_t *table, size_t table_length, int64_t *registers,
                   size_t *valued, int64_t *total, size_t *entries, uint32_t *number, uint32_t *offset);
 
 /* A native stack that is enough for the next two calls, in bytes. They call themselves for the nodes of a tree, at most 1,023 deep:
- * segment_sheet uses up to 14 MB, more than most threads have, segment_judge up to 0.6 MB. All others make do with far less. Call from a
+ * segment_sheet uses up to 2.5 MB, more than some threads have, segment_judge up to 0.6 MB. All others make do with far less. Call from a
  * thread of your own that has as much (pthread_attr_setstacksize). */
-#define SEGMENT_SHEET_STACK (16 * 1024 * 1024)
+#define SEGMENT_SHEET_STACK (8 * 1024 * 1024)
 
 /* Evaluates a segment by its tree and writes a tree sheet (docs/SHEETS.md) into the first *length bytes of `sheet`: a record for each node,
  * in the order of entering. Value and refusals are those of a run on `registers` registers and `places` places, of which at most

@@ -2,7 +2,7 @@
 use Prim.Native.Nat.{ℕ}
 use mathlib.Core.Path.{_≡_, refl}
 use mathlib.Core.List.{List, [], _∷_}
-use Rattle.meaning.specs.Words.{words}
+use Rattle.meaning.specs.Examples.Words.{words}
 use Rattle.meaning.specs.Grammar.{nonterminal, terminal}
 use Rattle.analysis.specs.Rows.{leftAt, rightAt}
 use Rattle.analysis.specs.Finding.{finding, flaw, lowestClash, fine}

@@ -70,7 +70,28 @@ fn close_round(rows: &[u8; 2048], count: usize, rights: &[u64; 128], set: u64, t
     next
 }
 
+// One round the other way, the first production first.
+fn close_round_back(
+    rows: &[u8; 2048],
+    count: usize,
+    rights: &[u64; 128],
+    set: u64,
+    tokens: bool,
+) -> u64
+    requires { ⌜ Image (now rows) count × SetsTo (rightBy (now rows)) count (now rights) × Narrow set ⌝ }
+    ensures { λ r. ⌜ Grown (Within (ClosedAt tokens (now (rows .entry))) 0 count) (Within (ClosedAt tokens (now (rows .entry))) 0 count) set r ⌝ }
+{
+    let mut next = set;
+    let mut k: usize = 0;
+    while k < count {
+        next = close_by(rows, count, rights, k, next, tokens);
+        k += 1;
+    }
+    next
+}
+
 // The nonterminals that derive a string of tokens, or, where `tokens` is false, nothing; from the words of the right sides.
+// The rounds go both ways in turn, so that a chain is closed in three whether it is declared from its start or from its end.
 pub fn closure(rows: &[u8; 2048], count: usize, rights: &[u64; 128], tokens: bool) -> u64
     requires { ⌜ Image (now rows) count × SetsTo (rightBy (now rows)) count (now rights) ⌝ }
     ensures { λ r. ⌜ Settled (Within (ClosedAt tokens (now (rows .entry))) 0 count) 0 r ⌝ }
@@ -81,6 +102,10 @@ pub fn closure(rows: &[u8; 2048], count: usize, rights: &[u64; 128], tokens: boo
         if next == set {
             return set;
         }
-        set = next;
+        let last = close_round_back(rows, count, rights, next, tokens);
+        if last == next {
+            return next;
+        }
+        set = last;
     }
 }

@@ -1,2 +1,1 @@
-pub mod Merging
-pub mod Sorting
+pub mod Collecting

@@ -22,15 +22,12 @@ use Rattle.theory_ranking.specs.Report.{countedFrom}
 use Rattle.theory_ranking.specs.Caller.{ranged-more, counted-more}
 use Rattle.theory_evaluating.specs.Values.{number-of}
 use Rattle.theory_evaluating.specs.Outcomes.{outcomeOf}
-use Rattle.fit.specs.Shown.{Shown}
 use Rattle.records.specs.Records.{answerIs}
-use Rattle.evaluate.specs.declared.Candidate.{Candidate}
-use Rattle.evaluate.specs.Opened.{LentClean, clean-unknown}
+use Rattle.fit.specs.Shown.{Shown}
+use Rattle.evaluate_open.specs.declared.Candidate.{Candidate}
+use Rattle.evaluate_open.specs.Opening.{LentClean, clean-unknown}
 use Rattle.evaluate.specs.Ran.{answerRanged, EvaluatedAs}
-
--- an entry's three cells
-abbrev pub putAt : List ℤ → ℕ → Entry → List ℤ
-putAt l i (entry n v r) = set (set (set l (3 * i) n) (3 * i + 1) v) (3 * i + 2) r
+use Rattle.candidate_entries.specs.Entries.{putAt}
 
 -- what is left to evaluate after the entries es
 abbrev pub after : List Entry → Evaluation → Evaluation

@@ -4,11 +4,6 @@ ghost use mathlib.Core.Path.{_≡_};
 ghost use lib.ListN.{length, replicate};
 ghost use Rattle.meaning.specs.Value.{mark};
 
-// 01: "cells past these are neither read nor written and don't count as lent".
-pub const REGISTERS: usize = 4096;
-
-pub const PLACES: usize = 1024;
-
 pub fn smaller(a: usize, b: usize) -> usize
     ensures { λ r. ⌜ r ≡ min a b ⌝ }
 {

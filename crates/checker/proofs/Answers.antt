@@ -13,9 +13,11 @@ use Rattle.table.specs.declared.Reading.{Reading}
 use Rattle.table.specs.declared.Reading.the-variants.{WellFormed, Malformed}
 use Rattle.table.specs.Outline.{Outline}
 use Rattle.table.specs.Answer.{Answers, numberOf, offsetOf}
-use Rattle.checker.specs.Judging.{Outlined, Concludes, Answered, Judges}
-use Rattle.checker.specs.declared.judging.Judged.{Judged}
-use Rattle.checker.specs.declared.judging.Judged.the-variants.{Unusable}
+use Rattle.checker_outline.specs.Outlined.{Outlined}
+use Rattle.checker_grammar.specs.Concludes.{Concludes}
+use Rattle.checker.specs.Judging.{Answered, Judges}
+use Rattle.checker_grammar.specs.declared.Judged.{Judged}
+use Rattle.checker_grammar.specs.declared.Judged.the-variants.{Unusable}
 
 abbrev sizesIn : Reading → Sizes → Sizes
 sizesIn (WellFormed sizes) d = sizes

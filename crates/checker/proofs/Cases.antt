@@ -18,12 +18,15 @@ use Rattle.theory_table.specs.Reading.{table-reads}
 use Rattle.table.specs.declared.Sizes.{Sizes}
 use Rattle.reader.specs.Fields.{nthProduction}
 use Rattle.reader.proofs.Accepted.{begins, ends, last-end}
-use Rattle.checker.specs.Judging.{Brought, Answered, Judges}
-use Rattle.checker.specs.Verdicts.{stretchBy, stretchIs, spanWhere, spanAs, spanOf, Inside, spanIn}
-use Rattle.checker.specs.declared.judging.Judged.{Judged}
-use Rattle.checker.specs.declared.judging.Judged.the-variants.{Usable, Unusable}
-use Rattle.checker.specs.declared.spans.Span.{Span}
-use Rattle.checker.specs.declared.spans.Span.the-variants.{Within, Nowhere}
+use Rattle.checker_outline.specs.Outlined.{Brought}
+use Rattle.checker.specs.Judging.{Answered, Judges}
+use Rattle.checker_span.specs.Spans.{stretchBy, stretchIs, Inside, spanIn}
+use Rattle.checker_span.proofs.Cases.{span-missing, span-found}
+use Rattle.checker.specs.Verdicts.{spanWhere, spanAs, spanOf}
+use Rattle.checker_grammar.specs.declared.Judged.{Judged}
+use Rattle.checker_grammar.specs.declared.Judged.the-variants.{Usable, Unusable}
+use Rattle.checker_span.specs.declared.Span.{Span}
+use Rattle.checker_span.specs.declared.Span.the-variants.{Within, Nowhere}
 
 -- ---- the cases
 
@@ -86,15 +89,6 @@ module _ (t inh syn rows offsets sets : List ℕ) (q : Judged) (j : Judges t inh
   verdict-refused n o e = sym (verdict-checked t ∙ ap verdictIn (refused-case t inh syn rows offsets sets q j n o e))
 
 -- ---- the stretch
-
-module _ (t : List ℕ) (n p : ℕ) where
-  pub span-missing : n ≤ p → Nowhere 14 0 ≡ spanIn t n p
-  unfolding spanIn
-  span-missing l = rw (spanIn, le-ltb p n l) refl
-
-  pub span-found : p < n → (from to : ℕ) → from ≡ nthProduction t 0 p → to ≡ nthProduction t 0 (suc p) → Within from to ≡ spanIn t n p
-  unfolding spanIn
-  span-found l from to d e = rw (spanIn, lt-ltb p n l) (ap₂ Within d e)
 
 pub span-refused : (t : List ℕ) (p m f : ℕ) → check t ≡ unusable m f → Nowhere m f ≡ spanOf t p
 unfolding spanOf
@@ -163,11 +157,11 @@ module _ (t : List ℕ) (sizes : Sizes) (inh syn rows offsets sets : List ℕ) (
 
 -- ---- by the span's cases
 
-pub inside-within : (t : List ℕ) (r : Span) (from to : ℕ) → r ≡ Within from to → Inside t r → (from < to) × (to ≤ length t) × (to ≤ 32768)
-inside-within t r from to e i = subst (Inside t) e i
+pub stretch-by : (t : List ℕ) (p : ℕ) (r : Span) → r ≡ spanOf t p → (n o : ℕ) → stretchBy t r n o ≡ stretchOf t p n o
+stretch-by t p r k n o = ap (λ z. stretchBy t z n o) k ∙ stretch-span t p n o
 
 pub stretch-within : (t : List ℕ) (p : ℕ) (r : Span) (from to : ℕ) → r ≡ Within from to → r ≡ spanOf t p → (n o : ℕ) → stretchIs (cut t from to) n o ≡ stretchOf t p n o
-stretch-within t p r from to e k n o = ap (λ z. stretchBy t z n o) (sym e ∙ k) ∙ stretch-span t p n o
+stretch-within t p r from to e k n o = ap (λ z. stretchBy t z n o) (sym e) ∙ stretch-by t p r k n o
 
 pub stretch-nowhere : (t : List ℕ) (p : ℕ) (r : Span) (m f : ℕ) → r ≡ Nowhere m f → r ≡ spanOf t p → (n o : ℕ) → stretchIs [] m f ≡ stretchOf t p n o
-stretch-nowhere t p r m f e k n o = ap (λ z. stretchBy t z n o) (sym e ∙ k) ∙ stretch-span t p n o
+stretch-nowhere t p r m f e k n o = ap (λ z. stretchBy t z n o) (sym e) ∙ stretch-by t p r k n o

@@ -1,3 +1,2 @@
-pub mod Concluding
 pub mod Answers
 pub mod Cases

@@ -2,11 +2,11 @@
 ghost use mathlib.Core.Path.{_≡_};
 ghost use Rattle.meaning.specs.Decide.{verdictOf};
 ghost use Rattle.meaning.specs.PublicCalls.{stretchOf};
-ghost use Rattle.checker.specs.Verdicts.{verdictIs, stretchIs};
-use crate::judging::Judged;
+ghost use Rattle.checker_span.specs.Spans.{stretchIs};
+ghost use Rattle.checker.specs.Verdicts.{verdictIs};
 use crate::judging::judge_table;
-use crate::spans::Span;
 use crate::spans::span_of;
+use checker_grammar::Judged;
 
 pub mod judging;
 pub mod spans;
@@ -48,15 +48,6 @@ pub fn stretch<'a>(
 ) -> &'a [u8]
     ensures { λ r. ⌜ stretchIs (now r) (now (number .exit)) (now (offset .exit)) ≡ stretchOf (now (table .entry)) production (now (number .entry)) (now (offset .entry)) ⌝ }
 {
-    match span_of(table, production) {
-        Span::Nowhere {
-            number: n,
-            offset: o,
-        } => {
-            *number = n;
-            *offset = o;
-            &table[..0]
-        }
-        Span::Within { from, to } => &table[from..to],
-    }
+    let span = span_of(table, production);
+    checker_span::part(table, span, number, offset)
 }

@@ -1,31 +1,10 @@
 // Where in the table a production's stretch lies.
 ghost use mathlib.Core.Path.{_≡_};
-ghost use Rattle.checker.specs.Verdicts.{spanIn, spanOf, Inside};
-use crate::judging::Judged;
+ghost use Rattle.checker_span.specs.Spans.{Inside};
+ghost use Rattle.checker.specs.Verdicts.{spanOf};
 use crate::judging::judge_table;
-
-// From one offset to another, or a refusal.
-pub enum Span {
-    Within { from: usize, to: usize },
-    Nowhere { number: u32, offset: u32 },
-}
-
-// The span of production p of an accepted table with so many productions, by a walk of its fields.
-fn span_in(table: &[u8], productions: usize, p: usize) -> Span
-    ensures { λ r. ⌜ r ≡ spanIn (now (table .entry)) productions p ⌝ }
-{
-    if productions <= p {
-        return Span::Nowhere {
-            number: 14,
-            offset: 0,
-        };
-    }
-    let found = reader::stretch_of(table, p);
-    Span::Within {
-        from: found.from,
-        to: found.to,
-    }
-}
+use checker_grammar::Judged;
+use checker_span::Span;
 
 // The span of production p of any bytes as a table.
 pub fn span_of(table: &[u8], p: usize) -> Span
@@ -46,6 +25,6 @@ pub fn span_of(table: &[u8], p: usize) -> Span
         &mut sets,
     ) {
         Judged::Unusable { number, offset } => Span::Nowhere { number, offset },
-        Judged::Usable(sizes) => span_in(table, sizes.productions, p),
+        Judged::Usable(sizes) => checker_span::span_in(table, sizes.productions, p),
     }
 }

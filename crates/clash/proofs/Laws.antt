@@ -21,7 +21,8 @@ use Rattle.analysis.specs.Views.{members}
 use Rattle.analysis.specs.Growth.{none-in, single-is}
 use Rattle.analysis.specs.Numbers.{Clear, clear-none}
 use Rattle.entry_conditions.specs.Entry.{atEntry, rankBy, raised, lowered, Stretch}
-use Rattle.rivals.specs.Rivals.{leaveValues, startTogether, rival, NextRival, rival-starts, rival-values, no-rival}
+use Rattle.intervals.specs.Intervals.{leaveValues}
+use Rattle.rivals.specs.Rivals.{startTogether, rival, NextRival, rival-starts, rival-values, no-rival}
 use Rattle.clash.specs.Together.{enterTogether, grammarIn, later-free, earlier-free, rank-most, matrix-told, ranges-told, compared-told}
 use Rattle.entry_conditions.specs.Walk.{afterAll, from-on}
 use Rattle.clash.specs.Clashing.{Placed, Kept, KeptTo, Given, Meeting, Seen, FirstRival, clashIn, enterIn, clash-apart, clash-met, both-kept, unmet-clear}

@@ -7,7 +7,7 @@ use lib.IntN.{pos, negsuc}
 use Rattle.meaning.specs.Grammar.{Condition, range}
 use Rattle.entry_conditions.specs.Words.{biased}
 use Rattle.entry_conditions.specs.Entry.{raised, lowered, lowest, highest}
-use Rattle.rivals.specs.Rivals.{leaveValues}
+use Rattle.intervals.specs.Intervals.{leaveValues}
 
 -- 01: "Ranges 0 to 4 and 5 to 9 don't clash ★; 0 to 5 and 5 to 9 do ★"
 abbrev meets : Condition ℕ → Condition ℕ → Bool

@@ -22,7 +22,7 @@ use Rattle.theory_differences.specs.Building.{solvable-same}
 use Rattle.theory_sets.specs.Intervals.{entry, entered, entry-known}
 use Rattle.analysis.specs.Numbers.{all-count-same}
 use Rattle.entry_conditions.specs.Words.{biased}
-use Rattle.rivals.specs.Rivals.{leaveValues}
+use Rattle.intervals.specs.Intervals.{leaveValues}
 use Rattle.clash.specs.Kept.{Own}
 use Rattle.clash.specs.Intervals.{lowEnd, highEnd, low-append, high-append, high-word, pairwise-is}
 use Rattle.entry_conditions.specs.Entry.{atEntry, entry-tests, after, rankBy, raised, lowered, lowest, highest}

@@ -1,6 +1,6 @@
 // Whether two rivals can be entered with the same values: where one of them compares, by the differences of both, read from the
 // table.
-use entry_conditions::compare::constrain_by;
+use entry_differences::constrain_by;
 ghost use mathlib.Core.Path.{_≡_};
 ghost use mathlib.Core.Bool.{true};
 ghost use mathlib.Core.List.{_++_};
@@ -22,7 +22,7 @@ fn leaves_differences(table: &[u8], offsets: &[u32; 128], later: usize, earlier:
     constrain_by(&table[from..], &mut m);
     let from = offsets[earlier] as usize;
     constrain_by(&table[from..], &mut m);
-    differences::satisfiable(m)
+    cycles::satisfiable(m)
 }
 
 // Whether a production can be entered with the values of a rival among the earlier ones: always where one of them has no entry

@@ -3,8 +3,8 @@ use Prim.Native.Nat.{ℕ, _-_, _≤_, _<_, min}
 use native.Mathlib.Omega.{arith}
 use mathlib.Core.Path.{_≡_, refl, sym, ap, ap₂, _∙_, subst, subst₂}
 use mathlib.Core.Bool.{Bool, true}
-use lib.Dec.{T}
 use mathlib.Core.List.{List, _++_, append-nil}
+use lib.Dec.{T}
 use lib.ListN.{length, getD, set, take, drop, replicate, length-replicate, length-append, length-drop, length-set, drop-of-length-le}
 use lib.Seq.{take-at}
 use lib.IntN.{ℤ}
@@ -18,28 +18,22 @@ use Rattle.meaning_ranking.specs.RankCall.{evaluated}
 use Rattle.theory_answers.specs.Memory.{lay-above}
 use Rattle.theory_answers.specs.ShapeMemory.{result-ranged}
 use Rattle.theory_evaluating.specs.Outcomes.{Outcome, outcome, outcomeOf, Goes, narrow, flat, failing, ending, goes-evaluated, goes-over}
+use Rattle.records.specs.declared.Handed.{Handed}
+use Rattle.records.specs.Records.{answerIs, handedIs}
+use Rattle.registers.specs.Laid.{laid-inside}
 use Rattle.moves.specs.declared.Run.{Run}
 use Rattle.moves.specs.Laid.{LaidIn, laid-size}
 use Rattle.moves.specs.Held.{Held}
-use Rattle.registers.specs.Laid.{laid-inside}
 use Rattle.machine.specs.declared.Ended as Ended
 use Rattle.machine.specs.declared.Ended.the-variants.{Stopped, Failed}
 use Rattle.machine.specs.Advancing.{Settles, Running}
 use Rattle.machine.specs.Feeding.{Feeds, Finishes}
 use Rattle.fit.specs.Shown.{Shown, Readable}
-use Rattle.records.specs.declared.Handed.{Handed}
-use Rattle.records.specs.declared.Answer.the-variants.{Refused}
-use Rattle.records.specs.Records.{answerIs, handedIs}
-use Rattle.running.specs.Leaving.{fedFrom, finishedFrom, Ending, feed-leaves, finish-leaves, is-finished, ended-by}
-use Rattle.evaluate.specs.declared.Candidate.{Candidate}
-use Rattle.evaluate.specs.Opened.{Clean, LentClean, Opened, startRun, held-opened, opening-count, roomy, placed, opened-lays, opening-within}
 use Rattle.cells.specs.Cutting.{uncut, lent-same, put-back, fed-cut, finished-cut}
-
-abbrev pub unopenedFrom : ℕ → ℕ → ℕ → Candidate
-unopenedFrom number a b = record { answer = Refused number 0; registers = a; places = b }
-
-abbrev pub leftFrom : Handed → Candidate
-leftFrom c = record { answer = c .answer; registers = c .state .registers; places = c .state .places }
+use Rattle.running.specs.Leaving.{fedFrom, finishedFrom, Ending, feed-leaves, finish-leaves, is-finished, ended-by}
+use Rattle.evaluate_open.specs.declared.Candidate.{Candidate}
+use Rattle.evaluate_open.specs.Opening.{Clean, LentClean, unopenedFrom, leftFrom}
+use Rattle.evaluate.specs.Opened.{Opened, startRun, held-opened, opening-count, roomy, placed, opened-lays, opening-within}
 
 -- a value is within its limits
 abbrev pub answerRanged : Calls.Answer → Bool

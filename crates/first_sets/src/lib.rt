@@ -1,6 +1,6 @@
 // What a right side begins with, FIRST of each nonterminal, and which nonterminals lead to which: come to begin with them.
-use analysis::spreading::add;
-use analysis::spreading::spread;
+use spreading::add;
+use spreading::spread;
 use token_set::TokenSet;
 ghost use mathlib.Core.Path.{_≡_};
 ghost use mathlib.Core.Bool.{true};

@@ -5,9 +5,10 @@ use mathlib.Core.Bool.{true, false}
 use mathlib.Core.List.{List, [], _∷_, _++_}
 use lib.IntN.{ℤ, pos}
 use Rattle.meaning.specs.Value.{mark}
-use Rattle.meaning.specs.Words.{words}
+use Rattle.meaning.specs.Examples.Words.{words}
 use Rattle.meaning.specs.Calls.{stacksFit}
-use Rattle.fit.specs.Upward.{kind, fitsFrom, placesAbove, cellsAbove, standsFit}
+use Rattle.fit_past.specs.Passing.{kind, fitsFrom}
+use Rattle.fit.specs.Upward.{placesAbove, cellsAbove, standsFit}
 use Rattle.meaning.specs.Program.{programOf}
 use Rattle.fit.specs.Shown.{waitAt, wordOn, cellsIn}
 use Rattle.meaning.specs.PublicCalls.{stacksOf}

@@ -31,6 +31,11 @@ pub record Readable (ws : List ℕ) : Type 0 where
 
 -- ---- what the code reads
 
+-- the rows of words of the places: how many there are, and where they begin
+pub record RowsAt (ws : List ℕ) (count begin : ℕ) : Type 0 where
+  pub productions : count ≡ getD ws 6 0
+  pub address : begin ≡ getD ws 2 0 + 8 * getD ws 6 0
+
 -- the address of the word of place p
 abbrev pub wordAddress : List ℕ → ℕ → ℕ
 wordAddress ws p = getD ws 2 0 + 8 * getD ws 6 0 + 12 * (p / 256) + p % 256
@@ -157,5 +162,10 @@ module _ {g : Grammar} {ws : List ℕ} (s : Shown g ws) where
   pub start-small : getD ws 4 0 ≤ 4096
   start-small = omega (arith, start-count, att-most g (s .formed) (nonterminal (g .start)))
 
-  pub start-symbol : symbolOf (128 + getD ws 0 0 / 8) ≡ nonterminal (g .start)
-  start-symbol = symbol-high (getD ws 0 0 / 8) ∙ ap nonterminal (omega (arith, segment-words (s .begins) .expected))
+  -- a word that has the start symbol alone
+  pub start-symbol : symbolOf ((128 + getD ws 0 0 / 8) * 2097152 / 2097152 % 256) ≡ nonterminal (g .start)
+  start-symbol =
+      let e : getD ws 0 0 / 8 ≡ g .start = omega (arith, segment-words (s .begins) .expected) in
+      let f : g .start < 48 = omega (arith, s .formed .start, s .formed .nonterminals .1) in
+      let d : (128 + getD ws 0 0 / 8) * 2097152 / 2097152 % 256 ≡ 128 + getD ws 0 0 / 8 = omega arith in
+      ap symbolOf d ∙ (symbol-high (getD ws 0 0 / 8) ∙ ap nonterminal e)

@@ -1,28 +1,22 @@
 -- 34's test from the bottom up: the places and the registers as they lie in memory.
-use Prim.Native.Nat.{ℕ, zero, suc, _+_, _-_, _/_, _%_, _≤_, _<_}
+use Prim.Native.Nat.{ℕ, suc, _+_, _/_, _%_, _<_}
 use native.Mathlib.Omega.{arith}
 use mathlib.Core.Path.{_≡_, refl, sym, ap, ap₂, _∙_}
 use mathlib.Core.Bool.{Bool, true, false, _&&_, _||_, and-true, and-false, and-assoc}
 use mathlib.Core.List.{List, [], _∷_, _++_, map, reverseAux, reverse, reverse-append, reverse-reverse, append-assoc, append-nil}
-use borrow.Author.Tests.{le-leb, lt-leb, leb-true, leb-false, eqb-true, eq-eqb, ne-eqb}
-use lib.ListN.{length, take, drop, replicate, length-append, length-replicate, length-reverseAux, length-drop}
-use lib.Seq.{drop-drop}
-use lib.Dec.{eqb, ltb, leb}
+use borrow.Author.Tests.{eqb-true}
+use lib.ListN.{length, take, replicate, length-reverseAux, replicate-append-replicate}
+use lib.Dec.{eqb, ltb}
 use lib.IntN.{ℤ}
-use Rattle.meaning.specs.Base.{all, total, isEmpty}
+use Rattle.meaning.specs.Base.{total, isEmpty}
 use Rattle.meaning.specs.Grammar.{Symbol, nonterminal, Grammar, productionAt, inh, syn, markedFor, isNonterminal, whole}
 use Rattle.meaning.specs.Rules.{WellFormed}
 use Rattle.meaning.specs.Calls.{Cell, valued, marked, cellFits, cellsFit, waitingCells, awaited, placesFit, placeCells, stackFits}
 use Rattle.theory_answers.specs.FitTest.{syn-cells, alone}
 use Rattle.registers.specs.Stack.{reverse-replicate}
+use Rattle.fit_past.specs.Passing.{unfit, valuedThenMarked}
 
 -- ---- cells that fit, from the other end
-
-unfit : (cs : List Cell) (vs : List ℤ) → (length cs ≡ length vs → ⊥) → cellsFit cs vs ≡ false
-unfit [] [] h = absurd (h refl)
-unfit [] (v ∷ vs) h = refl
-unfit (c ∷ cs) [] h = refl
-unfit (c ∷ cs) (v ∷ vs) h = rw (unfit cs vs (λ e. h (ap suc e))) (and-false (cellFits c v))
 
 and-swap : (a b c : Bool) → a && (b && c) ≡ (b && a) && c
 and-swap true true c = refl
@@ -39,90 +33,18 @@ fit-turned (c ∷ cs) ds (v ∷ vs) ws e = fit-turned cs (c ∷ ds) vs (v ∷ ws
 fit-reverse : (cs : List Cell) (vs : List ℤ) → cellsFit cs (reverse vs) ≡ cellsFit (reverse cs) vs
 fit-reverse cs vs = sym (and-true (cellsFit cs (reverse vs))) ∙ (sym (fit-turned cs [] (reverse vs) [] refl) ∙ ap (cellsFit (reverse cs)) (reverse-reverse vs))
 
--- ---- a stretch of cells of one kind
-
-fit-stretch : (c : Cell) (n : ℕ) (ds : List Cell) (vs : List ℤ) → n ≤ length vs → cellsFit (replicate n c ++ ds) vs ≡ all (cellFits c) (take n vs) && cellsFit ds (drop n vs)
-fit-stretch c zero ds vs l = refl
-fit-stretch c (suc n) ds [] l = absurd (omega arith)
-fit-stretch c (suc n) ds (v ∷ vs) l = ap (λ b. cellFits c v && b) (fit-stretch c n ds vs (omega arith)) ∙ sym (and-assoc (cellFits c v) (all (cellFits c) (take n vs)) (cellsFit ds (drop n vs)))
-
-fit-short : (cs ds : List Cell) (vs : List ℤ) → length vs < length cs → cellsFit (cs ++ ds) vs ≡ false
-fit-short cs ds vs l = unfit (cs ++ ds) vs (λ e. omega (arith, length-append cs ds))
-
--- the registers from `at` on are those of the cells; past the end none are
-unfoldable pub fitsFrom : List ℤ → ℕ → List Cell → Bool
-fitsFrom vs at cs = leb at (length vs) && cellsFit cs (drop at vs)
-
--- the kind of a cell by whether it is marked
-abbrev pub kind : Bool → Cell
-kind true = marked
-kind false = valued
-
--- cells cs, from `at` on, are passed at r; past the end where they do not fit
-pub record Passes (vs : List ℤ) (cs : List Cell) (at r : ℕ) : Type 0 where
-  pub inside : r ≤ length vs + 1
-  pub same : (ds : List Cell) → fitsFrom vs at (cs ++ ds) ≡ fitsFrom vs r ds
-
-module _ (vs : List ℤ) where
-  past-end : (at : ℕ) (cs : List Cell) → length vs < at → fitsFrom vs at cs ≡ false
-  unfolding fitsFrom
-  past-end at cs l = rw (lt-leb at (length vs) l) refl
-
-  pub from-end : (at : ℕ) → fitsFrom vs at [] ≡ eqb at (length vs)
-  unfolding fitsFrom
-  from-end at = by (leb at (length vs)) refl (drop at vs) (length-drop at vs)
-    where
-      by : (b : Bool) → leb at (length vs) ≡ b → (ws : List ℤ) → length ws ≡ length vs - at → b && cellsFit [] ws ≡ eqb at (length vs)
-      by true e [] d = sym (eq-eqb at (length vs) (omega (arith, leb-true at (length vs) e)))
-      by true e (w ∷ ws) d = sym (ne-eqb at (length vs) (λ q. omega arith))
-      by false e ws d = sym (ne-eqb at (length vs) (λ q. omega (arith, leb-false at (length vs) e)))
-
-  pub from-start : (cs : List Cell) → cellsFit cs vs ≡ fitsFrom vs 0 cs
-  unfolding fitsFrom
-  from-start cs = rw (le-leb 0 (length vs) (omega arith)) refl
-
-  -- more cells than registers
-  module _ (cs : List Cell) (at : ℕ) (l : length vs < at + length cs) where
-    out : (ds : List Cell) → fitsFrom vs at (cs ++ ds) ≡ false
-    unfolding fitsFrom
-    out ds = by (leb at (length vs)) refl
-      where
-        by : (b : Bool) → leb at (length vs) ≡ b → b && cellsFit (cs ++ ds) (drop at vs) ≡ false
-        by true e = fit-short cs ds (drop at vs) (omega (arith, length-drop at vs, leb-true at (length vs) e))
-        by false e = refl
-
-    pub passes-out : Passes vs cs at (length vs + 1)
-    passes-out = record { inside = omega arith; same = λ ds. out ds ∙ sym (past-end (length vs + 1) ds (omega arith)) }
-
-  module _ (c : Cell) (at n : ℕ) where
-    pub passes-met : at + n ≤ length vs → all (cellFits c) (take n (drop at vs)) ≡ true → Passes vs (replicate n c) at (at + n)
-    unfolding fitsFrom
-    passes-met l e =
-        record {
-          inside = omega arith;
-          same = λ ds. rw (le-leb at (length vs) (omega arith), le-leb (at + n) (length vs) l, fit-stretch c n ds (drop at vs) (omega (arith, length-drop at vs)), e) (ap (cellsFit ds) (drop-drop n at vs));
-        }
-
-    pub passes-not : at + n ≤ length vs → all (cellFits c) (take n (drop at vs)) ≡ false → Passes vs (replicate n c) at (length vs + 1)
-    unfolding fitsFrom
-    passes-not l e =
-        record {
-          inside = omega arith;
-          same = λ ds. rw (lt-leb (length vs + 1) (length vs) (omega arith), fit-stretch c n ds (drop at vs) (omega (arith, length-drop at vs)), e) (and-false (leb at (length vs)));
-        }
-
-    pub passes-short : length vs < at + n → Passes vs (replicate n c) at (length vs + 1)
-    passes-short l = passes-out (replicate n c) at (omega (arith, length-replicate n c))
-
-  pub passes-then : {cs ds : List Cell} {at r s : ℕ} → Passes vs cs at r → Passes vs ds r s → Passes vs (cs ++ ds) at s
-  passes-then {cs} {ds} p q = record { inside = q .inside; same = λ es. ap (fitsFrom vs _) (append-assoc cs ds es) ∙ (p .same (ds ++ es) ∙ q .same es) }
-
 -- registers with values, marked ones, and registers with values again
 abbrev pub stretches : ℕ → ℕ → ℕ → List Cell
 stretches a b c = replicate a valued ++ (replicate b marked ++ replicate c valued)
 
-pub stretches-length : (a b c : ℕ) → length (stretches a b c) ≡ a + (b + c)
-stretches-length a b c = omega (arith, length-append (replicate a valued) (replicate b marked ++ replicate c valued), length-append (replicate b marked) (replicate c valued), length-replicate a valued, length-replicate b marked, length-replicate c valued)
+-- registers with values below a place's are taken with those that it has passed, and its last ones are left
+pub regrouped : (n a b c : ℕ) (cs : List Cell) → replicate n valued ++ (stretches a b c ++ cs) ≡ valuedThenMarked (n + a) b ++ (replicate c valued ++ cs)
+regrouped n a b c cs =
+    let above : List Cell = replicate c valued ++ cs in
+    ap (λ z. replicate n valued ++ z) (append-assoc (replicate a valued) (replicate b marked ++ replicate c valued) cs ∙ ap (λ z. replicate a valued ++ z) (append-assoc (replicate b marked) (replicate c valued) cs))
+    ∙ (sym (append-assoc (replicate n valued) (replicate a valued) (replicate b marked ++ above))
+    ∙ (ap (λ z. z ++ (replicate b marked ++ above)) (replicate-append-replicate n a valued)
+    ∙ sym (append-assoc (replicate (n + a) valued) (replicate b marked) above)))
 
 -- ---- places from the bottom up
 

@@ -1,204 +1,118 @@
 // 34: whether the stacks fit, in any record and any lent cells. Registers are taken from the bottom up, as the places tell them.
-ghost use Prim.Native.Nat.{_+_, _*_, _<_, _≤_};
+ghost use Prim.Native.Nat.{_+_, _-_, _/_, _%_, _≤_};
 ghost use mathlib.Core.Path.{_≡_};
 ghost use mathlib.Core.Bool.{_&&_};
+ghost use mathlib.Core.List.{_++_};
 ghost use lib.ListN.{length, drop, replicate};
 ghost use lib.Dec.{eqb};
-ghost use Rattle.meaning.specs.Base.{all};
 ghost use Rattle.meaning.specs.Grammar.{Grammar, nonterminal};
-ghost use Rattle.meaning.specs.Value.{inRange};
-ghost use Rattle.meaning.specs.Calls.{isMark, cellFits, stacksFit};
-ghost use Rattle.fit.specs.Upward.{kind, Passes, stretches, fitsFrom, placesAbove, cellsAbove, standsFit};
-ghost use Rattle.fit.specs.Shown.{Shown, Readable, waitAt, wordOn, cellsIn};
+ghost use Rattle.meaning.specs.Calls.{stacksFit};
+ghost use Rattle.fit_past.specs.Passing.{fitsFrom};
+ghost use Rattle.fit.specs.Upward.{placesAbove, cellsAbove, standsFit};
+ghost use Rattle.fit.specs.Shown.{Shown, Readable, RowsAt, waitAt};
 ghost use Rattle.meaning.specs.PublicCalls.{stacksOf};
 ghost use Rattle.fit.specs.Cut.{numbers};
+use limits::LEFT;
+use limits::MOVES_LIMIT;
+use limits::SEGMENT;
+use limits::TOKENS_LIMIT;
 
-// 01: the whole segment's place, while the start symbol is waited at and once it is left.
-const SEGMENT: u32 = 32768;
-
-const LEFT: u32 = 32769;
-
-const TOKENS_LIMIT: u64 = 65535;
-
-const MOVES_LIMIT: u64 = 4294967295;
-
-// ---- stretches of cells
-
-// Many cells: the bits in which they differ from the mark are gathered with no way out of the loop, so that it takes several cells at once.
-fn all_marked(cells: &[i64]) -> bool
-    ensures { λ r. ⌜ r ≡ all isMark (now (cells .entry)) ⌝ }
-{
-    let mut differing: i64 = 0;
-    let mut i = 0;
-    while i < cells.len() {
-        differing |= cells[i] ^ value::MARK;
-        i += 1;
-    }
-    differing == 0
-}
-
-// Few cells, as a symbol has: what follows need not wait for them.
-fn few_marked(cells: &[i64]) -> bool
-    ensures { λ r. ⌜ r ≡ all isMark (now (cells .entry)) ⌝ }
-{
-    let mut i = 0;
-    while i < cells.len() {
-        let v = cells[i];
-        if value::is_mark(v) {
-            i += 1;
-        } else {
-            return false;
-        }
-    }
-    true
-}
-
-fn all_valued(cells: &[i64]) -> bool
-    ensures { λ r. ⌜ r ≡ all inRange (now (cells .entry)) ⌝ }
-{
-    let mut i = 0;
-    while i < cells.len() {
-        let v = cells[i];
-        if value::in_range(v) {
-            i += 1;
-        } else {
-            return false;
-        }
-    }
-    true
-}
-
-fn all_zero(cells: &[u32]) -> bool
-    ensures { λ r. ⌜ r ≡ all (λ p. eqb p 0) (now (cells .entry)) ⌝ }
-{
-    let mut bits: u32 = 0;
-    let mut i = 0;
-    while i < cells.len() {
-        bits |= cells[i];
-        i += 1;
-    }
-    bits == 0
-}
-
-// Whether all cells are marked, or all have values.
-fn all_fit(cells: &[i64], marked: bool) -> bool
-    ensures { λ r. ⌜ r ≡ all (cellFits (kind marked)) (now (cells .entry)) ⌝ }
-{
-    if marked {
-        return few_marked(cells);
-    }
-    all_valued(cells)
-}
-
-// Where `count` registers of a kind end that stand from `at` on; past the end of the registers where they do not stand.
-fn past(registers: &[i64], at: usize, count: usize, marked: bool) -> usize
-    requires { ⌜ (at ≤ length (now registers) + 1) × (count ≤ 4096) ⌝ }
-    ensures { λ r. ⌜ Passes (now (registers .entry)) (replicate count (kind marked)) at r ⌝ }
-{
-    let end = at + count;
-    if registers.len() < end {
-        return registers.len() + 1;
-    }
-    if all_fit(&registers[at..end], marked) {
-        return end;
-    }
-    registers.len() + 1
-}
-
-// The same for registers with values, marked ones, and registers with values again.
-fn past_stretches(
-    registers: &[i64],
-    at: usize,
-    passed: usize,
-    marked: usize,
-    valued: usize,
-) -> usize
-    requires { ⌜ (at ≤ length (now registers) + 1) × (passed ≤ 4096) × (marked ≤ 4096) × (valued ≤ 4096) ⌝ }
-    ensures { λ r. ⌜ Passes (now (registers .entry)) (stretches passed marked valued) at r ⌝ }
-{
-    let from = at + passed;
-    let to = from + marked;
-    let end = to + valued;
-    if registers.len() < end {
-        return registers.len() + 1;
-    }
-    if !all_valued(&registers[at..from]) {
-        return registers.len() + 1;
-    }
-    if !few_marked(&registers[from..to]) {
-        return registers.len() + 1;
-    }
-    if all_valued(&registers[to..end]) {
-        return end;
-    }
-    registers.len() + 1
-}
+// More than any place.
+const NO_PLACE: usize = 4294967296;
 
 // ---- what the program says of a place
 
+// The rows of words that say what places wait at, one for each production, and where they begin.
+struct Rows {
+    count: usize,
+    begin: usize,
+}
+
+fn read_rows(program: &[u32]) -> Rows
+    requires { ⌜ Readable (now program) ⌝ }
+    ensures { λ r. ⌜ RowsAt (now (program .entry)) (r .count) (r .begin) ⌝ }
+{
+    let count = moves::word_at(program, 6);
+    let begin = moves::word_at(program, 2) + 8 * count;
+    Rows { count, begin }
+}
+
 // The word that says what a place waits at; 0 where it has no production, or no symbol left.
-fn wait_word(program: &[u32], place: usize) -> usize
-    requires { ⌜ Readable (now program) × (place < 4294967296) ⌝ }
-    ensures { λ r. ⌜ (r ≡ waitAt (now (program .entry)) place) × (r < 4294967296) ⌝ }
+fn wait_word(program: &[u32], rows: Rows, place: usize) -> usize
+    requires { ⌜ Readable (now program) × RowsAt (now program) (rows .count) (rows .begin) ⌝ }
+    ensures { λ r. ⌜ r ≡ waitAt (now (program .entry)) place ⌝ }
 {
     let production = place / 256;
-    let productions = moves::word_at(program, 6);
-    if productions <= production {
+    if rows.count <= production {
         return 0;
     }
     let passed = place % 256;
     if 12 <= passed {
         return 0;
     }
-    let waits = moves::word_at(program, 2) + 8 * productions;
-    moves::word_at(program, waits + 12 * production + passed)
+    moves::word_at(program, rows.begin + 12 * production + passed)
 }
 
-// Whether a place with this word stands on one that waits at the symbol with this byte, and waits itself.
-fn stands_on(word: usize, awaited: usize) -> bool
-    ensures { λ r. ⌜ r ≡ wordOn word awaited ⌝ }
+// Whether the left side of a place with word `next` is the symbol that one with word `word` waits at. 0, the word of a place that does not wait, waits at no nonterminal.
+fn stands_on(next: usize, word: usize) -> bool
+    ensures { λ r. ⌜ r ≡ eqb (128 + next % 64) (word / 2097152 % 256) ⌝ }
 {
-    if word == 0 {
-        return false;
-    }
-    128 + word % 64 == awaited
+    128 + next % 64 == word / 2097152 % 256
 }
 
 // ---- places
 
-// Past the registers of a place, by its word: those of the symbols passed, then those of the symbol waited at, its synthesized ones marked and, above them, its inherited ones valued.
-fn past_place(registers: &[i64], at: usize, word: usize) -> usize
-    requires { ⌜ at ≤ length (now registers) + 1 ⌝ }
-    ensures { λ r. ⌜ Passes (now (registers .entry)) (cellsIn word) at r ⌝ }
+// Where the places that are this one end, from `from` on.
+fn alike(places: &[u32], from: usize, place: usize) -> usize
+    ensures { λ r. ⌜ (from ≤ r) × (drop from (now (places .entry)) ≡ replicate (r - from) place ++ drop r (now (places .entry))) ⌝ }
 {
-    past_stretches(
-        registers,
-        at,
-        word / 64 % 128,
-        word / 8192 % 16,
-        word / 131072 % 16,
-    )
+    let mut i = from;
+    while i < places.len() {
+        if moves::word_at(places, i) != place {
+            return i;
+        }
+        i += 1;
+    }
+    i
 }
 
-// Whether the places above the bottom one stand on each other, and the registers from `at` up are theirs.
+// Whether the places above the bottom one stand on each other, and the registers from `at` up are theirs. The bottom place's word has the start symbol alone. Equal places, as nests and lists leave them, are looked up once and taken together.
 fn stand_above(registers: &[i64], at: usize, places: &[u32], program: &[u32]) -> bool
     requires { ⌜ (at ≤ length (now registers) + 1) × Readable (now program) ⌝ }
     ensures { λ r. ⌜ ((g : Grammar) → Shown g (now (program .entry)) → r ≡ placesAbove g (nonterminal (g .start)) (drop 1 (now (places .entry))) && fitsFrom (now (registers .entry)) at (cellsAbove g (drop 1 (now (places .entry))))) ⌝ }
 {
+    let rows = read_rows(program);
+    let mut word = (128 + moves::word_at(program, 0) / 8) * 2097152;
+    let mut below = NO_PLACE;
     let mut reached = at;
-    let mut awaited = 128 + moves::word_at(program, 0) / 8;
     let mut i = 1;
     while i < places.len() {
-        let word = wait_word(program, moves::word_at(places, i));
-        if stands_on(word, awaited) {
-            reached = past_place(registers, reached, word);
-            awaited = word / 2097152 % 256;
+        let place = moves::word_at(places, i);
+        if place != below {
+            let next = wait_word(program, rows, place);
+            if !stands_on(next, word) {
+                return false;
+            }
+            reached = fit_past::past_place(registers, reached, word, next);
+            if registers.len() < reached {
+                return false;
+            }
+            word = next;
+            below = place;
             i += 1;
         } else {
-            return false;
+            if !stands_on(word, word) {
+                return false;
+            }
+            let end = alike(places, i + 1, place);
+            reached = fit_past::past_alike(registers, reached, word, end - i);
+            i = end;
         }
     }
-    reached == registers.len()
+    if word == 0 {
+        return false;
+    }
+    fit_past::past(registers, reached, word / 131072 % 16, false) == registers.len()
 }
 
 // ---- the whole test
@@ -217,12 +131,12 @@ fn stand(registers: &[i64], places: &[u32], program: &[u32]) -> bool
         if places.len() != 1 {
             return false;
         }
-        return past(registers, 0, count, false) == registers.len();
+        return fit_past::past(registers, 0, count, false) == registers.len();
     }
     if bottom != SEGMENT {
         return false;
     }
-    let at = past(registers, 0, count, true);
+    let at = fit_past::past(registers, 0, count, true);
     stand_above(registers, at, places, program)
 }
 
@@ -256,8 +170,8 @@ pub fn fits(
     if !stand(&registers[..height], &places[..top], program) {
         return false;
     }
-    if !all_marked(&registers[height..]) {
+    if !fit_marked::all_marked(&registers[height..]) {
         return false;
     }
-    all_zero(&places[top..])
+    fit_cells::all_zero(&places[top..])
 }

@@ -1,9 +1,8 @@
 // FOLLOW, and FIRST-then-FOLLOW of each production.
 pub mod follow;
-pub mod starts;
 
 use crate::follow::follow;
-use crate::starts::all_starts;
+use all_starts::all_starts;
 ghost use mathlib.Core.Path.{_≡_};
 ghost use mathlib.Core.Bool.{true};
 ghost use Prim.Native.Nat.{ℕ, _<_, _≤_};
@@ -18,7 +17,7 @@ ghost use Rattle.analysis.specs.Tables.{SettledTable};
 ghost use Rattle.analysis.specs.Follows.{Followed};
 ghost use Rattle.analysis.specs.Agreeing.{Marks};
 
-// FOLLOW, where some nonterminal derives nothing. Nothing else needs it.
+// FOLLOW into a table of empty sets, where some nonterminal derives nothing. Nothing else needs it.
 fn follow_where(
     rows: &[u8; 2048],
     count: usize,
@@ -26,14 +25,15 @@ fn follow_where(
     start: u8,
     null: u64,
     first: &[u64; 48],
-) -> [u64; 48]
-    requires { ⌜ Image (now rows) count × (n ≤ 48) × (start < 48) ⌝ }
-    ensures { λ r. ⌜ ((null ≡ 0 → ⊥) → Below n (now (rows .entry)) count → start < n → Followed (members null) (now (first .entry)) (now (rows .entry)) count start r) ⌝ }
+    table: &mut [u64; 48],
+)
+    requires { ⌜ Image (now rows) count × (n ≤ 48) × (start < 48) × (now table ≡ replicate 48 0) ⌝ }
+    ensures { λ r. ⌜ ((null ≡ 0 → ⊥) → Below n (now (rows .entry)) count → start < n → Followed (members null) (now (first .entry)) (now (rows .entry)) count start (now (table .exit))) ⌝ }
 {
     if null == 0 {
-        return [0u64; 48];
+        return;
     }
-    follow(rows, count, n, start as usize, null, first)
+    follow(rows, count, n, start as usize, null, first, table);
 }
 
 // FIRST-then-FOLLOW of each production, from the set of the nonterminals that derive nothing and from FIRST; n is how many nonterminals there are.
@@ -51,6 +51,7 @@ pub fn starting(
         → SettledTable (WithinAll (FrontAt true (members null) (now (rows .entry))) 0 count) (replicate 48 0) (now (first .entry))
         → (p : ℕ) → Listed g p → setOf (getD (now (sets .exit)) p 0) ≡ starts g (productionAt g p)) ⌝ }
 {
-    let after = follow_where(rows, count, n, start, null, first);
+    let mut after = [0u64; 48];
+    follow_where(rows, count, n, start, null, first, &mut after);
     all_starts(rows, count, null, first, &after, sets);
 }

@@ -108,7 +108,8 @@ pub extern "C" fn segment_feed(
     number: &mut u32,
     count: &mut u64,
 )
-    ensures { λ r. ⌜ PassedOn (now («record» .exit)) (now (number .exit)) (now (count .exit)) (now (registers .exit)) (now (places .exit)) (now (program .exit)) (performs programOf (now (table .entry)) (now (program .entry)) (broughtIn (now («record» .entry))) (stacksOf (now (registers .entry)) (now (places .entry))) (feed (now (kinds .entry)) (now (values .entry)))) ⌝ }
+    ensures { λ r. ⌜ PassedOn (now («record» .exit)) (now (number .exit)) (now (count .exit)) (now (registers .exit)) (now (places .exit)) (now (program .exit))
+        (performs programOf (now (table .entry)) (now (program .entry)) (broughtIn (now («record» .entry))) (stacksOf (now (registers .entry)) (now (places .entry))) (feed (now (kinds .entry)) (now (values .entry)))) ⌝ }
 {
     host_run::feed(
         table,
@@ -136,7 +137,8 @@ pub extern "C" fn segment_feed_in_place(
     number: &mut u32,
     count: &mut u64,
 )
-    ensures { λ r. ⌜ PassedOn (now («record» .exit)) (now (number .exit)) (now (count .exit)) (now (registers .exit)) (now (places .exit)) (now (program .exit)) (performs programOf (now (table .entry)) (now (program .entry)) (broughtIn (now («record» .entry))) (stacksOf (now (registers .entry)) (now (places .entry))) (feed (now (kinds .entry)) (now (values .entry)))) ⌝ }
+    ensures { λ r. ⌜ PassedOn (now («record» .exit)) (now (number .exit)) (now (count .exit)) (now (registers .exit)) (now (places .exit)) (now (program .exit))
+        (performs programOf (now (table .entry)) (now (program .entry)) (broughtIn (now («record» .entry))) (stacksOf (now (registers .entry)) (now (places .entry))) (feed (now (kinds .entry)) (now (values .entry)))) ⌝ }
 {
     host_in_place::feed(
         table,
@@ -163,7 +165,9 @@ pub extern "C" fn segment_finish(
     value: &mut i64,
     count: &mut u64,
 )
-    ensures { λ r. ⌜ PassedOn (now («record» .exit)) (now (number .exit)) (now (count .exit)) (now (registers .exit)) (now (places .exit)) (now (program .exit)) (performs programOf (now (table .entry)) (now (program .entry)) (broughtIn (now («record» .entry))) (stacksOf (now (registers .entry)) (now (places .entry))) finish) × (now (value .exit) ≡ valueOf (performs programOf (now (table .entry)) (now (program .entry)) (broughtIn (now («record» .entry))) (stacksOf (now (registers .entry)) (now (places .entry))) finish .answer)) ⌝ }
+    ensures { λ r. ⌜ PassedOn (now («record» .exit)) (now (number .exit)) (now (count .exit)) (now (registers .exit)) (now (places .exit)) (now (program .exit))
+        (performs programOf (now (table .entry)) (now (program .entry)) (broughtIn (now («record» .entry))) (stacksOf (now (registers .entry)) (now (places .entry))) finish)
+        × (now (value .exit) ≡ valueOf (performs programOf (now (table .entry)) (now (program .entry)) (broughtIn (now («record» .entry))) (stacksOf (now (registers .entry)) (now (places .entry))) finish .answer)) ⌝ }
 {
     host_run::finish(
         table,
@@ -192,7 +196,8 @@ pub extern "C" fn segment_inner_open(
     number: &mut u32,
     count: &mut u64,
 )
-    ensures { λ r. ⌜ BothPassedOn (now (outer .exit)) (now (inner .exit)) (now (number .exit)) (now (count .exit)) (now (registers .exit)) (now (places .exit)) (now (program .exit)) (innerOpens programOf (now («outer_table» .entry)) (now («inner_table» .entry)) (now (program .entry)) (broughtIn (now (outer .entry))) (stacksOf (now (registers .entry)) (now (places .entry)))) ⌝ }
+    ensures { λ r. ⌜ BothPassedOn (now (outer .exit)) (now (inner .exit)) (now (number .exit)) (now (count .exit)) (now (registers .exit)) (now (places .exit)) (now (program .exit))
+        (innerOpens programOf (now («outer_table» .entry)) (now («inner_table» .entry)) (now (program .entry)) (broughtIn (now (outer .entry))) (stacksOf (now (registers .entry)) (now (places .entry)))) ⌝ }
 {
     host_inner::open(
         outer_table,
@@ -221,7 +226,8 @@ pub extern "C" fn segment_inner_feed(
     number: &mut u32,
     count: &mut u64,
 )
-    ensures { λ r. ⌜ BothPassedOn (now (outer .exit)) (now (inner .exit)) (now (number .exit)) (now (count .exit)) (now (registers .exit)) (now (places .exit)) (now (program .exit)) (innerPerforms programOf (now (table .entry)) (now (program .entry)) (broughtIn (now (outer .entry))) (broughtIn (now (inner .entry))) (stacksOf (now (registers .entry)) (now (places .entry))) (Inner.engine (feed (now (kinds .entry)) (now (values .entry))))) ⌝ }
+    ensures { λ r. ⌜ BothPassedOn (now (outer .exit)) (now (inner .exit)) (now (number .exit)) (now (count .exit)) (now (registers .exit)) (now (places .exit)) (now (program .exit))
+        (innerPerforms programOf (now (table .entry)) (now (program .entry)) (broughtIn (now (outer .entry))) (broughtIn (now (inner .entry))) (stacksOf (now (registers .entry)) (now (places .entry))) (Inner.engine (feed (now (kinds .entry)) (now (values .entry))))) ⌝ }
 {
     host_inner::feed(
         table,
@@ -250,7 +256,9 @@ pub extern "C" fn segment_inner_finish(
     value: &mut i64,
     count: &mut u64,
 )
-    ensures { λ r. ⌜ BothPassedOn (now (outer .exit)) (now (inner .exit)) (now (number .exit)) (now (count .exit)) (now (registers .exit)) (now (places .exit)) (now (program .exit)) (innerPerforms programOf (now (table .entry)) (now (program .entry)) (broughtIn (now (outer .entry))) (broughtIn (now (inner .entry))) (stacksOf (now (registers .entry)) (now (places .entry))) (Inner.engine finish)) × (now (value .exit) ≡ valueOf (innerPerforms programOf (now (table .entry)) (now (program .entry)) (broughtIn (now (outer .entry))) (broughtIn (now (inner .entry))) (stacksOf (now (registers .entry)) (now (places .entry))) (Inner.engine finish) .answer)) ⌝ }
+    ensures { λ r. ⌜ BothPassedOn (now (outer .exit)) (now (inner .exit)) (now (number .exit)) (now (count .exit)) (now (registers .exit)) (now (places .exit)) (now (program .exit))
+        (innerPerforms programOf (now (table .entry)) (now (program .entry)) (broughtIn (now (outer .entry))) (broughtIn (now (inner .entry))) (stacksOf (now (registers .entry)) (now (places .entry))) (Inner.engine finish))
+        × (now (value .exit) ≡ valueOf (innerPerforms programOf (now (table .entry)) (now (program .entry)) (broughtIn (now (outer .entry))) (broughtIn (now (inner .entry))) (stacksOf (now (registers .entry)) (now (places .entry))) (Inner.engine finish) .answer)) ⌝ }
 {
     host_inner::finish(
         table,
@@ -277,7 +285,8 @@ pub extern "C" fn segment_inner_give_up(
     number: &mut u32,
     count: &mut u64,
 )
-    ensures { λ r. ⌜ BothPassedOn (now (outer .exit)) (now (inner .exit)) (now (number .exit)) (now (count .exit)) (now (registers .exit)) (now (places .exit)) (now (program .exit)) (innerPerforms programOf (now (table .entry)) (now (program .entry)) (broughtIn (now (outer .entry))) (broughtIn (now (inner .entry))) (stacksOf (now (registers .entry)) (now (places .entry))) giveUp) ⌝ }
+    ensures { λ r. ⌜ BothPassedOn (now (outer .exit)) (now (inner .exit)) (now (number .exit)) (now (count .exit)) (now (registers .exit)) (now (places .exit)) (now (program .exit))
+        (innerPerforms programOf (now (table .entry)) (now (program .entry)) (broughtIn (now (outer .entry))) (broughtIn (now (inner .entry))) (stacksOf (now (registers .entry)) (now (places .entry))) giveUp) ⌝ }
 {
     host_inner::give_up(
         table,
@@ -310,7 +319,8 @@ pub extern "C" fn segment_preview(
     number: &mut u32,
     count: &mut u64,
 )
-    ensures { λ r. ⌜ PassedOn (now (after .exit)) (now (number .exit)) (now (count .exit)) (now («scratch_registers» .exit)) (now («scratch_places» .exit)) (now (program .exit)) (previews programOf (now (table .entry)) (now (program .entry)) (broughtIn (now («record» .entry))) (stacksOf (now (registers .entry)) (now (places .entry))) (stacksOf (now («scratch_registers» .entry)) (now («scratch_places» .entry))) kind value) ⌝ }
+    ensures { λ r. ⌜ PassedOn (now (after .exit)) (now (number .exit)) (now (count .exit)) (now («scratch_registers» .exit)) (now («scratch_places» .exit)) (now (program .exit))
+        (previews programOf (now (table .entry)) (now (program .entry)) (broughtIn (now («record» .entry))) (stacksOf (now (registers .entry)) (now (places .entry))) (stacksOf (now («scratch_registers» .entry)) (now («scratch_places» .entry))) kind value) ⌝ }
 {
     host_preview::preview_token(
         table,
@@ -344,7 +354,8 @@ pub extern "C" fn segment_may(
     number: &mut u32,
     count: &mut u64,
 )
-    ensures { λ r. ⌜ MayPassedOn (now (tokens .exit)) (now (number .exit)) (now (count .exit)) (now («scratch_registers» .exit)) (now («scratch_places» .exit)) (now (program .exit)) (mays programOf (now (table .entry)) (now (program .entry)) (broughtIn (now («record» .entry))) (stacksOf (now (registers .entry)) (now (places .entry))) (stacksOf (now («scratch_registers» .entry)) (now («scratch_places» .entry))) value) ⌝ }
+    ensures { λ r. ⌜ MayPassedOn (now (tokens .exit)) (now (number .exit)) (now (count .exit)) (now («scratch_registers» .exit)) (now («scratch_places» .exit)) (now (program .exit))
+        (mays programOf (now (table .entry)) (now (program .entry)) (broughtIn (now («record» .entry))) (stacksOf (now (registers .entry)) (now (places .entry))) (stacksOf (now («scratch_registers» .entry)) (now («scratch_places» .entry))) value) ⌝ }
 {
     host_preview::may_follow(
         table,
@@ -382,7 +393,8 @@ pub extern "C" fn segment_rank(
     number: &mut u32,
     offset: &mut u32,
 )
-    ensures { λ r. ⌜ RankPassedOn (now (valued .exit)) (now (total .exit)) (now (entries .exit)) (now (number .exit)) (now (offset .exit)) (now (list .exit)) (now (registers .exit)) (now (places .exit)) (now (program .exit)) (rankOf programOf (now (table .entry)) (now (program .entry)) (now (lengths .entry)) (now (kinds .entry)) (now (values .entry)) (now (list .entry)) (stacksOf (now (registers .entry)) (now (places .entry)))) ⌝ }
+    ensures { λ r. ⌜ RankPassedOn (now (valued .exit)) (now (total .exit)) (now (entries .exit)) (now (number .exit)) (now (offset .exit)) (now (list .exit)) (now (registers .exit)) (now (places .exit)) (now (program .exit))
+        (rankOf programOf (now (table .entry)) (now (program .entry)) (now (lengths .entry)) (now (kinds .entry)) (now (values .entry)) (now (list .entry)) (stacksOf (now (registers .entry)) (now (places .entry)))) ⌝ }
 {
     host_rank::list(
         table,

@@ -36,7 +36,8 @@ pub fn open(
     number: &mut u32,
     count: &mut u64,
 )
-    ensures { λ r. ⌜ BothPassedOn (now (outer .exit)) (now (inner .exit)) (now (number .exit)) (now (count .exit)) (now (registers .exit)) (now (places .exit)) (now (program .exit)) (innerOpens programOf (now («outer_table» .entry)) (now («inner_table» .entry)) (now (program .entry)) (broughtIn (now (outer .entry))) (stacksOf (now (registers .entry)) (now (places .entry)))) ⌝ }
+    ensures { λ r. ⌜ BothPassedOn (now (outer .exit)) (now (inner .exit)) (now (number .exit)) (now (count .exit)) (now (registers .exit)) (now (places .exit)) (now (program .exit))
+        (innerOpens programOf (now («outer_table» .entry)) (now («inner_table» .entry)) (now (program .entry)) (broughtIn (now (outer .entry))) (stacksOf (now (registers .entry)) (now (places .entry)))) ⌝ }
 {
     let called = inner::open_inner(
         host_numbers::brought(outer),
@@ -62,7 +63,8 @@ pub fn feed(
     number: &mut u32,
     count: &mut u64,
 )
-    ensures { λ r. ⌜ BothPassedOn (now (outer .exit)) (now (inner .exit)) (now (number .exit)) (now (count .exit)) (now (registers .exit)) (now (places .exit)) (now (program .exit)) (innerPerforms programOf (now (table .entry)) (now (program .entry)) (broughtIn (now (outer .entry))) (broughtIn (now (inner .entry))) (stacksOf (now (registers .entry)) (now (places .entry))) (Inner.engine (feed (now (kinds .entry)) (now (values .entry))))) ⌝ }
+    ensures { λ r. ⌜ BothPassedOn (now (outer .exit)) (now (inner .exit)) (now (number .exit)) (now (count .exit)) (now (registers .exit)) (now (places .exit)) (now (program .exit))
+        (innerPerforms programOf (now (table .entry)) (now (program .entry)) (broughtIn (now (outer .entry))) (broughtIn (now (inner .entry))) (stacksOf (now (registers .entry)) (now (places .entry))) (Inner.engine (feed (now (kinds .entry)) (now (values .entry))))) ⌝ }
 {
     let called = inner::feed_inner(
         host_numbers::brought(outer),
@@ -89,7 +91,9 @@ pub fn finish(
     value: &mut i64,
     count: &mut u64,
 )
-    ensures { λ r. ⌜ BothPassedOn (now (outer .exit)) (now (inner .exit)) (now (number .exit)) (now (count .exit)) (now (registers .exit)) (now (places .exit)) (now (program .exit)) (innerPerforms programOf (now (table .entry)) (now (program .entry)) (broughtIn (now (outer .entry))) (broughtIn (now (inner .entry))) (stacksOf (now (registers .entry)) (now (places .entry))) (Inner.engine finish)) × (now (value .exit) ≡ valueOf (innerPerforms programOf (now (table .entry)) (now (program .entry)) (broughtIn (now (outer .entry))) (broughtIn (now (inner .entry))) (stacksOf (now (registers .entry)) (now (places .entry))) (Inner.engine finish) .answer)) ⌝ }
+    ensures { λ r. ⌜ BothPassedOn (now (outer .exit)) (now (inner .exit)) (now (number .exit)) (now (count .exit)) (now (registers .exit)) (now (places .exit)) (now (program .exit))
+        (innerPerforms programOf (now (table .entry)) (now (program .entry)) (broughtIn (now (outer .entry))) (broughtIn (now (inner .entry))) (stacksOf (now (registers .entry)) (now (places .entry))) (Inner.engine finish))
+        × (now (value .exit) ≡ valueOf (innerPerforms programOf (now (table .entry)) (now (program .entry)) (broughtIn (now (outer .entry))) (broughtIn (now (inner .entry))) (stacksOf (now (registers .entry)) (now (places .entry))) (Inner.engine finish) .answer)) ⌝ }
 {
     let called = inner::finish_inner(
         host_numbers::brought(outer),
@@ -115,7 +119,8 @@ pub fn give_up(
     number: &mut u32,
     count: &mut u64,
 )
-    ensures { λ r. ⌜ BothPassedOn (now (outer .exit)) (now (inner .exit)) (now (number .exit)) (now (count .exit)) (now (registers .exit)) (now (places .exit)) (now (program .exit)) (innerPerforms programOf (now (table .entry)) (now (program .entry)) (broughtIn (now (outer .entry))) (broughtIn (now (inner .entry))) (stacksOf (now (registers .entry)) (now (places .entry))) giveUp) ⌝ }
+    ensures { λ r. ⌜ BothPassedOn (now (outer .exit)) (now (inner .exit)) (now (number .exit)) (now (count .exit)) (now (registers .exit)) (now (places .exit)) (now (program .exit))
+        (innerPerforms programOf (now (table .entry)) (now (program .entry)) (broughtIn (now (outer .entry))) (broughtIn (now (inner .entry))) (stacksOf (now (registers .entry)) (now (places .entry))) giveUp) ⌝ }
 {
     let called = inner::give_up(
         host_numbers::brought(outer),

@@ -4,8 +4,8 @@ use mathlib.Core.Path.{_≡_, subst}
 use mathlib.Core.List.{List}
 use lib.IntN.{ℤ, pos}
 use Rattle.meaning_judge.specs.Judge.{JudgeAnswer, worth, turnedBack, JudgedAs}
-use Rattle.judge.specs.Judged.{judgementIs}
-use Rattle.judge.specs.declared.Judgement.{Judgement}
+use Rattle.judge_sheet.specs.Judged.{judgementIs}
+use Rattle.judge_sheet.specs.declared.Judgement.{Judgement}
 
 -- 0, the value and 0; or a refusal's number, 0, and what stands beside it
 abbrev pub lentAs : JudgeAnswer → ℕ → ℤ → ℕ → Type 0

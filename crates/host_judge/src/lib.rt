@@ -1,6 +1,6 @@
 // The check of a sheet over lent numbers.
 ghost use Rattle.host_judge.specs.JudgeLent.{JudgedLent};
-use judge::Judgement;
+use judge_sheet::Judgement;
 
 // The value of a sheet that describes the segment's tree; number and offset are then 0. On a refusal these are the refusal's (38 or 43
 // with 0, or the table's), and the value is 0.

@@ -51,7 +51,8 @@ pub fn preview_token(
     number: &mut u32,
     count: &mut u64,
 )
-    ensures { λ r. ⌜ PassedOn (now (after .exit)) (now (number .exit)) (now (count .exit)) (now («scratch_registers» .exit)) (now («scratch_places» .exit)) (now (program .exit)) (previews programOf (now (table .entry)) (now (program .entry)) (broughtIn (now («record» .entry))) (stacksOf (now (registers .entry)) (now (places .entry))) (stacksOf (now («scratch_registers» .entry)) (now («scratch_places» .entry))) kind value) ⌝ }
+    ensures { λ r. ⌜ PassedOn (now (after .exit)) (now (number .exit)) (now (count .exit)) (now («scratch_registers» .exit)) (now («scratch_places» .exit)) (now (program .exit))
+        (previews programOf (now (table .entry)) (now (program .entry)) (broughtIn (now («record» .entry))) (stacksOf (now (registers .entry)) (now (places .entry))) (stacksOf (now («scratch_registers» .entry)) (now («scratch_places» .entry))) kind value) ⌝ }
 {
     let called = preview::preview(
         host_numbers::brought(record),
@@ -81,7 +82,8 @@ pub fn may_follow(
     number: &mut u32,
     count: &mut u64,
 )
-    ensures { λ r. ⌜ MayPassedOn (now (tokens .exit)) (now (number .exit)) (now (count .exit)) (now («scratch_registers» .exit)) (now («scratch_places» .exit)) (now (program .exit)) (mays programOf (now (table .entry)) (now (program .entry)) (broughtIn (now («record» .entry))) (stacksOf (now (registers .entry)) (now (places .entry))) (stacksOf (now («scratch_registers» .entry)) (now («scratch_places» .entry))) value) ⌝ }
+    ensures { λ r. ⌜ MayPassedOn (now (tokens .exit)) (now (number .exit)) (now (count .exit)) (now («scratch_registers» .exit)) (now («scratch_places» .exit)) (now (program .exit))
+        (mays programOf (now (table .entry)) (now (program .entry)) (broughtIn (now («record» .entry))) (stacksOf (now (registers .entry)) (now (places .entry))) (stacksOf (now («scratch_registers» .entry)) (now («scratch_places» .entry))) value) ⌝ }
 {
     let may = preview::may_follow(
         host_numbers::brought(record),

@@ -6,8 +6,8 @@ use lib.IntN.{ℤ, pos}
 use Rattle.meaning.specs.PublicCalls.{stacksOf}
 use Rattle.meaning_ranking.specs.RankCall.{RankAnswer, ranked, unranked, RankEffect}
 use Rattle.rank.specs.Answers.{rankIs}
-use Rattle.rank.specs.declared.Ranked.{Ranked}
-use Rattle.rank.specs.declared.Ranked.the-variants.{Done, Refused}
+use Rattle.rank_report.specs.declared.Ranked.{Ranked}
+use Rattle.rank_report.specs.declared.Ranked.the-variants.{Done, Refused}
 
 -- the answer as five numbers: how many were valued, their total, the entries, with 0 and 0; or 0, 0 and 0, with the refusal's number and offset
 abbrev pub suggested : ℕ → ℤ → ℕ → ℕ → ℕ → RankAnswer → Type 0

@@ -3,7 +3,7 @@ ghost use Rattle.meaning.specs.Program.{programOf};
 ghost use Rattle.meaning.specs.PublicCalls.{stacksOf};
 ghost use Rattle.meaning_ranking.specs.RankCall.{rankOf};
 ghost use Rattle.host_rank.specs.Suggested.{RankPassedOn};
-use rank::Ranked;
+use rank_report::Ranked;
 
 // The candidates' entries in the lent list, highest value first: how many were valued, the exact total of their values and the number of
 // entries; number and offset are then 0. On a refusal these are the refusal's, the others are 0, and no cell of the list changes.
@@ -22,7 +22,8 @@ pub fn list(
     number: &mut u32,
     offset: &mut u32,
 )
-    ensures { λ r. ⌜ RankPassedOn (now (valued .exit)) (now (total .exit)) (now (entries .exit)) (now (number .exit)) (now (offset .exit)) (now (list .exit)) (now (registers .exit)) (now (places .exit)) (now (program .exit)) (rankOf programOf (now (table .entry)) (now (program .entry)) (now (lengths .entry)) (now (kinds .entry)) (now (values .entry)) (now (list .entry)) (stacksOf (now (registers .entry)) (now (places .entry)))) ⌝ }
+    ensures { λ r. ⌜ RankPassedOn (now (valued .exit)) (now (total .exit)) (now (entries .exit)) (now (number .exit)) (now (offset .exit)) (now (list .exit)) (now (registers .exit)) (now (places .exit)) (now (program .exit))
+        (rankOf programOf (now (table .entry)) (now (program .entry)) (now (lengths .entry)) (now (kinds .entry)) (now (values .entry)) (now (list .entry)) (stacksOf (now (registers .entry)) (now (places .entry)))) ⌝ }
 {
     match rank::rank(
         table,

@@ -2,8 +2,8 @@
 use Prim.Native.Nat.{ℕ, _-_}
 use mathlib.Core.Path.{_≡_, refl, sym, _∙_, subst}
 use mathlib.Core.List.{List}
-use Rattle.checker.specs.declared.spans.Span.{Span}
-use Rattle.checker.specs.declared.spans.Span.the-variants.{Within, Nowhere}
+use Rattle.checker_span.specs.declared.Span.{Span}
+use Rattle.checker_span.specs.declared.Span.the-variants.{Within, Nowhere}
 use Rattle.checker.specs.Verdicts.{spanOf}
 use Rattle.checker.proofs.Cases.{stretch-within, stretch-nowhere}
 use Rattle.host_table.specs.Passed.{spanned, Stretched}

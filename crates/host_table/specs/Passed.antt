@@ -7,9 +7,10 @@ use Rattle.meaning.specs.Judgement.{Verdict, accepted, rejected}
 use Rattle.meaning.specs.PublicCalls.{stretchOf}
 use Rattle.checker.specs.declared.Verdict as Answer
 use Rattle.checker.specs.declared.Verdict.the-variants.{Accepted, Refused}
-use Rattle.checker.specs.declared.spans.Span.{Span}
-use Rattle.checker.specs.declared.spans.Span.the-variants.{Within, Nowhere}
-use Rattle.checker.specs.Verdicts.{verdictIs, stretchIs, spanOf}
+use Rattle.checker_span.specs.declared.Span.{Span}
+use Rattle.checker_span.specs.declared.Span.the-variants.{Within, Nowhere}
+use Rattle.checker_span.specs.Spans.{stretchIs}
+use Rattle.checker.specs.Verdicts.{verdictIs, spanOf}
 
 -- a verdict as two numbers, both 0 for an accepted table
 abbrev pub checked : ℕ → ℕ → Verdict → Type 0

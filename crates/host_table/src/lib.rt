@@ -4,7 +4,9 @@ ghost use Rattle.meaning.specs.Decide.{verdictOf};
 ghost use Rattle.host_table.specs.Passed.{checked, Stretched};
 ghost use Rattle.host_table.specs.Listed.{listed, listedOf};
 use checker::Verdict;
-use checker::spans::Span;
+use checker_span::Span;
+use limits::AREA;
+use limits::LINE;
 
 // The verdict on a table: number and offset of its refusal, or 0 and 0.
 pub fn check(table: &[u8], number: &mut u32, offset: &mut u32)
@@ -56,12 +58,6 @@ pub fn stretch(
     }
 }
 
-// 01: "A program area of at least 16,384 32-bit words is lent".
-const AREA: usize = 16384;
-
-// A line has at most 64 bytes.
-const LINE: usize = 64;
-
 // The first page of what the listing program prints for a table, as many whole lines as there is room for: its length, and 1 where that is
 // all. The table's program comes into the area. With a shorter area, or without room for a line, nothing is written and both are 0.
 pub fn list(table: &[u8], program: &mut [u32], out: &mut [u8], length: &mut usize, over: &mut u32)
@@ -75,7 +71,7 @@ pub fn list(table: &[u8], program: &mut [u32], out: &mut [u8], length: &mut usiz
     if out.len() < LINE {
         return;
     }
-    let page = listing_pages::first_page(table, program, out);
+    let page = listing_first::first_page(table, program, out);
     *length = page.length;
     if page.over {
         *over = 1;

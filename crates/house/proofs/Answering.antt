@@ -14,10 +14,11 @@ use Rattle.theory_table.specs.Reading.{table-reads}
 use Rattle.theory_order.specs.Planning.{Planned, copied, TablePlan, table-plan}
 use Rattle.theory_order.specs.Proved.{house-unusable, house-usable}
 use Rattle.table.specs.declared.Sizes.{Sizes}
-use Rattle.checker.specs.Judging.{Brought, Judges}
+use Rattle.checker_outline.specs.Outlined.{Brought}
+use Rattle.checker.specs.Judging.{Judges}
 use Rattle.checker.proofs.Cases.{accepted-case, refused-case}
-use Rattle.checker.specs.declared.judging.Judged.{Judged}
-use Rattle.checker.specs.declared.judging.Judged.the-variants.{Usable, Unusable}
+use Rattle.checker_grammar.specs.declared.Judged.{Judged}
+use Rattle.checker_grammar.specs.declared.Judged.the-variants.{Usable, Unusable}
 use Rattle.house_write.specs.Answers.{houseIs}
 use Rattle.house.specs.Answers.{Ready, Writes}
 use Rattle.house_write.specs.declared.Written.{Written}

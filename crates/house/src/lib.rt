@@ -5,7 +5,7 @@ ghost use lib.ListN.{length};
 ghost use Rattle.meaning.specs.House.{houseOf};
 ghost use Rattle.house_write.specs.Answers.{houseIs};
 ghost use Rattle.house.specs.Answers.{Ready, Writes};
-use checker::judging::Judged;
+use checker_grammar::Judged;
 use house_write::Written;
 
 // Writes a table whose productions begin at these offsets.

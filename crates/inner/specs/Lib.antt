@@ -1,3 +1,1 @@
 pub mod Records
-pub mod Lending
-pub mod Beginning

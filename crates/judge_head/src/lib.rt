@@ -44,7 +44,7 @@ pub fn heading(
     if value::word_at(sheet, at + 4) as usize != from {
         return Head::Unfit;
     }
-    if judge_values::are_values(sheet, at + 12, n) {
+    if judge_numbers::are_values(sheet, at + 12, n) {
         return Head::Found {
             production: p,
             behind: at + 12 + 8 * n,

@@ -9,6 +9,7 @@ ghost use Rattle.fit.specs.Shown.{Shown, Readable};
 ghost use Rattle.records.specs.Records.{stateIs, handedIs};
 ghost use Rattle.lent.specs.Judging.{numberFor};
 ghost use Rattle.lent.specs.Performing.{Judged, callIs};
+use limits::UNFIT;
 use records::Answer;
 use records::Handed;
 use records::State;
@@ -21,9 +22,6 @@ pub enum Call {
 }
 
 // ---- on exactly the lent cells
-
-// 01: "34 record or stacks do not fit".
-const UNFIT: u32 = 34;
 
 // 33, 40 or 34; 0 where the call goes on.
 fn turned_back(
@@ -125,8 +123,8 @@ pub fn judge_cells(
     requires { ⌜ (1 ≤ other) × Readable (now program) ⌝ }
     ensures { λ r. ⌜ ((g : Grammar) → Shown g (now (program .entry)) → r ≡ numberFor other g (stateIs brought) (stacksOf (now (registers .entry)) (now (places .entry)))) ⌝ }
 {
-    let n = cells::smaller(registers.len(), cells::REGISTERS);
-    let k = cells::smaller(places.len(), cells::PLACES);
+    let n = cells::smaller(registers.len(), limits::REGISTERS);
+    let k = cells::smaller(places.len(), limits::PLACES);
     turned_back(other, &registers[..n], &places[..k], program, brought)
 }
 
@@ -142,8 +140,8 @@ pub fn call_cells(
     requires { ⌜ Readable (now program) ⌝ }
     ensures { λ r. ⌜ ((g : Grammar) → Shown g (now (program .entry)) → handedIs r (now (registers .exit)) (now (places .exit)) ≡ callOf g (stateIs brought) (stacksOf (now (registers .entry)) (now (places .entry))) (callIs call (now (kinds .entry)) (now (values .entry)))) ⌝ }
 {
-    let n = cells::smaller(registers.len(), cells::REGISTERS);
-    let k = cells::smaller(places.len(), cells::PLACES);
+    let n = cells::smaller(registers.len(), limits::REGISTERS);
+    let k = cells::smaller(places.len(), limits::PLACES);
     call_lent(
         call,
         &mut registers[..n],

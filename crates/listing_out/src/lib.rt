@@ -34,7 +34,7 @@ fn print_rest(program: &[u32], from: Cursor, out: &mut [u8])
 pub fn print(table: &[u8]) {
     let mut program = [0u32; 16384];
     let mut out = io::buffer();
-    let page = listing_pages::first_page(table, &mut program, &mut out);
+    let page = listing_first::first_page(table, &mut program, &mut out);
     if !put(&out, page.length) {
         return;
     }

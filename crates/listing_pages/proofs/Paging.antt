@@ -9,16 +9,14 @@ use lib.Dec.{ltb}
 use lib.ListN.{length, take, drop, length-append, length-drop, drop-of-length-le}
 use lib.Seq.{take-all, take-at, drop-at, drop-drop}
 use borrow.Rule.Slice.PartMut.{putMid, put-same}
-use Rattle.meaning.specs.Listing.{Text, refusalLine}
-use Rattle.meaning.specs.Table.{grammarOf}
-use Rattle.meaning.specs.PublicCalls.{unusable, check, written, joined}
-use Rattle.prepare.specs.Making.{Standing}
+use Rattle.meaning.specs.Listing.{Text}
+use Rattle.meaning.specs.PublicCalls.{written, joined}
 use Rattle.listing_text.specs.declared.Cursor.{Cursor}
 use Rattle.listing_text.specs.declared.Line.{Line}
 use Rattle.listing_text.specs.Cursors.{linesLeft}
-use Rattle.listing_text.specs.Handed.{Told, BeforeAll, told-first, told-none}
+use Rattle.listing_text.specs.Handed.{Told, told-first, told-none}
 use Rattle.listing_pages.specs.declared.Page.{Page}
-use Rattle.listing_pages.specs.Pages.{lineRoom, leadBy, leftBy, lead, left, isNone, linesBy, linesOf, restBy, Shows, OnwardBy, Onward}
+use Rattle.listing_pages.specs.Pages.{lineRoom, leadBy, leftBy, lead, left, isNone, restBy, Shows, OnwardBy, Onward}
 
 joined-append : (xs ys : List Text) → joined (xs ++ ys) ≡ joined xs ++ joined ys
 joined-append [] ys = refl
@@ -152,15 +150,6 @@ told-none-left ws (l ∷ ls) before after r t = t .0
 
 pub onward-on : (ws : List ℕ) (c : Cursor) (r : Page) → r .over ≡ false → Onward ws c r → length (linesLeft ws (r .next)) < length (linesLeft ws c)
 onward-on ws c r e o = subst (λ b. OnwardBy b ws c r) e o
-
-pub shows-as : {lines lines′ : List Text} {ws before after : List ℕ} {r : Page} → lines ≡ lines′ → Shows lines ws before after r → Shows lines′ ws before after r
-shows-as {ws = ws} {before = before} {after = after} {r = r} e p = subst (λ ls. Shows ls ws before after r) e p
-
-pub lines-refused : (t : List ℕ) (n o : ℕ) → check t ≡ unusable n o → refusalLine n o ∷ [] ≡ linesOf t
-lines-refused t n o e = sym (ap linesBy e)
-
-pub lines-listing : {t area ws : List ℕ} {size : ℕ} (c : Cursor) → Standing t area ws size → BeforeAll ws c → linesLeft ws c ≡ linesOf t
-lines-listing c s b = b (grammarOf (s .state)) (s .formed) (s .begins) ∙ sym (ap linesBy (s .isUsable))
 
 -- the only line
 pub shows-one : (l : Text) (ws before after : List ℕ) (r : Page) → 64 ≤ length before → after ≡ written l before → r .length ≡ length l → r .length ≤ 64 → r .over ≡ true → Shows (l ∷ []) ws before after r

@@ -1,15 +1,12 @@
 // The listing of a table, a page of whole lines at a time into a lent buffer.
 ghost use Prim.Native.Nat.{_≤_};
-ghost use mathlib.Core.Path.{_≡_};
 ghost use mathlib.Core.List.{[], _∷_};
 ghost use lib.ListN.{length};
 ghost use Rattle.meaning.specs.Listing.{refusalLine};
-ghost use Rattle.meaning.specs.PublicCalls.{areaLength};
-ghost use Rattle.meaning.specs.PublicCalls.{madeOf};
 ghost use Rattle.listing_text.specs.Cursors.{linesLeft};
-ghost use Rattle.listing_pages.specs.Pages.{Shows, Onward, linesOf};
+ghost use Rattle.listing_pages.specs.Pages.{Shows, Onward};
+use limits::LINE;
 use listing_text::Cursor;
-use prepare::Made;
 
 pub struct Page {
     // how many bytes the page has
@@ -19,9 +16,6 @@ pub struct Page {
     // where the listing stands behind it
     pub next: Cursor,
 }
-
-// A line has at most 64 bytes.
-const LINE: usize = 64;
 
 // As many of the lines still to come as there is room for: each has at most 64 bytes, so another one is asked for while as many are left.
 pub fn next_page(program: &[u32], cursor: Cursor, out: &mut [u8]) -> Page
@@ -54,7 +48,7 @@ pub fn next_page(program: &[u32], cursor: Cursor, out: &mut [u8]) -> Page
 }
 
 // A refusal's line is the only one.
-fn refusal(program: &[u32], number: u32, offset: u32, out: &mut [u8]) -> Page
+pub fn refusal(program: &[u32], number: u32, offset: u32, out: &mut [u8]) -> Page
     requires { ⌜ 64 ≤ length (now out) ⌝ }
     ensures { λ r. ⌜ Shows (refusalLine number offset ∷ []) (now (program .entry)) (now (out .entry)) (now (out .exit)) r ⌝ }
 {
@@ -64,18 +58,5 @@ fn refusal(program: &[u32], number: u32, offset: u32, out: &mut [u8]) -> Page
         length,
         over: true,
         next,
-    }
-}
-
-// The first page of what is printed for a table; its program comes into the lent area.
-pub fn first_page(table: &[u8], program: &mut [u32], out: &mut [u8]) -> Page
-    requires { ⌜ (areaLength ≤ length (now program)) × (64 ≤ length (now out)) ⌝ }
-    ensures shows { λ r. ⌜ Shows (linesOf (now (table .entry))) (now (program .exit)) (now (out .entry)) (now (out .exit)) r ⌝ }
-    ensures area { λ r. ⌜ now (program .exit) ≡ madeOf (now (table .entry)) (now (program .entry)) .area ⌝ }
-{
-    match prepare::program_of(table, program) {
-        Made::Short => refusal(program, 30, 0, out),
-        Made::Refused { number, offset } => refusal(program, number, offset, out),
-        Made::Written(_) => next_page(program, listing_text::first(program), out),
     }
 }

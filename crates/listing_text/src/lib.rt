@@ -6,12 +6,17 @@ ghost use lib.ListN.{length};
 ghost use Rattle.listing_lines.specs.Line.{addLine, removeLine};
 ghost use Rattle.listing_text.specs.Cursors.{wordAt, recordWord, startOf, goOn, insideOf, skipsOf, skipped, positionOf, ruleHere, behindRule, conditionHere, behindCondition, behindAdd, linesLeft};
 ghost use Rattle.listing_text.specs.Handed.{Emits, Told, BeforeAll};
-
-// No program has an address from here on.
-const AREA: usize = 16384;
+use limits::AREA;
 
 // 01: "right-side length (0 to 12)".
-const SYMBOLS: u32 = 12;
+const SYMBOLS: u32 = limits::SYMBOLS as u32;
+
+// The numbers of operations that the listing tells apart.
+const ADD: u32 = operations::ADD as u32;
+
+const EVALUATE: u32 = operations::EVALUATE as u32;
+
+const TEST: u32 = operations::TEST as u32;
 
 // Where the listing stands.
 pub struct Cursor {
@@ -118,10 +123,10 @@ fn is_silent(program: &[u32], c: Cursor) -> bool
         return false;
     }
     let operation = word(program, c.at) % 8;
-    if operation == 0 {
+    if operation == ADD {
         return false;
     }
-    operation <= 4
+    operation <= TEST
 }
 
 // Behind that instruction: at its items, or past its symbol.
@@ -130,10 +135,10 @@ fn pass(program: &[u32], c: Cursor) -> Cursor
     ensures { λ r. ⌜ r ≡ skipped (now (program .entry)) c ⌝ }
 {
     let w = word(program, c.at);
-    if w % 8 == 1 {
+    if w % 8 == EVALUATE {
         return go_on(c, c.passed, true, w / 8, c.at + 1);
     }
-    if w % 8 == 4 {
+    if w % 8 == TEST {
         return go_on(c, c.passed, false, w / 8, c.at + 1);
     }
     go_on(c, c.passed + 1, false, 0, c.at + 1)
@@ -251,7 +256,7 @@ pub fn next_line(program: &[u32], cursor: Cursor, out: &mut [u8]) -> Line
         return condition(program, c, out);
     }
     let w = word(program, c.at);
-    if w % 8 == 0 {
+    if w % 8 == ADD {
         return add(c, w / 8, out);
     }
     remove(program, c.production, w / 8, out)

@@ -5,9 +5,6 @@ ghost use lib.ListN.{length};
 ghost use Rattle.looking.specs.Judging as Judging;
 ghost use Rattle.looking.specs.Judging.{judgedOf, valueAt};
 
-// The operation's number in a word that says that nothing is left; the others are in docs/PROGRAM.md.
-pub const NOTHING: usize = 6;
-
 // The number of a token that is taken, which is no number of a refusal.
 pub const TAKEN: u32 = 1;
 
@@ -51,11 +48,11 @@ pub fn carried(program: &[u32], kind: usize, value: i32) -> i64
 pub fn looks(operation: usize) -> bool
     ensures { λ r. ⌜ r ≡ Judging.looks operation ⌝ }
 {
-    if operation == 2 {
+    if operation == operations::READ {
         return true;
     }
-    if operation == 3 {
+    if operation == operations::PREDICT {
         return true;
     }
-    operation == NOTHING
+    operation == operations::NOTHING
 }

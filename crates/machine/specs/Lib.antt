@@ -1,4 +1,4 @@
 pub mod Advancing
 pub mod Feeding
-pub mod Turns
+pub mod Flows
 pub mod Rows

@@ -8,7 +8,8 @@ use mathlib.Core.List.{List, [], _∷_, _++_}
 use lib.ListN.{length, take, drop}
 use lib.Dec.{T, eqb}
 use Rattle.meaning.specs.Base.{any, all, In}
-use Rattle.meaning.specs.Grammar.{Grammar, Token, Leaf, nonterminal, Rule, Condition, syn, leaves, productionAt}
+use Rattle.meaning.specs.Limits.{registersLimit, placesLimit}
+use Rattle.meaning.specs.Grammar.{Grammar, Token, Leaf, nonterminal, Rule, Condition, syn, leaves, productionAt, TableBytes, Area, ProgramBuilder}
 use Rattle.meaning.specs.Rules.{Operands, Reads, fourBytes}
 use Rattle.meaning.specs.Judgement.{Accepted, Judged, rejected}
 use Rattle.meaning.specs.Value.{inRange}
@@ -58,40 +59,42 @@ callAnswer c a = engineAnswer c a || isForty a
 -- "Arbitrary bytes as a table, arbitrary tokens, arbitrary record and stacks"
 abbrev pub AlwaysAnswers : Type 0
 AlwaysAnswers =
-    ((program : Grammar → List ℕ) (bs area : List ℕ) (m : Stacks) → T (openingAnswer (opens program bs area m .answer)))
-    × ((program : Grammar → List ℕ) (bs area : List ℕ) (r : Record) (m : Stacks) (c : Call) → T (callAnswer c (performs program bs area r m c .answer)))
+    ((program : ProgramBuilder) (bs : TableBytes) (area : Area) (m : Stacks) → T (openingAnswer (opens program bs area m .answer)))
+    × ((program : ProgramBuilder) (bs : TableBytes) (area : Area) (r : Record) (m : Stacks) (c : Call)
+    → T (callAnswer c (performs program bs area r m c .answer)))
 
 -- ==== calls that are turned back before their moves, and openings: "exactly one numbered refusal with the record and lent memory stated for it"
 
-abbrev pub handedBack : Answer → Record → Stacks → List ℕ → Effect
+abbrev pub handedBack : Answer → Record → Stacks → Area → Effect
 handedBack a r m area = record { answer = a; state = r; stacks = m; area = area }
 
 -- 30, before all else: nothing is written; the record comes back as brought, or closed and all zero from an opening
 abbrev pub ShortArea : Type 0
 ShortArea =
-    (program : Grammar → List ℕ) (bs area : List ℕ) (r : Record) (m : Stacks) (c : Call) → length area < areaLength
+    (program : ProgramBuilder) (bs : TableBytes) (area : Area) (r : Record) (m : Stacks) (c : Call) → length area < areaLength
     → (opens program bs area m ≡ handedBack (refused 30 0) closedRecord m area) × (performs program bs area r m c ≡ handedBack (refused 30 0) r m area)
 
 -- then the table: its own verdict's number and offset, nothing is written
 abbrev pub BadTable : Type 0
 BadTable =
-    (program : Grammar → List ℕ) (bs area : List ℕ) (r : Record) (m : Stacks) (c : Call) (n o : ℕ) → areaLength ≤ length area → Judged bs (rejected n o)
+    (program : ProgramBuilder) (bs : TableBytes) (area : Area) (r : Record) (m : Stacks) (c : Call) (n o : ℕ)
+    → areaLength ≤ length area → Judged bs (rejected n o)
     → (opens program bs area m ≡ handedBack (tableRefused n o) closedRecord m area) × (performs program bs area r m c ≡ handedBack (tableRefused n o) r m area)
 
 -- then 33, 40 and 34: record and stacks as brought, the program written.
 -- 02 (h): "A call on the waiting outer run .. is turned back as 40, after 33 and before 34. Otherwise .. a record of the wrong kind is a 34"
 abbrev pub BadState : Type 0
 BadState =
-    (program : Grammar → List ℕ) (bs area : List ℕ) (g : Grammar) (r : Record) (m : Stacks) (c : Call) → areaLength ≤ length area → Accepted bs g
+    (program : ProgramBuilder) (bs : TableBytes) (area : Area) (g : Grammar) (r : Record) (m : Stacks) (c : Call) → areaLength ≤ length area → Accepted bs g
     → (r .status ≡ closed → performs program bs area r m c ≡ handedBack (refused 33 0) r m (written (program g) area))
     × (r .status ≡ waiting → r .kind ≡ outer → performs program bs area r m c ≡ handedBack (refused 40 0) r m (written (program g) area))
     × ((r .status ≡ closed → ⊥) → (r .kind ≡ outer → ⊥) → performs program bs area r m c ≡ handedBack (refused 34 0) r m (written (program g) area))
     × (isOpen r ≡ true → (Fit g r m → ⊥) → performs program bs area r m c ≡ handedBack (refused 34 0) r m (written (program g) area))
 
 -- an opening under an accepted table: 31 where the start symbol's results have no room, then 32 where no place is lent; otherwise it "gives what it is for". (Said of any engine, as the moves below: so it can be shown which engines it excludes)
-abbrev pub OpeningOf : ((Grammar → List ℕ) → List ℕ → List ℕ → Stacks → Effect) → Type 0
+abbrev pub OpeningOf : (ProgramBuilder → TableBytes → Area → Stacks → Effect) → Type 0
 OpeningOf engine =
-    (program : Grammar → List ℕ) (bs area : List ℕ) (g : Grammar) (m : Stacks) → areaLength ≤ length area → Accepted bs g
+    (program : ProgramBuilder) (bs : TableBytes) (area : Area) (g : Grammar) (m : Stacks) → areaLength ≤ length area → Accepted bs g
     → (lentOf m .maxRegisters < syn g (nonterminal (g .start)) → engine program bs area m ≡ handedBack (refused 31 0) closedRecord m (written (program g) area))
     × (syn g (nonterminal (g .start)) ≤ lentOf m .maxRegisters → lentOf m .maxPlaces < 1 → engine program bs area m ≡ handedBack (refused 32 0) closedRecord m (written (program g) area))
     × (syn g (nonterminal (g .start)) ≤ lentOf m .maxRegisters → 1 ≤ lentOf m .maxPlaces → engine program bs area m ≡ handedBack (more 0) (recordOf true (opening g)) (layAll g (opening g) m) (written (program g) area))
@@ -116,7 +119,7 @@ Even (feed ks vs) = length ks ≡ length vs
 Even finish = Unit {0}
 
 -- a call that is not turned back by 30, its table, 33, 40 or 34
-pub record Met (bs : List ℕ) (g : Grammar) (area : List ℕ) (r : Record) (m : Stacks) : Type 0 where
+pub record Met (bs : TableBytes) (g : Grammar) (area : Area) (r : Record) (m : Stacks) : Type 0 where
   pub long : areaLength ≤ length area
   pub accepts : Accepted bs g
   pub isOpen : isOpen r ≡ true
@@ -125,7 +128,7 @@ pub record Met (bs : List ℕ) (g : Grammar) (area : List ℕ) (r : Record) (m :
 -- 02 (e): "Lists of unequal length are turned back as 38, after 34 .. and before 31, 32 or any move": record and stacks as brought, the program written
 abbrev pub UnevenLists : Type 0
 UnevenLists =
-    (program : Grammar → List ℕ) (bs area : List ℕ) (g : Grammar) (r : Record) (m : Stacks) (c : Call) → Met bs g area r m → (Even c → ⊥)
+    (program : ProgramBuilder) (bs : TableBytes) (area : Area) (g : Grammar) (r : Record) (m : Stacks) (c : Call) → Met bs g area r m → (Even c → ⊥)
     → performs program bs area r m c ≡ handedBack (refused 38 0) r m (written (program g) area)
 
 -- ==== calls that are not: their moves
@@ -171,7 +174,7 @@ Says g lent call c moves left d (refused k o) = (o ≡ d .tokens) × Refuses g l
 Says g lent call c moves left d (tableRefused k o) = ⊥
 
 -- the moves of a call: what it leaves is the configuration that they lead to, whatever the answer. 01: "The failing move changes nothing, earlier ones stand, the record is closed."
-pub record MovesTo (program : Grammar → List ℕ) (area : List ℕ) (g : Grammar) (m : Stacks) (c : Config) (call : Call) (e : Effect) : Type 0 where
+pub record MovesTo (program : ProgramBuilder) (area : Area) (g : Grammar) (m : Stacks) (c : Config) (call : Call) (e : Effect) : Type 0 where
   pub moves : List Act
   pub left : List Leaf
   pub to : Config
@@ -186,9 +189,9 @@ pub record MovesTo (program : Grammar → List ℕ) (area : List ℕ) (g : Gramm
   -- what a call leaves open, the next call reads back
   pub readBack : staysOpen (e .answer) ≡ true → Fit g (e .state) (e .stacks) × (configOf g (e .state) (e .stacks) ≡ to)
 
-abbrev pub CallsMoveOf : ((Grammar → List ℕ) → List ℕ → List ℕ → Record → Stacks → Call → Effect) → Type 0
+abbrev pub CallsMoveOf : (ProgramBuilder → TableBytes → Area → Record → Stacks → Call → Effect) → Type 0
 CallsMoveOf engine =
-    (program : Grammar → List ℕ) (bs area : List ℕ) (g : Grammar) (r : Record) (m : Stacks) (c : Call) → Lendable c → Even c → Met bs g area r m
+    (program : ProgramBuilder) (bs : TableBytes) (area : Area) (g : Grammar) (r : Record) (m : Stacks) (c : Call) → Lendable c → Even c → Met bs g area r m
     → MovesTo program area g m (configOf g r m) c (engine program bs area r m c)
 
 abbrev pub CallsMove : Type 0
@@ -197,12 +200,12 @@ CallsMove = CallsMoveOf performs
 -- "exactly one": whatever answers as a call may and does what is said of its moves is the call's own effect
 abbrev pub MovesOnce : Type 0
 MovesOnce =
-    (program : Grammar → List ℕ) (bs area : List ℕ) (g : Grammar) (r : Record) (m : Stacks) (c : Call) → Lendable c → Even c → Met bs g area r m
+    (program : ProgramBuilder) (bs : TableBytes) (area : Area) (g : Grammar) (r : Record) (m : Stacks) (c : Call) → Lendable c → Even c → Met bs g area r m
     → (e : Effect) → T (callAnswer c (e .answer)) → MovesTo program area g m (configOf g r m) c e → e ≡ performs program bs area r m c
 
 -- ==== these are all: "each call gives what it is for, or exactly one numbered refusal"
 
-pub data Case (bs area : List ℕ) (r : Record) (m : Stacks) (c : Call) : Type 0 where
+pub data Case (bs : TableBytes) (area : Area) (r : Record) (m : Stacks) (c : Call) : Type 0 where
   -- ShortArea
   short : length area < areaLength → Case bs area r m c
   -- BadTable
@@ -219,7 +222,7 @@ pub data Case (bs area : List ℕ) (r : Record) (m : Stacks) (c : Call) : Type 0
   -- CallsMove
   met : (g : Grammar) → Met bs g area r m → Even c → Case bs area r m c
 
-abbrev pub whichCase : {bs area : List ℕ} {r : Record} {m : Stacks} {c : Call} → Case bs area r m c → ℕ
+abbrev pub whichCase : {bs : TableBytes} {area : Area} {r : Record} {m : Stacks} {c : Call} → Case bs area r m c → ℕ
 whichCase (short l) = 1
 whichCase (badTable l n o j) = 2
 whichCase (isClosed l g a o) = 3
@@ -231,17 +234,19 @@ whichCase (met g x e) = 8
 
 -- every call is one of the eight, and only that one. (An opening is one of the first two, or `Opening` says by the lent numbers what it does)
 abbrev pub AllCases : Type 0
-AllCases = (bs area : List ℕ) (r : Record) (m : Stacks) (c : Call) → (x : Case bs area r m c) × ((y : Case bs area r m c) → whichCase y ≡ whichCase x)
+AllCases =
+    (bs : TableBytes) (area : Area) (r : Record) (m : Stacks) (c : Call)
+    → (x : Case bs area r m c) × ((y : Case bs area r m c) → whichCase y ≡ whichCase x)
 
 -- ==== more of the moves
 
 -- an empty feed changes nothing but the program area
 abbrev pub EmptyFeed : Type 0
-EmptyFeed = (program : Grammar → List ℕ) (bs area : List ℕ) (g : Grammar) (r : Record) (m : Stacks) → Met bs g area r m → performs program bs area r m (feed [] []) ≡ handedBack (more (r .moves)) r m (written (program g) area)
+EmptyFeed = (program : ProgramBuilder) (bs : TableBytes) (area : Area) (g : Grammar) (r : Record) (m : Stacks) → Met bs g area r m → performs program bs area r m (feed [] []) ≡ handedBack (more (r .moves)) r m (written (program g) area)
 
 -- 01: "35 a token after 65,535, or a move after 4,294,967,295"
 abbrev pub LimitsOnly : Type 0
-LimitsOnly = (program : Grammar → List ℕ) (bs area : List ℕ) (r : Record) (m : Stacks) (c : Call) (n : ℕ) → performs program bs area r m c .answer ≡ refused 35 n
+LimitsOnly = (program : ProgramBuilder) (bs : TableBytes) (area : Area) (r : Record) (m : Stacks) (c : Call) (n : ℕ) → performs program bs area r m c .answer ≡ refused 35 n
     → (performs program bs area r m c .state .tokens ≡ tokensLimit) ⊎ (performs program bs area r m c .state .moves ≡ movesLimit)
 
 -- a selector of a register that stands, and one of a register that holds a value
@@ -262,17 +267,17 @@ Handles g c (expect x) = (p : ℕ) → p < length (g .productions) → x ≡ non
 -- whatever fits, at every move: selectors stand between 1 and the height, every register read holds a value in range. (The tokens have values in range: those of a caller are signed 32-bit numbers, by their type)
 abbrev pub HandlesAlways : Type 0
 HandlesAlways =
-    (bs : List ℕ) (g : Grammar) (r : Record) (m : Stacks) → Accepted bs g → Fit g r m
+    (bs : TableBytes) (g : Grammar) (r : Record) (m : Stacks) → Accepted bs g → Fit g r m
     → (ws : List Act) (us vs : List Leaf) (c : Config) → T (all (isLeafOf g) us) → Makes g (lentOf m) us (configOf g r m) ws vs c
     → (p : ℕ) (i : Instruction) (is : List Instruction) (fs : List Frame) → c .frames ≡ record { production = p; rest = i ∷ is } ∷ fs → Handles g c i
 
 -- ==== the lent memory. 01: "At most 4,096 registers and 1,024 places are used; cells past these are neither read nor written and don't count as lent"
 
 abbrev pub lentPart : Stacks → Stacks
-lentPart m = record { registers = take 4096 (m .registers); places = take 1024 (m .places) }
+lentPart m = record { registers = take registersLimit (m .registers); places = take placesLimit (m .places) }
 
 abbrev pub pastLent : Stacks → Stacks
-pastLent m = record { registers = drop 4096 (m .registers); places = drop 1024 (m .places) }
+pastLent m = record { registers = drop registersLimit (m .registers); places = drop placesLimit (m .places) }
 
 -- an effect without the cells past what is lent
 abbrev pub onLent : Effect → Effect
@@ -281,11 +286,11 @@ onLent e = handedBack (e .answer) (e .state) (lentPart (e .stacks)) (e .area)
 -- not read: on stacks with the same lent cells a call does the same
 abbrev pub NeverRead : Type 0
 NeverRead =
-    (program : Grammar → List ℕ) (bs area : List ℕ) (r : Record) (m n : Stacks) (c : Call) → lentPart m ≡ lentPart n
+    (program : ProgramBuilder) (bs : TableBytes) (area : Area) (r : Record) (m n : Stacks) (c : Call) → lentPart m ≡ lentPart n
     → (onLent (opens program bs area m) ≡ onLent (opens program bs area n)) × (onLent (performs program bs area r m c) ≡ onLent (performs program bs area r n c))
 
 -- not written
 abbrev pub NeverWritten : Type 0
 NeverWritten =
-    (program : Grammar → List ℕ) (bs area : List ℕ) (r : Record) (m : Stacks) (c : Call)
+    (program : ProgramBuilder) (bs : TableBytes) (area : Area) (r : Record) (m : Stacks) (c : Call)
     → (pastLent (opens program bs area m .stacks) ≡ pastLent m) × (pastLent (performs program bs area r m c .stacks) ≡ pastLent m)

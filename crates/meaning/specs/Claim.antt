@@ -6,7 +6,7 @@ use mathlib.Core.List.{List, [], _∷_, _++_}
 use lib.ListN.{length}
 use lib.Dec.{T}
 use Rattle.meaning.specs.Base.{all}
-use Rattle.meaning.specs.Grammar.{Grammar, Symbol, Token, Leaf, leaves}
+use Rattle.meaning.specs.Grammar.{Grammar, Symbol, Token, Leaf, leaves, TableBytes, ProgramBuilder}
 use Rattle.meaning.specs.Judgement.{Accepted}
 use Rattle.meaning.specs.Scheme.{Instruction, expect}
 use Rattle.meaning.specs.Machine.{Frame, Config, Lent, opening, waits}
@@ -63,5 +63,5 @@ pub record ListOfCalls (g : Grammar) (m₀ : Stacks) (ts : List Token) (isOver :
 -- at each move, whatever the tokens, every selector finds the attribute it names; when a part is left, the registers below its results are those it was entered with."
 abbrev pub EveryListOfCalls : Type 0
 EveryListOfCalls =
-    (program : Grammar → List ℕ) (bs : List ℕ) (g : Grammar) (m₀ : Stacks) (ts : List Token) (isOver : Bool) (r : Record) (m : Stacks)
+    (program : ProgramBuilder) (bs : TableBytes) (g : Grammar) (m₀ : Stacks) (ts : List Token) (isOver : Bool) (r : Record) (m : Stacks)
     → Accepted bs g → History program bs m₀ ts isOver r m → ListOfCalls g m₀ ts isOver r m

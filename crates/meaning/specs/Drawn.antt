@@ -5,7 +5,7 @@ use mathlib.Core.List.{List}
 use lib.ListN.{length}
 use Rattle.meaning.specs.Grammar.{Grammar, addedFor, syn, nonterminal, productionAt, symbolAt}
 use Rattle.meaning.specs.Value.{mark}
-use Rattle.meaning.specs.Tree.{Tree, Forest, leaf, node, noTrees, treeAnd, yield, Picture, picture, width}
+use Rattle.meaning.specs.Tree.{Tree, Forest, leaf, node, noTrees, treeAnd, values, yield, Picture, picture, width}
 use Rattle.meaning.specs.Walk.{Act, walk, walkTo}
 use Rattle.meaning.specs.Machine.{Lent, movesLimit, tokensLimit}
 use Rattle.meaning.specs.Calls.{Record, outer, statusOf, Stacks, lentOf, lay}
@@ -15,7 +15,7 @@ use Rattle.meaning.specs.Calls.{Record, outer, statusOf, Stacks, lentOf,
 abbrev mutual
   -- the most registers that stand at once in the walk of a tree whose own registers are the topmost of `base`; a token's own come with its read
   pub registersFor : Grammar → ℕ → Tree → ℕ
-  registersFor g base (leaf u) = base + length (u .values)
+  registersFor g base (leaf u) = base + length (values (leaf u))
   registersFor g base (node p vs f) = registersIn g p 1 base f
 
   pub registersIn : Grammar → ℕ → ℕ → ℕ → Forest → ℕ

@@ -1,10 +1,10 @@
 -- 02 (h): one inner run over the same lent stacks, above the outer run's heights. It is the engine's own run (`openOf`, `feedOf`, `finishOf`) on the stretch of the stacks from these heights on, read as stacks of its own.
 use Prim.Native.Nat.{ℕ}
 use mathlib.Core.Bool.{Bool, true, false, not, _&&_, _||_}
-use mathlib.Core.List.{List, [], _++_}
+use mathlib.Core.List.{[], _++_}
 use lib.ListN.{length, drop, take, replicate}
 use lib.Dec.{eqb, ltb}
-use Rattle.meaning.specs.Grammar.{Grammar}
+use Rattle.meaning.specs.Grammar.{Grammar, TableBytes, Area, ProgramBuilder}
 use Rattle.meaning.specs.Table.{grammarOf}
 use Rattle.meaning.specs.Value.{mark}
 use Rattle.meaning.specs.Calls.{Status, running, waiting, closed, Kind, outer, inner, Record, Stacks, Called, Answer, more, value, refused, tableRefused, closedRecord, lentOf, admitted, turnedBack, gate, isOpen, stacksFit, openOf}
@@ -146,20 +146,20 @@ pub record InnerEffect : Type 0 where
   pub outerState : Record
   pub innerState : Record
   pub stacks : Stacks
-  pub area : List ℕ
+  pub area : Area
 
-abbrev pub innerEffect : InnerCalled → List ℕ → InnerEffect
+abbrev pub innerEffect : InnerCalled → Area → InnerEffect
 innerEffect k area = record { answer = k .answer; outerState = k .outerState; innerState = k .innerState; stacks = k .stacks; area = area }
 
 -- a table's turn in a call: refused, with nothing (further) written; or its program is written, and the call goes on under its grammar
-abbrev pub byTable : (Grammar → List ℕ) → List ℕ → List ℕ → Record → Record → Stacks → (Grammar → List ℕ → InnerEffect) → InnerEffect
+abbrev pub byTable : ProgramBuilder → TableBytes → Area → Record → Record → Stacks → (Grammar → Area → InnerEffect) → InnerEffect
 byTable program bs area o i m made = elim (check bs) [
   | unusable n f ↦ innerEffect (handedBack (tableRefused n f) o i m) area
   | usable s ↦ made (grammarOf s) (written (program (grammarOf s)) area)
 ]
 
 -- the outer run "is judged by its own [table] in the usual order": 33, 40, 34. A third run, that is an inner record brought as the outer one, is a 40
-abbrev pub whenOuterFits : Grammar → Record → Stacks → List ℕ → InnerEffect → InnerEffect
+abbrev pub whenOuterFits : Grammar → Record → Stacks → Area → InnerEffect → InnerEffect
 whenOuterFits g r m area e =
     elim (gate 40 (r .status) (r .kind)) [
       | turnedBack n ↦ innerEffect (handedBack (refused n 0) r closedRecord m) area
@@ -167,14 +167,14 @@ whenOuterFits g r m area e =
     ]
 
 -- 30, the outer table, 33, 40, 34, the inner table, 31, 32. 02 (h): "The outer table's program is written first and the inner one's over it, in the same area; a refused inner table writes nothing further."
-abbrev pub innerOpens : (Grammar → List ℕ) → List ℕ → List ℕ → List ℕ → Record → Stacks → InnerEffect
+abbrev pub innerOpens : ProgramBuilder → TableBytes → TableBytes → Area → Record → Stacks → InnerEffect
 innerOpens program outerTable innerTable area r m = elim (ltb (length area) areaLength) [
   | true ↦ innerEffect (handedBack (refused 30 0) r closedRecord m) area
   | false ↦ byTable program outerTable area r closedRecord m (λ g first. let e = byTable program innerTable first r closedRecord m (λ h second. innerEffect (innerOpenOf h r m) second) in whenOuterFits g r m first e)
 ]
 
 -- 30, the inner table, 33, 34, 38, then the moves
-abbrev pub innerPerforms : (Grammar → List ℕ) → List ℕ → List ℕ → Record → Record → Stacks → InnerCall → InnerEffect
+abbrev pub innerPerforms : ProgramBuilder → TableBytes → Area → Record → Record → Stacks → InnerCall → InnerEffect
 innerPerforms program bs area o i m c = elim (ltb (length area) areaLength) [
   | true ↦ innerEffect (handedBack (refused 30 0) o i m) area
   | false ↦ byTable program bs area o i m (λ g words. innerEffect (innerOf g o i m c) words)

@@ -1,7 +1,6 @@
 -- 02 (h): what a list of inner calls comes to, and what the same calls come to for a run alone.
-use Prim.Native.Nat.{ℕ}
 use mathlib.Core.List.{List, [], _∷_}
-use Rattle.meaning.specs.Grammar.{Grammar}
+use Rattle.meaning.specs.Grammar.{TableBytes, Area, ProgramBuilder}
 use Rattle.meaning.specs.Calls.{Record, Stacks, Answer}
 use Rattle.meaning.specs.PublicCalls.{Call, Effect, opens, performs}
 use Rattle.meaning.specs.Inner.{InnerCall, engine, InnerEffect, innerOpens, innerPerforms}
@@ -16,7 +15,7 @@ pub record Both : Type 0 where
   pub innerState : Record
   pub stacks : Stacks
 
-abbrev pub openedAlone : (Grammar → List ℕ) → List ℕ → List ℕ → Stacks → Alone
+abbrev pub openedAlone : ProgramBuilder → TableBytes → Area → Stacks → Alone
 openedAlone program bs area m = record { state = opens program bs area m .state; stacks = opens program bs area m .stacks }
 
 abbrev pub bothOf : InnerEffect → Both
@@ -24,30 +23,30 @@ bothOf e = record { outerState = e .outerState; innerState = e .innerState; stac
 
 -- a call of a list, with any table and area
 pub record Step (C : Type 0) : Type 0 where
-  pub table : List ℕ
-  pub area : List ℕ
+  pub table : TableBytes
+  pub area : Area
   pub call : C
 
-abbrev pub performsAlone : (Grammar → List ℕ) → Alone → Step Call → Effect
+abbrev pub performsAlone : ProgramBuilder → Alone → Step Call → Effect
 performsAlone program a s = performs program (s .table) (s .area) (a .state) (a .stacks) (s .call)
 
-abbrev pub performsInside : (Grammar → List ℕ) → Both → Step InnerCall → InnerEffect
+abbrev pub performsInside : ProgramBuilder → Both → Step InnerCall → InnerEffect
 performsInside program b s = innerPerforms program (s .table) (s .area) (b .outerState) (b .innerState) (b .stacks) (s .call)
 
 -- a run alone after a list of calls, and what they answer
-abbrev pub aloneAfter : (Grammar → List ℕ) → Alone → List (Step Call) → Alone
+abbrev pub aloneAfter : ProgramBuilder → Alone → List (Step Call) → Alone
 aloneAfter program a [] = a
 aloneAfter program a (s ∷ ss) = aloneAfter program (record { state = performsAlone program a s .state; stacks = performsAlone program a s .stacks }) ss
 
-abbrev pub aloneAnswers : (Grammar → List ℕ) → Alone → List (Step Call) → List Answer
+abbrev pub aloneAnswers : ProgramBuilder → Alone → List (Step Call) → List Answer
 aloneAnswers program a [] = []
 aloneAnswers program a (s ∷ ss) = performsAlone program a s .answer ∷ aloneAnswers program (record { state = performsAlone program a s .state; stacks = performsAlone program a s .stacks }) ss
 
-abbrev pub insideAfter : (Grammar → List ℕ) → Both → List (Step InnerCall) → Both
+abbrev pub insideAfter : ProgramBuilder → Both → List (Step InnerCall) → Both
 insideAfter program b [] = b
 insideAfter program b (s ∷ ss) = insideAfter program (bothOf (performsInside program b s)) ss
 
-abbrev pub insideAnswers : (Grammar → List ℕ) → Both → List (Step InnerCall) → List Answer
+abbrev pub insideAnswers : ProgramBuilder → Both → List (Step InnerCall) → List Answer
 insideAnswers program b [] = []
 insideAnswers program b (s ∷ ss) = performsInside program b s .answer ∷ insideAnswers program (bothOf (performsInside program b s)) ss
 
@@ -56,5 +55,5 @@ abbrev pub inside : Step Call → Step InnerCall
 inside s = record { table = s .table; area = s .area; call = engine (s .call) }
 
 -- an inner run opened over the run r on the stacks m, after a list of calls
-abbrev pub innerRun : (Grammar → List ℕ) → List ℕ → List ℕ → List ℕ → Record → Stacks → List (Step InnerCall) → Both
+abbrev pub innerRun : ProgramBuilder → TableBytes → TableBytes → Area → Record → Stacks → List (Step InnerCall) → Both
 innerRun program outerTable innerTable area r m ss = insideAfter program (bothOf (innerOpens program outerTable innerTable area r m)) ss

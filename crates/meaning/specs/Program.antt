@@ -7,9 +7,10 @@ use mathlib.Core.Option.{none, some}
 use lib.ListN.{length, replicate}
 use lib.Dec.{eqb}
 use Rattle.meaning.specs.Base.{any, countFrom}
-use Rattle.meaning.specs.Grammar.{Symbol, terminal, nonterminal, Function, const, copy, sum, diff, prod, maxi, mini, addc, quot, Rule, Condition, range, atmost, Production, Grammar, inh, syn, markedFor, nonterminalCount}
+use Rattle.meaning.specs.Limits.{symbolsLimit}
+use Rattle.meaning.specs.Grammar.{Symbol, terminal, nonterminal, Function, const, copy, sum, diff, prod, maxi, mini, addc, quot, Rule, Condition, range, atmost, Production, Grammar, inh, syn, markedFor, nonterminalCount, ProgramWords, ProgramBuilder}
 use Rattle.meaning.specs.Scheme.{Instruction, add, evaluate, expect, test, remove, scheme, entryTests}
-use Rattle.meaning.specs.Sets.{TokenSet, has, starts}
+use Rattle.meaning.specs.Sets.{TokenSet, setSize, has, starts}
 use Rattle.meaning.specs.Layout.{unsigned, symbolByte}
 
 abbrev pub concat : {A : Type 0} → List (List A) → List A
@@ -23,7 +24,7 @@ abbrev pub packed : ℕ → ℕ → ℕ → ℕ → ℕ
 packed target function a b = target + 128 * function + 2048 * a + 262144 * b
 
 -- two words for a rule: target, function and operands; the constant
-abbrev pub functionWords : ℕ → Function ℕ → List ℕ
+abbrev pub functionWords : ℕ → Function ℕ → ProgramWords
 functionWords t (const c) = packed t 0 0 0 ∷ unsigned c ∷ []
 functionWords t (copy a) = packed t 1 a 0 ∷ 0 ∷ []
 functionWords t (sum a b) = packed t 2 a b ∷ 0 ∷ []
@@ -34,11 +35,11 @@ functionWords t (mini a b) = packed t 6 a b ∷ 0 ∷ []
 functionWords t (addc a c) = packed t 7 a 0 ∷ unsigned c ∷ []
 functionWords t (quot a c) = packed t 8 a 0 ∷ unsigned c ∷ []
 
-abbrev pub ruleWords : Rule ℕ → List ℕ
+abbrev pub ruleWords : Rule ℕ → ProgramWords
 ruleWords r = functionWords (r .target) (r .function)
 
 -- three words for a condition: kind and selectors; low, or the constant of kind 2; high
-abbrev pub conditionWords : Condition ℕ → List ℕ
+abbrev pub conditionWords : Condition ℕ → ProgramWords
 conditionWords (range a l h) = packed a 0 0 0 ∷ unsigned l ∷ unsigned h ∷ []
 conditionWords (atmost a b none) = packed a 1 b 0 ∷ 0 ∷ 0 ∷ []
 conditionWords (atmost a b (some c)) = packed a 2 b 0 ∷ unsigned c ∷ 0 ∷ []
@@ -49,18 +50,18 @@ abbrev pub symbolHead : Symbol → ℕ
 symbolHead (terminal t) = 2 + 8 * t
 symbolHead (nonterminal n) = 3 + 8 * n
 
-abbrev pub instructionWords : Instruction → List ℕ
+abbrev pub instructionWords : Instruction → ProgramWords
 instructionWords (add n) = (0 + 8 * n) ∷ []
 instructionWords (evaluate rs) = (1 + 8 * length rs) ∷ concat (map ruleWords rs)
 instructionWords (expect x) = symbolHead x ∷ []
 instructionWords (test cs) = (4 + 8 * length cs) ∷ concat (map conditionWords cs)
 instructionWords (remove n) = (5 + 8 * n) ∷ []
 
-abbrev pub schemeWords : List Instruction → List ℕ
+abbrev pub schemeWords : List Instruction → ProgramWords
 schemeWords is = concat (map instructionWords is)
 
 -- the addresses of the expects of a scheme that begins at address a
-abbrev pub expectsAt : ℕ → List Instruction → List ℕ
+abbrev pub expectsAt : ℕ → List Instruction → ProgramWords
 expectsAt a [] = []
 expectsAt a (expect x ∷ is) = a ∷ expectsAt (suc a) is
 expectsAt a (add n ∷ is) = expectsAt (a + length (instructionWords (add n))) is
@@ -70,7 +71,7 @@ expectsAt a (remove n ∷ is) = expectsAt (a + length (instructionWords (remove 
 
 -- ---- bodies
 
-abbrev pub entryWords : Grammar → Production → List ℕ
+abbrev pub entryWords : Grammar → Production → ProgramWords
 entryWords g p = concat (map conditionWords (entryTests g p))
 
 -- how far behind the body's first word the scheme begins
@@ -78,13 +79,13 @@ abbrev pub schemeOffset : Grammar → Production → ℕ
 schemeOffset g p = length (p .right) + length (entryWords g p)
 
 -- of the body that begins at address a
-abbrev pub bodyWords : Grammar → ℕ → Production → List ℕ
+abbrev pub bodyWords : Grammar → ℕ → Production → ProgramWords
 bodyWords g a p = expectsAt (a + schemeOffset g p) (scheme g p) ++ (entryWords g p ++ schemeWords (scheme g p))
 
 abbrev pub bodySize : Grammar → Production → ℕ
 bodySize g p = schemeOffset g p + length (schemeWords (scheme g p))
 
-abbrev pub bodiesFrom : Grammar → ℕ → List Production → List ℕ
+abbrev pub bodiesFrom : Grammar → ℕ → List Production → ProgramWords
 bodiesFrom g a [] = []
 bodiesFrom g a (p ∷ ps) = bodyWords g a p ++ bodiesFrom g (a + bodySize g p) ps
 
@@ -104,7 +105,7 @@ abbrev pub firstOf : (Production → Bool) → ℕ → List Production → ℕ
 firstOf f i [] = 0
 firstOf f i (p ∷ ps) = elim (f p) [ true ↦ suc i | false ↦ firstOf f (suc i) ps ]
 
-abbrev pub recordWords : Grammar → ℕ → ℕ → Production → List Production → List ℕ
+abbrev pub recordWords : Grammar → ℕ → ℕ → Production → List Production → ProgramWords
 recordWords g a i p later =
     p .left
     ∷ firstOf (λ q. eqb (q .left) (p .left)) (suc i) later
@@ -116,7 +117,7 @@ recordWords g a i p later =
     ∷ length (p .right)
     ∷ []
 
-abbrev pub recordsFrom : Grammar → ℕ → ℕ → List Production → List ℕ
+abbrev pub recordsFrom : Grammar → ℕ → ℕ → List Production → ProgramWords
 recordsFrom g a i [] = []
 recordsFrom g a i (p ∷ ps) = recordWords g a i p ps ++ recordsFrom g (a + bodySize g p) (suc i) ps
 
@@ -126,14 +127,14 @@ recordsFrom g a i (p ∷ ps) = recordWords g a i p ps ++ recordsFrom g (a + body
 abbrev pub waitWord : Grammar → ℕ → ℕ → Symbol → ℕ
 waitWord g l n x = l + 64 * n + 8192 * markedFor g x + 131072 * inh g x + 2097152 * symbolByte x + 536870912
 
-abbrev pub waitsFrom : Grammar → ℕ → ℕ → List Symbol → List ℕ
+abbrev pub waitsFrom : Grammar → ℕ → ℕ → List Symbol → ProgramWords
 waitsFrom g l n [] = []
 waitsFrom g l n (x ∷ xs) = waitWord g l n x ∷ waitsFrom g l (n + syn g x) xs
 
-abbrev pub waitRow : Grammar → Production → List ℕ
-waitRow g p = waitsFrom g (p .left) 0 (p .right) ++ replicate (12 - length (p .right)) 0
+abbrev pub waitRow : Grammar → Production → ProgramWords
+waitRow g p = waitsFrom g (p .left) 0 (p .right) ++ replicate (symbolsLimit - length (p .right)) 0
 
-abbrev pub waits : Grammar → List ℕ
+abbrev pub waits : Grammar → ProgramWords
 waits g = concat (map (waitRow g) (g .productions))
 
 -- ---- the directory: for a nonterminal and what comes next (63: the end), the first production whose set holds it
@@ -141,29 +142,29 @@ waits g = concat (map (waitRow g) (g .productions))
 abbrev pub directoryWord : Grammar → ℕ → ℕ → ℕ
 directoryWord g n u = firstOf (λ p. eqb (p .left) n && has (starts g p) u) 0 (g .productions)
 
-abbrev pub directory : Grammar → List ℕ
-directory g = concat (map (λ n. map (directoryWord g n) (countFrom 0 64)) (countFrom 0 (nonterminalCount g)))
+abbrev pub directory : Grammar → ProgramWords
+directory g = concat (map (λ n. map (directoryWord g n) (countFrom 0 setSize)) (countFrom 0 (nonterminalCount g)))
 
 -- ---- the whole
 
 -- 02 (e): the terminals that tag 6 names
 abbrev pub carriers : Grammar → TokenSet
-carriers g = map (λ t. any (eqb t) (g .carrying)) (countFrom 0 64)
+carriers g = map (λ t. any (eqb t) (g .carrying)) (countFrom 0 setSize)
 
 abbrev pub directoryAddress : ℕ
 directoryAddress = 9
 
 abbrev pub recordsAddress : Grammar → ℕ
-recordsAddress g = directoryAddress + 64 * nonterminalCount g
+recordsAddress g = directoryAddress + setSize * nonterminalCount g
 
 abbrev pub waitsAddress : Grammar → ℕ
 waitsAddress g = recordsAddress g + 8 * length (g .productions)
 
 abbrev pub bodiesAddress : Grammar → ℕ
-bodiesAddress g = waitsAddress g + 12 * length (g .productions)
+bodiesAddress g = waitsAddress g + symbolsLimit * length (g .productions)
 
 -- the whole segment's scheme: its expect, and a word that says that nothing is left; where the records begin; the number of terminals; the start symbol's registers; the result attribute; the number of productions; the terminals that carry a value, as two words
-abbrev pub segmentWords : Grammar → List ℕ
+abbrev pub segmentWords : Grammar → ProgramWords
 segmentWords g =
     symbolHead (nonterminal (g .start))
     ∷ 6
@@ -176,5 +177,5 @@ segmentWords g =
     ∷ setBits (carriers g) 32 1 32
     ∷ []
 
-abbrev pub programOf : Grammar → List ℕ
+abbrev pub programOf : ProgramBuilder
 programOf g = segmentWords g ++ (directory g ++ (recordsFrom g (bodiesAddress g) 0 (g .productions) ++ (waits g ++ bodiesFrom g (bodiesAddress g) (g .productions))))

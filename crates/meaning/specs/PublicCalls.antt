@@ -4,8 +4,8 @@ use mathlib.Core.Bool.{true, false}
 use mathlib.Core.List.{List, [], _∷_, _++_}
 use lib.ListN.{length, drop, take}
 use lib.Dec.{ltb}
-use lib.IntN.{ℤ}
-use Rattle.meaning.specs.Grammar.{Grammar}
+pub use Rattle.meaning.specs.Limits.{areaLength}
+use Rattle.meaning.specs.Grammar.{Grammar, TableBytes, Area, ProgramBuilder, TokenKinds, TokenValues, LentRegisters, LentPlaces}
 use Rattle.meaning.specs.Table.{State, wellFormed, malformed, readTable, grammarOf}
 use Rattle.meaning.specs.Judgement.{Verdict, accepted, rejected, entryOffset}
 use Rattle.meaning.specs.Decide.{judge}
@@ -24,25 +24,20 @@ abbrev pub checkedAs : State → Verdict → Checked
 checkedAs s accepted = usable s
 checkedAs s (rejected n o) = unusable n o
 
-abbrev pub check : List ℕ → Checked
+abbrev pub check : TableBytes → Checked
 check bs = elim (readTable bs) [ malformed n o ↦ unusable n o | wellFormed s ↦ checkedAs s (judge s) ]
 
 -- ---- the calls on a run
 
 pub data Call : Type 0 where
-  -- kinds and values
-  feed : List ℕ → List ℤ → Call
+  feed : TokenKinds → TokenValues → Call
   finish : Call
 
 abbrev pub callOf : Grammar → Record → Stacks → Call → Called
 callOf g r m (feed ks vs) = feedOf g r m ks vs
 callOf g r m finish = finishOf g r m
 
--- 01: "A program area of at least 16,384 32-bit words is lent"
-abbrev pub areaLength : ℕ
-areaLength = 16384
-
--- 01: "writes it afresh .. words beyond the program are not touched"
+-- 01: "writes it afresh .. words beyond the program are not touched"; of a buffer's bytes in House
 abbrev pub written : List ℕ → List ℕ → List ℕ
 written words area = words ++ drop (length words) area
 
@@ -51,14 +46,14 @@ pub record Effect : Type 0 where
   pub answer : Answer
   pub state : Record
   pub stacks : Stacks
-  pub area : List ℕ
+  pub area : Area
 
-abbrev pub effect : Called → List ℕ → Effect
+abbrev pub effect : Called → Area → Effect
 effect k area = record { answer = k .answer; state = k .state; stacks = k .stacks; area = area }
 
 -- 01: "each call that meets an accepted table writes it afresh, before 33 is judged. Its content depends on the table alone": `program` gives a grammar's words.
 -- `brought` is the record that a refusal by 30 or by the table hands back, `made` what the call does under the table's grammar
-abbrev pub called : (Grammar → List ℕ) → List ℕ → List ℕ → Record → Stacks → (Grammar → Called) → Effect
+abbrev pub called : ProgramBuilder → TableBytes → Area → Record → Stacks → (Grammar → Called) → Effect
 called program bs area brought m made = elim (ltb (length area) areaLength) [
   | true ↦ effect (asBrought (refused 30 0) brought m) area
   | false ↦ elim (check bs) [
@@ -68,14 +63,14 @@ called program bs area brought m made = elim (ltb (length area) areaLength) [
 ]
 
 -- 01: "the record comes back as brought, or closed and all zero from an opening"
-abbrev pub opens : (Grammar → List ℕ) → List ℕ → List ℕ → Stacks → Effect
+abbrev pub opens : ProgramBuilder → TableBytes → Area → Stacks → Effect
 opens program bs area m = called program bs area closedRecord m (λ g. openOf g m)
 
-abbrev pub performs : (Grammar → List ℕ) → List ℕ → List ℕ → Record → Stacks → Call → Effect
+abbrev pub performs : ProgramBuilder → TableBytes → Area → Record → Stacks → Call → Effect
 performs program bs area r m c = called program bs area r m (λ g. callOf g r m c)
 
 -- the stacks that a caller lends
-abbrev pub stacksOf : List ℤ → List ℕ → Stacks
+abbrev pub stacksOf : LentRegisters → LentPlaces → Stacks
 stacksOf vs ps = record { registers = vs; places = ps }
 
 -- ---- the program of a table, for a caller that only wants it
@@ -88,13 +83,13 @@ pub data ProgramAnswer : Type 0 where
 -- the answer, and the area afterwards
 pub record Made : Type 0 where
   pub answer : ProgramAnswer
-  pub area : List ℕ
+  pub area : Area
 
-abbrev pub made : ProgramAnswer → List ℕ → Made
+abbrev pub made : ProgramAnswer → Area → Made
 made a area = record { answer = a; area = area }
 
 -- 01: "Its content depends on the table alone .. and words beyond the program are not touched"
-abbrev pub madeOf : List ℕ → List ℕ → Made
+abbrev pub madeOf : TableBytes → Area → Made
 madeOf bs area = elim (ltb (length area) areaLength) [
   | true ↦ made (turned 30 0) area
   | false ↦ elim (check bs) [
@@ -107,18 +102,18 @@ madeOf bs area = elim (ltb (length area) areaLength) [
 
 -- 01: "that production's stretch of the table itself, from its tag 3 to the next or the end; on a refusal an empty part, number and offset in two lent numbers"
 pub record Stretch : Type 0 where
-  pub part : List ℕ
+  pub part : TableBytes
   pub number : ℕ
   pub offset : ℕ
 
-abbrev pub cut : List ℕ → ℕ → ℕ → List ℕ
+abbrev pub cut : TableBytes → ℕ → ℕ → TableBytes
 cut bs from to = take (to - from) (drop from bs)
 
-abbrev pub stretchEnd : List ℕ → State → ℕ → ℕ
+abbrev pub stretchEnd : TableBytes → State → ℕ → ℕ
 stretchEnd bs s p = elim (ltb (suc p) (length (s .entries))) [ true ↦ entryOffset s (suc p) | false ↦ length bs ]
 
 -- n and o are what the two lent numbers held: on success they stay. 01: "14 no such production (offset 0)", "14 after them"
-abbrev pub stretchOf : List ℕ → ℕ → ℕ → ℕ → Stretch
+abbrev pub stretchOf : TableBytes → ℕ → ℕ → ℕ → Stretch
 stretchOf bs p n o = elim (check bs) [
   | unusable k f ↦ record { part = []; number = k; offset = f }
   | usable s ↦ elim (ltb p (length (s .entries))) [
@@ -134,5 +129,5 @@ joined [] = []
 joined (x ∷ xs) = x ++ joined xs
 
 -- 01: "reads a table from standard input and prints"; "A refusal is one line"
-abbrev pub printed : List ℕ → Text
+abbrev pub printed : TableBytes → Text
 printed bs = elim (check bs) [ unusable n o ↦ refusalLine n o | usable s ↦ joined (listing (grammarOf s)) ]

@@ -9,6 +9,7 @@ use lib.Signed.{leZ}
 use mathlib.Core.Bool.{Bool, _&&_}
 use mathlib.Core.Option.{none, some}
 use Rattle.meaning.specs.Base.{In, total}
+use Rattle.meaning.specs.Limits.{terminalsLimit, nonterminalsLimit, attributesLimit, productionsLimit, symbolsLimit, rulesLimit, conditionsLimit, divisorLimit}
 use Rattle.meaning.specs.Grammar.{Symbol, terminal, nonterminal, Occurrence, Function, const, copy, sum, diff, prod, maxi, mini, addc, quot, Rule, Condition, range, atmost, Production, Counts, Grammar, inh, syn, att, symbolAt, nonterminalCount}
 
 -- ---- what is said of each operand
@@ -79,7 +80,7 @@ Constant (prod a b) = Unit {0}
 Constant (maxi a b) = Unit {0}
 Constant (mini a b) = Unit {0}
 Constant (addc a c) = InFourBytes c
-Constant (quot a c) = T (leZ (pos 1) c) × T (leZ c (pos 1000000))
+Constant (quot a c) = T (leZ (pos 1) c) × T (leZ c divisorLimit)
 
 -- 10. 02 (j): "constants and range bounds remain four bytes" (d); "Number 10 keeps only low above high."
 abbrev pub Proper : Condition Occurrence → Type 0
@@ -97,7 +98,7 @@ Distinct (r ∷ rs) = ((q : Rule Occurrence) → In q rs → q .target ≡ r .ta
 pub record WellFormedProduction (g : Grammar) (p : Production) : Type 0 where
   pub left : p .left < nonterminalCount g
   -- 01: "right-side length (0 to 12)"
-  pub short : length (p .right) ≤ 12
+  pub short : length (p .right) ≤ symbolsLimit
   pub symbols : (x : Symbol) → In x (p .right) → Known g x
   -- 01: "Each output has one rule."
   pub targets : (r : Rule Occurrence) → In r (p .rules) → Output g p (r .target)
@@ -117,11 +118,11 @@ Rising (t ∷ ts) = ((u : ℕ) → In u ts → t < u) × Rising ts
 
 pub record WellFormed (g : Grammar) : Type 0 where
   -- 01: "terminals T (1 to 63), nonterminals N (1 to 48), start nonterminal, index of its result attribute"
-  pub terminals : (1 ≤ g .terminals) × (g .terminals ≤ 63)
-  pub nonterminals : (1 ≤ nonterminalCount g) × (nonterminalCount g ≤ 48)
+  pub terminals : (1 ≤ g .terminals) × (g .terminals ≤ terminalsLimit)
+  pub nonterminals : (1 ≤ nonterminalCount g) × (nonterminalCount g ≤ nonterminalsLimit)
   pub start : g .start < nonterminalCount g
   -- 01: "inherited count, synthesized count; together at most 8"
-  pub attributes : (c : Counts) → In c (g .counts) → c .inherited + c .synthesized ≤ 8
+  pub attributes : (c : Counts) → In c (g .counts) → c .inherited + c .synthesized ≤ attributesLimit
   -- 02 (e): "a number that is no terminal or doesn't rise is a 5"
   pub carriers : (t : ℕ) → In t (g .carrying) → t < g .terminals
   pub rising : Rising (g .carrying)
@@ -129,7 +130,7 @@ pub record WellFormed (g : Grammar) : Type 0 where
   pub startAlone : inh g (nonterminal (g .start)) ≡ 0
   pub result : (1 ≤ g .result) × (g .result ≤ syn g (nonterminal (g .start)))
   -- 01: "1 to 128 productions", "At most 1,024 rules", "At most 512 [conditions]"
-  pub productions : (1 ≤ length (g .productions)) × (length (g .productions) ≤ 128)
-  pub rules : total (map (λ p. length (p .rules)) (g .productions)) ≤ 1024
-  pub conditions : total (map (λ p. length (p .conditions)) (g .productions)) ≤ 512
+  pub productions : (1 ≤ length (g .productions)) × (length (g .productions) ≤ productionsLimit)
+  pub rules : total (map (λ p. length (p .rules)) (g .productions)) ≤ rulesLimit
+  pub conditions : total (map (λ p. length (p .conditions)) (g .productions)) ≤ conditionsLimit
   pub each : (p : Production) → In p (g .productions) → WellFormedProduction g p

@@ -7,8 +7,9 @@ use mathlib.Core.List.{List, [], _∷_, _++_}
 use lib.ListN.{length}
 use lib.Dec.{T}
 use lib.IntN.{ℤ}
-use Rattle.meaning.specs.Grammar.{Grammar, Symbol, Token, Leaf, addedFor, syn, leaves}
+use Rattle.meaning.specs.Grammar.{Grammar, Symbol, Token, Leaf, addedFor, syn, leaves, TableBytes, Area, ProgramBuilder, TokenKinds, TokenValues, RegisterStack}
 use Rattle.meaning.specs.Base.{all}
+use Rattle.meaning.specs.Limits.{tableLimit}
 use Rattle.meaning.specs.Rules.{WellFormed}
 use Rattle.meaning.specs.Layout.{LaidOut, Bytes}
 use Rattle.meaning.specs.Judgement.{Accepted, Judged, Verdict, AllUseful, NoneRecursive, NoneClash}
@@ -27,9 +28,9 @@ use Rattle.meaning.specs.Drawn.{WalkFits, drawnRecord, drawnStacks, draw
 
 -- ==== demand 2: "A table is accepted exactly when it meets 01's rules."
 
-pub record Meets (bs : List ℕ) (g : Grammar) : Type 0 where
+pub record Meets (bs : TableBytes) (g : Grammar) : Type 0 where
   -- 01: "At most 32,768 bytes of fields"
-  pub short : length bs ≤ 32768
+  pub short : length bs ≤ tableLimit
   pub laidOut : LaidOut g bs
   pub wellFormed : WellFormed g
   -- 11, 12, 13
@@ -38,28 +39,28 @@ pub record Meets (bs : List ℕ) (g : Grammar) : Type 0 where
   pub noClash : NoneClash g
 
 abbrev pub AcceptedExactly : Type 0
-AcceptedExactly = (bs : List ℕ) → Bytes bs → (g : Grammar) → Accepted bs g ↔ Meets bs g
+AcceptedExactly = (bs : TableBytes) → Bytes bs → (g : Grammar) → Accepted bs g ↔ Meets bs g
 
 -- every list has a verdict, the computed one, and no other
 abbrev pub JudgedOnce : Type 0
-JudgedOnce = (bs : List ℕ) → Judged bs (verdictOf bs) × ((v : Verdict) → Judged bs v → v ≡ verdictOf bs)
+JudgedOnce = (bs : TableBytes) → Judged bs (verdictOf bs) × ((v : Verdict) → Judged bs v → v ≡ verdictOf bs)
 
 -- ==== lists of calls
 
 -- the lists of calls that start with an opening of the table bs on stacks m₀ that was not turned back: the tokens fed, with their values, whether a finish counted, the record and the stacks now.
 -- Any call, with any table and area, that is turned back with record and stacks as they were counts for nothing, and so does an inner run that has ended.
-pub data History (program : Grammar → List ℕ) (bs : List ℕ) (m₀ : Stacks) : List Token → Bool → Record → Stacks → Type 0 where
-  opened : (area : List ℕ) → opens program bs area m₀ .answer ≡ more 0 → History program bs m₀ [] false (opens program bs area m₀ .state) (opens program bs area m₀ .stacks)
-  countsForNothing : {ts : List Token} {isOver : Bool} {r : Record} {m : Stacks} (other area : List ℕ) (c : Call) → History program bs m₀ ts isOver r m
-      → performs program other area r m c .state ≡ r → performs program other area r m c .stacks ≡ m
+pub data History (program : ProgramBuilder) (bs : TableBytes) (m₀ : Stacks) : List Token → Bool → Record → Stacks → Type 0 where
+  opened : (area : Area) → opens program bs area m₀ .answer ≡ more 0 → History program bs m₀ [] false (opens program bs area m₀ .state) (opens program bs area m₀ .stacks)
+  countsForNothing : {ts : List Token} {isOver : Bool} {r : Record} {m : Stacks} (other : TableBytes) (area : Area) (c : Call)
+      → History program bs m₀ ts isOver r m → performs program other area r m c .state ≡ r → performs program other area r m c .stacks ≡ m
       → History program bs m₀ ts isOver r m
   -- 02 (h): "in the outer run's list an ended inner run counts for nothing": opened on r and m, any inner calls, and closed; the list goes on from what it leaves
-  innerEnded : {ts : List Token} {isOver : Bool} {r : Record} {m : Stacks} (outerTable innerTable area : List ℕ) (ss : List (Step InnerCall)) → History program bs m₀ ts isOver r m
+  innerEnded : {ts : List Token} {isOver : Bool} {r : Record} {m : Stacks} (outerTable innerTable : TableBytes) (area : Area) (ss : List (Step InnerCall)) → History program bs m₀ ts isOver r m
       → innerOpens program outerTable innerTable area r m .answer ≡ more 0 → isClosed (innerRun program outerTable innerTable area r m ss .innerState .status) ≡ true
       → History program bs m₀ ts isOver (innerRun program outerTable innerTable area r m ss .outerState) (innerRun program outerTable innerTable area r m ss .stacks)
-  fed : {ts : List Token} {r : Record} {m : Stacks} (area ks : List ℕ) (vs : List ℤ) → Lendable (feed ks vs) → Even (feed ks vs) → History program bs m₀ ts false r m → areaLength ≤ length area → isOpen r ≡ true
+  fed : {ts : List Token} {r : Record} {m : Stacks} (area : Area) (ks : TokenKinds) (vs : TokenValues) → Lendable (feed ks vs) → Even (feed ks vs) → History program bs m₀ ts false r m → areaLength ≤ length area → isOpen r ≡ true
       → History program bs m₀ (ts ++ tokensOf (feed ks vs)) false (performs program bs area r m (feed ks vs) .state) (performs program bs area r m (feed ks vs) .stacks)
-  finished : {ts : List Token} {r : Record} {m : Stacks} (area : List ℕ) → History program bs m₀ ts false r m → areaLength ≤ length area → isOpen r ≡ true
+  finished : {ts : List Token} {r : Record} {m : Stacks} (area : Area) → History program bs m₀ ts false r m → areaLength ≤ length area → isOpen r ≡ true
       → History program bs m₀ ts true (performs program bs area r m finish .state) (performs program bs area r m finish .stacks)
 
 -- does a call end the segment?
@@ -70,32 +71,32 @@ ends finish = true
 -- any list of calls goes on with any call: with the opening's table on an open record it adds its tokens or the end, its lists being of one length; a call, with any table and area, that is turned back before its moves counts for nothing. (Left out is only a call that moves under another table)
 abbrev pub GoesOn : Type 0
 GoesOn =
-    (program : Grammar → List ℕ) (bs : List ℕ) (g : Grammar) (m₀ : Stacks) (ts : List Token) (isOver : Bool) (r : Record) (m : Stacks) → Accepted bs g → History program bs m₀ ts isOver r m
-    → ((area : List ℕ) (c : Call) → Lendable c → Even c → areaLength ≤ length area → isOpen r ≡ true → History program bs m₀ (ts ++ tokensOf c) (ends c) (performs program bs area r m c .state) (performs program bs area r m c .stacks))
-    × ((other area : List ℕ) (c : Call) → ((h : Grammar) → Met other h area r m → Even c → ⊥) → History program bs m₀ ts isOver (performs program other area r m c .state) (performs program other area r m c .stacks))
+    (program : ProgramBuilder) (bs : TableBytes) (g : Grammar) (m₀ : Stacks) (ts : List Token) (isOver : Bool) (r : Record) (m : Stacks) → Accepted bs g → History program bs m₀ ts isOver r m
+    → ((area : Area) (c : Call) → Lendable c → Even c → areaLength ≤ length area → isOpen r ≡ true → History program bs m₀ (ts ++ tokensOf c) (ends c) (performs program bs area r m c .state) (performs program bs area r m c .stacks))
+    × ((other : TableBytes) (area : Area) (c : Call) → ((h : Grammar) → Met other h area r m → Even c → ⊥) → History program bs m₀ ts isOver (performs program other area r m c .state) (performs program other area r m c .stacks))
 
 -- ==== demand 2: values
 
 -- "That tree is its only one."
 abbrev pub OnlyTree : Type 0
-OnlyTree = (bs : List ℕ) (g : Grammar) → Accepted bs g → (ts : List Leaf) (t u : Tree) → TreeOf g ts t → TreeOf g ts u → t ≡ u
+OnlyTree = (bs : TableBytes) (g : Grammar) → Accepted bs g → (ts : List Leaf) (t u : Tree) → TreeOf g ts t → TreeOf g ts u → t ≡ u
 
 -- "Under it a segment gets a value exactly when it has a well evaluated derivation tree with that value, its walk fits the lent stacks and it keeps to the limits."
 -- After any list of calls: a finish answers v with n moves exactly where the tokens fed have such a tree, with value v and a walk of n moves
 abbrev pub ValueAlways : Type 0
 ValueAlways =
-    (program : Grammar → List ℕ) (bs area : List ℕ) (g : Grammar) (m₀ : Stacks) (ts : List Token) (r : Record) (m : Stacks) → Accepted bs g → areaLength ≤ length area
+    (program : ProgramBuilder) (bs : TableBytes) (area : Area) (g : Grammar) (m₀ : Stacks) (ts : List Token) (r : Record) (m : Stacks) → Accepted bs g → areaLength ≤ length area
     → History program bs m₀ ts false r m → (v : ℤ) (n : ℕ)
     → (performs program bs area r m finish .answer ≡ value v n) ↔ ((t : Tree) × TreeOf g (leaves g ts) t × WalkFits g (lentOf m₀) t × (valueOf g t ≡ v) × (length (walk g t) ≡ n))
 
 -- what a feed of the kinds ks with the values vs and a finish do after an opening that left o
-abbrev pub fedAndFinished : (Grammar → List ℕ) → List ℕ → List ℕ → List ℕ → List ℤ → Effect → Effect
+abbrev pub fedAndFinished : ProgramBuilder → TableBytes → Area → TokenKinds → TokenValues → Effect → Effect
 fedAndFinished program bs area ks vs o = let f = performs program bs area (o .state) (o .stacks) (feed ks vs) in performs program bs area (f .state) (f .stacks) finish
 
 -- a segment brought whole: opened, fed, finished. Nothing is presupposed of the opening
 abbrev pub ValueWhole : Type 0
 ValueWhole =
-    (program : Grammar → List ℕ) (bs area : List ℕ) (g : Grammar) (m : Stacks) (ks : List ℕ) (vs : List ℤ) → Accepted bs g → areaLength ≤ length area → Lendable (feed ks vs) → Even (feed ks vs) → (v : ℤ) (n : ℕ)
+    (program : ProgramBuilder) (bs : TableBytes) (area : Area) (g : Grammar) (m : Stacks) (ks : TokenKinds) (vs : TokenValues) → Accepted bs g → areaLength ≤ length area → Lendable (feed ks vs) → Even (feed ks vs) → (v : ℤ) (n : ℕ)
     → (fedAndFinished program bs area ks vs (opens program bs area m) .answer ≡ value v n) ↔ ((t : Tree) × TreeOf g (leaves g (tokensOf (feed ks vs))) t × WalkFits g (lentOf m) t × (valueOf g t ≡ v) × (length (walk g t) ≡ n))
 
 -- ==== demand 3
@@ -103,7 +104,7 @@ ValueWhole =
 -- "For every list of calls from an opening, registers, places and record are exactly the picture that 01 draws from the tree"
 abbrev pub PictureAlways : Type 0
 PictureAlways =
-    (program : Grammar → List ℕ) (bs : List ℕ) (g : Grammar) (m₀ : Stacks) (ts us : List Token) (isOver : Bool) (r : Record) (m : Stacks) (t : Tree)
+    (program : ProgramBuilder) (bs : TableBytes) (g : Grammar) (m₀ : Stacks) (ts us : List Token) (isOver : Bool) (r : Record) (m : Stacks) (t : Tree)
     → Accepted bs g → History program bs m₀ ts isOver r m
     → TreeOf g (leaves g (ts ++ us)) t → WalkFits g (lentOf m₀) t → (isOver ≡ true → us ≡ [])
     → (r ≡ drawnRecord g t (length ts) isOver) × (m ≡ drawnStacks g t (length ts) isOver m₀)
@@ -121,12 +122,12 @@ pub record Reached (g : Grammar) (m₀ : Stacks) (ts : List Token) (r : Record) 
   pub openRun : isOpen r ≡ true → ((us : List Leaf) → Makes g (lentOf m₀) (leaves g ts ++ us) (opening g) moves us config) × T (waits (config .frames))
 
 abbrev pub ReachedAlways : Type 0
-ReachedAlways = (program : Grammar → List ℕ) (bs : List ℕ) (g : Grammar) (m₀ : Stacks) (ts : List Token) (isOver : Bool) (r : Record) (m : Stacks) → Accepted bs g → History program bs m₀ ts isOver r m → Reached g m₀ ts r m
+ReachedAlways = (program : ProgramBuilder) (bs : TableBytes) (g : Grammar) (m₀ : Stacks) (ts : List Token) (isOver : Bool) (r : Record) (m : Stacks) → Accepted bs g → History program bs m₀ ts isOver r m → Reached g m₀ ts r m
 
 -- where there is a tree, these moves are its walk's
 abbrev pub WalkAlways : Type 0
 WalkAlways =
-    (program : Grammar → List ℕ) (bs : List ℕ) (g : Grammar) (m₀ : Stacks) (ts us : List Token) (isOver : Bool) (r : Record) (m : Stacks) (t : Tree)
+    (program : ProgramBuilder) (bs : TableBytes) (g : Grammar) (m₀ : Stacks) (ts us : List Token) (isOver : Bool) (r : Record) (m : Stacks) (t : Tree)
     → Accepted bs g → History program bs m₀ ts isOver r m
     → TreeOf g (leaves g (ts ++ us)) t → WalkFits g (lentOf m₀) t → (isOver ≡ true → us ≡ [])
     → (c : Config) × Makes g (lentOf m₀) (leaves g (ts ++ us)) (opening g) (drawnMoves g t (length ts) isOver) (leaves g us) c × (r ≡ recordOf (isOpen r) c) × (m ≡ layAll g c m₀)
@@ -134,7 +135,7 @@ WalkAlways =
 -- "at each move, whatever the tokens, every selector finds the attribute it names": each move that the opening leads to. (The tokens have values in range: those of a caller are signed 32-bit numbers, by their type)
 abbrev pub SelectorsAlways : Type 0
 SelectorsAlways =
-    (bs : List ℕ) (g : Grammar) → Accepted bs g → (lent : Lent) (ws : List Act) (ts us : List Leaf) (c : Config) → T (all (isLeafOf g) (ts ++ us)) → Makes g lent (ts ++ us) (opening g) ws us c
+    (bs : TableBytes) (g : Grammar) → Accepted bs g → (lent : Lent) (ws : List Act) (ts us : List Leaf) (c : Config) → T (all (isLeafOf g) (ts ++ us)) → Makes g lent (ts ++ us) (opening g) ws us c
     → (p : ℕ) (i : Instruction) (is : List Instruction) (fs : List Frame) → c .frames ≡ record { production = p; rest = i ∷ is } ∷ fs → SelectorsFind g ts us c i
 
 -- moves from c that keep more than n frames
@@ -151,9 +152,9 @@ pub data PartWalked (g : Grammar) (lent : Lent) (us : List Leaf) (c z : Config) 
 
 -- 01: "its results are its synthesized registers". Own are those added for the symbol before it was entered: none for a token, whose result its read adds
 pub record Returned (g : Grammar) (x : Symbol) (c z : Config) : Type 0 where
-  pub own : List ℤ
-  pub results : List ℤ
-  pub below : List ℤ
+  pub own : RegisterStack
+  pub results : RegisterStack
+  pub below : RegisterStack
   pub entered : c .registers ≡ own ++ below
   pub ownSize : length own ≡ addedFor g x
   pub leaves : z .registers ≡ results ++ below
@@ -162,6 +163,6 @@ pub record Returned (g : Grammar) (x : Symbol) (c z : Config) : Type 0 where
 -- "when a part is left, the registers below its results are those it was entered with"
 abbrev pub ReturnsAlways : Type 0
 ReturnsAlways =
-    (bs : List ℕ) (g : Grammar) → Accepted bs g → (lent : Lent) (ws : List Act) (ts us : List Leaf) (c z : Config) → T (all (isLeafOf g) (ts ++ us)) → Makes g lent (ts ++ us) (opening g) ws us c
+    (bs : TableBytes) (g : Grammar) → Accepted bs g → (lent : Lent) (ws : List Act) (ts us : List Leaf) (c z : Config) → T (all (isLeafOf g) (ts ++ us)) → Makes g lent (ts ++ us) (opening g) ws us c
     → (p : ℕ) (x : Symbol) (is : List Instruction) (fs : List Frame) → c .frames ≡ record { production = p; rest = expect x ∷ is } ∷ fs
     → PartWalked g lent us c z → Returned g x c z

@@ -103,10 +103,14 @@ written n k vs b = formOf n k vs ++ drop (formLength n) b
 
 -- ---- reading a buffer
 
+-- 02 (k): a size "outside 1 to 64" is a 42
+abbrev pub windowLimit : ℕ
+windowLimit = 64
+
 -- a number from 0 to 64, and 65 for anything else
 abbrev pub small : ℤ → ℕ
-small (pos m) = cond (leb m 64) m 65
-small (negsuc m) = 65
+small (pos m) = cond (leb m windowLimit) m (suc windowLimit)
+small (negsuc m) = suc windowLimit
 
 abbrev pub numberAt : List ℤ → ℕ → ℕ
 numberAt b i = small (getD b i (pos 0))
@@ -134,7 +138,7 @@ valuesIn b = drop (sizeIn b - heldIn b) (turned (nextIn b) (slotsIn b))
 
 -- "A size outside 1 to 64, or a window buffer shorter than docs/ states for that size"
 abbrev pub sizeFits : ℕ → ℕ → Bool
-sizeFits n long = leb 1 n && (leb n 64 && leb (formLength n) long)
+sizeFits n long = leb 1 n && (leb n windowLimit && leb (formLength n) long)
 
 -- before the window has filled the next slot is the number held
 abbrev pub placeFits : ℕ → ℕ → ℕ → Bool

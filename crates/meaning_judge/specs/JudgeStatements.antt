@@ -2,10 +2,9 @@
 use Prim.Native.Nat.{ℕ, _≤_}
 use mathlib.Core.Path.{_≡_}
 use mathlib.Core.Logic.{_↔_}
-use mathlib.Core.List.{List}
 use lib.ListN.{length}
 use lib.IntN.{ℤ}
-use Rattle.meaning.specs.Grammar.{Grammar, leaves}
+use Rattle.meaning.specs.Grammar.{Grammar, leaves, TableBytes, Area, ProgramBuilder, TokenKinds, TokenValues}
 use Rattle.meaning.specs.Judgement.{Accepted, rejected}
 use Rattle.meaning.specs.Decide.{verdictOf}
 use Rattle.meaning.specs.Tree.{Tree, TreeOf, valueOf}
@@ -15,37 +14,39 @@ use Rattle.meaning.specs.Calls.{Stacks, value, lentOf, tokensFrom}
 use Rattle.meaning.specs.PublicCalls.{feed, areaLength, opens}
 use Rattle.meaning.specs.CallStatements.{Lendable}
 use Rattle.meaning.specs.Statements.{fedAndFinished}
-use Rattle.meaning_sheet.specs.Sheet.{sheetOf}
+use Rattle.meaning_sheet.specs.Sheet.{sheetOf, SheetBytes}
 use Rattle.meaning_judge.specs.Judge.{Describes, JudgeAnswer, worth, turnedBack, JudgedAs}
 
 -- no call has two answers
 abbrev pub JudgedOnce : Type 0
-JudgedOnce = (bs ks : List ℕ) (vs : List ℤ) (bytes : List ℕ) (a b : JudgeAnswer) → JudgedAs bs ks vs bytes a → JudgedAs bs ks vs bytes b → a ≡ b
+JudgedOnce =
+    (bs : TableBytes) (ks : TokenKinds) (vs : TokenValues) (bytes : SheetBytes) (a b : JudgeAnswer)
+    → JudgedAs bs ks vs bytes a → JudgedAs bs ks vs bytes b → a ≡ b
 
 -- "accept exactly if it describes the segment's well evaluated tree, of depth at most 1,023, records in the order of (i), and nothing after it": with that tree's value
 abbrev pub AcceptedSheets : Type 0
 AcceptedSheets =
-    (bs : List ℕ) (g : Grammar) (ks : List ℕ) (vs : List ℤ) (bytes : List ℕ) → Accepted bs g → length ks ≡ length vs → (v : ℤ)
+    (bs : TableBytes) (g : Grammar) (ks : TokenKinds) (vs : TokenValues) (bytes : SheetBytes) → Accepted bs g → length ks ≡ length vs → (v : ℤ)
     → JudgedAs bs ks vs bytes (worth v) ↔ ((t : Tree) × Describes g (leaves g (tokensFrom ks vs)) bytes t × (valueOf g t ≡ v))
 
 -- "Every sheet not accepted, as any for a segment without a tree, is turned back as 43, after the table's refusals and 38."
 abbrev pub RefusedSheets : Type 0
 RefusedSheets =
-    ((bs : List ℕ) (g : Grammar) (ks : List ℕ) (vs : List ℤ) (bytes : List ℕ) → Accepted bs g → length ks ≡ length vs
+    ((bs : TableBytes) (g : Grammar) (ks : TokenKinds) (vs : TokenValues) (bytes : SheetBytes) → Accepted bs g → length ks ≡ length vs
     → JudgedAs bs ks vs bytes (turnedBack 43 0) ↔ ((t : Tree) → Describes g (leaves g (tokensFrom ks vs)) bytes t → ⊥))
-    × ((bs : List ℕ) (g : Grammar) (ks : List ℕ) (vs : List ℤ) (bytes : List ℕ) (a : JudgeAnswer) → Accepted bs g → (length ks ≡ length vs → ⊥) → JudgedAs bs ks vs bytes a ↔ (a ≡ turnedBack 38 0))
-    × ((bs ks : List ℕ) (vs : List ℤ) (bytes : List ℕ) (a : JudgeAnswer) (n o : ℕ) → verdictOf bs ≡ rejected n o → JudgedAs bs ks vs bytes a ↔ (a ≡ turnedBack n o))
+    × ((bs : TableBytes) (g : Grammar) (ks : TokenKinds) (vs : TokenValues) (bytes : SheetBytes) (a : JudgeAnswer) → Accepted bs g → (length ks ≡ length vs → ⊥) → JudgedAs bs ks vs bytes a ↔ (a ≡ turnedBack 38 0))
+    × ((bs : TableBytes) (ks : TokenKinds) (vs : TokenValues) (bytes : SheetBytes) (a : JudgeAnswer) (n o : ℕ) → verdictOf bs ≡ rejected n o → JudgedAs bs ks vs bytes a ↔ (a ≡ turnedBack n o))
 
 -- "Each sheet of (i) is accepted.": that of a tree whose walk fits what is lent, with the tree's value
 abbrev pub WrittenSheets : Type 0
 WrittenSheets =
-    (bs : List ℕ) (g : Grammar) (ks : List ℕ) (vs : List ℤ) (m : Stacks) (t : Tree) → Accepted bs g → length ks ≡ length vs
+    (bs : TableBytes) (g : Grammar) (ks : TokenKinds) (vs : TokenValues) (m : Stacks) (t : Tree) → Accepted bs g → length ks ≡ length vs
     → TreeOf g (leaves g (tokensFrom ks vs)) t → WalkFits g (lentOf m) t → JudgedAs bs ks vs (sheetOf t) (worth (valueOf g t))
 
 -- "An accepted sheet's root value is the segment's value on stacks that suffice, if its tokens and moves keep to their limits.": stacks suffice, and the limits are kept, where the tree's walk fits
 abbrev pub SheetValue : Type 0
 SheetValue =
-    (program : Grammar → List ℕ) (bs area : List ℕ) (g : Grammar) (m : Stacks) (ks : List ℕ) (vs : List ℤ) (bytes : List ℕ) (v : ℤ)
+    (program : ProgramBuilder) (bs : TableBytes) (area : Area) (g : Grammar) (m : Stacks) (ks : TokenKinds) (vs : TokenValues) (bytes : SheetBytes) (v : ℤ)
     → Accepted bs g → areaLength ≤ length area → Lendable (feed ks vs) → length ks ≡ length vs → JudgedAs bs ks vs bytes (worth v)
     → ((t : Tree) → TreeOf g (leaves g (tokensFrom ks vs)) t → WalkFits g (lentOf m) t → fedAndFinished program bs area ks vs (opens program bs area m) .answer ≡ value v (length (walk g t)))
     × ((w : ℤ) (n : ℕ) → fedAndFinished program bs area ks vs (opens program bs area m) .answer ≡ value w n → w ≡ v)

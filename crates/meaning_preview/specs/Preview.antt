@@ -1,15 +1,15 @@
 -- 02 (g): what one more token would do to a run that is stopped, and the set of tokens that may come next. Both work on scratch stacks; the caller's own record and stacks are only read, so nothing here hands stacks back but the scratch.
 use Prim.Native.Nat.{ℕ}
 use mathlib.Core.Bool.{Bool, true, false, _&&_, _||_}
-use mathlib.Core.List.{List, [], _∷_, _++_, map}
+use mathlib.Core.List.{[], _∷_, _++_, map}
 use lib.ListN.{length, drop, replicate}
 use lib.Dec.{ltb}
 use lib.IntN.{ℤ}
 use Rattle.meaning.specs.Base.{countFrom}
-use Rattle.meaning.specs.Grammar.{Grammar}
+use Rattle.meaning.specs.Grammar.{Grammar, TableBytes, Area, ProgramBuilder}
 use Rattle.meaning.specs.Table.{grammarOf}
 use Rattle.meaning.specs.Value.{mark}
-use Rattle.meaning.specs.Sets.{TokenSet}
+use Rattle.meaning.specs.Sets.{TokenSet, setSize}
 use Rattle.meaning.specs.Calls.{Record, Stacks, Called, Answer, more, value, refused, tableRefused, lentOf, admitted, turnedBack, gate, stacksFit, asBrought, feedOf}
 use Rattle.meaning.specs.PublicCalls.{usable, unusable, check, areaLength, written, Effect, called}
 
@@ -42,7 +42,7 @@ abbrev pub previewOf : Grammar → Record → Stacks → Stacks → ℕ → ℤ 
 previewOf g r m s k v = whenCopied g r m s (λ n. asBrought (refused n 0) r s) (tried g r m s k v)
 
 -- with the program area, for any bytes as a table
-abbrev pub previews : (Grammar → List ℕ) → List ℕ → List ℕ → Record → Stacks → Stacks → ℕ → ℤ → Effect
+abbrev pub previews : ProgramBuilder → TableBytes → Area → Record → Stacks → Stacks → ℕ → ℤ → Effect
 previews program bs area r m s k v = called program bs area r s (λ g. previewOf g r m s k v)
 
 -- ---- the set
@@ -55,7 +55,7 @@ noRefusal (tableRefused k o) = false
 
 -- 02 (g): "the set of tokens whose preview is no refusal". A token is a number below T: the end is none. "the caller gives one value to try for all of them"
 abbrev pub mayFollow : Grammar → Record → Stacks → Stacks → ℤ → TokenSet
-mayFollow g r m s v = map (λ t. ltb t (g .terminals) && noRefusal (previewOf g r m s t v .answer)) (countFrom 0 64)
+mayFollow g r m s v = map (λ t. ltb t (g .terminals) && noRefusal (previewOf g r m s t v .answer)) (countFrom 0 setSize)
 
 -- what the set's call answers: the set, or what turns it back
 pub data MayAnswer : Type 0 where
@@ -66,16 +66,16 @@ pub data MayAnswer : Type 0 where
 pub record MayEffect : Type 0 where
   pub answer : MayAnswer
   pub scratch : Stacks
-  pub area : List ℕ
+  pub area : Area
 
-abbrev pub mayEffect : MayAnswer → Stacks → List ℕ → MayEffect
+abbrev pub mayEffect : MayAnswer → Stacks → Area → MayEffect
 mayEffect a s area = record { answer = a; scratch = s; area = area }
 
 -- 02 (g): "It is turned back as a preview is, up to and with 39."
-abbrev pub mayOf : Grammar → Record → Stacks → Stacks → ℤ → List ℕ → MayEffect
+abbrev pub mayOf : Grammar → Record → Stacks → Stacks → ℤ → Area → MayEffect
 mayOf g r m s v area = whenCopied g r m s (λ n. mayEffect (turned (refused n 0)) s area) (mayEffect (tokens (mayFollow g r m s v)) (tidied m s) area)
 
-abbrev pub mays : (Grammar → List ℕ) → List ℕ → List ℕ → Record → Stacks → Stacks → ℤ → MayEffect
+abbrev pub mays : ProgramBuilder → TableBytes → Area → Record → Stacks → Stacks → ℤ → MayEffect
 mays program bs area r m s v = elim (ltb (length area) areaLength) [
   | true ↦ mayEffect (turned (refused 30 0)) s area
   | false ↦ elim (check bs) [

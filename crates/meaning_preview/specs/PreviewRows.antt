@@ -9,11 +9,11 @@ use Rattle.meaning.specs.Grammar.{Grammar}
 use Rattle.meaning.specs.Sets.{TokenSet, emptySet, singleton, _∪_, has, endNumber}
 use Rattle.meaning.specs.Calls.{Status, running, waiting, closed, outer, inner, Record, Stacks, Called, Answer, more, value, refused, tableRefused, openOf, feedOf}
 use Rattle.meaning.specs.PublicCalls.{Effect}
-use Rattle.meaning.specs.Words.{words}
-use Rattle.meaning.specs.TokenRows.{lengths}
-use Rattle.meaning.specs.TableRows.{bytes}
-use Rattle.meaning.specs.CallRows.{m, state, stacks, used, called, thenFeed}
-use Rattle.meaning.specs.InnerRows.{record-of}
+use Rattle.meaning.specs.Examples.Words.{words}
+use Rattle.meaning.specs.Examples.TokenRows.{lengths}
+use Rattle.meaning.specs.Examples.TableRows.{bytes}
+use Rattle.meaning.specs.Examples.CallRows.{m, state, stacks, used, called, thenFeed}
+use Rattle.meaning.specs.Examples.InnerRows.{record-of}
 use Rattle.meaning_preview.specs.Preview.{isShort, tidied, whenCopied, tried, previewOf, previews, noRefusal, mayFollow, tokens, turned, mayEffect, mayOf, mays}
 
 -- ---- the scratch

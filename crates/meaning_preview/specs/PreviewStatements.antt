@@ -4,13 +4,13 @@ use Prim.Native.Nat.{ℕ, _≤_, _<_}
 use mathlib.Core.Path.{_≡_}
 use mathlib.Core.Logic.{_↔_}
 use mathlib.Core.Bool.{true, false}
-use mathlib.Core.List.{List, [], _∷_, _++_}
+use mathlib.Core.List.{[], _∷_, _++_}
 use lib.ListN.{length, drop, replicate}
 use lib.Dec.{T}
 use lib.IntN.{ℤ}
-use Rattle.meaning.specs.Grammar.{Grammar}
+use Rattle.meaning.specs.Grammar.{Grammar, TableBytes, Area, ProgramBuilder}
 use Rattle.meaning.specs.Value.{mark}
-use Rattle.meaning.specs.Sets.{TokenSet, has, endNumber}
+use Rattle.meaning.specs.Sets.{TokenSet, setSize, has, endNumber}
 use Rattle.meaning.specs.Judgement.{Accepted, Judged, rejected}
 use Rattle.meaning.specs.Calls.{waiting, closed, outer, Record, isOpen, Stacks, Answer, refused, tableRefused, lentOf}
 use Rattle.meaning.specs.Fit.{Fit}
@@ -21,7 +21,7 @@ use Rattle.meaning_preview.specs.Preview.{isShort, previews, noRefusal, 
 -- ==== turned back before any token is tried
 
 -- which number, and whether the table is met: 30, the table, 33, 40, 34, and 39 after them
-pub data Turned (program : Grammar → List ℕ) (bs area : List ℕ) (r : Record) (m s : Stacks) : Answer → List ℕ → Type 0 where
+pub data Turned (program : ProgramBuilder) (bs : TableBytes) (area : Area) (r : Record) (m s : Stacks) : Answer → Area → Type 0 where
   short : length area < areaLength → Turned program bs area r m s (refused 30 0) area
   badTable : areaLength ≤ length area → (n o : ℕ) → Judged bs (rejected n o) → Turned program bs area r m s (tableRefused n o) area
   isClosed : areaLength ≤ length area → (g : Grammar) → Accepted bs g → r .status ≡ closed → Turned program bs area r m s (refused 33 0) (written (program g) area)
@@ -34,7 +34,8 @@ pub data Turned (program : Grammar → List ℕ) (bs area : List ℕ) (r : Recor
 -- the record comes back as brought, the scratch is not written; and the set's call is turned back as a preview is
 abbrev pub PreviewTurnedBack : Type 0
 PreviewTurnedBack =
-    (program : Grammar → List ℕ) (bs area : List ℕ) (r : Record) (m s : Stacks) (v : ℤ) (a : Answer) (words : List ℕ) → Turned program bs area r m s a words
+    (program : ProgramBuilder) (bs : TableBytes) (area : Area) (r : Record) (m s : Stacks) (v : ℤ) (a : Answer) (words : Area)
+    → Turned program bs area r m s a words
     → ((k : ℕ) → previews program bs area r m s k v ≡ record { answer = a; state = r; stacks = s; area = words }) × (mays program bs area r m s v ≡ mayEffect (turned a) s words)
 
 -- ==== the preview
@@ -47,7 +48,8 @@ pub record Tidy (m s after : Stacks) : Type 0 where
 -- 02 (g): "the answer, record and both heights that feeding that token would give, equal to feeding it on a copy of record and stacks"
 abbrev pub PreviewIsFeed : Type 0
 PreviewIsFeed =
-    (program : Grammar → List ℕ) (bs area : List ℕ) (g : Grammar) (r : Record) (m s : Stacks) (k : ℕ) (v : ℤ) → Met bs g area r m → isShort m s ≡ false
+    (program : ProgramBuilder) (bs : TableBytes) (area : Area) (g : Grammar) (r : Record) (m s : Stacks) (k : ℕ) (v : ℤ)
+    → Met bs g area r m → isShort m s ≡ false
     → (previews program bs area r m s k v .answer ≡ performs program bs area r m (feed (k ∷ []) (v ∷ [])) .answer)
     × (previews program bs area r m s k v .state ≡ performs program bs area r m (feed (k ∷ []) (v ∷ [])) .state)
     × (previews program bs area r m s k v .area ≡ performs program bs area r m (feed (k ∷ []) (v ∷ [])) .area)
@@ -56,26 +58,26 @@ PreviewIsFeed =
 -- ==== the set
 
 -- 02 (g): "complete and without extras": of all numbers just those are in it whose preview is no refusal. The end is not
-pub record MayExactly (program : Grammar → List ℕ) (bs area : List ℕ) (g : Grammar) (r : Record) (m s : Stacks) (v : ℤ) : Type 0 where
+pub record MayExactly (program : ProgramBuilder) (bs : TableBytes) (area : Area) (g : Grammar) (r : Record) (m s : Stacks) (v : ℤ) : Type 0 where
   pub set : TokenSet
   pub answered : mays program bs area r m s v .answer ≡ tokens set
   pub exactly : (t : ℕ) → T (has set t) ↔ T (noRefusal (previews program bs area r m s t v .answer))
-  pub isWide : length set ≡ 64
+  pub isWide : length set ≡ setSize
   pub notTheEnd : has set endNumber ≡ false
   pub isArea : mays program bs area r m s v .area ≡ written (program g) area
   pub isTidy : Tidy m s (mays program bs area r m s v .scratch)
 
 abbrev pub MaySet : Type 0
 MaySet =
-    (program : Grammar → List ℕ) (bs area : List ℕ) (g : Grammar) (r : Record) (m s : Stacks) (v : ℤ) → Met bs g area r m → isShort m s ≡ false
+    (program : ProgramBuilder) (bs : TableBytes) (area : Area) (g : Grammar) (r : Record) (m s : Stacks) (v : ℤ) → Met bs g area r m → isShort m s ≡ false
     → MayExactly program bs area g r m s v
 
 -- ==== these are all
 
 -- every call is turned back by one of the numbers above, or meets its table, a run that fits and scratch that is long enough
-pub data PreviewCase (program : Grammar → List ℕ) (bs area : List ℕ) (r : Record) (m s : Stacks) : Type 0 where
-  back : (a : Answer) (words : List ℕ) → Turned program bs area r m s a words → PreviewCase program bs area r m s
+pub data PreviewCase (program : ProgramBuilder) (bs : TableBytes) (area : Area) (r : Record) (m s : Stacks) : Type 0 where
+  back : (a : Answer) (words : Area) → Turned program bs area r m s a words → PreviewCase program bs area r m s
   goesOn : (g : Grammar) → Met bs g area r m → isShort m s ≡ false → PreviewCase program bs area r m s
 
 abbrev pub PreviewCases : Type 0
-PreviewCases = (program : Grammar → List ℕ) (bs area : List ℕ) (r : Record) (m s : Stacks) → PreviewCase program bs area r m s
+PreviewCases = (program : ProgramBuilder) (bs : TableBytes) (area : Area) (r : Record) (m s : Stacks) → PreviewCase program bs area r m s

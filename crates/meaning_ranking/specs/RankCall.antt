@@ -6,7 +6,7 @@ use lib.ListN.{length, take, drop}
 use lib.Dec.{eqb, ltb, leb}
 use lib.IntN.{ℤ, pos}
 use Rattle.meaning.specs.Base.{total}
-use Rattle.meaning.specs.Grammar.{Grammar}
+use Rattle.meaning.specs.Grammar.{Grammar, TableBytes, Area, ProgramBuilder, TokenKinds, TokenValues}
 use Rattle.meaning.specs.Table.{grammarOf}
 use Rattle.meaning.specs.Calls.{Stacks, Answer, more, value, refused, tableRefused, Called, openOf, feedOf, finishOf}
 use Rattle.meaning.specs.PublicCalls.{Checked, usable, unusable, check, areaLength, written}
@@ -21,14 +21,14 @@ onward (value v n) c d = c
 onward (refused k n) c d = c
 onward (tableRefused k o) c d = c
 
-abbrev pub fedOn : Grammar → List ℕ → List ℤ → Called → Called
+abbrev pub fedOn : Grammar → TokenKinds → TokenValues → Called → Called
 fedOn g ks vs c = onward (c .answer) c (feedOf g (c .state) (c .stacks) ks vs)
 
 abbrev pub finishedOn : Grammar → Called → Called
 finishedOn g c = onward (c .answer) c (finishOf g (c .state) (c .stacks))
 
 -- 02: "evaluate each in turn on stacks opened afresh": an opening, one feed and, where that answers more, a finish
-abbrev pub evaluated : Grammar → Stacks → List ℕ → List ℤ → Called
+abbrev pub evaluated : Grammar → Stacks → TokenKinds → TokenValues → Called
 evaluated g m ks vs = finishedOn g (fedOn g ks vs (openOf g m))
 
 -- 02: "an entry is its number, counted from 0, its value or else 0, its refusal or else 0". (The last call of a candidate never answers more, nor a table's refusal)
@@ -48,8 +48,12 @@ pub record Evaluation : Type 0 where
 abbrev pub andThen : ℕ → Called → Evaluation → Evaluation
 andThen i c rest = record { entries = entryOf i (c .answer) ∷ rest .entries; stacks = rest .stacks }
 
--- 02: "Candidates come as one token list and their lengths": the candidates from number i on, on stacks m
-abbrev pub evaluations : Grammar → ℕ → List ℕ → List ℕ → List ℤ → Stacks → Evaluation
+-- 02: "Candidates come as one token list and their lengths"
+abbrev pub Lengths : Type 0
+Lengths = List ℕ
+
+-- the candidates from number i on, on stacks m
+abbrev pub evaluations : Grammar → ℕ → Lengths → TokenKinds → TokenValues → Stacks → Evaluation
 evaluations g i [] ks vs m = record { entries = []; stacks = m }
 evaluations g i (n ∷ ns) ks vs m = andThen i (evaluated g m (take n ks) (take n vs)) (evaluations g (suc i) ns (drop n ks) (drop n vs) (evaluated g m (take n ks) (take n vs) .stacks))
 
@@ -61,43 +65,47 @@ pub data RankAnswer : Type 0 where
   -- 37, 30 or 38 with 0; or one of the table's numbers with its offset
   unranked : ℕ → ℕ → RankAnswer
 
+-- 02: "a list buffer with fewer entries than candidates": the cells of a lent list
+abbrev pub ListBuffer : Type 0
+ListBuffer = List ℤ
+
 pub record RankEffect : Type 0 where
   pub answer : RankAnswer
-  pub list : List ℤ
+  pub list : ListBuffer
   pub stacks : Stacks
-  pub area : List ℕ
+  pub area : Area
 
-abbrev pub rankEffect : RankAnswer → List ℤ → Stacks → List ℕ → RankEffect
+abbrev pub rankEffect : RankAnswer → ListBuffer → Stacks → Area → RankEffect
 rankEffect a list m area = record { answer = a; list = list; stacks = m; area = area }
 
 -- 02: "More than 512 of them, lengths that don't add up to the list, or a list buffer with fewer entries than candidates, are turned back as 37"
-abbrev pub inOrder : List ℕ → List ℕ → List ℤ → Bool
+abbrev pub inOrder : Lengths → TokenKinds → ListBuffer → Bool
 inOrder lengths ks list = leb (length lengths) 512 && eqb (total lengths) (length ks) && leb (length lengths) (length list / 3)
 
 -- the list in order, and past it the cells as they were
-abbrev pub listed : Evaluation → List ℤ → List ℕ → RankEffect
+abbrev pub listed : Evaluation → ListBuffer → Area → RankEffect
 listed e list area = rankEffect (ranked (valuedOf (e .entries)) (totalOf (e .entries)) (length (e .entries))) (cellsOf (ranking (e .entries)) ++ drop (length (cellsOf (e .entries))) list) (e .stacks) area
 
 -- 02 (e): 38 "after the table's refusals where no record is brought", "with no list or sheet written"
-abbrev pub rankEven : Bool → List ℤ → Stacks → List ℕ → RankEffect → RankEffect
+abbrev pub rankEven : Bool → ListBuffer → Stacks → Area → RankEffect → RankEffect
 rankEven false list m area done = rankEffect (unranked 38 0) list m area
 rankEven true list m area done = done
 
-abbrev pub rankUnder : (Grammar → List ℕ) → Checked → List ℕ → List ℕ → List ℕ → List ℤ → List ℤ → Stacks → RankEffect
+abbrev pub rankUnder : ProgramBuilder → Checked → Area → Lengths → TokenKinds → TokenValues → ListBuffer → Stacks → RankEffect
 rankUnder program (unusable n o) area lengths ks vs list m = rankEffect (unranked n o) list m area
 rankUnder program (usable s) area lengths ks vs list m =
     let g = grammarOf s in
     let area′ = written (program g) area in
     rankEven (eqb (length ks) (length vs)) list m area′ (listed (evaluations g 0 lengths ks vs m) list area′)
 
-abbrev pub rankLong : (Grammar → List ℕ) → Bool → List ℕ → List ℕ → List ℕ → List ℕ → List ℤ → List ℤ → Stacks → RankEffect
+abbrev pub rankLong : ProgramBuilder → Bool → TableBytes → Area → Lengths → TokenKinds → TokenValues → ListBuffer → Stacks → RankEffect
 rankLong program true bs area lengths ks vs list m = rankEffect (unranked 30 0) list m area
 rankLong program false bs area lengths ks vs list m = rankUnder program (check bs) area lengths ks vs list m
 
-abbrev pub rankSuited : (Grammar → List ℕ) → Bool → List ℕ → List ℕ → List ℕ → List ℕ → List ℤ → List ℤ → Stacks → RankEffect
+abbrev pub rankSuited : ProgramBuilder → Bool → TableBytes → Area → Lengths → TokenKinds → TokenValues → ListBuffer → Stacks → RankEffect
 rankSuited program false bs area lengths ks vs list m = rankEffect (unranked 37 0) list m area
 rankSuited program true bs area lengths ks vs list m = rankLong program (ltb (length area) areaLength) bs area lengths ks vs list m
 
--- table, area, lengths, kinds, values, list, stacks. 02: 37 "before 30 is judged; on this and on 30 or the table's refusals the list buffer is not written"
-abbrev pub rankOf : (Grammar → List ℕ) → List ℕ → List ℕ → List ℕ → List ℕ → List ℤ → List ℤ → Stacks → RankEffect
+-- 02: 37 "before 30 is judged; on this and on 30 or the table's refusals the list buffer is not written"
+abbrev pub rankOf : ProgramBuilder → TableBytes → Area → Lengths → TokenKinds → TokenValues → ListBuffer → Stacks → RankEffect
 rankOf program bs area lengths ks vs list m = rankSuited program (inOrder lengths ks list) bs area lengths ks vs list m

@@ -9,9 +9,9 @@ use lib.IntN.{pos, negsuc}
 use Rattle.meaning.specs.Grammar.{Grammar}
 use Rattle.meaning.specs.Calls.{value, refused}
 use Rattle.meaning.specs.PublicCalls.{areaLength, written}
-use Rattle.meaning.specs.Words.{words}
-use Rattle.meaning.specs.TableRows.{bytes}
-use Rattle.meaning.specs.CallRows.{m, state, stacks, used, called}
+use Rattle.meaning.specs.Examples.Words.{words}
+use Rattle.meaning.specs.Examples.TableRows.{bytes}
+use Rattle.meaning.specs.Examples.CallRows.{m, state, stacks, used, called}
 use Rattle.meaning_ranking.specs.Ranking.{entry, before, place, rankedOnto, ranking, cellsOf, totalOf, valuedOf}
 use Rattle.meaning_ranking.specs.RankCall.{evaluated, evaluations, inOrder, ranked, unranked, rankEffect, rankOf}
 

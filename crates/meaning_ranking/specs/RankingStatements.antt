@@ -9,7 +9,7 @@ use lib.Dec.{T, eqb}
 use lib.IntN.{ℤ, pos}
 use lib.Signed.{ltZ}
 use Rattle.meaning.specs.Base.{In, all, any}
-use Rattle.meaning.specs.Grammar.{Grammar, leaves}
+use Rattle.meaning.specs.Grammar.{Grammar, leaves, TableBytes, Area, ProgramBuilder, TokenKinds, TokenValues}
 use Rattle.meaning.specs.Rules.{fourBytes}
 use Rattle.meaning.specs.Value as Value
 use Rattle.meaning.specs.Judgement.{Accepted}
@@ -20,19 +20,19 @@ use Rattle.meaning.specs.Calls as Calls
 use Rattle.meaning.specs.Calls.{Stacks, Answer, lentOf, tokensFrom}
 use Rattle.meaning.specs.PublicCalls.{areaLength}
 use Rattle.meaning_ranking.specs.Ranking.{Entry, entry, number, value, valued, Ranks, cellsOf, totalOf, valuedOf}
-use Rattle.meaning_ranking.specs.RankCall.{evaluated, entryOf, evaluations, RankEffect, ranked, unranked, inOrder, rankOf}
+use Rattle.meaning_ranking.specs.RankCall.{evaluated, entryOf, evaluations, RankEffect, ranked, unranked, inOrder, rankOf, Lengths, ListBuffer}
 
 -- 02: "Candidates come as one token list and their lengths"
 pub record Candidate : Type 0 where
-  pub kinds : List ℕ
-  pub values : List ℤ
+  pub kinds : TokenKinds
+  pub values : TokenValues
 
-abbrev pub candidatesOf : List ℕ → List ℕ → List ℤ → List Candidate
+abbrev pub candidatesOf : Lengths → TokenKinds → TokenValues → List Candidate
 candidatesOf [] ks vs = []
 candidatesOf (n ∷ ns) ks vs = record { kinds = take n ks; values = take n vs } ∷ candidatesOf ns (drop n ks) (drop n vs)
 
 -- an accepted table, and candidates that are not turned back. (The values are signed 32-bit numbers: the type of what a caller lends)
-pub record Brought (bs area : List ℕ) (g : Grammar) (lengths ks : List ℕ) (vs list : List ℤ) : Type 0 where
+pub record Brought (bs : TableBytes) (area : Area) (g : Grammar) (lengths : Lengths) (ks : TokenKinds) (vs : TokenValues) (list : ListBuffer) : Type 0 where
   pub accepts : Accepted bs g
   pub long : areaLength ≤ length area
   pub suits : inOrder lengths ks list ≡ true
@@ -40,13 +40,13 @@ pub record Brought (bs area : List ℕ) (g : Grammar) (lengths ks : List ℕ) (v
   pub lendable : T (all fourBytes vs)
 
 -- the entries in candidate order
-abbrev pub entriesFor : Grammar → List ℕ → List ℕ → List ℤ → Stacks → List Entry
+abbrev pub entriesFor : Grammar → Lengths → TokenKinds → TokenValues → Stacks → List Entry
 entriesFor g lengths ks vs m = evaluations g 0 lengths ks vs m .entries
 
 -- ---- the list
 
 -- 02: "list them, highest value first, equal values by lower candidate number" with "each candidate .. exactly once": the list holds the one list that is in order and has each entry once, the cells past it are as they were, and the report is theirs
-pub record RankedAs (es : List Entry) (lengths : List ℕ) (list : List ℤ) (e : RankEffect) : Type 0 where
+pub record RankedAs (es : List Entry) (lengths : Lengths) (list : ListBuffer) (e : RankEffect) : Type 0 where
   pub order : List Entry
   pub ranks : Ranks es order
   pub only : (rs : List Entry) → Ranks es rs → rs ≡ order
@@ -55,7 +55,8 @@ pub record RankedAs (es : List Entry) (lengths : List ℕ) (list : List ℤ) (e 
 
 abbrev pub RankedExactly : Type 0
 RankedExactly =
-    (program : Grammar → List ℕ) (bs area : List ℕ) (g : Grammar) (lengths ks : List ℕ) (vs list : List ℤ) (m : Stacks) → Brought bs area g lengths ks vs list
+    (program : ProgramBuilder) (bs : TableBytes) (area : Area) (g : Grammar) (lengths : Lengths) (ks : TokenKinds) (vs : TokenValues) (list : ListBuffer)
+    (m : Stacks) → Brought bs area g lengths ks vs list
     → RankedAs (entriesFor g lengths ks vs m) lengths list (rankOf program bs area lengths ks vs list m)
 
 -- of two entries the first stands in front: 02's words
@@ -74,7 +75,7 @@ none = entry (pos 0) (pos 0) (pos 0)
 
 abbrev pub RankedInFront : Type 0
 RankedInFront =
-    (g : Grammar) (lengths ks : List ℕ) (vs : List ℤ) (m : Stacks) (rs : List Entry) → Ranks (entriesFor g lengths ks vs m) rs
+    (g : Grammar) (lengths : Lengths) (ks : TokenKinds) (vs : TokenValues) (m : Stacks) (rs : List Entry) → Ranks (entriesFor g lengths ks vs m) rs
     → (i j : ℕ) → i < j → j < length rs → Front (getD rs i none) (getD rs j none)
 
 -- ---- what each entry says
@@ -91,7 +92,8 @@ lastLeft g m s (c ∷ cs) = lastLeft g m (evaluated g m (c .kinds) (c .values) .
 -- 02: "on stacks opened afresh": each candidate answers what it answers alone on the stacks as brought
 abbrev pub RankedAlone : Type 0
 RankedAlone =
-    (bs area : List ℕ) (g : Grammar) (lengths ks : List ℕ) (vs list : List ℤ) (m : Stacks) → Brought bs area g lengths ks vs list
+    (bs : TableBytes) (area : Area) (g : Grammar) (lengths : Lengths) (ks : TokenKinds) (vs : TokenValues) (list : ListBuffer) (m : Stacks)
+    → Brought bs area g lengths ks vs list
     → (entriesFor g lengths ks vs m ≡ numbered 0 (map (λ c. evaluated g m (c .kinds) (c .values) .answer) (candidatesOf lengths ks vs)))
     × (evaluations g 0 lengths ks vs m .stacks ≡ lastLeft g m m (candidatesOf lengths ks vs))
 
@@ -106,12 +108,13 @@ candidateAnswer (Calls.more n) = false
 candidateAnswer (Calls.tableRefused k o) = false
 
 abbrev pub RankedAnswers : Type 0
-RankedAnswers = (bs : List ℕ) (g : Grammar) (m : Stacks) (ks : List ℕ) (vs : List ℤ) → Accepted bs g → length ks ≡ length vs → T (all fourBytes vs) → T (candidateAnswer (evaluated g m ks vs .answer))
+RankedAnswers = (bs : TableBytes) (g : Grammar) (m : Stacks) (ks : TokenKinds) (vs : TokenValues) → Accepted bs g → length ks ≡ length vs → T (all fourBytes vs) → T (candidateAnswer (evaluated g m ks vs .answer))
 
 -- demand 2 for each candidate: its entry has the value v exactly where its tokens have a well evaluated tree with that value whose walk fits the lent stacks
 abbrev pub RankedValues : Type 0
 RankedValues =
-    (bs area : List ℕ) (g : Grammar) (lengths ks : List ℕ) (vs list : List ℤ) (m : Stacks) → Brought bs area g lengths ks vs list
+    (bs : TableBytes) (area : Area) (g : Grammar) (lengths : Lengths) (ks : TokenKinds) (vs : TokenValues) (list : ListBuffer) (m : Stacks)
+    → Brought bs area g lengths ks vs list
     → (earlier later : List Candidate) (c : Candidate) → candidatesOf lengths ks vs ≡ earlier ++ (c ∷ later) → (v : ℤ)
     → In (entry (pos (length earlier)) v (pos 0)) (entriesFor g lengths ks vs m) ↔ ((t : Tree) × TreeOf g (leaves g (tokensFrom (c .kinds) (c .values))) t × WalkFits g (lentOf m) t × (valueOf g t ≡ v))
 
@@ -123,7 +126,8 @@ unnumbered (entry n v r) = entry (pos 0) v r
 -- the same candidates in another order: the same values and refusals, each as often, and the same report
 abbrev pub RankedAnyOrder : Type 0
 RankedAnyOrder =
-    (bs area : List ℕ) (g : Grammar) (lengths ks : List ℕ) (vs list : List ℤ) (lengths′ ks′ : List ℕ) (vs′ list′ : List ℤ) (m : Stacks)
+    (bs : TableBytes) (area : Area) (g : Grammar) (lengths : Lengths) (ks : TokenKinds) (vs : TokenValues) (list : ListBuffer)
+    (lengths′ : Lengths) (ks′ : TokenKinds) (vs′ : TokenValues) (list′ : ListBuffer) (m : Stacks)
     → Brought bs area g lengths ks vs list → Brought bs area g lengths′ ks′ vs′ list′ → Shuffled (candidatesOf lengths ks vs) (candidatesOf lengths′ ks′ vs′)
     → (rs rs′ : List Entry) → Ranks (entriesFor g lengths ks vs m) rs → Ranks (entriesFor g lengths′ ks′ vs′ m) rs′
     → Shuffled (map unnumbered rs) (map unnumbered rs′) × (totalOf rs ≡ totalOf rs′) × (valuedOf rs ≡ valuedOf rs′)
@@ -133,5 +137,5 @@ RankedAnyOrder =
 -- 02: "the list buffer is not written", and the stacks are as brought
 abbrev pub RankedUntouched : Type 0
 RankedUntouched =
-    (program : Grammar → List ℕ) (bs area lengths ks : List ℕ) (vs list : List ℤ) (m : Stacks) (n o : ℕ) → rankOf program bs area lengths ks vs list m .answer ≡ unranked n o
+    (program : ProgramBuilder) (bs : TableBytes) (area : Area) (lengths : Lengths) (ks : TokenKinds) (vs : TokenValues) (list : ListBuffer) (m : Stacks) (n o : ℕ) → rankOf program bs area lengths ks vs list m .answer ≡ unranked n o
     → (rankOf program bs area lengths ks vs list m .list ≡ list) × (rankOf program bs area lengths ks vs list m .stacks ≡ m)

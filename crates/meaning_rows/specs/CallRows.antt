@@ -5,9 +5,9 @@ use mathlib.Core.List.{[], _∷_}
 use lib.ListN.{replicate, drop}
 use lib.IntN.{pos}
 use Rattle.meaning.specs.Calls.{value, lentOf, openOf}
-use Rattle.meaning.specs.Words.{words}
-use Rattle.meaning.specs.SchemeRows.{wide}
-use Rattle.meaning.specs.CallRows.{m, state, stacks, called, used, thenFeed, thenFinish}
+use Rattle.meaning.specs.Examples.Words.{words}
+use Rattle.meaning.specs.Examples.SchemeRows.{wide}
+use Rattle.meaning.specs.Examples.CallRows.{m, state, stacks, called, used, thenFeed, thenFinish}
 
 -- in one list or in two: the same
 fed-at-once : thenFeed words (0 ∷ 1 ∷ []) (openOf words (used 8 5)) ≡ thenFeed words (1 ∷ []) (thenFeed words (0 ∷ []) (openOf words (used 8 5)))

@@ -18,11 +18,11 @@ use Rattle.meaning.specs.Table.{conditionOf}
 use Rattle.meaning.specs.Machine.{Settled, stopped, failed, opening, feedAll, finishAll}
 use Rattle.meaning.specs.Program.{conditionWords}
 use Rattle.meaning.specs.Listing.{conditionText}
-use Rattle.meaning.specs.ListingRows.{codes}
-use Rattle.meaning.specs.Words.{occ, rule, lent, plain}
-use Rattle.meaning.specs.Samples.{handDown, handUp, inFirst}
-use Rattle.meaning.specs.SetRows.{low-high, entries}
-use Rattle.meaning.specs.CompareRows.{far}
+use Rattle.meaning.specs.Examples.ListingRows.{codes}
+use Rattle.meaning.specs.Examples.Words.{occ, rule, lent, plain}
+use Rattle.meaning.specs.Examples.Samples.{handDown, handUp, inFirst}
+use Rattle.meaning.specs.Examples.SetRows.{low-high, entries}
+use Rattle.meaning.specs.Examples.CompareRows.{far}
 
 -- ---- as bytes
 

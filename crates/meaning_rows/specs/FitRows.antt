@@ -11,9 +11,9 @@ use lib.Dec.{lit<, lit≤}
 use Rattle.meaning.specs.Grammar.{nonterminal}
 use Rattle.meaning.specs.Calls.{more, refused, stacksFit, openOf, finishOf}
 use Rattle.meaning.specs.Fit.{Fit, segment, inside}
-use Rattle.meaning.specs.Words.{words}
-use Rattle.meaning.specs.SchemeRows.{wide}
-use Rattle.meaning.specs.CallRows.{m, state, stacks, called, feedKinds}
+use Rattle.meaning.specs.Examples.Words.{words}
+use Rattle.meaning.specs.Examples.SchemeRows.{wide}
+use Rattle.meaning.specs.Examples.CallRows.{m, state, stacks, called, feedKinds}
 
 -- ---- what a run leaves after word open: 7 registers and 4 places, 8 and 5 lent
 
@@ -101,7 +101,9 @@ start-left-heights = refl
 -- ---- registers
 
 -- marked where the picture marks, valued where it values: each of the seven with the other in its place
-marked-and-valued : map (registers 7) ((pos 0 ∷ m ∷ pos 0 ∷ m ∷ pos 0 ∷ m ∷ pos 1 ∷ m ∷ []) ∷ (m ∷ pos 0 ∷ pos 0 ∷ m ∷ pos 0 ∷ m ∷ pos 1 ∷ m ∷ []) ∷ (m ∷ m ∷ m ∷ m ∷ pos 0 ∷ m ∷ pos 1 ∷ m ∷ []) ∷ (m ∷ m ∷ pos 0 ∷ pos 0 ∷ pos 0 ∷ m ∷ pos 1 ∷ m ∷ []) ∷ (m ∷ m ∷ pos 0 ∷ m ∷ m ∷ m ∷ pos 1 ∷ m ∷ []) ∷ (m ∷ m ∷ pos 0 ∷ m ∷ pos 0 ∷ pos 0 ∷ pos 1 ∷ m ∷ []) ∷ (m ∷ m ∷ pos 0 ∷ m ∷ pos 0 ∷ m ∷ m ∷ m ∷ []) ∷ []) ≡ replicate 7 false
+marked-and-valued : map (registers 7) ((pos 0 ∷ m ∷ pos 0 ∷ m ∷ pos 0 ∷ m ∷ pos 1 ∷ m ∷ []) ∷ (m ∷ pos 0 ∷ pos 0 ∷ m ∷ pos 0 ∷ m ∷ pos 1 ∷ m ∷ [])
+    ∷ (m ∷ m ∷ m ∷ m ∷ pos 0 ∷ m ∷ pos 1 ∷ m ∷ []) ∷ (m ∷ m ∷ pos 0 ∷ pos 0 ∷ pos 0 ∷ m ∷ pos 1 ∷ m ∷ []) ∷ (m ∷ m ∷ pos 0 ∷ m ∷ m ∷ m ∷ pos 1 ∷ m ∷ [])
+    ∷ (m ∷ m ∷ pos 0 ∷ m ∷ pos 0 ∷ pos 0 ∷ pos 1 ∷ m ∷ []) ∷ (m ∷ m ∷ pos 0 ∷ m ∷ pos 0 ∷ m ∷ m ∷ m ∷ []) ∷ []) ≡ replicate 7 false
 marked-and-valued = refl
 
 -- only the mark is marked
@@ -116,7 +118,11 @@ one-too-many : registers 8 (after-open ++ (pos 1 ∷ [])) ≡ false
 one-too-many = refl
 
 -- what a symbol already passed has synthesized is valued; what the waiting one will synthesize is marked: X to Y 0 X Y at X
-passed-and-waiting : map (λ rs. stacksFit wide (state true 2 14 9 3) (stacks rs (32768 ∷ 0 ∷ 258 ∷ []))) ((m ∷ m ∷ pos 4 ∷ pos 3 ∷ pos 8 ∷ pos 7 ∷ m ∷ pos 3 ∷ pos 7 ∷ []) ∷ (m ∷ m ∷ pos 4 ∷ pos 3 ∷ m ∷ pos 7 ∷ m ∷ pos 3 ∷ pos 7 ∷ []) ∷ (m ∷ m ∷ pos 4 ∷ pos 3 ∷ pos 8 ∷ m ∷ m ∷ pos 3 ∷ pos 7 ∷ []) ∷ (m ∷ m ∷ pos 4 ∷ pos 3 ∷ pos 8 ∷ pos 7 ∷ pos 9 ∷ pos 3 ∷ pos 7 ∷ []) ∷ (m ∷ m ∷ pos 4 ∷ pos 3 ∷ pos 8 ∷ pos 7 ∷ m ∷ m ∷ pos 7 ∷ []) ∷ (m ∷ pos 9 ∷ pos 4 ∷ pos 3 ∷ pos 8 ∷ pos 7 ∷ m ∷ pos 3 ∷ pos 7 ∷ []) ∷ []) ≡ true ∷ replicate 5 false
+passed-and-waiting : map (λ rs. stacksFit wide (state true 2 14 9 3) (stacks rs (32768 ∷ 0 ∷ 258 ∷ [])))
+    ((m ∷ m ∷ pos 4 ∷ pos 3 ∷ pos 8 ∷ pos 7 ∷ m ∷ pos 3 ∷ pos 7 ∷ []) ∷ (m ∷ m ∷ pos 4 ∷ pos 3 ∷ m ∷ pos 7 ∷ m ∷ pos 3 ∷ pos 7 ∷ [])
+    ∷ (m ∷ m ∷ pos 4 ∷ pos 3 ∷ pos 8 ∷ m ∷ m ∷ pos 3 ∷ pos 7 ∷ []) ∷ (m ∷ m ∷ pos 4 ∷ pos 3 ∷ pos 8 ∷ pos 7 ∷ pos 9 ∷ pos 3 ∷ pos 7 ∷ [])
+    ∷ (m ∷ m ∷ pos 4 ∷ pos 3 ∷ pos 8 ∷ pos 7 ∷ m ∷ m ∷ pos 7 ∷ []) ∷ (m ∷ pos 9 ∷ pos 4 ∷ pos 3 ∷ pos 8 ∷ pos 7 ∷ m ∷ pos 3 ∷ pos 7 ∷ []) ∷ [])
+    ≡ true ∷ replicate 5 false
 passed-and-waiting = refl
 
 -- ---- the rest is cleared, up to what is lent now, and no further
@@ -184,7 +190,12 @@ declared-passed = record {
   moves = lit≤ tt;
   registerHeight = lit≤ tt;
   placeHeight = lit≤ tt;
-  stands = inl (nonterminal 1, inside 2 3 (pos 3 ∷ []) (pos 5 ∷ []) (lit< tt) (lit< tt) (lit< tt) (record { size = refl; ranged = tt }) (record { size = refl; ranged = tt }) (inside 0 0 (pos 0 ∷ []) [] (lit< tt) (lit< tt) (lit< tt) (record { size = refl; ranged = tt }) (record { size = refl; ranged = tt }) (segment [] (record { size = refl; ranged = tt }))));
+  stands = inl (
+    nonterminal 1,
+    inside 2 3 (pos 3 ∷ []) (pos 5 ∷ []) (lit< tt) (lit< tt) (lit< tt) (record { size = refl; ranged = tt }) (record { size = refl; ranged = tt })
+        (inside 0 0 (pos 0 ∷ []) [] (lit< tt) (lit< tt) (lit< tt) (record { size = refl; ranged = tt }) (record { size = refl; ranged = tt })
+        (segment [] (record { size = refl; ranged = tt }))),
+  );
   registersCleared = λ i l h. absurd (omega (arith, l, h));
   placesCleared = λ i l h. absurd (omega (arith, l, h));
 }

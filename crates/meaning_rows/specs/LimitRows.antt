@@ -8,7 +8,7 @@ use Rattle.meaning.specs.Table.{Read, wellFormed, malformed, readTable, State, 
 use Rattle.meaning.specs.Judgement.{rejected}
 use Rattle.meaning.specs.Decide.{verdictOf}
 use Rattle.meaning.specs.Layout.{field}
-use Rattle.meaning.specs.Samples.{header, counts, heads, sToA, handDown, handUp}
+use Rattle.meaning.specs.Examples.Samples.{header, counts, heads, sToA, handDown, handUp}
 
 abbrev repeat : ℕ → List ℕ → List ℕ
 repeat zero bs = []
@@ -56,7 +56,16 @@ entry = record { offset = 12; left = 0; right = []; rules = []; conditions = [] 
 
 -- n productions, of which the last has no rules
 counted : ℕ → ℕ → ℕ → State
-counted productions rules conditions = record { header = some (record { terminals = 1; nonterminals = 1; start = 0; result = 1 }); counts = record { inherited = 0; synthesized = 8 } ∷ []; countsOffsets = 7 ∷ []; carrying = []; entries = replicate productions entry; rules = rules; conditions = conditions }
+counted productions rules conditions =
+    record {
+      header = some (record { terminals = 1; nonterminals = 1; start = 0; result = 1 });
+      counts = record { inherited = 0; synthesized = 8 } ∷ [];
+      countsOffsets = 7 ∷ [];
+      carrying = [];
+      entries = replicate productions entry;
+      rules = rules;
+      conditions = conditions;
+    }
 
 field-of : ℕ → List ℕ → Field
 field-of tag body = record { offset = 17; tag = tag; body = body }

@@ -4,10 +4,10 @@ use mathlib.Core.List.{[], _∷_, _++_, map}
 use lib.IntN.{pos, negsuc}
 use Rattle.meaning.specs.Listing.{number, integer, refusalLine, productionLines}
 use Rattle.meaning.specs.PublicCalls.{joined, printed}
-use Rattle.meaning.specs.Samples.{functions, small}
-use Rattle.meaning.specs.SchemeRows.{wide, wide1}
-use Rattle.meaning.specs.Words.{words}
-use Rattle.meaning.specs.ListingRows.{codes}
+use Rattle.meaning.specs.Examples.Samples.{functions, small}
+use Rattle.meaning.specs.Examples.SchemeRows.{wide, wide1}
+use Rattle.meaning.specs.Examples.Words.{words}
+use Rattle.meaning.specs.Examples.ListingRows.{codes}
 
 codes-are-bytes : codes "0 A1 -2\n" ≡ 48 ∷ 32 ∷ 65 ∷ 49 ∷ 32 ∷ 45 ∷ 50 ∷ 10 ∷ []
 codes-are-bytes = refl
@@ -33,7 +33,10 @@ refused-field = refl
 
 -- ---- each function, both kinds of condition; those of a position stand after its A and E lines
 
-listing-of-functions : printed functions ≡ codes "0 A1 3\n0 E1 1 const -7\n0 P1 range 1 -2147483648 2147483647\n0 P1 atmost 1 2\n0 E0 3 copy 1\n0 E0 4 sum 1 2\n0 E0 5 diff 1 2\n0 E0 6 prod 1 2\n0 E0 7 max 1 2\n0 E0 8 min 1 2\n0 E0 9 addc 1 -500\n0 E0 10 quot 1 1000000\n0 R 2\n1 E0 2 copy 1\n1 E0 3 const 2\n1 R 1\n"
+listing-of-functions : printed functions ≡
+    codes "0 A1 3\n0 E1 1 const -7\n0 P1 range 1 -2147483648 2147483647\n0 P1 atmost 1 2\n"
+    ++ (codes "0 E0 3 copy 1\n0 E0 4 sum 1 2\n0 E0 5 diff 1 2\n0 E0 6 prod 1 2\n0 E0 7 max 1 2\n0 E0 8 min 1 2\n0 E0 9 addc 1 -500\n0 E0 10 quot 1 1000000\n0 R 2\n"
+    ++ codes "1 E0 2 copy 1\n1 E0 3 const 2\n1 R 1\n")
 unfolding functions
 listing-of-functions = refl
 

@@ -16,13 +16,13 @@ use Rattle.meaning.specs.Part.{fresh, added, valued, left, closing, Ancestor, c
 use Rattle.meaning.specs.Selectors.{partAt, Found}
 use Rattle.meaning.specs.CallStatements.{Handles}
 use Rattle.meaning.specs.Statements.{Returned}
-use Rattle.meaning.specs.Words.{occ, rule, bare}
-use Rattle.meaning.specs.SchemeRows.{wide, wide1}
-use Rattle.meaning.specs.WalkRows.{wideTree}
-use Rattle.meaning.specs.CallRows.{m}
-use Rattle.meaning.specs.PartRows.{open-node, waits-at, X, Y, y1, x3, in-X}
+use Rattle.meaning.specs.Examples.Words.{occ, rule, bare}
+use Rattle.meaning.specs.Examples.SchemeRows.{wide, wide1}
+use Rattle.meaning.specs.Examples.WalkRows.{wideTree}
+use Rattle.meaning.specs.Examples.CallRows.{m}
+use Rattle.meaning.specs.Examples.PartRows.{open-node, waits-at, X, Y, y1, x3, in-X}
 use Rattle.meaning_rows.specs.PartRows.{y4}
-use Rattle.meaning.specs.NegativeRows.{number}
+use Rattle.meaning.specs.Examples.NegativeRows.{number}
 
 -- ---- telling values apart
 

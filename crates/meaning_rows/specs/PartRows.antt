@@ -10,11 +10,11 @@ use Rattle.meaning.specs.Machine.{Config, moved, blocked, opening, next, lookAt
 use Rattle.meaning.specs.Tree.{Tree, leaf, node, noTrees, treeAnd}
 use Rattle.meaning.specs.Part.{fresh, added, valued, left, closing, Part, yieldPart, valueIn, drawFrames, drawRegisters, drawPart, forestOnto, Good, PartOf}
 use Rattle.meaning.specs.Selectors.{partAt, partNames, FindsTarget}
-use Rattle.meaning.specs.Words.{words, bare, plain, occ, lent}
-use Rattle.meaning.specs.SchemeRows.{wide}
-use Rattle.meaning.specs.WalkRows.{wideTree, wideSegment}
-use Rattle.meaning.specs.CallRows.{m}
-use Rattle.meaning.specs.PartRows.{open-node, waits-at, X, Y, y1, x3, in-X, last-added}
+use Rattle.meaning.specs.Examples.Words.{words, bare, plain, occ, lent}
+use Rattle.meaning.specs.Examples.SchemeRows.{wide}
+use Rattle.meaning.specs.Examples.WalkRows.{wideTree, wideSegment}
+use Rattle.meaning.specs.Examples.CallRows.{m}
+use Rattle.meaning.specs.Examples.PartRows.{open-node, waits-at, X, Y, y1, x3, in-X, last-added}
 
 -- ---- word open
 

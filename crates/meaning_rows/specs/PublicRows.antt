@@ -6,14 +6,15 @@ use mathlib.Core.List.{List, [], _∷_, _++_, map}
 use lib.ListN.{replicate, length, drop}
 use lib.Dec.{ltb}
 use lib.IntN.{pos, negsuc}
+use Rattle.meaning.specs.Value.{quotient, floored}
 use Rattle.meaning.specs.Calls.{more, value, refused, tableRefused, closedRecord}
 use Rattle.meaning.specs.PublicCalls.{called, feed, finish, areaLength, written, opens, performs, stretchOf, turned, programmed, made, madeOf}
 use Rattle.meaning.specs.Program.{programOf}
-use Rattle.meaning.specs.Words.{words}
-use Rattle.meaning.specs.Samples.{small, functions}
-use Rattle.meaning.specs.TableRows.{bytes}
-use Rattle.meaning.specs.CallRows.{m, state, stacks, used}
-use Rattle.meaning.specs.PublicRows.{program, effect}
+use Rattle.meaning.specs.Examples.Words.{words}
+use Rattle.meaning.specs.Examples.Samples.{small, functions}
+use Rattle.meaning.specs.Examples.TableRows.{bytes}
+use Rattle.meaning.specs.Examples.CallRows.{m, state, stacks, used}
+use Rattle.meaning.specs.Examples.PublicRows.{program, effect}
 
 abbrev Long : List ℕ → Type 0
 Long area = ltb (length area) areaLength ≡ false
@@ -84,8 +85,10 @@ performs-unfit area h = rw (h, called)
 
 -- ---- each function, run: n of A is -7, its m is 2, and the registers of S lie the first attribute on top
 
-runs-functions : (area : List ℕ) → Long area → performs program functions area (state true 0 0 8 1) (stacks (replicate 12 m) (32768 ∷ 0 ∷ 0 ∷ [])) (feed (0 ∷ []) (pos 0 ∷ [])) .stacks ≡ stacks (pos 0 ∷ negsuc 506 ∷ negsuc 6 ∷ pos 2 ∷ negsuc 13 ∷ negsuc 8 ∷ negsuc 4 ∷ negsuc 6 ∷ m ∷ m ∷ m ∷ m ∷ []) (32769 ∷ 0 ∷ 0 ∷ [])
-unfolding functions
+runs-functions : (area : List ℕ) → Long area
+    → performs program functions area (state true 0 0 8 1) (stacks (replicate 12 m) (32768 ∷ 0 ∷ 0 ∷ [])) (feed (0 ∷ []) (pos 0 ∷ [])) .stacks
+    ≡ stacks (pos 0 ∷ negsuc 506 ∷ negsuc 6 ∷ pos 2 ∷ negsuc 13 ∷ negsuc 8 ∷ negsuc 4 ∷ negsuc 6 ∷ m ∷ m ∷ m ∷ m ∷ []) (32769 ∷ 0 ∷ 0 ∷ [])
+unfolding functions quotient floored
 runs-functions area h = rw (h, called)
 
 -- ---- the stretch of a production, from its tag 3 to the next or the end; the lent numbers held 9 and 8

@@ -7,10 +7,10 @@ use lib.ListN.{replicate}
 use lib.IntN.{ℤ, pos}
 use Rattle.meaning.specs.Grammar.{terminal, nonterminal, const, copy, range, Grammar}
 use Rattle.meaning.specs.Calls.{Called, more, value, refused, openOf, finishOf}
-use Rattle.meaning.specs.Words.{words, p0, p1, p2, occ, rule}
-use Rattle.meaning.specs.SchemeRows.{wide}
-use Rattle.meaning.specs.CallRows.{m, state, stacks, called, used, feedKinds, thenFeed, thenFinish}
-use Rattle.meaning.specs.RefusalRows.{sums}
+use Rattle.meaning.specs.Examples.Words.{words, p0, p1, p2, occ, rule}
+use Rattle.meaning.specs.Examples.SchemeRows.{wide}
+use Rattle.meaning.specs.Examples.CallRows.{m, state, stacks, called, used, feedKinds, thenFeed, thenFinish}
+use Rattle.meaning.specs.Examples.RefusalRows.{sums}
 
 -- ---- 20: not below T, judged before its moves; what was read before stands, the rest of the list is ignored
 

@@ -10,9 +10,9 @@ use Rattle.meaning.specs.Table.{readTable}
 use Rattle.meaning.specs.Judgement.{Verdict, accepted, rejected}
 use Rattle.meaning.specs.Decide.{verdictOf}
 use Rattle.meaning.specs.Layout.{field}
-use Rattle.meaning.specs.Words.{occ, rule}
-use Rattle.meaning.specs.TableRows.{grammar}
-use Rattle.meaning.specs.Samples.{header, counts, handDown, handUp, firstProduction, aToToken, inFirst, inLast, functions}
+use Rattle.meaning.specs.Examples.Words.{occ, rule}
+use Rattle.meaning.specs.Examples.TableRows.{grammar}
+use Rattle.meaning.specs.Examples.Samples.{header, counts, handDown, handUp, firstProduction, aToToken, inFirst, inLast, functions}
 
 -- ---- what is read
 
@@ -26,7 +26,9 @@ functions-read : grammar (readTable functions) ≡ record {
   productions = record {
     left = 0;
     right = nonterminal 1 ∷ [];
-    rules = rule (occ 1 1) (const (negsuc 6)) ∷ rule (occ 0 1) (copy (occ 1 2)) ∷ rule (occ 0 2) (sum (occ 1 2) (occ 1 3)) ∷ rule (occ 0 3) (diff (occ 1 2) (occ 1 3)) ∷ rule (occ 0 4) (prod (occ 1 2) (occ 1 3)) ∷ rule (occ 0 5) (maxi (occ 1 2) (occ 1 3)) ∷ rule (occ 0 6) (mini (occ 1 2) (occ 1 3)) ∷ rule (occ 0 7) (addc (occ 1 2) (negsuc 499)) ∷ rule (occ 0 8) (quot (occ 1 2) (pos 1000000)) ∷ [];
+    rules = rule (occ 1 1) (const (negsuc 6)) ∷ rule (occ 0 1) (copy (occ 1 2)) ∷ rule (occ 0 2) (sum (occ 1 2) (occ 1 3))
+        ∷ rule (occ 0 3) (diff (occ 1 2) (occ 1 3)) ∷ rule (occ 0 4) (prod (occ 1 2) (occ 1 3)) ∷ rule (occ 0 5) (maxi (occ 1 2) (occ 1 3))
+        ∷ rule (occ 0 6) (mini (occ 1 2) (occ 1 3)) ∷ rule (occ 0 7) (addc (occ 1 2) (negsuc 499)) ∷ rule (occ 0 8) (quot (occ 1 2) (pos 1000000)) ∷ [];
     conditions = range (occ 1 2) (negsuc 2147483647) (pos 2147483647) ∷ atmost (occ 1 2) (occ 1 3) none ∷ [];
   } ∷ record { left = 1; right = terminal 0 ∷ []; rules = rule (occ 0 2) (copy (occ 0 1)) ∷ rule (occ 0 3) (const (pos 2)) ∷ []; conditions = [] } ∷ [];
 }
@@ -90,7 +92,10 @@ unknown-target = refl
 terminal-target : verdictOf (firstProduction ++ (aToToken ++ field 4 (1 ∷ 1 ∷ 0 ∷ 0 ∷ 0 ∷ 0 ∷ 0 ∷ []))) ≡ rejected 5 47
 terminal-target = refl
 
-unknown-operand : map (λ f. inFirst (field 4 (0 ∷ 1 ∷ f))) ((1 ∷ 2 ∷ 1 ∷ []) ∷ (2 ∷ 2 ∷ 1 ∷ 1 ∷ 2 ∷ []) ∷ (2 ∷ 1 ∷ 2 ∷ 2 ∷ 1 ∷ []) ∷ (3 ∷ 1 ∷ 2 ∷ 1 ∷ 0 ∷ []) ∷ (4 ∷ 1 ∷ 2 ∷ 1 ∷ 3 ∷ []) ∷ (5 ∷ 1 ∷ 2 ∷ 9 ∷ 9 ∷ []) ∷ (6 ∷ 9 ∷ 9 ∷ 1 ∷ 2 ∷ []) ∷ (7 ∷ 2 ∷ 1 ∷ 0 ∷ 0 ∷ 0 ∷ 0 ∷ []) ∷ (8 ∷ 2 ∷ 1 ∷ 0 ∷ 0 ∷ 0 ∷ 1 ∷ []) ∷ []) ≡ replicate 9 (rejected 5 23)
+unknown-operand : map (λ f. inFirst (field 4 (0 ∷ 1 ∷ f)))
+    ((1 ∷ 2 ∷ 1 ∷ []) ∷ (2 ∷ 2 ∷ 1 ∷ 1 ∷ 2 ∷ []) ∷ (2 ∷ 1 ∷ 2 ∷ 2 ∷ 1 ∷ []) ∷ (3 ∷ 1 ∷ 2 ∷ 1 ∷ 0 ∷ []) ∷ (4 ∷ 1 ∷ 2 ∷ 1 ∷ 3 ∷ [])
+    ∷ (5 ∷ 1 ∷ 2 ∷ 9 ∷ 9 ∷ []) ∷ (6 ∷ 9 ∷ 9 ∷ 1 ∷ 2 ∷ []) ∷ (7 ∷ 2 ∷ 1 ∷ 0 ∷ 0 ∷ 0 ∷ 0 ∷ []) ∷ (8 ∷ 2 ∷ 1 ∷ 0 ∷ 0 ∷ 0 ∷ 1 ∷ []) ∷ [])
+    ≡ replicate 9 (rejected 5 23)
 unknown-operand = refl
 
 -- 5 before 7: n of A is an input, and the operand is unknown
@@ -106,7 +111,10 @@ sets-left-input : verdictOf (firstProduction ++ (aToToken ++ field 4 (0 ∷ 1 �
 sets-left-input = refl
 
 -- d of A, n of S; as first and as second operand
-reads-output : map (λ f. inFirst (field 4 (0 ∷ 1 ∷ f))) ((1 ∷ 1 ∷ 1 ∷ []) ∷ (1 ∷ 0 ∷ 1 ∷ []) ∷ (2 ∷ 1 ∷ 1 ∷ 1 ∷ 2 ∷ []) ∷ (2 ∷ 1 ∷ 2 ∷ 1 ∷ 1 ∷ []) ∷ (3 ∷ 1 ∷ 2 ∷ 0 ∷ 1 ∷ []) ∷ (4 ∷ 1 ∷ 2 ∷ 1 ∷ 1 ∷ []) ∷ (5 ∷ 1 ∷ 2 ∷ 1 ∷ 1 ∷ []) ∷ (6 ∷ 1 ∷ 1 ∷ 1 ∷ 2 ∷ []) ∷ (7 ∷ 1 ∷ 1 ∷ 0 ∷ 0 ∷ 0 ∷ 0 ∷ []) ∷ (8 ∷ 1 ∷ 1 ∷ 0 ∷ 0 ∷ 0 ∷ 1 ∷ []) ∷ []) ≡ replicate 10 (rejected 7 23)
+reads-output : map (λ f. inFirst (field 4 (0 ∷ 1 ∷ f)))
+    ((1 ∷ 1 ∷ 1 ∷ []) ∷ (1 ∷ 0 ∷ 1 ∷ []) ∷ (2 ∷ 1 ∷ 1 ∷ 1 ∷ 2 ∷ []) ∷ (2 ∷ 1 ∷ 2 ∷ 1 ∷ 1 ∷ []) ∷ (3 ∷ 1 ∷ 2 ∷ 0 ∷ 1 ∷ []) ∷ (4 ∷ 1 ∷ 2 ∷ 1 ∷ 1 ∷ [])
+    ∷ (5 ∷ 1 ∷ 2 ∷ 1 ∷ 1 ∷ []) ∷ (6 ∷ 1 ∷ 1 ∷ 1 ∷ 2 ∷ []) ∷ (7 ∷ 1 ∷ 1 ∷ 0 ∷ 0 ∷ 0 ∷ 0 ∷ []) ∷ (8 ∷ 1 ∷ 1 ∷ 0 ∷ 0 ∷ 0 ∷ 1 ∷ []) ∷ [])
+    ≡ replicate 10 (rejected 7 23)
 reads-output = refl
 
 -- 7 before 8 and before 9
@@ -198,7 +206,15 @@ comparison-elsewhere = refl
 
 -- S to A; A to B, B to the token: n of B is compared with d of A, either way
 with-left : List ℕ → Verdict
-with-left o = verdictOf (header 1 3 0 1 ++ (counts 0 1 ++ (counts 1 0 ++ (counts 0 1 ++ (field 3 (0 ∷ 1 ∷ 129 ∷ []) ++ (field 4 (1 ∷ 1 ∷ 0 ∷ 0 ∷ 0 ∷ 0 ∷ 0 ∷ []) ++ (field 4 (0 ∷ 1 ∷ 0 ∷ 0 ∷ 0 ∷ 0 ∷ 0 ∷ []) ++ (field 3 (1 ∷ 1 ∷ 130 ∷ []) ++ (field 5 (1 ∷ o) ++ (field 3 (2 ∷ 1 ∷ 0 ∷ []) ++ field 4 (0 ∷ 1 ∷ 0 ∷ 0 ∷ 0 ∷ 0 ∷ 0 ∷ [])))))))))))
+with-left o =
+    verdictOf (header 1 3 0 1
+    ++ (counts 0 1
+    ++ (counts 1 0
+    ++ (counts 0 1
+    ++ (field 3 (0 ∷ 1 ∷ 129 ∷ [])
+    ++ (field 4 (1 ∷ 1 ∷ 0 ∷ 0 ∷ 0 ∷ 0 ∷ 0 ∷ [])
+    ++ (field 4 (0 ∷ 1 ∷ 0 ∷ 0 ∷ 0 ∷ 0 ∷ 0 ∷ [])
+    ++ (field 3 (1 ∷ 1 ∷ 130 ∷ []) ++ (field 5 (1 ∷ o) ++ (field 3 (2 ∷ 1 ∷ 0 ∷ []) ++ field 4 (0 ∷ 1 ∷ 0 ∷ 0 ∷ 0 ∷ 0 ∷ 0 ∷ [])))))))))))
 
 comparison-with-left : map with-left ((0 ∷ 1 ∷ 1 ∷ 1 ∷ []) ∷ (1 ∷ 1 ∷ 0 ∷ 1 ∷ []) ∷ []) ≡ accepted ∷ accepted ∷ []
 unfolding with-left

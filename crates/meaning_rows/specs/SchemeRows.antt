@@ -4,8 +4,8 @@ use mathlib.Core.List.{[], _∷_, map}
 use lib.IntN.{pos, negsuc}
 use Rattle.meaning.specs.Grammar.{terminal, nonterminal, range, conditionPosition, productionAt, symbolAt, att}
 use Rattle.meaning.specs.Scheme.{expect, remove, scheme, entryTests, selectInherited, selectAfter}
-use Rattle.meaning.specs.Words.{words, occ}
-use Rattle.meaning.specs.SchemeRows.{X, Y, wide1, wide}
+use Rattle.meaning.specs.Examples.Words.{words, occ}
+use Rattle.meaning.specs.Examples.SchemeRows.{X, Y, wide1, wide}
 
 -- ---- symbols and positions
 

@@ -7,9 +7,9 @@ use Rattle.meaning.specs.Table.{readTable}
 use Rattle.meaning.specs.Judgement.{accepted, rejected}
 use Rattle.meaning.specs.Decide.{verdictOf}
 use Rattle.meaning.specs.Sets.{nullable, first, follow, starts, singleton, _∪_}
-use Rattle.meaning.specs.TableRows.{grammar}
-use Rattle.meaning.specs.Samples.{header, counts}
-use Rattle.meaning.specs.SetRows.{table, s, a, b, verdict, low-high, entries}
+use Rattle.meaning.specs.Examples.TableRows.{grammar}
+use Rattle.meaning.specs.Examples.Samples.{header, counts}
+use Rattle.meaning.specs.Examples.SetRows.{table, s, a, b, verdict, low-high, entries}
 
 -- ---- sets: S to A B 0; A to 1 B or nothing; B to 2 or nothing
 

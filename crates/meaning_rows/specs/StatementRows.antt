@@ -20,10 +20,10 @@ use Rattle.meaning.specs.Inner.{isClosed, InnerCall, engine, giveUp}
 use Rattle.meaning.specs.InnerLists.{Step, innerRun}
 use Rattle.meaning.specs.CallStatements.{handedBack, Refuses, tooMany, notToken, atToken, atEnd, between, MovesTo, CallsMoveOf}
 use Rattle.meaning.specs.Statements.{History, opened, countsForNothing, innerEnded, fed, finished}
-use Rattle.meaning.specs.Words.{words, plain}
-use Rattle.meaning.specs.TableRows.{bytes}
-use Rattle.meaning.specs.CallRows.{m, state, stacks, used}
-use Rattle.meaning.specs.StatementRows.{program, area, long, feedKinds, stuck, fresh, Answered, lent, not-by}
+use Rattle.meaning.specs.Examples.Words.{words, plain}
+use Rattle.meaning.specs.Examples.TableRows.{bytes}
+use Rattle.meaning.specs.Examples.CallRows.{m, state, stacks, used}
+use Rattle.meaning.specs.Examples.StatementRows.{program, area, long, feedKinds, stuck, fresh, Answered, lent, not-by}
 
 -- ---- a list of calls: word open close in two pieces
 

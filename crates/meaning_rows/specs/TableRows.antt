@@ -5,7 +5,7 @@ use lib.ListN.{replicate}
 use Rattle.meaning.specs.Judgement.{rejected}
 use Rattle.meaning.specs.Decide.{verdictOf}
 use Rattle.meaning.specs.Layout.{field}
-use Rattle.meaning.specs.Samples.{header, counts, sToA, handDown, firstProduction, aToToken, afterHeads, inFirst}
+use Rattle.meaning.specs.Examples.Samples.{header, counts, sToA, handDown, firstProduction, aToToken, afterHeads, inFirst}
 
 -- ---- 2: a field cut short. A wrong tag that is also cut short is a 2
 

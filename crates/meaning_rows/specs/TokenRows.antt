@@ -23,14 +23,14 @@ use Rattle.meaning.specs.Fit.{Fit, segment, inside}
 use Rattle.meaning.specs.PublicCalls.{printed}
 use Rattle.meaning.specs.Program.{programOf}
 use Rattle.meaning.specs.Table.{readTable}
-use Rattle.meaning.specs.Words.{words, occ, bare, lent}
-use Rattle.meaning.specs.TableRows.{grammar}
-use Rattle.meaning.specs.ListingRows.{codes}
-use Rattle.meaning.specs.CallRows.{m, state, stacks, called, used, thenFeed, thenFinish}
+use Rattle.meaning.specs.Examples.Words.{words, occ, bare, lent}
+use Rattle.meaning.specs.Examples.TableRows.{grammar}
+use Rattle.meaning.specs.Examples.ListingRows.{codes}
+use Rattle.meaning.specs.Examples.CallRows.{m, state, stacks, called, used, thenFeed, thenFinish}
 use Rattle.meaning_rows.specs.WalkRows.{acts}
-use Rattle.meaning.specs.PartRows.{open-node, waits-at}
+use Rattle.meaning.specs.Examples.PartRows.{open-node, waits-at}
 use Rattle.meaning_rows.specs.PartRows.{after}
-use Rattle.meaning.specs.TokenRows.{thenBring, carrier, r, lengths1, lengths, lengthsTable, pair, X, mixed1, mixed, mixedTree}
+use Rattle.meaning.specs.Examples.TokenRows.{thenBring, carrier, r, lengths1, lengths, lengthsTable, pair, X, mixed1, mixed, mixedTree}
 
 -- ---- the grammar of words and tags, where a word carries its length and n adds the lengths up
 
@@ -91,7 +91,38 @@ lengthTree =
     noTrees))) noTrees)
 
 length-tree : TreeOf lengths lengthLeaves lengthTree
-length-tree = record { evaluated = (record { listed = lit< tt; symbol = refl; size = refl; ranges = tt; rules = (refl, (refl, tt)); conditions = tt }, ((record { listed = lit< tt; symbol = refl; size = refl; ranges = tt; rules = (refl, (refl, tt)); conditions = tt }, ((refl, tt), ((record { listed = lit< tt; symbol = refl; size = refl; ranges = tt; rules = (refl, (refl, (refl, tt))); conditions = tt }, ((refl, tt), ((record { listed = lit< tt; symbol = refl; size = refl; ranges = tt; rules = (refl, (refl, tt)); conditions = tt }, ((refl, tt), ((record { listed = lit< tt; symbol = refl; size = refl; ranges = tt; rules = (refl, tt); conditions = tt }, tt), tt))), ((refl, tt), ((record { listed = lit< tt; symbol = refl; size = refl; ranges = tt; rules = (refl, tt); conditions = tt }, tt), tt))))), tt))), tt)); read = refl }
+length-tree =
+    record {
+      evaluated = (
+        record { listed = lit< tt; symbol = refl; size = refl; ranges = tt; rules = (refl, (refl, tt)); conditions = tt },
+        (
+          (
+            record { listed = lit< tt; symbol = refl; size = refl; ranges = tt; rules = (refl, (refl, tt)); conditions = tt },
+            (
+              (refl, tt),
+              (
+                (
+                  record { listed = lit< tt; symbol = refl; size = refl; ranges = tt; rules = (refl, (refl, (refl, tt))); conditions = tt },
+                  (
+                    (refl, tt),
+                    (
+                      (
+                        record { listed = lit< tt; symbol = refl; size = refl; ranges = tt; rules = (refl, (refl, tt)); conditions = tt },
+                        ((refl, tt), ((record { listed = lit< tt; symbol = refl; size = refl; ranges = tt; rules = (refl, tt); conditions = tt }, tt), tt)),
+                      ),
+                      ((refl, tt), ((record { listed = lit< tt; symbol = refl; size = refl; ranges = tt; rules = (refl, tt); conditions = tt }, tt), tt)),
+                    ),
+                  ),
+                ),
+                tt,
+              ),
+            ),
+          ),
+          tt,
+        ),
+      );
+      read = refl;
+    }
 
 -- a leaf has exactly its terminal's values, in range: a word without one or with two, an open with one, a length out of range
 leaf-sizes : map (isLeafOf lengths) (carrier 0 (pos 5) ∷ bare 1 ∷ bare 0 ∷ record { kind = 0; values = pos 1 ∷ pos 2 ∷ [] } ∷ carrier 1 (pos 5) ∷ carrier 0 (pos 1000000000001) ∷ carrier 0 m ∷ []) ≡ true ∷ true ∷ replicate 5 false
@@ -148,7 +179,9 @@ a-read : map (λ v. thenBring pair (0 ∷ []) (v ∷ []) (openOf pair (used 3 2)
 a-read = refl
 
 -- 22: the token is read and stands, its place does not count it
-a-too-great : map (λ v. thenBring pair (0 ∷ []) (v ∷ []) (openOf pair (used 3 2))) (pos 10 ∷ negsuc 0 ∷ []) ≡ called (refused 22 1) (state false 1 2 2 2) (stacks (m ∷ pos 10 ∷ m ∷ []) (32768 ∷ 0 ∷ [])) ∷ called (refused 22 1) (state false 1 2 2 2) (stacks (m ∷ negsuc 0 ∷ m ∷ []) (32768 ∷ 0 ∷ [])) ∷ []
+a-too-great : map (λ v. thenBring pair (0 ∷ []) (v ∷ []) (openOf pair (used 3 2))) (pos 10 ∷ negsuc 0 ∷ [])
+    ≡ called (refused 22 1) (state false 1 2 2 2) (stacks (m ∷ pos 10 ∷ m ∷ []) (32768 ∷ 0 ∷ []))
+    ∷ called (refused 22 1) (state false 1 2 2 2) (stacks (m ∷ negsuc 0 ∷ m ∷ []) (32768 ∷ 0 ∷ [])) ∷ []
 a-too-great = refl
 
 -- both sides of each bound, and of the comparison
@@ -252,7 +285,26 @@ abbrev pub mixedLeaves : List Leaf
 mixedLeaves = carrier 0 (pos 7) ∷ bare 2 ∷ carrier 1 (pos 20) ∷ bare 2 ∷ []
 
 mixed-tree : TreeOf mixed mixedLeaves mixedTree
-mixed-tree = record { evaluated = (record { listed = lit< tt; symbol = refl; size = refl; ranges = tt; rules = (refl, (refl, tt)); conditions = tt }, ((record { listed = lit< tt; symbol = refl; size = refl; ranges = tt; rules = (refl, (refl, (refl, tt))); conditions = tt }, ((refl, tt), ((record { listed = lit< tt; symbol = refl; size = refl; ranges = tt; rules = (refl, tt); conditions = tt }, ((refl, tt), tt)), ((refl, tt), ((record { listed = lit< tt; symbol = refl; size = refl; ranges = tt; rules = (refl, tt); conditions = tt }, ((refl, tt), tt)), tt))))), tt)); read = refl }
+mixed-tree =
+    record {
+      evaluated = (
+        record { listed = lit< tt; symbol = refl; size = refl; ranges = tt; rules = (refl, (refl, tt)); conditions = tt },
+        (
+          (
+            record { listed = lit< tt; symbol = refl; size = refl; ranges = tt; rules = (refl, (refl, (refl, tt))); conditions = tt },
+            (
+              (refl, tt),
+              (
+                (record { listed = lit< tt; symbol = refl; size = refl; ranges = tt; rules = (refl, tt); conditions = tt }, ((refl, tt), tt)),
+                ((refl, tt), ((record { listed = lit< tt; symbol = refl; size = refl; ranges = tt; rules = (refl, tt); conditions = tt }, ((refl, tt), tt)), tt)),
+              ),
+            ),
+          ),
+          tt,
+        ),
+      );
+      read = refl;
+    }
 
 mixed-walk : acts 50 mixed (lent 9 4) mixedLeaves (opening mixed) ≡ walk mixed mixedTree
 mixed-walk = refl

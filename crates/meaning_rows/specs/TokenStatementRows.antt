@@ -10,7 +10,7 @@ use Rattle.meaning.specs.PublicCalls.{feed}
 use Rattle.meaning.specs.CallStatements.{Lendable, Even, tokensOf}
 use Rattle.meaning.specs.MarkedToken.{kinds}
 use Rattle.meaning.specs.TokenStatements.{SameWhereCarried}
-use Rattle.meaning.specs.TokenRows.{lengths}
+use Rattle.meaning.specs.Examples.TokenRows.{lengths}
 
 -- ---- the lists of a feed
 

@@ -14,11 +14,11 @@ use Rattle.meaning.specs.Tree.{Tree, leaf, node, noTrees, treeAnd, valueOf}
 use Rattle.meaning.specs.Walk.{Act, predicts, reads, performs, walk, walkTo, actBy, Makes, nothing, andThen}
 use Rattle.meaning.specs.Drawn.{registersFor, depth, WalkFits, drawnRecord, drawnStacks, drawnMoves}
 use Rattle.meaning.specs.Calls.{Called, more, value, refused, openOf}
-use Rattle.meaning.specs.Words.{words, bare, plain, lent}
-use Rattle.meaning.specs.Pictures.{tree, segment}
-use Rattle.meaning.specs.SchemeRows.{wide}
-use Rattle.meaning.specs.CallRows.{m, called, used, thenFeed, thenFinish}
-use Rattle.meaning.specs.WalkRows.{wideTree, wideSegment}
+use Rattle.meaning.specs.Examples.Words.{words, bare, plain, lent}
+use Rattle.meaning.specs.Examples.Pictures.{tree, segment}
+use Rattle.meaning.specs.Examples.SchemeRows.{wide}
+use Rattle.meaning.specs.Examples.CallRows.{m, called, used, thenFeed, thenFinish}
+use Rattle.meaning.specs.Examples.WalkRows.{wideTree, wideSegment}
 
 abbrev r : ℕ → Function ℕ → Rule ℕ
 r t f = record { target = t; function = f }
@@ -70,7 +70,14 @@ machine-walks : acts 50 words (lent 9 6) (plain segment) (opening words) ≡ wal
 machine-walks = refl
 
 -- its first two moves, as a sequence of moves
-two-moves : Makes words (lent 9 6) (plain segment) (opening words) (predicts 0 ∷ performs 0 (add 2) ∷ []) (plain segment) (record { frames = record { production = 0; rest = evaluate (r 1 (const (pos 0)) ∷ []) ∷ expect (nonterminal 1) ∷ evaluate (r 2 (copy 1) ∷ []) ∷ remove 1 ∷ [] } ∷ record { production = 128; rest = expect (nonterminal 0) ∷ [] } ∷ []; registers = m ∷ m ∷ m ∷ []; tokens = 0; moves = 2 })
+two-moves : Makes words (lent 9 6) (plain segment) (opening words) (predicts 0 ∷ performs 0 (add 2) ∷ []) (plain segment)
+    (record {
+      frames = record { production = 0; rest = evaluate (r 1 (const (pos 0)) ∷ []) ∷ expect (nonterminal 1) ∷ evaluate (r 2 (copy 1) ∷ []) ∷ remove 1 ∷ [] }
+          ∷ record { production = 128; rest = expect (nonterminal 0) ∷ [] } ∷ [];
+      registers = m ∷ m ∷ m ∷ [];
+      tokens = 0;
+      moves = 2;
+    })
 two-moves = andThen _ _ _ _ _ (andThen _ _ _ _ _ nothing refl refl) refl refl
 
 -- the evaluations of one move read the registers as they stood before it

@@ -8,9 +8,9 @@ use Rattle.meaning.specs.Rules.{fourBytes}
 use Rattle.theory_answers.specs.ShapeMoves.{IsAhead}
 use Rattle.moves.specs.declared.Run.{Run}
 use Rattle.moves.specs.Passing.{comingOf}
-use Rattle.machine.specs.Advancing.{Running}
+use Rattle.next_token.specs.Operations.{Running}
 use Rattle.looking.specs.Judging.{valueAt}
-use Rattle.machine.specs.Feeding.{comes-is, comes-ahead}
+use Rattle.next_token.specs.Coming.{comes-is, comes-ahead}
 
 pub record Facing (ws : List ℕ) (m : List ℤ) (ps : List ℕ) (run : Run) (u : ℕ) (v : ℤ) : Type 0 where
   pub running : Running ws m ps run

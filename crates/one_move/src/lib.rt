@@ -19,11 +19,11 @@ pub fn one(
     ensures { λ r. ⌜ Answers (now (program .entry)) (now (registers .entry)) (now (places .entry)) run (comingOf look value) (now (registers .exit)) (now (places .exit)) r ⌝ }
 {
     match moves::word_at(program, run.at) % 8 {
-        0 => moves::add(registers, program, run),
-        1 => moves::evaluate(registers, program, run),
-        2 => moves::read(registers, places, program, run, look, value),
-        3 => predict::predict(registers, places, program, run, look),
-        4 => moves::test(registers, places, program, run),
-        _ => moves::remove(registers, places, program, run),
+        operations::ADD => move_rules::add(registers, program, run),
+        operations::EVALUATE => move_rules::evaluate(registers, program, run),
+        operations::READ => move_read::read(registers, places, program, run, look, value),
+        operations::PREDICT => predict::predict(registers, places, program, run, look),
+        operations::TEST => move_remove::test(registers, places, program, run),
+        _ => move_remove::remove(registers, places, program, run),
     }
 }

@@ -7,13 +7,11 @@ ghost use Rattle.meaning.specs.Calls.{openOf};
 ghost use Rattle.meaning.specs.PublicCalls.{stacksOf};
 ghost use Rattle.theory_program.specs.Addresses.{Begins};
 ghost use Rattle.records.specs.Records.{handedIs};
+use limits::SEGMENT;
 use records::Answer;
 use records::Handed;
 use records::State;
 use records::not_opened;
-
-// 01: the whole segment's place while the start symbol is waited at.
-const SEGMENT: u32 = 32768;
 
 // On exactly the lent cells. 01: "At opening 31 precedes 32, no stack is written".
 fn open_lent(registers: &mut [i64], places: &mut [u32], program: &[u32]) -> Handed
@@ -47,7 +45,7 @@ pub fn open_cells(registers: &mut [i64], places: &mut [u32], program: &[u32]) ->
     requires { ⌜ 4 < length (now program) ⌝ }
     ensures { λ r. ⌜ ((g : Grammar) → Begins g (now (program .entry)) → handedIs r (now (registers .exit)) (now (places .exit)) ≡ openOf g (stacksOf (now (registers .entry)) (now (places .entry)))) ⌝ }
 {
-    let n = cells::smaller(registers.len(), cells::REGISTERS);
-    let k = cells::smaller(places.len(), cells::PLACES);
+    let n = cells::smaller(registers.len(), limits::REGISTERS);
+    let k = cells::smaller(places.len(), limits::PLACES);
     open_lent(&mut registers[..n], &mut places[..k], program)
 }

@@ -29,7 +29,7 @@ use Rattle.moves.specs.Laid.{LaidIn, laid-size}
 use Rattle.moves.specs.Ahead.{Ahead, ahead-scheme, place-begins}
 use Rattle.moves.specs.Held.{Held, Made, Hand, hand-nonterminal, hand-proper, next-is}
 use Rattle.moves.specs.Passing.{lookOf, look-number}
-use Rattle.predict.specs.Predicting.{recordOf, holdsAt, holds-here, at-record, at-scheme, Leads, Led}
+use Rattle.alternatives.specs.Predicting.{recordOf, holdsAt, holds-here, at-record, at-scheme, Leads, Led}
 
 empty-push : (g : Grammar) (lent : Lent) (c : Config) (ps : List ℕ) → isEmpty ps ≡ true → push g lent c ps ≡ blocked 22
 empty-push g lent c [] e = refl

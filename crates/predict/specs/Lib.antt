@@ -1,2 +1,1 @@
-pub mod Predicting
 pub mod Entering

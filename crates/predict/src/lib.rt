@@ -1,90 +1,11 @@
-// The predict: the alternative that is entered, found by the program's words, and its place pushed.
-ghost use Prim.Native.Nat.{ℕ, _+_, _-_, _/_, _%_, _≤_, _<_};
+// The predict: the place of the alternative that is entered is pushed.
+ghost use Prim.Native.Nat.{_<_};
 ghost use mathlib.Core.Path.{_≡_};
-ghost use mathlib.Core.Bool.{true, _&&_};
-ghost use lib.ListN.{length};
-ghost use Rattle.meaning.specs.Grammar.{Grammar};
 ghost use Rattle.meaning.specs.Machine.{Coming, asLook};
-ghost use Rattle.theory_program.specs.Search.{found};
-ghost use Rattle.registers.specs.Stack.{stack};
 ghost use Rattle.moves.specs.Held.{Ready, Answers};
 ghost use Rattle.moves.specs.Passing.{lookOf};
-ghost use Rattle.predict.specs.Predicting.{recordOf, holdsAt, entersAt, Entry, Leads, Led};
 use moves::Run;
 use moves::Step;
-
-// ---- predict
-
-// The address of a production's record, by its number plus 1.
-fn record_of(program: &[u32], p: usize) -> usize
-    requires { ⌜ (2 < length (now program)) × (1 ≤ p) × (p ≤ 128) ⌝ }
-    ensures { λ r. ⌜ r ≡ recordOf (now (program .entry)) p ⌝ }
-{
-    moves::word_at(program, 2) + 8 * (p - 1)
-}
-
-// Whether the set of a production holds what comes next.
-fn holds(program: &[u32], row: usize, look: usize) -> bool
-    requires { ⌜ (row + 8 ≤ length (now program)) × (look < 64) ⌝ }
-    ensures { λ r. ⌜ r ≡ holdsAt (now (program .entry)) row look ⌝ }
-{
-    (moves::word_at(program, row + 2 + look / 32) >> (look % 32)) % 2 == 1
-}
-
-// Whether the entry conditions of a production hold.
-fn enters(registers: &[i64], height: usize, program: &[u32], row: usize) -> bool
-    requires { ⌜ (height ≤ length (now registers)) × Entry (now program) (stack height (now registers)) row ⌝ }
-    ensures { λ r. ⌜ r ≡ entersAt (now (program .entry)) (stack height (now (registers .entry))) row ⌝ }
-{
-    let count = moves::word_at(program, row + 5);
-    let scheme = moves::word_at(program, row + 6);
-    registers::test(registers, height, program, scheme - 3 * count, count)
-}
-
-// Both.
-fn passes(registers: &[i64], height: usize, program: &[u32], row: usize, look: usize) -> bool
-    requires { ⌜ (height ≤ length (now registers)) × Entry (now program) (stack height (now registers)) row × (look < 64) ⌝ }
-    ensures { λ r. ⌜ r ≡ holdsAt (now (program .entry)) row look && entersAt (now (program .entry)) (stack height (now (registers .entry))) row ⌝ }
-{
-    if holds(program, row, look) {
-        return enters(registers, height, program, row);
-    }
-    false
-}
-
-// The first production that passes, by its number plus 1, from the one that a next-word says on; 0 where none does.
-fn later(registers: &[i64], height: usize, program: &[u32], look: usize, from: usize) -> usize
-    requires { ⌜ (height ≤ length (now registers)) × (look < 64) × Led (now program) (stack height (now registers)) from ⌝ }
-    ensures { λ r. ⌜ ((g : Grammar) (n : ℕ) → Leads g (now (program .entry)) (stack height (now (registers .entry))) n from → r ≡ found g (stack height (now (registers .entry))) n (lookOf look) from) ⌝ }
-{
-    let mut p = from;
-    while p != 0 {
-        let row = record_of(program, p);
-        if passes(registers, height, program, row, look) {
-            return p;
-        }
-        p = moves::word_at(program, row + 1);
-    }
-    0
-}
-
-// The same from the one that the directory says, whose set holds what comes next.
-fn find(registers: &[i64], height: usize, program: &[u32], look: usize, first: usize) -> usize
-    requires { ⌜ ((height ≤ length (now registers)) × (look < 64) × Led (now program) (stack height (now registers)) first) × ((first ≡ 0 → ⊥) × (holdsAt (now program) (recordOf (now program) first) look ≡ true)) ⌝ }
-    ensures { λ r. ⌜ ((g : Grammar) (n : ℕ) → Leads g (now (program .entry)) (stack height (now (registers .entry))) n first → r ≡ found g (stack height (now (registers .entry))) n (lookOf look) first) ⌝ }
-{
-    let row = record_of(program, first);
-    if enters(registers, height, program, row) {
-        return first;
-    }
-    later(
-        registers,
-        height,
-        program,
-        look,
-        moves::word_at(program, row + 1),
-    )
-}
 
 // Pushes the place of the alternative found. 01: "22 .. when alternatives hold the token or the end but none has its entry conditions met".
 pub fn predict(
@@ -102,7 +23,7 @@ pub fn predict(
     if first == 0 {
         return Step::Blocked(moves::unexpected(look));
     }
-    let p = find(registers, run.registers, program, look, first);
+    let p = alternatives::find(registers, run.registers, program, look, first);
     if p == 0 {
         return Step::Blocked(22);
     }
@@ -111,7 +32,10 @@ pub fn predict(
         return Step::Blocked(32);
     }
     places[height] = (256 * (p - 1)) as u32;
-    let mut next = moves::counted(run, moves::word_at(program, record_of(program, p) + 6));
+    let mut next = moves::counted(
+        run,
+        moves::word_at(program, alternatives::record_of(program, p) + 6),
+    );
     next.places = height + 1;
     Step::Moved(next)
 }

@@ -12,11 +12,12 @@ use Rattle.meaning.specs.PublicCalls.{Checked, usable, unusable, check, areaLen
 use Rattle.meaning.specs.PublicCalls as Calls
 use Rattle.theory_program.specs.Addresses.{Begins, written-begins}
 use Rattle.table.specs.declared.Sizes.{Sizes}
-use Rattle.checker.specs.Judging.{Brought, Judges}
+use Rattle.checker_outline.specs.Outlined.{Brought}
+use Rattle.checker.specs.Judging.{Judges}
 use Rattle.checker.proofs.Cases.{accepted-case}
-use Rattle.checker.specs.declared.judging.Judged.{Judged}
-use Rattle.checker.specs.declared.judging.Judged.the-variants.{Usable}
-use Rattle.program.proofs.Outlined as Outlined
+use Rattle.checker_grammar.specs.declared.Judged.{Judged}
+use Rattle.checker_grammar.specs.declared.Judged.the-variants.{Usable}
+use Rattle.program_words.specs.Outlined as Outlined
 use Rattle.prepare.specs.declared.Made.{Made}
 use Rattle.prepare.specs.declared.Made.the-variants.{Short, Refused, Written}
 use Rattle.prepare.specs.Making.{madeIs, Standing, Case, MadeAs}

@@ -2,7 +2,8 @@
 ghost use mathlib.Core.Path.{_≡_};
 ghost use Rattle.meaning.specs.PublicCalls.{made, madeOf};
 ghost use Rattle.prepare.specs.Making.{madeIs, MadeAs};
-use checker::judging::Judged;
+use checker_grammar::Judged;
+use limits::AREA;
 
 // The area is too short (30), the table is refused, or its program is written, with its length.
 pub enum Made {
@@ -10,9 +11,6 @@ pub enum Made {
     Refused { number: u32, offset: u32 },
     Written(usize),
 }
-
-// 01: "A program area of at least 16,384 32-bit words is lent".
-const AREA: usize = 16384;
 
 // Writes the program of an accepted table; words beyond it stay as they are, and all of them where there is no program.
 pub fn program_of(table: &[u8], program: &mut [u32]) -> Made

@@ -1,7 +1,3 @@
 pub mod May
-pub mod Scratch
-pub mod Collecting
-pub mod Expected
-pub mod Judging
 pub mod Answering
 pub mod Beginning

@@ -1,59 +1,12 @@
 // The builder: it writes the program of an accepted table, in the layout of docs/PROGRAM.md.
-ghost use Prim.Native.Nat.{_+_, _≤_};
+ghost use Prim.Native.Nat.{_≤_};
 ghost use mathlib.Core.Path.{_≡_};
-ghost use mathlib.Core.List.{[], _∷_};
 ghost use lib.ListN.{length};
 ghost use Rattle.meaning.specs.PublicCalls.{written};
 ghost use Rattle.meaning.specs.Table.{State, grammarOf};
-ghost use Rattle.checker.specs.Judging.{Brought};
-ghost use Rattle.meaning.specs.Program.{segmentWords, programOf};
-ghost use Rattle.blocks.specs.Patch.{Wrote};
-ghost use Rattle.program.specs.Brought.{grammarIn};
-ghost use Rattle.program.specs.Built.{Outlined};
+ghost use Rattle.checker_outline.specs.Outlined.{Brought};
+ghost use Rattle.meaning.specs.Program.{programOf};
 use table::Sizes;
-
-pub mod directory;
-pub mod records;
-
-// Four words; answers the address behind them.
-pub fn put_four(area: &mut [u32], at: usize, a: u32, b: u32, c: u32, d: u32) -> usize
-    requires { ⌜ at + 4 ≤ length (now area) ⌝ }
-    ensures { λ r. ⌜ Wrote (now (area .entry)) (now (area .exit)) at r (a ∷ b ∷ c ∷ d ∷ []) ⌝ }
-{
-    area[at] = a;
-    area[at + 1] = b;
-    area[at + 2] = c;
-    area[at + 3] = d;
-    at + 4
-}
-
-// The words on the whole segment.
-fn write_segment(
-    table: &[u8],
-    rows: &[u8],
-    inherited: &[u8],
-    synthesized: &[u8],
-    offsets: &[u32],
-    sets: &[u64],
-    sizes: Sizes,
-    area: &mut [u32],
-) -> usize
-    requires { ⌜ Outlined (now table) (now rows) (now inherited) (now synthesized) (now offsets) (now sets) sizes × (16384 ≤ length (now area)) ⌝ }
-    ensures { λ r. ⌜ ((x : Outlined (now (table .entry)) (now (rows .entry)) (now (inherited .entry)) (now (synthesized .entry)) (now (offsets .entry)) (now (sets .entry)) sizes) → Wrote (now (area .entry)) (now (area .exit)) 0 r (segmentWords (grammarIn x))) ⌝ }
-{
-    let start = sizes.start as u32;
-    let records = (9 + 64 * sizes.nonterminals) as u32;
-    let terminals = sizes.terminals as u32;
-    let registers = value::byte_at(synthesized, sizes.start);
-    let result = sizes.result as u32;
-    let productions = sizes.productions as u32;
-    let low = (sizes.carrying % 4294967296) as u32;
-    let high = (sizes.carrying / 4294967296) as u32;
-    let next = put_four(area, 0, 3 + 8 * start, 6, records, terminals);
-    let last = put_four(area, next, registers, result, productions, low);
-    area[last] = high;
-    last + 1
-}
 
 // Writes the program; answers its length. Words beyond it stay as they are.
 pub fn build(
@@ -69,7 +22,7 @@ pub fn build(
     requires { ⌜ ((s : State) × Brought (now table) s sizes (now inherited) (now synthesized) (now rows) (now offsets) (now sets)) × (16384 ≤ length (now area)) ⌝ }
     ensures { λ r. ⌜ ((s : State) → Brought (now (table .entry)) s sizes (now (inherited .entry)) (now (synthesized .entry)) (now (rows .entry)) (now (offsets .entry)) (now (sets .entry)) → (now (area .exit) ≡ written (programOf (grammarOf s)) (now (area .entry))) × (r ≡ length (programOf (grammarOf s)))) ⌝ }
 {
-    write_segment(
+    program_segment::write_segment(
         table,
         rows,
         inherited,
@@ -79,8 +32,8 @@ pub fn build(
         sizes,
         area,
     );
-    directory::write_directory(rows, sets, sizes.nonterminals, sizes.productions, area);
-    records::write_productions(
+    program_directory::write_directory(rows, sets, sizes.nonterminals, sizes.productions, area);
+    program_productions::write_productions(
         table,
         rows,
         inherited,

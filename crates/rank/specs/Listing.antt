@@ -1,12 +1,12 @@
--- What the list comes to, and the cases of the call.
+-- The cases of the call.
 use Prim.Native.Nat.{ℕ, _*_, _≤_, _<_}
-use mathlib.Core.Path.{_≡_, sym, ap, ap₂, _∙_, subst}
+use mathlib.Core.Path.{_≡_, sym, ap, ap₂, _∙_}
 use mathlib.Core.Bool.{true, false}
 use mathlib.Core.List.{List, _++_}
 use lib.ListN.{length, drop}
 use lib.Dec.{eqb, ltb}
-use borrow.Author.Tests.{lt-ltb, le-ltb, eq-eqb, ne-eqb}
 use lib.IntN.{ℤ}
+use borrow.Author.Tests.{lt-ltb, le-ltb, eq-eqb, ne-eqb}
 use Rattle.meaning.specs.Grammar.{Grammar}
 use Rattle.meaning.specs.Table.{State, grammarOf}
 use Rattle.meaning.specs.Program.{programOf}
@@ -14,37 +14,15 @@ use Rattle.meaning.specs.Calls.{Stacks}
 use Rattle.meaning.specs.PublicCalls.{stacksOf, usable, unusable, check, areaLength}
 use Rattle.meaning_ranking.specs.Ranking.{Entry, ranking, cellsOf, totalOf, valuedOf}
 use Rattle.meaning_ranking.specs.RankCall.{inOrder, evaluations, rankEffect, unranked, listed, rankEven, rankUnder, rankLong, rankSuited, rankOf}
-use Rattle.theory_ranking.specs.Entries.{entriesOf, Ranged}
+use Rattle.theory_ranking.specs.Entries.{entriesOf}
 use Rattle.theory_ranking.specs.Cells.{length-cells, length-entries}
-use Rattle.theory_ranking.specs.Caller.{listed-ranged, listed-total, listed-valued}
-use Rattle.fit.specs.Shown.{Shown, Readable}
 use Rattle.prepare.specs.Making.{Standing}
+use Rattle.fit.specs.Shown.{Shown, Readable}
 use Rattle.candidates.specs.Each.{AllDone}
-use Rattle.rank.specs.declared.Ranked.{Ranked}
-use Rattle.rank.specs.declared.Ranked.the-variants.{Done, Refused}
+use Rattle.rank_report.specs.declared.Ranked.{Ranked}
+use Rattle.rank_report.specs.declared.Ranked.the-variants.{Done, Refused}
+use Rattle.rank_report.specs.Report.{Reported}
 use Rattle.rank.specs.Answers.{rankAnswerIs, rankIs}
-
--- ---- the report
-
-pub record Reported (count : ℕ) (l₀ l : List ℤ) (r : Ranked) : Type 0 where
-  pub isList : l ≡ cellsOf (ranking (entriesOf count l₀)) ++ drop (3 * count) l₀
-  pub report : r ≡ Done (valuedOf (entriesOf count l₀)) (totalOf (entriesOf count l₀)) count
-
-module _ (count : ℕ) (l₀ l : List ℤ) (room : 3 * count ≤ length l₀) (q : l ≡ cellsOf (ranking (entriesOf count l₀)) ++ drop (3 * count) l₀) where
-  size : length (entriesOf count l₀) ≡ count
-  size = length-entries count l₀ room
-
-  listed-here : l ≡ cellsOf (ranking (entriesOf count l₀)) ++ drop (3 * length (entriesOf count l₀)) l₀
-  listed-here = q ∙ ap (λ n. cellsOf (ranking (entriesOf count l₀)) ++ drop (3 * n) l₀) (sym size)
-
-  pub report-ranged : Ranged (entriesOf count l₀) → Ranged (entriesOf count l)
-  report-ranged r = subst (λ n. Ranged (entriesOf n l)) size (listed-ranged (entriesOf count l₀) l₀ l listed-here r)
-
-  pub reported : (valued : ℕ) (sum : ℤ) → valued ≡ valuedOf (entriesOf count l) → sum ≡ totalOf (entriesOf count l) → Reported count l₀ l (Done valued sum count)
-  reported valued sum a b =
-      let x : valued ≡ valuedOf (entriesOf count l₀) = a ∙ (ap (λ n. valuedOf (entriesOf n l)) (sym size) ∙ listed-valued (entriesOf count l₀) l₀ l listed-here) in
-      let y : sum ≡ totalOf (entriesOf count l₀) = b ∙ (ap (λ n. totalOf (entriesOf n l)) (sym size) ∙ listed-total (entriesOf count l₀) l₀ l listed-here) in
-      record { isList = q; report = ap₂ (λ n t. Done n t count) x y }
 
 -- ---- under a grammar
 

@@ -1,47 +1,15 @@
 // Ranked suggestions, 02 (b): candidate segments under one table, evaluated and listed, highest value first.
-ghost use Prim.Native.Nat.{_*_, _≤_};
 ghost use mathlib.Core.Path.{_≡_};
 ghost use mathlib.Core.Bool.{true};
 ghost use lib.ListN.{length};
 ghost use Rattle.meaning.specs.Program.{programOf};
 ghost use Rattle.meaning.specs.PublicCalls.{stacksOf};
 ghost use Rattle.meaning_ranking.specs.RankCall.{inOrder, rankOf};
-ghost use Rattle.theory_ranking.specs.Entries.{Distinct, Ranged, entriesOf};
 ghost use Rattle.fit.specs.Shown.{Readable};
 ghost use Rattle.rank.specs.Answers.{rankIs};
-ghost use Rattle.rank.specs.Listing.{Reported, ListedAs};
+ghost use Rattle.rank.specs.Listing.{ListedAs};
 use prepare::Made;
-
-pub enum Ranked {
-    // How many were valued, the total of their values, the number of entries written.
-    Done {
-        valued: usize,
-        total: i64,
-        entries: usize,
-    },
-    // 37, 30 or 38 with 0, or one of the table's numbers with its offset.
-    Refused {
-        number: u32,
-        offset: u32,
-    },
-}
-
-// ---- the candidates
-
-// The first `count` entries in order, and what they come to.
-fn report(list: &mut [i64], count: usize) -> Ranked
-    requires { ⌜ (count ≤ 512) × (3 * count ≤ length (now list)) × Ranged (entriesOf count (now list)) × Distinct (entriesOf count (now list)) ⌝ }
-    ensures { λ r. ⌜ Reported count (now (list .entry)) (now (list .exit)) r ⌝ }
-{
-    sorting::rank(list, count);
-    let valued = ranking::valued_count(list, count);
-    let total = ranking::total(list, count);
-    Ranked::Done {
-        valued,
-        total,
-        entries: count,
-    }
-}
+use rank_report::Ranked;
 
 // 38, and the candidates, under a program that is at hand.
 fn rank_under(
@@ -63,10 +31,8 @@ fn rank_under(
         };
     }
     candidates::evaluate_all(registers, places, program, list, kinds, values, lengths);
-    report(list, lengths.len())
+    rank_report::report(list, lengths.len())
 }
-
-// ---- the call
 
 // Any bytes as a table, any program area, stacks, list, kinds, values and lengths.
 pub fn rank(

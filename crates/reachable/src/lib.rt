@@ -1,7 +1,7 @@
 // 11: the nonterminals that the start symbol reaches, and the lowest that is unreachable or derives no token string.
 use analysis::closing::closure;
 use analysis::judging::lowest_useless;
-use analysis::rights::right_sets;
+use rights::right_sets;
 use token_set::TokenSet;
 ghost use mathlib.Core.Path.{_≡_};
 ghost use Prim.Native.Nat.{_<_, _≤_};
@@ -38,6 +38,20 @@ fn reach_round(rows: &[u8; 2048], count: usize, rights: &[u64; 128], set: u64) -
     next
 }
 
+// One round the other way, the last production first.
+fn reach_round_back(rows: &[u8; 2048], count: usize, rights: &[u64; 128], set: u64) -> u64
+    requires { ⌜ Image (now rows) count × SetsTo (rightBy (now rows)) count (now rights) ⌝ }
+    ensures { λ r. ⌜ Grown (Within (ReachAt (now (rows .entry))) 0 count) (Within (ReachAt (now (rows .entry))) 0 count) set r ⌝ }
+{
+    let mut next = set;
+    let mut k = count;
+    while 0 < k {
+        k -= 1;
+        next = reach_by(rows, count, rights, k, next);
+    }
+    next
+}
+
 // The nonterminals that those of a set reach, and the bit of the end where they reach a token; from the words of the right sides.
 pub fn reach(rows: &[u8; 2048], count: usize, rights: &[u64; 128], first: u64) -> u64
     requires { ⌜ Image (now rows) count × SetsTo (rightBy (now rows)) count (now rights) ⌝ }
@@ -49,7 +63,11 @@ pub fn reach(rows: &[u8; 2048], count: usize, rights: &[u64; 128], first: u64) -
         if next == set {
             return set;
         }
-        set = next;
+        let last = reach_round_back(rows, count, rights, next);
+        if last == next {
+            return next;
+        }
+        set = last;
     }
 }
 

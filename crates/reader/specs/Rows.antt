@@ -1,7 +1,7 @@
 -- Worked rows for the walk over the fields.
 use mathlib.Core.Path.{_≡_, refl}
 use mathlib.Core.List.{[], _∷_, map}
-use Rattle.meaning.specs.TableRows.{bytes}
+use Rattle.meaning.specs.Examples.TableRows.{bytes}
 use Rattle.fields.specs.Demand.{ifBelow}
 use Rattle.fields.specs.Field.{lengthAt}
 use Rattle.reader.specs.Fields.{productionsFrom, past}

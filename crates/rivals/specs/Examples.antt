@@ -5,7 +5,8 @@ use mathlib.Core.List.{List, [], _∷_, _++_}
 use Prim.Native.Nat.{ℕ}
 use lib.ListN.{replicate}
 use Rattle.token_set.specs.Words.{setOf, bit}
-use Rattle.rivals.specs.Rivals.{leaveValues, startTogether, rival}
+use Rattle.rivals.specs.Rivals.{startTogether, rival}
+use Rattle.intervals.specs.Intervals.{leaveValues}
 
 -- productions 0 and 1 of one left side with one set; their ranges are 0 to 4 and 5 to 9, or 0 to 5 and 5 to 9
 abbrev rivals : ℕ → List ℕ → Bool

@@ -1,24 +1,19 @@
 -- Pairs of productions by their rows, their sets and what is kept of their entry conditions: a low and a high end for each
 -- inherited attribute, production p's from 8 p on, and what there are of them: 0 none, 1 ranges, 2 a comparison.
-use Prim.Native.Nat.{ℕ, _+_, _*_, _≤_, _<_, min, max}
+use Prim.Native.Nat.{ℕ, _≤_, _<_}
 use native.Mathlib.Decide.{ℕ-discrete}
 use mathlib.Core.Path.{_≡_, refl, sym, ap, _∙_, subst}
 use mathlib.Core.Logic.{_⊎_, inl, inr}
 use mathlib.Core.Bool.{Bool, true, false, _&&_, _||_, not}
 use mathlib.Core.List.{List}
 use borrow.Author.Tests.{eq-eqb, ne-eqb}
-use lib.Dec.{T, eqb, leb, eqb→eq}
+use lib.Dec.{T, eqb, eqb→eq}
 use lib.ListN.{getD}
-use Rattle.meaning.specs.Base.{all, countFrom}
 use Rattle.meaning.specs.Decide.{meet}
 use Rattle.theory_base.specs.Members.{both, true→T}
 use Rattle.token_set.specs.Words.{setOf}
 use Rattle.analysis.specs.Rows.{leftAt}
-
--- no interval of both p and q is empty: from the higher low end to the lower high end
-unfoldable pub leaveValues : List ℕ → List ℕ → ℕ → ℕ → Bool
-leaveValues lows highs p q =
-    all (λ a. leb (max (getD lows (8 * p + a) 0) (getD lows (8 * q + a) 0)) (min (getD highs (8 * p + a) 0) (getD highs (8 * q + a) 0))) (countFrom 0 8)
+use Rattle.intervals.specs.Intervals.{leaveValues}
 
 -- one left side and sets that meet
 unfoldable pub startTogether : List ℕ → List ℕ → ℕ → ℕ → Bool

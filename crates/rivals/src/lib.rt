@@ -3,7 +3,7 @@
 use token_set::TokenSet;
 ghost use mathlib.Core.Path.{_≡_};
 ghost use Prim.Native.Nat.{_<_, _≤_};
-ghost use Rattle.rivals.specs.Rivals.{startTogether, leaveValues, rival, NextRival};
+ghost use Rattle.rivals.specs.Rivals.{startTogether, rival, NextRival};
 
 // Whether productions p and q have one left side and sets that meet.
 fn starts_together(rows: &[u8; 2048], sets: &[u64; 128], p: usize, q: usize) -> bool
@@ -14,32 +14,6 @@ fn starts_together(rows: &[u8; 2048], sets: &[u64; 128], p: usize, q: usize) -> 
         return false;
     }
     TokenSet(sets[p]).meets(TokenSet(sets[q]))
-}
-
-// Whether p and q leave some value to each attribute.
-fn leaves_values(lows: &[u32; 1024], highs: &[u32; 1024], p: usize, q: usize) -> bool
-    requires { ⌜ (p < 128) × (q < 128) ⌝ }
-    ensures { λ r. ⌜ r ≡ leaveValues (now (lows .entry)) (now (highs .entry)) p q ⌝ }
-{
-    let mut a: usize = 0;
-    while a < 8 {
-        let i = 8 * p + a;
-        let j = 8 * q + a;
-        if highs[j] < lows[i] {
-            return false;
-        }
-        if highs[i] < lows[j] {
-            return false;
-        }
-        if highs[i] < lows[i] {
-            return false;
-        }
-        if highs[j] < lows[j] {
-            return false;
-        }
-        a += 1;
-    }
-    true
 }
 
 // Whether they start together and their intervals do not keep them apart: those tell only where both have ranges and no comparison.
@@ -64,7 +38,7 @@ fn is_rival(
     if ranks[q] != 1 {
         return true;
     }
-    leaves_values(lows, highs, p, q)
+    intervals::leaves_values(lows, highs, p, q)
 }
 
 // The first rival of `later` from `from` on; `later` where there is none.

@@ -24,7 +24,7 @@ use records::State;
 // ---- from a state to a run
 
 // 01: the whole segment's place once the start symbol is left.
-const LEFT: usize = 32769;
+const LEFT: usize = limits::LEFT as usize;
 
 // The address at which a place goes on.
 fn address_of(program: &[u32], place: usize) -> usize

@@ -1,3 +1,4 @@
 pub mod Opening
 pub mod Segments
+pub mod Starting
 pub mod Calling

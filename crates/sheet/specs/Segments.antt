@@ -4,7 +4,7 @@ use native.Mathlib.Omega.{arith}
 use mathlib.Core.Path.{_≡_, refl, sym, ap, ap₂, _∙_, subst}
 use mathlib.Core.Bool.{Bool, true, false}
 use mathlib.Core.List.{List, [], _∷_, _++_}
-use lib.ListN.{length, getD, drop, length-replicate, List·getD-eq-default}
+use lib.ListN.{length, getD, take, drop, length-replicate, List·getD-eq-default}
 use lib.Dec.{T, eqb, ltb, leb}
 use lib.IntN.{ℤ, pos}
 use borrow.Author.Tests.{lt-ltb, le-ltb, leb-true, leb-false, eq-eqb, ne-eqb}
@@ -25,6 +25,7 @@ use Rattle.meaning.specs.PublicCalls.{stacksOf}
 use Rattle.meaning_sheet.specs.Sheet.{sheetOf}
 use Rattle.meaning_sheet.specs.SheetCalls.{SheetEffect, sheetEffect, sheeted, turnedBack, tableTurned, stacksFor, stackRun, AfterRun, WhenEven}
 use Rattle.theory_base.specs.Members.{true→T}
+use Rattle.theory_base.specs.Feeds.{leaves-of}
 use Rattle.theory_answers.specs.ShapeMemory.{result-ranged}
 use Rattle.theory_program.specs.Addresses.{Begins}
 use Rattle.theory_program.specs.Code.{operation}
@@ -32,16 +33,16 @@ use Rattle.theory_program.specs.Records.{segment-words}
 use Rattle.theory_sheet.specs.Overlay.{overlay, overlay-all}
 use Rattle.theory_sheet.specs.Whole.{runFrom}
 use Rattle.theory_sheet.specs.Standing.{Stand, withChildren, stand-ready}
-use Rattle.theory_sheet.specs.Walking.{rest, comingTo, Fair, look-over, look-35, look-20, look-stuck}
+use Rattle.theory_sheet.specs.Walking.{rest, comingTo, symbol-left, Fair, look-over, look-35, look-20, look-stuck}
 use Rattle.theory_sheet.specs.Segment.{segmentRun, openedAs, answerOf, stack-run, segment-node, opening-stands, whole-tree}
 use Rattle.moves.specs.declared.Run.{Run}
 use Rattle.registers.specs.Stack.{stack}
 use Rattle.registers.specs.Laid.{laid-stack}
 use Rattle.fit.specs.Shown.{Readable}
 use Rattle.moves.specs.Held.{Held, AtHand, some, nothing, at-hand, bounds}
-use Rattle.sheet_moves.specs.Standing.{tokensAs, leafHere, none-left, one-left}
-use Rattle.sheet_walk.specs.declared.Walked.the-variants as Walked
-use Rattle.sheet_walk.specs.Cycle.{Listed, ListAt, ListDone}
+use Rattle.sheet_moves.specs.Standing.{tokensAs, isInside, at-look, leafHere, none-left, one-left}
+use Rattle.sheet_walk.specs.Numbers as Walked
+use Rattle.sheet_walk.specs.Cycle.{NodeAt, NodeDone, Listed, none-listed, list-more, rests-look}
 use Rattle.sheet.specs.declared.Answer as Answer
 use Rattle.sheet.specs.declared.Answer.the-variants.{Value, Refused, TableRefused}
 use Rattle.sheet.specs.Opening.{firstRun, start-size, opened-held}
@@ -143,6 +144,31 @@ ended-result {ws} {m} {run} d =
 
 -- ---- the whole
 
+-- the cells of which the first n and k are lent
+pub record Cells (m : List ℤ) (ps : List ℕ) (n k : ℕ) : Type 0 where
+  pub registers : length m ≡ 4096
+  pub places : length ps ≡ 1024
+  pub few : n ≤ 4096
+  pub little : k ≤ 1024
+
+-- opening writes those alone
+pub record Opens (ws : List ℕ) (n k : ℕ) (m₀ : List ℤ) (ps₀ : List ℕ) (m : List ℤ) (ps : List ℕ) : Type 0 where
+  pub opened : (g : Grammar) → Begins g ws → stacksOf (take n m) (take k ps) ≡ openOf g (stacksOf (take n m₀) (take k ps₀)) .stacks
+  pub long : length m ≡ length m₀
+  pub longPlaces : length ps ≡ length ps₀
+
+-- the start symbol is waited at
+abbrev firstOperation : List Frame → ℕ
+firstOperation [] = 0
+firstOperation (f ∷ fs) = elim (f .rest) as (λ z. ℕ) [ [] ↦ 0 | i ∷ is ↦ operation i ]
+
+first-three : {g : Grammar} {ws : List ℕ} {lent : Lent} {m : List ℤ} {ps : List ℕ} {run : Run} → Held g ws lent m ps run (opening g) → getD ws (run .at) 0 % 8 ≡ 3
+first-three {g} {ws} {run = run} h = go (at-hand h)
+  where
+    go : AtHand h → getD ws (run .at) 0 % 8 ≡ 3
+    go (some i x o n) = o ∙ sym (ap firstOperation (x .frames))
+    go (nothing below e w l) = absurd (let z : _≡_ {A = ℕ} 3 0 = ap firstOperation e in omega arith)
+
 abbrev pub SegmentAs : Grammar → Lent → List Leaf → List ℕ → List ℕ → Answer.Answer → Type 0
 SegmentAs g lent us sheet₀ sheet (Value v moves size) = (t : Tree) × TreeOf g us t × (segmentRun g lent us ≡ value v moves) × (size ≡ length (sheetOf t)) × (sheet ≡ overlay 0 (sheetOf t) sheet₀)
 SegmentAs g lent us sheet₀ sheet (Refused number tokens) = segmentRun g lent us ≡ refused number tokens
@@ -176,28 +202,39 @@ module _ (ws ks : List ℕ) (vs m : List ℤ) (ps sheet₀ : List ℕ) (few : le
       first-held : (g : Grammar) → Begins g ws → WellFormed g → Held g ws lentHere m′ ps′ (firstRun (getD ws 4 0)) (opening g)
       first-held g b f = subst (λ l. Held g ws l m′ ps′ (firstRun (getD ws 4 0)) (opening g)) lent-is (opened-held g ws b f m ps few little r p m′ ps′ d e (o g b))
 
-      pub first-at : Readable ws → ListAt ws ks vs m′ ps′ (firstRun (getD ws 4 0)) 0 1023 1
+      pub first-at : Readable ws → NodeAt ws ks vs m′ ps′ (firstRun (getD ws 4 0)) 0 1023
       first-at w =
           let g = w .grammar in
           let b = w .shown .begins in
           let f = w .shown .formed in
           record {
             walking = record { even = even; four = four; grammar = g; lent = lentHere; config = opening g; node = segment-node; below = []; held = first-held g b f; stand = opening-stands g f (tokensAs g ks vs) };
-            symbols = omega arith;
+            three = first-three (first-held g b f);
             depth = omega (arith, little, e);
             room = omega arith;
             few = omega (arith, few, d);
           }
 
       module _ (m₂ : List ℤ) (ps₂ sheet : List ℕ) where
-        pub segment-failed : (run : Run) (j : ℕ) → ListDone ws ks vs m′ ps′ (firstRun (getD ws 4 0)) 0 sheet₀ m₂ ps₂ sheet (Walked.Failed run j) → SegmentDone ws ks vs (length m) (length ps) sheet₀ sheet (Refused j (run .tokens))
+        pub segment-failed : (run : Run) (j : ℕ) → NodeDone ws ks vs m′ ps′ (firstRun (getD ws 4 0)) 0 sheet₀ m₂ ps₂ sheet (Walked.Failed run j) → SegmentDone ws ks vs (length m) (length ps) sheet₀ sheet (Refused j (run .tokens))
         segment-failed run j l g b f =
             let x = l g lentHere (opening g) segment-node [] even four (first-held g b f) (opening-stands g f (tokensAs g ks vs)) in
             past g b f ∙ (ap (answerOf g) (x .fails) ∙ ap (refused j) (sym (x .held .tokens)))
 
-        module _ (run : Run) (end : ℕ) (l : ListDone ws ks vs m′ ps′ (firstRun (getD ws 4 0)) 0 sheet₀ m₂ ps₂ sheet (Walked.Left run end)) where
+        module _ (run : Run) (end : ℕ) (n : NodeDone ws ks vs m′ ps′ (firstRun (getD ws 4 0)) 0 sheet₀ m₂ ps₂ sheet (Walked.Left run end)) (rests : isInside (getD ws (run .at) 0 % 8) ≡ false) where
+          -- the whole segment has one child
+          passed-over : (g : Grammar) → Begins g ws → WellFormed g → 5 ≤ getD ws (run .at) 0 % 8
+          passed-over g b f = go (leb 5 (getD ws (run .at) 0 % 8)) refl
+            where
+              go : (q : Bool) → leb 5 (getD ws (run .at) 0 % 8) ≡ q → 5 ≤ getD ws (run .at) 0 % 8
+              go true z = leb-true 5 (getD ws (run .at) 0 % 8) z
+              go false z =
+                  let x = n g lentHere (opening g) segment-node [] even four (first-held g b f) (opening-stands g f (tokensAs g ks vs)) in
+                  let y = at-look (rests-look (getD ws (run .at) 0 % 8) rests (leb-false 5 (getD ws (run .at) 0 % 8) z)) (x .held) in
+                  absurd (omega (arith, symbol-left g (x .held .wellFormed) lentHere (tokensAs g ks vs) (leaves-of g ks vs four) (x .to) (x .stand) (y .0) (y .1 .frames) (y .2) (y .3)))
+
           listed : (g : Grammar) → Begins g ws → WellFormed g → Listed g ws lentHere (tokensAs g ks vs) (opening g) segment-node [] 0 sheet₀ m₂ ps₂ sheet run end
-          listed g b f = l g lentHere (opening g) segment-node [] even four (first-held g b f) (opening-stands g f (tokensAs g ks vs))
+          listed g b f = list-more ks vs 0 sheet₀ m₂ ps₂ sheet run end n m₂ ps₂ sheet (Walked.Left run end) (none-listed ks vs m₂ ps₂ run end sheet (passed-over g b f)) g lentHere (opening g) segment-node [] even four (first-held g b f) (opening-stands g f (tokensAs g ks vs))
 
           pub segment-ended : Readable ws → Ended ws m₂ run
           segment-ended w =
@@ -222,6 +259,11 @@ module _ (ws ks : List ℕ) (vs m : List ℤ) (ps sheet₀ : List ℕ) (few : le
                   (t .0, t .1, past g b f ∙ (ap (answerOf g) (x .same ∙ stops) ∙ ap₂ (λ u n. value u n) (sym (z .0)) (sym (z .1))), omega (arith, z .2, x .isEnd, ap length (t .2)), x .written ∙ ap (λ bs. overlay 0 bs sheet₀) (t .2))
 
 -- ---- both walks of a segment
+
+-- a walk that has none of the sheet's bytes leaves the sheet as it was
+pub none-written : (xs out : List ℕ) → length xs ≡ 0 → xs ++ drop 0 out ≡ out
+none-written [] out e = refl
+none-written (x ∷ xs) out e = absurd (omega arith)
 
 abbrev pub Under : List ℕ → List ℕ → List ℤ → ℕ → ℕ → List ℕ → List ℕ → Answer.Answer → Type 0
 Under ws ks vs n k sheet₀ sheet r = (g : Grammar) → Begins g ws → WellFormed g → ((t u : Tree) → TreeOf g (tokensAs g ks vs) t → TreeOf g (tokensAs g ks vs) u → t ≡ u) → WhenEven (eqb (length ks) (length vs)) g n k ks vs sheet₀ (sheetIs r sheet)

@@ -1,27 +1,20 @@
 // 02 (i): a segment's tree as a sheet of records.
-ghost use Prim.Native.Nat.{_≤_, min};
+ghost use Prim.Native.Nat.{_≤_, _<_, min};
 ghost use mathlib.Core.Path.{_≡_};
-ghost use lib.ListN.{length};
+ghost use lib.ListN.{length, getD};
 ghost use Rattle.meaning.specs.Base.{all};
 ghost use Rattle.meaning.specs.Rules.{fourBytes};
 ghost use lib.Dec.{T};
 ghost use Rattle.meaning_sheet.specs.SheetCalls.{Sheets};
 ghost use Rattle.fit.specs.Shown.{Readable};
-ghost use Rattle.sheet.specs.Segments.{Ends, Ended, SegmentDone, Under, sheetIs};
+ghost use Rattle.sheet_walk.specs.Numbers.{low, runIn};
+ghost use Rattle.sheet.specs.Segments.{Opens, Cells, Ends, Ended, SegmentDone, Under, sheetIs};
+use limits::DEPTH;
+use limits::PLACES;
+use limits::REGISTERS;
+use limits::TOKENS_BEFORE;
 use moves::Run;
 use prepare::Made;
-use sheet_walk::Walked;
-
-// 01: "35 a token after 65,535": so many are read before the last one.
-const TOKENS_BEFORE: u64 = 65534;
-
-// 02: "depth is at most 1,023, the root being at depth 1".
-const DEPTH: usize = 1023;
-
-// 01: "At most 4,096 registers and 1,024 places are used".
-const REGISTERS: usize = 4096;
-
-const PLACES: usize = 1024;
 
 pub enum Answer {
     // The segment's value, the moves, and the length of the sheet.
@@ -60,56 +53,73 @@ fn ended(registers: &[i64], program: &[u32], kinds: &[u8], run: Run, end: usize)
     }
 }
 
-// A segment from its opening to its end, the whole segment being a list of one child.
+// Opening clears the cells that are lent.
+fn open(registers: &mut [i64], places: &mut [u32], program: &[u32], n: usize, k: usize)
+    requires { ⌜ (4 < length (now program)) × (n ≤ length (now registers)) × (k ≤ length (now places)) ⌝ }
+    ensures { λ r. ⌜ Opens (now (program .entry)) n k (now (registers .entry)) (now (places .entry)) (now (registers .exit)) (now (places .exit)) ⌝ }
+{
+    let opened = opening::open_cells(&mut registers[..n], &mut places[..k], program);
+}
+
+// The answer once the start symbol is left.
+fn over(registers: &[i64], program: &[u32], kinds: &[u8], numbers: &[u64; 8]) -> Answer
+    requires { ⌜ Ended (now program) (low 6 (now numbers) (now registers)) (runIn (now numbers)) × (getD (now numbers) 6 0 ≤ length (now registers)) ⌝ }
+    ensures { λ r. ⌜ Ends (now (program .entry)) (now (kinds .entry)) (low 6 (now (numbers .entry)) (now (registers .entry))) (runIn (now (numbers .entry))) (getD (now (numbers .entry)) 5 0) r ⌝ }
+{
+    let n = numbers[6] as usize;
+    let end = numbers[5] as usize;
+    let run = sheet_walk::run_of(numbers);
+    ended(&registers[..n], program, kinds, run, end)
+}
+
+// A segment from its opening to its end, with so many registers and places: the start symbol's node.
 fn segment(
-    registers: &mut [i64],
-    places: &mut [u32],
+    registers: &mut [i64; 4096],
+    places: &mut [u32; 1024],
     program: &[u32],
     kinds: &[u8],
     values: &[i32],
     sheet: &mut [u8],
+    n: usize,
+    k: usize,
 ) -> Answer
-    requires { ⌜ Readable (now program) × (length (now registers) ≤ 4096) × (length (now places) ≤ 1024) × (length (now kinds) ≡ length (now values)) × T (all fourBytes (now values)) ⌝ }
-    ensures { λ r. ⌜ SegmentDone (now (program .entry)) (now (kinds .entry)) (now (values .entry)) (length (now (registers .entry))) (length (now (places .entry))) (now (sheet .entry)) (now (sheet .exit)) r ⌝ }
+    requires { ⌜ Readable (now program) × Cells (now registers) (now places) n k × (length (now kinds) ≡ length (now values)) × T (all fourBytes (now values)) ⌝ }
+    ensures { λ r. ⌜ SegmentDone (now (program .entry)) (now (kinds .entry)) (now (values .entry)) n k (now (sheet .entry)) (now (sheet .exit)) r ⌝ }
 {
     let count = moves::word_at(program, 4);
-    if registers.len() < count {
+    if n < count {
         return Answer::Refused {
             number: 31,
             tokens: 0,
         };
     }
-    if places.len() == 0 {
+    if k == 0 {
         return Answer::Refused {
             number: 32,
             tokens: 0,
         };
     }
-    let opened = opening::open_cells(registers, places, program);
-    let run = Run {
-        tokens: 0,
-        moves: 0,
-        registers: count,
-        places: 1,
-        at: 0,
-    };
-    match sheet_walk::children(
+    open(registers, places, program, n, k);
+    let mut numbers = [0u64; 8];
+    numbers[2] = count as u64;
+    numbers[3] = 1;
+    numbers[6] = n as u64;
+    numbers[7] = k as u64;
+    if sheet_walk::node(
         registers,
         places,
         program,
         kinds,
         values,
         sheet,
-        run,
-        0,
+        &mut numbers,
         DEPTH,
-        1,
     ) {
-        Walked::Failed(last, k) => Answer::Refused {
-            number: k,
-            tokens: last.tokens,
-        },
-        Walked::Left(last, end) => ended(registers, program, kinds, last, end),
+        return over(registers, program, kinds, &numbers);
+    }
+    Answer::Refused {
+        number: numbers[5] as u32,
+        tokens: numbers[0],
     }
 }
 
@@ -130,16 +140,18 @@ fn walk(
     let n = cells::smaller(registers, REGISTERS);
     let k = cells::smaller(places, PLACES);
     segment(
-        &mut cells[..n],
-        &mut waiting[..k],
+        &mut cells,
+        &mut waiting,
         program,
         kinds,
         values,
         sheet,
+        n,
+        k,
     )
 }
 
-// The first walk writes nothing of the sheet: it tells its length, the value or the refusal. Only where the sheet has room is it written.
+// The first walk has none of the sheet's bytes: it tells its length, the value or the refusal. Only where the sheet has room is it written.
 fn sheet_under(
     program: &[u32],
     kinds: &[u8],
@@ -157,16 +169,21 @@ fn sheet_under(
             tokens: 0,
         };
     }
-    let mut none = [0u8; 1];
-    match walk(program, kinds, values, registers, places, &mut none) {
+    let none = 0;
+    match walk(
+        program,
+        kinds,
+        values,
+        registers,
+        places,
+        &mut sheet[..none],
+    ) {
         Answer::TableRefused { number, offset } => Answer::TableRefused { number, offset },
         Answer::Refused { number, tokens } => Answer::Refused { number, tokens },
         Answer::Value(value, moves, size) => {
-            if sheet.len() < size as usize {
-                return Answer::Refused {
-                    number: 41,
-                    tokens: 0,
-                };
+            let number = sheet_room::refusal(sheet.len(), size);
+            if number != 0 {
+                return Answer::Refused { number, tokens: 0 };
             }
             walk(program, kinds, values, registers, places, sheet)
         }

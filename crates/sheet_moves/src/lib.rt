@@ -7,18 +7,12 @@ ghost use Rattle.one_move.specs.Facing.{Facing};
 ghost use Rattle.sheet_moves.specs.Trying.{Tries};
 ghost use Rattle.sheet_moves.specs.Standing as Standing;
 ghost use Rattle.sheet_moves.specs.Standing.{Stood, Walking, Settles, Steps, isLook};
+use limits::END;
+use limits::MOVES_LIMIT;
+use limits::TOKENS_BEFORE;
 use machine::Ended;
 use moves::Run;
 use moves::Step;
-
-// What comes next, where it is the end of the segment.
-pub const END: usize = 63;
-
-// 01: "35 .. a move after 4,294,967,295".
-const MOVES_LIMIT: u64 = 4294967295;
-
-// 01: "35 a token after 65,535": so many are read before the last one.
-const TOKENS_BEFORE: u64 = 65534;
 
 // One move, unless the limit is reached.
 pub fn made(
@@ -45,13 +39,13 @@ pub fn made(
 fn inside(operation: usize) -> bool
     ensures { λ r. ⌜ r ≡ Standing.isInside operation ⌝ }
 {
-    if operation == 0 {
+    if operation == operations::ADD {
         return true;
     }
-    if operation == 1 {
+    if operation == operations::EVALUATE {
         return true;
     }
-    operation == 4
+    operation == operations::TEST
 }
 
 // The moves inside a node that need no next token.

@@ -7,7 +7,7 @@ ghost use Rattle.sheet_record.specs.Recording.{Inner, Records};
 use moves::Run;
 
 // 01: the whole segment's place while the start symbol is waited at.
-const SEGMENT: usize = 32768;
+const SEGMENT: usize = limits::SEGMENT as usize;
 
 // How many attributes a nonterminal has: inherited ones, and all.
 pub struct Counts {

@@ -1,2 +1,4 @@
+pub mod Numbers
 pub mod Leaving
 pub mod Cycle
+pub mod Walks

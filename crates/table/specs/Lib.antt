@@ -1,5 +1,4 @@
 pub mod Outline
-pub mod Productions
 pub mod Answer
 pub mod Gathered
 pub mod CarriedSet

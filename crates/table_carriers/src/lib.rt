@@ -36,7 +36,7 @@ pub fn carrier_number(table: &[u8], at: usize, terminals: usize, least: usize) -
     }
     let from = at + 3;
     let end = from + size;
-    fields::carrier_fault(terminals, least, &table[from..end])
+    field_faults::carrier_fault(terminals, least, &table[from..end])
 }
 
 // All tag 6 fields from an offset on.

@@ -26,7 +26,7 @@ pub fn header_number(table: &[u8]) -> u8
         return 3;
     }
     let end = 3 + size;
-    fields::header_fault(&table[3..end])
+    field_faults::header_fault(&table[3..end])
 }
 
 // The number of the refusal of nonterminal n's counts, or 0.
@@ -46,7 +46,7 @@ pub fn counts_number(table: &[u8], at: usize, n: usize, start: usize, result: us
     }
     let from = at + 3;
     let end = from + size;
-    fields::counts_fault(n, start, result, &table[from..end])
+    field_faults::counts_fault(n, start, result, &table[from..end])
 }
 
 // All tag 2 fields.

@@ -2,7 +2,7 @@
 use Prim.Native.Nat.{ℕ, suc, _+_, _≤_, _<_}
 use mathlib.Core.Path.{_≡_, refl, sym, _∙_, ap, ap₂, subst}
 use mathlib.Core.Bool.{Bool, true, false, _&&_, _||_, not, true≢false}
-use mathlib.Core.List.{List, [], _∷_}
+use mathlib.Core.List.{List, _∷_}
 use mathlib.Core.Logic.{⊎-elim}
 use native.Mathlib.Omega.{arith}
 use lib.Dec.{eqb}
@@ -120,35 +120,40 @@ module _ (t : List ℕ) (at size r c width : ℕ) (inh syn note : List ℕ) (ins
 
 -- ---- the loop over the fields
 
-pub record Walking (t : List ℕ) (from offset width : ℕ) (inh syn : List ℕ) (r₀ c₀ : ℕ) (note : List ℕ) (at r c : ℕ) : Type 0 where
+-- past fields from an offset to another, wherever the production's fields start
+pub record Walking (t : List ℕ) (from offset width : ℕ) (inh syn : List ℕ) (r₀ c₀ : ℕ) (note₀ note : List ℕ) (at r c : ℕ) : Type 0 where
   pub after : from ≤ at
   pub inside : at ≤ length t
   pub rules : r ≤ at
   pub conditions : c ≤ at
-  pub walked : Walked (settingOf t offset width inh syn) from r₀ c₀ note at r c
+  pub walked :
+      (start p q : ℕ) → Walked (settingOf t offset width inh syn) start p q note₀ from r₀ c₀
+      → Walked (settingOf t offset width inh syn) start p q note at r c
 
-module _ (t : List ℕ) (from offset width : ℕ) (inh syn : List ℕ) (r₀ c₀ : ℕ) where
+module _ (t : List ℕ) (from offset width : ℕ) (inh syn : List ℕ) (r₀ c₀ : ℕ) (note₀ : List ℕ) where
   abbrev s : Setting
   s = settingOf t offset width inh syn
 
-  pub walk-start : (note : List ℕ) → Notes note [] → from ≤ length t → r₀ ≤ from → c₀ ≤ from → Walking t from offset width inh syn r₀ c₀ note from r₀ c₀
-  walk-start note nt l m q =
+  pub walk-start : from ≤ length t → r₀ ≤ from → c₀ ≤ from → Walking t from offset width inh syn r₀ c₀ note₀ note₀ from r₀ c₀
+  walk-start l m n =
       record {
         after = omega arith;
         inside = l;
         rules = m;
-        conditions = q;
-        walked = λ a. ([], [], nt, refl);
+        conditions = n;
+        walked = λ start p q h. h;
       }
 
-  module _ (note : List ℕ) (at r c : ℕ) (w : Walking t from offset width inh syn r₀ c₀ note at r c) where
+  module _ (note : List ℕ) (at r c : ℕ) (w : Walking t from offset width inh syn r₀ c₀ note₀ note at r c) where
     module _ (size : ℕ) (note′ : List ℕ) (number : ℕ) (j : UseTaken t at size r c width inh syn note note′ number) where
-      pub walk-refused : (number ≡ 0 → ⊥) → UsesRead s from r₀ c₀ (record { number = number; at = at; rules = r; conditions = c })
-      walk-refused n a =
-          let q = w .walked a in (
-            q .0,
-            q .1,
-            q .3 ∙ j .read offset a (q .0) (q .1) (q .2) ∙ judged-refused number at _ n ∙ sym (judged-refused number at _ n),
+      pub walk-refused :
+          (number ≡ 0 → ⊥) → (start p q : ℕ) → Walked s start p q note₀ from r₀ c₀
+          → UsesRead s start p q (record { number = number; at = at; rules = r; conditions = c })
+      walk-refused n start p q h a =
+          let m = w .walked start p q h a in (
+            m .0,
+            m .1,
+            m .3 ∙ j .read offset a (m .0) (m .1) (m .2) ∙ judged-refused number at _ n ∙ sym (judged-refused number at _ n),
             λ z. absurd (n z),
           )
 
@@ -172,7 +177,7 @@ module _ (t : List ℕ) (from offset width : ℕ) (inh syn : List ℕ) (r₀ c�
             → Notes note′ (current (readField (stateIn s a rs cds r c) at (kindOf tag) b′) .rules)
         notes-on a rs cds nt tag e = subst (λ (x : ℕ). Notes note′ (current (readField (stateIn s a rs cds r c) at (kindOf x) b′) .rules)) e (j .notes offset a rs cds nt fine)
 
-        pub walk-rule : byte t at ≡ 4 → Walking t from offset width inh syn r₀ c₀ note′ next (r + 1) c
+        pub walk-rule : byte t at ≡ 4 → Walking t from offset width inh syn r₀ c₀ note₀ note′ next (r + 1) c
         walk-rule tag =
             let one : suc r ≡ r + 1 = omega arith in
             record {
@@ -180,8 +185,8 @@ module _ (t : List ℕ) (from offset width : ℕ) (inh syn : List ℕ) (r₀ c�
               inside = j .whole fine .inside;
               rules = omega (arith, w .rules);
               conditions = omega (arith, w .conditions);
-              walked = λ a.
-                  let m = w .walked a in (
+              walked = λ start p q h a.
+                  let m = w .walked start p q h a in (
                     ruleOf b′ ∷ m .0,
                     m .1,
                     notes-on a (m .0) (m .1) (m .2) 4 tag,
@@ -189,7 +194,7 @@ module _ (t : List ℕ) (from offset width : ℕ) (inh syn : List ℕ) (r₀ c�
                   );
             }
 
-        pub walk-condition : (byte t at ≡ 4 → ⊥) → Walking t from offset width inh syn r₀ c₀ note′ next r (c + 1)
+        pub walk-condition : (byte t at ≡ 4 → ⊥) → Walking t from offset width inh syn r₀ c₀ note₀ note′ next r (c + 1)
         walk-condition n =
             let one : suc c ≡ c + 1 = omega arith in
             record {
@@ -197,8 +202,8 @@ module _ (t : List ℕ) (from offset width : ℕ) (inh syn : List ℕ) (r₀ c�
               inside = j .whole fine .inside;
               rules = omega (arith, w .rules);
               conditions = omega (arith, w .conditions);
-              walked = λ a.
-                  let m = w .walked a in (
+              walked = λ start p q h a.
+                  let m = w .walked start p q h a in (
                     m .0,
                     conditionOf b′ ∷ m .1,
                     notes-on a (m .0) (m .1) (m .2) 5 (j .kinds fine n),
@@ -227,26 +232,26 @@ module _ (t : List ℕ) (from offset width : ℕ) (inh syn : List ℕ) (r₀ c�
               ∙ ap (λ x. elim x [ true ↦ wellFormed (stateIn s a rs cds r c) | false ↦ malformed 8 offset ]) e
 
       pub record Ended (u : Uses) : Type 0 where
-        pub read : UsesRead s from r₀ c₀ u
+        pub read : (start p q : ℕ) → Walked s start p q note₀ from r₀ c₀ → UsesRead s start p q u
         pub next : u .number ≡ 0 → Next t from u
         pub inside : u .at ≤ length t
 
       walk-end : (x : Bool) → gap ≡ x → offset ≤ length t → Ended (endOf x offset at r c)
       walk-end false e l =
           record {
-            read = λ a.
-                let q = w .walked a in
-                (q .0, q .1, q .3 ∙ sym (judged-fine 0 at _ refl), λ z. not-false (lastComplete (stateIn s a (q .0) (q .1) r c)) (sym (gap-in a (q .0) (q .1) (q .2)) ∙ e));
+            read = λ start p q h a.
+                let m = w .walked start p q h a in
+                (m .0, m .1, m .3 ∙ sym (judged-fine 0 at _ refl), λ z. not-false (lastComplete (stateIn s a (m .0) (m .1) r c)) (sym (gap-in a (m .0) (m .1) (m .2)) ∙ e));
             next = λ z. record { after = w .after; inside = w .inside; over = over; rules = w .rules; conditions = w .conditions };
             inside = w .inside;
           }
       walk-end true e l =
           record {
-            read = λ a.
-                let q = w .walked a in (
-                  q .0,
-                  q .1,
-                  q .3 ∙ missing a (q .0) (q .1) (not-true (lastComplete (stateIn s a (q .0) (q .1) r c)) (sym (gap-in a (q .0) (q .1) (q .2)) ∙ e)) ∙ sym (judged-refused 8 offset _ (nonzero 7)),
+            read = λ start p q h a.
+                let m = w .walked start p q h a in (
+                  m .0,
+                  m .1,
+                  m .3 ∙ missing a (m .0) (m .1) (not-true (lastComplete (stateIn s a (m .0) (m .1) r c)) (sym (gap-in a (m .0) (m .1) (m .2)) ∙ e)) ∙ sym (judged-refused 8 offset _ (nonzero 7)),
                   λ z. absurd (nonzero 7 z),
                 );
             next = λ z. absurd (nonzero 7 z);

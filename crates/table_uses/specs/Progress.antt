@@ -78,6 +78,10 @@ UsesRead g from r₀ c₀ u =
     × (rest (g .table) (stateIn g a [] [] r₀ c₀) from ≡ judged (u .number) (u .at) (rest (g .table) (stateIn g a rs cds (u .rules) (u .conditions)) (u .at)))
     × (u .number ≡ 0 → lastComplete (stateIn g a rs cds (u .rules) (u .conditions)) ≡ true)
 
+-- the same from one of its fields on, with the note of those before, wherever they start
+abbrev pub UsesReadFrom : Setting → List ℕ → ℕ → ℕ → ℕ → Uses → Type 0
+UsesReadFrom g note from r c u = (start r₀ c₀ : ℕ) → Walked g start r₀ c₀ note from r c → UsesRead g start r₀ c₀ u
+
 -- where the next production starts
 pub record Next (t : List ℕ) (from : ℕ) (u : Uses) : Type 0 where
   pub after : from ≤ u .at

@@ -5,7 +5,7 @@ ghost use Prim.Native.Nat.{_+_, _<_, _≤_};
 ghost use lib.ListN.{length};
 ghost use Rattle.meaning.specs.Table.{byte};
 ghost use Rattle.rules.specs.Rule.{Small};
-ghost use Rattle.table_uses.specs.Progress.{Sized, Over, settingOf, UseTaken, UsesRead, Next, endOf};
+ghost use Rattle.table_uses.specs.Progress.{Sized, Over, settingOf, UseTaken, UsesReadFrom, Next, endOf};
 
 // The end of a production's rules and conditions (number 0), or the field that is refused.
 pub struct Uses {
@@ -77,7 +77,8 @@ pub fn finish(gap: bool, offset: usize, at: usize, r: usize, c: usize) -> Uses
     }
 }
 
-// The rules and conditions of the production at an offset, whose counts stand at their positions, from the end of its field on.
+// The rules and conditions of the production at an offset, whose counts stand at their positions, from one of its fields on, with the note of
+// those before.
 pub fn read_uses(
     table: &[u8],
     from: usize,
@@ -85,25 +86,25 @@ pub fn read_uses(
     width: usize,
     inh: &[u8; 13],
     syn: &[u8; 13],
+    note: &mut [u8; 13],
     rules: usize,
     conditions: usize,
 ) -> Uses
     requires { ⌜ Small width (now inh) (now syn) × (from ≤ length (now table)) × (offset ≤ length (now table)) × (rules ≤ from) × (conditions ≤ from) ⌝ }
-    ensures read { λ u. ⌜ UsesRead (settingOf (now (table .entry)) offset width (now (inh .entry)) (now (syn .entry))) from rules conditions u ⌝ }
+    ensures read { λ u. ⌜ UsesReadFrom (settingOf (now (table .entry)) offset width (now (inh .entry)) (now (syn .entry))) (now (note .entry)) from rules conditions u ⌝ }
     ensures next { λ u. ⌜ (u .number ≡ 0 → Next (now (table .entry)) from u) ⌝ }
     ensures inside { λ u. ⌜ u .at ≤ length (now (table .entry)) ⌝ }
 {
-    let mut note = rule_note::begin();
     let mut at = from;
     let mut r = rules;
     let mut c = conditions;
     loop {
         if is_over(table, at) {
-            let gap = rule_note::has_gap(width, inh, syn, &note);
+            let gap = rule_note::has_gap(width, inh, syn, note);
             return finish(gap, offset, at, r, c);
         }
         let size = fields::size_at(table, at);
-        let number = take_use(table, at, size, r, c, width, inh, syn, &mut note);
+        let number = take_use(table, at, size, r, c, width, inh, syn, note);
         if number != 0 {
             return Uses {
                 number,

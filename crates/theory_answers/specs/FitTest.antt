@@ -174,10 +174,6 @@ module _ (g : Grammar) (p k : ℕ) (cells : List Cell) where
       fit-append (waitingCells g x) (synCells g (take k (productionAt g p .right)) cells) (vs ++ replicate (markedFor g x) mark) (ss ++ rs) (waiting-fit g x vs v)
       (subst (λ z. T (cellsFit z (ss ++ rs))) (sym (syn-cells g (take k (productionAt g p .right)) cells)) (fit-append (replicate passedCount valued) cells ss rs (values-fit passedCount ss s) t))
 
-no-cells : (vs : List ℤ) → T (cellsFit [] vs) → vs ≡ []
-no-cells [] t = refl
-no-cells (v ∷ vs) t = absurd t
-
 fit-waits : (g : Grammar) (ps : List ℕ) (rs : List ℤ) → T (placesFit g ps) → T (cellsFit (placeCells g ps) rs) → WaitsAt g ps rs (awaitedTop g ps)
 fit-waits g [] rs t u = absurd t
 fit-waits g (p ∷ []) rs t u = bottom p rs (eqb→eq p 32768 t) u

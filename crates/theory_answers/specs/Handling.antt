@@ -69,7 +69,8 @@ module _ (g : Grammar) (wf : WellFormed g) (c : Config) (p k : ℕ) (vs ss : Lis
       let o : OutputAt g pr (suc k) (a .0 .target .attribute) = rw (b .0) at (fp .targets (a .0) (b .1)) in
       let top : a .0 .target .attribute ≤ inh g x = rw (h .1) at (o .2) in
       let t : q .target ≡ a .0 .target .attribute = ap (λ z. z .target) (a .2) ∙ target-of-inherited g pr (suc k) (a .0 .target) (b .0) in
-      let size : length (c .registers) ≡ addedFor g x + length (nodeRegisters ss vs (marks (synLeft g p)) base) = ap length r ∙ (length-append (marks (addedFor g x)) (nodeRegisters ss vs (marks (synLeft g p)) base) ∙ ap (λ n. n + length (nodeRegisters ss vs (marks (synLeft g p)) base)) (length-replicate (addedFor g x) mark)) in
+      let own : List ℤ = nodeRegisters ss vs (marks (synLeft g p)) base in
+      let size : length (c .registers) ≡ addedFor g x + length own = ap length r ∙ (length-append (marks (addedFor g x)) own ∙ ap (λ n. n + length own) (length-replicate (addedFor g x) mark)) in
       let read : (u : Occurrence) → Available g pr k u → Valued c (sel u) = λ u w.
       let s : sel u ≡ length (marks (addedFor g x)) + selectAfter g pr k u = inherited-at g pr k (u .position) (u .attribute) (w .0) (w .1) .0 ∙ ap (λ n. n + selectAfter g pr k u) (ap (addedFor g) (h .1) ∙ sym (length-replicate (addedFor g x) mark)) in
       subst (Valued c) (sym s) (value-under (marks (addedFor g x)) (marks (synLeft g p)) r u w) in
@@ -86,7 +87,9 @@ module _ (g : Grammar) (wf : WellFormed g) (c : Config) (p k : ℕ) (vs ss : Lis
       let b = in-for pr 0 (a .0) (a .1) in
       let o : OutputAt g pr 0 (a .0 .target .attribute) = rw (b .0) at (fp .targets (a .0) (b .1)) in
       let t : q .target ≡ synBetween g pr 0 k + a .0 .target .attribute = ap (λ y. y .target) (a .2) ∙ (target-of-synthesized g pr (length (pr .right)) (a .0 .target) (b .0) ∙ ap (λ n. synBetween g pr 0 n + a .0 .target .attribute) z) in
-      let size : length (c .registers) ≡ length (ss ++ vs) + (synLeft g p + length base) = ap length (r ∙ sym (append-assoc ss vs (marks (synLeft g p) ++ base))) ∙ (length-append (ss ++ vs) (marks (synLeft g p) ++ base) ∙ ap (λ n. length (ss ++ vs) + n) (length-append (marks (synLeft g p)) base ∙ ap (λ n. n + length base) (length-replicate (synLeft g p) mark))) in
+      let rest : List ℤ = marks (synLeft g p) ++ base in
+      let long : length rest ≡ synLeft g p + length base = length-append (marks (synLeft g p)) base ∙ ap (λ n. n + length base) (length-replicate (synLeft g p) mark) in
+      let size : length (c .registers) ≡ length (ss ++ vs) + (synLeft g p + length base) = ap length (r ∙ sym (append-assoc ss vs rest)) ∙ (length-append (ss ++ vs) rest ∙ ap (λ n. length (ss ++ vs) + n) long) in
       let read : (u : Occurrence) → Available g pr k u → Valued c (sel u) = λ u w.
       subst (λ n. Valued c (selectAfter g pr n u)) (sym z) (value-of (marks (synLeft g p)) r u w) in
       ((omega (arith, t, o .0), omega (arith, t, o .1, size, known-size)), subst (λ y. Operands (Valued c) (y .function)) (sym (a .2)) (operands-through (Valued c) sel read (a .0 .function) (operands-available g pr fp k (a .0) (b .1) (omega (arith, b .0)) (λ y. omega (arith, z)))))

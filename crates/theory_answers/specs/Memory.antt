@@ -59,7 +59,8 @@ lay-same {A = A} n h clear mem a b is =
     let size : length (reverse (take h mem)) ≡ h = length-reverse (take h mem) ∙ (length-take h mem ∙ omega arith) in
     let middle : List A = take (n - h) (drop h mem) in
     let long : length middle ≡ n - h = length-take (n - h) (drop h mem) ∙ omega (arith, length-drop h mem) in
-    let cleared : middle ≡ replicate (n - length (reverse (take h mem))) clear = all-clear clear middle (λ i l. getD-take (n - h) (drop h mem) i clear (omega arith) ∙ (getD-drop h mem i clear ∙ is (h + i) (omega arith) (omega arith))) ∙ ap (λ k. replicate k clear) (long ∙ ap (λ k. n - k) (sym size)) in
+    let each : (i : ℕ) → i < length middle → getD middle i clear ≡ clear = λ i l. getD-take (n - h) (drop h mem) i clear (omega arith) ∙ (getD-drop h mem i clear ∙ is (h + i) (omega arith) (omega arith)) in
+    let cleared : middle ≡ replicate (n - length (reverse (take h mem))) clear = all-clear clear middle each ∙ ap (λ k. replicate k clear) (long ∙ ap (λ k. n - k) (sym size)) in
     let sum : h + (n - h) ≡ n = omega arith in
     let rest : drop (n - h) (drop h mem) ≡ drop n mem = drop-drop (n - h) h mem ∙ ap (λ k. drop k mem) sum in
     ap₂ (λ y z. y ++ z ++ drop n mem) (reverse-reverse (take h mem)) (sym cleared)

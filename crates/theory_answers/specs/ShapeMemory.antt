@@ -116,7 +116,9 @@ waiting g wf (Fit.inside p k vs ss {ps} {rs} l s m v u w) =
     let right : List Symbol = productionAt g p .right in
     let x : Symbol = symbolAt (productionAt g p) (suc k) in
     let e : drop k right ≡ x ∷ drop (suc k) right = drop-cons right k (terminal 0) s in
-    let st : Stands g p (frame (b .production) (waitRest g (b .production) (b .passed) (nonterminal (productionAt g p .left)) (b .ahead)) ∷ b .below) (nodeRegisters (b .values) (b .inherited) (marks (synLeft g (b .production))) (b .base)) = inside (b .production) (b .passed) (b .ahead) (b .inherited) (b .values) l (b .symbols) (b .node) (b .stands) in
+    let parent : Frame = frame (b .production) (waitRest g (b .production) (b .passed) (nonterminal (productionAt g p .left)) (b .ahead)) in
+    let own : List ℤ = nodeRegisters (b .values) (b .inherited) (marks (synLeft g (b .production))) (b .base) in
+    let st : Stands g p (parent ∷ b .below) own = inside (b .production) (b .passed) (b .ahead) (b .inherited) (b .values) l (b .symbols) (b .node) (b .stands) in
     record {
       production = p;
       passed = k;
@@ -208,17 +210,20 @@ waits-on g wf (inside {p} q j ys us ts {fs} {base} l d n s) k vs ss nd x xs e is
     let under : List Frame = frame q (waitRest g q j (nonterminal (productionAt g p .left)) ys) ∷ fs in
     let y : Symbol = symbolAt (productionAt g p) (suc k) in
     let handed : Values (inh g y) is = subst (λ z. Values (inh g z) is) (sym named) v in
-    let w : WaitsAt g ((p * 256 + k) ∷ map (placeOf g) under) ((is ++ marks (markedFor g y)) ++ (ss ++ ((vs ++ marks (synLeft g p)) ++ lower))) y = Fit.inside p k is ss l (h .0) (place-short g wf st k x xs e) handed (subst (λ n. Values n ss) (syn-from g (productionAt g p) k) (nd .passed)) (r .places) in
-    let registers : (is ++ marks (markedFor g y)) ++ (ss ++ ((vs ++ marks (synLeft g p)) ++ lower)) ≡ (is ++ marks (markedFor g x)) ++ (ss ++ (vs ++ (marks (synLeft g p) ++ lower))) = ap₂ (λ z zs. (is ++ marks (markedFor g z)) ++ (ss ++ zs)) named (append-assoc vs (marks (synLeft g p)) lower) in
+    let valued = subst (λ n. Values n ss) (syn-from g (productionAt g p) k) (nd .passed) in
+    let all : List ℤ = (is ++ marks (markedFor g y)) ++ (ss ++ ((vs ++ marks (synLeft g p)) ++ lower)) in
+    let w : WaitsAt g ((p * 256 + k) ∷ map (placeOf g) under) all y = Fit.inside p k is ss l (h .0) (place-short g wf st k x xs e) handed valued (r .places) in
+    let registers : all ≡ (is ++ marks (markedFor g x)) ++ (ss ++ (vs ++ (marks (synLeft g p) ++ lower))) = ap₂ (λ z zs. (is ++ marks (markedFor g z)) ++ (ss ++ zs)) named (append-assoc vs (marks (synLeft g p)) lower) in
     record {
-      places = subst₂ (λ n z. WaitsAt g (n ∷ map (placeOf g) under) z x) (sym (place-waits g p k x xs e)) registers (subst (λ z. WaitsAt g ((p * 256 + k) ∷ map (placeOf g) under) ((is ++ marks (markedFor g y)) ++ (ss ++ ((vs ++ marks (synLeft g p)) ++ lower))) z) named w);
+      places = subst₂ (λ n z. WaitsAt g (n ∷ map (placeOf g) under) z x) (sym (place-waits g p k x xs e)) registers (subst (λ z. WaitsAt g ((p * 256 + k) ∷ map (placeOf g) under) all z) named w);
       back = ap₂ (λ y ys. y ∷ ys) (place-back g wf st k x xs e) (r .back);
     }
 
 -- ---- a configuration of the shape that waits
 
 -- the start symbol is left: only its values stand
-ended : (g : Grammar) → WellFormed g → {p : ℕ} {fs : List Frame} {base : List ℤ} → Stands g p fs base → (k : ℕ) (vs ss : List ℤ) → Node g p k vs ss → drop k (productionAt g p .right) ≡ [] → p ≡ whole → (fs ≡ []) × Values (syn g (nonterminal (g .start))) (nodeRegisters ss vs (marks (synLeft g p)) base)
+ended : (g : Grammar) → WellFormed g → {p : ℕ} {fs : List Frame} {base : List ℤ} → Stands g p fs base → (k : ℕ) (vs ss : List ℤ) → Node g p k vs ss
+    → drop k (productionAt g p .right) ≡ [] → p ≡ whole → (fs ≡ []) × Values (syn g (nonterminal (g .start))) (nodeRegisters ss vs (marks (synLeft g p)) base)
 ended g wf (inside {p} q j ys us ts l d n s) k vs ss nd e w = absurd (omega (arith, wf .productions .1, l, w))
 ended g wf segment k vs ss nd e w =
     let z : k ≡ 1 = omega (arith, drop-over k (productionAt g whole .right) e, nd .within) in

@@ -9,7 +9,8 @@ use lib.ListN.{getD, length, take, drop}
 use lib.Dec.{T, eqb, leb}
 use Rattle.meaning.specs.Base.{all, countFrom}
 use Rattle.meaning.specs.Grammar.{Grammar, nonterminalCount}
-use Rattle.meaning.specs.Table.{State, Field, Read, wellFormed, malformed, Stage, atHeader, atCounts, atFirst, atAny, stage, kindOf, byte, current, lastComplete, tagStands, limitsHold, known, startRight, directionsRight, setOnce, leftToRight, boundsRight, lowestOf, judgeField, readField, atEnd, readAll, readTable, nothingRead, grammarOf}
+use Rattle.meaning.specs.Table.{State, Field, Read, wellFormed, malformed, Stage, atHeader, atCounts, atFirst, atAny, stage, kindOf, byte, current, lastComplete, tagStands, limitsHold, known, startRight, directionsRight, setOnce}
+use Rattle.meaning.specs.Table.{leftToRight, boundsRight, lowestOf, judgeField, readField, atEnd, readAll, readTable, nothingRead, grammarOf}
 use Rattle.meaning.specs.Judgement.{Verdict, accepted, rejected, countsOffset, entryOffset}
 use Rattle.meaning.specs.Decide.{judge, firstWhere, reachable, productive, isLeftRecursive, clashes}
 use Rattle.meaning.specs.PublicCalls.{Checked, usable, unusable, checkedAs, check}

@@ -78,7 +78,9 @@ pub record SynthesizedMade (g : Grammar) (p : Production) (ss vs base : List ℤ
   pub made : List ℤ
   pub sized : length made ≡ syn g (nonterminal (p .left))
   pub ranged : T (all inRange made)
-  pub rules : (r : Rule Occurrence) → In r (p .rules) → r .target .position ≡ 0 → getD made (r .target .attribute - 1 - inh g (nonterminal (p .left))) (pos 0) ≡ apply (readRegister (ss ++ (vs ++ (marks (syn g (nonterminal (p .left))) ++ base)))) (mapFunction (selectAfter g p (length (p .right))) (r .function))
+  pub rules : (r : Rule Occurrence) → In r (p .rules) → r .target .position ≡ 0
+      → getD made (r .target .attribute - 1 - inh g (nonterminal (p .left))) (pos 0)
+      ≡ apply (readRegister (ss ++ (vs ++ (marks (syn g (nonterminal (p .left))) ++ base)))) (mapFunction (selectAfter g p (length (p .right))) (r .function))
   pub registers : writeAll (synthesizedRules g p) (ss ++ (vs ++ (marks (syn g (nonterminal (p .left))) ++ base))) (ss ++ (vs ++ (marks (syn g (nonterminal (p .left))) ++ base))) ≡ ss ++ (vs ++ (made ++ base))
 
 pub synthesized-made : (g : Grammar) (p : Production) → Evaluable g p → (vs ss base : List ℤ) → length vs ≡ inh g (nonterminal (p .left)) → length ss ≡ synBetween g p 0 (length (p .right))

@@ -38,7 +38,10 @@ value-inherited g p fp vs ts x xs base f d r i e =
     let n : ℕ = suc (length ts) in
     let old : List ℤ = marks (addedFor g x) ++ (synsOf g ts ++ (vs ++ base)) in
     let size : length (marks (addedFor g x)) ≡ addedFor g (symbolAt p n) = length-replicate (addedFor g x) mark ∙ rw (drop-head (length ts) (p .right) x (terminal 0) xs d .1) refl in
-    apply-map (readRegister old) (selectInherited g p n) (r .function) ∙ apply-agree (λ o. readRegister old (selectInherited g p n o)) (valueIn vs ts) (r .function) (operands-map (λ o u. found-inherited g p ts (f .lefts) vs base (marks (addedFor g x)) (f .sized) size o u) (r .function) (operands-available g p fp (length ts) r i (omega arith) (λ z. absurd (omega arith))))
+    let available = operands-available g p fp (length ts) r i (omega arith) (λ z. absurd (omega arith)) in
+    apply-map (readRegister old) (selectInherited g p n) (r .function)
+    ∙ apply-agree (λ o. readRegister old (selectInherited g p n o)) (valueIn vs ts) (r .function)
+    (operands-map (λ o u. found-inherited g p ts (f .lefts) vs base (marks (addedFor g x)) (f .sized) size o u) (r .function) available)
 
 pub hand : (g : Grammar) (p : Production) → Evaluable g p → (vs : List ℤ) (ts : List Tree) (x : Symbol) (xs : List Symbol) (base : List ℤ) → Front g p vs ts → drop (length ts) (p .right) ≡ x ∷ xs
     → T (all (λ r. inRange (apply (readRegister (marks (addedFor g x) ++ (synsOf g ts ++ (vs ++ base)))) (r .function))) (inheritedRules g p (suc (length ts))))
@@ -67,7 +70,10 @@ value-synthesized g p fp vs ts base f d r i e =
     let old : List ℤ = synsOf g ts ++ (vs ++ base) in
     let sel : Occurrence → ℕ = selectAfter g p (length (p .right)) in
     let same : length (p .right) ≡ length ts = all-left g p ts (f .lefts) d in
-    apply-map (readRegister old) sel (r .function) ∙ apply-agree (λ o. readRegister old (sel o)) (valueIn vs ts) (r .function) (operands-map (λ o u. subst (λ m. readRegister old (selectAfter g p m o) ≡ valueIn vs ts o) (sym same) (found-after g p ts (f .lefts) vs base (f .sized) o u)) (r .function) (operands-available g p fp (length ts) r i (omega arith) (λ z. omega (arith, same))))
+    let available = operands-available g p fp (length ts) r i (omega arith) (λ z. omega (arith, same)) in
+    apply-map (readRegister old) sel (r .function)
+    ∙ apply-agree (λ o. readRegister old (sel o)) (valueIn vs ts) (r .function)
+    (operands-map (λ o u. subst (λ m. readRegister old (selectAfter g p m o) ≡ valueIn vs ts o) (sym same) (found-after g p ts (f .lefts) vs base (f .sized) o u)) (r .function) available)
 
 pub close : (g : Grammar) (p : Production) → Evaluable g p → (vs : List ℤ) (ts : List Tree) (base : List ℤ) → Front g p vs ts → drop (length ts) (p .right) ≡ []
     → T (all (λ r. inRange (apply (readRegister (synsOf g ts ++ (vs ++ (marks (syn g (nonterminal (p .left))) ++ base)))) (r .function))) (synthesizedRules g p))

@@ -1,4 +1,4 @@
--- 02 (f): the quotient that is computed is the nearest whole number, halves upward, and no other is; it never leaves the range of values.
+-- The laws of `Value.quotient` and `Value.floored`, which are sealed. 02 (f): the quotient that is computed is the nearest whole number, halves upward, and no other is; it never leaves the range of values.
 use Prim.Native.Nat.{ℕ, zero, suc, _+_, _-_, _*_, _/_, _≤_, _<_}
 use native.Mathlib.Nat.{mul-div-le, lt-mul-div-succ, div-eq-of-lt-le, div-eq-of-lt, div-lt-iff-lt-mul, div-le-of-le-mul, mul-suc, mul-comm, mul-le-mul-left}
 use native.Mathlib.Omega.{arith}
@@ -12,11 +12,21 @@ use Rattle.meaning.specs.ValueStatements.{NearestExactly, QuotientInRange}
 use Rattle.theory_base.specs.Members.{both, and}
 
 -- ---- the greatest whole number at most n / d
+
+pub floored-pos : (n d : ℕ) → floored (pos n) d ≡ pos (n / d)
+unfolding floored
+floored-pos n d = refl
+
+pub floored-negsuc : (n d : ℕ) → floored (negsuc n) d ≡ negsuc (n / d)
+unfolding floored
+floored-negsuc n d = refl
+
 negated : (k : ℕ) → 0 < k → negℤ (pos k) ≡ negsuc (k - 1)
 negated zero l = absurd (omega arith)
 negated (suc k) l = ap negsuc (omega arith)
 
-floor-low : (n : ℤ) (d : ℕ) → 0 < d → T (leZ (pos d *ℤ floored n d) n)
+pub floor-low : (n : ℤ) (d : ℕ) → 0 < d → T (leZ (pos d *ℤ floored n d) n)
+unfolding floored
 floor-low (pos n) d l = le→leb (d * (n / d)) n (mul-div-le n d)
 floor-low (negsuc n) d l =
     let e : n < d * suc (n / d) = subst (λ (k : ℕ). n < d * k) (omega arith) (lt-mul-div-succ n {b = d} l) in
@@ -28,14 +38,16 @@ below n d (suc m) l h =
     let s : d * suc m ≡ d * m + d = mul-suc d m in
     rw (negated (d * suc m) (omega arith)) (lt→ltb (d * suc m - 1) n (omega arith))
 
-floor-high : (n : ℤ) (d : ℕ) → 0 < d → T (ltZ n (pos d *ℤ sucℤ (floored n d)))
+pub floor-high : (n : ℤ) (d : ℕ) → 0 < d → T (ltZ n (pos d *ℤ sucℤ (floored n d)))
+unfolding floored
 floor-high (pos n) d l = lt→ltb n (d * suc (n / d)) (subst (λ (k : ℕ). n < d * k) (omega arith) (lt-mul-div-succ n {b = d} l))
 floor-high (negsuc n) d l = below n d (n / d) l (mul-div-le n d)
 
 divided : (n m d : ℕ) → d * m ≤ n → n < d * suc m → m ≡ n / d
 divided n m d p q = sym (div-eq-of-lt-le d (subst (λ (k : ℕ). k ≤ n) (mul-comm d m) p) (subst (λ (k : ℕ). n < k) (mul-comm d (suc m) ∙ ap (λ (k : ℕ). k * d) (omega arith)) q))
 
-floor-only : (n q : ℤ) (d : ℕ) → 0 < d → T (leZ (pos d *ℤ q) n) → T (ltZ n (pos d *ℤ sucℤ q)) → q ≡ floored n d
+pub floor-only : (n q : ℤ) (d : ℕ) → 0 < d → T (leZ (pos d *ℤ q) n) → T (ltZ n (pos d *ℤ sucℤ q)) → q ≡ floored n d
+unfolding floored
 floor-only (pos n) (pos m) d l p q = ap pos (divided n m d (leb→le (d * m) n p) (ltb→lt n (d * suc m) q))
 floor-only (pos n) (negsuc zero) d l p q = let k = ltb→lt n (d * 0) q in absurd (omega arith)
 floor-only (pos n) (negsuc (suc m)) d l p q =
@@ -87,6 +99,7 @@ moved x q c =
 
 -- ---- the quotient is nearest, and nothing else is
 divides : (a : ℤ) (c : ℕ) → 0 < c → quotient a (pos c) ≡ floored (a +ℤ a +ℤ pos c) (c + c)
+unfolding quotient
 divides a zero l = absurd (omega arith)
 divides a (suc c) l = refl
 
@@ -107,6 +120,17 @@ nearest-exactly a c q l = (
   λ e. subst (λ z. T (nearest a c z)) (sym (e ∙ divides a c l)) (quotient-nearest a c l),
 )
 
+-- the same by any whole number from 1 on, and what it is by the others
+pub quotient-floored : (a c : ℤ) → leZ (pos 1) c ≡ true → quotient a c ≡ floored (a +ℤ a +ℤ c) (natAbs (c +ℤ c))
+quotient-floored a (pos c) e = divides a c (leb→le 1 c (subst T (sym e) tt))
+quotient-floored a (negsuc c) e = absurd (subst T (sym e) tt)
+
+pub quotient-low : (a c : ℤ) → leZ (pos 1) c ≡ false → quotient a c ≡ pos 0
+unfolding quotient
+quotient-low a (pos zero) e = refl
+quotient-low a (pos (suc c)) e = absurd (subst T e (le→leb 1 (suc c) (omega arith)))
+quotient-low a (negsuc c) e = refl
+
 -- ---- its size
 size-up : (n c : ℕ) → (n + n + suc c) / (suc c + suc c) ≤ n
 size-up n c =
@@ -117,6 +141,7 @@ size-up n c =
     omega arith
 
 size-down : (n c : ℕ) → natAbs (floored (negsuc (suc (n + n)) +ℤ pos (suc c)) (suc c + suc c)) ≤ suc n
+unfolding floored
 size-down n c = go (ltb (suc c) (suc (suc (n + n)))) refl
   where
     go : (b : Bool) → ltb (suc c) (suc (suc (n + n))) ≡ b → natAbs (floored (cond b (negsuc (suc (suc (n + n)) - suc (suc c))) (pos (suc c - suc (suc (n + n))))) (suc c + suc c)) ≤ suc n
@@ -127,6 +152,7 @@ size-down n c = go (ltb (suc c) (suc (suc (n + n)))) refl
     go false e = let h : (suc c - suc (suc (n + n))) / (suc c + suc c) ≡ 0 = div-eq-of-lt (omega arith) in omega arith
 
 pub quotient-size : (a c : ℤ) → natAbs (quotient a c) ≤ natAbs a
+unfolding quotient floored
 quotient-size a (pos zero) = omega arith
 quotient-size (pos n) (pos (suc c)) = size-up n c
 quotient-size (negsuc n) (pos (suc c)) = size-down n c

@@ -12,7 +12,8 @@ use Rattle.meaning.specs.Base.{In, all, isEmpty, keep, countFrom}
 use Rattle.meaning.specs.Grammar.{Grammar, Leaf, terminal, nonterminal, productionAt, Look}
 use Rattle.meaning.specs.Value.{apply, holds, inRange}
 use Rattle.meaning.specs.Scheme.{Instruction, add, evaluate, expect, test, remove}
-use Rattle.meaning.specs.Machine.{Frame, Config, Lent, Coming, comes, ends, asLook, Outcome, moved, blocked, chooseOutcome, next, nextOf, move, readRegister, writeAll, movesLimit, onward, parentOnward, accept, predict, push, alternatives, entered, isOf, unexpected, schemeAt, Settled, stopped, failed, waits, isDone, advance}
+use Rattle.meaning.specs.Machine.{Frame, Config, Lent, Coming, comes, ends, asLook, Outcome, moved, blocked, chooseOutcome, next, nextOf, move, readRegister, writeAll, movesLimit, onward, parentOnward, accept, predict, push}
+use Rattle.meaning.specs.Machine.{alternatives, entered, isOf, unexpected, schemeAt, Settled, stopped, failed, waits, isDone, advance}
 use Rattle.meaning.specs.Sets.{lookNumber, starts, has}
 use Rattle.meaning.specs.Part.{marks, frame, config}
 use Rattle.theory_base.specs.Members.{both, in-keep, from-in}

@@ -109,7 +109,10 @@ module _ (g : Grammar) (j : ℕ) where
       let e = walk-if g (j - b) p ws (not (isEmpty rules)) (evaluate rules) (expect x ∷ behind) (treeAnd t f) refl in
       let c = ap (made (j - b)) (append-assoc (walk g t) (walkOn g p behind f) ws) ∙ tree (walkOn g p behind f ++ ws) in
       let d = walk-if g (j - (b + width t)) p ws (not (isEmpty tests)) (test tests) is f refl in
-      a ∙ rw (e, c, d, others, inherited-present g r (evaluable q) k l, tests-present g r (suc k)) (sum-if (isLeft j b t) (areLeft j (b + width t) f) (oneIf (ltb 0 (addedFor g x))) (oneIf (ltb 0 (inh g x))) (movesOf g j b t) (oneIf (not (isEmpty (conditionsAt r (suc k))))) (movesIn g j (b + width t) p (suc (suc k)) f) z)
+      a
+      ∙ rw (e, c, d, others, inherited-present g r (evaluable q) k l, tests-present g r (suc k))
+      (sum-if (isLeft j b t) (areLeft j (b + width t) f) (oneIf (ltb 0 (addedFor g x))) (oneIf (ltb 0 (inh g x))) (movesOf g j b t)
+      (oneIf (not (isEmpty (conditionsAt r (suc k))))) (movesIn g j (b + width t) p (suc (suc k)) f) z)
 
 module _ (g : Grammar) (w : WellFormed g) (j : ℕ) where
   mutual

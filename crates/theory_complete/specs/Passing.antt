@@ -251,9 +251,11 @@ module _ (g : Grammar) (p : Production) (vs : List ℤ) (f : Forest) (e : Evalua
           let r : Rule Occurrence = m .0 in
           let o : OutputAt g p 0 (r .target .attribute) = subst (λ j. OutputAt g p j (r .target .attribute)) (m .2) (e .formed .targets r (m .1)) in
           let v = value-synthesized g p (e .formed) (inheritedIn g p vs) (firsts n f) (marks (syn g (symbolAt p 0)) ++ rs) (front g p vs f e n (omega arith)) none-left r (m .1) (m .2) ∙ sym (results g p vs f e .rules r (m .1) (m .2)) in
-          let all-values : T (all inRange (inheritedIn g p vs ++ synthesizedIn g p vs)) = rw (take-append-drop (inh g (symbolAt p 0)) vs) (e .ranges) in
+          let whole = inheritedIn g p vs ++ synthesizedIn g p vs in
+          let a = r .target .attribute - 1 in
+          let all-values : T (all inRange whole) = rw (take-append-drop (inh g (symbolAt p 0)) vs) (e .ranges) in
           let size = ap length (take-append-drop (inh g (symbolAt p 0)) vs) in
-          rw (m .3, v) (all-in inRange (inheritedIn g p vs ++ synthesizedIn g p vs) all-values (getD (inheritedIn g p vs ++ synthesizedIn g p vs) (r .target .attribute - 1) (pos 0)) (getD-in (inheritedIn g p vs ++ synthesizedIn g p vs) (r .target .attribute - 1) (pos 0) (omega (arith, size, e .size, o .0, o .1))))
+          rw (m .3, v) (all-in inRange whole all-values (getD whole a (pos 0)) (getD-in whole a (pos 0) (omega (arith, size, e .size, o .0, o .1))))
 
   pub synthesized-in-range : all (λ r. inRange (apply (readRegister full) (r .function))) (synthesizedRules g p) ≡ true
   synthesized-in-range = T→true _ results-range

@@ -88,5 +88,9 @@ walk-always program bs g m₀ ts us isOver r m t a h k f over = go isOver over (
     go true u d (inr o) =
         let none : o .unread ≡ [] = no-elements (o .unread) (omega (arith, ap length (o .joined), leaves-length g ts, length-append (o .before) (o .unread), o .held .shows .tokens, ap (λ z. z .tokens) (sym (o .isRecord) ∙ d))) in
         let e : us′ ≡ [] = ap (leaves g) (u refl) in
-        at true (o .led .moves) (o .config) d false (o .isRecord) (o .isStacks) (subst (λ z. Makes g (lentOf m₀) (leaves g ts ++ z) (opening g) (o .led .moves) z (o .config)) (sym e) (subst (λ z. Makes g (lentOf m₀) z (opening g) (o .led .moves) [] (o .config)) (sym (append-nil (leaves g ts))) (subst (λ z. Makes g (lentOf m₀) (leaves g ts) (opening g) (o .led .moves) z (o .config)) none (o .led .made))))
+        let ws = o .led .moves in
+        let c = o .config in
+        let all-read = subst (λ z. Makes g (lentOf m₀) (leaves g ts) (opening g) ws z c) none (o .led .made) in
+        let no-more = subst (λ z. Makes g (lentOf m₀) z (opening g) ws [] c) (sym (append-nil (leaves g ts))) all-read in
+        at true ws c d false (o .isRecord) (o .isStacks) (subst (λ z. Makes g (lentOf m₀) (leaves g ts ++ z) (opening g) ws z c) (sym e) no-more)
     go false u d (inr o) = absurd (subst T (ap isOpen (sym d ∙ o .isRecord)) tt)

@@ -157,7 +157,8 @@ module _ (g : Grammar) (formed : WellFormed g) (us : List Leaf) (few : length us
       go (node p vs f) w l s =
           let own : Node g (nonterminal m) p vs f = w .0 in
           let e₀ : drop at bytes ≡ recordBytes p from (length (yields f)) vs ++ (sheets from f ++ drop n bytes) = s .written ∙ append-assoc (recordBytes p from (length (yields f)) vs) (sheets from f) (drop n bytes) in
-          let r : RecordRead bytes at p from (length (yields f)) vs (sheets from f ++ drop n bytes) = record-read bytes at p from (length (yields f)) vs (sheets from f ++ drop n bytes) (omega (arith, own .listed, formed .productions .1)) (omega arith) (omega (arith, yield-small s)) (own .ranges) e₀ in
+          let rest = sheets from f ++ drop n bytes in
+          let r = record-read bytes at p from (length (yields f)) vs rest (omega (arith, own .listed, formed .productions .1)) (omega arith) (omega (arith, yield-small s)) (own .ranges) e₀ in
           let z : nonterminal m ≡ nonterminal (productionAt g p .left) = own .symbol in
           let left-is : m ≡ productionAt g p .left = cc in
           let same : p ≡ wordAt bytes at = sym (r .production) in

@@ -21,7 +21,7 @@ use Rattle.theory_base.specs.Members.{both}
 use Rattle.theory_table.specs.Numbers.{four-joined, unsigned-small, signed-unsigned, divisor-in}
 use Rattle.value.specs.Computed.{computed}
 use Rattle.value.specs.Ranged.{ranged}
-use Rattle.blocks.specs.Walk.{Listed}
+use Rattle.block_words.specs.Walk.{Listed}
 
 -- ---- what holds, by the values v of the occurrences
 
@@ -138,7 +138,9 @@ and-joined : (a b c : Bool) → (a && b) && c ≡ a && (b && c)
 and-joined true b c = refl
 and-joined false b c = refl
 
-step-of : {rs : List (Rule Occurrence)} {cs : List (Condition Occurrence)} {d : List ℕ} (own : RulesAndConditions rs cs d) (constants : (r : Rule Occurrence) → In r rs → Constant (r .function)) (proper : (c : Condition Occurrence) → In c cs → Proper c) → 0 < length d → Step d (record { rules = rs; conditions = cs; own = own; constants = constants; proper = proper })
+step-of : {rs : List (Rule Occurrence)} {cs : List (Condition Occurrence)} {d : List ℕ} (own : RulesAndConditions rs cs d)
+    (constants : (r : Rule Occurrence) → In r rs → Constant (r .function)) (proper : (c : Condition Occurrence) → In c cs → Proper c) → 0 < length d
+    → Step d (record { rules = rs; conditions = cs; own = own; constants = constants; proper = proper })
 unfolding allTrue
 step-of nothing constants proper l = absurd (omega arith)
 step-of (rule r {rs} {cs} {bs} own) constants proper l =

@@ -8,8 +8,8 @@ use Rattle.meaning.specs.Judgement as Judgement
 use Rattle.meaning.specs.Judgement.{Accepted}
 use Rattle.meaning.specs.Decide.{verdictOf}
 use Rattle.meaning.specs.Table.{State, Read, wellFormed, malformed, nothingRead, readTable, grammarOf}
-use Rattle.meaning.specs.Words.{words}
-use Rattle.meaning.specs.TableRows.{bytes}
+use Rattle.meaning.specs.Examples.Words.{words}
+use Rattle.meaning.specs.Examples.TableRows.{bytes}
 use Rattle.theory_sets.specs.Accepted.{verdict→accepted}
 use Rattle.theory_complete.specs.Halves.{only}
 use Rattle.meaning_judge.specs.Judge.{Describes, worth, turnedBack, JudgedAs}

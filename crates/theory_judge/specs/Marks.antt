@@ -21,7 +21,7 @@ use Rattle.theory_base.specs.Agree.{operands-map, apply-agree, reads-map, holds
 use Rattle.theory_base.specs.Selectors.{leaf-ranges, tree-size}
 use Rattle.value.specs.Ranged.{ranged, ranged-in, in-ranged}
 use Rattle.theory_judge.specs.Longs.{longAt, longs, longs-at, cons-one}
-use Rattle.theory_judge.specs.Described.{RecordRead, record-read, Stands, yield-small, Described, noLeaf}
+use Rattle.theory_judge.specs.Described.{record-read, Stands, yield-small, Described, noLeaf}
 use Rattle.theory_judge.specs.Holding.{sameZ, same-exactly, ruleTrue, allTrue}
 
 -- ---- reading
@@ -29,13 +29,6 @@ use Rattle.theory_judge.specs.Holding.{sameZ, same-exactly, ruleTrue, al
 -- a number where it is a value, else 0
 abbrev pub told : ℤ → ℤ
 told z = pick (inRange z) z (pos 0)
-
-pub told-in : (z : ℤ) → inRange (told z) ≡ true
-told-in z = go (inRange z) refl
-  where
-    go : (b : Bool) → inRange z ≡ b → inRange (pick b z (pos 0)) ≡ true
-    go true e = e
-    go false e = refl
 
 pub told-same : (z : ℤ) → T (inRange z) → told z ≡ z
 told-same z t = ap (λ b. pick b z (pos 0)) (T→true (inRange z) t)
@@ -124,7 +117,8 @@ module _ (g : Grammar) (formed : WellFormed g) (ks : List ℕ) (vals : List ℤ)
       go (nonterminal m) (leaf u) w s a lo hi = let z = w .0 in let y : _≡_ {A = ℕ} 0 1 = cc in absurd (omega arith)
       go (nonterminal m) (node p vs f) w s a lo hi =
           let e₀ : drop at bytes ≡ recordBytes p from (length (yields f)) vs ++ (sheets from f ++ drop n bytes) = s .written ∙ append-assoc (recordBytes p from (length (yields f)) vs) (sheets from f) (drop n bytes) in
-          let r : RecordRead bytes at p from (length (yields f)) vs (sheets from f ++ drop n bytes) = record-read bytes at p from (length (yields f)) vs (sheets from f ++ drop n bytes) (omega (arith, w .0 .listed, formed .productions .1)) (omega arith) (omega (arith, yield-small s)) (w .0 .ranges) e₀ in
+          let rest = sheets from f ++ drop n bytes in
+          let r = record-read bytes at p from (length (yields f)) vs rest (omega (arith, w .0 .listed, formed .productions .1)) (omega arith) (omega (arith, yield-small s)) (w .0 .ranges) e₀ in
           values-shown bytes vals at p vs f (omega (arith, r .inside)) (w .0 .ranges) (r .values) a lo hi
 
 -- ---- marks show all occurrences of a node

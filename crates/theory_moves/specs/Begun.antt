@@ -87,7 +87,9 @@ module _ (g : Grammar) (formed : WellFormed g) (t : Tree) (w : WellEvaluated g t
 
   -- ---- the production predicted is the tree's
 
-  same-production : (o : Open) (bs : List Ancestor) (p q : ℕ) (vs ws : List ℤ) (h f : Forest) (rest us : List Leaf) (ys xs : List Symbol) (x : Symbol) → x ≡ nonterminal (productionAt g p .left) → WellEvaluated g (node q ws h) x → Chosen g (yields f ++ rest) q ws h → inheritedOf g (node q ws h) ≡ vs → yields (treeAnd (node q ws h) f) ++ rest ≡ us
+  same-production : (o : Open) (bs : List Ancestor) (p q : ℕ) (vs ws : List ℤ) (h f : Forest) (rest us : List Leaf) (ys xs : List Symbol) (x : Symbol)
+      → x ≡ nonterminal (productionAt g p .left) → WellEvaluated g (node q ws h) x → Chosen g (yields f ++ rest) q ws h → inheritedOf g (node q ws h) ≡ vs
+      → yields (treeAnd (node q ws h) f) ++ rest ≡ us
       → In p (keep (entered g (drawRegisters g (partOf (nodeOf p vs []) (fresh ys) (waitingAt o x xs ∷ bs)))) (alternatives g (productionAt g p .left) (asLook (lookAt us)))) → p ≡ q
   same-production o bs p q vs ws h f rest us ys xs x e v c i pos pick = one (subst (In p) (same ∙ c below) pick)
     where
@@ -110,7 +112,8 @@ module _ (g : Grammar) (formed : WellFormed g) (t : Tree) (w : WellEvaluated g t
       stream : us ≡ yields h ++ (yields f ++ rest)
       stream = sym pos ∙ append-assoc (yields h) (yields f) rest
 
-      same : keep (entered g (drawRegisters g (partOf (nodeOf p vs []) (fresh ys) (waitingAt o x xs ∷ bs)))) (alternatives g (productionAt g p .left) (asLook (lookAt us))) ≡ keep (entered g (waiting g (node q ws h) ++ below)) (alternatives g (productionAt g q .left) (asLook (lookAt (yields h ++ (yields f ++ rest)))))
+      same : keep (entered g (drawRegisters g (partOf (nodeOf p vs []) (fresh ys) (waitingAt o x xs ∷ bs)))) (alternatives g (productionAt g p .left) (asLook (lookAt us)))
+          ≡ keep (entered g (waiting g (node q ws h) ++ below)) (alternatives g (productionAt g q .left) (asLook (lookAt (yields h ++ (yields f ++ rest)))))
       same = λ j. keep (entered g (registers j)) (alternatives g (lefts j) (asLook (lookAt (stream j))))
 
   begun-below : (o : Open) (bs : List Ancestor) (b : Begun g t o bs) (p : ℕ) (ws vs : List ℤ) (h f : Forest) (x : Symbol) (xs : List Symbol) → b .ahead ≡ treeAnd (node p ws h) f → inheritedOf g (node p ws h) ≡ vs → Begun g t (nodeOf p vs []) (waitingAt o x xs ∷ bs)
@@ -132,7 +135,10 @@ module _ (g : Grammar) (formed : WellFormed g) (t : Tree) (w : WellEvaluated g t
   begun-predict : (o : Open) (bs : List Ancestor) (p : ℕ) (vs : List ℤ) (ys : List Symbol) (x : Symbol) (xs : List Symbol) (us : List Leaf) → Good g (partOf (nodeOf p vs []) (fresh ys) (waitingAt o x xs ∷ bs))
       → In p (keep (entered g (drawRegisters g (partOf (nodeOf p vs []) (fresh ys) (waitingAt o x xs ∷ bs)))) (alternatives g (productionAt g p .left) (asLook (lookAt us))))
       → (b : Begun g t o bs) → yields (b .ahead) ++ b .rest ≡ us → Begun g t (nodeOf p vs []) (waitingAt o x xs ∷ bs)
-  begun-predict o bs p vs ys x xs us gd pick b pos = go (n .tree) (n .isNext) (n .evaluated) (subst (Foreseens g (b .rest)) (n .isNext) (ahead-foreseen g (b .rest) (o .children) (b .ahead) (begun-sits o bs b .foreseen)) .0) (ap (inheritedOf g) (sym (ap (λ z. child (forestOnto (o .children) z) (length (o .children))) (n .isNext) ∙ ahead-child (o .children) (n .tree) (n .after))) ∙ next-handed o bs b x vs xs gn)
+  begun-predict o bs p vs ys x xs us gd pick b pos =
+      let foreseen = subst (Foreseens g (b .rest)) (n .isNext) (ahead-foreseen g (b .rest) (o .children) (b .ahead) (begun-sits o bs b .foreseen)) in
+      let isChild = ap (λ z. child (forestOnto (o .children) z) (length (o .children))) (n .isNext) ∙ ahead-child (o .children) (n .tree) (n .after) in
+      go (n .tree) (n .isNext) (n .evaluated) (foreseen .0) (ap (inheritedOf g) (sym isChild) ∙ next-handed o bs b x vs xs gn)
     where
       gn : GoodNode g o (valued x vs xs)
       gn = gd .stands .2
@@ -148,16 +154,22 @@ module _ (g : Grammar) (formed : WellFormed g) (t : Tree) (w : WellEvaluated g t
 
   -- ---- a complete part is the tree's node
 
-  is-node : (o : Open) (a : Ancestor) (bs : List Ancestor) (b : Begun g t o (a ∷ bs)) (ss : List ℤ) (y : Symbol) → length (o .inherited) ≡ inh g (nonterminal (productionAt g (o .production) .left)) → WellEvaluated g (treeOf (o .production) (o .inherited ++ ss) (o .children)) y → node (o .production) (b .values) (forestOnto (o .children) (b .ahead)) ≡ treeOf (o .production) (o .inherited ++ ss) (o .children)
+  abbrev closed : Open → List ℤ → Tree
+  closed o ss = treeOf (o .production) (o .inherited ++ ss) (o .children)
+
+  is-node : (o : Open) (a : Ancestor) (bs : List Ancestor) (b : Begun g t o (a ∷ bs)) (ss : List ℤ) (y : Symbol)
+      → length (o .inherited) ≡ inh g (nonterminal (productionAt g (o .production) .left)) → WellEvaluated g (closed o ss) y
+      → node (o .production) (b .values) (forestOnto (o .children) (b .ahead)) ≡ closed o ss
   is-node o a bs b ss y s v =
       let k = along-evaluated g formed t w fore a bs _ (b .rest) (b .along) in
       same-node g formed (o .production) (b .values) (o .inherited ++ ss) (o .children) (b .ahead) (k .0) y (k .1) v (b .inherited ∙ sym (take-at (o .inherited) ss (inh g (nonterminal (productionAt g (o .production) .left))) s))
 
-  begun-remove : (o : Open) (a : Ancestor) (bs : List Ancestor) (ss : List ℤ) → length (o .inherited) ≡ inh g (nonterminal (productionAt g (o .production) .left)) → Good g (partOf (withChild (a .node) (treeOf (o .production) (o .inherited ++ ss) (o .children))) (left (a .ahead)) bs) → Begun g t o (a ∷ bs) → Begun g t (withChild (a .node) (treeOf (o .production) (o .inherited ++ ss) (o .children))) bs
+  begun-remove : (o : Open) (a : Ancestor) (bs : List Ancestor) (ss : List ℤ) → length (o .inherited) ≡ inh g (nonterminal (productionAt g (o .production) .left))
+      → Good g (partOf (withChild (a .node) (closed o ss)) (left (a .ahead)) bs) → Begun g t o (a ∷ bs) → Begun g t (withChild (a .node) (closed o ss)) bs
   begun-remove o a bs ss s gd b =
       let up = b .along in
       begun-more (a .node) bs (record { values = up .values; ahead = treeAnd (node (o .production) (b .values) (forestOnto (o .children) (b .ahead))) (up .after); rest = up .later; along = up .parent; inherited = up .inherited })
-      (treeOf (o .production) (o .inherited ++ ss) (o .children)) (up .after)
+      (closed o ss) (up .after)
       (ap (λ z. treeAnd z (up .after)) (is-node o a bs b ss (symbolAt (productionAt g (a .node .production)) (suc (length (a .node .children)))) s (gd .node .0 .lefts .1)))
 
   -- ---- a move

@@ -51,10 +51,13 @@ module _ (g : Grammar) (formed : WellFormed g) (lent : Lent) (stream : List Leaf
       let p : k .1 .production ≡ v .part .node .production = ap (λ z. topProduction (z .frames)) (k .1 .result) ∙ sym (ap topProduction (v .frames)) in
       let n : k .0 ≡ productionAt g (v .part .node .production) .left = sym (k .1 .left) ∙ ap (λ z. productionAt g z .left) p in
       let rs : d .registers ≡ drawRegisters g (v .part) = ap (λ z. z .registers) (k .1 .result) ∙ sym (v .registers) in
-      let sets : keep (entered g (d .registers)) (alternatives g (k .0) (asLook (lookAt vs))) ≡ keep (entered g (drawRegisters g (v .part))) (alternatives g (productionAt g (v .part .node .production) .left) (asLook (lookAt vs))) = λ j. keep (entered g (rs j)) (alternatives g (n j) (asLook (lookAt vs))) in
+      let left = productionAt g (v .part .node .production) .left in
+      let look = asLook (lookAt vs) in
+      let sets : keep (entered g (d .registers)) (alternatives g (k .0) look) ≡ keep (entered g (drawRegisters g (v .part))) (alternatives g left look) = λ j. keep (entered g (rs j)) (alternatives g (n j) look) in
       subst₂ (λ z zs. In z zs) p sets (k .1 .among)
 
-  made-more : (ws : List Act) (vs : List Leaf) → T (all (isLeafOf g) vs) → (d e : Config) → Made g stream ws vs d → (p : ℕ) (i : Instruction) (is : List Instruction) (fs : List Frame) → d .frames ≡ frame p (i ∷ is) ∷ fs → next g lent (lookAt vs) d ≡ moved e → Made g stream (ws ++ (actBy p i e ∷ [])) (unread d e vs) e
+  made-more : (ws : List Act) (vs : List Leaf) → T (all (isLeafOf g) vs) → (d e : Config) → Made g stream ws vs d → (p : ℕ) (i : Instruction) (is : List Instruction) (fs : List Frame)
+      → d .frames ≡ frame p (i ∷ is) ∷ fs → next g lent (lookAt vs) d ≡ moved e → Made g stream (ws ++ (actBy p i e ∷ [])) (unread d e vs) e
   made-more ws vs ok d e m p i is fs now h = go (v .reading)
     where
       s : Shows g (m .read) d

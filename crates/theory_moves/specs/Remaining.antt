@@ -96,12 +96,16 @@ module _ (g : Grammar) (o : Open) (n : ℕ) (is : List Instruction) where
   last-tail true e = absurd (let z : _≡_ {A = ℕ} 0 1 = cc in omega arith)
   last-tail false e = sym (ap (drop 1) (past-evaluate (synthesizedRules g (productionAt g (o .production))) (remove (removed g (productionAt g (o .production))) ∷ []) e))
 
-  last-added : (k : ℕ) (x : Symbol) (xs : List Symbol) → consIf (not (isEmpty (inheritedRules g (productionAt g (o .production)) (suc k)))) (evaluate (inheritedRules g (productionAt g (o .production)) (suc k))) (waitRest g (o .production) k x xs) ≡ remove n ∷ is → is ≡ []
+  -- the instructions once the registers of the symbol at hand are added
+  abbrev addedRest : ℕ → Symbol → List Symbol → List Instruction
+  addedRest k x xs = consIf (not (isEmpty (inheritedRules g (productionAt g (o .production)) (suc k)))) (evaluate (inheritedRules g (productionAt g (o .production)) (suc k))) (waitRest g (o .production) k x xs)
+
+  last-added : (k : ℕ) (x : Symbol) (xs : List Symbol) → addedRest k x xs ≡ remove n ∷ is → is ≡ []
   last-added k x xs e = not-expect x (leftRest g (o .production) (suc k) xs) (past-evaluate (inheritedRules g (productionAt g (o .production)) (suc k)) (waitRest g (o .production) k x xs) e)
 
   last-fresh : (k : ℕ) (xs : List Symbol) → freshRest g (o .production) k xs ≡ remove n ∷ is → is ≡ []
   last-fresh k [] e = last-tail (eqb (o .production) whole) e
-  last-fresh k (x ∷ xs) e = last-added k x xs (past (ltb 0 (addedFor g x)) (add (addedFor g x)) (consIf (not (isEmpty (inheritedRules g (productionAt g (o .production)) (suc k)))) (evaluate (inheritedRules g (productionAt g (o .production)) (suc k))) (waitRest g (o .production) k x xs)) is n (λ j w. let z : _≡_ {A = ℕ} 0 1 = cc in omega arith) e)
+  last-fresh k (x ∷ xs) e = last-added k x xs (past (ltb 0 (addedFor g x)) (add (addedFor g x)) (addedRest k x xs) is n (λ j w. let z : _≡_ {A = ℕ} 0 1 = cc in omega arith) e)
 
   last-remove : (pt : Point) → drawRest g o pt ≡ remove n ∷ is → is ≡ []
   last-remove (fresh xs) e = last-fresh (length (o .children)) xs e
@@ -136,14 +140,17 @@ module _ (g : Grammar) (t : Tree) (o : Open) (pt : Point) (p : ℕ) (is : List I
   at-top : (bs : List Ancestor) (i : Instruction) (fs : List Frame) → drawFrames g (partOf o pt bs) ≡ frame p (i ∷ is) ∷ fs → remaining g t (partOf o pt bs) ≡ walkOn g p (i ∷ is) (comes t bs (length (o .children))) ++ later g t bs
   at-top bs i fs e = ap (λ z. walkOn g (topProduction z) (topRest z) (comes t bs (length (o .children))) ++ later g t bs) e
 
-  first-inside : (bs : List Ancestor) (i : Instruction) (fs : List Frame) (pt′ : Point) (e : Config) → isExpect i ≡ 0 → drawFrames g (partOf o pt bs) ≡ frame p (i ∷ is) ∷ fs → drawFrames g (partOf o pt′ bs) ≡ frame p is ∷ fs → remaining g t (partOf o pt bs) ≡ actBy p i e ∷ remaining g t (partOf o pt′ bs)
+  first-inside : (bs : List Ancestor) (i : Instruction) (fs : List Frame) (pt′ : Point) (e : Config) → isExpect i ≡ 0 → drawFrames g (partOf o pt bs) ≡ frame p (i ∷ is) ∷ fs
+      → drawFrames g (partOf o pt′ bs) ≡ frame p is ∷ fs → remaining g t (partOf o pt bs) ≡ actBy p i e ∷ remaining g t (partOf o pt′ bs)
   first-inside bs i fs pt′ e z old new =
       let f = comes t bs (length (o .children)) in
       let w = later g t bs in
       let then : walkOn g p is f ++ w ≡ remaining g t (partOf o pt′ bs) = sym (ap (λ z. walkOn g (topProduction z) (topRest z) f ++ w) new) in
       at-top bs i fs old ∙ (ap (λ z. z ++ w) (performed g p i is f z) ∙ ap₂ _∷_ (sym (act-is p i e z)) then)
 
-  first-read : (bs : List Ancestor) (c : Leaf) (fs : List Frame) (xs : List Symbol) → drawFrames g (partOf o pt bs) ≡ frame p (expect (terminal (c .kind)) ∷ is) ∷ fs → drawFrames g (partOf (withChild o (leaf c)) (left xs) bs) ≡ frame p is ∷ fs → Begun g t (withChild o (leaf c)) bs → remaining g t (partOf o pt bs) ≡ Walk.reads (c .kind) ∷ remaining g t (partOf (withChild o (leaf c)) (left xs) bs)
+  first-read : (bs : List Ancestor) (c : Leaf) (fs : List Frame) (xs : List Symbol) → drawFrames g (partOf o pt bs) ≡ frame p (expect (terminal (c .kind)) ∷ is) ∷ fs
+      → drawFrames g (partOf (withChild o (leaf c)) (left xs) bs) ≡ frame p is ∷ fs → Begun g t (withChild o (leaf c)) bs
+      → remaining g t (partOf o pt bs) ≡ Walk.reads (c .kind) ∷ remaining g t (partOf (withChild o (leaf c)) (left xs) bs)
   first-read bs c fs xs old new b =
       let f = comes t bs (suc (length (o .children))) in
       let w = later g t bs in
@@ -222,4 +229,6 @@ pub first-move : (g : Grammar) → WellFormed g → (lent : Lent) (l : Coming) (
 first-move g formed lent l t ts d e s v p i is fs now h b =
     let r = result g lent l d (frame p (i ∷ is)) fs i e (move-of g lent l d e p i is fs now h .1) in
     let high = frames-are g (s .part) (d .frames) (s .frames) in
-    first-by g formed lent l t d e (s .part .point) p is fs i (v .grown) (did g lent l d e p i is fs r) refl (s .frames ∙ now) now (v .frames) (omega (arith, high, ap length now)) (frames-are g (v .part) (e .frames) (v .frames)) (grew-alike (d .tokens) (e .tokens) l (yieldPart (s .part)) (yieldPart (v .part)) (v .reading)) b
+    let deep = frames-are g (v .part) (e .frames) (v .frames) in
+    let grew = grew-alike (d .tokens) (e .tokens) l (yieldPart (s .part)) (yieldPart (v .part)) (v .reading) in
+    first-by g formed lent l t d e (s .part .point) p is fs i (v .grown) (did g lent l d e p i is fs r) refl (s .frames ∙ now) now (v .frames) (omega (arith, high, ap length now)) deep grew b

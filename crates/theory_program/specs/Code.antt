@@ -7,11 +7,11 @@ use mathlib.Core.List.{List, [], _∷_, map}
 use mathlib.Core.Option.{none, some}
 use lib.ListN.{length, getD, length-append}
 use Rattle.meaning.specs.Base.{In}
-use Rattle.meaning.specs.Grammar.{Symbol, terminal, nonterminal, Function, const, copy, sum, diff, prod, maxi, mini, addc, quot, Rule, Condition, range, atmost}
+use Rattle.meaning.specs.Grammar.{terminal, nonterminal, Function, const, copy, sum, diff, prod, maxi, mini, addc, quot, Rule, Condition, range, atmost}
 use Rattle.meaning.specs.Scheme.{Instruction, add, evaluate, expect, test, remove}
 use Rattle.meaning.specs.Machine.{expects}
 use Rattle.meaning.specs.Calls.{fromExpect}
-use Rattle.meaning.specs.Program.{concat, functionWords, ruleWords, conditionWords, symbolHead, instructionWords, schemeWords, expectsAt}
+use Rattle.meaning.specs.Program.{concat, functionWords, ruleWords, conditionWords, instructionWords, schemeWords, expectsAt}
 use Rattle.theory_program.specs.Stands.{Stands, stands-at, stands-left, stands-right, stands-tail, stands-word, stands-head}
 
 pub record RulesAt (ws : List ℕ) (a : ℕ) (rs : List (Rule ℕ)) : Type 0 where
@@ -126,9 +126,6 @@ code-head {ws} {a} {i} {is} s =
 pub code-next : {ws : List ℕ} {a : ℕ} {i : Instruction} {is : List Instruction} → CodeAt ws a (i ∷ is) → CodeAt ws (a + length (instructionWords i)) is
 code-next {i = i} {is = is} s = record { words = stands-right (instructionWords i) (schemeWords is) (s .words) }
 
-pub code-add : {ws : List ℕ} {a n : ℕ} {is : List Instruction} → CodeAt ws a (add n ∷ is) → (getD ws a 0 ≡ 8 * n) × CodeAt ws (a + 1) is
-code-add s = (stands-head (s .words) ∙ omega arith, code-next s)
-
 pub code-evaluate : {ws : List ℕ} {a : ℕ} {rs : List (Rule ℕ)} {is : List Instruction} → CodeAt ws a (evaluate rs ∷ is) → (getD ws a 0 ≡ 1 + 8 * length rs) × RulesAt ws (a + 1) rs × CodeAt ws (a + 1 + 2 * length rs) is
 code-evaluate {ws} {a} {rs} {is} s =
     let t = stands-tail (s .words) in
@@ -136,18 +133,12 @@ code-evaluate {ws} {a} {rs} {is} s =
     let behind : CodeAt ws (a + 1 + 2 * length rs) is = record { words = stands-at (a + 1 + 2 * length rs) (omega (arith, rules-length rs)) (stands-right (concat (map ruleWords rs)) (schemeWords is) t) } in
     (stands-head (s .words), rules, behind)
 
-pub code-expect : {ws : List ℕ} {a : ℕ} {x : Symbol} {is : List Instruction} → CodeAt ws a (expect x ∷ is) → (getD ws a 0 ≡ symbolHead x) × CodeAt ws (a + 1) is
-code-expect s = (stands-head (s .words), code-next s)
-
 pub code-test : {ws : List ℕ} {a : ℕ} {cs : List (Condition ℕ)} {is : List Instruction} → CodeAt ws a (test cs ∷ is) → (getD ws a 0 ≡ 4 + 8 * length cs) × ConditionsAt ws (a + 1) cs × CodeAt ws (a + 1 + 3 * length cs) is
 code-test {ws} {a} {cs} {is} s =
     let t = stands-tail (s .words) in
     let conditions : ConditionsAt ws (a + 1) cs = record { words = stands-left (concat (map conditionWords cs)) (schemeWords is) t } in
     let behind : CodeAt ws (a + 1 + 3 * length cs) is = record { words = stands-at (a + 1 + 3 * length cs) (omega (arith, conditions-length cs)) (stands-right (concat (map conditionWords cs)) (schemeWords is) t) } in
     (stands-head (s .words), conditions, behind)
-
-pub code-remove : {ws : List ℕ} {a n : ℕ} {is : List Instruction} → CodeAt ws a (remove n ∷ is) → (getD ws a 0 ≡ 5 + 8 * n) × CodeAt ws (a + 1) is
-code-remove s = (stands-head (s .words), code-next s)
 
 -- ---- which instruction a number means
 

@@ -81,6 +81,3 @@ joined s k (suc m) n =
 
 pub both-words : (s : TokenSet) → setBits s 0 1 32 + 4294967296 * setBits s 32 1 32 ≡ setBits s 0 1 64
 both-words s = sym (joined s 0 32 32)
-
-pub both-bit : (s : TokenSet) (u : ℕ) → u < 64 → ((setBits s 0 1 32 + 4294967296 * setBits s 32 1 32) / 2 ^ u % 2 ≡ 1) ↔ T (has s u)
-both-bit s u l = one-is (has s u) ((setBits s 0 1 32 + 4294967296 * setBits s 32 1 32) / 2 ^ u % 2) (ap (λ n. n / 2 ^ u % 2) (both-words s) ∙ (bit-is s 0 64 u l ∙ ap (λ m. bitIf (has s m) 1) (omega arith)))

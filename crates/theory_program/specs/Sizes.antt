@@ -1,7 +1,7 @@
 -- How long the program of a well-formed grammar gets.
 use Prim.Native.Nat.{ℕ, suc, _+_, _*_, _≤_, _<_}
 use native.Mathlib.Omega.{arith}
-use mathlib.Core.Path.{_≡_, refl, _∙_}
+use mathlib.Core.Path.{_≡_, refl}
 use mathlib.Core.Logic.{inl, inr}
 use mathlib.Core.Bool.{Bool, true, false, not}
 use mathlib.Core.List.{List, [], _∷_, _++_, map}
@@ -10,12 +10,11 @@ use lib.Dec.{T, eqb, ltb, leb, leb→le, le→leb, eqb→eq}
 use Rattle.meaning.specs.Base.{In, keep, consIf, total, isEmpty}
 use Rattle.meaning.specs.Grammar.{Symbol, Occurrence, Rule, Condition, Production, Grammar, addedFor, productionAt, conditionPosition}
 use Rattle.meaning.specs.Rules.{WellFormed}
-use Rattle.meaning.specs.Scheme.{Instruction, add, evaluate, expect, test, remove, mapRule, mapCondition, selectInherited, selectAfter, rulesFor, conditionsAt, entryTests, testsAfter, inheritedRules, synthesizedRules, removed, symbolScheme, symbolsScheme, scheme}
-use Rattle.meaning.specs.Program.{instructionWords, schemeWords, expectsAt, bodySize, recordsFrom, bodiesFrom, waits, directory, bodiesAddress, segmentWords, programOf}
-use Rattle.theory_base.specs.Members.{getD-in}
+use Rattle.meaning.specs.Scheme.{Instruction, add, evaluate, expect, test, remove, mapRule, mapCondition, selectInherited, selectAfter, rulesFor, conditionsAt, entryTests, testsAfter, inheritedRules, synthesizedRules, removed, symbolScheme, symbolsScheme}
+use Rattle.meaning.specs.Program.{instructionWords, schemeWords, bodySize, recordsFrom, bodiesFrom, waits, directory, bodiesAddress, segmentWords, programOf}
 use Rattle.theory_program.specs.Stands.{stands-whole, stands-within}
-use Rattle.theory_program.specs.Code.{rules-length, conditions-length, expects-length, expects-below}
-use Rattle.theory_program.specs.Addresses.{bodyAddress, schemeAddress, expectAddress, Begins, body-at, body-length, expects-scheme, directory-length, records-length, waits-length, bodies-length, short-productions}
+use Rattle.theory_program.specs.Code.{rules-length, conditions-length}
+use Rattle.theory_program.specs.Addresses.{bodyAddress, Begins, body-at, body-length, directory-length, records-length, waits-length, bodies-length, short-productions}
 use Rattle.theory_program.specs.Proper.{keep-few, some-present}
 
 -- ---- items by their position
@@ -30,7 +29,12 @@ module _ {A : Type 0} (position : A → ℕ) where
   -- those at k and those behind k are among those from k on
   apart : (k : ℕ) (xs : List A) → length (keep (here k) xs) + length (keep (onward (suc k)) xs) ≤ length (keep (onward k) xs)
   apart k [] = omega arith
-  apart k (x ∷ xs) = go (here k x) (onward (suc k) x) (onward k x) (λ t. le→leb k (position x) (omega (arith, eqb→eq (position x) k t))) (λ t. le→leb k (position x) (omega (arith, leb→le (suc k) (position x) t))) (λ s t. omega (arith, eqb→eq (position x) k s, leb→le (suc k) (position x) t)) (apart k xs)
+  apart k (x ∷ xs) =
+      go (here k x) (onward (suc k) x) (onward k x)
+      (λ t. le→leb k (position x) (omega (arith, eqb→eq (position x) k t)))
+      (λ t. le→leb k (position x) (omega (arith, leb→le (suc k) (position x) t)))
+      (λ s t. omega (arith, eqb→eq (position x) k s, leb→le (suc k) (position x) t))
+      (apart k xs)
     where
       go : (a b c : Bool) → (T a → T c) → (T b → T c) → (T a → T b → ⊥) → length (keep (here k) xs) + length (keep (onward (suc k)) xs) ≤ length (keep (onward k) xs)
           → length (consIf a x (keep (here k) xs)) + length (consIf b x (keep (onward (suc k)) xs)) ≤ length (consIf c x (keep (onward k) xs))
@@ -135,10 +139,3 @@ module _ (g : Grammar) (w : WellFormed g) (p : ℕ) (l : p < length (g .producti
 
   pub body-within : bodyAddress g p + bodySize g (productionAt g p) ≤ length (programOf g)
   body-within = omega (arith, stands-within (body-at itself w p l), body-length g (bodyAddress g p) (productionAt g p))
-
-  pub expect-within : (k : ℕ) → k < length (productionAt g p .right) → expectAddress g p k < length (programOf g)
-  expect-within k m =
-      let s = scheme g (productionAt g p) in
-      let es = expectsAt (schemeAddress g p) s in
-      let long : length es ≡ length (productionAt g p .right) = expects-length (schemeAddress g p) s ∙ expects-scheme g (productionAt g p) in
-      omega (arith, expects-below (schemeAddress g p) s (expectAddress g p k) (getD-in es k 0 (omega (arith, long))), body-within)

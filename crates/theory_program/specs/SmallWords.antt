@@ -13,7 +13,8 @@ use Rattle.meaning.specs.Grammar.{Symbol, terminal, nonterminal, Function, cons
 use Rattle.meaning.specs.Rules.{Known, WellFormed}
 use Rattle.meaning.specs.Scheme.{Instruction, add, evaluate, expect, test, remove, scheme, entryTests}
 use Rattle.meaning.specs.Sets.{has, starts}
-use Rattle.meaning.specs.Program.{concat, packed, functionWords, ruleWords, conditionWords, symbolHead, instructionWords, schemeWords, expectsAt, entryWords, schemeOffset, bodyWords, bodySize, bodiesFrom, firstOf, recordWords, recordsFrom, waitWord, waitsFrom, waitRow, waits, directoryWord, directory, bodiesAddress, segmentWords, programOf, carriers}
+use Rattle.meaning.specs.Program.{concat, packed, functionWords, ruleWords, conditionWords, symbolHead, instructionWords, schemeWords, expectsAt, entryWords, schemeOffset, bodyWords, bodySize, bodiesFrom, firstOf, recordWords}
+use Rattle.meaning.specs.Program.{recordsFrom, waitWord, waitsFrom, waitRow, waits, directoryWord, directory, bodiesAddress, segmentWords, programOf, carriers}
 use Rattle.theory_base.specs.Members.{map-in, in-append}
 use Rattle.theory_table.specs.Numbers.{unsigned-small, divisor-in}
 use Rattle.theory_program.specs.Code.{expects-below}

@@ -3,8 +3,8 @@ use Prim.Native.Nat.{ℕ, _+_, _≤_, _<_}
 use native.Mathlib.Omega.{arith}
 use mathlib.Core.Path.{_≡_, refl, sym, ap, _∙_, subst}
 use mathlib.Core.List.{List, [], _∷_, _++_, append-assoc, append-nil}
-use lib.ListN.{length, getD, take, drop, length-append, List·getD-append}
-use lib.Seq.{getD-append-add, take-append-seam, drop-at}
+use lib.ListN.{length, getD, length-append, List·getD-append}
+use lib.Seq.{getD-append-add}
 
 pub record Stands (ws : List ℕ) (a : ℕ) (xs : List ℕ) : Type 0 where
   pub before : List ℕ
@@ -47,10 +47,6 @@ stands-right xs ys s = stands-in s (stands-behind xs ys)
 pub stands-tail : {ws : List ℕ} {a : ℕ} {x : ℕ} {xs : List ℕ} → Stands ws a (x ∷ xs) → Stands ws (a + 1) xs
 stands-tail {x = x} {xs = xs} s = stands-right (x ∷ []) xs s
 
--- over a longer area
-pub stands-longer : {ws : List ℕ} {a : ℕ} {xs : List ℕ} (rest : List ℕ) → Stands ws a xs → Stands (ws ++ rest) a xs
-stands-longer {ws = ws} {a = a} rest s = stands-at a (omega arith) (stands-in (stands-first ws rest) s)
-
 -- ---- what is read
 
 pub stands-word : {ws : List ℕ} {a : ℕ} {xs : List ℕ} → Stands ws a xs → (k : ℕ) → k < length xs → getD ws (a + k) 0 ≡ getD xs k 0
@@ -63,6 +59,3 @@ stands-head {ws = ws} {a = a} s = ap (λ b. getD ws b 0) (omega arith) ∙ stand
 
 pub stands-within : {ws : List ℕ} {a : ℕ} {xs : List ℕ} → Stands ws a xs → a + length xs ≤ length ws
 stands-within {xs = xs} s = omega (arith, ap length (s .isList), length-append (s .before) (xs ++ s .after), length-append xs (s .after), s .address)
-
-pub stands-taken : {ws : List ℕ} {a : ℕ} {xs : List ℕ} → Stands ws a xs → take (length xs) (drop a ws) ≡ xs
-stands-taken {ws = ws} {a = a} {xs = xs} s = ap (λ l. take (length xs) l) (ap (drop a) (s .isList) ∙ drop-at (s .before) (xs ++ s .after) a (s .address)) ∙ take-append-seam xs (s .after)

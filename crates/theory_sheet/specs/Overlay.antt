@@ -3,7 +3,7 @@ use Prim.Native.Nat.{ℕ, zero, suc, _+_, _-_, _*_, _/_, _%_, _≤_, _<_}
 use native.Mathlib.Omega.{arith}
 use mathlib.Core.Path.{_≡_, refl, sym, ap, _∙_}
 use mathlib.Core.List.{List, [], _∷_, _++_, append-assoc, append-nil}
-use lib.ListN.{length, getD, set, take, drop, length-append, length-set, length-take, length-drop}
+use lib.ListN.{length, getD, set, take, drop, length-append, length-take, length-drop}
 use lib.Seq.{take-add, drop-drop, drop-cons}
 use lib.IntN.{ℤ}
 use Rattle.meaning.specs.Layout.{fourBytes}
@@ -18,11 +18,6 @@ overlay k (b ∷ bs) mem = overlay (suc k) bs (set mem k b)
 pub overlay-none : (k : ℕ) (mem : List ℕ) → overlay k [] mem ≡ mem
 unfolding overlay
 overlay-none k mem = refl
-
--- one byte more
-pub overlay-one : (k b : ℕ) (bs mem : List ℕ) → overlay k (b ∷ bs) mem ≡ overlay (suc k) bs (set mem k b)
-unfolding overlay
-overlay-one k b bs mem = refl
 
 pub overlay-append : (xs ys : List ℕ) (k : ℕ) (mem : List ℕ) → overlay k (xs ++ ys) mem ≡ overlay (k + length xs) ys (overlay k xs mem)
 unfolding overlay
@@ -46,11 +41,6 @@ pub overlay-behind : (xs ys : List ℕ) (k n : ℕ) (mem : List ℕ) → n ≡ k
 unfolding overlay
 overlay-behind [] ys k n mem e = ap (λ j. overlay j ys mem) (omega arith)
 overlay-behind (x ∷ xs) ys k n mem e = ap (overlay (suc k) xs) (sym (overlay-set ys n k x mem (omega arith))) ∙ overlay-behind xs ys (suc k) n (set mem k x) (omega arith)
-
-pub overlay-length : (xs : List ℕ) (k : ℕ) (mem : List ℕ) → length (overlay k xs mem) ≡ length mem
-unfolding overlay
-overlay-length [] k mem = refl
-overlay-length (x ∷ xs) k mem = overlay-length xs (suc k) (set mem k x) ∙ length-set mem k x
 
 -- from the first byte on, where there is room for all of them
 set-at : (front mem : List ℕ) (b x : ℕ) → set (front ++ (b ∷ mem)) (length front) x ≡ front ++ (x ∷ mem)

@@ -57,7 +57,8 @@ module _ {g : Grammar} {tokens : List Leaf} where
   shows {o} {bs} s = record { part = partOf o (s .point) bs; good = s .good; frames = s .frames; registers = s .registers; read = refl; tokens = s .count; moves = s .moves }
 
   -- a part that is known to be of a node on its ancestors
-  as-stand : {o : Open} {bs : List Ancestor} {c : Config} (q : Part) (pt : Point) → q ≡ partOf o pt bs → Good g q → drawFrames g q ≡ c .frames → drawRegisters g q ≡ c .registers → MovesAre g (c .moves) q → length (yieldPart q) ≡ c .tokens → tokens ≡ yieldPart q ++ drop (c .tokens) tokens → Stand g tokens o bs c
+  as-stand : {o : Open} {bs : List Ancestor} {c : Config} (q : Part) (pt : Point) → q ≡ partOf o pt bs → Good g q → drawFrames g q ≡ c .frames → drawRegisters g q ≡ c .registers
+      → MovesAre g (c .moves) q → length (yieldPart q) ≡ c .tokens → tokens ≡ yieldPart q ++ drop (c .tokens) tokens → Stand g tokens o bs c
   as-stand {o} {bs} {c} q pt e gd fs rs ms n z = record {
     point = pt;
     good = subst (Good g) e gd;
@@ -174,7 +175,11 @@ module _ {g : Grammar} {tokens : List Leaf} {l : Coming} {o : Open} {bs : List A
       (r .0, r .1, r .2, r .3, step-stands (v .part .point) (r .4))
 
 module _ {g : Grammar} {tokens : List Leaf} {l : Coming} {o : Open} {b : Ancestor} {bs : List Ancestor} {c d : Config} (s : Stand g tokens o (b ∷ bs) c) (v : Step g tokens l o (b ∷ bs) c d) where
-  pub removed-node : length (c .frames) ≡ suc (length (d .frames)) → (ss : List ℤ) × Stand g tokens (withChild (b .node) (treeOf (o .production) (o .inherited ++ ss) (o .children))) bs d × (drawRegisters g (partOf (withChild (b .node) (treeOf (o .production) (o .inherited ++ ss) (o .children))) (left (b .ahead)) bs) ≡ d .registers)
+  -- the parent, with the node closed on these results
+  abbrev closed : List ℤ → Open
+  closed ss = withChild (b .node) (treeOf (o .production) (o .inherited ++ ss) (o .children))
+
+  pub removed-node : length (c .frames) ≡ suc (length (d .frames)) → (ss : List ℤ) × Stand g tokens (closed ss) bs d × (drawRegisters g (partOf (closed ss) (left (b .ahead)) bs) ≡ d .registers)
   removed-node n =
       let r = gone (v .grown) (omega (arith, stand-frames s, frames-are g (v .part) (d .frames) (v .frames))) in
       (r .0, step-stands s v (left (b .ahead)) (r .1), ap (drawRegisters g) (sym (r .1)) ∙ v .registers)

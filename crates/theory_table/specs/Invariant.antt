@@ -15,7 +15,8 @@ use Rattle.meaning.specs.Base.{all, In, total}
 use Rattle.meaning.specs.Grammar.{Symbol, terminal, nonterminal, Occurrence, Function, const, copy, sum, diff, prod, maxi, mini, addc, quot, Rule, Condition, range, atmost, Production, Counts, noCounts, Grammar}
 use Rattle.meaning.specs.Rules.{Operands, Reads, Input, Output, Operand, Distinct, Constant, Proper, InFourBytes}
 use Rattle.meaning.specs.Table as Table
-use Rattle.meaning.specs.Table.{State, Header, Entry, Kind, header, counts, production, rule, condition, carrier, noHeader, headerOf, isSome, byte, signed, constantAt, occurrenceAt, within, symbolOf, symbolKnown, functionOf, ruleOf, conditionOf, occurrenceKnown, isInput, ordered, hasRule, complete, lastComplete, readField, withRule, withCondition, rises, productionOf, grammarOf, nothingRead}
+use Rattle.meaning.specs.Table.{State, Header, Entry, Kind, header, counts, production, rule, condition, carrier, noHeader, headerOf, isSome, byte, signed, constantAt, occurrenceAt, within, symbolOf, symbolKnown, functionOf}
+use Rattle.meaning.specs.Table.{ruleOf, conditionOf, occurrenceKnown, isInput, ordered, hasRule, complete, lastComplete, readField, withRule, withCondition, rises, productionOf, grammarOf, nothingRead}
 use Rattle.theory_base.specs.Members.{both, in-some, all-in, map-in}
 use Rattle.theory_table.specs.Reading.{Passed, Next, Full}
 use Rattle.theory_table.specs.Occurrences.{input-over, output-over, operand-over, output-at, operands-map, reads-map, rule-operands, condition-reads, set-once}
@@ -40,7 +41,10 @@ constant-of : (b : List ℕ) → T (not (eqb (byte b 2) 8) || divisor (constantA
 constant-of b h = go (byte b 2) h
   where
     fs : List (Function Occurrence)
-    fs = const (constantAt b 3) ∷ copy (occurrenceAt b 3) ∷ sum (occurrenceAt b 3) (occurrenceAt b 5) ∷ diff (occurrenceAt b 3) (occurrenceAt b 5) ∷ prod (occurrenceAt b 3) (occurrenceAt b 5) ∷ maxi (occurrenceAt b 3) (occurrenceAt b 5) ∷ mini (occurrenceAt b 3) (occurrenceAt b 5) ∷ addc (occurrenceAt b 3) (constantAt b 5) ∷ quot (occurrenceAt b 3) (constantAt b 5) ∷ []
+    fs =
+        let x = occurrenceAt b 3 in
+        let y = occurrenceAt b 5 in
+        const (constantAt b 3) ∷ copy x ∷ sum x y ∷ diff x y ∷ prod x y ∷ maxi x y ∷ mini x y ∷ addc x (constantAt b 5) ∷ quot x (constantAt b 5) ∷ []
 
     go : (f : ℕ) → T (not (eqb f 8) || divisor (constantAt b 5)) → Constant (getD fs f (const (pos 0)))
     go zero h = constant-in b 3
@@ -97,7 +101,10 @@ pub record EntryOk (h : Header) (cs : List Counts) (ws : List ℕ) (e : Entry) :
   pub proper : (c : Condition Occurrence) → In c (e .conditions) → Proper c
 
 module _ (s : State) (h : Header) (e : Entry) (k : EntryOk h (s .counts) (s .carrying) e) where
-  with-rule : (r : Rule Occurrence) → T (occurrenceKnown s e (r .target)) → T (all (occurrenceKnown s e) (Table.operands (r .function))) → T (not (isInput s e (r .target))) → T (all (isInput s e) (Table.operands (r .function))) → T (not (hasRule e (r .target))) → T (eqb (r .target .position) 0 || all (λ o. ltb (o .position) (r .target .position)) (Table.operands (r .function))) → Constant (r .function) → EntryOk h (s .counts) (s .carrying) (withRule e r)
+  with-rule : (r : Rule Occurrence) → T (occurrenceKnown s e (r .target)) → T (all (occurrenceKnown s e) (Table.operands (r .function))) → T (not (isInput s e (r .target)))
+      → T (all (isInput s e) (Table.operands (r .function))) → T (not (hasRule e (r .target)))
+      → T (eqb (r .target .position) 0 || all (λ o. ltb (o .position) (r .target .position)) (Table.operands (r .function))) → Constant (r .function)
+      → EntryOk h (s .counts) (s .carrying) (withRule e r)
   with-rule r a b c d once l con = record {
     left = k .left;
     short = k .short;
@@ -181,7 +188,22 @@ pub record Inv (s : State) : Type 0 where
   pub conditions : (conditionCount (s .entries) ≡ s .conditions) × (s .conditions ≤ 512)
 
 pub nothing-yet : Inv nothingRead
-nothing-yet = record { header = λ t. absurd t; fewCounts = omega arith; attributes = λ c i. absurd i; startOk = λ l. absurd (omega arith); carriers = λ t i. absurd i; falling = tt; tagged = λ l. absurd (omega arith); filled = λ l. absurd (omega arith); fewEntries = omega arith; entries = λ e i. absurd i; completes = λ e i. absurd i; rules = (refl, omega arith); conditions = (refl, omega arith) }
+nothing-yet =
+    record {
+      header = λ t. absurd t;
+      fewCounts = omega arith;
+      attributes = λ c i. absurd i;
+      startOk = λ l. absurd (omega arith);
+      carriers = λ t i. absurd i;
+      falling = tt;
+      tagged = λ l. absurd (omega arith);
+      filled = λ l. absurd (omega arith);
+      fewEntries = omega arith;
+      entries = λ e i. absurd i;
+      completes = λ e i. absurd i;
+      rules = (refl, omega arith);
+      conditions = (refl, omega arith);
+    }
 
 in-drop : {A : Type 0} (x : A) (xs : List A) → In x (drop 1 xs) → In x xs
 in-drop x [] i = i

@@ -16,7 +16,8 @@ use Rattle.meaning.specs.Grammar.{Symbol, terminal, nonterminal, Occurrence, Fu
 use Rattle.meaning.specs.Rules.{Operands, Operand, Distinct, Rising, Proper, Known, WellFormed, WellFormedProduction}
 use Rattle.meaning.specs.Layout as Layout
 use Rattle.meaning.specs.Layout.{field, symbolByte, headerBytes, countsBytes, productionBytes, ruleBytes, conditionBytes, RulesAndConditions, Productions, countsFields, carryingFields, LaidOut}
-use Rattle.meaning.specs.Table.{State, Header, Entry, Kind, header, counts, production, rule, condition, carrier, rises, byte, within, symbolOf, symbolKnown, ruleLength, conditionLength, constantAt, operands, reads, occurrenceKnown, isInput, ordered, hasRule, complete, lastComplete, readField, withRule, withCondition, wellFormed, readTable, nothingRead, productionOf, grammarOf}
+use Rattle.meaning.specs.Table.{State, Header, Entry, Kind, header, counts, production, rule, condition, carrier, rises, byte, within, symbolOf, symbolKnown, ruleLength, conditionLength, constantAt, operands, reads}
+use Rattle.meaning.specs.Table.{occurrenceKnown, isInput, ordered, hasRule, complete, lastComplete, readField, withRule, withCondition, wellFormed, readTable, nothingRead, productionOf, grammarOf}
 use Rattle.theory_base.specs.Members.{and, reverse-in, in-all, in-right, in-reverse, map-in, one-more, map-one-more}
 use Rattle.theory_table.specs.Reading.{Passed, tagOf, Full, Next, over, more, reads-table}
 use Rattle.theory_table.specs.Reading as Reading
@@ -83,7 +84,9 @@ module _ (g : Grammar) (wf : WellFormed g) where
         let divides : Bool = not (eqb (byte b 2) 8) || (leZ (pos 1) (constantAt b 5) && leZ (constantAt b 5) (pos 1000000)) in
         record {
           limits = and (leb 3 (length b) && ltb rn 1024 && fits) divides (and (leb 3 (length b) && ltb rn 1024) fits (and (leb 3 (length b)) (ltb rn 1024) (q .long) (lt→ltb rn 1024 room)) (q .right)) (q .divides);
-          named = subst (λ z. T (leb (byte b 2) 8 && occurrenceKnown s e (z .target) && all (occurrenceKnown s e) (operands (z .function)))) (sym (q .same)) (and (leb (byte b 2) 8 && occurrenceKnown s e (r .target)) (all (occurrenceKnown s e) (operands f)) (and (leb (byte b 2) 8) (occurrenceKnown s e (r .target)) (q .named) (o .0)) (ins .0));
+          named = subst (λ z. T (leb (byte b 2) 8 && occurrenceKnown s e (z .target) && all (occurrenceKnown s e) (operands (z .function)))) (sym (q .same))
+              (and (leb (byte b 2) 8 && occurrenceKnown s e (r .target)) (all (occurrenceKnown s e) (operands f))
+              (and (leb (byte b 2) 8) (occurrenceKnown s e (r .target)) (q .named) (o .0)) (ins .0));
           start = tt;
           directions = subst (λ z. T (not (isInput s e (z .target)) && all (isInput s e) (operands (z .function)))) (sym (q .same)) (and (not (isInput s e (r .target))) (all (isInput s e) (operands f)) (o .1) (ins .1));
           once = subst (λ z. T (not (hasRule e (z .target)))) (sym (q .same)) (once-set e r once);
@@ -121,9 +124,13 @@ module _ (g : Grammar) (wf : WellFormed g) where
   production-passed p w co es rn cn room =
       let b : List ℕ = productionBytes p in
       let long = length-map (p .right) symbolByte in
+      let bytes : List ℕ = map symbolByte (p .right) in
+      let known-byte : ℕ → Bool = λ n. symbolKnown (st co es rn cn) (symbolOf n) in
+      let short = and (leb 2 (length b)) (leb (byte b 1) 12) (le→leb 2 (length b) (omega arith)) (le→leb (byte b 1) 12 (w .short)) in
+      let exact = and (leb 2 (length b) && leb (byte b 1) 12) (eqb (length b) (2 + byte b 1)) short (same-eqb (length b) (2 + byte b 1) (omega arith)) in
       record {
-        limits = and (leb 2 (length b) && leb (byte b 1) 12 && eqb (length b) (2 + byte b 1)) (ltb (length es) 128) (and (leb 2 (length b) && leb (byte b 1) 12) (eqb (length b) (2 + byte b 1)) (and (leb 2 (length b)) (leb (byte b 1) 12) (le→leb 2 (length b) (omega arith)) (le→leb (byte b 1) 12 (w .short))) (same-eqb (length b) (2 + byte b 1) (omega arith))) (lt→ltb (length es) 128 room);
-        named = and (ltb (p .left) (nonterminalCount g)) (all (λ n. symbolKnown (st co es rn cn) (symbolOf n)) (map symbolByte (p .right))) (lt→ltb (p .left) (nonterminalCount g) (w .left)) (in-all (λ n. symbolKnown (st co es rn cn) (symbolOf n)) (map symbolByte (p .right)) (λ n i. symbol n (map-in symbolByte (p .right) n i)));
+        limits = and (leb 2 (length b) && leb (byte b 1) 12 && eqb (length b) (2 + byte b 1)) (ltb (length es) 128) exact (lt→ltb (length es) 128 room);
+        named = and (ltb (p .left) (nonterminalCount g)) (all known-byte bytes) (lt→ltb (p .left) (nonterminalCount g) (w .left)) (in-all known-byte bytes (λ n i. symbol n (map-in symbolByte (p .right) n i)));
         start = tt;
         directions = tt;
         once = tt;
@@ -145,7 +152,10 @@ module _ (g : Grammar) (wf : WellFormed g) where
   abbrev Onward : Production → List ℕ → List Entry → ℕ → ℕ → List ℕ → Type 0
   Onward p co es rn cn rest = (e : Entry) → productionOf e ≡ p → (o : ℕ) → Found (st co (e ∷ es) rn cn) o rest
 
-  in-production : {rs : List (Rule Occurrence)} {cs : List (Condition Occurrence)} {body : List ℕ} → RulesAndConditions rs cs body → (p : Production) → WellFormedProduction g p → (e : Entry) → e .left ≡ p .left → e .right ≡ p .right → reverse (e .rules) ++ rs ≡ p .rules → reverse (e .conditions) ++ cs ≡ p .conditions → (co : List ℕ) (es : List Entry) (rn cn rn′ cn′ o : ℕ) (rest : List ℕ) → rn + length rs ≡ rn′ → rn′ ≤ 1024 → cn + length cs ≡ cn′ → cn′ ≤ 512 → Onward p co es rn′ cn′ rest → Found (st co (e ∷ es) rn cn) o (body ++ rest)
+  in-production : {rs : List (Rule Occurrence)} {cs : List (Condition Occurrence)} {body : List ℕ} → RulesAndConditions rs cs body → (p : Production) → WellFormedProduction g p
+      → (e : Entry) → e .left ≡ p .left → e .right ≡ p .right → reverse (e .rules) ++ rs ≡ p .rules → reverse (e .conditions) ++ cs ≡ p .conditions
+      → (co : List ℕ) (es : List Entry) (rn cn rn′ cn′ o : ℕ) (rest : List ℕ) → rn + length rs ≡ rn′ → rn′ ≤ 1024 → cn + length cs ≡ cn′ → cn′ ≤ 512
+      → Onward p co es rn′ cn′ rest → Found (st co (e ∷ es) rn cn) o (body ++ rest)
   in-production Layout.nothing p w e el er re ce co es rn cn rn′ cn′ o rest a b c d k =
       let x : rn ≡ rn′ = omega arith in
       let y : cn ≡ cn′ = omega arith in
@@ -174,7 +184,8 @@ module _ (g : Grammar) (wf : WellFormed g) where
   abbrev conditionTotal : List Production → ℕ
   conditionTotal ps = total (map (λ p. length (p .conditions)) ps)
 
-  productions-read : {ps : List Production} {bs : List ℕ} → Productions ps bs → (co : List ℕ) (es : List Entry) (rn cn o : ℕ) → map productionOf (reverse es) ++ ps ≡ g .productions → T (lastComplete (st co es rn cn)) → rn + ruleTotal ps ≤ 1024 → cn + conditionTotal ps ≤ 512 → Found (st co es rn cn) o bs
+  productions-read : {ps : List Production} {bs : List ℕ} → Productions ps bs → (co : List ℕ) (es : List Entry) (rn cn o : ℕ) → map productionOf (reverse es) ++ ps ≡ g .productions
+      → T (lastComplete (st co es rn cn)) → rn + ruleTotal ps ≤ 1024 → cn + conditionTotal ps ≤ 512 → Found (st co es rn cn) o bs
   productions-read Layout.nothing co es rn cn o q t a b =
       let e : map productionOf (reverse es) ≡ g .productions = sym (append-nil (map productionOf (reverse es))) ∙ q in
       let l : 0 < length es = omega (arith, ap length e, length-map (reverse es) productionOf, length-reverse es, wf .productions .0) in
@@ -184,9 +195,11 @@ module _ (g : Grammar) (wf : WellFormed g) where
       let w = wf .each p i in
       let room : length es < 128 = omega (arith, ap length q, length-append (map productionOf (reverse es)) (p ∷ ps), length-map (reverse es) productionOf, length-reverse es, wf .productions .1) in
       let new : Entry = record { offset = o; left = p .left; right = map symbolOf (map symbolByte (p .right)); rules = []; conditions = [] } in
+      let rn₁ = rn + length (p .rules) in
+      let cn₁ = cn + length (p .conditions) in
       found-field (st co es rn cn) o production (productionBytes p) (body ++ rest) (full co es rn cn, t) (production-passed p w co es rn cn room)
-      (in-production d p w new refl (symbols-back (p .right) (w .symbols)) refl refl co es rn cn (rn + length (p .rules)) (cn + length (p .conditions)) (o + 3 + length (productionBytes p)) rest refl (omega arith) refl (omega arith)
-      (λ e u o′. productions-read ds co (e ∷ es) (rn + length (p .rules)) (cn + length (p .conditions)) o′ (map-one-more productionOf e es ps ∙ ap (λ z. map productionOf (reverse es) ++ (z ∷ ps)) u ∙ q) (whole-entry p w e (ap (λ z. z .left) u) (ap (λ z. z .right) u) co es (rn + length (p .rules)) (cn + length (p .conditions)) u) (omega arith) (omega arith)))
+      (in-production d p w new refl (symbols-back (p .right) (w .symbols)) refl refl co es rn cn rn₁ cn₁ (o + 3 + length (productionBytes p)) rest refl (omega arith) refl (omega arith)
+      (λ e u o′. productions-read ds co (e ∷ es) rn₁ cn₁ o′ (map-one-more productionOf e es ps ∙ ap (λ z. map productionOf (reverse es) ++ (z ∷ ps)) u ∙ q) (whole-entry p w e (ap (λ z. z .left) u) (ap (λ z. z .right) u) co es rn₁ cn₁ u) (omega arith) (omega arith)))
 
   -- ---- the counts
 

@@ -18,14 +18,23 @@ occ k a = record { position = k; attribute = a }
 
 -- ---- inputs and outputs depend on the counts, the terminals that carry a value and the symbols alone
 
+abbrev LeftOutput : List Counts → List ℕ → ℕ → ℕ → Type 0
+LeftOutput cs ws n a = let c = countsIn cs ws (nonterminal n) in (c .inherited < a) × (a ≤ c .inherited + c .synthesized)
+
+abbrev RightInput : List Counts → List ℕ → List Symbol → ℕ → ℕ → Type 0
+RightInput cs ws xs k a = let c = countsIn cs ws (getD xs k (terminal 0)) in (k < length xs) × (c .inherited < a) × (a ≤ c .inherited + c .synthesized)
+
+abbrev RightOutput : List Counts → List ℕ → List Symbol → ℕ → ℕ → Type 0
+RightOutput cs ws xs k a = (k < length xs) × (1 ≤ a) × (a ≤ countsIn cs ws (getD xs k (terminal 0)) .inherited)
+
 module _ (g g′ : Grammar) (p p′ : Production) (e : g .counts ≡ g′ .counts) (w : g .carrying ≡ g′ .carrying) (l : p .left ≡ p′ .left) (r : p .right ≡ p′ .right) where
   pub input-over : (k a : ℕ) → InputAt g p k a → InputAt g′ p′ k a
   input-over zero a h = subst (λ (z : List Counts × List ℕ). (1 ≤ a) × (a ≤ countsIn (z .0) (z .1) (nonterminal (p′ .left)) .inherited)) (λ i. (e i, w i)) (subst (λ n. (1 ≤ a) × (a ≤ countsIn (g .counts) (g .carrying) (nonterminal n) .inherited)) l h)
-  input-over (suc k) a h = subst (λ (z : List Counts × List ℕ). (k < length (p′ .right)) × (countsIn (z .0) (z .1) (getD (p′ .right) k (terminal 0)) .inherited < a) × (a ≤ countsIn (z .0) (z .1) (getD (p′ .right) k (terminal 0)) .inherited + countsIn (z .0) (z .1) (getD (p′ .right) k (terminal 0)) .synthesized)) (λ i. (e i, w i)) (subst (λ xs. (k < length xs) × (countsIn (g .counts) (g .carrying) (getD xs k (terminal 0)) .inherited < a) × (a ≤ countsIn (g .counts) (g .carrying) (getD xs k (terminal 0)) .inherited + countsIn (g .counts) (g .carrying) (getD xs k (terminal 0)) .synthesized)) r h)
+  input-over (suc k) a h = subst (λ (z : List Counts × List ℕ). RightInput (z .0) (z .1) (p′ .right) k a) (λ i. (e i, w i)) (subst (λ xs. RightInput (g .counts) (g .carrying) xs k a) r h)
 
   pub output-over : (k a : ℕ) → OutputAt g p k a → OutputAt g′ p′ k a
-  output-over zero a h = subst (λ (z : List Counts × List ℕ). (countsIn (z .0) (z .1) (nonterminal (p′ .left)) .inherited < a) × (a ≤ countsIn (z .0) (z .1) (nonterminal (p′ .left)) .inherited + countsIn (z .0) (z .1) (nonterminal (p′ .left)) .synthesized)) (λ i. (e i, w i)) (subst (λ n. (countsIn (g .counts) (g .carrying) (nonterminal n) .inherited < a) × (a ≤ countsIn (g .counts) (g .carrying) (nonterminal n) .inherited + countsIn (g .counts) (g .carrying) (nonterminal n) .synthesized)) l h)
-  output-over (suc k) a h = subst (λ (z : List Counts × List ℕ). (k < length (p′ .right)) × (1 ≤ a) × (a ≤ countsIn (z .0) (z .1) (getD (p′ .right) k (terminal 0)) .inherited)) (λ i. (e i, w i)) (subst (λ xs. (k < length xs) × (1 ≤ a) × (a ≤ countsIn (g .counts) (g .carrying) (getD xs k (terminal 0)) .inherited)) r h)
+  output-over zero a h = subst (λ (z : List Counts × List ℕ). LeftOutput (z .0) (z .1) (p′ .left) a) (λ i. (e i, w i)) (subst (λ n. LeftOutput (g .counts) (g .carrying) n a) l h)
+  output-over (suc k) a h = subst (λ (z : List Counts × List ℕ). RightOutput (z .0) (z .1) (p′ .right) k a) (λ i. (e i, w i)) (subst (λ xs. RightOutput (g .counts) (g .carrying) xs k a) r h)
 
   pub operand-over : (k : ℕ) (o : Occurrence) → Operand g p k o → Operand g′ p′ k o
   operand-over zero o h = input-over (o .position) (o .attribute) h
@@ -169,8 +178,11 @@ operand-input g p (suc k) o h = h .0
 module _ (s : State) (e : Entry) where
   -- 5, 7 and 9 for the operands of a rule
   pub rule-operands : (k : ℕ) (f : Function Occurrence) → T (all (occurrenceKnown s e) (operands f)) → T (all (isInput s e) (operands f)) → T (eqb k 0 || all (λ o. ltb (o .position) k) (operands f)) → Operands (Operand (grammarOf s) (productionOf e) k) f
-  rule-operands k f h i l = operands-all (Operand (grammarOf s) (productionOf e) k) f (λ o m. operand-at (grammarOf s) (productionOf e) k o (input-at s e (o .position) (o .attribute) (all-in (occurrenceKnown s e) (operands f) h o m) (all-in (isInput s e) (operands f) i o m)) (go o m (or-cases (eqb k 0) (all (λ u. ltb (u .position) k) (operands f)) l)))
+  rule-operands k f h i l = operands-all (Operand (grammarOf s) (productionOf e) k) f (λ o m. operand-at (grammarOf s) (productionOf e) k o (input o m) (go o m (or-cases (eqb k 0) (all (λ u. ltb (u .position) k) (operands f)) l)))
     where
+      input : (o : Occurrence) → In o (operands f) → Input (grammarOf s) (productionOf e) o
+      input o m = input-at s e (o .position) (o .attribute) (all-in (occurrenceKnown s e) (operands f) h o m) (all-in (isInput s e) (operands f) i o m)
+
       go : (o : Occurrence) → In o (operands f) → T (eqb k 0) ⊎ T (all (λ u. ltb (u .position) k) (operands f)) → T (eqb k 0) ⊎ T (ltb (o .position) k)
       go o m (inl t) = inl t
       go o m (inr t) = inr (all-in (λ u. ltb (u .position) k) (operands f) t o m)
@@ -191,7 +203,10 @@ module _ (s : State) (e : Entry) where
 
   pub reads-inputs : (c : Condition Occurrence) → Reads (Input (grammarOf s) (productionOf e)) c → T (all (occurrenceKnown s e) (reads c)) × T (all (isInput s e) (reads c))
   reads-inputs c h =
-      (in-all (occurrenceKnown s e) (reads c) (λ o i. at-input s e (o .position) (o .attribute) (all-reads (Input (grammarOf s) (productionOf e)) c h o i) .0), in-all (isInput s e) (reads c) (λ o i. at-input s e (o .position) (o .attribute) (all-reads (Input (grammarOf s) (productionOf e)) c h o i) .1))
+      (in-all (occurrenceKnown s e) (reads c) (λ o i. at-input s e (o .position) (o .attribute) (at o i) .0), in-all (isInput s e) (reads c) (λ o i. at-input s e (o .position) (o .attribute) (at o i) .1))
+    where
+      at : (o : Occurrence) → In o (reads c) → Input (grammarOf s) (productionOf e) o
+      at o i = all-reads (Input (grammarOf s) (productionOf e)) c h o i
 
 -- ---- 8: one rule for each output
 

@@ -210,7 +210,9 @@ abbrev SamePlace : Entry → Entry → Type 0
 SamePlace e e′ = (e .offset ≡ e′ .offset) × (e .left ≡ e′ .left) × (e .right ≡ e′ .right)
 
 entry-over : (all : List ℕ) (e e′ : Entry) → SamePlace e e′ → EntryAt all e → EntryAt all e′
-entry-over all e e′ q k = subst (λ (z : ℕ × ℕ × List Symbol). EntryAt all (record { offset = z .0; left = z .1; right = z .2; rules = e′ .rules; conditions = e′ .conditions })) (λ i. (q .0 i, q .1 i, q .2 i)) (record { tag = k .tag; left = k .left; size = k .size; symbols = k .symbols; inside = k .inside })
+entry-over all e e′ q k =
+    subst (λ (z : ℕ × ℕ × List Symbol). EntryAt all (record { offset = z .0; left = z .1; right = z .2; rules = e′ .rules; conditions = e′ .conditions }))
+    (λ i. (q .0 i, q .1 i, q .2 i)) (record { tag = k .tag; left = k .left; size = k .size; symbols = k .symbols; inside = k .inside })
 
 module _ (h : Entry → Entry) (same : (e : Entry) → SamePlace e (h e)) where
   length-kept : (es : List Entry) → length (onCurrent h es) ≡ length es
@@ -301,8 +303,15 @@ Before d e = d .offset + 5 + length (d .right) ≤ e .offset
 
 rising : (es : List Entry) (o : ℕ) → Falling o es → (p q : ℕ) → p < q → q < length es → Before (getD (reverse es) p noEntry) (getD (reverse es) q noEntry)
 rising [] o f p q l m = absurd (omega arith)
-rising (e ∷ es) o f p q l m = at-last (λ n d. (p : ℕ) → p < n → Before (getD (reverse (e ∷ es)) p noEntry) d) e es noEntry (λ n k p j. earlier p (omega arith) (λ d. Before d (getD (reverse es) n noEntry)) (rising es (e .offset) (f .1) p n j k)) (λ p j. earlier p j (λ d. Before d e) (falling-below es (e .offset) (f .1) (getD (reverse es) p noEntry) (in-reverse (getD (reverse es) p noEntry) es (getD-in (reverse es) p noEntry (omega (arith, length-reverse es)))))) q m p l
+rising (e ∷ es) o f p q l m =
+    at-last (λ n d. (p : ℕ) → p < n → Before (getD (reverse (e ∷ es)) p noEntry) d) e es noEntry
+    (λ n k p j. earlier p (omega arith) (λ d. Before d (getD (reverse es) n noEntry)) (rising es (e .offset) (f .1) p n j k))
+    (λ p j. earlier p j (λ d. Before d e) (falling-below es (e .offset) (f .1) (getD (reverse es) p noEntry) (within p j)))
+    q m p l
   where
+    within : (p : ℕ) → p < length es → In (getD (reverse es) p noEntry) es
+    within p j = in-reverse (getD (reverse es) p noEntry) es (getD-in (reverse es) p noEntry (omega (arith, length-reverse es)))
+
     earlier : (p : ℕ) → p < length es → (P : Entry → Type 0) → P (getD (reverse es) p noEntry) → P (getD (reverse (e ∷ es)) p noEntry)
     earlier p l P h = subst (λ z. P (getD z p noEntry)) (sym (reverse-cons e es)) (subst P (sym (List·getD-append (reverse es) (e ∷ []) noEntry p (omega (arith, length-reverse es)))) h)
 

@@ -154,14 +154,23 @@ module _ (bs : List ℕ) (s : State) (h : Bytes bs) (e : readTable bs ≡ wellFo
   pub read-laid-out : LaidOut (grammarOf s) bs
   read-laid-out = record { rest = table-layout .rest; productions = stretched-productions (table-layout .stretches); isTable = table-layout .isTable }
 
+  abbrev head : List ℕ
+  head = field 1 (headerBytes (grammarOf s))
+
+  abbrev counted : List ℕ
+  counted = countsFields (grammarOf s .counts)
+
+  abbrev carried : List ℕ
+  carried = carryingFields (grammarOf s .carrying)
+
   abbrev front : List ℕ
-  front = field 1 (headerBytes (grammarOf s)) ++ (countsFields (grammarOf s .counts) ++ carryingFields (grammarOf s .carrying))
+  front = head ++ (counted ++ carried)
 
   front-length : length front ≡ productionsAt s
-  front-length = omega (arith, length-append (field 1 (headerBytes (grammarOf s))) (countsFields (grammarOf s .counts) ++ carryingFields (grammarOf s .carrying)), length-append (countsFields (grammarOf s .counts)) (carryingFields (grammarOf s .carrying)), counts-length (grammarOf s .counts), length-reverse (s .counts), carrying-length (grammarOf s .carrying), length-reverse (s .carrying))
+  front-length = omega (arith, length-append head (counted ++ carried), length-append counted carried, counts-length (grammarOf s .counts), length-reverse (s .counts), carrying-length (grammarOf s .carrying), length-reverse (s .carrying))
 
   front-rest : bs ≡ front ++ table-layout .rest
-  front-rest = table-layout .isTable ∙ (ap (λ z. field 1 (headerBytes (grammarOf s)) ++ z) (sym (append-assoc (countsFields (grammarOf s .counts)) (carryingFields (grammarOf s .carrying)) (table-layout .rest))) ∙ sym (append-assoc (field 1 (headerBytes (grammarOf s))) (countsFields (grammarOf s .counts) ++ carryingFields (grammarOf s .carrying)) (table-layout .rest)))
+  front-rest = table-layout .isTable ∙ (ap (λ z. head ++ z) (sym (append-assoc counted carried (table-layout .rest))) ∙ sym (append-assoc head (counted ++ carried) (table-layout .rest)))
 
   behind-front : drop (productionsAt s) bs ≡ table-layout .rest
   behind-front = ap (drop (productionsAt s)) front-rest ∙ drop-at front (table-layout .rest) (productionsAt s) front-length

@@ -8,7 +8,8 @@ use mathlib.Core.List.{List, [], _∷_, _++_}
 use lib.ListN.{length, take, drop, length-append, length-drop, take-append-drop}
 use lib.Seq.{length-take-le, take-append-seam, drop-append-seam}
 use lib.Dec.{T, eqb, ltb, leb, eqb→eq, leb→le, le→leb, ltb→lt, lt→ltb, nltb→le}
-use Rattle.meaning.specs.Table.{State, Kind, header, counts, production, rule, condition, carrier, Stage, atHeader, atCounts, atFirst, atAny, stage, tagStands, kindOf, isSome, headerOf, byte, limitsHold, known, startRight, directionsRight, setOnce, leftToRight, boundsRight, lowestOf, judgeField, current, lastComplete, readField, Read, wellFormed, malformed, atEnd, readAll, readTable, nothingRead}
+use Rattle.meaning.specs.Table.{State, Kind, header, counts, production, rule, condition, carrier, Stage, atHeader, atCounts, atFirst, atAny, stage, tagStands, kindOf, isSome, headerOf, byte, limitsHold, known, startRight}
+use Rattle.meaning.specs.Table.{directionsRight, setOnce, leftToRight, boundsRight, lowestOf, judgeField, current, lastComplete, readField, Read, wellFormed, malformed, atEnd, readAll, readTable, nothingRead}
 use Rattle.theory_base.specs.Members.{both, and, or-cases, not-not}
 
 -- ---- a field that no number judges
@@ -163,7 +164,10 @@ stage-any s f l = go (isSome (s .header)) (f .0) (ltb (length (s .counts)) (head
     go true t false n false v = absurd v
 
 stage-first : (s : State) → Full s → length (s .entries) ≡ 0 → stage s ≡ atFirst
-stage-first s f l = go (isSome (s .header)) (f .0) (ltb (length (s .counts)) (headerOf s .nonterminals)) (λ t. let h = ltb→lt (length (s .counts)) (headerOf s .nonterminals) t in absurd (omega (arith, f .1))) (ltb 0 (length (s .entries))) (λ t. let h = ltb→lt 0 (length (s .entries)) t in absurd (omega (arith, l)))
+stage-first s f l =
+    go (isSome (s .header)) (f .0) (ltb (length (s .counts)) (headerOf s .nonterminals))
+    (λ t. let h = ltb→lt (length (s .counts)) (headerOf s .nonterminals) t in absurd (omega (arith, f .1))) (ltb 0 (length (s .entries)))
+    (λ t. let h = ltb→lt 0 (length (s .entries)) t in absurd (omega (arith, l)))
   where
     go : (a : Bool) → T a → (b : Bool) → (T b → ⊥) → (c : Bool) → (T c → ⊥) → stageBy a b c ≡ atFirst
     go false t b n c v = absurd t
@@ -238,10 +242,14 @@ read-enough (suc n) (suc m) s o (t ∷ bs) h k =
 
 -- ---- read by `readAll`, so read as a chain
 
+-- the end of a table, its stage and its last production told
+abbrev endBy : State → ℕ → Stage → Bool → Read
+endBy s o x c = elim x as (λ k. Read) [ atHeader ↦ malformed 3 o | atCounts ↦ malformed 3 o | atFirst ↦ malformed 3 o | atAny ↦ elim c as (λ k. Read) [ true ↦ wellFormed s | false ↦ malformed 8 (current s .offset) ] ]
+
 at-end : (s : State) (o : ℕ) (u : State) → atEnd s o ≡ wellFormed u → Reads s o [] u
 at-end s o u e = go (stage s) (stood s) (lastComplete s) refl e
   where
-    go : (x : Stage) → Stood s x → (c : Bool) → lastComplete s ≡ c → _≡_ {A = Read} (elim x as (λ k. Read) [ atHeader ↦ malformed 3 o | atCounts ↦ malformed 3 o | atFirst ↦ malformed 3 o | atAny ↦ elim c as (λ k. Read) [ true ↦ wellFormed s | false ↦ malformed 8 (current s .offset) ] ]) (wellFormed u) → Reads s o [] u
+    go : (x : Stage) → Stood s x → (c : Bool) → lastComplete s ≡ c → endBy s o x c ≡ wellFormed u → Reads s o [] u
     go atHeader h c f e = refused e
     go atCounts h c f e = refused e
     go atFirst h c f e = refused e
@@ -263,7 +271,8 @@ judged-none s o k b t p = go (tagStands (stage s) (tagOf k)) t
     go false v = absurd v
 
 -- one field, its parts given
-one-field : (s u : State) (o t high low : ℕ) (bs : List ℕ) → high * 256 + low ≤ length bs → NextOf s t → Passed s (kindOf t) (take (high * 256 + low) bs) → Reads (readField s o (kindOf t) (take (high * 256 + low) bs)) (o + 3 + (high * 256 + low)) (drop (high * 256 + low) bs) u → Reads s o (t ∷ high ∷ low ∷ bs) u
+one-field : (s u : State) (o t high low : ℕ) (bs : List ℕ) → high * 256 + low ≤ length bs → NextOf s t → Passed s (kindOf t) (take (high * 256 + low) bs)
+    → Reads (readField s o (kindOf t) (take (high * 256 + low) bs)) (o + 3 + (high * 256 + low)) (drop (high * 256 + low) bs) u → Reads s o (t ∷ high ∷ low ∷ bs) u
 one-field s u o t high low bs l n p r =
     let size : ℕ = high * 256 + low in
     let body : List ℕ = take size bs in
@@ -278,6 +287,9 @@ one-field s u o t high low bs l n p r =
 past-two : (n x y : ℕ) (bs : List ℕ) → drop (2 + n) (x ∷ y ∷ bs) ≡ drop n bs
 past-two n x y bs = let e : 2 + n ≡ suc (suc n) = omega arith in rw e
 
+abbrev sizeAt : List ℕ → ℕ
+sizeAt bs = byte bs 0 * 256 + byte bs 1
+
 pub reads : (n : ℕ) (s : State) (o : ℕ) (bs : List ℕ) (u : State) → readAll n s o bs ≡ wellFormed u → Reads s o bs u
 reads zero s o bs u e = refused e
 reads (suc n) s o [] u e = at-end s o u e
@@ -289,7 +301,9 @@ reads (suc n) s o (t ∷ bs) u e =
     let j = judged s o t body (eqb→eq number 0 (r .2)) in
     go bs (r .1) (next-of s t (j .0) (r .0)) (j .1) (reads n (readField s o (kindOf t) body) (o + 3 + size) (drop (2 + size) bs) u (r .3))
   where
-    go : (bs : List ℕ) → T (leb 2 (length bs) && leb (byte bs 0 * 256 + byte bs 1) (length bs - 2)) → NextOf s t → Passed s (kindOf t) (take (byte bs 0 * 256 + byte bs 1) (drop 2 bs)) → Reads (readField s o (kindOf t) (take (byte bs 0 * 256 + byte bs 1) (drop 2 bs))) (o + 3 + (byte bs 0 * 256 + byte bs 1)) (drop (2 + (byte bs 0 * 256 + byte bs 1)) bs) u → Reads s o (t ∷ bs) u
+    go : (bs : List ℕ) → T (leb 2 (length bs) && leb (sizeAt bs) (length bs - 2)) → NextOf s t → Passed s (kindOf t) (take (sizeAt bs) (drop 2 bs))
+        → Reads (readField s o (kindOf t) (take (sizeAt bs) (drop 2 bs))) (o + 3 + sizeAt bs) (drop (2 + sizeAt bs) bs) u
+        → Reads s o (t ∷ bs) u
     go [] l m p r = absurd l
     go (x ∷ []) l m p r = absurd l
     go (x ∷ y ∷ bs) l m p r =
@@ -302,7 +316,7 @@ pub read-all : {s u : State} {o : ℕ} {bs : List ℕ} → Reads s o bs u → (n
 read-all (over f l c) zero h = absurd (omega arith)
 read-all {s} (over {o = o} f l c) (suc n) h = go (stage s) (stage-any s f l) (lastComplete s) c
   where
-    go : (x : Stage) → x ≡ atAny → (c : Bool) → T c → _≡_ {A = Read} (elim x as (λ k. Read) [ atHeader ↦ malformed 3 o | atCounts ↦ malformed 3 o | atFirst ↦ malformed 3 o | atAny ↦ elim c as (λ k. Read) [ true ↦ wellFormed s | false ↦ malformed 8 (current s .offset) ] ]) (wellFormed s)
+    go : (x : Stage) → x ≡ atAny → (c : Bool) → T c → endBy s o x c ≡ wellFormed s
     go x e true t = rw e
     go x e false t = absurd t
 read-all (more k high low body e m p r) zero h = absurd (omega arith)
@@ -315,7 +329,10 @@ read-all {s} {u} (more {o = o} k high low body {rest} e m p r) (suc n) h =
     let d : drop (2 + size) bs ≡ rest = past-two size high low (body ++ rest) ∙ rw e (drop-append-seam body rest) in
     let number : ℕ = judgeField s (record { offset = o; tag = tagOf k; body = take size (body ++ rest) }) in
     let none : number ≡ 0 = rw w (judged-none s o k body (st .0) p) in
-    let c = chooses (eqb (tagOf k) 3 && not (lastComplete s)) (current s .offset) (leb 2 (length bs) && leb size (length bs - 2)) 2 o (eqb number 0) number o (readAll n (readField s o (kindOf (tagOf k)) (take size (body ++ rest))) (o + 3 + size) (drop (2 + size) bs)) (st .1) (and (leb 2 (length bs)) (leb size (length bs - 2)) (le→leb 2 (length bs) (omega arith)) (le→leb size (length bs - 2) (omega arith))) (subst (λ z. T (eqb z 0)) (sym none) tt) in
+    let fits = and (leb 2 (length bs)) (leb size (length bs - 2)) (le→leb 2 (length bs) (omega arith)) (le→leb size (length bs - 2) (omega arith)) in
+    let others = readAll n (readField s o (kindOf (tagOf k)) (take size (body ++ rest))) (o + 3 + size) (drop (2 + size) bs) in
+    let passes = subst (λ z. T (eqb z 0)) (sym none) tt in
+    let c = chooses (eqb (tagOf k) 3 && not (lastComplete s)) (current s .offset) (leb 2 (length bs) && leb size (length bs - 2)) 2 o (eqb number 0) number o others (st .1) fits passes in
     c ∙ rw (w, d, kind-of-tag k, e) (read-all r n (omega arith))
 
 pub table-reads : (bs : List ℕ) (u : State) → readTable bs ≡ wellFormed u → (length bs ≤ 32768) × Reads nothingRead 0 bs u

@@ -8,8 +8,8 @@ use Rattle.meaning.specs.Rules.{WellFormed}
 use Rattle.meaning.specs.Layout.{LaidOut}
 use Rattle.meaning.specs.Layout as Layout
 use Rattle.meaning.specs.Table.{Read, wellFormed, malformed, readTable}
-use Rattle.meaning.specs.Words.{occ, rule, p0, p1, p2, p3, words}
-use Rattle.meaning.specs.TableRows.{bytes, grammar, read}
+use Rattle.meaning.specs.Examples.Words.{occ, rule, p0, p1, p2, p3, words}
+use Rattle.meaning.specs.Examples.TableRows.{bytes, grammar, read}
 use Rattle.theory_table.specs.ReadWellFormed.{read-well-formed}
 
 pub words-laid-out : LaidOut words bytes

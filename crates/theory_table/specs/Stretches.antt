@@ -17,7 +17,9 @@ use Rattle.theory_table.specs.Bodies.{field-is, low-small, body-bytes, r
 -- the bytes of these entries, in their order, from an offset on
 pub data Stretches : List Entry → ℕ → List ℕ → Type 0 where
   nothing : {o : ℕ} → Stretches [] o []
-  stretch : (e : Entry) {es : List Entry} {body rest : List ℕ} → RulesAndConditions (productionOf e .rules) (productionOf e .conditions) body → Stretches es (e .offset + length (field 3 (productionBytes (productionOf e)) ++ body)) rest → Stretches (e ∷ es) (e .offset) (field 3 (productionBytes (productionOf e)) ++ (body ++ rest))
+  stretch : (e : Entry) {es : List Entry} {body rest : List ℕ} → RulesAndConditions (productionOf e .rules) (productionOf e .conditions) body
+      → Stretches es (e .offset + length (field 3 (productionBytes (productionOf e)) ++ body)) rest
+      → Stretches (e ∷ es) (e .offset) (field 3 (productionBytes (productionOf e)) ++ (body ++ rest))
 
 pub stretched-productions : {es : List Entry} {o : ℕ} {bs : List ℕ} → Stretches es o bs → Productions (map productionOf es) bs
 stretched-productions nothing = Layout.nothing
@@ -57,7 +59,9 @@ pub record NextStretch (o : ℕ) (es : List Entry) (bs : List ℕ) (s u : State)
 turned : {A : Type 0} (xs : List A) → xs ≡ reverse (reverse xs ++ [])
 turned xs = sym (ap reverse (append-nil (reverse xs)) ∙ reverse-reverse xs)
 
-pub next-stretch : (s s′ u : State) (o high low : ℕ) (b rest : List ℕ) (es : List Entry) → Bytes (3 ∷ high ∷ low ∷ b ++ rest) → high * 256 + low ≡ length b → Passed s production b → s′ .header ≡ s .header → s′ .counts ≡ s .counts → s′ .carrying ≡ s .carrying → Rest s′ (o + 3 + length b) (entryOf o b) es rest u → NextStretch o es (3 ∷ high ∷ low ∷ b ++ rest) s u
+pub next-stretch : (s s′ u : State) (o high low : ℕ) (b rest : List ℕ) (es : List Entry) → Bytes (3 ∷ high ∷ low ∷ b ++ rest) → high * 256 + low ≡ length b → Passed s production b
+    → s′ .header ≡ s .header → s′ .counts ≡ s .counts → s′ .carrying ≡ s .carrying → Rest s′ (o + 3 + length b) (entryOf o b) es rest u
+    → NextStretch o es (3 ∷ high ∷ low ∷ b ++ rest) s u
 next-stretch s s′ u o high low b rest es h c p hd cs ws i =
     let e : Entry = grown (entryOf o b) (i .rules) (i .conditions) in
     let pb : List ℕ = productionBytes (productionOf e) in

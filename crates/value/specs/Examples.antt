@@ -4,13 +4,14 @@ use mathlib.Core.Path.{_≡_, refl}
 use mathlib.Core.List.{[], _∷_, map}
 use lib.IntN.{pos, negsuc}
 use Rattle.meaning.specs.Table.{signed, constantAt}
-use Rattle.meaning.specs.Value.{lowest, highest, mark}
+use Rattle.meaning.specs.Value.{lowest, highest, mark, quotient, floored}
 use Rattle.value.specs.Ranged.{ranged}
 use Rattle.value.specs.Computed.{computed}
 
 -- const, copy, sum, diff, prod, max, min, addc and quot of -7 and 2, and a function that 01 does not have
 seven : map (λ (f : ℕ). ranged (computed f (negsuc 6) (pos 2))) (0 ∷ 1 ∷ 2 ∷ 3 ∷ 4 ∷ 5 ∷ 6 ∷ 7 ∷ 8 ∷ 9 ∷ [])
     ≡ negsuc 6 ∷ negsuc 6 ∷ negsuc 4 ∷ negsuc 8 ∷ negsuc 13 ∷ pos 2 ∷ negsuc 6 ∷ negsuc 4 ∷ negsuc 2 ∷ pos 0 ∷ []
+unfolding quotient floored
 seven = refl
 
 -- of -3 and -5
@@ -19,9 +20,11 @@ both-negative : map (λ (f : ℕ). ranged (computed f (negsuc 2) (negsuc 4))) (2
 both-negative = refl
 
 quotient-up : ranged (computed 8 (pos 7) (pos 2)) ≡ pos 4
+unfolding quotient floored
 quotient-up = refl
 
 quotient-small : ranged (computed 8 (negsuc 0) (pos 1000000)) ≡ pos 0
+unfolding quotient floored
 quotient-small = refl
 
 -- ---- the limits

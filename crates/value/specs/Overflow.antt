@@ -62,7 +62,7 @@ pub fits64 : (z : ℤ) → Fits64 z → SFits w64 z
 fits64 (pos n) h = record { sfits = h }
 fits64 (negsuc n) h = record { sfits = omega arith }
 
--- function 4, the product, is left out: its exact result may pass 64 bits or be the number that the mark is, so it is judged before it is made (proofs/Products)
+-- function 4, the product, is left out: its exact result may pass 64 bits or be the number that the mark is, so it is judged before it is made (crate functions, Products)
 pub computed-size : (f : ℕ) (a b : ℤ) → (f ≡ 4 → ⊥) → inRange a ≡ true → inRange b ≡ true → Fits64 (computed f a b)
 computed-size f a b other p q = each f other
   where

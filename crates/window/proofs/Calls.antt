@@ -14,7 +14,7 @@ use Rattle.theory_window.specs.Ring.{length-order}
 use Rattle.theory_window.specs.Cases.{opens-met, value-met}
 use Rattle.theory_window.specs.Brought.{passed}
 use Rattle.theory_window.specs.Next.{topWith, push-shown}
-use Rattle.window_kept.specs.Checks.{foundIn}
+use Rattle.window_found.specs.Checks.{foundIn}
 
 -- ---- opening
 

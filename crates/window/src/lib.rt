@@ -8,8 +8,8 @@ ghost use Rattle.window_push.specs.Parts as Parts;
 ghost use Rattle.window.specs.Answers.{answerIs, outcomeIs};
 use value::in_range;
 use window_cells::clear;
-use window_kept::Checked;
-use window_kept::Found;
+use window_found::Checked;
+use window_found::Found;
 use window_kept::check;
 use window_push::renew;
 

@@ -11,7 +11,7 @@ use Rattle.meaning.specs.Window.{total, zeros, after, valueAt, leadersOf, leade
 use Rattle.theory_window.specs.Ring.{grown}
 use Rattle.theory_window.specs.Kept.{leaders-few}
 use Rattle.theory_window.specs.Brought.{passed, kept-held, kept-next, kept-slots, kept-cells, push-form}
-use Rattle.window_kept.specs.Checks.{newLeaders}
+use Rattle.window_found.specs.Checks.{newLeaders}
 use Rattle.window_push.specs.Parts.{stored}
 use Rattle.window_push.specs.Leading.{new-leaders}
 

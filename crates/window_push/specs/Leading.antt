@@ -13,8 +13,8 @@ use Rattle.theory_window.specs.Leaders.{stays, leaders-push}
 use Rattle.theory_window.specs.Kept.{leaders-few}
 use Rattle.theory_window.specs.Next.{leadersWith}
 use Rattle.theory_window.specs.Brought.{passed, kept-held, kept-next, kept-slots}
-use Rattle.window_kept.specs.Checks.{Told, newLeaders}
-use Rattle.window_kept.specs.declared.Found.{Found}
+use Rattle.window_found.specs.Checks.{Told, newLeaders}
+use Rattle.window_found.specs.declared.Found.{Found}
 use Rattle.window_push.specs.Parts.{Brought}
 
 module _ (b : List ℤ) (kept : wellKept b ≡ true) (v : ℤ) where

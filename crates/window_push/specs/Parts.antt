@@ -3,8 +3,8 @@ use Prim.Native.Nat.{ℕ, _+_, _-_, _*_, _≤_, _<_}
 use mathlib.Core.List.{List}
 use lib.ListN.{length, set}
 use lib.IntN.{ℤ, pos}
-use Rattle.window_kept.specs.Checks.{Told}
-use Rattle.window_kept.specs.declared.Found.{Found}
+use Rattle.window_found.specs.Checks.{Told}
+use Rattle.window_found.specs.declared.Found.{Found}
 
 -- a window's numbers and the value in its slot written
 abbrev pub stored : List ℤ → ℕ → ℕ → ℤ → ℕ → ℕ → ℤ → List ℤ

@@ -9,7 +9,7 @@ ghost use Rattle.window_push.specs.Parts as Parts;
 ghost use Rattle.window_push.specs.Parts.{stored};
 use window_cells::clear;
 use window_cells::put;
-use window_kept::Found;
+use window_found::Found;
 
 fn after(size: usize, slot: usize) -> usize
     requires { ⌜ slot < size ⌝ }

@@ -2,7 +2,7 @@
 //!
 //! A [`Table`] describes a conditional L-attributed grammar; a [`Run`] evaluates one segment, a list of one-byte tokens, under it and
 //! gives the segment's value. All judging and computing is done by the proved library; this crate makes the memory that the library
-//! wants lent and turns its numbers into ordinary Rust. It needs no standard library, only an allocator.
+//! wants lent and turns its numbers into ordinary Rust. Without its feature `std` it needs no standard library, only an allocator.
 //!
 //! ```
 //! # let bytes = include_bytes!(concat!(env!("CARGO_MANIFEST_DIR"), "/../../grammars/words.table"));
@@ -19,6 +19,8 @@
 #![warn(missing_docs)]
 
 extern crate alloc;
+#[cfg(feature = "std")]
+extern crate std;
 
 mod inner;
 pub mod lent;

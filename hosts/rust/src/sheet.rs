@@ -36,7 +36,8 @@ impl Sheet {
 }
 
 impl Table {
-    /// The tree sheet of a segment. See [`lent::SHEET_STACK`] for the stack that the thread needs.
+    /// The tree sheet of a segment, written on a thread of its own, with [`lent::SHEET_STACK`]. Without the feature `std` it is written where it
+    /// is called, and that thread needs as much; so does [`lent::sheet`], which never makes one.
     ///
     /// ```
     /// # let bytes = include_bytes!(concat!(env!("CARGO_MANIFEST_DIR"), "/../../grammars/words.table"));
@@ -50,7 +51,14 @@ impl Table {
     /// # Errors
     /// 20 to 24, 31, 32, 35: the segment is refused, as by a run on full stacks. 38: kinds and values are not equally many. 41: the sheet
     /// would be longer than [`SHEET`].
+    ///
+    /// # Panics
+    /// Where no thread can be made.
     pub fn sheet(&self, kinds: &[u8], values: &[i32]) -> Result<Sheet, Refusal> {
+        deep(|| self.sheet_here(kinds, values))
+    }
+
+    fn sheet_here(&self, kinds: &[u8], values: &[i32]) -> Result<Sheet, Refusal> {
         let mut bytes = vec![0; 128 * (kinds.len() + 8)];
         loop {
             let written = lent::sheet(self.bytes(), kinds, values, (lent::REGISTERS, lent::PLACES), &mut bytes);
@@ -64,4 +72,19 @@ impl Table {
             }
         }
     }
+}
+
+/// Does something on a thread with the stack that sheets need.
+#[cfg(feature = "std")]
+fn deep<T: Send>(work: impl FnOnce() -> T + Send) -> T {
+    std::thread::scope(|scope| {
+        let thread = std::thread::Builder::new().stack_size(lent::SHEET_STACK).spawn_scoped(scope, work).expect("a thread for the sheet");
+        thread.join().unwrap_or_else(|panic| std::panic::resume_unwind(panic))
+    })
+}
+
+/// The same where there are no threads.
+#[cfg(not(feature = "std"))]
+fn deep<T>(work: impl FnOnce() -> T) -> T {
+    work()
 }

@@ -10,14 +10,9 @@ fn refused(refusal: Refusal) -> (u32, u64) {
     (refusal.number(), refusal.count())
 }
 
-/// On a thread with the stack that the calls are said to need.
+/// Value, moves and refusals are those of a run, and the sheet is accepted.
 #[test]
 fn as_a_run() {
-    std::thread::Builder::new().stack_size(lent::SHEET_STACK).spawn(compare_with_runs).unwrap().join().unwrap();
-}
-
-/// Value, moves and refusals are those of a run, and the sheet is accepted.
-fn compare_with_runs() {
     let table = Table::new(WORDS).unwrap();
     assert_eq!(table.sheet(&[0, 1, 0, 2], &[0; 4]).unwrap().bytes(), TREE);
     for kinds in
@@ -75,7 +70,8 @@ fn field(table: &mut Vec<u8>, tag: u8, body: &[u8]) {
     table.extend(body);
 }
 
-/// Lines of eleven tokens and the next line, which is the twelfth symbol: what takes the most of the thread's stack.
+/// Lines of eleven tokens and the next line, which is the twelfth symbol: what takes the most of the thread's stack, 2.5 MB. A test's thread has
+/// 2 MB: `Table::sheet` makes one of its own, and the call itself is tried on one with the stack that it is said to need.
 #[test]
 fn the_deepest_tree() {
     let mut table = vec![];
@@ -94,12 +90,15 @@ fn the_deepest_tree() {
     ] {
         field(&mut table, tag, body);
     }
+    let length = 20 + 1022 * 28;
+    let made = Table::new(table.clone()).unwrap();
+    let sheet = |lines: usize| made.sheet(&vec![0; 11 * lines], &vec![0; 11 * lines]).map(|sheet| (sheet.value(), sheet.bytes().len()));
+    assert_eq!(sheet(1021), Ok((1021, length)));
+    assert_eq!(sheet(1022).map_err(refused), Err((32, 11 * 1022)));
     let work = move || {
-        let table = Table::new(table).unwrap();
-        let sheet =
-            |lines: usize| table.sheet(&vec![0; 11 * lines], &vec![0; 11 * lines]).map(|sheet| (sheet.value(), sheet.bytes().len()));
-        assert_eq!(sheet(1021), Ok((1021, 20 + 1022 * 28)));
-        assert_eq!(sheet(1022).map_err(refused), Err((32, 11 * 1022)));
+        let (kinds, values) = (vec![0; 11 * 1021], vec![0; 11 * 1021]);
+        lent::sheet(&table, &kinds, &values, (REGISTERS, PLACES), &mut vec![0; length]).map(|written| (written.value, written.length))
     };
-    std::thread::Builder::new().stack_size(lent::SHEET_STACK).spawn(work).unwrap().join().unwrap();
+    let written = std::thread::Builder::new().stack_size(lent::SHEET_STACK).spawn(work).unwrap().join().unwrap();
+    assert_eq!(written, Ok((1021, length)));
 }

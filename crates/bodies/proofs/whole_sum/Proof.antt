@@ -1,6 +1,6 @@
 use native.Mathlib.Omega.{arith}
 use borrow.Author.Needs.{needs}
-use Rattle.bodies.proofs.Schemes as S
+use Rattle.body_words.specs.Schemes as S
 use Rattle.bodies.proofs.whole_sum.Statement.{statement}
 use Rattle.bodies.proofs.whole_sum.Tie as tie
 

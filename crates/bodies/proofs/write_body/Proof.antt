@@ -1,5 +1,5 @@
 use native.Mathlib.Omega.{arith}
-use Rattle.bodies.proofs.Bodies as B
+use Rattle.body_words.specs.Bodies as B
 use borrow.Author.Needs.{needs}
 use Rattle.bodies.proofs.write_body.Statement.{statement}
 use Rattle.bodies.proofs.write_body.Tie as tie

@@ -1,6 +1,6 @@
 use native.Mathlib.Omega.{arith}
-use Rattle.blocks.specs.Patch.{wrote-length}
-use Rattle.bodies.proofs.Schemes as S
+use Rattle.block_words.specs.Patch.{wrote-length}
+use Rattle.body_words.specs.Schemes as S
 use borrow.Author.Needs.{needs}
 use Rattle.bodies.proofs.write_end.Statement.{statement}
 use Rattle.bodies.proofs.write_end.Tie as tie

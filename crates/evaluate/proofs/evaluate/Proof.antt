@@ -3,7 +3,7 @@ use mathlib.Core.Path.{sym, _∙_, subst₂}
 use lib.ListN.{take, length-take}
 use lib.Seq.{length-take-le}
 use denote.Ref.{now}
-use Rattle.evaluate.specs.Opened.{Clean}
+use Rattle.evaluate_open.specs.Opening.{Clean}
 use Rattle.evaluate.specs.Ran.{evaluated-as}
 use borrow.Author.Needs.{needs}
 use Rattle.evaluate.proofs.evaluate.Statement.{statement}

@@ -34,7 +34,9 @@ returns : tie.Need-returns
 returns c =
     let a = c .before .before .before .before .before .before .before .before .before .before .before .before .before .before .before .before .before .before .before .before .before .before .args in
     let f = c .before .before .before .before .before .before .before .before .before .before .feed-inner in
-    let e = ap₂ (λ z y. innerPerforms programOf (now (a .table)) (now (a .program)) z y (stacksOf (now (a .registers)) (now (a .places))) (Inner.engine (feed (now (a .kinds)) (now (a .values))))) (c .before .before .before .before .before .before .before .before .before .before .before .before .before .before .before .before .brought .ensures) (c .before .before .before .before .before .before .before .before .before .before .before .before .before .before .brought2 .ensures) in
+    let outer = c .before .before .before .before .before .before .before .before .before .before .before .before .before .before .before .before .brought .ensures in
+    let inner = c .before .before .before .before .before .before .before .before .before .before .before .before .before .before .brought2 .ensures in
+    let e = ap₂ (λ z y. innerPerforms programOf (now (a .table)) (now (a .program)) z y (stacksOf (now (a .registers)) (now (a .places))) (Inner.engine (feed (now (a .kinds)) (now (a .values))))) outer inner in
     both-passed-on (f .result) _ _ _ _ (f .ensures ∙ e) _ _ _ _ (c .pass-on .ensures)
 
 pub feed-spec : {M : Type 1} → statement M

@@ -40,7 +40,9 @@ returns : tie.Need-returns
 returns c =
     let a = c .before .before .before .before .before .before .before .before .before .before .before .before .before .before .before .before .before .before .before .before .before .before .args in
     let f = c .before .before .before .before .before .before .before .before .before .before .before .finish-inner in
-    let e = ap₂ (λ z y. innerPerforms programOf (now (a .table)) (now (a .program)) z y (stacksOf (now (a .registers)) (now (a .places))) (Inner.engine finish)) (c .before .before .before .before .before .before .before .before .before .before .before .before .before .before .before .before .before .brought .ensures) (c .before .before .before .before .before .before .before .before .before .before .before .before .before .before .before .brought2 .ensures) in
+    let outer = c .before .before .before .before .before .before .before .before .before .before .before .before .before .before .before .before .before .brought .ensures in
+    let inner = c .before .before .before .before .before .before .before .before .before .before .before .before .before .before .before .brought2 .ensures in
+    let e = ap₂ (λ z y. innerPerforms programOf (now (a .table)) (now (a .program)) z y (stacksOf (now (a .registers)) (now (a .places))) (Inner.engine finish)) outer inner in
     let q = f .ensures ∙ e in
     let v = c .before .before .before .before .before .value-of in
     (both-passed-on (f .result) _ _ _ _ q _ _ _ _ (c .pass-on .ensures), toZ-ofZ (sfits-of (v .ok)) ∙ (v .ensures ∙ ap (λ (z : InnerEffect). valueOf (z .answer)) q))

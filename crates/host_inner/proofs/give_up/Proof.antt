@@ -33,7 +33,9 @@ returns : tie.Need-returns
 returns c =
     let a = c .before .before .before .before .before .before .before .before .before .before .before .before .before .before .before .before .before .before .before .before .before .args in
     let f = c .before .before .before .before .before .before .before .before .before .before .give-up in
-    let e = ap₂ (λ z y. innerPerforms programOf (now (a .table)) (now (a .program)) z y (stacksOf (now (a .registers)) (now (a .places))) giveUp) (c .before .before .before .before .before .before .before .before .before .before .before .before .before .before .before .before .brought .ensures) (c .before .before .before .before .before .before .before .before .before .before .before .before .before .before .brought2 .ensures) in
+    let outer = c .before .before .before .before .before .before .before .before .before .before .before .before .before .before .before .before .brought .ensures in
+    let inner = c .before .before .before .before .before .before .before .before .before .before .before .before .before .before .brought2 .ensures in
+    let e = ap₂ (λ z y. innerPerforms programOf (now (a .table)) (now (a .program)) z y (stacksOf (now (a .registers)) (now (a .places))) giveUp) outer inner in
     both-passed-on (f .result) _ _ _ _ (f .ensures ∙ e) _ _ _ _ (c .pass-on .ensures)
 
 pub give-up-spec : {M : Type 1} → statement M

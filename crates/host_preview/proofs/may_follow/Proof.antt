@@ -47,7 +47,10 @@ returns c =
     let s = c .before .before .before .before .before .before .before .before .before .before .before .before .before .before .before .before .before in
     let a = s .args in
     let f = c .before .before .before .before .before .before .before .before .may-follow in
-    let e = ap₂ (λ z w. mays programOf (now (a .table)) (now (a .program)) z (stacksOf (now (a .registers)) (now (a .places))) (stacksOf (now (a .scratch-registers)) (now (a .scratch-places))) w) (c .before .before .before .before .before .before .before .before .before .before .before .before .brought .ensures) (toZ-ofZ (s .fits .value)) in
+    let known = c .before .before .before .before .before .before .before .before .before .before .before .before .brought .ensures in
+    let under = stacksOf (now (a .registers)) (now (a .places)) in
+    let scratch = stacksOf (now (a .scratch-registers)) (now (a .scratch-places)) in
+    let e = ap₂ (λ r w. mays programOf (now (a .table)) (now (a .program)) r under scratch w) known (toZ-ofZ (s .fits .value)) in
     may-passed-on (f .result) _ _ _ _ (f .ensures ∙ e) _ _ _ (c .before .before .tokens-of .ensures) (c .before .number-of .ensures) (c .count-of .ensures)
 
 pub may-follow-spec : {M : Type 1} → statement M

@@ -39,7 +39,10 @@ returns c =
     let s = c .before .before .before .before .before .before .before .before .before .before .before .before .before .before .before .before .before .before in
     let a = s .args in
     let f = c .before .before .before .before .before .before .before .before .before .preview in
-    let e = ap₂ (λ z w. previews programOf (now (a .table)) (now (a .program)) z (stacksOf (now (a .registers)) (now (a .places))) (stacksOf (now (a .scratch-registers)) (now (a .scratch-places))) (a .kind) w) (c .before .before .before .before .before .before .before .before .before .before .before .before .before .brought .ensures) (toZ-ofZ (s .fits .value)) in
+    let known = c .before .before .before .before .before .before .before .before .before .before .before .before .before .brought .ensures in
+    let under = stacksOf (now (a .registers)) (now (a .places)) in
+    let scratch = stacksOf (now (a .scratch-registers)) (now (a .scratch-places)) in
+    let e = ap₂ (λ r w. previews programOf (now (a .table)) (now (a .program)) r under scratch (a .kind) w) known (toZ-ofZ (s .fits .value)) in
     passed-on (f .result) _ _ _ _ (f .ensures ∙ e) _ _ _ (c .pass-on .ensures)
 
 pub preview-token-spec : {M : Type 1} → statement M

@@ -1,5 +1,5 @@
 use native.Mathlib.Omega.{arith}
-use Rattle.checker.proofs.Cases.{inside-within}
+use Rattle.checker_span.proofs.Cases.{inside-within}
 use Rattle.host_table.proofs.Stretching.{stretched-within, stretched-nowhere}
 use borrow.Author.Needs.{needs}
 use Rattle.host_table.proofs.stretch.Statement.{statement}

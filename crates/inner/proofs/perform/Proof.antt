@@ -5,7 +5,7 @@ use Rattle.records.specs.Records.{stateIs}
 use Rattle.engine.specs.Beginning.{standing-shown, standing-readable}
 use Rattle.engine.proofs.Cases.{ready-case}
 use Rattle.inner_records.specs.Records.{callIs, innerHandedIs}
-use Rattle.inner.specs.Beginning.{turned-call, standing-call}
+use Rattle.inner_opening.specs.Beginning.{turned-call, standing-call}
 use borrow.Author.Needs.{needs}
 use Rattle.inner.proofs.perform.Statement.{statement}
 use Rattle.inner.proofs.perform.Tie as tie

@@ -3,8 +3,8 @@ use mathlib.Core.Path.{_≡_, refl, sym}
 use native.Mathlib.Omega.{arith}
 use borrow.Author.Needs.{needs}
 use Rattle.meaning.specs.Table.{byte}
-use Rattle.judge_nodes.specs.Checked.{Passed}
-use Rattle.judge_nodes.proofs.Laws as L
+use Rattle.judge_parts.specs.Checked.{Passed}
+use Rattle.judge_parts.specs.Laws as L
 use Prim.Native.Nat.{ℕ, _<_}
 use borrow.Fn.Kinds.{In}
 use borrow.Fn.PlainCycle.{Measures, is, falls, and}
@@ -14,10 +14,10 @@ use Rattle.judge_nodes.proofs.+check_children+check_node.Lts-check_chil
 use Rattle.judge_nodes.proofs.check_node.Reads as check-node
 use Rattle.judge_nodes.proofs.check_node.Kinds as check-node-kinds
 use Rattle.judge_nodes.proofs.+check_children+check_node.Lts-check_node as check-node-lts
-use Rattle.judge_nodes.proofs.check_token.Reads as check-token-reads
+use Rattle.judge_parts.proofs.check_token.Reads as check-token-reads
 use Rattle.judge_head.proofs.heading.Reads as heading-reads
-use Rattle.judge_nodes.proofs.holds.Reads as holds-reads
-use Rattle.judge_nodes.proofs.mark_of.Reads as mark-of-reads
+use Rattle.judge_parts.proofs.holds.Reads as holds-reads
+use Rattle.judge_parts.proofs.mark_of.Reads as mark-of-reads
 use Rattle.value.proofs.byte_at.Reads as byte-at-reads
 use Rattle.judge_nodes.proofs.+check_children+check_node.{statement}
 use Rattle.judge_nodes.proofs.+check_children+check_node.Tie.{close}

@@ -1,5 +1,5 @@
 use borrow.Author.Needs.{sfits-of}
-use Rattle.judge_values.proofs.Bits.{valued}
+use Rattle.judge_numbers.proofs.Bits.{valued}
 use Rattle.theory_judge.specs.Judged.{first-constant, first-occurrence}
 use borrow.Author.Needs.{needs}
 use Rattle.judge_values.proofs.first.Statement.{statement}

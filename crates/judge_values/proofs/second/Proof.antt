@@ -1,6 +1,6 @@
 use native.Mathlib.Omega.{arith}
 use borrow.Author.Needs.{sfits-of}
-use Rattle.judge_values.proofs.Bits.{valued}
+use Rattle.judge_numbers.proofs.Bits.{valued}
 use Rattle.theory_judge.specs.Judged.{second-constant, second-occurrence}
 use borrow.Author.Needs.{needs}
 use Rattle.judge_values.proofs.second.Statement.{statement}

@@ -72,56 +72,81 @@ same-length c = search needs
 
 returns : tie.Need-returns
 unfolding functionAs decimal integral
-returns c = (wrote-as (ap (λ k. functionAs k (c .before .before .before .before .before .before .before .before .before .before .before .args .a) (c .before .before .before .before .before .before .before .before .before .before .before .args .b) (c .before .before .before .before .before .before .before .before .before .before .before .args .c)) (sym (c .before .before .before .before .before .before .before .before .before .match .keys1))) (c .before .before .before .before .before .before .copy .ensures then c .before .before .spaced-number .ensures .0), omega (arith, c .before .before .before .before .before .before .copy .ensures .behind))
+returns c =
+    let a = c .before .before .before .before .before .before .before .before .before .before .before .args in
+    let key = c .before .before .before .before .before .before .before .before .before .match .keys1 in
+    let copied = c .before .before .before .before .before .before .copy .ensures in
+    (wrote-as (ap (λ k. functionAs k (a .a) (a .b) (a .c)) (sym key)) (copied then c .before .before .spaced-number .ensures .0), omega (arith, copied .behind))
 
 same-length-2 : tie.Need-same-length-2
 same-length-2 c = search needs
 
 returns-2 : tie.Need-returns-2
 unfolding functionAs decimal integral
-returns-2 c = (wrote-as (ap (λ k. functionAs k (c .before .before .before .before .before .before .before .args .a) (c .before .before .before .before .before .before .before .args .b) (c .before .before .before .before .before .before .before .args .c)) (sym (c .before .before .before .before .before .match .keys2))) (c .before .before .two-numbers .ensures .0), omega arith)
+returns-2 c =
+    let a = c .before .before .before .before .before .before .before .args in
+    let key = c .before .before .before .before .before .match .keys2 in
+    (wrote-as (ap (λ k. functionAs k (a .a) (a .b) (a .c)) (sym key)) (c .before .before .two-numbers .ensures .0), omega arith)
 
 same-length-3 : tie.Need-same-length-3
 same-length-3 c = search needs
 
 returns-3 : tie.Need-returns-3
 unfolding functionAs decimal integral
-returns-3 c = (wrote-as (ap (λ k. functionAs k (c .before .before .before .before .before .before .before .args .a) (c .before .before .before .before .before .before .before .args .b) (c .before .before .before .before .before .before .before .args .c)) (sym (c .before .before .before .before .before .match .keys3))) (c .before .before .two-numbers2 .ensures .0), omega arith)
+returns-3 c =
+    let a = c .before .before .before .before .before .before .before .args in
+    let key = c .before .before .before .before .before .match .keys3 in
+    (wrote-as (ap (λ k. functionAs k (a .a) (a .b) (a .c)) (sym key)) (c .before .before .two-numbers2 .ensures .0), omega arith)
 
 same-length-4 : tie.Need-same-length-4
 same-length-4 c = search needs
 
 returns-4 : tie.Need-returns-4
 unfolding functionAs decimal integral
-returns-4 c = (wrote-as (ap (λ k. functionAs k (c .before .before .before .before .before .before .before .args .a) (c .before .before .before .before .before .before .before .args .b) (c .before .before .before .before .before .before .before .args .c)) (sym (c .before .before .before .before .before .match .keys4))) (c .before .before .two-numbers3 .ensures .0), omega arith)
+returns-4 c =
+    let a = c .before .before .before .before .before .before .before .args in
+    let key = c .before .before .before .before .before .match .keys4 in
+    (wrote-as (ap (λ k. functionAs k (a .a) (a .b) (a .c)) (sym key)) (c .before .before .two-numbers3 .ensures .0), omega arith)
 
 same-length-5 : tie.Need-same-length-5
 same-length-5 c = search needs
 
 returns-5 : tie.Need-returns-5
 unfolding functionAs decimal integral
-returns-5 c = (wrote-as (ap (λ k. functionAs k (c .before .before .before .before .before .before .before .args .a) (c .before .before .before .before .before .before .before .args .b) (c .before .before .before .before .before .before .before .args .c)) (sym (c .before .before .before .before .before .match .keys5))) (c .before .before .two-numbers4 .ensures .0), omega arith)
+returns-5 c =
+    let a = c .before .before .before .before .before .before .before .args in
+    let key = c .before .before .before .before .before .match .keys5 in
+    (wrote-as (ap (λ k. functionAs k (a .a) (a .b) (a .c)) (sym key)) (c .before .before .two-numbers4 .ensures .0), omega arith)
 
 same-length-6 : tie.Need-same-length-6
 same-length-6 c = search needs
 
 returns-6 : tie.Need-returns-6
 unfolding functionAs decimal integral
-returns-6 c = (wrote-as (ap (λ k. functionAs k (c .before .before .before .before .before .before .before .args .a) (c .before .before .before .before .before .before .before .args .b) (c .before .before .before .before .before .before .before .args .c)) (sym (c .before .before .before .before .before .match .keys6))) (c .before .before .two-numbers5 .ensures .0), omega arith)
+returns-6 c =
+    let a = c .before .before .before .before .before .before .before .args in
+    let key = c .before .before .before .before .before .match .keys6 in
+    (wrote-as (ap (λ k. functionAs k (a .a) (a .b) (a .c)) (sym key)) (c .before .before .two-numbers5 .ensures .0), omega arith)
 
 same-length-7 : tie.Need-same-length-7
 same-length-7 c = search needs
 
 returns-7 : tie.Need-returns-7
 unfolding functionAs decimal integral
-returns-7 c = (wrote-as (ap (λ k. functionAs k (c .before .before .before .before .before .before .before .args .a) (c .before .before .before .before .before .before .before .args .b) (c .before .before .before .before .before .before .before .args .c)) (sym (c .before .before .before .before .before .match .keys7))) (c .before .before .number-and-constant .ensures .0), omega arith)
+returns-7 c =
+    let a = c .before .before .before .before .before .before .before .args in
+    let key = c .before .before .before .before .before .match .keys7 in
+    (wrote-as (ap (λ k. functionAs k (a .a) (a .b) (a .c)) (sym key)) (c .before .before .number-and-constant .ensures .0), omega arith)
 
 same-length-8 : tie.Need-same-length-8
 same-length-8 c = search needs
 
 returns-8 : tie.Need-returns-8
 unfolding functionAs decimal integral
-returns-8 c = (wrote-as (ap (λ k. functionAs k (c .before .before .before .before .before .before .before .args .a) (c .before .before .before .before .before .before .before .args .b) (c .before .before .before .before .before .before .before .args .c)) (sym (c .before .before .before .before .before .match .keys8))) (c .before .before .number-and-constant2 .ensures .0), omega arith)
+returns-8 c =
+    let a = c .before .before .before .before .before .before .before .args in
+    let key = c .before .before .before .before .before .match .keys8 in
+    (wrote-as (ap (λ k. functionAs k (a .a) (a .b) (a .c)) (sym key)) (c .before .before .number-and-constant2 .ensures .0), omega arith)
 
 same-length-9 : tie.Need-same-length-9
 same-length-9 c = search needs
@@ -129,9 +154,12 @@ same-length-9 c = search needs
 returns-9 : tie.Need-returns-9
 unfolding functionAs decimal integral
 returns-9 c =
-    let s = c .before .before .before .before .before .before .before .before .before .before .before .args in
+    let a = c .before .before .before .before .before .before .before .before .before .before .before .args in
     let n = c .before .before .before .before .before .before .before .before .before .match .rest in
-    (wrote-as (sym (no-function (s .f) (s .a) (s .b) (s .c) (n .0 .0 .0 .0 .0 .0 .0 .1) (n .0 .0 .0 .0 .0 .0 .1) (n .0 .0 .0 .0 .0 .1) (n .0 .0 .0 .0 .1) (n .0 .0 .0 .1) (n .0 .0 .1) (n .0 .1) (n .1))) (c .before .before .before .before .before .before .copy2 .ensures then c .before .before .spaced-integer .ensures .0), omega (arith, c .before .before .before .before .before .before .copy2 .ensures .behind))
+    let early = n .0 .0 .0 .0 in
+    let none = no-function (a .f) (a .a) (a .b) (a .c) (early .0 .0 .0 .1) (early .0 .0 .1) (early .0 .1) (early .1) (n .0 .0 .0 .1) (n .0 .0 .1) (n .0 .1) (n .1) in
+    let copied = c .before .before .before .before .before .before .copy2 .ensures in
+    (wrote-as (sym none) (copied then c .before .before .spaced-integer .ensures .0), omega (arith, copied .behind))
 
 pub function-spec : {M : Type 1} → statement M
 function-spec =

@@ -22,7 +22,12 @@ same-length c = search needs
 
 returns : tie.Need-returns
 unfolding prefixText
-returns c = (c .before .before .before .before .before .before .before .before .before .before .before .before .before .before .number .ensures .0 then (c .before .before .before .before .before .before .before .before .before .before .put .ensures then (c .before .before .before .before .before .before .put2 .ensures then c .before .before .number2 .ensures .0)), omega (arith, c .before .before .before .before .before .before .before .before .before .before .put .ensures .behind, c .before .before .before .before .before .before .put2 .ensures .behind))
+returns c =
+    let first = c .before .before .before .before .before .before .before .before .before .before .before .before .before .before .number .ensures .0 in
+    let space = c .before .before .before .before .before .before .before .before .before .before .put .ensures in
+    let letter = c .before .before .before .before .before .before .put2 .ensures in
+    let second = c .before .before .number2 .ensures .0 in
+    (first then (space then (letter then second)), omega (arith, space .behind, letter .behind))
 
 pub prefix-spec : {M : Type 1} → statement M
 prefix-spec =

@@ -26,7 +26,12 @@ same-length c = search needs
 
 returns : tie.Need-returns
 unfolding removeLine decimal
-returns c = (c .before .before .before .before .before .before .before .before .before .before .before .before .before .before .before .number .ensures .0 then c .before .before .before .before .before .before .before .before .before .before .copy .ensures then c .before .before .before .before .before .before .spaced-number .ensures .0 then c .before .before .put .ensures, omega (arith, c .before .before .before .before .before .before .before .before .before .before .copy .ensures .behind, c .before .before .put .ensures .behind))
+returns c =
+    let number = c .before .before .before .before .before .before .before .before .before .before .before .before .before .before .before .number .ensures .0 in
+    let copied = c .before .before .before .before .before .before .before .before .before .before .copy .ensures in
+    let spaced = c .before .before .before .before .before .before .spaced-number .ensures .0 in
+    let ended = c .before .before .put .ensures in
+    (number then copied then spaced then ended, omega (arith, copied .behind, ended .behind))
 
 pub remove-line-spec : {M : Type 1} → statement M
 remove-line-spec =

@@ -23,7 +23,12 @@ same-length c = search needs
 
 returns : tie.Need-returns
 unfolding ruleLine functionAs prefixText decimal
-returns c = (c .before .before .before .before .before .before .before .before .before .before .before .before .before .before .prefix .ensures .0 then (c .before .before .before .before .before .before .before .before .before .before .spaced-number .ensures .0 then c .before .before .before .before .before .before .function .ensures .0) then c .before .before .put .ensures, omega (arith, c .before .before .put .ensures .behind))
+returns c =
+    let prefix = c .before .before .before .before .before .before .before .before .before .before .before .before .before .before .prefix .ensures .0 in
+    let spaced = c .before .before .before .before .before .before .before .before .before .before .spaced-number .ensures .0 in
+    let function = c .before .before .before .before .before .before .function .ensures .0 in
+    let ended = c .before .before .put .ensures in
+    (prefix then (spaced then function) then ended, omega (arith, ended .behind))
 
 pub rule-line-spec : {M : Type 1} → statement M
 rule-line-spec =

@@ -17,7 +17,9 @@ same-length : tie.Need-same-length
 same-length c = search needs
 
 returns : tie.Need-returns
-returns c = (c .before .before .before .before .before .before .before .before .before .before .copy .ensures then c .before .before .before .before .before .before .spaced-number .ensures .0 then c .before .before .spaced-number2 .ensures .0, omega (arith, c .before .before .before .before .before .before .before .before .before .before .copy .ensures .behind))
+returns c =
+    let copied = c .before .before .before .before .before .before .before .before .before .before .copy .ensures in
+    (copied then c .before .before .before .before .before .before .spaced-number .ensures .0 then c .before .before .spaced-number2 .ensures .0, omega (arith, copied .behind))
 
 pub two-numbers-spec : {M : Type 1} → statement M
 two-numbers-spec =

@@ -37,12 +37,18 @@ same-length : tie.Need-same-length
 same-length c = search needs
 
 returns : tie.Need-returns
-returns c = record {
-  text = wrote-as (λ i. conditionLine (c .before .before .before .before .before .before .before .before .before .before .before .before .before .before .args .c .production) (c .before .before .before .before .before .before .before .before .before .before .before .before .before .before .args .c .passed) (conditionFrom (c .before .before .before .before .before .before .before .before .before .before .before .word .ensures i) (c .before .before .before .before .before .before .before .before .before .word2 .ensures i) (c .before .before .before .before .before .before .before .word3 .ensures i))) (c .before .before .before .before .before .condition-line .ensures .0);
-  short = c .before .before .before .before .before .condition-line .ensures .1;
-  some = refl;
-  next = c .go-on .ensures;
-}
+returns c =
+    let a = c .before .before .before .before .before .before .before .before .before .before .before .before .before .before .args .c in
+    let first = c .before .before .before .before .before .before .before .before .before .before .before .word .ensures in
+    let second = c .before .before .before .before .before .before .before .before .before .word2 .ensures in
+    let third = c .before .before .before .before .before .before .before .word3 .ensures in
+    let line = c .before .before .before .before .before .condition-line .ensures in
+    record {
+      text = wrote-as (λ i. conditionLine (a .production) (a .passed) (conditionFrom (first i) (second i) (third i))) (line .0);
+      short = line .1;
+      some = refl;
+      next = c .go-on .ensures;
+    }
 
 pub condition-spec : {M : Type 1} → statement M
 condition-spec =

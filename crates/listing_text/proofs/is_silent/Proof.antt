@@ -19,10 +19,20 @@ word-requires : tie.Need-word-requires
 word-requires c κs = search needs
 
 returns-3 : tie.Need-returns-3
-returns-3 c = stays-add (c .before .before .before .before .before .before .before .args .program .now) (c .before .before .before .before .before .before .before .args .c) (omega arith) (c .before .word .result) (c .before .word .ensures) (sym (c .before .before .before .is-inside .ensures .0) ∙ not-false (c .before .before .before .is-inside .result) (c .before .before .if2 .left)) (c .if3 .taken)
+returns-3 c =
+    let a = c .before .before .before .before .before .before .before .args in
+    let i = c .before .before .before .is-inside in
+    let inside = sym (i .ensures .0) ∙ not-false (i .result) (c .before .before .if2 .left) in
+    let w = c .before .word in
+    stays-add (a .program .now) (a .c) (omega arith) (w .result) (w .ensures) inside (c .if3 .taken)
 
 returns-4 : tie.Need-returns-4
-returns-4 c = skips-others (c .before .before .before .before .before .before .before .args .program .now) (c .before .before .before .before .before .before .before .args .c) (omega arith) (c .before .word .result) (c .before .word .ensures) (sym (c .before .before .before .is-inside .ensures .0) ∙ not-false (c .before .before .before .is-inside .result) (c .before .before .if2 .left)) (c .if3 .left)
+returns-4 c =
+    let a = c .before .before .before .before .before .before .before .args in
+    let i = c .before .before .before .is-inside in
+    let inside = sym (i .ensures .0) ∙ not-false (i .result) (c .before .before .if2 .left) in
+    let w = c .before .word in
+    skips-others (a .program .now) (a .c) (omega arith) (w .result) (w .ensures) inside (c .if3 .left)
 
 pub is-silent-spec : {M : Type 1} → statement M
 is-silent-spec =

@@ -17,49 +17,81 @@ is-inside-requires c κs = search needs
 
 returns : tie.Need-returns
 returns c =
-    let ws = c .before .before .before .before .before .args .program .now in
-    let d = c .before .before .settle .result in
-    (omega arith, told-stop ws (c .before .before .before .before .before .args .cursor) d (c .before .before .settle .ensures .1) (c .before .before .before .before .before .args .out .now) _ (step-stop ws d (c .before .before .settle .ensures .0) (sym (c .before .is-inside .ensures .0) ∙ not-true (c .before .is-inside .result) (c .if1 .taken))) refl)
+    let a = c .before .before .before .before .before .args in
+    let ws = a .program .now in
+    let s = c .before .before .settle in
+    let d = s .result in
+    let inside = c .before .is-inside in
+    let outside = sym (inside .ensures .0) ∙ not-true (inside .result) (c .if1 .taken) in
+    (omega arith, told-stop ws (a .cursor) d (s .ensures .1) (a .out .now) _ (step-stop ws d (s .ensures .0) outside) refl)
 
 rule-requires : tie.Need-rule-requires
-rule-requires c κs = let i = inside-facts (c .before .before .before .before .before .before .before .before .before .args .program .now) (c .before .before .before .before .before .before .settle .result) (sym (c .before .before .before .before .before .is-inside .ensures .0) ∙ not-false (c .before .before .before .before .before .is-inside .result) (c .before .before .before .before .if1 .left)) in (i .1, omega arith, omega arith)
+rule-requires c κs =
+    let ws = c .before .before .before .before .before .before .before .before .before .args .program .now in
+    let d = c .before .before .before .before .before .before .settle .result in
+    let inside = c .before .before .before .before .before .is-inside in
+    let i = inside-facts ws d (sym (inside .ensures .0) ∙ not-false (inside .result) (c .before .before .before .before .if1 .left)) in
+    (i .1, omega arith, omega arith)
 
 same-length : tie.Need-same-length
 same-length c = search needs
 
 returns-2 : tie.Need-returns-2
 returns-2 c =
-    let ws = c .before .before .before .before .before .before .before .before .before .before .before .before .args .program .now in
-    let d = c .before .before .before .before .before .before .before .before .before .settle .result in
-    told-line ws (c .before .before .before .before .before .before .before .before .before .before .before .before .args .cursor) d (c .before .before .before .before .before .before .before .before .before .settle .ensures .1) (omega arith) (step-rule ws d (c .before .before .before .before .before .before .before .before .before .settle .ensures .0) (sym (c .before .before .before .before .before .before .before .before .is-inside .ensures .0) ∙ not-false (c .before .before .before .before .before .before .before .before .is-inside .result) (c .before .before .before .before .before .before .before .if1 .left)) (omega arith) (c .before .before .before .before .if3 .taken)) (c .before .before .rule .ensures)
+    let a = c .before .before .before .before .before .before .before .before .before .before .before .before .args in
+    let ws = a .program .now in
+    let s = c .before .before .before .before .before .before .before .before .before .settle in
+    let d = s .result in
+    let i = c .before .before .before .before .before .before .before .before .is-inside in
+    let inside = sym (i .ensures .0) ∙ not-false (i .result) (c .before .before .before .before .before .before .before .if1 .left) in
+    told-line ws (a .cursor) d (s .ensures .1) (omega arith) (step-rule ws d (s .ensures .0) inside (omega arith) (c .before .before .before .before .if3 .taken)) (c .before .before .rule .ensures)
 
 condition-requires : tie.Need-condition-requires
-condition-requires c κs = let i = inside-facts (c .before .before .before .before .before .before .before .before .before .args .program .now) (c .before .before .before .before .before .before .settle .result) (sym (c .before .before .before .before .before .is-inside .ensures .0) ∙ not-false (c .before .before .before .before .before .is-inside .result) (c .before .before .before .before .if1 .left)) in (i .1, omega arith, omega arith)
+condition-requires c κs =
+    let ws = c .before .before .before .before .before .before .before .before .before .args .program .now in
+    let d = c .before .before .before .before .before .before .settle .result in
+    let inside = c .before .before .before .before .before .is-inside in
+    let i = inside-facts ws d (sym (inside .ensures .0) ∙ not-false (inside .result) (c .before .before .before .before .if1 .left)) in
+    (i .1, omega arith, omega arith)
 
 same-length-2 : tie.Need-same-length-2
 same-length-2 c = search needs
 
 returns-3 : tie.Need-returns-3
 returns-3 c =
-    let ws = c .before .before .before .before .before .before .before .before .before .before .before .before .args .program .now in
-    let d = c .before .before .before .before .before .before .before .before .before .settle .result in
-    told-line ws (c .before .before .before .before .before .before .before .before .before .before .before .before .args .cursor) d (c .before .before .before .before .before .before .before .before .before .settle .ensures .1) (omega arith) (step-condition ws d (c .before .before .before .before .before .before .before .before .before .settle .ensures .0) (sym (c .before .before .before .before .before .before .before .before .is-inside .ensures .0) ∙ not-false (c .before .before .before .before .before .before .before .before .is-inside .result) (c .before .before .before .before .before .before .before .if1 .left)) (omega arith) (c .before .before .before .before .if3 .left)) (c .before .before .condition .ensures)
+    let a = c .before .before .before .before .before .before .before .before .before .before .before .before .args in
+    let ws = a .program .now in
+    let s = c .before .before .before .before .before .before .before .before .before .settle in
+    let d = s .result in
+    let i = c .before .before .before .before .before .before .before .before .is-inside in
+    let inside = sym (i .ensures .0) ∙ not-false (i .result) (c .before .before .before .before .before .before .before .if1 .left) in
+    told-line ws (a .cursor) d (s .ensures .1) (omega arith) (step-condition ws d (s .ensures .0) inside (omega arith) (c .before .before .before .before .if3 .left)) (c .before .before .condition .ensures)
 
 word-requires : tie.Need-word-requires
 word-requires c κs = search needs
 
 add-requires : tie.Need-add-requires
-add-requires c κs = let i = inside-facts (c .before .before .before .before .before .before .before .before .before .before .args .program .now) (c .before .before .before .before .before .before .before .settle .result) (sym (c .before .before .before .before .before .before .is-inside .ensures .0) ∙ not-false (c .before .before .before .before .before .before .is-inside .result) (c .before .before .before .before .before .if1 .left)) in (i .1, i .2, omega arith)
+add-requires c κs =
+    let ws = c .before .before .before .before .before .before .before .before .before .before .args .program .now in
+    let d = c .before .before .before .before .before .before .before .settle .result in
+    let inside = c .before .before .before .before .before .before .is-inside in
+    let i = inside-facts ws d (sym (inside .ensures .0) ∙ not-false (inside .result) (c .before .before .before .before .before .if1 .left)) in
+    (i .1, i .2, omega arith)
 
 same-length-3 : tie.Need-same-length-3
 same-length-3 c = search needs
 
 returns-4 : tie.Need-returns-4
 returns-4 c =
-    let ws = c .before .before .before .before .before .before .before .before .before .before .before .before .before .args .program .now in
-    let d = c .before .before .before .before .before .before .before .before .before .before .settle .result in
+    let a = c .before .before .before .before .before .before .before .before .before .before .before .before .before .args in
+    let ws = a .program .now in
+    let s = c .before .before .before .before .before .before .before .before .before .before .settle in
+    let d = s .result in
+    let i = c .before .before .before .before .before .before .before .before .before .is-inside in
+    let inside = sym (i .ensures .0) ∙ not-false (i .result) (c .before .before .before .before .before .before .before .before .if1 .left) in
     let e = c .before .before .before .before .before .word .ensures in
-    told-line ws (c .before .before .before .before .before .before .before .before .before .before .before .before .before .args .cursor) d (c .before .before .before .before .before .before .before .before .before .before .settle .ensures .1) (omega arith) (step-add ws d (c .before .before .before .before .before .before .before .before .before .before .settle .ensures .0) (sym (c .before .before .before .before .before .before .before .before .before .is-inside .ensures .0) ∙ not-false (c .before .before .before .before .before .before .before .before .before .is-inside .result) (c .before .before .before .before .before .before .before .before .if1 .left)) (omega arith) (sym (ap (λ v. v % 8) e) ∙ c .before .before .before .before .if4 .taken)) (emits-as (ap (λ v. addLine (d .production) (d .passed + 1) (v / 8)) e) (c .before .before .add .ensures))
+    told-line ws (a .cursor) d (s .ensures .1) (omega arith) (step-add ws d (s .ensures .0) inside (omega arith) (sym (ap (λ v. v % 8) e) ∙ c .before .before .before .before .if4 .taken))
+    (emits-as (ap (λ v. addLine (d .production) (d .passed + 1) (v / 8)) e) (c .before .before .add .ensures))
 
 remove-requires : tie.Need-remove-requires
 remove-requires c κs = (c .before .before .before .before .before .before .is-inside .ensures .1 (not-false (c .before .before .before .before .before .before .is-inside .result) (c .before .before .before .before .before .if1 .left)), omega arith)
@@ -69,10 +101,15 @@ same-length-4 c = search needs
 
 returns-5 : tie.Need-returns-5
 returns-5 c =
-    let ws = c .before .before .before .before .before .before .before .before .before .before .before .before .before .args .program .now in
-    let d = c .before .before .before .before .before .before .before .before .before .before .settle .result in
+    let a = c .before .before .before .before .before .before .before .before .before .before .before .before .before .args in
+    let ws = a .program .now in
+    let s = c .before .before .before .before .before .before .before .before .before .before .settle in
+    let d = s .result in
+    let i = c .before .before .before .before .before .before .before .before .before .is-inside in
+    let inside = sym (i .ensures .0) ∙ not-false (i .result) (c .before .before .before .before .before .before .before .before .if1 .left) in
     let e = c .before .before .before .before .before .word .ensures in
-    told-line ws (c .before .before .before .before .before .before .before .before .before .before .before .before .before .args .cursor) d (c .before .before .before .before .before .before .before .before .before .before .settle .ensures .1) (omega arith) (step-remove ws d (c .before .before .before .before .before .before .before .before .before .before .settle .ensures .0) (sym (c .before .before .before .before .before .before .before .before .before .is-inside .ensures .0) ∙ not-false (c .before .before .before .before .before .before .before .before .before .is-inside .result) (c .before .before .before .before .before .before .before .before .if1 .left)) (omega arith) (λ z. c .before .before .before .before .if4 .left (ap (λ v. v % 8) e ∙ z))) (emits-as (ap (λ v. removeLine (d .production) (v / 8)) e) (c .before .before .remove .ensures))
+    told-line ws (a .cursor) d (s .ensures .1) (omega arith) (step-remove ws d (s .ensures .0) inside (omega arith) (λ z. c .before .before .before .before .if4 .left (ap (λ v. v % 8) e ∙ z)))
+    (emits-as (ap (λ v. removeLine (d .production) (v / 8)) e) (c .before .before .remove .ensures))
 
 pub next-line-spec : {M : Type 1} → statement M
 next-line-spec =

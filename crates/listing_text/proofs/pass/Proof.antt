@@ -14,7 +14,10 @@ go-on-requires : tie.Need-go-on-requires
 go-on-requires c κs = search needs
 
 returns : tie.Need-returns
-returns c = c .go-on .ensures ∙ to-rules (c .before .before .before .before .before .args .program .now) (c .before .before .before .before .before .args .c) (c .before .before .before .word .result) (c .before .before .before .word .ensures) (c .before .before .if1 .taken)
+returns c =
+    let a = c .before .before .before .before .before .args in
+    let w = c .before .before .before .word in
+    c .go-on .ensures ∙ to-rules (a .program .now) (a .c) (w .result) (w .ensures) (c .before .before .if1 .taken)
 
 add-go-on-2 : tie.Need-add-go-on-2
 add-go-on-2 c = search needs
@@ -23,7 +26,10 @@ go-on-requires-2 : tie.Need-go-on-requires-2
 go-on-requires-2 c κs = search needs
 
 returns-2 : tie.Need-returns-2
-returns-2 c = c .go-on2 .ensures ∙ to-conditions (c .before .before .before .before .before .before .args .program .now) (c .before .before .before .before .before .before .args .c) (c .before .before .before .before .word .result) (c .before .before .before .before .word .ensures) (c .before .before .before .if1 .left) (c .before .before .if2 .taken)
+returns-2 c =
+    let a = c .before .before .before .before .before .before .args in
+    let w = c .before .before .before .before .word in
+    c .go-on2 .ensures ∙ to-conditions (a .program .now) (a .c) (w .result) (w .ensures) (c .before .before .before .if1 .left) (c .before .before .if2 .taken)
 
 add-go-on-3 : tie.Need-add-go-on-3
 add-go-on-3 c = search needs
@@ -35,7 +41,10 @@ go-on-requires-3 : tie.Need-go-on-requires-3
 go-on-requires-3 c κs = search needs
 
 returns-3 : tie.Need-returns-3
-returns-3 c = c .go-on3 .ensures ∙ past-symbol (c .before .before .before .before .before .before .before .args .program .now) (c .before .before .before .before .before .before .before .args .c) (c .before .before .before .before .before .word .result) (c .before .before .before .before .before .word .ensures) (c .before .before .before .before .if1 .left) (c .before .before .before .if2 .left)
+returns-3 c =
+    let a = c .before .before .before .before .before .before .before .args in
+    let w = c .before .before .before .before .before .word in
+    c .go-on3 .ensures ∙ past-symbol (a .program .now) (a .c) (w .result) (w .ensures) (c .before .before .before .before .if1 .left) (c .before .before .before .if2 .left)
 
 pub pass-spec : {M : Type 1} → statement M
 pass-spec =

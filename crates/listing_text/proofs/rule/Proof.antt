@@ -34,12 +34,18 @@ same-length : tie.Need-same-length
 same-length c = search needs
 
 returns : tie.Need-returns
-returns c = record {
-  text = wrote-as (λ i. ruleLine (c .before .before .before .before .before .before .before .before .before .before .before .before .before .args .c .production) (c .before .before .before .before .before .before .before .before .before .before .position .ensures i) (ruleFrom (c .before .before .before .before .before .before .before .before .before .word .ensures i) (c .before .before .before .before .before .before .before .word2 .ensures i))) (c .before .before .before .before .before .rule-line .ensures .0);
-  short = c .before .before .before .before .before .rule-line .ensures .1;
-  some = refl;
-  next = c .go-on .ensures;
-}
+returns c =
+    let a = c .before .before .before .before .before .before .before .before .before .before .before .before .before .args .c in
+    let at = c .before .before .before .before .before .before .before .before .before .before .position .ensures in
+    let first = c .before .before .before .before .before .before .before .before .before .word .ensures in
+    let second = c .before .before .before .before .before .before .before .word2 .ensures in
+    let line = c .before .before .before .before .before .rule-line .ensures in
+    record {
+      text = wrote-as (λ i. ruleLine (a .production) (at i) (ruleFrom (first i) (second i))) (line .0);
+      short = line .1;
+      some = refl;
+      next = c .go-on .ensures;
+    }
 
 pub rule-spec : {M : Type 1} → statement M
 rule-spec =

@@ -2,7 +2,7 @@ use Prim.Native.Nat.{ℕ, zero, suc}
 use mathlib.Core.Path.{_≡_, refl, sym, ap}
 use Rattle.moves.specs.declared.Run.{Run}
 use Rattle.machine.specs.declared.Ended.the-variants.{Failed}
-use Rattle.machine.specs.Turns.{endedBy}
+use Rattle.machine.specs.Flows.{endedBy}
 use Rattle.machine.proofs.ending.Statement.{statement}
 use Rattle.machine.proofs.ending.Tie as tie
 

@@ -11,7 +11,8 @@ use Rattle.moves.specs.declared.Step.{Step}
 use Rattle.moves.specs.declared.Step.the-variants.{Moved, Blocked}
 use Rattle.machine.specs.declared.Ended as Ended
 use Rattle.machine.specs.Feeding.{TakesAll}
-use Rattle.machine.specs.Turns.{Turned, Flows, flows-start, not-begun, flows-held, flows-counts, flows-on, flows-ended}
+use Rattle.next_token.specs.Turns.{Turned}
+use Rattle.machine.specs.Flows.{Flows, flows-start, not-begun, flows-held, flows-counts, flows-on, flows-ended}
 use Rattle.machine.proofs.take_all.Statement.{statement}
 use Rattle.machine.proofs.take_all.Tie as tie
 

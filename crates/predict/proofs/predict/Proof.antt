@@ -1,4 +1,4 @@
-use Rattle.predict.specs.Predicting.{recordOf}
+use Rattle.alternatives.specs.Predicting.{recordOf}
 use Rattle.predict.specs.Entering.{directory-inside, first-led, first-holds, found-first, blocked-unexpected, blocked-none, blocked-full, entering-small, entering-inside, made-predict}
 use lib.ListN.{length, getD}
 use Rattle.theory_program.specs.Addresses.{segment-at}

@@ -1,9 +1,9 @@
 use native.Mathlib.Omega.{arith}
 use mathlib.Core.Path.{_∙_}
-use Rattle.blocks.specs.Patch.{wrote-length}
-use Rattle.program.specs.Directory.{alternatives}
-use Rattle.program.proofs.Sections as S
-use Rattle.program.proofs.Outlined.{outlined-of}
+use Rattle.block_words.specs.Patch.{wrote-length}
+use Rattle.program_words.specs.Directory.{alternatives}
+use Rattle.program_words.specs.Sections as S
+use Rattle.program_words.specs.Outlined.{outlined-of}
 use Rattle.program.proofs.build.Statement.{statement}
 use Rattle.program.proofs.build.Tie as tie
 

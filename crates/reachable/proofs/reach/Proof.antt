@@ -21,13 +21,23 @@ reach-round-requires c κs = c .before .pre
 returns : tie.Need-returns Inv-loop μ-loop
 returns c = settled _ _ _ (c .before .before .loop .inv .1) (c .before .reach-round .ensures) (c .if1 .taken)
 
+reach-round-back-requires : tie.Need-reach-round-back-requires Inv-loop μ-loop
+reach-round-back-requires c κs = c .before .before .before .pre
+
+returns-2 : tie.Need-returns-2 Inv-loop μ-loop
+returns-2 c =
+    let there = c .before .before .before in
+    settled _ _ _ (rising-on _ _ _ (there .before .loop .inv .1) (there .reach-round .ensures)) (c .before .reach-round-back .ensures) (c .if2 .taken)
+
 loop-less : tie.Need-loop-less Inv-loop μ-loop
-loop-less c = omega (arith, c .before .reach-round .ensures .grows)
+loop-less c = omega (arith, c .before .before .before .reach-round .ensures .grows, c .before .reach-round-back .ensures .grows)
 
 loop-again : tie.Need-loop-again Inv-loop μ-loop
-loop-again c = (search needs, rising-on _ _ _ (c .before .before .loop .inv .1) (c .before .reach-round .ensures))
+loop-again c =
+    let there = c .before .before .before in
+    (search needs, rising-on _ _ _ (rising-on _ _ _ (there .before .loop .inv .1) (there .reach-round .ensures)) (c .before .reach-round-back .ensures))
 
 pub reach-spec : {M : Type 1} → statement M
 reach-spec =
     tie.close
-    (tie.spec Inv-loop μ-loop loop-holds reach-round-requires returns loop-less loop-again)
+    (tie.spec Inv-loop μ-loop loop-holds reach-round-requires returns reach-round-back-requires returns-2 loop-less loop-again)

@@ -1,29 +1,49 @@
-use mathlib.Core.Path.{_≡_, subst}
+use mathlib.Core.Path.{_≡_, sym, subst}
+use lib.Seq.{length-take-le}
 use denote.Ref.{now}
-use Rattle.meaning.specs.Machine.{ends}
-use Rattle.machine.specs.declared.Ended as Ended
-use Rattle.machine.specs.declared.Ended.the-variants.{Stopped}
-use Rattle.sheet_moves.specs.Trying.{Tries}
-use Rattle.sheet_walk.specs.Leaving.{left-done, left-fails}
+use lib.ListN.{getD}
+use Prim.Native.Nat.{_%_, _≤_}
+use Rattle.sheet_record.specs.Recording.{Inner}
+use Rattle.sheet_walk.specs.Numbers.{low, walkedAs}
+use Rattle.sheet_walk.specs.Leaving.{Leaves}
+use Rattle.sheet_walk.specs.Walks.{left-whole}
 use borrow.Author.Needs.{needs}
 use Rattle.sheet_walk.proofs.leave.Statement.{statement}
 use Rattle.sheet_walk.proofs.leave.Tie as tie
 
-write-record-requires : tie.Need-write-record-requires
-write-record-requires c κs = search needs
+element-copy-out-n : tie.Need-element-copy-out-n
+element-copy-out-n c = search needs
 
-made-requires : tie.Need-made-requires
-made-requires c κs = search needs
+element-copy-out-k : tie.Need-element-copy-out-k
+element-copy-out-k c = search needs
 
--- the move that was tried
-tried : (c : tie.After-made) (e : Ended.Ended) → c .made .result ≡ e → Tries (now (c .before .before .before .before .before .before .before .before .before .before .before .before .args .program)) (now (c .before .before .before .before .before .before .before .before .before .before .before .before .args .registers)) (now (c .before .before .before .before .before .before .before .before .before .before .before .before .args .places)) (c .before .before .before .before .before .before .before .before .before .before .before .before .args .run) ends (c .made .last .0) (c .made .last .1 .0) e
-tried c e q = subst (λ z. Tries (now (c .before .before .before .before .before .before .before .before .before .before .before .before .args .program)) (now (c .before .before .before .before .before .before .before .before .before .before .before .before .args .registers)) (now (c .before .before .before .before .before .before .before .before .before .before .before .before .args .places)) (c .before .before .before .before .before .before .before .before .before .before .before .before .args .run) ends (c .made .last .0) (c .made .last .1 .0) z) q (c .made .ensures)
+run-of-requires : tie.Need-run-of-requires
+run-of-requires c κs = search needs
 
-enum-known-next : tie.Need-enum-known-next
-enum-known-next c = search needs
+slice-relend-prefix-depart : tie.Need-slice-relend-prefix-depart
+slice-relend-prefix-depart c = search needs
 
-enum-known-last : tie.Need-enum-known-last
-enum-known-last c = search needs
+slice-aggregate-depart : tie.Need-slice-aggregate-depart
+slice-aggregate-depart c = sym (length-take-le _ _ ((c .before .before .before .before .before .before .before .before) .pre .fits .registers))
+
+slice-relend-prefix-depart-2 : tie.Need-slice-relend-prefix-depart-2
+slice-relend-prefix-depart-2 c = search needs
+
+slice-aggregate-depart-2 : tie.Need-slice-aggregate-depart-2
+slice-aggregate-depart-2 c = sym (length-take-le _ _ ((c .before .before .before .before .before .before .before .before .before) .pre .fits .places))
+
+depart-requires : tie.Need-depart-requires
+depart-requires c κs =
+    let s = (c .before .before .before .before .before .before .before .before .before .before) in
+    let ws = now (s .args .program) in
+    let m = now (s .args .registers) in
+    let ps = now (s .args .places) in
+    let n = now (s .args .numbers) in
+    let run = (c .before .before .before) .run-of in
+    (subst (λ z. Inner ws (low 6 n m) (low 7 n ps) z) (sym (run .ensures)) (s .pre .inner), subst (λ z. getD ws (z .at) 0 % 8 ≡ 5) (sym (run .ensures)) (s .pre .five), s .pre .room, subst (λ z. s .args .before ≤ z .tokens) (sym (run .ensures)) (s .pre .earlier), s .pre .few)
+
+told-requires : tie.Need-told-requires
+told-requires c κs = search needs
 
 same-length : tie.Need-same-length
 same-length c = search needs
@@ -36,38 +56,34 @@ same-length-3 c = search needs
 
 returns : tie.Need-returns
 returns c =
-    let k = c .before .before .before .before .before .before in
-    let s = k .before .before .before .before .before .before .before .before .before .before .before .before in
-    left-done (s .pre .1) (s .args .at) (s .args .before) (s .args .end) _ _ _ _ (c .before .next .given .0 .0) (k .before .before .before .before .before .write-record .ensures) (tried k (Stopped (c .before .next .given .0 .0)) (c .before .next .given .1))
-
-same-length-4 : tie.Need-same-length-4
-same-length-4 c = search needs
-
-same-length-5 : tie.Need-same-length-5
-same-length-5 c = search needs
-
-same-length-6 : tie.Need-same-length-6
-same-length-6 c = search needs
-
-returns-2 : tie.Need-returns-2
-returns-2 c =
-    let k = c .before .before .before .before .before .before in
-    let s = k .before .before .before .before .before .before .before .before .before .before .before .before in
-    left-fails (s .pre .1) (s .args .at) (s .args .before) (s .args .end) (now (s .args .sheet)) (now (s .args .sheet)) _ _ (c .before .last .given .0 .0) (c .before .last .given .0 .1 .0) (tried k _ (c .before .last .given .1))
+    let s = (c .before .before .before .before .before .before .before .before .before .before .before .before .before .before .before .before .before .before) in
+    let ws = now (s .args .program) in
+    let m = now (s .args .registers) in
+    let ps = now (s .args .places) in
+    let n = now (s .args .numbers) in
+    let run = (c .before .before .before .before .before .before .before .before .before .before .before) .run-of in
+    let p = (c .before .before .before .before .before .before .before) .depart in
+    let t = c .told in
+    let out = p .last .1 .1 .1 .0 in
+    let x : Leaves ws (low 6 n m) (low 7 n ps) (run .result) (s .args .at) (s .args .before) (getD n 5 0) (now (s .args .sheet)) (p .last .0) (p .last .1 .0) out (walkedAs (p .result) (getD n 5 0)) = p .ensures .0 (getD n 5 0) in
+    left-whole (s .pre .fits) (p .last .0) (p .last .1 .0) (p .kept .0) (p .kept .1 .0) (p .result) (t .result) _ (t .ensures) ws (s .args .at) (s .args .before) (now (s .args .sheet)) out
+    (subst (λ z. Leaves ws (low 6 n m) (low 7 n ps) z (s .args .at) (s .args .before) (getD n 5 0) (now (s .args .sheet)) (p .last .0) (p .last .1 .0) out (walkedAs (p .result) (getD n 5 0))) (run .ensures) x)
+    (p .ensures .1 (getD n 5 0))
 
 pub leave-spec : {M : Type 1} → statement M
 leave-spec =
     tie.close
     (tie.spec
-    write-record-requires
-    made-requires
-    enum-known-next
-    enum-known-last
+    element-copy-out-n
+    element-copy-out-k
+    run-of-requires
+    slice-relend-prefix-depart
+    slice-aggregate-depart
+    slice-relend-prefix-depart-2
+    slice-aggregate-depart-2
+    depart-requires
+    told-requires
     same-length
     same-length-2
     same-length-3
-    returns
-    same-length-4
-    same-length-5
-    same-length-6
-    returns-2)
+    returns)

@@ -7,24 +7,21 @@ use Rattle.table_uses.proofs.read_uses.Statement.{statement}
 use Rattle.table_uses.proofs.read_uses.Tie as tie
 
 abbrev Inv-loop : tie.InvT-loop
-Inv-loop table from offset width inh syn rules conditions note₀ at₀ r₀ c₀ note at r c = Walking table from offset width inh syn rules conditions note at r c
+Inv-loop table from offset width inh syn note₀ rules conditions at₀ r₀ c₀ note at r c = Walking table from offset width inh syn rules conditions note₀ note at r c
 
 abbrev μ-loop : tie.MeasureT-loop
-μ-loop table from offset width inh syn rules conditions note₀ at₀ r₀ c₀ note at r c = length table - at
-
-begin-requires : tie.Need-begin-requires Inv-loop μ-loop
-begin-requires c κs = tt
+μ-loop table from offset width inh syn note₀ rules conditions at₀ r₀ c₀ note at r c = length table - at
 
 loop-holds : tie.Need-loop-holds Inv-loop μ-loop
 loop-holds c =
-    let pre = c .before .before .pre in
-    walk-start _ _ _ _ _ _ _ _ _ (c .begin .ensures) (pre .1) (pre .3) (pre .4)
+    let pre = c .before .pre in
+    walk-start _ _ _ _ _ _ _ _ _ (pre .1) (pre .3) (pre .4)
 
 is-over-requires : tie.Need-is-over-requires Inv-loop μ-loop
 is-over-requires c κs = c .loop .inv .inside
 
 has-gap-requires : tie.Need-has-gap-requires Inv-loop μ-loop
-has-gap-requires c κs = c .before .before .before .before .before .before .pre .0
+has-gap-requires c κs = c .before .before .before .before .before .pre .0
 
 finish-requires : tie.Need-finish-requires Inv-loop μ-loop
 finish-requires c κs = tt
@@ -33,8 +30,8 @@ returns : tie.Need-returns Inv-loop μ-loop
 returns c =
     let over = c .before .before .before in
     let at = over .before .before in
-    let pre = at .before .before .before .pre in
-    let d = walk-over _ _ _ _ _ _ _ _ _ _ _ _ (at .loop .inv) (over .before .is-over .ensures .0 (over .if1 .taken)) _ (c .before .has-gap .ensures .1) _ (c .finish .ensures) (pre .2) in
+    let pre = at .before .before .pre in
+    let d = walk-over _ _ _ _ _ _ _ _ _ _ _ _ _ (at .loop .inv) (over .before .is-over .ensures .0 (over .if1 .taken)) _ (c .before .has-gap .ensures .1) _ (c .finish .ensures) (pre .2) in
     (d .read, (d .next, d .inside))
 
 size-at-requires : tie.Need-size-at-requires Inv-loop μ-loop
@@ -44,12 +41,12 @@ take-use-requires : tie.Need-take-use-requires Inv-loop μ-loop
 take-use-requires c κs =
     let sized = c .before in
     let more = sized .before .before .is-over .ensures .1 (sized .before .if1 .left) in
-    (more .0, more .1, (sized .size-at .ensures .0, sized .size-at .ensures .1), sized .before .before .before .before .before .before .pre .0)
+    (more .0, more .1, (sized .size-at .ensures .0, sized .size-at .ensures .1), sized .before .before .before .before .before .pre .0)
 
 returns-2 : tie.Need-returns-2 Inv-loop μ-loop
 returns-2 c =
     let at = c .before .before .before .before .before .before in
-    (walk-refused _ _ _ _ _ _ _ _ _ _ _ _ (at .loop .inv) _ _ _ (c .before .take-use .ensures) (c .if2 .taken), ((λ z. absurd (c .if2 .taken z)), at .loop .inv .inside))
+    (walk-refused _ _ _ _ _ _ _ _ _ _ _ _ _ (at .loop .inv) _ _ _ (c .before .take-use .ensures) (c .if2 .taken), ((λ z. absurd (c .if2 .taken z)), at .loop .inv .inside))
 
 shared-slice-read-wide : tie.Need-shared-slice-read-wide Inv-loop μ-loop
 shared-slice-read-wide c =
@@ -77,7 +74,7 @@ loop-again : tie.Need-loop-again Inv-loop μ-loop
 loop-again c =
     let taken = c .before .before .before .before in
     let at = taken .before .before .before .before .before in
-    walk-rule _ _ _ _ _ _ _ _ _ _ _ _ (at .loop .inv) _ _ _ (taken .take-use .ensures) (omega arith) (omega arith)
+    walk-rule _ _ _ _ _ _ _ _ _ _ _ _ _ (at .loop .inv) _ _ _ (taken .take-use .ensures) (omega arith) (omega arith)
 
 add-c : tie.Need-add-c Inv-loop μ-loop
 add-c c =
@@ -99,7 +96,7 @@ loop-again-2 c =
     let fine = other .before .before .before in
     let taken = fine .before in
     let at = taken .before .before .before .before .before in
-    walk-condition _ _ _ _ _ _ _ _ _ _ _ _ (at .loop .inv) _ _ _ (taken .take-use .ensures) (fine .if2 .left) (λ e. other .if3 .left (other .before .wide .ensures .0 ∙ e))
+    walk-condition _ _ _ _ _ _ _ _ _ _ _ _ _ (at .loop .inv) _ _ _ (taken .take-use .ensures) (fine .if2 .left) (λ e. other .if3 .left (other .before .wide .ensures .0 ∙ e))
 
 pub read-uses-spec : {M : Type 1} → statement M
 read-uses-spec =
@@ -107,7 +104,6 @@ read-uses-spec =
     (tie.spec
     Inv-loop
     μ-loop
-    begin-requires
     loop-holds
     is-over-requires
     has-gap-requires

@@ -36,7 +36,9 @@ returns-2 : tie.Need-returns-2
 returns-2 c =
     let s = c .before .before .before .before .before .before .before .before .before .before .args in
     let e : 4294967295 - s .w + 1 ≡ suc (4294967295 - s .w) = omega arith in
-    (wrote-as (ap (λ n. 45 ∷ decimal n) e ∙ sym (integral-high (s .w) (c .before .before .before .before .before .before .before .before .if1 .left))) (c .before .before .before .before .before .before .put .ensures then c .before .before .number2 .ensures .0), omega (arith, c .before .before .before .before .before .before .put .ensures .behind))
+    let sign = c .before .before .before .before .before .before .put .ensures in
+    let digits = c .before .before .number2 .ensures .0 in
+    (wrote-as (ap (λ n. 45 ∷ decimal n) e ∙ sym (integral-high (s .w) (c .before .before .before .before .before .before .before .before .if1 .left))) (sign then digits), omega (arith, sign .behind))
 
 pub integer-spec : {M : Type 1} → statement M
 integer-spec =

@@ -49,7 +49,10 @@ returns-2 c =
     let s = c .before .before .before .before .before .before .before .before .before .before .before in
     let n = c .before .before .before .below in
     let e : n .result + 1 ≡ suc (n .result) = omega arith in
-    (wrote-as (ap (λ k. 45 ∷ decimal k) e ∙ sym (ap whole (sym (toZ-ofZ (s .fits .v)) ∙ n .ensures .0) ∙ whole-neg (n .result))) (c .before .before .before .before .before .before .before .put .ensures then c .before .before .long-number2 .ensures .0), omega (arith, c .before .before .before .before .before .before .before .put .ensures .behind))
+    let sign = c .before .before .before .before .before .before .before .put .ensures in
+    let digits = c .before .before .long-number2 .ensures .0 in
+    let negative = ap whole (sym (toZ-ofZ (s .fits .v)) ∙ n .ensures .0) ∙ whole-neg (n .result) in
+    (wrote-as (ap (λ k. 45 ∷ decimal k) e ∙ sym negative) (sign then digits), omega (arith, sign .behind))
 
 pub long-integer-spec : {M : Type 1} → statement M
 long-integer-spec =

@@ -8,7 +8,7 @@ use Rattle.meaning.specs.Window.{wellKept, bringsValue}
 use borrow.Author.Tests.{not-true, not-false}
 use Rattle.window_cells.specs.Signed.{back}
 use Rattle.theory_window.specs.Cases.{value-not}
-use Rattle.window_kept.specs.Checks.{Told, told-kept, told-wrong}
+use Rattle.window_found.specs.Checks.{Told, told-kept, told-wrong}
 use Rattle.window_push.specs.Leading.{brought}
 use borrow.Author.Needs.{needs}
 use Rattle.window.proofs.window_value.Statement.{statement}

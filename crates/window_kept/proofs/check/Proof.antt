@@ -7,7 +7,7 @@ use mir.Syntax.{w64}
 use mir.Val.{toZ, ofZ}
 use Rattle.window_cells.specs.Signed.{back}
 use borrow.Author.Tests.{le-leb, lt-leb}
-use Rattle.window_kept.proofs.Checking.{size-not, size-met}
+use Rattle.window_found.specs.Checking.{size-not, size-met}
 use borrow.Author.Needs.{needs}
 use Rattle.window_kept.proofs.check.Statement.{statement}
 use Rattle.window_kept.proofs.check.Tie as tie

@@ -10,7 +10,7 @@ use borrow.Author.Needs.{sfits-of, needs}
 use borrow.Author.Tests.{not-true, not-false}
 use Rattle.meaning.specs.Window.{placeFits}
 use Rattle.window_cells.specs.Signed.{back}
-use Rattle.window_kept.proofs.Checking.{place-not, count-not, rest-not, values-by, window-part}
+use Rattle.window_found.specs.Checking.{place-not, count-not, rest-not, values-by, window-part}
 use Rattle.window_kept.proofs.parts_kept.Statement.{statement}
 use Rattle.window_kept.proofs.parts_kept.Tie as tie
 

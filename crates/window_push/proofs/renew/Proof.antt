@@ -12,7 +12,7 @@ use Rattle.meaning.specs.Window as Window
 use Rattle.meaning.specs.Window.{sizeIn, heldIn, nextIn}
 use Rattle.theory_window.specs.Ring as Ring
 use Rattle.window_cells.specs.Signed.{back}
-use Rattle.window_kept.specs.Checks.{newLeaders}
+use Rattle.window_found.specs.Checks.{newLeaders}
 use Rattle.window_push.specs.Parts.{stored}
 use Rattle.window_push.specs.Leading.{few-leaders}
 use Rattle.window_push.proofs.Renewing.{renewed}

@@ -3,8 +3,8 @@ use super::answered;
 use crate::Refusal;
 
 /// A native stack that is enough for [`sheet`] and [`judge`](super::judge), in bytes. They call themselves for the nodes of a tree, at most
-/// 1,023 deep: `sheet` uses up to 14 MB, more than most threads have, `judge` up to 0.6 MB. Every other call makes do with far less.
-pub const SHEET_STACK: usize = 16 << 20;
+/// 1,023 deep: `sheet` uses up to 2.5 MB, more than a test or a spawned thread has, `judge` up to 0.6 MB. Every other call makes do with far less.
+pub const SHEET_STACK: usize = 8 << 20;
 
 /// What a sheet that was written comes to.
 #[derive(Clone, Copy, Debug, Default, PartialEq, Eq)]

@@ -22,13 +22,26 @@ close-round-requires c κs = let st = c .before in (st .pre .0, st .pre .1, narr
 returns : tie.Need-returns Inv-loop μ-loop
 returns c = settled _ _ _ (c .before .before .loop .inv .1) (c .before .close-round .ensures) (c .if1 .taken)
 
+close-round-back-requires : tie.Need-close-round-back-requires Inv-loop μ-loop
+close-round-back-requires c κs =
+    let at = c .before .before in
+    let st = at .before in
+    (st .pre .0, st .pre .1, narrow-rising _ (st .pre .0) _ (rising-on _ _ _ (at .loop .inv .1) (c .before .close-round .ensures)))
+
+returns-2 : tie.Need-returns-2 Inv-loop μ-loop
+returns-2 c =
+    let there = c .before .before .before in
+    settled _ _ _ (rising-on _ _ _ (there .before .loop .inv .1) (there .close-round .ensures)) (c .before .close-round-back .ensures) (c .if2 .taken)
+
 loop-less : tie.Need-loop-less Inv-loop μ-loop
-loop-less c = omega (arith, c .before .close-round .ensures .grows)
+loop-less c = omega (arith, c .before .before .before .close-round .ensures .grows, c .before .close-round-back .ensures .grows)
 
 loop-again : tie.Need-loop-again Inv-loop μ-loop
-loop-again c = (search needs, rising-on _ _ _ (c .before .before .loop .inv .1) (c .before .close-round .ensures))
+loop-again c =
+    let there = c .before .before .before in
+    (search needs, rising-on _ _ _ (rising-on _ _ _ (there .before .loop .inv .1) (there .close-round .ensures)) (c .before .close-round-back .ensures))
 
 pub closure-spec : {M : Type 1} → statement M
 closure-spec =
     tie.close
-    (tie.spec Inv-loop μ-loop loop-holds close-round-requires returns loop-less loop-again)
+    (tie.spec Inv-loop μ-loop loop-holds close-round-requires returns close-round-back-requires returns-2 loop-less loop-again)

@@ -1,3 +1,5 @@
+use mathlib.Core.Path.{_∙_, ap}
+use lib.ListN.{length}
 use borrow.Author.Needs.{needs}
 use Rattle.analysis.specs.Follows.{following, edges-short, follow-short, followed}
 use Rattle.follow_sets.proofs.follow.follow.Statement.{statement}
@@ -13,14 +15,17 @@ tails-requires : tie.Need-tails-requires
 tails-requires c κs = search needs
 
 spread-requires : tie.Need-spread-requires
-spread-requires c κs = search needs
+spread-requires c κs =
+    let ba = c .before .before .before .before in
+    let ad = ba .before .before in
+    (search needs, ba .bases .ensures .size ∙ ad .add .ensures .size ∙ ap length (ad .before .before .pre .3), search needs)
 
 returns : tie.Need-returns
 returns c =
     let tl = c .before .before .before in
     let ba = tl .before .before in
     let ad = ba .before .before in
-    let t = following _ _ _ _ _ _ _ (ad .add .ensures) (ba .bases .ensures) in
+    let t = following _ _ _ _ _ _ _ (rw (ad .before .before .pre .3) at (ad .add .ensures)) (ba .bases .ensures) in
     let e = tl .tails .ensures in
     λ b s. followed _ _ _ _ _ _ _ t e _ (c .spread .ensures .sets (edges-short _ _ _ _ _ _ _ t e _ b) (follow-short _ _ _ _ _ _ _ t e _ b s))
 

@@ -1,4 +1,0 @@
-pub mod Levels
-pub mod Words
-pub mod Given
-pub mod Waits

@@ -1,0 +1,49 @@
+// The levels of a production's positions, and what its places wait at.
+ghost use Prim.Native.Nat.{_+_, _*_, _≤_, _<_};
+ghost use mathlib.Core.Path.{_≡_};
+ghost use lib.ListN.{length};
+ghost use Rattle.body_words.specs.Given.{Given, Carried};
+ghost use Rattle.body_words.specs.Waits.{LeveledAndWaiting};
+use body_counts::clear;
+use body_counts::count_at;
+use body_counts::synthesized_at;
+
+// What one place waits at: the left side, the registers passed, those of the symbol that stand marked, those it inherits, its byte,
+// and a bit.
+fn wait_word(left: u32, passed: u32, marked: u32, own: u32, symbol: u32) -> u32
+    requires { ⌜ (left < 256) × (passed < 65536) × (marked < 256) × (own < 256) × (symbol < 256) ⌝ }
+    ensures { λ r. ⌜ r ≡ left + 64 * passed + 8192 * marked + 131072 * own + 2097152 * symbol + 536870912 ⌝ }
+{
+    left + 64 * passed + 8192 * marked + 131072 * own + 2097152 * symbol + 536870912
+}
+
+// The levels of the positions. On the way what the production's places wait at is written: a word for each symbol, then zeros.
+pub fn find_levels(
+    row: &[u8],
+    fields: &[u8],
+    inherited: &[u8],
+    synthesized: &[u8],
+    carrying: u64,
+    area: &mut [u32],
+    wait: usize,
+) -> [u32; 13]
+    requires { ⌜ Given (now row) (now fields) (now inherited) (now synthesized) × (wait + 12 ≤ length (now area)) ⌝ }
+    ensures { λ r. ⌜ (length r ≡ 13) × ((x : Given (now (row .entry)) (now (fields .entry)) (now (inherited .entry)) (now (synthesized .entry))) → Carried carrying (x .grammar) → LeveledAndWaiting x r (now (area .entry)) (now (area .exit)) wait) ⌝ }
+{
+    let mut levels = [0u32; 13];
+    let left = value::byte_at(row, 0);
+    let size = value::byte_at(row, 1) as usize;
+    let mut sum = 0u32;
+    let mut k: usize = 0;
+    while k < size {
+        let symbol = value::byte_at(row, k + 2);
+        let marked = count_at(synthesized, symbol);
+        let own = count_at(inherited, symbol);
+        area[wait + k] = wait_word(left, sum, marked, own, symbol);
+        sum = sum + synthesized_at(carrying, synthesized, symbol);
+        levels[k + 1] = sum + own;
+        k += 1;
+    }
+    clear(area, wait + size, wait + 12);
+    levels
+}

@@ -1,0 +1,10 @@
+pub mod Levels
+pub mod Words
+pub mod Given
+pub mod Waits
+pub mod Laws
+pub mod Symbols
+pub mod Leveling
+pub mod Waiting
+pub mod Schemes
+pub mod Bodies

@@ -1,0 +1,2 @@
+pub mod Outlined
+pub mod Taken

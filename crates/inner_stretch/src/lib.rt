@@ -1,0 +1,153 @@
+// The engine's calls on the lent cells above an outer run.
+ghost use Prim.Native.Nat.{_<_};
+ghost use mathlib.Core.Path.{_≡_};
+ghost use lib.ListN.{length};
+ghost use Rattle.meaning.specs.Grammar.{Grammar};
+ghost use Rattle.meaning.specs.PublicCalls.{stacksOf, callOf};
+ghost use Rattle.meaning.specs.Inner.{engineCall, innerOpenOf, innerOf};
+ghost use Rattle.theory_program.specs.Addresses.{Begins};
+ghost use Rattle.fit.specs.Shown.{Shown, Readable};
+ghost use Rattle.records.specs.Records.{stateIs, handedIs};
+ghost use Rattle.inner_records.specs.Records.{callIs, innerHandedIs};
+ghost use Rattle.inner_stretch.specs.Lending.{stretchCalled};
+use inner_begin::beginning;
+use inner_records::Call;
+use inner_records::InnerHanded;
+use inner_records::apart;
+use inner_records::ended;
+use inner_records::ends;
+use inner_records::opened;
+use inner_records::went_on;
+use records::Answer;
+use records::Handed;
+use records::State;
+
+// 02 (h): "over the same lent stacks above the outer run's heights".
+pub fn open_above(
+    outer: State,
+    registers: &mut [i64],
+    places: &mut [u32],
+    program: &[u32],
+) -> InnerHanded
+    requires { ⌜ 4 < length (now program) ⌝ }
+    ensures { λ r. ⌜ ((g : Grammar) → Begins g (now (program .entry)) → innerHandedIs r (now (registers .exit)) (now (places .exit)) ≡ innerOpenOf g (stateIs outer) (stacksOf (now (registers .entry)) (now (places .entry)))) ⌝ }
+{
+    let n = cells::smaller(registers.len(), limits::REGISTERS);
+    let k = cells::smaller(places.len(), limits::PLACES);
+    let a = beginning(outer.registers, n);
+    let b = beginning(outer.places, k);
+    let handed = opening::open_cells(&mut registers[a..n], &mut places[b..k], program);
+    opened(outer, handed)
+}
+
+// The engine's call. Giving up is an empty feed.
+fn call_cells(
+    call: Call,
+    registers: &mut [i64],
+    places: &mut [u32],
+    program: &[u32],
+    brought: State,
+    kinds: &[u8],
+    values: &[i32],
+) -> Handed
+    requires { ⌜ Readable (now program) ⌝ }
+    ensures { λ r. ⌜ ((g : Grammar) → Shown g (now (program .entry)) → handedIs r (now (registers .exit)) (now (places .exit)) ≡ callOf g (stateIs brought) (stacksOf (now (registers .entry)) (now (places .entry))) (engineCall (callIs call (now (kinds .entry)) (now (values .entry))))) ⌝ }
+{
+    match call {
+        Call::Feed => {
+            lent::call_cells(
+                lent::Call::Feed,
+                registers,
+                places,
+                program,
+                brought,
+                kinds,
+                values,
+            )
+        }
+        Call::Finish => {
+            lent::call_cells(
+                lent::Call::Finish,
+                registers,
+                places,
+                program,
+                brought,
+                kinds,
+                values,
+            )
+        }
+        Call::GiveUp => {
+            lent::call_cells(
+                lent::Call::Feed,
+                registers,
+                places,
+                program,
+                brought,
+                &kinds[..0],
+                &values[..0],
+            )
+        }
+    }
+}
+
+// The call on the stretch alone. 02 (h): ending the inner run "clears its cells".
+fn call_stretch(
+    call: Call,
+    outer: State,
+    inner: State,
+    registers: &mut [i64],
+    places: &mut [u32],
+    program: &[u32],
+    kinds: &[u8],
+    values: &[i32],
+) -> InnerHanded
+    requires { ⌜ Readable (now program) ⌝ }
+    ensures { λ r. ⌜ ((g : Grammar) → Shown g (now (program .entry)) → innerHandedIs r (now (registers .exit)) (now (places .exit)) ≡ stretchCalled g (stateIs outer) (stateIs inner) (stacksOf (now (registers .entry)) (now (places .entry))) (callIs call (now (kinds .entry)) (now (values .entry)))) ⌝ }
+{
+    let alone = inner.alone();
+    let handed = call_cells(call, registers, places, program, alone, kinds, values);
+    if ends(call, handed) {
+        cells::clear_registers(registers);
+        cells::clear_places(places);
+        return ended(outer, inner, handed);
+    }
+    went_on(outer, inner, handed)
+}
+
+// 33, 34, and the call on the cells from where the outer run waits on.
+pub fn call_above(
+    call: Call,
+    outer: State,
+    inner: State,
+    registers: &mut [i64],
+    places: &mut [u32],
+    program: &[u32],
+    kinds: &[u8],
+    values: &[i32],
+) -> InnerHanded
+    requires { ⌜ Readable (now program) ⌝ }
+    ensures { λ r. ⌜ ((g : Grammar) → Shown g (now (program .entry)) → innerHandedIs r (now (registers .exit)) (now (places .exit)) ≡ innerOf g (stateIs outer) (stateIs inner) (stacksOf (now (registers .entry)) (now (places .entry))) (callIs call (now (kinds .entry)) (now (values .entry)))) ⌝ }
+{
+    let number = apart(outer, inner);
+    if number != 0 {
+        return InnerHanded {
+            outer,
+            inner,
+            answer: Answer::Refused { number, tokens: 0 },
+        };
+    }
+    let n = cells::smaller(registers.len(), limits::REGISTERS);
+    let k = cells::smaller(places.len(), limits::PLACES);
+    let a = beginning(outer.registers, n);
+    let b = beginning(outer.places, k);
+    call_stretch(
+        call,
+        outer,
+        inner,
+        &mut registers[a..n],
+        &mut places[b..k],
+        program,
+        kinds,
+        values,
+    )
+}

@@ -1,0 +1,25 @@
+-- 02's numbers for the answers of the check of a sheet, and what it asks and promises of a table that is accepted.
+use Prim.Native.Nat.{ℕ}
+use mathlib.Core.Path.{_≡_}
+use mathlib.Core.List.{List}
+use lib.IntN.{ℤ}
+use Rattle.meaning_judge.specs.Judge.{JudgeAnswer, worth, turnedBack, Settles}
+use Rattle.judge_parts.specs.Checked.{Book, leavesIn}
+use Rattle.judge_sheet.specs.declared.Judgement.{Judgement}
+use Rattle.judge_sheet.specs.declared.Judgement.the-variants.{Value, Uneven, Wrong, Unusable}
+
+-- the root's value; 02 (e): "Lists of unequal length are turned back as 38"; 02 (m): 43; both with 0 beside them; the table's number and offset
+abbrev pub judgementIs : Judgement → JudgeAnswer
+judgementIs (Value v) = worth v
+judgementIs Uneven = turnedBack 38 0
+judgementIs Wrong = turnedBack 43 0
+judgementIs (Unusable number offset) = turnedBack number offset
+
+pub record SheetReady (table rows inherited synthesized offsets ks : List ℕ) (vs : List ℤ) (sheet : List ℕ) (start result : ℕ) : Type 0 where
+  pub book : Book table rows inherited synthesized offsets ks vs sheet
+  pub isStart : start ≡ book .grammar .start
+  pub isResult : result ≡ book .grammar .result
+
+abbrev pub SheetTold : List ℕ → List ℕ → List ℕ → List ℕ → List ℕ → List ℕ → List ℤ → List ℕ → ℕ → ℕ → Judgement → Type 0
+SheetTold table rows inherited synthesized offsets ks vs sheet start result r =
+    (x : SheetReady table rows inherited synthesized offsets ks vs sheet start result) → Settles (x .book .grammar) (leavesIn (x .book .grammar) ks vs) sheet (judgementIs r)

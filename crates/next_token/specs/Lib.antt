@@ -1,0 +1,3 @@
+pub mod Operations
+pub mod Coming
+pub mod Turns

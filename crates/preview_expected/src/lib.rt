@@ -1,0 +1,19 @@
+// Whether a token is expected where a run stands: the program's words tell it without a try.
+ghost use mathlib.Core.Path.{_≡_};
+ghost use Rattle.preview_expected.specs.Expected.{Legible, expectedAt};
+
+// A terminal expects its own token, a nonterminal those for which the directory names an alternative. Where nothing is left no token is expected; an operation that waits for none says nothing against it.
+pub fn expected(program: &[u32], at: usize, token: usize) -> bool
+    requires { ⌜ Legible (now program) at token ⌝ }
+    ensures { λ r. ⌜ r ≡ expectedAt (now (program .entry)) at token ⌝ }
+{
+    let word = moves::word_at(program, at);
+    let operation = word % 8;
+    if operation == operations::READ {
+        return word / 8 == token;
+    }
+    if operation == operations::PREDICT {
+        return moves::word_at(program, 9 + 64 * (word / 8) + token) != 0;
+    }
+    operation != operations::NOTHING
+}

@@ -1,4 +1,0 @@
-pub mod Laws
-pub mod Sections
-pub mod Outlined
-pub mod Nexts

@@ -1,6 +1,0 @@
-pub mod Brought
-pub mod Directory
-pub mod Records
-pub mod Waits
-pub mod Built
-pub mod Most

@@ -1,0 +1,101 @@
+use denote.Ref.{now}
+use Prim.Native.Nat.{ℕ, _≤_, _+_, _*_, _-_}
+use mathlib.Core.Path.{_≡_}
+use mathlib.Core.List.{List}
+use lib.ListN.{length}
+use Rattle.block_words.specs.Patch.{patch}
+use Rattle.program_words.specs.Directory.{zeros}
+use native.Mathlib.Omega.{arith}
+use borrow.Author.Needs.{needs}
+use Rattle.program_words.specs.Sections as S
+use Rattle.program_directory.proofs.write_directory.Statement.{statement}
+use Rattle.program_directory.proofs.write_directory.Tie as tie
+
+abbrev Inv-loop : tie.InvT-loop
+Inv-loop rows sets nonterminals count area₀ end p₀ area p = (p ≤ count) × ((old : List ℕ) → 16384 ≤ length old → area₀ ≡ patch old 9 (zeros (9 + 64 * nonterminals - 9)) → S.DirectoryGo rows sets nonterminals count old p area)
+
+abbrev μ-loop : tie.MeasureT-loop
+μ-loop rows sets nonterminals count area₀ end p₀ area p = p
+
+mul-end : tie.Need-mul-end Inv-loop μ-loop
+mul-end c = omega (arith, S.nonterminals-few (c .before .before .before .pre .0))
+
+add-end : tie.Need-add-end Inv-loop μ-loop
+add-end c = omega (arith, S.nonterminals-few (c .before .before .before .pre .0))
+
+clear-requires : tie.Need-clear-requires Inv-loop μ-loop
+clear-requires c κs = (omega arith, omega (arith, S.nonterminals-few (c .before .before .before .before .pre .0), c .before .before .before .before .pre .1))
+
+loop-holds : tie.Need-loop-holds Inv-loop μ-loop
+loop-holds c = (omega arith, λ old long e. S.directory-start long e)
+
+sub-byte-at : tie.Need-sub-byte-at Inv-loop μ-loop
+sub-byte-at c = omega arith
+
+mul-byte-at : tie.Need-mul-byte-at Inv-loop μ-loop
+mul-byte-at c = omega (arith, S.count-few (c .before .before .before .before .before .before .before .before .before .pre .0))
+
+byte-at-requires : tie.Need-byte-at-requires Inv-loop μ-loop
+byte-at-requires c κs = search needs
+
+cast-left : tie.Need-cast-left Inv-loop μ-loop
+cast-left c = search needs
+
+sub-set-at : tie.Need-sub-set-at Inv-loop μ-loop
+sub-set-at c = omega arith
+
+set-at-requires : tie.Need-set-at-requires Inv-loop μ-loop
+set-at-requires c κs = search needs
+
+cast-mark : tie.Need-cast-mark Inv-loop μ-loop
+cast-mark c = omega (arith, S.count-few (c .before .before .before .before .before .before .before .before .before .before .before .pre .0))
+
+mul-mark : tie.Need-mul-mark Inv-loop μ-loop
+mul-mark c = omega (arith, S.left-few (c .before .before .before .before .before .before .before .before .before .before .before .before .pre .0) _ _ (omega arith) (c .before .before .byte-at .ensures .0))
+
+add-mark : tie.Need-add-mark Inv-loop μ-loop
+add-mark c = omega (arith, S.left-few (c .before .before .before .before .before .before .before .before .before .before .before .before .pre .0) _ _ (omega arith) (c .before .before .byte-at .ensures .0))
+
+mark-requires : tie.Need-mark-requires Inv-loop μ-loop
+mark-requires c κs = omega (arith, S.left-few (c .before .before .before .before .before .before .before .before .before .before .before .before .pre .0) _ _ (omega arith) (c .before .before .byte-at .ensures .0), c .before .before .before .before .before .before .before .before .before .before .before .before .pre .1, S.directory-size (c .before .before .before .before .before .before .before .before .before .before .before .before .pre .1) (c .before .before .before .before .loop .inv .1 (now (c .before .before .before .before .before .before .before .before .before .before .before .before .args .area)) (c .before .before .before .before .before .before .before .before .before .before .before .before .pre .1) (c .before .before .before .before .before .before .before .clear .ensures)) (c .before .before .before .before .before .before .before .before .before .before .before .before .pre .0))
+
+sub-p : tie.Need-sub-p Inv-loop μ-loop
+sub-p c = omega arith
+
+loop-less : tie.Need-loop-less Inv-loop μ-loop
+loop-less c = omega arith
+
+loop-again : tie.Need-loop-again Inv-loop μ-loop
+loop-again c = (omega arith, λ old long e. S.directory-turn long (c .before .before .before .before .before .before .before .loop .inv .1 old long e) (omega arith) (omega arith) (c .before .before .before .before .before .byte-at .ensures .0) (c .before .before .before .before .set-at .ensures .0) (c .before .before .mark .ensures))
+
+same-length : tie.Need-same-length Inv-loop μ-loop
+same-length c = S.directory-size (c .before .before .before .before .before .before .before .before .before .pre .1) (c .before .loop .inv .1 (now (c .before .before .before .before .before .before .before .before .before .args .area)) (c .before .before .before .before .before .before .before .before .before .pre .1) (c .before .before .before .before .clear .ensures)) (c .before .before .before .before .before .before .before .before .before .pre .0)
+
+returns : tie.Need-returns Inv-loop μ-loop
+returns c = λ x. S.directory-end (c .before .before .before .before .before .before .before .before .before .pre .1) (c .before .loop .inv .1 (now (c .before .before .before .before .before .before .before .before .before .args .area)) (c .before .before .before .before .before .before .before .before .before .pre .1) (c .before .before .before .before .clear .ensures)) (omega arith) x
+
+pub write-directory-spec : {M : Type 1} → statement M
+write-directory-spec =
+    tie.close
+    (tie.spec
+    Inv-loop
+    μ-loop
+    mul-end
+    add-end
+    clear-requires
+    loop-holds
+    sub-byte-at
+    mul-byte-at
+    byte-at-requires
+    cast-left
+    sub-set-at
+    set-at-requires
+    cast-mark
+    mul-mark
+    add-mark
+    mark-requires
+    sub-p
+    loop-less
+    loop-again
+    same-length
+    returns)

@@ -1,0 +1,54 @@
+// The directory: 64 words for each nonterminal.
+ghost use Prim.Native.Nat.{_+_, _≤_, _<_};
+ghost use mathlib.Core.Path.{_≡_};
+ghost use lib.ListN.{length, getD};
+ghost use Rattle.block_words.specs.Patch.{Wrote};
+ghost use Rattle.program_words.specs.Directory.{Alternatives, Marked};
+ghost use Rattle.meaning.specs.Program.{directory};
+
+// 0 past the end.
+pub fn set_at(sets: &[u64], at: usize) -> u64
+    ensures { λ r. ⌜ (r ≡ getD (now (sets .entry)) at 0) × (r < 18446744073709551616) ⌝ }
+{
+    if sets.len() <= at {
+        return 0;
+    }
+    sets[at]
+}
+
+// The number is written at each bit of a set, in a row of 64 words.
+fn mark(set: u64, number: u32, area: &mut [u32], from: usize)
+    requires { ⌜ from + 64 ≤ length (now area) ⌝ }
+    ensures { λ r. ⌜ Marked (now (area .entry)) (now (area .exit)) from set number 64 ⌝ }
+{
+    let mut rest = set;
+    let mut u: usize = 0;
+    while rest != 0 {
+        let zeros = u64::trailing_zeros(rest) as usize;
+        area[from + u + zeros] = number;
+        rest = (rest >> zeros) / 2;
+        u = u + zeros + 1;
+    }
+}
+
+// The last production first, so that the first one of a token stays.
+pub fn write_directory(
+    rows: &[u8],
+    sets: &[u64],
+    nonterminals: usize,
+    count: usize,
+    area: &mut [u32],
+) -> usize
+    requires { ⌜ Alternatives (now rows) (now sets) nonterminals count × (16384 ≤ length (now area)) ⌝ }
+    ensures { λ r. ⌜ ((x : Alternatives (now (rows .entry)) (now (sets .entry)) nonterminals count) → Wrote (now (area .entry)) (now (area .exit)) 9 r (directory (x .grammar))) ⌝ }
+{
+    let end = 9 + 64 * nonterminals;
+    body_counts::clear(area, 9, end);
+    let mut p = count;
+    while 0 < p {
+        let left = value::byte_at(rows, 16 * (p - 1)) as usize;
+        mark(set_at(sets, p - 1), p as u32, area, 9 + 64 * left);
+        p -= 1;
+    }
+    end
+}

@@ -1,0 +1,10 @@
+pub mod Brought
+pub mod Directory
+pub mod Records
+pub mod Waits
+pub mod Built
+pub mod Most
+pub mod Laws
+pub mod Sections
+pub mod Outlined
+pub mod Nexts

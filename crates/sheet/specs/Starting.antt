@@ -1,0 +1,83 @@
+-- A segment walked over cells of which the first ones are lent.
+use Prim.Native.Nat.{ℕ, _≤_, _<_}
+use native.Mathlib.Omega.{arith}
+use mathlib.Core.Path.{_≡_, refl, sym, _∙_, subst}
+use mathlib.Core.Bool.{true, false}
+use mathlib.Core.List.{List, [], _∷_}
+use lib.ListN.{length, getD, take}
+use lib.Seq.{length-take-le}
+use lib.Dec.{T}
+use lib.IntN.{ℤ}
+use Rattle.meaning.specs.Base.{all}
+use Rattle.meaning.specs.Rules.{fourBytes}
+use Rattle.fit.specs.Shown.{Readable}
+use Rattle.sheet_walk.specs.Numbers.{runIn, walkedIn, low, Fits, kept-fits}
+use Rattle.sheet_walk.specs.Cycle.{NodeAt, NodeDone}
+use Rattle.sheet_walk.specs.Walks.{NodeIn, NodeOut}
+use Rattle.sheet.specs.declared.Answer as Answer
+use Rattle.sheet.specs.declared.Answer.the-variants.{Refused}
+use Rattle.sheet.specs.Opening.{firstRun}
+use Rattle.sheet.specs.Segments.{Cells, Opens, Ended, Ends, SegmentDone, segment-31, segment-32, first-at, segment-failed, segment-ended, segment-over}
+
+-- the numbers of an opening
+abbrev pub firstNumbers : ℕ → ℕ → ℕ → List ℕ
+firstNumbers count n k = 0 ∷ (0 ∷ (count ∷ (1 ∷ (0 ∷ (0 ∷ (n ∷ (k ∷ [])))))))
+
+module _ (ws ks : List ℕ) (vs m₀ : List ℤ) (ps₀ : List ℕ) (n k : ℕ) (x : Cells m₀ ps₀ n k) (out : List ℕ) where
+  many : length (take n m₀) ≡ n
+  many = length-take-le n m₀ (omega (arith, x .registers, x .few))
+
+  manyPlaces : length (take k ps₀) ≡ k
+  manyPlaces = length-take-le k ps₀ (omega (arith, x .places, x .little))
+
+  few : length (take n m₀) ≤ 4096
+  few = omega (arith, many, x .few)
+
+  little : length (take k ps₀) ≤ 1024
+  little = omega (arith, manyPlaces, x .little)
+
+  -- as many are lent
+  counted : (sheet : List ℕ) (a : Answer.Answer) → SegmentDone ws ks vs (length (take n m₀)) (length (take k ps₀)) out sheet a → SegmentDone ws ks vs n k out sheet a
+  counted sheet a d = subst (λ i. SegmentDone ws ks vs n i out sheet a) manyPlaces (subst (λ i. SegmentDone ws ks vs i (length (take k ps₀)) out sheet a) many d)
+
+  pub whole-31 : n < getD ws 4 0 → SegmentDone ws ks vs n k out out (Refused 31 0)
+  whole-31 l = counted out (Refused 31 0) (segment-31 ws ks vs (take n m₀) (take k ps₀) out few little out (omega (arith, l, many)))
+
+  module _ (r : getD ws 4 0 ≤ n) where
+    wide : getD ws 4 0 ≤ length (take n m₀)
+    wide = omega (arith, r, many)
+
+    pub whole-32 : k ≡ 0 → SegmentDone ws ks vs n k out out (Refused 32 0)
+    whole-32 z = counted out (Refused 32 0) (segment-32 ws ks vs (take n m₀) (take k ps₀) out few little wide out (omega (arith, z, manyPlaces)))
+
+    module _ (p : 1 ≤ k) (even : length ks ≡ length vs) (four : T (all fourBytes vs)) (m₁ : List ℤ) (ps₁ : List ℕ) (o : Opens ws n k m₀ ps₀ m₁ ps₁) where
+      some : 1 ≤ length (take k ps₀)
+      some = omega (arith, p, manyPlaces)
+
+      same : length (take n m₁) ≡ length (take n m₀)
+      same = length-take-le n m₁ (omega (arith, x .registers, x .few, o .long)) ∙ sym many
+
+      samePlaces : length (take k ps₁) ≡ length (take k ps₀)
+      samePlaces = length-take-le k ps₁ (omega (arith, x .places, x .little, o .longPlaces)) ∙ sym manyPlaces
+
+      fits : (count : ℕ) → Fits m₁ ps₁ (firstNumbers count n k)
+      fits count = record { eight = refl; registers = omega (arith, x .registers, x .few, o .long); places = omega (arith, x .places, x .little, o .longPlaces) }
+
+      pub whole-in : (count : ℕ) → count ≡ getD ws 4 0 → Readable ws → NodeIn ws ks vs m₁ ps₁ (firstNumbers count n k) 1023
+      whole-in count w read = record { ready = subst (λ i. NodeAt ws ks vs (take n m₁) (take k ps₁) (firstRun i) 0 1023) (sym w) (first-at ws ks vs (take n m₀) (take k ps₀) out few little wide some even four (take n m₁) (take k ps₁) same samePlaces (o .opened) read); fits = fits count }
+
+      module _ (count : ℕ) (w : count ≡ getD ws 4 0) (m : List ℤ) (ps sheet s : List ℕ) where
+        pub whole-failed : NodeOut ws ks vs m₁ ps₁ (firstNumbers count n k) out m ps sheet false s → SegmentDone ws ks vs n k out sheet (Refused (getD s 5 0) (getD s 0 0))
+        whole-failed q =
+            let done = subst (λ i. NodeDone ws ks vs (take n m₁) (take k ps₁) (firstRun i) 0 out (low 6 s m) (low 7 s ps) sheet (walkedIn false s)) w (q .done) in
+            counted sheet (Refused (getD s 5 0) (getD s 0 0)) (segment-failed ws ks vs (take n m₀) (take k ps₀) out few little wide some even four (take n m₁) (take k ps₁) same samePlaces (o .opened) (low 6 s m) (low 7 s ps) sheet (runIn s) (getD s 5 0) done)
+
+        module _ (q : NodeOut ws ks vs m₁ ps₁ (firstNumbers count n k) out m ps sheet true s) where
+          done : NodeDone ws ks vs (take n m₁) (take k ps₁) (firstRun (getD ws 4 0)) 0 out (low 6 s m) (low 7 s ps) sheet (walkedIn true s)
+          done = subst (λ i. NodeDone ws ks vs (take n m₁) (take k ps₁) (firstRun i) 0 out (low 6 s m) (low 7 s ps) sheet (walkedIn true s)) w (q .done)
+
+          pub whole-ended : Readable ws → Ended ws (low 6 s m) (runIn s) × (getD s 6 0 ≤ length m)
+          whole-ended read = (segment-ended ws ks vs (take n m₀) (take k ps₀) out few little wide some even four (take n m₁) (take k ps₁) same samePlaces (o .opened) (low 6 s m) (low 7 s ps) sheet (runIn s) (getD s 5 0) done (q .rests) read, kept-fits (fits count) (q .kept) .registers)
+
+          pub whole-over : (a : Answer.Answer) → Ends ws ks (low 6 s m) (runIn s) (getD s 5 0) a → SegmentDone ws ks vs n k out sheet a
+          whole-over a z = counted sheet a (segment-over ws ks vs (take n m₀) (take k ps₀) out few little wide some even four (take n m₁) (take k ps₁) same samePlaces (o .opened) (low 6 s m) (low 7 s ps) sheet (runIn s) (getD s 5 0) done (q .rests) a z)

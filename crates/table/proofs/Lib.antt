@@ -1,3 +1,0 @@
-pub mod Producing
-pub mod Rows
-pub mod Tables

@@ -1,0 +1,323 @@
+-- The field of a production in each way it can go, and the counts at its positions.
+use Prim.Native.Nat.{ℕ, zero, suc, _+_, _-_, _≤_, _<_}
+use mathlib.Core.Path.{_≡_, refl, sym, _∙_, ap, ap₂, subst, subst₂}
+use mathlib.Core.Bool.{Bool, true, false, cond}
+use mathlib.Core.List.{List, [], _∷_, map, reverse, reverseAux}
+use mathlib.Core.Logic.{⊎-elim}
+use native.Mathlib.Omega.{arith}
+use native.Mathlib.Nat.{not-suc-le-zero}
+use lib.Dec.{ltb}
+use lib.ListN.{length, getD, take, drop, length-drop, length-take, length-map, List·getD-map}
+use lib.Seq.{getD-drop}
+use borrow.Author.Tests.{ltb-true, ltb-false, le-ltb}
+use Rattle.meaning.specs.Base.{countFrom}
+use Rattle.meaning.specs.Sets.{has}
+use Rattle.token_set.specs.Words.{setOf}
+use Rattle.meaning.specs.Grammar.{Counts, noCounts, attributeIf, Symbol, terminal, nonterminal, countsIn}
+use Rattle.meaning.specs.Table.{byte, Header, Entry, readField, kindOf, judgeField, symbolOf}
+use Rattle.fields.specs.Demand.{ifBelow}
+use Rattle.fields.specs.Field.{Whole, Short, rest, bodyAt}
+use Rattle.fields.specs.Judge.{productionFault, symbolKnown}
+use Rattle.fields.specs.Reads.{stateOf, entryOf}
+use Rattle.fields.proofs.Demands.{below-yes, below-no}
+use Rattle.fields.proofs.Rest.{step-short, step-field, calm-complete, body-length, body-byte, fieldOf}
+use Rattle.fields.proofs.Judged.{production-judged, first-not}
+use Rattle.fields.proofs.Fine.{ProductionFine, production-fine}
+use Rattle.fields.proofs.Walks.{all-each}
+use Rattle.rules.specs.Rule.{Small}
+use Rattle.rules.specs.Note.{symbolIn}
+use Rattle.table_uses.specs.declared.Uses.{Uses}
+use Rattle.table_counts.specs.Counted.{SmallCounts, countsUpTo}
+use Rattle.table.specs.Outline.{Numbered}
+use Rattle.table_carriers.specs.Named.{Carries, countOf, synthesizedOf}
+use Rattle.table_rows.specs.Rows.{symbolByte, Written}
+use Rattle.table_uses.specs.Progress.{settingOf, Around, Walked, UsesRead, UsesReadFrom, Next}
+use Rattle.sound_uses.specs.Sound.{done, BodySound, BodyTaken}
+use Rattle.table_production.specs.Productions.{widthIn, bodyIn, leftIn, rightIn, ProductionKnown, ProductionJudged, SmallBody, CountsAgree, BodyRead}
+use Rattle.table_counts.proofs.Counting.{length-counts}
+use Rattle.fields.proofs.Cases.{lt-or-le, nonzero}
+
+none-of : (es : List Entry) → length es ≡ 0 → es ≡ []
+none-of [] e = refl
+none-of (e ∷ es) q = absurd (omega arith)
+
+module _ (t : List ℕ) (at p terminals nonterminals : ℕ) (inside : at < length t) where
+  pub production-cut : Short t at → ProductionJudged t at p terminals nonterminals 2
+  production-cut s =
+      record {
+        read = λ h cs os ws es r c tm nt all len done. step-short t (stateOf h cs os ws es r c) at inside (calm-complete (stateOf h cs os ws es r c) (byte t at) done) _ s;
+        known = λ z. absurd (nonzero 1 z);
+      }
+
+  module _ (size : ℕ) (w : Whole t at size) where
+    abbrev b : List ℕ
+    b = bodyAt t at size
+
+    pub production-other : (byte t at ≡ 3 → ⊥) → (0 < p → byte t at ≡ 3) → (byte t at ≡ 6 → ⊥) → ProductionJudged t at p terminals nonterminals 3
+    production-other n f m =
+        record {
+          read = λ h cs os ws es r c tm nt all len done.
+              step-field t (stateOf h cs os ws es r c) at inside (calm-complete (stateOf h cs os ws es r c) (byte t at) done) _ size w 3
+              (first-not h cs os ws es r c at b (byte t at) (omega (arith, all, nt)) (none-of es (⊎-elim (λ l. absurd (n (f l))) (λ l. omega arith) (lt-or-le 0 p))) n m)
+              (λ e. absurd (nonzero 2 e));
+          known = λ z. absurd (nonzero 2 z);
+        }
+
+    module _ (fine : ProductionFine b terminals nonterminals p) where
+      long-body : length b ≡ size
+      long-body = body-length t at size (w .inside)
+
+      second : byte b 1 ≡ widthIn t at
+      second = body-byte t at size 1 (omega (arith, long-body, fine .long)) ∙ ap (byte t) {x = at + 3 + 1} {y = at + 4} (omega arith)
+
+      first : byte b 0 ≡ leftIn t at
+      first = body-byte t at size 0 (omega (arith, long-body, fine .long)) ∙ ap (byte t) {x = at + 3 + 0} {y = at + 3} (omega arith)
+
+      size-is : size ≡ 2 + widthIn t at
+      size-is = omega (arith, long-body, fine .long, second)
+
+      body-is : b ≡ bodyIn t at
+      body-is = ap (bodyAt t at) size-is
+
+      is-known : ProductionKnown t at p terminals nonterminals
+      is-known =
+          record {
+            long = omega (arith, w .inside, size-is);
+            short = omega (arith, fine .short, second);
+            few = fine .few;
+            left = omega (arith, fine .left, first);
+            symbols = λ k l.
+                ap (λ x. symbolKnown terminals nonterminals (byte x (k + 2))) (sym body-is)
+                ∙ all-each (symbolKnown terminals nonterminals) b 2 (k + 2) (fine .symbols) (omega arith) (omega (arith, long-body, size-is));
+          }
+
+      after-same :
+          (h : Header) (cs : List Counts) (os ws : List ℕ) (es : List Entry) (r c : ℕ) → byte t at ≡ 3
+          → rest t (readField (stateOf h cs os ws es r c) at (kindOf (byte t at)) b) (at + 3 + size)
+          ≡ rest t (stateOf h cs os ws (entryOf at (leftIn t at) (rightIn t at) [] [] ∷ es) r c) (at + 5 + widthIn t at)
+      after-same h cs os ws es r c tag =
+          let n : at + 3 + size ≡ at + 5 + widthIn t at = omega (arith, size-is) in
+          ap₂ (λ (x i : ℕ). rest t (readField (stateOf h cs os ws es r c) at (kindOf x) b) i) tag n
+          ∙ ap₂ (λ x y. rest t (stateOf h cs os ws (entryOf at x (map symbolOf (drop 2 y)) [] [] ∷ es) r c) (at + 5 + widthIn t at)) first body-is
+
+    fault-same : (x y z : ℕ) → x ≡ terminals → y ≡ nonterminals → z ≡ p → productionFault x y z b ≡ productionFault terminals nonterminals p b
+    fault-same x y z q r s = cc
+
+    pub production-right :
+        (part : List ℕ) (number : ℕ) → byte t at ≡ 3 → part ≡ b → number ≡ productionFault terminals nonterminals p part
+        → ProductionJudged t at p terminals nonterminals number
+    production-right part number tag is e =
+        let q : number ≡ productionFault terminals nonterminals p b = e ∙ ap (productionFault terminals nonterminals p) is in
+        record {
+          read = λ h cs os ws es r c tm nt all len done.
+              step-field t (stateOf h cs os ws es r c) at inside (calm-complete (stateOf h cs os ws es r c) (byte t at) done) _ size w number
+              (ap (λ (x : ℕ). judgeField (stateOf h cs os ws es r c) (fieldOf at x b)) tag
+              ∙ production-judged h cs os ws es r c at b (omega (arith, all, nt)) ∙ fault-same (h .terminals) (h .nonterminals) (length es) tm nt len ∙ sym q)
+              (λ z. after-same (production-fine b terminals nonterminals p (sym q ∙ z)) h cs os ws es r c tag);
+          known = λ z. is-known (production-fine b terminals nonterminals p (sym q ∙ z));
+        }
+
+-- ---- the counts at the positions
+
+-- the body as the code cuts it out once its width is known
+pub part-in : (t : List ℕ) (at w : ℕ) → w ≡ widthIn t at → take (at + 5 + w - (at + 3)) (drop (at + 3) t) ≡ bodyIn t at
+part-in t at w e = ap (λ (n : ℕ). take n (drop (at + 3) t)) {x = at + 5 + w - (at + 3)} {y = 2 + widthIn t at} (omega arith)
+
+pub part-short : (t : List ℕ) (at w : ℕ) → w ≤ 12 → length (take (at + 5 + w - (at + 3)) (drop (at + 3) t)) ≤ 14
+part-short t at w l = omega (arith, length-take (at + 5 + w - (at + 3)) (drop (at + 3) t))
+
+module _ {A : Type 0} (d : A) where
+  reverse-past : (xs ys : List A) (m : ℕ) → getD (reverseAux xs ys) (length xs + m) d ≡ getD ys m d
+  reverse-past [] ys m = ap (λ (i : ℕ). getD ys i d) {x = 0 + m} {y = m} (omega arith)
+  reverse-past (x ∷ xs) ys m = ap (λ (i : ℕ). getD (reverseAux xs (x ∷ ys)) i d) {x = suc (length xs) + m} {y = length xs + suc m} (omega arith) ∙ reverse-past xs (x ∷ ys) (suc m)
+
+  reverse-onto : (P : ℕ → A → Type 0) (xs ys : List A) → Numbered P xs → (m : ℕ) → m < length xs → P m (getD (reverseAux xs ys) m d)
+  reverse-onto P [] ys e m h = absurd (not-suc-le-zero h)
+  reverse-onto P (x ∷ xs) ys e m h = ⊎-elim (λ l. reverse-onto P xs (x ∷ ys) (e .1) m l) (λ l. last (omega arith)) (lt-or-le m (length xs))
+    where
+      last : m ≡ length xs + 0 → P m (getD (reverseAux xs (x ∷ ys)) m d)
+      last q =
+          let here : length xs ≡ m = omega arith in
+          subst₂ P here
+          (sym (ap (λ (i : ℕ). getD (reverseAux xs (x ∷ ys)) i d) q ∙ reverse-past xs (x ∷ ys) 0))
+          (e .0)
+
+  -- what holds of each element and its number holds of the list in order
+  pub numbered : (P : ℕ → A → Type 0) (xs : List A) → Numbered P xs → (m : ℕ) → m < length xs → P m (getD (reverse xs) m d)
+  numbered P xs e m h = reverse-onto P xs [] e m h
+
+-- a terminal has at most one attribute
+one-most : (b : Bool) → attributeIf b ≤ 1
+one-most true = omega arith
+one-most false = omega arith
+
+module _ (inh syn : List ℕ) where
+  abbrev Right : ℕ → Counts → Type 0
+  Right m x = x ≡ record { inherited = getD inh m 0; synthesized = getD syn m 0 }
+
+  each-right : (n : ℕ) → Numbered Right (countsUpTo inh syn n)
+  each-right zero = tt
+  each-right (suc n) = (ap (λ (m : ℕ). record { inherited = getD inh m 0; synthesized = getD syn m 0 }) (sym (length-counts inh syn n)), each-right n)
+
+  pub counts-at : (n m : ℕ) → m < n → getD (reverse (countsUpTo inh syn n)) m noCounts ≡ record { inherited = getD inh m 0; synthesized = getD syn m 0 }
+  counts-at n m h = numbered noCounts Right (countsUpTo inh syn n) (each-right n) m (omega (arith, length-counts inh syn n))
+
+  -- a symbol's counts, by its byte, where a word holds the terminals that carry a value
+  module _ (carrying : ℕ) (ws : List ℕ) (n : ℕ) where
+    abbrev cs : List Counts
+    cs = countsUpTo inh syn n
+
+    pub record SymbolCounts (x : Symbol) (k : ℕ) : Type 0 where
+      pub first : countOf inh k ≡ countsIn (reverse cs) (reverse ws) x .inherited
+      pub second : synthesizedOf carrying syn k ≡ countsIn (reverse cs) (reverse ws) x .synthesized
+
+    of-terminal : Carries carrying (reverse ws) → (k : ℕ) → k < 128 → SymbolCounts (terminal k) k
+    unfolding countOf synthesizedOf
+    of-terminal held k l = record { first = sym (below-yes k 128 _ _ l refl); second = sym (below-yes k 128 _ _ l (ap attributeIf (sym (held .each k)))) }
+
+    of-nonterminal : (k : ℕ) → 128 ≤ k → k - 128 < n → SymbolCounts (nonterminal (k - 128)) k
+    unfolding countOf synthesizedOf
+    of-nonterminal k l h =
+        record {
+          first = sym (below-no k 128 _ _ l (ap (λ x. x .inherited) (counts-at n (k - 128) h)));
+          second = sym (below-no k 128 _ _ l (ap (λ x. x .synthesized) (counts-at n (k - 128) h)));
+        }
+
+    of-symbol : Carries carrying (reverse ws) → (terminals k : ℕ) → symbolKnown terminals n k ≡ true → SymbolCounts (symbolOf k) k
+    unfolding symbolKnown ifBelow
+    of-symbol held terminals k e = go (ltb k 128) refl
+      where
+        go : (b : Bool) → ltb k 128 ≡ b → SymbolCounts (elim b [ true ↦ terminal k | false ↦ nonterminal (k - 128) ]) k
+        go true q = of-terminal held k (ltb-true k 128 q)
+        go false q =
+            of-nonterminal k (ltb-false k 128 q)
+            (ltb-true (k - 128) n (sym (ap (λ (b : Bool). cond b (ltb k terminals) (ltb (k - 128) n)) q) ∙ e))
+
+    small-count : SmallCounts inh syn n → (k : ℕ) → (128 ≤ k → k - 128 < n) → countOf inh k + synthesizedOf carrying syn k ≤ 8
+    unfolding countOf synthesizedOf
+    small-count small k h = ⊎-elim low high (lt-or-le k 128)
+      where
+        own : ℕ
+        own = attributeIf (has (setOf carrying) k)
+
+        low : k < 128 → countOf inh k + synthesizedOf carrying syn k ≤ 8
+        low l =
+            omega (arith, below-yes {A = ℕ} k 128 0 (getD inh (k - 128) 0) l refl, below-yes {A = ℕ} k 128 own (getD syn (k - 128) 0) l refl, one-most (has (setOf carrying) k))
+
+        high : 128 ≤ k → countOf inh k + synthesizedOf carrying syn k ≤ 8
+        high l =
+            omega (arith, below-no {A = ℕ} k 128 0 (getD inh (k - 128) 0) l refl, below-no {A = ℕ} k 128 own (getD syn (k - 128) 0) l refl, small (k - 128) (h l))
+
+-- the nonterminals among known symbols
+known-below : (terminals n k : ℕ) → symbolKnown terminals n k ≡ true → 128 ≤ k → k - 128 < n
+unfolding symbolKnown ifBelow
+known-below terminals n k e l = ltb-true (k - 128) n (sym (ap (λ (b : Bool). cond b (ltb k terminals) (ltb (k - 128) n)) (le-ltb k 128 l)) ∙ e)
+
+module _ (t : List ℕ) (at p terminals nonterminals carrying : ℕ) (inh syn : List ℕ) (known : ProductionKnown t at p terminals nonterminals) where
+  pub long-in : length (bodyIn t at) ≡ 2 + widthIn t at
+  long-in = body-length t at (2 + widthIn t at) (omega (arith, known .long))
+
+  pub left-byte : byte (bodyIn t at) 0 ≡ leftIn t at
+  left-byte = body-byte t at (2 + widthIn t at) 0 (omega arith) ∙ ap (byte t) {x = at + 3 + 0} {y = at + 3} (omega arith)
+
+  pub right-symbol : (k : ℕ) → symbolIn (leftIn t at) (rightIn t at) (suc k) ≡ symbolOf (byte (bodyIn t at) (k + 2))
+  right-symbol k =
+      List·getD-map symbolOf (drop 2 (bodyIn t at)) k 0
+      ∙ ap symbolOf (getD-drop 2 (bodyIn t at) k 0 ∙ ap (byte (bodyIn t at)) {x = 2 + k} {y = k + 2} (omega arith))
+
+  each-position : (ws : List ℕ) → Carries carrying (reverse ws) → (k : ℕ) → k ≤ widthIn t at → SymbolCounts inh syn carrying ws nonterminals (symbolIn (leftIn t at) (rightIn t at) k) (symbolByte (bodyIn t at) k)
+  each-position ws held zero l =
+      subst₂ (SymbolCounts inh syn carrying ws nonterminals)
+      (ap nonterminal {x = 128 + leftIn t at - 128} {y = leftIn t at} (omega arith))
+      (ap (λ (x : ℕ). 128 + x) (sym left-byte))
+      (of-nonterminal inh syn carrying ws nonterminals (128 + leftIn t at) (omega arith) (omega (arith, known .left)))
+  each-position ws held (suc k) l =
+      subst (λ x. SymbolCounts inh syn carrying ws nonterminals x (byte (bodyIn t at) (k + 2))) (sym (right-symbol k))
+      (of-symbol inh syn carrying ws nonterminals held terminals (byte (bodyIn t at) (k + 2)) (known .symbols k (omega arith)))
+
+  pub counts-agree : (ws : List ℕ) → Carries carrying (reverse ws) → CountsAgree t at carrying inh syn (countsUpTo inh syn nonterminals) ws
+  counts-agree ws held = record { inherits = λ k l. each-position ws held k l .first; synthesizes = λ k l. each-position ws held k l .second }
+
+  small-position : SmallCounts inh syn nonterminals → (k : ℕ) → k ≤ widthIn t at → countOf inh (symbolByte (bodyIn t at) k) + synthesizedOf carrying syn (symbolByte (bodyIn t at) k) ≤ 8
+  small-position small zero l = small-count inh syn carrying [] nonterminals small (128 + byte (bodyIn t at) 0) (λ h. omega (arith, left-byte, known .left))
+  small-position small (suc k) l =
+      small-count inh syn carrying [] nonterminals small (byte (bodyIn t at) (k + 2)) (known-below terminals nonterminals (byte (bodyIn t at) (k + 2)) (known .symbols k (omega arith)))
+
+  pub small-body : SmallCounts inh syn nonterminals → SmallBody t at carrying inh syn
+  small-body small = (known .short, small-position small)
+
+-- ---- the lists of counts that the code makes of the body
+
+module _ (t : List ℕ) (at w carrying : ℕ) (inherited synthesized inh syn part : List ℕ) (is-width : w ≡ widthIn t at) (is-body : part ≡ bodyIn t at) (long : at + 5 + widthIn t at ≤ length t) (p : Written (countOf inherited) part inh) (q : Written (synthesizedOf carrying synthesized) part syn) where
+  body-long : length (bodyIn t at) ≡ 2 + widthIn t at
+  body-long = body-length t at (2 + widthIn t at) (omega arith)
+
+  at-place : (f : ℕ → ℕ) (places : List ℕ) → Written f part places → (k : ℕ) → k ≤ w → getD places k 0 ≡ f (symbolByte (bodyIn t at) k)
+  at-place f places g k l = subst (λ x. Written f x places) is-body g .each k (omega (arith, body-long))
+
+  pub body-small : SmallBody t at carrying inherited synthesized → Small w inh syn
+  body-small small =
+      (omega (arith, small .0), λ k l. omega (arith, small .1 k (omega arith), at-place (countOf inherited) inh p k l, at-place (synthesizedOf carrying synthesized) syn q k l))
+
+  right-long : length (rightIn t at) ≡ w
+  right-long = length-map (drop 2 (bodyIn t at)) symbolOf ∙ length-drop 2 (bodyIn t at) ∙ omega (arith, body-long)
+
+  pub body-read : (r₀ c₀ : ℕ) (u : Uses) → UsesRead (settingOf t at w inh syn) (at + 5 + w) r₀ c₀ u → BodyRead t at carrying inherited synthesized r₀ c₀ u
+  body-read r₀ c₀ u f h cs os ws es all agree =
+      let a : Around (settingOf t at w inh syn) =
+      record {
+        header = h;
+        counts = cs;
+        offsets = os;
+        named = ws;
+        left = leftIn t at;
+        right = rightIn t at;
+        others = es;
+        all = all;
+        placed = record {
+          wide = sym right-long;
+          inherits = λ k l. at-place (countOf inherited) inh p k l ∙ agree .inherits k (omega arith);
+          synthesizes = λ k l. at-place (synthesizedOf carrying synthesized) syn q k l ∙ agree .synthesizes k (omega arith);
+        };
+      }
+      in
+      let m = f a in
+      (m .0, m .1, ap (λ (i : ℕ). rest t (stateOf h cs os ws (entryOf at (leftIn t at) (rightIn t at) [] [] ∷ es) r₀ c₀) (at + 5 + i)) (sym is-width) ∙ m .2, m .3)
+
+-- ---- sound rules and conditions, by lists of counts
+
+counted-at : (g : ℕ → ℕ) (n j k : ℕ) → k < n → getD (map g (countFrom j n)) k 0 ≡ g (j + k)
+counted-at g zero j k l = absurd (omega arith)
+counted-at g (suc n) j zero l = ap g {x = j} {y = j + 0} (omega arith)
+counted-at g (suc n) j (suc k) l = counted-at g n (suc j) k (omega arith) ∙ ap g {x = suc j + k} {y = j + suc k} (omega arith)
+
+abbrev placesOf : (ℕ → ℕ) → List ℕ → List ℕ
+placesOf f b = map (λ k. f (symbolByte b k)) (countFrom 0 (length b))
+
+placed-by : (f : ℕ → ℕ) (b : List ℕ) → Written f b (placesOf f b)
+placed-by f b = record { each = λ k l. counted-at (λ j. f (symbolByte b j)) (length b) 0 k (omega arith) ∙ ap (λ (j : ℕ). f (symbolByte b j)) {x = 0 + k} {y = k} (omega arith) }
+
+pub sound-body :
+    (t : List ℕ) (at carrying : ℕ) (inherited synthesized : List ℕ) (r₀ c₀ end r c : ℕ) → at + 5 + widthIn t at ≤ length t → SmallBody t at carrying inherited synthesized
+    → BodySound t at carrying inherited synthesized r₀ c₀ end r c → BodyRead t at carrying inherited synthesized r₀ c₀ (done end r c)
+sound-body t at carrying inherited synthesized r₀ c₀ end r c long small b =
+    let p = placed-by (countOf inherited) (bodyIn t at) in
+    let q = placed-by (synthesizedOf carrying synthesized) (bodyIn t at) in
+    body-read t at (widthIn t at) carrying inherited synthesized _ _ (bodyIn t at) refl refl long p q r₀ c₀ (done end r c)
+    (b .read _ _ p q (body-small t at (widthIn t at) carrying inherited synthesized _ _ (bodyIn t at) refl refl long p q small))
+
+-- the same of fields taken up to one of them: what is read from there on
+pub taken-body :
+    (t : List ℕ) (at w carrying : ℕ) (inherited synthesized inh syn part : List ℕ) → w ≡ widthIn t at → part ≡ bodyIn t at → at + 5 + widthIn t at ≤ length t
+    → Written (countOf inherited) part inh → Written (synthesizedOf carrying synthesized) part syn → SmallBody t at carrying inherited synthesized
+    → (note : List ℕ) (end r c : ℕ) (u : Uses) → UsesReadFrom (settingOf t at w inh syn) note end r c u
+    → (r₀ c₀ : ℕ) → BodyTaken t at carrying inherited synthesized r₀ c₀ note end r c → BodyRead t at carrying inherited synthesized r₀ c₀ u
+taken-body t at w carrying inherited synthesized inh syn part is-width is-body long p q small note end r c u f r₀ c₀ b =
+    body-read t at w carrying inherited synthesized inh syn part is-width is-body long p q r₀ c₀ u
+    (f (at + 5 + w) r₀ c₀
+    (subst (λ (x : ℕ). Walked (settingOf t at x inh syn) (at + 5 + x) r₀ c₀ note end r c) (sym is-width)
+    (b .walked inh syn (subst (λ x. Written (countOf inherited) x inh) is-body p) (subst (λ x. Written (synthesizedOf carrying synthesized) x syn) is-body q)
+    (subst (λ (x : ℕ). Small x inh syn) is-width (body-small t at w carrying inherited synthesized inh syn part is-width is-body long p q small)))))
+
+pub next-sooner : (t : List ℕ) (a b : ℕ) (u : Uses) → a ≤ b → Next t b u → Next t a u
+next-sooner t a b u l n = record { after = omega (arith, n .after); inside = n .inside; over = n .over; rules = n .rules; conditions = n .conditions }

@@ -1,0 +1,92 @@
+use native.Mathlib.Omega.{arith}
+use borrow.Author.Needs.{needs}
+use Rattle.table_production.proofs.Producing.{part-in, part-short, small-body}
+use Rattle.table_production.proofs.Rows.{production-refused, production-read}
+use Rattle.table_production.proofs.read_production.Statement.{statement}
+use Rattle.table_production.proofs.read_production.Tie as tie
+
+production-number-requires : tie.Need-production-number-requires
+production-number-requires c κs = search needs
+
+returns : tie.Need-returns
+returns c = production-refused _ _ _ _ _ _ _ _ _ _ _ _ _ (c .before .production-number .ensures) (c .before .before .before .pre .8) (c .if1 .taken) (omega arith) (c .before .before .before .pre .7)
+
+add-from : tie.Need-add-from
+add-from c = search needs
+
+add-end : tie.Need-add-end
+add-end c = search needs
+
+add-wide : tie.Need-add-wide
+add-wide c = search needs
+
+shared-slice-read-wide : tie.Need-shared-slice-read-wide
+shared-slice-read-wide c = omega (arith, c .before .before .production-number .ensures .known (omega arith) .long)
+
+wide-requires : tie.Need-wide-requires
+wide-requires c κs = search needs
+
+add-end-2 : tie.Need-add-end-2
+add-end-2 c = search needs
+
+sub-copy-row : tie.Need-sub-copy-row
+sub-copy-row c = search needs
+
+part-copy-row-start : tie.Need-part-copy-row-start
+part-copy-row-start c = search needs
+
+part-copy-row-end : tie.Need-part-copy-row-end
+part-copy-row-end c = omega (arith, c .before .before .before .before .production-number .ensures .known (omega arith) .long)
+
+copy-row-requires : tie.Need-copy-row-requires
+copy-row-requires c κs =
+    let n = c .before .before .before .before .before in
+    let st = n .before .before in
+    let known = n .production-number .ensures .known (omega arith) in
+    (known .few, part-short (st .args .table .now) (st .args .at) (c .before .before .wide .result) (omega (arith, known .short)), st .pre .7)
+
+cast-offsets : tie.Need-cast-offsets
+cast-offsets c = search needs
+
+mul-offsets : tie.Need-mul-offsets
+mul-offsets c = omega (arith, c .before .before .before .before .before .before .production-number .ensures .known (omega arith) .few)
+
+element-write-offsets : tie.Need-element-write-offsets
+element-write-offsets c = c .before .before .before .before .before .before .production-number .ensures .known (omega arith) .few
+
+read-body-requires : tie.Need-read-body-requires
+read-body-requires c κs =
+    let n = c .before .before .before .before .before .before in
+    let st = n .before .before in
+    let known = n .production-number .ensures .known (omega arith) in
+    (known .long, small-body _ _ _ _ _ _ _ _ known (st .pre .4), st .pre .5, st .pre .6, st .pre .9, st .pre .10)
+
+returns-2 : tie.Need-returns-2
+returns-2 c =
+    let n = c .before .before .before .before .before .before .before in
+    let st = n .before .before in
+    let w = c .before .before .before .before in
+    let part = part-in (st .args .table .now) (st .args .at) (w .wide .result) (w .wide .ensures .0) in
+    production-read _ _ _ _ _ _ _ _ _ _ _ _ _ (n .production-number .ensures) (st .pre .8) (omega arith) _ _ part (c .before .copy-row .ensures) _ (c .read-body .ensures .0) (c .read-body .ensures .1 .0) (c .read-body .ensures .1 .1)
+
+pub read-production-spec : {M : Type 1} → statement M
+read-production-spec =
+    tie.close
+    (tie.spec
+    production-number-requires
+    returns
+    add-from
+    add-end
+    add-wide
+    shared-slice-read-wide
+    wide-requires
+    add-end-2
+    sub-copy-row
+    part-copy-row-start
+    part-copy-row-end
+    copy-row-requires
+    cast-offsets
+    mul-offsets
+    element-write-offsets
+    read-body-requires
+    returns-2)

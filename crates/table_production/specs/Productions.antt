@@ -1,0 +1,104 @@
+-- Where the reader stands between two productions.
+use Prim.Native.Nat.{ℕ, _+_, _*_, _≤_, _<_}
+use mathlib.Core.Path.{_≡_}
+use mathlib.Core.Bool.{true}
+use mathlib.Core.List.{List, [], _∷_, map, reverse}
+use lib.ListN.{length, drop}
+use Rattle.meaning.specs.Grammar.{Counts, Symbol, Rule, Condition, Occurrence, countsIn}
+use Rattle.meaning.specs.Table.{byte, Header, Entry, lastComplete, symbolOf}
+use Rattle.fields.specs.Field.{rest, judged, bodyAt}
+use Rattle.fields.specs.Judge.{symbolKnown}
+use Rattle.fields.specs.Reads.{stateOf, entryOf}
+use Rattle.rules.specs.Note.{symbolIn}
+use Rattle.table.specs.declared.Sizes.{Sizes}
+use Rattle.table_uses.specs.declared.Uses.{Uses}
+use Rattle.table_counts.specs.Counted.{SmallCounts, countsUpTo}
+use Rattle.table_carriers.specs.Named.{countOf, synthesizedOf, Carries, NoCarrier}
+use Rattle.table_rows.specs.Rows.{symbolByte}
+use Rattle.table.specs.Outline.{Laid}
+use Rattle.table_uses.specs.Progress.{Next}
+
+-- the length of the right side, the body, the left and the right side of the production at an offset
+abbrev pub widthIn : List ℕ → ℕ → ℕ
+widthIn t at = byte t (at + 4)
+
+abbrev pub bodyIn : List ℕ → ℕ → List ℕ
+bodyIn t at = bodyAt t at (2 + widthIn t at)
+
+abbrev pub leftIn : List ℕ → ℕ → ℕ
+leftIn t at = byte t (at + 3)
+
+abbrev pub rightIn : List ℕ → ℕ → List Symbol
+rightIn t at = map symbolOf (drop 2 (bodyIn t at))
+
+-- what a good production field tells of the table
+pub record ProductionKnown (t : List ℕ) (at p terminals nonterminals : ℕ) : Type 0 where
+  pub long : at + 5 + widthIn t at ≤ length t
+  pub short : widthIn t at ≤ 12
+  pub few : p < 128
+  pub left : leftIn t at < nonterminals
+  pub symbols : (k : ℕ) → k < widthIn t at → symbolKnown terminals nonterminals (byte (bodyIn t at) (k + 2)) ≡ true
+
+-- a production field judged, after p others: its number
+pub record ProductionJudged (t : List ℕ) (at p terminals nonterminals number : ℕ) : Type 0 where
+  pub read :
+      (h : Header) (cs : List Counts) (os ws : List ℕ) (es : List Entry) (r c : ℕ)
+      → h .terminals ≡ terminals → h .nonterminals ≡ nonterminals → nonterminals ≤ length cs → length es ≡ p → lastComplete (stateOf h cs os ws es r c) ≡ true
+      → rest t (stateOf h cs os ws es r c) at
+      ≡ judged number at (rest t (stateOf h cs os ws (entryOf at (leftIn t at) (rightIn t at) [] [] ∷ es) r c) (at + 5 + widthIn t at))
+  pub known : number ≡ 0 → ProductionKnown t at p terminals nonterminals
+
+-- the counts that the arrays hold at the positions of a production are at most 8 together
+abbrev pub SmallBody : List ℕ → ℕ → ℕ → List ℕ → List ℕ → Type 0
+SmallBody t at carrying inherited synthesized =
+    (widthIn t at ≤ 12)
+    × ((k : ℕ) → k ≤ widthIn t at → countOf inherited (symbolByte (bodyIn t at) k) + synthesizedOf carrying synthesized (symbolByte (bodyIn t at) k) ≤ 8)
+
+-- and those of the counts and terminals read, latest first
+pub record CountsAgree (t : List ℕ) (at carrying : ℕ) (inherited synthesized : List ℕ) (cs : List Counts) (ws : List ℕ) : Type 0 where
+  pub inherits : (k : ℕ) → k ≤ widthIn t at → countOf inherited (symbolByte (bodyIn t at) k) ≡ countsIn (reverse cs) (reverse ws) (symbolIn (leftIn t at) (rightIn t at) k) .inherited
+  pub synthesizes : (k : ℕ) → k ≤ widthIn t at → synthesizedOf carrying synthesized (symbolByte (bodyIn t at) k) ≡ countsIn (reverse cs) (reverse ws) (symbolIn (leftIn t at) (rightIn t at) k) .synthesized
+
+-- the rules and conditions of the production at an offset read, or a refusal
+abbrev pub BodyRead : List ℕ → ℕ → ℕ → List ℕ → List ℕ → ℕ → ℕ → Uses → Type 0
+BodyRead t at carrying inherited synthesized r₀ c₀ u =
+    (h : Header) (cs : List Counts) (os ws : List ℕ) (es : List Entry) → h .nonterminals ≤ length cs → CountsAgree t at carrying inherited synthesized cs ws
+    → (rs : List (Rule Occurrence)) × (cds : List (Condition Occurrence))
+    × (rest t (stateOf h cs os ws (entryOf at (leftIn t at) (rightIn t at) [] [] ∷ es) r₀ c₀) (at + 5 + widthIn t at)
+    ≡ judged (u .number) (u .at) (rest t (stateOf h cs os ws (entryOf at (leftIn t at) (rightIn t at) rs cds ∷ es) (u .rules) (u .conditions)) (u .at)))
+    × (u .number ≡ 0 → lastComplete (stateOf h cs os ws (entryOf at (leftIn t at) (rightIn t at) rs cds ∷ es) (u .rules) (u .conditions)) ≡ true)
+
+-- production p with all its fields read, or a refusal; rows and offsets before and after
+pub record ProductionRead (t : List ℕ) (at p terminals nonterminals carrying : ℕ) (inherited synthesized rows₀ offsets₀ : List ℕ) (r₀ c₀ : ℕ) (rows offsets : List ℕ) (u : Uses) : Type 0 where
+  pub read :
+      (h : Header) (os ws : List ℕ) (es : List Entry)
+      → h .terminals ≡ terminals → h .nonterminals ≡ nonterminals → length es ≡ p → lastComplete (stateOf h (countsUpTo inherited synthesized nonterminals) os ws es r₀ c₀) ≡ true → Laid rows₀ offsets₀ es → Carries carrying (reverse ws)
+      → (e : Entry)
+      × (rest t (stateOf h (countsUpTo inherited synthesized nonterminals) os ws es r₀ c₀) at
+      ≡ judged (u .number) (u .at) (rest t (stateOf h (countsUpTo inherited synthesized nonterminals) os ws (e ∷ es) (u .rules) (u .conditions)) (u .at)))
+      × (u .number ≡ 0 → lastComplete (stateOf h (countsUpTo inherited synthesized nonterminals) os ws (e ∷ es) (u .rules) (u .conditions)) ≡ true)
+      × (u .number ≡ 0 → Laid rows offsets (e ∷ es))
+  pub next : u .number ≡ 0 → Next t (at + 5) u
+  pub few : u .number ≡ 0 → p < 128
+  pub inside : u .at ≤ length t
+  pub kept : (length rows ≡ 2048) × (length offsets ≡ 128)
+
+-- the table after its header and counts
+pub record Ready (t : List ℕ) (sizes : Sizes) (inherited synthesized : List ℕ) : Type 0 where
+  pub terminals : sizes .terminals ≡ byte t 3
+  pub nonterminals : sizes .nonterminals ≡ byte t 4
+  pub start : sizes .start ≡ byte t 5
+  pub result : sizes .result ≡ byte t 6
+  pub few : sizes .nonterminals ≤ 48
+  pub tokens : sizes .terminals ≤ 63
+  pub long : 7 + 5 * sizes .nonterminals ≤ length t
+  pub short : length t ≤ 32768
+  pub small : SmallCounts inherited synthesized (sizes .nonterminals)
+  pub first : length inherited ≡ 48
+  pub second : length synthesized ≡ 48
+
+-- and after its tag 6 fields, which end at an offset
+pub record Begun (t : List ℕ) (from : ℕ) (sizes : Sizes) (inherited synthesized : List ℕ) : Type 0 where
+  pub ready : Ready t sizes inherited synthesized
+  pub inside : from ≤ length t
+  pub other : NoCarrier t from

@@ -1,0 +1,152 @@
+// The reader of a table: refusals 1 to 10, or an outline of what was read.
+ghost use mathlib.Core.Path.{_≡_};
+ghost use Prim.Native.Nat.{_+_, _*_};
+ghost use lib.ListN.{length};
+ghost use Rattle.meaning.specs.Table.{readTable};
+ghost use Rattle.fields.specs.Field.{rest};
+ghost use Rattle.table_counts.specs.Counted.{counted};
+ghost use Rattle.table.specs.Answer.{Answers, AnswersFrom};
+ghost use Rattle.table_production.specs.Productions.{Ready, Begun};
+use table::Reading;
+use table::Sizes;
+
+// All productions, from an offset on.
+fn read_productions(
+    table: &[u8],
+    from: usize,
+    sizes: Sizes,
+    inherited: &[u8; 48],
+    synthesized: &[u8; 48],
+    rows: &mut [u8; 2048],
+    offsets: &mut [u32; 128],
+) -> Reading
+    requires { ⌜ Begun (now table) from sizes (now inherited) (now synthesized) × (length (now rows) ≡ 2048) × (length (now offsets) ≡ 128) ⌝ }
+    ensures { λ r. ⌜ AnswersFrom (now (table .entry)) from sizes r (now (inherited .entry)) (now (synthesized .entry)) (now (rows .exit)) (now (offsets .exit)) ⌝ }
+{
+    let mut at = from;
+    let mut p: usize = 0;
+    let mut rules: usize = 0;
+    let mut conditions: usize = 0;
+    while at < table.len() {
+        let u = table_production::read_production(
+            table,
+            at,
+            p,
+            sizes,
+            inherited,
+            synthesized,
+            rows,
+            offsets,
+            rules,
+            conditions,
+        );
+        if u.number != 0 {
+            let offset = u.at as u32;
+            return Reading::Malformed {
+                number: u.number,
+                offset,
+            };
+        }
+        p += 1;
+        at = u.at;
+        rules = u.rules;
+        conditions = u.conditions;
+    }
+    if p == 0 {
+        let offset = at as u32;
+        return Reading::Malformed { number: 3, offset };
+    }
+    Reading::WellFormed(Sizes {
+        terminals: sizes.terminals,
+        nonterminals: sizes.nonterminals,
+        start: sizes.start,
+        result: sizes.result,
+        productions: p,
+        carrying: sizes.carrying,
+    })
+}
+
+// The tag 6 fields and the productions, from the last tag 2 field on.
+fn read_after_counts(
+    table: &[u8],
+    sizes: Sizes,
+    inherited: &[u8; 48],
+    synthesized: &[u8; 48],
+    rows: &mut [u8; 2048],
+    offsets: &mut [u32; 128],
+) -> Reading
+    requires { ⌜ Ready (now table) sizes (now inherited) (now synthesized) × (length (now rows) ≡ 2048) × (length (now offsets) ≡ 128) ⌝ }
+    ensures { λ r. ⌜ Answers r (now (inherited .entry)) (now (synthesized .entry)) (now (rows .exit)) (now (offsets .exit)) (rest (now (table .entry)) (counted (now (table .entry)) (now (inherited .entry)) (now (synthesized .entry)) (sizes .nonterminals)) (7 + 5 * sizes .nonterminals)) ⌝ }
+{
+    let from = 7 + 5 * sizes.nonterminals;
+    let c = table_carriers::read_carriers(table, from, sizes.terminals);
+    if c.number != 0 {
+        let offset = c.at as u32;
+        return Reading::Malformed {
+            number: c.number,
+            offset,
+        };
+    }
+    let known = Sizes {
+        terminals: sizes.terminals,
+        nonterminals: sizes.nonterminals,
+        start: sizes.start,
+        result: sizes.result,
+        productions: 0,
+        carrying: c.carrying,
+    };
+    read_productions(table, c.at, known, inherited, synthesized, rows, offsets)
+}
+
+// Reads a table. The lent arrays hold the outline of a table that is well formed: the counts of each nonterminal, a row of
+// 16 bytes for each production (left side, length of the right side, symbols) and the offset of its field.
+// After a refusal they are scratch.
+pub fn read_table(
+    table: &[u8],
+    inherited: &mut [u8; 48],
+    synthesized: &mut [u8; 48],
+    rows: &mut [u8; 2048],
+    offsets: &mut [u32; 128],
+) -> Reading
+    requires { ⌜ (length (now inherited) ≡ 48) × (length (now synthesized) ≡ 48) × (length (now rows) ≡ 2048) × (length (now offsets) ≡ 128) ⌝ }
+    ensures { λ r. ⌜ Answers r (now (inherited .exit)) (now (synthesized .exit)) (now (rows .exit)) (now (offsets .exit)) (readTable (now (table .entry))) ⌝ }
+{
+    if 32768 < table.len() {
+        return Reading::Malformed {
+            number: 1,
+            offset: 0,
+        };
+    }
+    let number = table_counts::header_number(table);
+    if number != 0 {
+        return Reading::Malformed { number, offset: 0 };
+    }
+    let terminals = fields::wide(table[3]);
+    let nonterminals = fields::wide(table[4]);
+    let start = fields::wide(table[5]);
+    let result = fields::wide(table[6]);
+    let counted = table_counts::read_counts(
+        table,
+        nonterminals,
+        start,
+        result,
+        inherited,
+        synthesized,
+    );
+    if counted.number != 0 {
+        let offset = counted.offset as u32;
+        return Reading::Malformed {
+            number: counted.number,
+            offset,
+        };
+    }
+    let sizes = Sizes {
+        terminals,
+        nonterminals,
+        start,
+        result,
+        productions: 0,
+        carrying: 0,
+    };
+    read_after_counts(table, sizes, inherited, synthesized, rows, offsets)
+}

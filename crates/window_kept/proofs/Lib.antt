@@ -1,4 +1,0 @@
-pub mod Turning
-pub mod Walking
-pub mod Gathering
-pub mod Checking

@@ -1,4 +1,0 @@
-pub mod Parts
-pub mod Cut
-pub mod Turns
-pub mod Checks
