@@ -186,6 +186,27 @@ pub fn heavy() -> Vec<u8> {
     t
 }
 
+/// One production of 12 children with 7 rules for each, and all the conditions that a table can have.
+pub fn one_production() -> Vec<u8> {
+    let mut t = Vec::new();
+    field(&mut t, 1, &[1, 2, 0, 1]);
+    field(&mut t, 2, &[0, 1]);
+    field(&mut t, 2, &[7, 1]);
+    field(&mut t, 3, &[1, 1, 0]);
+    constant(&mut t, (0, 8), 1);
+    field(&mut t, 3, &[&[0, 12][..], &[129; 12]].concat());
+    for k in 1..=12 {
+        for a in 1..=7 {
+            constant(&mut t, (k, a), a);
+        }
+    }
+    copy(&mut t, (0, 1), (12, 8));
+    for i in 0..512 {
+        range(&mut t, (1 + (i % 12) as u8, 8), -5, 5);
+    }
+    t
+}
+
 /// The same table with one more rule, whose function is unknown: refused by 5 at its last field.
 pub fn refused_last(mut table: Vec<u8>) -> Vec<u8> {
     field(&mut table, 4, &[0, 1, 9]);

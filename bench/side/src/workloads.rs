@@ -118,6 +118,8 @@ fn worst() -> Vec<Workload> {
         judge("127 alternatives kept apart by ranges", samples::alternatives(false)),
         judge("104 rules a production, reversed", samples::many_rules(12, true)),
         judge("most rules and conditions, interleaved", tables::heavy()),
+        judge("one production of 597 rules and conditions", tables::one_production()),
+        workload(Work::Judge, "the same, refused by its last field", tables::refused_last(tables::one_production()), vec![], SMALL, 5),
         build("104 rules a production, reversed", samples::many_rules(12, true)),
         build("most rules and conditions, interleaved", tables::heavy()),
     ]
