@@ -16,12 +16,12 @@ use Rattle.theory_base.specs.Members.{both, or-cases, or-left, or-right}
 use Rattle.theory_sets.specs.Productions.{known, symbols, lefts}
 use Rattle.theory_sets.specs.Nullable.{nullable-closed}
 use Rattle.theory_sets.specs.Productive.{productive-closed}
-use Rattle.theory_sets.specs.Reached.{reachable-start, reachable-closed}
+use Rattle.theory_sets.specs.Reachable.{reachable-start, reachable-closed}
 use Rattle.theory_sets.specs.LeastSets.{nullable-least, productive-least, reachable-least}
 use Rattle.theory_sets.specs.TokenSets.{single-has, single-only}
 use Rattle.theory_sets.specs.Widths.{both-true}
-use Rattle.token_set.specs.Words.{setOf}
-use Rattle.analysis.specs.Rows.{Rows}
+use Rattle.token_set.specs.SetBits.{setOf}
+use Rattle.outline.specs.Rows.{Rows}
 use Rattle.analysis.specs.Views.{members, Within, fit, symbolBit, ClosedAt, ReachAt}
 use Rattle.analysis.specs.Growth.{Settled, none-in}
 

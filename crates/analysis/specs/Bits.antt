@@ -12,7 +12,7 @@ use lib.Dec.{T, eqb, eqb→eq}
 use lib.Pow.{shr-shr}
 use Rattle.theory_base.specs.Members.{true→T, apart, same-true, or-cases, or-left, or-right}
 use Rattle.theory_sets.specs.Widths.{both-true}
-use Rattle.token_set.specs.Words.{bit, has-bit}
+use Rattle.token_set.specs.SetBits.{bit, has-bit}
 use Rattle.analysis.specs.Views.{members, Inside}
 use Rattle.analysis.specs.Growth.{or-is}
 

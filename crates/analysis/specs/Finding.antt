@@ -13,7 +13,7 @@ use Rattle.meaning.specs.Sets.{starts}
 use Rattle.meaning.specs.Decide.{productive, reachable, isLeftRecursive, clashes, firstWhere, judge}
 use Rattle.meaning.specs.Judgement.{Verdict, accepted, rejected, countsOffset, entryOffset}
 use Rattle.meaning.specs.Table.{State, grammarOf}
-use Rattle.token_set.specs.Words.{setOf}
+use Rattle.token_set.specs.SetBits.{setOf}
 use Rattle.analysis.specs.Numbers.{Found, found-some, found-not}
 
 pub data Finding : Type 0 where
@@ -50,11 +50,11 @@ abbrev pub finding : Grammar → Finding
 finding g = otherwise (flaw g) (lowestClash g)
 
 -- 01's number, 0 where there is none, and the nonterminal or production
-abbrev pub numberOf : Finding → ℕ
-numberOf fine = 0
-numberOf (useless n) = 11
-numberOf (recursive n) = 12
-numberOf (clashing p) = 13
+abbrev pub findingNumber : Finding → ℕ
+findingNumber fine = 0
+findingNumber (useless n) = 11
+findingNumber (recursive n) = 12
+findingNumber (clashing p) = 13
 
 abbrev pub indexOf : Finding → ℕ
 indexOf fine = 0
@@ -82,13 +82,13 @@ judge-is s =
 
 -- what the analysis of a grammar answers: number and index of 11 or 12, and where there is none the FIRST-then-FOLLOW sets of the productions
 pub record Analysed (g : Grammar) (n i : ℕ) (sets : List ℕ) : Type 0 where
-  pub number : n ≡ numberOf (flaw g)
+  pub number : n ≡ findingNumber (flaw g)
   pub index : i ≡ indexOf (flaw g)
   pub starting : n ≡ 0 → (p : ℕ) → Listed g p → setOf (getD sets p 0) ≡ starts g (productionAt g p)
 
 module _ (g : Grammar) (sets : List ℕ) where
-  answer : (f : Finding) → flaw g ≡ f → (numberOf f ≡ 0 → (p : ℕ) → Listed g p → setOf (getD sets p 0) ≡ starts g (productionAt g p)) → Analysed g (numberOf f) (indexOf f) sets
-  answer f e k = record { number = sym (ap numberOf e); index = sym (ap indexOf e); starting = k }
+  answer : (f : Finding) → flaw g ≡ f → (findingNumber f ≡ 0 → (p : ℕ) → Listed g p → setOf (getD sets p 0) ≡ starts g (productionAt g p)) → Analysed g (findingNumber f) (indexOf f) sets
+  answer f e k = record { number = sym (ap findingNumber e); index = sym (ap indexOf e); starting = k }
 
   two : (a b c d : Option ℕ) → a ≡ c → b ≡ d → orElse a useless (orElse b recursive fine) ≡ orElse c useless (orElse d recursive fine)
   two a b c d e f = ap₂ (λ (x y : Option ℕ). orElse x useless (orElse y recursive fine)) e f

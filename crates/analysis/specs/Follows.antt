@@ -14,10 +14,10 @@ use Rattle.meaning.specs.Base.{all}
 use Rattle.meaning.specs.Grammar.{Symbol, terminal, nonterminal}
 use Rattle.meaning.specs.Sets.{has, singleton, endNumber}
 use Rattle.meaning.specs.Table.{symbolOf}
-use Rattle.token_set.specs.Words.{setOf, set-end}
+use Rattle.token_set.specs.SetBits.{setOf, set-end}
 use Rattle.theory_base.specs.Members.{both}
 use Rattle.theory_sets.specs.TokenSets.{or-false, single-has, single-only}
-use Rattle.analysis.specs.Rows.{Image, leftAt, sizeAt, byteAt, rightAt, right-cons, right-back, right-end, symbol-terminal, symbol-nonterminal}
+use Rattle.outline.specs.Rows.{Image, leftAt, sizeAt, byteAt, rightAt, right-cons, right-back, right-end, symbol-terminal, symbol-nonterminal}
 use Rattle.analysis.specs.Views.{members, sees, Inside, fit, turn, opens, Below}
 use Rattle.analysis.specs.Growth.{or-is, none-in}
 use Rattle.analysis.specs.Tables.{Added, Short, zeros-none}

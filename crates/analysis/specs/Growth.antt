@@ -14,7 +14,7 @@ use lib.Dec.{T, eqb, eqb→eq, eqb-refl}
 use Rattle.meaning.specs.Sets.{has, singleton}
 use Rattle.theory_sets.specs.TokenSets.{has-union, has-empty, union-left, union-right, union-cases, single-has, single-only}
 use Rattle.theory_sets.specs.Widths.{both-true}
-use Rattle.token_set.specs.Words.{setOf, set-empty, set-or, or-grows}
+use Rattle.token_set.specs.SetBits.{setOf, set-empty, set-or, or-grows}
 use Rattle.analysis.specs.Views.{members, Inside}
 
 pub or-left : (a b n : ℕ) → T (members a n) → T (members (bitOr a b) n)

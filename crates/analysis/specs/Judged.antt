@@ -10,8 +10,8 @@ use Rattle.meaning.specs.Derivation.{Listed}
 use Rattle.meaning.specs.Sets.{emptySet, has, singleton, nullable, emptyString, follow, starts}
 use Rattle.meaning.specs.Decide.{isLeftRecursive}
 use Rattle.theory_sets.specs.Nullable.{nullable-closed}
-use Rattle.token_set.specs.Words.{setOf}
-use Rattle.analysis.specs.Rows.{Rows, leftAt}
+use Rattle.token_set.specs.SetBits.{setOf}
+use Rattle.outline.specs.Rows.{Rows, leftAt}
 use Rattle.analysis.specs.Views.{members, sees, Within, WithinAll, ClosedAt, ReachAt, FrontAt, LeadAt}
 use Rattle.analysis.specs.Growth.{Settled, SetsTo, none-in}
 use Rattle.analysis.specs.Tables.{SettledTable}

@@ -16,11 +16,11 @@ use Rattle.theory_sets.specs.Derivations.{Yields, nothing, same, expand, derive
 use Rattle.theory_sets.specs.Tests.{tabled-cases, tabled-at}
 use Rattle.theory_sets.specs.Productions.{known, Chosen, of-cases, of-at, symbols}
 use Rattle.theory_sets.specs.Nullable.{nullable-closed, yields→emptyString}
-use Rattle.theory_sets.specs.Spread.{spread-grows, spread-closed}
+use Rattle.theory_sets.specs.SpreadByRounds.{spread-grows, spread-closed}
 use Rattle.theory_sets.specs.LeftRecursion.{recursive→LeftRecursive}
 use Rattle.theory_sets.specs.LeastSets.{led-least}
 use Rattle.theory_sets.specs.Widths.{both-true}
-use Rattle.analysis.specs.Rows.{Rows, leftAt}
+use Rattle.outline.specs.Rows.{Rows, leftAt}
 use Rattle.analysis.specs.Views.{members, sees, WithinAll, opens, LeadAt}
 use Rattle.analysis.specs.Tables.{SettledTable, zeros-none}
 use Rattle.analysis.specs.Agreeing.{Marks, listed, counted}

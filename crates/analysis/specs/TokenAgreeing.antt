@@ -19,8 +19,8 @@ use Rattle.theory_sets.specs.AfterSets.{Source, byStart, byProduction, follow-c
 use Rattle.theory_sets.specs.LeastSets.{first-least, follow-least}
 use Rattle.theory_sets.specs.TokenSets.{or-false, has-union, has-empty}
 use Rattle.theory_sets.specs.Widths.{both-true, same-set, starts-wide}
-use Rattle.token_set.specs.Words.{setOf, set-empty, setOf-wide}
-use Rattle.analysis.specs.Rows.{Rows, rightAt}
+use Rattle.token_set.specs.SetBits.{setOf, set-empty, setOf-wide}
+use Rattle.outline.specs.Rows.{Rows, rightAt}
 use Rattle.analysis.specs.Views.{members, sees, WithinAll, fit, opens, FrontAt, Below}
 use Rattle.analysis.specs.Tables.{SettledTable, zeros-none}
 use Rattle.analysis.specs.Follows.{FollowClosed, Followed}

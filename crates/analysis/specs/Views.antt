@@ -11,8 +11,8 @@ use lib.ListN.{getD, drop}
 use Rattle.meaning.specs.Base.{all, any}
 use Rattle.meaning.specs.Grammar.{Symbol, terminal, nonterminal}
 use Rattle.meaning.specs.Sets.{has, singleton, endNumber}
-use Rattle.token_set.specs.Words.{setOf}
-use Rattle.analysis.specs.Rows.{leftAt, rightAt}
+use Rattle.token_set.specs.SetBits.{setOf}
+use Rattle.outline.specs.Rows.{leftAt, rightAt}
 use Rattle.theory_base.specs.Members.{and, both, or-cases, or-left, or-right}
 
 -- the view of a word

@@ -1,40 +1,40 @@
 // The nonterminals with a production whose symbols are all in: those that derive nothing, or some token string.
-use token_set::TokenSet;
+use nonterminal_set::NonterminalSet;
 ghost use mathlib.Core.Path.{_≡_};
 ghost use Prim.Native.Nat.{_<_};
 ghost use Rattle.meaning.specs.Table.{symbolOf};
-ghost use Rattle.analysis.specs.Rows.{Image};
+ghost use Rattle.outline.specs.Rows.{Image};
 ghost use Rattle.analysis.specs.Views.{members, fit, rightBy, ClosedAt, Within};
 ghost use Rattle.analysis.specs.Growth.{Grown, Settled, SetsTo};
 ghost use Rattle.analysis.specs.Bits.{Covers};
 ghost use Rattle.analysis.specs.Closing.{Narrow, Knows};
 
 // Whether a symbol is in the set, or a token where `tokens` lets tokens stand.
-pub fn symbol_in(s: u8, set: u64, tokens: bool) -> bool
-    ensures { λ r. ⌜ r ≡ fit tokens (members set) (symbolOf s) ⌝ }
+pub fn symbol_in(s: u8, set: NonterminalSet, tokens: bool) -> bool
+    ensures { λ r. ⌜ r ≡ fit tokens (members (set .0)) (symbolOf s) ⌝ }
 {
     if s < 128 {
         return tokens;
     }
-    TokenSet(set).has(s - 128)
+    set.has(s - 128)
 }
 
 // The set, with the bit of the tokens where they may stand.
-fn known_by(set: u64, tokens: bool) -> u64
-    requires { ⌜ Narrow set ⌝ }
-    ensures { λ r. ⌜ Knows tokens (members set) (members r) ⌝ }
+fn known_by(set: NonterminalSet, tokens: bool) -> NonterminalSet
+    requires { ⌜ Narrow (set .0) ⌝ }
+    ensures { λ r. ⌜ Knows tokens (members (set .0)) (members (r .0)) ⌝ }
 {
     if tokens {
-        return set | TokenSet::END.0;
+        return set.union(NonterminalSet::TOKENS);
     }
     set
 }
 
 // Whether a set lies in another.
-fn lies_in(part: u64, whole: u64) -> bool
-    ensures { λ r. ⌜ Covers part whole r ⌝ }
+fn lies_in(part: NonterminalSet, whole: NonterminalSet) -> bool
+    ensures { λ r. ⌜ Covers (part .0) (whole .0) r ⌝ }
 {
-    part | whole == whole
+    part.union(whole).same(whole)
 }
 
 // The set, with the left side of production k where all its symbols are in.
@@ -43,23 +43,30 @@ fn close_by(
     count: usize,
     rights: &[u64; 128],
     k: usize,
-    set: u64,
+    set: NonterminalSet,
     tokens: bool,
-) -> u64
-    requires { ⌜ Image (now rows) count × SetsTo (rightBy (now rows)) count (now rights) × (k < count) × Narrow set ⌝ }
-    ensures { λ r. ⌜ Grown (Within (ClosedAt tokens (now (rows .entry))) 0 count) (ClosedAt tokens (now (rows .entry)) k) set r ⌝ }
+) -> NonterminalSet
+    requires { ⌜ Image (now rows) count × SetsTo (rightBy (now rows)) count (now rights) × (k < count) × Narrow (set .0) ⌝ }
+    ensures { λ r. ⌜ Grown (Within (ClosedAt tokens (now (rows .entry))) 0 count) (ClosedAt tokens (now (rows .entry)) k) (set .0) (r .0) ⌝ }
 {
     let known = known_by(set, tokens);
-    if lies_in(rights[k], known) {
-        return set | TokenSet::of_token(rows[k * 16]).0;
+    let right = rights[k];
+    if lies_in(NonterminalSet(right), known) {
+        return set.union(NonterminalSet::of_nonterminal(rows[k * 16]));
     }
     set
 }
 
 // One round over the productions, the last first.
-fn close_round(rows: &[u8; 2048], count: usize, rights: &[u64; 128], set: u64, tokens: bool) -> u64
-    requires { ⌜ Image (now rows) count × SetsTo (rightBy (now rows)) count (now rights) × Narrow set ⌝ }
-    ensures { λ r. ⌜ Grown (Within (ClosedAt tokens (now (rows .entry))) 0 count) (Within (ClosedAt tokens (now (rows .entry))) 0 count) set r ⌝ }
+fn close_round(
+    rows: &[u8; 2048],
+    count: usize,
+    rights: &[u64; 128],
+    set: NonterminalSet,
+    tokens: bool,
+) -> NonterminalSet
+    requires { ⌜ Image (now rows) count × SetsTo (rightBy (now rows)) count (now rights) × Narrow (set .0) ⌝ }
+    ensures { λ r. ⌜ Grown (Within (ClosedAt tokens (now (rows .entry))) 0 count) (Within (ClosedAt tokens (now (rows .entry))) 0 count) (set .0) (r .0) ⌝ }
 {
     let mut next = set;
     let mut k = count;
@@ -75,11 +82,11 @@ fn close_round_back(
     rows: &[u8; 2048],
     count: usize,
     rights: &[u64; 128],
-    set: u64,
+    set: NonterminalSet,
     tokens: bool,
-) -> u64
-    requires { ⌜ Image (now rows) count × SetsTo (rightBy (now rows)) count (now rights) × Narrow set ⌝ }
-    ensures { λ r. ⌜ Grown (Within (ClosedAt tokens (now (rows .entry))) 0 count) (Within (ClosedAt tokens (now (rows .entry))) 0 count) set r ⌝ }
+) -> NonterminalSet
+    requires { ⌜ Image (now rows) count × SetsTo (rightBy (now rows)) count (now rights) × Narrow (set .0) ⌝ }
+    ensures { λ r. ⌜ Grown (Within (ClosedAt tokens (now (rows .entry))) 0 count) (Within (ClosedAt tokens (now (rows .entry))) 0 count) (set .0) (r .0) ⌝ }
 {
     let mut next = set;
     let mut k: usize = 0;
@@ -92,18 +99,18 @@ fn close_round_back(
 
 // The nonterminals that derive a string of tokens, or, where `tokens` is false, nothing; from the words of the right sides.
 // The rounds go both ways in turn, so that a chain is closed in three whether it is declared from its start or from its end.
-pub fn closure(rows: &[u8; 2048], count: usize, rights: &[u64; 128], tokens: bool) -> u64
+pub fn closure(rows: &[u8; 2048], count: usize, rights: &[u64; 128], tokens: bool) -> NonterminalSet
     requires { ⌜ Image (now rows) count × SetsTo (rightBy (now rows)) count (now rights) ⌝ }
-    ensures { λ r. ⌜ Settled (Within (ClosedAt tokens (now (rows .entry))) 0 count) 0 r ⌝ }
+    ensures { λ r. ⌜ Settled (Within (ClosedAt tokens (now (rows .entry))) 0 count) 0 (r .0) ⌝ }
 {
-    let mut set: u64 = 0;
+    let mut set = NonterminalSet::EMPTY;
     loop {
         let next = close_round(rows, count, rights, set, tokens);
-        if next == set {
+        if next.same(set) {
             return set;
         }
         let last = close_round_back(rows, count, rights, next, tokens);
-        if last == next {
+        if last.same(next) {
             return next;
         }
         set = last;

@@ -2,7 +2,7 @@
 use Prim.Native.Nat.{ℕ, suc, _≤_, _<_}
 use native.Mathlib.Omega.{arith}
 use native.Mathlib.Decide.{decLt}
-use mathlib.Core.Path.{_≡_, refl, sym, ap, ap₂, _∙_, subst}
+use mathlib.Core.Path.{_≡_, refl, sym, ap, _∙_, subst}
 use mathlib.Core.Bool.{Bool, true, false}
 use mathlib.Core.List.{List, []}
 use borrow.Author.Tests.{lt-ltb, le-ltb}
@@ -15,11 +15,11 @@ use Rattle.meaning.specs.Decide.{judge, verdictOf}
 use Rattle.meaning.specs.PublicCalls.{Checked, usable, unusable, checkedAs, check, cut, stretchEnd, stretchOf}
 use Rattle.theory_table.specs.Places.{Places, read-places}
 use Rattle.theory_table.specs.Reading.{table-reads}
-use Rattle.table.specs.declared.Sizes.{Sizes}
-use Rattle.reader.specs.Fields.{nthProduction}
-use Rattle.reader.proofs.Accepted.{begins, ends, last-end}
-use Rattle.checker_outline.specs.Outlined.{Brought}
-use Rattle.checker.specs.Judging.{Answered, Judges}
+use Rattle.outline.specs.declared.Sizes.{Sizes}
+use Rattle.table_reader.specs.Fields.{nthProduction}
+use Rattle.table_reader.proofs.Accepted.{begins, ends, last-end}
+use Rattle.outline.specs.Outline.{stateIn, Productions, entries-are}
+use Rattle.checker.specs.Judging.{Accepts, Judges}
 use Rattle.checker_span.specs.Spans.{stretchBy, stretchIs, Inside, spanIn}
 use Rattle.checker_span.proofs.Cases.{span-missing, span-found}
 use Rattle.checker.specs.Verdicts.{spanWhere, spanAs, spanOf}
@@ -30,39 +30,14 @@ use Rattle.checker_span.specs.declared.Span.the-variants.{Within, Nowhere}
 
 -- ---- the cases
 
-pub record Accepts (t : List ℕ) (sizes : Sizes) (inh syn rows offsets sets : List ℕ) : Type 0 where
-  pub state : State
-  pub isUsable : check t ≡ usable state
-  pub brought : Brought t state sizes inh syn rows offsets sets
-
-abbrev sizesIn : Judged → Sizes → Sizes
-sizesIn (Usable sizes) d = sizes
-sizesIn (Unusable n o) d = d
-
-abbrev numberIn : Judged → ℕ
-numberIn (Usable sizes) = 0
-numberIn (Unusable n o) = n
-
-abbrev offsetIn : Judged → ℕ
-offsetIn (Usable sizes) = 0
-offsetIn (Unusable n o) = o
-
 module _ (t inh syn rows offsets sets : List ℕ) (q : Judged) (j : Judges t inh syn rows offsets sets q) where
   pub accepted-case : (sizes : Sizes) → q ≡ Usable sizes → Accepts t sizes inh syn rows offsets sets
   unfolding Judges
-  accepted-case sizes e = go (check t) refl j
-    where
-      go : (k : Checked) → check t ≡ k → Answered t inh syn rows offsets sets q k → Accepts t sizes inh syn rows offsets sets
-      go (usable s) h a = record { state = s; isUsable = h; brought = subst (λ z. Brought t s z inh syn rows offsets sets) (ap (λ y. sizesIn y sizes) (sym (a .1) ∙ e)) (a .2) }
-      go (unusable n o) h a = let w : _≡_ {A = Judged} (Usable sizes) (Unusable n o) = sym e ∙ a in let z : _≡_ {A = ℕ} 0 1 = cc in absurd (omega arith)
+  accepted-case sizes e = subst (Judges t inh syn rows offsets sets) e j
 
   pub refused-case : (n o : ℕ) → q ≡ Unusable n o → check t ≡ unusable n o
   unfolding Judges
-  refused-case n o e = go (check t) refl j
-    where
-      go : (k : Checked) → check t ≡ k → Answered t inh syn rows offsets sets q k → check t ≡ unusable n o
-      go (usable s) h a = let w : _≡_ {A = Judged} (Usable (a .0)) (Unusable n o) = sym (a .1) ∙ e in let z : _≡_ {A = ℕ} 0 1 = cc in absurd (omega arith)
-      go (unusable m i) h a = h ∙ ap₂ unusable (sym (ap numberIn a) ∙ ap numberIn e) (sym (ap offsetIn a) ∙ ap offsetIn e)
+  refused-case n o e = subst (Judges t inh syn rows offsets sets) e j
 
 -- ---- the verdict
 
@@ -109,19 +84,22 @@ stretch-span t p n o = go (check t)
 
 module _ (t : List ℕ) (sizes : Sizes) (inh syn rows offsets sets : List ℕ) (x : Accepts t sizes inh syn rows offsets sets) where
   abbrev s : State
-  s = x .state
+  s = stateIn t
 
   abbrev n : ℕ
   n = sizes .productions
 
+  abbrev listed : Productions t rows offsets n
+  listed = x .outlined .outline .productions
+
   counted : n ≡ length (s .entries)
-  counted = x .brought .outline .productions
+  counted = entries-are listed
 
   begin : (p : ℕ) → p < n → nthProduction t 0 p ≡ entryOffset s p
-  begin p l = begins t s (x .brought .isRead) p (omega (arith, counted))
+  begin p l = begins t s (listed .isRead) p (omega (arith, counted))
 
   places : Places t s
-  places = read-places t s (x .brought .isRead)
+  places = read-places t s (listed .isRead)
 
   module _ (p : ℕ) where
     pub span-said : (r : Span) → r ≡ spanIn t n p → r ≡ spanOf t p
@@ -130,7 +108,7 @@ module _ (t : List ℕ) (sizes : Sizes) (inh syn rows offsets sets : List ℕ) (
       where
         go : Dec (p < n) → spanIn t n p ≡ spanWhere t s p (ltb p (length (s .entries)))
         go (yes l) =
-            sym (span-found t n p l _ _ (sym (begin p l)) (sym (ends t s (x .brought .isRead) p)))
+            sym (span-found t n p l _ _ (sym (begin p l)) (sym (ends t s (listed .isRead) p)))
             ∙ sym (ap (spanWhere t s p) (lt-ltb p (length (s .entries)) (omega (arith, counted))))
         go (no l) =
             sym (span-missing t n p (omega arith))
@@ -141,7 +119,7 @@ module _ (t : List ℕ) (sizes : Sizes) (inh syn rows offsets sets : List ℕ) (
       where
         bounds : p < n → Dec (suc p < n) → (entryOffset s p < stretchEnd t s p) × (stretchEnd t s p ≤ length t)
         bounds l (yes m) =
-            let w = sym (ends t s (x .brought .isRead) p) ∙ begin (suc p) m in
+            let w = sym (ends t s (listed .isRead) p) ∙ begin (suc p) m in
             let u = places .rising p (suc p) (omega arith) (omega (arith, counted)) in
             let v = places .below (suc p) (omega (arith, counted)) in
             (omega (arith, u, w), omega (arith, v, w))
@@ -151,8 +129,8 @@ module _ (t : List ℕ) (sizes : Sizes) (inh syn rows offsets sets : List ℕ) (
 
         go : Dec (p < n) → Inside t (spanIn t n p)
         go (yes l) =
-            subst (Inside t) (span-found t n p l _ _ (sym (begin p l)) (sym (ends t s (x .brought .isRead) p)))
-            (let e = bounds l (decLt (suc p) n) in (e .0, e .1, omega (arith, e .1, table-reads t s (x .brought .isRead) .0)))
+            subst (Inside t) (span-found t n p l _ _ (sym (begin p l)) (sym (ends t s (listed .isRead) p)))
+            (let e = bounds l (decLt (suc p) n) in (e .0, e .1, omega (arith, e .1, table-reads t s (listed .isRead) .0)))
         go (no l) = subst (Inside t) (span-missing t n p (omega arith)) tt
 
 -- ---- by the span's cases

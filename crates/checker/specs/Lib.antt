@@ -1,2 +1,4 @@
+-- A table judged: accepted, with what the calls take from it, or refused
 pub mod Judging
+-- 01's numbers and values for the answers of the public calls
 pub mod Verdicts

@@ -8,36 +8,30 @@ use mathlib.Core.List.{List, reverse}
 use lib.ListN.{getD, length, length-reverse}
 use Rattle.meaning.specs.Base.{countFrom}
 use Rattle.meaning.specs.Grammar.{Grammar, nonterminalCount}
-use Rattle.meaning.specs.Rules.{WellFormed}
-use Rattle.meaning.specs.Table.{State, grammarOf}
+use Rattle.meaning.specs.Table.{State}
 use Rattle.meaning.specs.Judgement.{countsOffset}
 use Rattle.meaning.specs.Decide.{isLeftRecursive, clashes, firstWhere, judge}
-use Rattle.theory_table.specs.Places.{Places}
+use Rattle.theory_table.specs.Places.{Places, read-places}
 use Rattle.theory_sets.specs.Verdicts.{Result, searched}
-use Rattle.table.specs.declared.Sizes.{Sizes}
+use Rattle.outline.specs.declared.Sizes.{Sizes}
+use Rattle.outline.specs.Outline.{stateIn, grammarIn, Productions}
 use Rattle.analysis.specs.Numbers.{Found}
-use Rattle.analysis.specs.Finding.{Finding, fine, useless, recursive, clashing, orElse, otherwise, isUseless, flaw, lowestClash, numberOf, indexOf, verdictFrom, judge-is, Analysed, found-clash, found-no-clash}
-use Rattle.clash.specs.Together.{grammarIn}
-use Rattle.checker_outline.specs.Outlined.{Outlined}
-use Rattle.checker_outline.specs.Taken as Taken
+use Rattle.analysis.specs.Finding.{Finding, fine, useless, recursive, clashing, orElse, otherwise, isUseless, flaw, lowestClash, findingNumber, indexOf, verdictFrom, judge-is, Analysed, found-clash, found-no-clash}
 use Rattle.checker_grammar.specs.Concludes.{Concludes}
 use Rattle.checker_grammar.specs.declared.Judged.the-variants.{Usable, Unusable}
 
-module _ (t : List ℕ) (sizes : Sizes) (rows offsets : List ℕ) (x : Outlined t sizes rows offsets) where
+module _ (t : List ℕ) (sizes : Sizes) (rows offsets : List ℕ) (x : Productions t rows offsets (sizes .productions)) where
   abbrev s : State
-  s = x .state
+  s = stateIn t
 
   abbrev g : Grammar
-  g = grammarOf s
+  g = grammarIn t
 
-  abbrev formed : WellFormed g
-  formed = Taken.formed t sizes rows offsets x
-
-  abbrev places : Places t s
-  places = Taken.places t sizes rows offsets x
+  places : Places t s
+  places = read-places t s (x .isRead)
 
   abbrev many : length (g .productions) ≡ sizes .productions
-  many = Taken.many t sizes rows offsets x
+  many = x .rowsOf .counted
 
   -- ---- what they find
 
@@ -68,10 +62,12 @@ module _ (t : List ℕ) (sizes : Sizes) (rows offsets : List ℕ) (x : Outlined 
       go none none u v = tt
 
   counts-place : (n : ℕ) → n < nonterminalCount g → 7 + 5 * n ≡ countsOffset s n
+  unfolding grammarIn
   counts-place n l = sym (places .countsOffsets n (omega (arith, length-reverse (s .counts))))
 
   -- the verdict by the two findings
   judged-by : (f h : Finding) → flaw g ≡ f → lowestClash g ≡ h → judge s ≡ verdictFrom s (otherwise f h)
+  unfolding grammarIn
   judged-by f h d e = judge-is s ∙ ap₂ (λ y z. verdictFrom s (otherwise y z)) d e
 
   module _ (n i : ℕ) (sets : List ℕ) (a : Analysed g n i sets) where
@@ -80,42 +76,42 @@ module _ (t : List ℕ) (sizes : Sizes) (rows offsets : List ℕ) (x : Outlined 
       where
         go : (f : Finding) → Known f → i ≡ indexOf f → i < 48
         go fine u e = omega arith
-        go (useless m) u e = omega (arith, formed .nonterminals .1)
-        go (recursive m) u e = omega (arith, formed .nonterminals .1)
+        go (useless m) u e = omega (arith, x .rowsOf .narrow)
+        go (recursive m) u e = omega (arith, x .rowsOf .narrow)
         go (clashing p) u e = absurd u
 
-    pub flaw-concludes : (n ≡ 0 → ⊥) → Concludes s sizes sets (Unusable n (7 + 5 * i)) (judge s)
+    pub flaw-concludes : (n ≡ 0 → ⊥) → Concludes t sizes sets (Unusable n (7 + 5 * i)) (judge s)
     flaw-concludes z = go (flaw g) refl known
       where
-        go : (f : Finding) → flaw g ≡ f → Known f → Concludes s sizes sets (Unusable n (7 + 5 * i)) (judge s)
-        go fine e u = absurd (z (a .number ∙ ap numberOf e))
+        go : (f : Finding) → flaw g ≡ f → Known f → Concludes t sizes sets (Unusable n (7 + 5 * i)) (judge s)
+        go fine e u = absurd (z (a .number ∙ ap findingNumber e))
         go (useless m) e u =
-            subst (Concludes s sizes sets (Unusable n (7 + 5 * i))) (sym (judged-by (useless m) (lowestClash g) e refl))
-            (ap₂ Unusable (a .number ∙ ap numberOf e) (ap (λ k. 7 + 5 * k) (a .index ∙ ap indexOf e) ∙ counts-place m u))
+            subst (Concludes t sizes sets (Unusable n (7 + 5 * i))) (sym (judged-by (useless m) (lowestClash g) e refl))
+            (ap₂ Unusable (a .number ∙ ap findingNumber e) (ap (λ k. 7 + 5 * k) (a .index ∙ ap indexOf e) ∙ counts-place m u))
         go (recursive m) e u =
-            subst (Concludes s sizes sets (Unusable n (7 + 5 * i))) (sym (judged-by (recursive m) (lowestClash g) e refl))
-            (ap₂ Unusable (a .number ∙ ap numberOf e) (ap (λ k. 7 + 5 * k) (a .index ∙ ap indexOf e) ∙ counts-place m u))
+            subst (Concludes t sizes sets (Unusable n (7 + 5 * i))) (sym (judged-by (recursive m) (lowestClash g) e refl))
+            (ap₂ Unusable (a .number ∙ ap findingNumber e) (ap (λ k. 7 + 5 * k) (a .index ∙ ap indexOf e) ∙ counts-place m u))
         go (clashing p) e u = absurd u
 
-    module _ (z : n ≡ 0) (p : ℕ) (d : Found (clashes (grammarIn t)) (sizes .productions) p) where
+    module _ (z : n ≡ 0) (p : ℕ) (d : Found (clashes g) (sizes .productions) p) where
       flawless : flaw g ≡ fine
       flawless = go (flaw g) refl
         where
           go : (f : Finding) → flaw g ≡ f → f ≡ fine
           go fine e = refl
-          go (useless m) e = let k : _≡_ {A = ℕ} 0 11 = sym z ∙ a .number ∙ ap numberOf e in absurd (omega arith)
-          go (recursive m) e = let k : _≡_ {A = ℕ} 0 12 = sym z ∙ a .number ∙ ap numberOf e in absurd (omega arith)
-          go (clashing m) e = let k : _≡_ {A = ℕ} 0 13 = sym z ∙ a .number ∙ ap numberOf e in absurd (omega arith)
+          go (useless m) e = let k : _≡_ {A = ℕ} 0 11 = sym z ∙ a .number ∙ ap findingNumber e in absurd (omega arith)
+          go (recursive m) e = let k : _≡_ {A = ℕ} 0 12 = sym z ∙ a .number ∙ ap findingNumber e in absurd (omega arith)
+          go (clashing m) e = let k : _≡_ {A = ℕ} 0 13 = sym z ∙ a .number ∙ ap findingNumber e in absurd (omega arith)
 
       found : Found (clashes g) (length (g .productions)) p
-      found = subst (λ m. Found (clashes g) m p) (sym many) (subst (λ h. Found (clashes h) (sizes .productions) p) (Taken.grammar-is t sizes rows offsets x) d)
+      found = subst (λ m. Found (clashes g) m p) (sym many) d
 
-      pub clash-concludes : p < sizes .productions → Concludes s sizes sets (Unusable 13 (getD offsets p 0)) (judge s)
+      pub clash-concludes : p < sizes .productions → Concludes t sizes sets (Unusable 13 (getD offsets p 0)) (judge s)
       clash-concludes l =
-          subst (Concludes s sizes sets (Unusable 13 (getD offsets p 0))) (sym (judged-by fine (clashing p) flawless (found-clash g p found (omega (arith, many)))))
-          (ap (Unusable 13) (x .outline .each p l .offset))
+          subst (Concludes t sizes sets (Unusable 13 (getD offsets p 0))) (sym (judged-by fine (clashing p) flawless (found-clash g p found (omega (arith, many)))))
+          (ap (Unusable 13) (x .offset p l))
 
-      pub none-concludes : sizes .productions ≤ p → Concludes s sizes sets (Usable sizes) (judge s)
+      pub none-concludes : sizes .productions ≤ p → Concludes t sizes sets (Usable sizes) (judge s)
       none-concludes l =
-          subst (Concludes s sizes sets (Usable sizes)) (sym (judged-by fine fine flawless (found-no-clash g p found (omega (arith, many)))))
+          subst (Concludes t sizes sets (Usable sizes)) (sym (judged-by fine fine flawless (found-no-clash g p found (omega (arith, many)))))
           (refl, λ q m. a .starting z q (omega (arith, many)))

@@ -1,1 +1,2 @@
+-- The answer on a table that is read whole
 pub mod Concludes

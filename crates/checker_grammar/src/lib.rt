@@ -2,9 +2,9 @@
 ghost use mathlib.Core.Path.{_≡_};
 ghost use lib.ListN.{length};
 ghost use Rattle.meaning.specs.Decide.{judge};
-ghost use Rattle.checker_outline.specs.Outlined.{Outlined};
+ghost use Rattle.outline.specs.Outline.{stateIn, grammarIn, NumbersOf, Productions};
 ghost use Rattle.checker_grammar.specs.Concludes.{Concludes};
-use table::Sizes;
+use outline::Sizes;
 
 // A table judged: accepted, with its numbers, or refused.
 pub enum Judged {
@@ -20,13 +20,13 @@ pub fn judge_grammar(
     offsets: &[u32; 128],
     sets: &mut [u64; 128],
 ) -> Judged
-    requires { ⌜ Outlined (now table) sizes (now rows) (now offsets) × (length (now sets) ≡ 128) ⌝ }
-    ensures { λ r. ⌜ ((x : Outlined (now (table .entry)) sizes (now (rows .entry)) (now (offsets .entry))) → Concludes (x .state) sizes (now (sets .exit)) r (judge (x .state))) ⌝ }
+    requires { ⌜ Productions (now table) (now rows) (now offsets) (sizes .productions) × NumbersOf sizes (grammarIn (now table)) × (length (now sets) ≡ 128) ⌝ }
+    ensures { λ r. ⌜ Concludes (now (table .entry)) sizes (now (sets .exit)) r (judge (stateIn (now (table .entry)))) ⌝ }
 {
     let productions = sizes.productions;
     let nonterminals = sizes.nonterminals;
     let start = sizes.start as u8;
-    let a = analysed::analyse(rows, productions, nonterminals, start, sets);
+    let a = analysis_whole::analyse(rows, productions, nonterminals, start, sets);
     let number = a.number;
     if number != 0 {
         let offset = (7 + 5 * a.index) as u32;

@@ -5,7 +5,7 @@ use mathlib.Core.List.{List, []}
 use borrow.Author.Tests.{lt-ltb, le-ltb}
 use lib.ListN.{length}
 use Rattle.meaning.specs.PublicCalls.{cut}
-use Rattle.reader.specs.Fields.{nthProduction}
+use Rattle.table_reader.specs.Fields.{nthProduction}
 use Rattle.checker_span.specs.Spans.{stretchBy, stretchIs, Inside, spanIn}
 use Rattle.checker_span.specs.declared.Span.{Span}
 use Rattle.checker_span.specs.declared.Span.the-variants.{Within, Nowhere}

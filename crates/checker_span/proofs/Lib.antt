@@ -1,1 +1,2 @@
+-- A span by its cases
 pub mod Cases

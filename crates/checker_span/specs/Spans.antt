@@ -5,7 +5,7 @@ use mathlib.Core.List.{List, []}
 use lib.Dec.{ltb}
 use lib.ListN.{length}
 use Rattle.meaning.specs.PublicCalls.{Stretch, cut}
-use Rattle.reader.specs.Fields.{nthProduction}
+use Rattle.table_reader.specs.Fields.{nthProduction}
 use Rattle.checker_span.specs.declared.Span.{Span}
 use Rattle.checker_span.specs.declared.Span.the-variants.{Within, Nowhere}
 

@@ -18,7 +18,7 @@ pub fn span_in(table: &[u8], productions: usize, p: usize) -> Span
             offset: 0,
         };
     }
-    let found = reader::stretch_of(table, p);
+    let found = table_reader::stretch_of(table, p);
     Span::Within {
         from: found.from,
         to: found.to,

@@ -15,17 +15,19 @@ use Rattle.meaning.specs.Sets.{has, singleton}
 use Rattle.meaning.specs.Decide.{meet}
 use Rattle.meaning.specs.Differences.{constrained, matrixOf, closed, noneNegative, solvable}
 use Rattle.theory_sets.specs.Intervals.{entry}
-use Rattle.token_set.specs.Words.{setOf}
-use Rattle.analysis.specs.Rows.{leftAt}
+use Rattle.token_set.specs.SetBits.{setOf}
+use Rattle.outline.specs.Rows.{leftAt}
 use Rattle.analysis.specs.Views.{members}
 use Rattle.analysis.specs.Growth.{none-in, single-is}
 use Rattle.analysis.specs.Numbers.{Clear, clear-none}
-use Rattle.entry_conditions.specs.Entry.{atEntry, rankBy, raised, lowered, Stretch}
-use Rattle.intervals.specs.Intervals.{leaveValues}
-use Rattle.rivals.specs.Rivals.{startTogether, rival, NextRival, rival-starts, rival-values, no-rival}
-use Rattle.clash.specs.Together.{enterTogether, grammarIn, later-free, earlier-free, rank-most, matrix-told, ranges-told, compared-told}
-use Rattle.entry_conditions.specs.Walk.{afterAll, from-on}
-use Rattle.clash.specs.Clashing.{Placed, Kept, KeptTo, Given, Meeting, Seen, FirstRival, clashIn, enterIn, clash-apart, clash-met, both-kept, unmet-clear}
+use Rattle.clash_conditions.specs.Entry.{atEntry, rankBy, raised, lowered, Stretch}
+use Rattle.clash_intervals.specs.Intervals.{leaveValues}
+use Rattle.clash_rivals.specs.Rivals.{startTogether, rival, NextRival, rival-starts, rival-values, no-rival}
+use Rattle.outline.specs.Outline.{grammarIn}
+use Rattle.clash.specs.Together.{enterTogether, later-free, earlier-free, rank-most, matrix-told, ranges-told, compared-told}
+use Rattle.clash_conditions.specs.Walk.{afterAll, from-on}
+use Rattle.clash.specs.Placing.{Placed}
+use Rattle.clash.specs.Clashing.{Kept, KeptTo, Given, given-place, Meeting, Seen, FirstRival, clashIn, enterIn, clash-apart, clash-met, both-kept, unmet-clear}
 
 -- ---- two productions
 
@@ -74,7 +76,7 @@ module _
   kept-told q h s i j =
       let w = both-kept m p q k l h _ refl s in
       sym (rival-values rows sets lows highs ranks p q s i j)
-      ∙ values-told (x .placed p l) (w .0) (x .placed q (omega arith)) (w .1) (λ z. absurd (omega arith)) (λ z. absurd (omega arith)) (omega arith) refl
+      ∙ values-told (given-place x p l) (w .0) (given-place x q (omega arith)) (w .1) (λ z. absurd (omega arith)) (λ z. absurd (omega arith)) (omega arith) refl
 
   -- a rival's entry conditions can be met together with the others where both are ranges
   pub rival-enters : (q : ℕ) → q < p → rival rows sets lows highs ranks p q ≡ true → getD ranks p 0 ≡ 1 → getD ranks q 0 ≡ 1 → enterIn t p q ≡ true

@@ -6,35 +6,30 @@ use mathlib.Core.Path.{_≡_, refl, sym, ap, ap₂, _∙_, subst}
 use mathlib.Core.Bool.{Bool, true, false, _&&_, _||_}
 use mathlib.Core.List.{List, _++_}
 use lib.Dec.{T, eqb, eqb-refl}
-use lib.ListN.{getD, length, replicate, set, length-set, drop, length-replicate}
+use lib.ListN.{getD, length, replicate, set, length-set, length-replicate}
 use lib.Seq.{getD-set-same, getD-set-other}
 use lib.Bits.{bitOr}
 use Rattle.meaning.specs.Base.{all, isEmpty}
 use Rattle.meaning.specs.Grammar.{Production, Grammar, productionAt, inh, nonterminal}
-use Rattle.meaning.specs.Scheme.{entryTests}
+use Rattle.meaning.specs.Layout.{Bytes}
 use Rattle.meaning.specs.Sets.{starts}
-use Rattle.meaning.specs.Decide.{meet, satisfiable, clash, clashes}
+use Rattle.meaning.specs.Decide.{meet, satisfiable, clash, clashes, entryConditions}
 use Rattle.theory_base.specs.Members.{and, both, true→T, T→true, all-append}
 use Rattle.theory_sets.specs.Intervals.{entry}
 use Rattle.theory_sets.specs.Satisfiable.{satisfiable-eight}
 use Rattle.theory_sets.specs.Clashes.{meet-cases, meet-at}
-use Rattle.token_set.specs.Words.{setOf}
-use Rattle.analysis.specs.Rows.{Rows, leftAt}
+use Rattle.token_set.specs.SetBits.{setOf}
+use Rattle.outline.specs.Rows.{leftAt}
+use Rattle.outline.specs.Outline.{grammarIn, Starting, Productions}
 use Rattle.analysis.specs.Views.{members, sees}
 use Rattle.analysis.specs.Growth.{or-left, or-right, none-in}
 use Rattle.analysis.specs.Numbers.{Clear, clear-any, any-count, count-any}
-use Rattle.entry_conditions.specs.Entry.{Stretch, rankBy, raiseBy, lowerBy, lowest, highest}
-use Rattle.entry_conditions.specs.Walk.{afterAll}
-use Rattle.rivals.specs.Rivals.{startTogether, NextRival, start-tells}
+use Rattle.clash_conditions.specs.Entry.{rankBy, raiseBy, lowerBy, lowest, highest}
+use Rattle.clash_conditions.specs.Walk.{afterAll}
+use Rattle.clash_rivals.specs.Rivals.{startTogether, NextRival, start-tells}
 use Rattle.clash.specs.Kept.{Own, Stored, stored-own, stored-other}
-use Rattle.clash.specs.Together.{enterTogether, grammarIn}
-
--- production p of a table stands at its offset
-pub record Placed (t offsets : List ℕ) (p : ℕ) : Type 0 where
-  pub inside : getD offsets p 0 ≤ length t
-  pub stretch : Stretch (drop (getD offsets p 0) t) (productionAt (grammarIn t) p)
-  pub few : inh (grammarIn t) (nonterminal (productionAt (grammarIn t) p .left)) ≤ 8
-  pub fits : T (all (entry (inh (grammarIn t) (nonterminal (productionAt (grammarIn t) p .left)))) (entryTests (grammarIn t) (productionAt (grammarIn t) p)))
+use Rattle.clash.specs.Together.{enterTogether}
+use Rattle.clash.specs.Placing.{Placed, placed-at}
 
 -- what there are of the entry conditions of production p of a table
 abbrev pub Ranked : List ℕ → List ℕ → ℕ → Type 0
@@ -101,11 +96,14 @@ module _ {t rows : List ℕ} {met : ℕ} where
       let y = n .passed refl in
       kept-same (subst (λ z. KeptTo t rows met z highs ranks k) (sym (y .0)) (subst (λ z. KeptTo t rows met lows₀ z ranks k) (sym (y .1)) (subst (λ z. KeptTo t rows met lows₀ highs₀ z k) (sym (y .2)) o))) (sym e)
 
--- rows, offsets and FIRST-then-FOLLOW sets of the productions of a table
+-- the productions of a table of bytes, and their sets
 pub record Given (t rows offsets sets : List ℕ) (count : ℕ) : Type 0 where
-  pub rowsOf : Rows rows count (grammarIn t)
-  pub placed : (p : ℕ) → p < count → Placed t offsets p
-  pub starting : (p : ℕ) → p < count → setOf (getD sets p 0) ≡ starts (grammarIn t) (productionAt (grammarIn t) p)
+  pub isBytes : Bytes t
+  pub productions : Productions t rows offsets count
+  pub starting : Starting (grammarIn t) count sets
+
+pub given-place : {t rows offsets sets : List ℕ} {count : ℕ} → Given t rows offsets sets count → (p : ℕ) → p < count → Placed t offsets p
+given-place x p l = placed-at (x .productions) (x .isBytes) p l
 
 -- productions p and q of a table clash
 abbrev pub clashIn : List ℕ → ℕ → ℕ → Bool
@@ -119,7 +117,7 @@ enterIn t p q = enterTogether (grammarIn t) (productionAt (grammarIn t) p) (prod
 
 -- the last part of a clash
 abbrev entersWith : Grammar → Production → Production → Bool
-entersWith g p q = isEmpty (entryTests g p) || isEmpty (entryTests g q) || satisfiable (inh g (nonterminal (p .left))) (entryTests g p ++ entryTests g q)
+entersWith g p q = isEmpty (entryConditions p) || isEmpty (entryConditions q) || satisfiable (inh g (nonterminal (p .left))) (entryConditions p ++ entryConditions q)
 
 module _ {t rows offsets sets : List ℕ} {count : ℕ} (x : Given t rows offsets sets count) (p q : ℕ) (l : p < count) (m : q < count) where
   abbrev g : Grammar
@@ -129,7 +127,7 @@ module _ {t rows offsets sets : List ℕ} {count : ℕ} (x : Given t rows offset
   pr n = productionAt g n
 
   left-is : eqb (leftAt rows p) (leftAt rows q) ≡ eqb (pr p .left) (pr q .left)
-  left-is = ap₂ eqb (x .rowsOf .left p l) (x .rowsOf .left q m)
+  left-is = ap₂ eqb (x .productions .rowsOf .left p l) (x .productions .rowsOf .left q m)
 
   meet-is : meet (setOf (getD sets p 0)) (setOf (getD sets q 0)) ≡ meet (starts g (pr p)) (starts g (pr q))
   meet-is = ap₂ meet (x .starting p l) (x .starting q m)
@@ -146,13 +144,13 @@ module _ {t rows offsets sets : List ℕ} {count : ℕ} (x : Given t rows offset
   clash-met r e n s h c k = ap (λ b. b && entersWith g (pr p) (pr q)) (sym same-test ∙ (sym e ∙ n)) ∙ (sym together ∙ (sym h ∙ k))
     where
       same : pr q .left ≡ pr p .left
-      same = sym (x .rowsOf .left q m) ∙ (sym (start-tells rows sets p q (sym e ∙ n) .0) ∙ x .rowsOf .left p l)
+      same = sym (x .productions .rowsOf .left q m) ∙ (sym (start-tells rows sets p q (sym e ∙ n) .0) ∙ x .productions .rowsOf .left p l)
 
-      fits : T (all (entry (inh g (nonterminal (pr p .left)))) (entryTests g (pr p) ++ entryTests g (pr q)))
-      fits = all-append (entry (inh g (nonterminal (pr p .left)))) (entryTests g (pr p)) (entryTests g (pr q)) (x .placed p l .fits) (subst (λ n. T (all (entry (inh g (nonterminal n))) (entryTests g (pr q)))) same (x .placed q m .fits))
+      fits : T (all (entry (inh g (nonterminal (pr p .left)))) (entryConditions (pr p) ++ entryConditions (pr q)))
+      fits = all-append (entry (inh g (nonterminal (pr p .left)))) (entryConditions (pr p)) (entryConditions (pr q)) (given-place x p l .fits) (subst (λ n. T (all (entry (inh g (nonterminal n))) (entryConditions (pr q)))) same (given-place x q m .fits))
 
       together : enterTogether g (pr p) (pr q) ≡ entersWith g (pr p) (pr q)
-      together = ap (λ b. isEmpty (entryTests g (pr p)) || isEmpty (entryTests g (pr q)) || b) (satisfiable-eight (inh g (nonterminal (pr p .left))) (x .placed p l .few) (entryTests g (pr p) ++ entryTests g (pr q)) fits)
+      together = ap (λ b. isEmpty (entryConditions (pr p)) || isEmpty (entryConditions (pr q)) || b) (satisfiable-eight (inh g (nonterminal (pr p .left))) (given-place x p l .few) (entryConditions (pr p) ++ entryConditions (pr q)) fits)
 
   -- what a clash tells of the rows and the sets
   clash-tells : T (clashIn t p q) → startTogether rows sets p q ≡ true

@@ -18,7 +18,7 @@ use Rattle.theory_sets.specs.Tests.{decide, all-at, all-map, all-map₂}
 use Rattle.theory_sets.specs.Intervals.{onRange, entry, entered}
 use Rattle.meaning.specs.Rules.{lowestConstant, highestConstant, fourBytes}
 use Rattle.theory_sets.specs.Widths.{both-true}
-use Rattle.entry_conditions.specs.Words.{biased}
+use Rattle.clash_conditions.specs.BoundWords.{biased}
 use Rattle.analysis.specs.Numbers.{all-count, count-all}
 
 -- a test that passes at each place passes of all

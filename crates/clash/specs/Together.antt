@@ -12,36 +12,22 @@ use lib.ListN.{getD, length, set, length-set, getD-replicate}
 use lib.Seq.{getD-set-same, getD-set-other}
 use Rattle.meaning.specs.Base.{In, all, isEmpty}
 use Rattle.meaning.specs.Grammar.{Condition, range, atmost, Production, Grammar}
-use Rattle.meaning.specs.Scheme.{entryTests}
-use Rattle.meaning.specs.Table.{State, Read, wellFormed, malformed, nothingRead, readTable, grammarOf}
 use Rattle.meaning.specs.Differences.{constrained, matrixOf, closed, noneNegative, solvable}
-use Rattle.meaning.specs.Decide.{isRange, pairwise, satisfiableBy, satisfiable}
+use Rattle.meaning.specs.Decide.{isRange, pairwise, satisfiableBy, satisfiable, entryConditions}
 use Rattle.theory_base.specs.Members.{both, all-append, all-in, in-left, in-right, in-append}
 use Rattle.theory_differences.specs.Graph.{AllKnown}
 use Rattle.theory_differences.specs.Building.{solvable-same}
 use Rattle.theory_sets.specs.Intervals.{entry, entered, entry-known}
 use Rattle.analysis.specs.Numbers.{all-count-same}
-use Rattle.entry_conditions.specs.Words.{biased}
-use Rattle.intervals.specs.Intervals.{leaveValues}
+use Rattle.clash_conditions.specs.BoundWords.{biased}
+use Rattle.clash_intervals.specs.Intervals.{leaveValues}
 use Rattle.clash.specs.Kept.{Own}
 use Rattle.clash.specs.Intervals.{lowEnd, highEnd, low-append, high-append, high-word, pairwise-is}
-use Rattle.entry_conditions.specs.Entry.{atEntry, entry-tests, after, rankBy, raised, lowered, lowest, highest}
+use Rattle.clash_conditions.specs.Entry.{atEntry, entry-is, after, rankBy, raised, lowered, lowest, highest}
 
 -- 01: "unless both have entry conditions and no values of the inherited attributes satisfy both". (Attributes that no condition reads play no part, so they are taken as 8)
 unfoldable pub enterTogether : Grammar → Production → Production → Bool
-enterTogether g p q = isEmpty (entryTests g p) || isEmpty (entryTests g q) || satisfiable 8 (entryTests g p ++ entryTests g q)
-
--- the grammar of a table that is read
-abbrev stateRead : Read → State
-stateRead (wellFormed s) = s
-stateRead (malformed n o) = nothingRead
-
-unfoldable pub grammarIn : List ℕ → Grammar
-grammarIn t = grammarOf (stateRead (readTable t))
-
-pub grammar-read : (t : List ℕ) (s : State) → readTable t ≡ wellFormed s → grammarIn t ≡ grammarOf s
-unfolding grammarIn
-grammar-read t s e = ap (λ r. grammarOf (stateRead r)) e
+enterTogether g p q = isEmpty (entryConditions p) || isEmpty (entryConditions q) || satisfiable 8 (entryConditions p ++ entryConditions q)
 
 -- ---- the ends after some conditions
 
@@ -236,7 +222,7 @@ module _ (g : Grammar) (p q : Production) where
 
   told : enterTogether g p q ≡ (isEmpty ofP || isEmpty ofQ || satisfiable 8 (ofP ++ ofQ))
   unfolding enterTogether
-  told = ap₂ (λ cs ds. isEmpty cs || isEmpty ds || satisfiable 8 (cs ++ ds)) (entry-tests g p) (entry-tests g q)
+  told = ap₂ (λ cs ds. isEmpty cs || isEmpty ds || satisfiable 8 (cs ++ ds)) (entry-is p) (entry-is q)
 
   pub later-free : after rankBy ofP 0 ≡ 0 → true ≡ enterTogether g p q
   later-free e = sym (told ∙ ap (λ x. x || isEmpty ofQ || satisfiable 8 (ofP ++ ofQ)) (rank-none ofP e))

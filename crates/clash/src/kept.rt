@@ -4,7 +4,8 @@ ghost use mathlib.Core.Path.{_≡_};
 ghost use Prim.Native.Nat.{_<_};
 ghost use lib.ListN.{length};
 ghost use Rattle.clash.specs.Kept.{Stored};
-ghost use Rattle.clash.specs.Clashing.{Placed, KeepsIf};
+ghost use Rattle.clash.specs.Placing.{Placed};
+ghost use Rattle.clash.specs.Clashing.{KeepsIf};
 
 // Production p's ends among those of all.
 fn store(ends: &mut [u32; 1024], p: usize, own: &[u32; 8])
@@ -37,7 +38,7 @@ pub fn keep(
     let mut low = [0u32; 8];
     let mut high = [4294967295u32; 8];
     let from = offsets[p] as usize;
-    ranks[p] = entry_conditions::entry::narrow_by(&table[from..], &mut low, &mut high);
+    ranks[p] = clash_conditions::entry::narrow_by(&table[from..], &mut low, &mut high);
     store(lows, p, &low);
     store(highs, p, &high);
 }

@@ -4,7 +4,8 @@ pub mod together;
 
 use crate::kept::keep;
 use crate::together::enters_together;
-use rivals::next_rival;
+use clash_rivals::next_rival;
+use nonterminal_set::NonterminalSet;
 use token_set::TokenSet;
 ghost use mathlib.Core.Path.{_≡_};
 ghost use mathlib.Core.Bool.{_&&_};
@@ -13,12 +14,12 @@ ghost use lib.Dec.{eqb};
 ghost use lib.ListN.{getD};
 ghost use Rattle.meaning.specs.Decide as Decide;
 ghost use Rattle.meaning.specs.Decide.{meet};
-ghost use Rattle.token_set.specs.Words.{setOf};
-ghost use Rattle.analysis.specs.Rows.{Image};
+ghost use Rattle.token_set.specs.SetBits.{setOf};
+ghost use Rattle.outline.specs.Rows.{Image};
 ghost use Rattle.analysis.specs.Views.{members};
 ghost use Rattle.analysis.specs.Numbers.{Found};
-ghost use Rattle.rivals.specs.Rivals.{rival};
-ghost use Rattle.clash.specs.Together.{grammarIn};
+ghost use Rattle.clash_rivals.specs.Rivals.{rival};
+ghost use Rattle.outline.specs.Outline.{grammarIn};
 ghost use Rattle.clash.specs.Clashing.{Given, Meeting, FirstRival};
 
 // The first rival of `later` among the productions before it; `later` where its set meets nothing that they have.
@@ -29,41 +30,44 @@ fn first_rival(
     highs: &[u32; 1024],
     ranks: &[u8; 128],
     later: usize,
-    seen: u64,
+    seen: TokenSet,
 ) -> usize
     requires { ⌜ later < 128 ⌝ }
-    ensures { λ r. ⌜ FirstRival (meet (setOf seen) (setOf (getD (now (sets .entry)) later 0))) (rival (now (rows .entry)) (now (sets .entry)) (now (lows .entry)) (now (highs .entry)) (now (ranks .entry)) later) later r ⌝ }
+    ensures { λ r. ⌜ FirstRival (meet (setOf (seen .0)) (setOf (getD (now (sets .entry)) later 0))) (rival (now (rows .entry)) (now (sets .entry)) (now (lows .entry)) (now (highs .entry)) (now (ranks .entry)) later) later r ⌝ }
 {
-    if TokenSet(seen).meets(TokenSet(sets[later])) {
+    let set = sets[later];
+    if seen.meets(TokenSet(set)) {
         return next_rival(rows, sets, lows, highs, ranks, later, 0);
     }
     later
 }
 
 // A left side where a set meets what its productions have had before; else none.
-fn crossing(seen: u64, set: u64, left: u8) -> u64
+fn crossing(seen: TokenSet, set: TokenSet, left: u8) -> NonterminalSet
     requires { ⌜ left < 64 ⌝ }
-    ensures { λ r. ⌜ ((a : ℕ) → members r a ≡ (meet (setOf seen) (setOf set) && eqb left a)) ⌝ }
+    ensures { λ r. ⌜ ((a : ℕ) → members (r .0) a ≡ (meet (setOf (seen .0)) (setOf (set .0)) && eqb left a)) ⌝ }
 {
-    if TokenSet(seen).meets(TokenSet(set)) {
-        return TokenSet::of_token(left).0;
+    if seen.meets(set) {
+        return NonterminalSet::of_nonterminal(left);
     }
-    0
+    NonterminalSet::EMPTY
 }
 
 // The left sides with productions whose sets meet.
-fn meeting(rows: &[u8; 2048], sets: &[u64; 128], count: usize) -> u64
+fn meeting(rows: &[u8; 2048], sets: &[u64; 128], count: usize) -> NonterminalSet
     requires { ⌜ Image (now rows) count ⌝ }
-    ensures { λ r. ⌜ Meeting (now (rows .entry)) (now (sets .entry)) count r ⌝ }
+    ensures { λ r. ⌜ Meeting (now (rows .entry)) (now (sets .entry)) count (r .0) ⌝ }
 {
     let mut seen = [0u64; 48];
-    let mut met: u64 = 0;
+    let mut met = NonterminalSet::EMPTY;
     let mut k: usize = 0;
     while k < count {
         let left = rows[k * 16];
         let at = left as usize;
-        met = met | crossing(seen[at], sets[k], left);
-        seen[at] = seen[at] | sets[k];
+        let had = seen[at];
+        let set = sets[k];
+        met = met.union(crossing(TokenSet(had), TokenSet(set), left));
+        seen[at] = TokenSet(had).union(TokenSet(set)).0;
         k += 1;
     }
     met
@@ -76,9 +80,9 @@ fn lowest_by_entry(
     offsets: &[u32; 128],
     sets: &[u64; 128],
     count: usize,
-    met: u64,
+    met: NonterminalSet,
 ) -> usize
-    requires { ⌜ Given (now table) (now rows) (now offsets) (now sets) count × Meeting (now rows) (now sets) count met ⌝ }
+    requires { ⌜ Given (now table) (now rows) (now offsets) (now sets) count × Meeting (now rows) (now sets) count (met .0) ⌝ }
     ensures { λ r. ⌜ Found (Decide.clashes (grammarIn (now (table .entry)))) count r ⌝ }
 {
     let mut lows = [0u32; 1024];
@@ -89,7 +93,7 @@ fn lowest_by_entry(
     'pairs: while later < count {
         let left = rows[later * 16];
         let at = left as usize;
-        let wanted = TokenSet(met).has(left);
+        let wanted = met.has(left);
         keep(
             table,
             offsets,
@@ -99,14 +103,16 @@ fn lowest_by_entry(
             &mut highs,
             &mut ranks,
         );
-        let mut earlier = first_rival(rows, sets, &lows, &highs, &ranks, later, seen[at]);
+        let had = seen[at];
+        let mut earlier = first_rival(rows, sets, &lows, &highs, &ranks, later, TokenSet(had));
         while earlier < later {
             if enters_together(table, offsets, &ranks, later, earlier) {
                 break 'pairs;
             }
             earlier = next_rival(rows, sets, &lows, &highs, &ranks, later, earlier + 1);
         }
-        seen[at] = seen[at] | sets[later];
+        let set = sets[later];
+        seen[at] = TokenSet(had).union(TokenSet(set)).0;
         later += 1;
     }
     later
@@ -125,7 +131,7 @@ pub fn lowest_clash(
     ensures { λ r. ⌜ Found (Decide.clashes (grammarIn (now (table .entry)))) count r ⌝ }
 {
     let met = meeting(rows, sets, count);
-    if met == 0 {
+    if met.is_empty() {
         return count;
     }
     lowest_by_entry(table, rows, offsets, sets, count, met)

@@ -1,6 +1,6 @@
 // Whether two rivals can be entered with the same values: where one of them compares, by the differences of both, read from the
 // table.
-use entry_differences::constrain_by;
+use clash_entries::constrain_by;
 ghost use mathlib.Core.Path.{_≡_};
 ghost use mathlib.Core.Bool.{true};
 ghost use mathlib.Core.List.{_++_};
@@ -8,21 +8,22 @@ ghost use Prim.Native.Nat.{_<_};
 ghost use lib.ListN.{getD};
 ghost use Rattle.meaning.specs.Grammar.{productionAt};
 ghost use Rattle.meaning.specs.Differences.{solvable};
-ghost use Rattle.entry_conditions.specs.Entry.{atEntry};
-ghost use Rattle.clash.specs.Together.{grammarIn};
-ghost use Rattle.clash.specs.Clashing.{Placed, Ranked, enterIn};
+ghost use Rattle.clash_conditions.specs.Entry.{atEntry};
+ghost use Rattle.outline.specs.Outline.{grammarIn};
+ghost use Rattle.clash.specs.Placing.{Placed};
+ghost use Rattle.clash.specs.Clashing.{Ranked, enterIn};
 
 // Whether some values meet all entry conditions of both.
 fn leaves_differences(table: &[u8], offsets: &[u32; 128], later: usize, earlier: usize) -> bool
     requires { ⌜ (later < 128) × (earlier < 128) × Placed (now table) (now offsets) later × Placed (now table) (now offsets) earlier ⌝ }
     ensures { λ r. ⌜ r ≡ solvable 8 (atEntry (productionAt (grammarIn (now (table .entry))) later .conditions) ++ atEntry (productionAt (grammarIn (now (table .entry))) earlier .conditions)) ⌝ }
 {
-    let mut m = differences::start(8);
+    let mut m = clash_differences::start(8);
     let from = offsets[later] as usize;
     constrain_by(&table[from..], &mut m);
     let from = offsets[earlier] as usize;
     constrain_by(&table[from..], &mut m);
-    cycles::satisfiable(m)
+    clash_cycles::satisfiable(m)
 }
 
 // Whether a production can be entered with the values of a rival among the earlier ones: always where one of them has no entry

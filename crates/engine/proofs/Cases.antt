@@ -9,11 +9,11 @@ use Rattle.meaning.specs.Program.{programOf}
 use Rattle.meaning.specs.Calls.{Record, Stacks, Called, asBrought}
 use Rattle.meaning.specs.PublicCalls.{effect, called}
 use Rattle.theory_program.specs.Addresses.{segment-at}
-use Rattle.theory_program.specs.Stands.{stands-within}
+use Rattle.theory_program.specs.WordsStand.{stands-within}
 use Rattle.prepare.specs.declared.Made as Code
 use Rattle.prepare.specs.declared.Made.the-variants as Variant
 use Rattle.prepare.proofs.Cases.{short-made, refused-made, written-made}
-use Rattle.prepare.specs.Making.{MadeAs, Standing}
+use Rattle.prepare.specs.Making.{MadeAs, ProgramStands}
 use Rattle.records.specs.declared.Answer.{Answer}
 use Rattle.records.specs.declared.Answer.the-variants.{Refused, TableRefused}
 use Rattle.engine.specs.declared.Begun.{Begun}
@@ -40,7 +40,7 @@ module _ {t area area′ : List ℕ} {p : Code.Made} (q : MadeAs t area area′ 
 -- ---- the answer's cases
 
 module _ {t area area′ : List ℕ} {b : Begun} (q : BegunAs t area area′ b) where
-  pub ready-case : b ≡ Ready → (size : ℕ) × Standing t area area′ size
+  pub ready-case : b ≡ Ready → (size : ℕ) × ProgramStands t area area′ size
   ready-case e = subst (Case t area area′) e (q .case)
 
   pub turned-case : (a : Answer) → b ≡ Turned a → (r : Record) (m : Stacks) (made : Grammar → Called) → effect (asBrought (answerIs a) r m) area′ ≡ called programOf t area r m made
@@ -48,5 +48,5 @@ module _ {t area area′ : List ℕ} {b : Begun} (q : BegunAs t area area′ b) 
       let z = subst (Case t area area′) e (q .case) in
       ap (effect (asBrought (answerIs a) r m)) (z .1) ∙ sym (z .0 r m made)
 
-pub area-long : {t area area′ : List ℕ} {size : ℕ} → Standing t area area′ size → 4 < length area′
+pub area-long : {t area area′ : List ℕ} {size : ℕ} → ProgramStands t area area′ size → 4 < length area′
 area-long a = omega (arith, stands-within (segment-at (a .begins)))

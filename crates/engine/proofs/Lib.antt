@@ -1,1 +1,2 @@
+-- The cases of what a call begins with
 pub mod Cases

@@ -10,8 +10,8 @@ use Rattle.meaning.specs.Table.{State, grammarOf}
 use Rattle.meaning.specs.Program.{programOf}
 use Rattle.meaning.specs.Calls.{Record, Stacks, Called, refused, tableRefused, asBrought}
 use Rattle.meaning.specs.PublicCalls.{Checked, usable, unusable, check, areaLength, written, Effect, effect, called}
-use Rattle.prepare.specs.Making.{Standing}
-use Rattle.fit.specs.Shown.{Shown, Readable}
+use Rattle.prepare.specs.Making.{ProgramStands}
+use Rattle.run_fit.specs.HasProgram.{HasProgram, Readable}
 use Rattle.engine.specs.declared.Begun.{Begun}
 use Rattle.engine.specs.declared.Begun.the-variants.{Turned, Ready}
 use Rattle.records.specs.declared.Answer.{Answer}
@@ -23,7 +23,7 @@ TurnedBack t area a = (r : Record) (m : Stacks) (made : Grammar → Called) → 
 
 abbrev pub Case : List ℕ → List ℕ → List ℕ → Begun → Type 0
 Case t area area′ (Turned a) = TurnedBack t area a × (area′ ≡ area)
-Case t area area′ Ready = (size : ℕ) × Standing t area area′ size
+Case t area area′ Ready = (size : ℕ) × ProgramStands t area area′ size
 
 pub record BegunAs (t area area′ : List ℕ) (b : Begun) : Type 0 where
   pub case : Case t area area′ b
@@ -52,8 +52,8 @@ module _ (t area : List ℕ) (r : Record) (m : Stacks) (made : Grammar → Calle
 
 -- ---- what an accepted table brings
 
-module _ {t area area′ : List ℕ} {size : ℕ} (a : Standing t area area′ size) where
-  pub standing-shown : Shown (grammarOf (a .state)) area′
+module _ {t area area′ : List ℕ} {size : ℕ} (a : ProgramStands t area area′ size) where
+  pub standing-shown : HasProgram (grammarOf (a .state)) area′
   standing-shown = record { formed = a .formed; begins = a .begins }
 
   pub standing-readable : Readable area′

@@ -3,14 +3,14 @@ ghost use mathlib.Core.Path.{_≡_};
 ghost use Rattle.meaning.specs.Program.{programOf};
 ghost use Rattle.meaning.specs.PublicCalls.{opens, performs, feed, finish, stacksOf};
 ghost use Rattle.records.specs.Records.{stateIs};
-ghost use Rattle.lent.specs.Performing.{callIs};
+ghost use Rattle.run_lent.specs.Performing.{callIs};
 ghost use Rattle.engine.specs.Records.{recordIs, effectIs, leavesAs, calledFrom};
 ghost use Rattle.engine.specs.Beginning.{BegunAs};
-use lent::Call;
 use prepare::Made;
 use records::Answer;
 use records::Handed;
 use records::State;
+use run_lent::Call;
 
 // The run record: a state, with the calls as its methods.
 pub struct Record {
@@ -71,7 +71,9 @@ fn perform(
 {
     match begin(table, program) {
         Begun::Turned(answer) => records::as_brought(state, answer),
-        Begun::Ready => { lent::call_cells(call, registers, places, program, state, kinds, values) }
+        Begun::Ready => {
+            run_lent::call_cells(call, registers, places, program, state, kinds, values)
+        }
     }
 }
 
@@ -87,7 +89,7 @@ impl Record {
     {
         match begin(table, program) {
             Begun::Turned(answer) => hand_back(records::not_opened(answer)),
-            Begun::Ready => hand_back(opening::open_cells(registers, places, program)),
+            Begun::Ready => hand_back(run_opening::open_cells(registers, places, program)),
         }
     }
 

@@ -10,7 +10,7 @@ ghost use Rattle.meaning.specs.Inner as Inner;
 ghost use Rattle.meaning.specs.Inner.{giveUp, innerOpens, innerPerforms};
 ghost use Rattle.meaning_preview.specs.Preview.{previews, mays};
 ghost use Rattle.meaning.specs.Window.{opensWindow, bringsAnswer};
-ghost use Rattle.host_numbers.specs.Lent.{broughtIn, valueOf, PassedOn};
+ghost use Rattle.host_numbers.specs.Lent.{broughtIn, answerValue, PassedOn};
 ghost use Rattle.host_inner.specs.Both.{BothPassedOn};
 ghost use Rattle.host_preview.specs.Previewed.{MayPassedOn};
 ghost use Rattle.host_table.specs.Passed.{checked, Stretched};
@@ -167,7 +167,7 @@ pub extern "C" fn segment_finish(
 )
     ensures { λ r. ⌜ PassedOn (now («record» .exit)) (now (number .exit)) (now (count .exit)) (now (registers .exit)) (now (places .exit)) (now (program .exit))
         (performs programOf (now (table .entry)) (now (program .entry)) (broughtIn (now («record» .entry))) (stacksOf (now (registers .entry)) (now (places .entry))) finish)
-        × (now (value .exit) ≡ valueOf (performs programOf (now (table .entry)) (now (program .entry)) (broughtIn (now («record» .entry))) (stacksOf (now (registers .entry)) (now (places .entry))) finish .answer)) ⌝ }
+        × (now (value .exit) ≡ answerValue (performs programOf (now (table .entry)) (now (program .entry)) (broughtIn (now («record» .entry))) (stacksOf (now (registers .entry)) (now (places .entry))) finish .answer)) ⌝ }
 {
     host_run::finish(
         table,
@@ -258,7 +258,7 @@ pub extern "C" fn segment_inner_finish(
 )
     ensures { λ r. ⌜ BothPassedOn (now (outer .exit)) (now (inner .exit)) (now (number .exit)) (now (count .exit)) (now (registers .exit)) (now (places .exit)) (now (program .exit))
         (innerPerforms programOf (now (table .entry)) (now (program .entry)) (broughtIn (now (outer .entry))) (broughtIn (now (inner .entry))) (stacksOf (now (registers .entry)) (now (places .entry))) (Inner.engine finish))
-        × (now (value .exit) ≡ valueOf (innerPerforms programOf (now (table .entry)) (now (program .entry)) (broughtIn (now (outer .entry))) (broughtIn (now (inner .entry))) (stacksOf (now (registers .entry)) (now (places .entry))) (Inner.engine finish) .answer)) ⌝ }
+        × (now (value .exit) ≡ answerValue (innerPerforms programOf (now (table .entry)) (now (program .entry)) (broughtIn (now (outer .entry))) (broughtIn (now (inner .entry))) (stacksOf (now (registers .entry)) (now (places .entry))) (Inner.engine finish) .answer)) ⌝ }
 {
     host_inner::finish(
         table,

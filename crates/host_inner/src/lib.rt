@@ -4,7 +4,7 @@ ghost use Rattle.meaning.specs.Program.{programOf};
 ghost use Rattle.meaning.specs.PublicCalls.{stacksOf, feed, finish};
 ghost use Rattle.meaning.specs.Inner as Inner;
 ghost use Rattle.meaning.specs.Inner.{giveUp, innerOpens, innerPerforms};
-ghost use Rattle.host_numbers.specs.Lent.{broughtIn, valueOf};
+ghost use Rattle.host_numbers.specs.Lent.{broughtIn, answerValue};
 ghost use Rattle.host_inner.specs.Both.{NumbersPassed, BothPassedOn};
 use inner::InnerCalled;
 
@@ -39,7 +39,7 @@ pub fn open(
     ensures { λ r. ⌜ BothPassedOn (now (outer .exit)) (now (inner .exit)) (now (number .exit)) (now (count .exit)) (now (registers .exit)) (now (places .exit)) (now (program .exit))
         (innerOpens programOf (now («outer_table» .entry)) (now («inner_table» .entry)) (now (program .entry)) (broughtIn (now (outer .entry))) (stacksOf (now (registers .entry)) (now (places .entry)))) ⌝ }
 {
-    let called = inner::open_inner(
+    let opened = inner::open_inner(
         host_numbers::brought(outer),
         outer_table,
         inner_table,
@@ -47,7 +47,7 @@ pub fn open(
         places,
         program,
     );
-    pass_on(called, outer, inner, number, count);
+    pass_on(opened, outer, inner, number, count);
 }
 
 // Feeds tokens to the inner run, as a list of kinds and one of values.
@@ -66,7 +66,7 @@ pub fn feed(
     ensures { λ r. ⌜ BothPassedOn (now (outer .exit)) (now (inner .exit)) (now (number .exit)) (now (count .exit)) (now (registers .exit)) (now (places .exit)) (now (program .exit))
         (innerPerforms programOf (now (table .entry)) (now (program .entry)) (broughtIn (now (outer .entry))) (broughtIn (now (inner .entry))) (stacksOf (now (registers .entry)) (now (places .entry))) (Inner.engine (feed (now (kinds .entry)) (now (values .entry))))) ⌝ }
 {
-    let called = inner::feed_inner(
+    let fed = inner::feed_inner(
         host_numbers::brought(outer),
         host_numbers::brought(inner),
         table,
@@ -76,7 +76,7 @@ pub fn feed(
         kinds,
         values,
     );
-    pass_on(called, outer, inner, number, count);
+    pass_on(fed, outer, inner, number, count);
 }
 
 // Finishes the inner run's segment: the run ends.
@@ -93,9 +93,9 @@ pub fn finish(
 )
     ensures { λ r. ⌜ BothPassedOn (now (outer .exit)) (now (inner .exit)) (now (number .exit)) (now (count .exit)) (now (registers .exit)) (now (places .exit)) (now (program .exit))
         (innerPerforms programOf (now (table .entry)) (now (program .entry)) (broughtIn (now (outer .entry))) (broughtIn (now (inner .entry))) (stacksOf (now (registers .entry)) (now (places .entry))) (Inner.engine finish))
-        × (now (value .exit) ≡ valueOf (innerPerforms programOf (now (table .entry)) (now (program .entry)) (broughtIn (now (outer .entry))) (broughtIn (now (inner .entry))) (stacksOf (now (registers .entry)) (now (places .entry))) (Inner.engine finish) .answer)) ⌝ }
+        × (now (value .exit) ≡ answerValue (innerPerforms programOf (now (table .entry)) (now (program .entry)) (broughtIn (now (outer .entry))) (broughtIn (now (inner .entry))) (stacksOf (now (registers .entry)) (now (places .entry))) (Inner.engine finish) .answer)) ⌝ }
 {
-    let called = inner::finish_inner(
+    let ended = inner::finish_inner(
         host_numbers::brought(outer),
         host_numbers::brought(inner),
         table,
@@ -103,9 +103,9 @@ pub fn finish(
         places,
         program,
     );
-    let answer = called.answer;
+    let answer = ended.answer;
     *value = host_numbers::value_of(answer);
-    pass_on(called, outer, inner, number, count);
+    pass_on(ended, outer, inner, number, count);
 }
 
 // Gives the inner run up: it ends as it stands.
@@ -122,7 +122,7 @@ pub fn give_up(
     ensures { λ r. ⌜ BothPassedOn (now (outer .exit)) (now (inner .exit)) (now (number .exit)) (now (count .exit)) (now (registers .exit)) (now (places .exit)) (now (program .exit))
         (innerPerforms programOf (now (table .entry)) (now (program .entry)) (broughtIn (now (outer .entry))) (broughtIn (now (inner .entry))) (stacksOf (now (registers .entry)) (now (places .entry))) giveUp) ⌝ }
 {
-    let called = inner::give_up(
+    let given_up = inner::give_up(
         host_numbers::brought(outer),
         host_numbers::brought(inner),
         table,
@@ -130,5 +130,5 @@ pub fn give_up(
         places,
         program,
     );
-    pass_on(called, outer, inner, number, count);
+    pass_on(given_up, outer, inner, number, count);
 }

@@ -92,42 +92,42 @@ flagOf false = 0
 -- ---- an answer as three numbers
 
 -- 01's number of a refusal, or 0
-abbrev pub numberOf : Answer → ℕ
-numberOf (more moves) = 0
-numberOf (value v moves) = 0
-numberOf (refused number tokens) = number
-numberOf (tableRefused number offset) = number
+abbrev pub answerNumber : Answer → ℕ
+answerNumber (more moves) = 0
+answerNumber (value v moves) = 0
+answerNumber (refused number tokens) = number
+answerNumber (tableRefused number offset) = number
 
 -- the moves; with a refusal the tokens read, or the field's offset where the table is refused
-abbrev pub countOf : Answer → ℕ
-countOf (more moves) = moves
-countOf (value v moves) = moves
-countOf (refused number tokens) = tokens
-countOf (tableRefused number offset) = offset
+abbrev pub answerCount : Answer → ℕ
+answerCount (more moves) = moves
+answerCount (value v moves) = moves
+answerCount (refused number tokens) = tokens
+answerCount (tableRefused number offset) = offset
 
 -- the segment's value, or 0
-abbrev pub valueOf : Answer → ℤ
-valueOf (more moves) = pos 0
-valueOf (value v moves) = v
-valueOf (refused number tokens) = pos 0
-valueOf (tableRefused number offset) = pos 0
+abbrev pub answerValue : Answer → ℤ
+answerValue (more moves) = pos 0
+answerValue (value v moves) = v
+answerValue (refused number tokens) = pos 0
+answerValue (tableRefused number offset) = pos 0
 
 -- ---- what a call hands back, by what it answers and leaves
 
 -- ns are the record's numbers, n and k number and count of the answer, vs, ps and ws the registers, places and program words
 pub record PassedOn (ns : List ℕ) (n k : ℕ) (vs : List ℤ) (ps ws : List ℕ) (e : Effect) : Type 0 where
   pub state : ns ≡ numbersOf (e .state)
-  pub number : n ≡ numberOf (e .answer)
-  pub count : k ≡ countOf (e .answer)
+  pub number : n ≡ answerNumber (e .answer)
+  pub count : k ≡ answerCount (e .answer)
   pub stacks : stacksOf vs ps ≡ e .stacks
   pub area : ws ≡ e .area
 
 pub passed-on : (r : Called) (vs : List ℤ) (ps ws : List ℕ) (e : Effect) → effectIs r vs ps ws ≡ e → (ns : List ℕ) (n k : ℕ)
-    → (ns ≡ numbersOf (recordIs (r .«record»))) × (n ≡ numberOf (answerIs (r .answer))) × (k ≡ countOf (answerIs (r .answer))) → PassedOn ns n k vs ps ws e
+    → (ns ≡ numbersOf (recordIs (r .«record»))) × (n ≡ answerNumber (answerIs (r .answer))) × (k ≡ answerCount (answerIs (r .answer))) → PassedOn ns n k vs ps ws e
 passed-on r vs ps ws e q ns n k h = record {
   state = h .0 ∙ ap (λ z. numbersOf (z .state)) q;
-  number = h .1 ∙ ap (λ z. numberOf (z .answer)) q;
-  count = h .2 ∙ ap (λ z. countOf (z .answer)) q;
+  number = h .1 ∙ ap (λ z. answerNumber (z .answer)) q;
+  count = h .2 ∙ ap (λ z. answerCount (z .answer)) q;
   stacks = ap (λ z. z .stacks) q;
   area = ap (λ z. z .area) q;
 }

@@ -3,7 +3,7 @@ ghost use mathlib.Core.Path.{_≡_};
 ghost use Rattle.meaning.specs.Inner.{registerBase, placeBase, withStatus, withKind};
 ghost use Rattle.records.specs.Records.{statusIs, kindIs, stateIs, answerIs};
 ghost use Rattle.engine.specs.Records.{recordIs};
-ghost use Rattle.host_numbers.specs.Lent.{statusFrom, kindFrom, broughtIn, statusNumber, kindNumber, flagOf, numbersOf, numberOf, countOf, valueOf};
+ghost use Rattle.host_numbers.specs.Lent.{statusFrom, kindFrom, broughtIn, statusNumber, kindNumber, flagOf, numbersOf, answerNumber, answerCount, answerValue};
 use engine::Called;
 use engine::Record;
 use records::Answer;
@@ -112,7 +112,7 @@ pub fn flag(open: bool) -> u64
 }
 
 pub fn number_of(answer: Answer) -> u32
-    ensures { λ r. ⌜ r ≡ numberOf (answerIs answer) ⌝ }
+    ensures { λ r. ⌜ r ≡ answerNumber (answerIs answer) ⌝ }
 {
     match answer {
         Answer::More(_) => 0,
@@ -123,7 +123,7 @@ pub fn number_of(answer: Answer) -> u32
 }
 
 pub fn count_of(answer: Answer) -> u64
-    ensures { λ r. ⌜ r ≡ countOf (answerIs answer) ⌝ }
+    ensures { λ r. ⌜ r ≡ answerCount (answerIs answer) ⌝ }
 {
     match answer {
         Answer::More(moves) => moves,
@@ -134,7 +134,7 @@ pub fn count_of(answer: Answer) -> u64
 }
 
 pub fn value_of(answer: Answer) -> i64
-    ensures { λ r. ⌜ r ≡ valueOf (answerIs answer) ⌝ }
+    ensures { λ r. ⌜ r ≡ answerValue (answerIs answer) ⌝ }
 {
     match answer {
         Answer::More(_) => 0,
@@ -153,7 +153,7 @@ pub fn value_of(answer: Answer) -> i64
 // ---- both as numbers
 
 pub fn pass_on(called: Called, numbers: &mut [u64; 8], number: &mut u32, count: &mut u64)
-    ensures { λ r. ⌜ (now (numbers .exit) ≡ numbersOf (recordIs (called .«record»))) × (now (number .exit) ≡ numberOf (answerIs (called .answer))) × (now (count .exit) ≡ countOf (answerIs (called .answer))) ⌝ }
+    ensures { λ r. ⌜ (now (numbers .exit) ≡ numbersOf (recordIs (called .«record»))) × (now (number .exit) ≡ answerNumber (answerIs (called .answer))) × (now (count .exit) ≡ answerCount (answerIs (called .answer))) ⌝ }
 {
     hand_back(called.record, numbers);
     let answer = called.answer;

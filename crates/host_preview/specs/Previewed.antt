@@ -6,10 +6,10 @@ use lib.IntN.{ℤ}
 use Rattle.meaning.specs.Sets.{TokenSet, emptySet}
 use Rattle.meaning.specs.PublicCalls.{stacksOf}
 use Rattle.meaning_preview.specs.Preview.{MayAnswer, tokens, turned, MayEffect}
-use Rattle.token_set.specs.Words.{setOf}
+use Rattle.token_set.specs.SetBits.{setOf}
 use Rattle.preview.specs.declared.May.{May}
 use Rattle.preview.specs.May.{mayIs, mayEffectIs}
-use Rattle.host_numbers.specs.Lent.{numberOf, countOf}
+use Rattle.host_numbers.specs.Lent.{answerNumber, answerCount}
 
 -- empty where the call is turned back
 abbrev pub tokensIn : MayAnswer → TokenSet
@@ -18,11 +18,11 @@ tokensIn (turned a) = emptySet
 
 abbrev pub mayNumber : MayAnswer → ℕ
 mayNumber (tokens s) = 0
-mayNumber (turned a) = numberOf a
+mayNumber (turned a) = answerNumber a
 
 abbrev pub mayCount : MayAnswer → ℕ
 mayCount (tokens s) = 0
-mayCount (turned a) = countOf a
+mayCount (turned a) = answerCount a
 
 -- t is the set's word, n and k number and count, rs, qs and ws the scratch registers, scratch places and program words
 pub record MayPassedOn (t n k : ℕ) (rs : List ℤ) (qs ws : List ℕ) (e : MayEffect) : Type 0 where

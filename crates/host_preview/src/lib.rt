@@ -3,7 +3,7 @@ ghost use mathlib.Core.Path.{_≡_};
 ghost use Rattle.meaning.specs.Program.{programOf};
 ghost use Rattle.meaning.specs.PublicCalls.{stacksOf};
 ghost use Rattle.meaning_preview.specs.Preview.{previews, mays};
-ghost use Rattle.token_set.specs.Words.{setOf};
+ghost use Rattle.token_set.specs.SetBits.{setOf};
 ghost use Rattle.preview.specs.May.{mayIs};
 ghost use Rattle.host_numbers.specs.Lent.{broughtIn, PassedOn};
 ghost use Rattle.host_preview.specs.Previewed.{tokensIn, mayNumber, mayCount, MayPassedOn};

@@ -1,1 +1,2 @@
+-- What the ranking passes on, in lent numbers
 pub mod Suggested

@@ -3,7 +3,7 @@ ghost use mathlib.Core.Path.{_≡_};
 ghost use Rattle.meaning.specs.Program.{programOf};
 ghost use Rattle.meaning.specs.PublicCalls.{opens, performs, feed, finish};
 ghost use Rattle.meaning.specs.PublicCalls.{stacksOf};
-ghost use Rattle.host_numbers.specs.Lent.{broughtIn, valueOf, PassedOn};
+ghost use Rattle.host_numbers.specs.Lent.{broughtIn, answerValue, PassedOn};
 use engine::Record;
 
 // Opens a run. A refusal hands back a closed record, all zero.
@@ -58,7 +58,7 @@ pub fn finish(
     value: &mut i64,
     count: &mut u64,
 )
-    ensures { λ r. ⌜ PassedOn (now («record» .exit)) (now (number .exit)) (now (count .exit)) (now (registers .exit)) (now (places .exit)) (now (program .exit)) (performs programOf (now (table .entry)) (now (program .entry)) (broughtIn (now («record» .entry))) (stacksOf (now (registers .entry)) (now (places .entry))) finish) × (now (value .exit) ≡ valueOf (performs programOf (now (table .entry)) (now (program .entry)) (broughtIn (now («record» .entry))) (stacksOf (now (registers .entry)) (now (places .entry))) finish .answer)) ⌝ }
+    ensures { λ r. ⌜ PassedOn (now («record» .exit)) (now (number .exit)) (now (count .exit)) (now (registers .exit)) (now (places .exit)) (now (program .exit)) (performs programOf (now (table .entry)) (now (program .entry)) (broughtIn (now («record» .entry))) (stacksOf (now (registers .entry)) (now (places .entry))) finish) × (now (value .exit) ≡ answerValue (performs programOf (now (table .entry)) (now (program .entry)) (broughtIn (now («record» .entry))) (stacksOf (now (registers .entry)) (now (places .entry))) finish .answer)) ⌝ }
 {
     let called = host_numbers::brought(record).finish(table, registers, places, program);
     let answer = called.answer;

@@ -18,11 +18,11 @@ pub fn check(table: &[u8], number: &mut u32, offset: &mut u32)
             *offset = 0;
         }
         Verdict::Refused {
-            number: n,
-            offset: o,
+            number: refusal,
+            offset: at,
         } => {
-            *number = n;
-            *offset = o;
+            *number = refusal;
+            *offset = at;
         }
     }
 }

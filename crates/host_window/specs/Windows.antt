@@ -9,7 +9,7 @@ use lib.Dec.{eqb}
 use lib.IntN.{ℤ, pos}
 use Rattle.meaning.specs.Calls.{Answer, value, refused, tableRefused}
 use Rattle.meaning.specs.Window.{WindowAnswer, stands, empty, turnedBack, windowNumber, Outcome, outcome, bringsAnswer}
-use Rattle.host_numbers.specs.Lent.{numberOf, countOf, valueOf}
+use Rattle.host_numbers.specs.Lent.{answerNumber, answerCount, answerValue}
 
 -- ---- a finish's answer, from the numbers that the host's finish hands out
 
@@ -17,13 +17,13 @@ abbrev pub finishedAs : ℕ → ℤ → ℕ → Answer
 finishedAs n v k = cond (eqb n 0) (value v k) (refused n k)
 
 -- what is handed out by a finish is brought as its answer
-pub brought-value : (v : ℤ) (k : ℕ) (b : List ℤ) → bringsAnswer (finishedAs (numberOf (value v k)) (valueOf (value v k)) (countOf (value v k))) b ≡ bringsAnswer (value v k) b
+pub brought-value : (v : ℤ) (k : ℕ) (b : List ℤ) → bringsAnswer (finishedAs (answerNumber (value v k)) (answerValue (value v k)) (answerCount (value v k))) b ≡ bringsAnswer (value v k) b
 brought-value v k b = refl
 
-pub brought-refusal : (n k : ℕ) → 0 < n → (b : List ℤ) → bringsAnswer (finishedAs (numberOf (refused n k)) (valueOf (refused n k)) (countOf (refused n k))) b ≡ bringsAnswer (refused n k) b
+pub brought-refusal : (n k : ℕ) → 0 < n → (b : List ℤ) → bringsAnswer (finishedAs (answerNumber (refused n k)) (answerValue (refused n k)) (answerCount (refused n k))) b ≡ bringsAnswer (refused n k) b
 brought-refusal n k l b = ap (λ t. bringsAnswer (cond t (value (pos 0) k) (refused n k)) b) (ne-eqb n 0 (λ z. omega arith))
 
-pub brought-table : (n k : ℕ) → 0 < n → (b : List ℤ) → bringsAnswer (finishedAs (numberOf (tableRefused n k)) (valueOf (tableRefused n k)) (countOf (tableRefused n k))) b ≡ bringsAnswer (tableRefused n k) b
+pub brought-table : (n k : ℕ) → 0 < n → (b : List ℤ) → bringsAnswer (finishedAs (answerNumber (tableRefused n k)) (answerValue (tableRefused n k)) (answerCount (tableRefused n k))) b ≡ bringsAnswer (tableRefused n k) b
 brought-table n k l b = ap (λ t. bringsAnswer (cond t (value (pos 0) k) (refused n k)) b) (ne-eqb n 0 (λ z. omega arith))
 
 -- ---- a window's answer as four numbers: 42 or 0, the total, the largest, and 1 or 0 where there is none

@@ -8,12 +8,12 @@ use Rattle.meaning.specs.House.{writing}
 use Rattle.theory_order.specs.Planning.{copied}
 use Rattle.house_plan.specs.Plans.{TablePlanned}
 use Rattle.house_write.specs.Answers.{houseIs}
-use Rattle.house.specs.Answers.{Ready}
+use Rattle.house.specs.Answers.{PlanReady}
 use Rattle.house_write.specs.declared.Written.{Written}
 
 -- ---- a table that is ready to be written
 
-module _ (t offsets : List ℕ) (count size : ℕ) (x : Ready t offsets count size) where
+module _ (t offsets : List ℕ) (count size : ℕ) (x : PlanReady t offsets count size) where
   module _ (plan : List ℕ) (r : ℕ) (g : TablePlanned t (take count offsets) plan r) where
     pub ready-few : r ≤ size
     ready-few = omega (arith, g (x .plan) (x .room) (x .planned) .1, x .fits)

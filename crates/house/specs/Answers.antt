@@ -9,7 +9,7 @@ use Rattle.house_write.specs.declared.Written.{Written}
 use Rattle.house_write.specs.Answers.{houseIs}
 
 -- the plan of a table whose productions begin at these offsets, with room for it
-pub record Ready (t offsets : List ℕ) (count size : ℕ) : Type 0 where
+pub record PlanReady (t offsets : List ℕ) (count size : ℕ) : Type 0 where
   pub plan : List ℕ
   pub room : ℕ
   pub planned : Planned t (take count offsets) plan room
@@ -22,4 +22,4 @@ pub record Ready (t offsets : List ℕ) (count size : ℕ) : Type 0 where
 
 -- what stands before the first production, then the planned fields
 abbrev pub Writes : List ℕ → List ℕ → ℕ → ℕ → List ℕ → List ℕ → Written → Type 0
-Writes t offsets count size out out′ r = (x : Ready t offsets count size) → houseIs r out′ ≡ writing (take (getD offsets 0 0) t ++ copied t (x .plan)) out
+Writes t offsets count size out out′ r = (x : PlanReady t offsets count size) → houseIs r out′ ≡ writing (take (getD offsets 0 0) t ++ copied t (x .plan)) out

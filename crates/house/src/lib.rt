@@ -4,7 +4,7 @@ ghost use mathlib.Core.Path.{_≡_};
 ghost use lib.ListN.{length};
 ghost use Rattle.meaning.specs.House.{houseOf};
 ghost use Rattle.house_write.specs.Answers.{houseIs};
-ghost use Rattle.house.specs.Answers.{Ready, Writes};
+ghost use Rattle.house.specs.Answers.{PlanReady, Writes};
 use checker_grammar::Judged;
 use house_write::Written;
 
@@ -16,11 +16,11 @@ fn write_house(
     plan: &mut [u32],
     out: &mut [u8],
 ) -> Written
-    requires { ⌜ Ready (now table) (now offsets) count (length (now plan)) ⌝ }
+    requires { ⌜ PlanReady (now table) (now offsets) count (length (now plan)) ⌝ }
     ensures { λ r. ⌜ Writes (now (table .entry)) (now (offsets .entry)) count (length (now (plan .entry))) (now (out .entry)) (now (out .exit)) r ⌝ }
 {
     let n = house_plan::plan_table(table, offsets, count, plan);
-    let first = field_keys::offset_at(offsets, 0);
+    let first = house_keys::offset_at(offsets, 0);
     house_write::write_planned(table, &plan[..n], first, out)
 }
 

@@ -1,1 +1,2 @@
+-- The planned fields written one after the other
 pub mod Writing

@@ -54,9 +54,6 @@ copied-within t order i (suc k) l =
 
 -- ---- written so far
 
-pub written-long : (w d : List ℕ) → length w ≤ length d → length (written w d) ≡ length d
-written-long w d h = length-append w (drop (length w) d) ∙ omega (arith, length-drop (length w) d)
-
 -- what is pasted behind what is written
 pub written-more : (w d f : List ℕ) (at : ℕ) → at ≡ length w → paste (written w d) at f (length f) ≡ written (w ++ f) d
 written-more w d f at e =

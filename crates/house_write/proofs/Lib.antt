@@ -1,1 +1,2 @@
+-- The whole of what is written
 pub mod Writing

@@ -1,1 +1,2 @@
+-- 02's numbers for the writer's answers
 pub mod Answers

@@ -2,8 +2,7 @@
 ghost use mathlib.Core.Path.{_≡_};
 ghost use Rattle.meaning.specs.Program.{programOf};
 ghost use Rattle.meaning.specs.PublicCalls.{performs, feed, stacksOf};
-ghost use Rattle.engine.specs.Records.{recordIs};
-ghost use Rattle.in_place.specs.Lent.{leaves};
+ghost use Rattle.engine.specs.Records.{recordIs, effectIs};
 use engine::Record;
 use records::Answer;
 
@@ -17,7 +16,7 @@ pub fn feed_in_place(
     kinds: &[u8],
     values: &[i32],
 ) -> Answer
-    ensures { λ r. ⌜ leaves (now («record» .exit)) r (now (registers .exit)) (now (places .exit)) (now (program .exit)) ≡ performs programOf (now (table .entry)) (now (program .entry)) (recordIs (now («record» .entry))) (stacksOf (now (registers .entry)) (now (places .entry))) (feed (now (kinds .entry)) (now (values .entry))) ⌝ }
+    ensures { λ r. ⌜ effectIs (record { «record» = now («record» .exit); answer = r }) (now (registers .exit)) (now (places .exit)) (now (program .exit)) ≡ performs programOf (now (table .entry)) (now (program .entry)) (recordIs (now («record» .entry))) (stacksOf (now (registers .entry)) (now (places .entry))) (feed (now (kinds .entry)) (now (values .entry))) ⌝ }
 {
     let before = *record;
     let called = before.feed(table, registers, places, program, kinds, values);

@@ -1,1 +1,2 @@
+-- 01's values for what the inner calls hand back
 pub mod Records

@@ -14,13 +14,13 @@ use Rattle.meaning.specs.Calls as Calls
 use Rattle.meaning.specs.Calls.{Record, Stacks, more, value, refused, tableRefused, closedRecord, asBrought}
 use Rattle.meaning.specs.PublicCalls.{Checked, usable, unusable, check, areaLength, written, Effect, effect}
 use Rattle.meaning.specs.Inner.{InnerCalled, handedBack, innerOpenOf, InnerEffect, innerEffect, byTable, whenOuterFits, innerOpens}
-use Rattle.prepare.specs.Making.{Standing}
+use Rattle.prepare.specs.Making.{ProgramStands}
 use Rattle.records.specs.declared.Answer.{Answer}
 use Rattle.records.specs.Records.{answerIs}
 use Rattle.engine.specs.declared.Begun.{Begun}
 use Rattle.engine.specs.declared.Begun.the-variants.{Turned}
 use Rattle.engine.specs.Beginning.{TurnedBack, Case, BegunAs}
-use Rattle.lent.specs.Judging.{numberFor, judged-back, judged-on}
+use Rattle.run_lent.specs.Judging.{numberFor, judged-back, judged-on}
 
 -- a call with area and table: 30, the table's refusals, or what is made of the grammar and the words written
 abbrev pub insideBy : List ℕ → Record → Record → Stacks → (Grammar → List ℕ → InnerEffect) → Bool → Checked → InnerEffect
@@ -59,7 +59,7 @@ module _ (t area : List ℕ) (o i : Record) (m : Stacks) (made : Grammar → Lis
           let z : _≡_ {A = ℕ} 0 1 = ap movesIn (e (more 0) ∙ sym (e (more 1))) in
           absurd (omega arith)
 
-  standing-inside : {area′ : List ℕ} {size : ℕ} (s : Standing t area area′ size) → made (grammarOf (s .state)) area′ ≡ calledInside t area o i m made
+  standing-inside : {area′ : List ℕ} {size : ℕ} (s : ProgramStands t area area′ size) → made (grammarOf (s .state)) area′ ≡ calledInside t area o i m made
   standing-inside s = ap (made (grammarOf (s .state))) (s .isWritten) ∙ sym (ap₂ (insideBy area o i m made) (le-ltb (length area) areaLength (s .long)) (s .isUsable))
 
   long-inside : areaLength ≤ length area → calledInside t area o i m made ≡ byTable programOf t area o i m made
@@ -70,11 +70,11 @@ module _ (t area : List ℕ) (o i : Record) (m : Stacks) (made : Grammar → Lis
       let z = subst (Case t area area′) e (q .case) in
       ap (innerEffect (handedBack (answerIs a) o i m)) (z .1) ∙ turned-inside a (z .0)
 
-pub standing-call : {t area area′ : List ℕ} {size : ℕ} (s : Standing t area area′ size) (o i : Record) (m : Stacks) (made : Grammar → InnerCalled) (k : InnerCalled) → k ≡ made (grammarOf (s .state)) → innerEffect k area′ ≡ calledInside t area o i m (λ g words. innerEffect (made g) words)
+pub standing-call : {t area area′ : List ℕ} {size : ℕ} (s : ProgramStands t area area′ size) (o i : Record) (m : Stacks) (made : Grammar → InnerCalled) (k : InnerCalled) → k ≡ made (grammarOf (s .state)) → innerEffect k area′ ≡ calledInside t area o i m (λ g words. innerEffect (made g) words)
 standing-call {t} {area} {area′} s o i m made k e = ap (λ (z : InnerCalled). innerEffect z area′) e ∙ standing-inside t area o i m (λ g words. innerEffect (made g) words) s
 
 -- the words written do not shorten the area
-still-long : {t area area′ : List ℕ} {size : ℕ} → Standing t area area′ size → areaLength ≤ length area′
+still-long : {t area area′ : List ℕ} {size : ℕ} → ProgramStands t area area′ size → areaLength ≤ length area′
 still-long {area = area} s =
     let w = programOf (grammarOf (s .state)) in
     omega (arith, ap length (s .isWritten), length-append w (drop (length w) area), length-drop (length w) area, s .long)
@@ -92,7 +92,7 @@ module _ (g : Grammar) (r : Record) (m : Stacks) (area : List ℕ) (e : InnerEff
 abbrev pub openedOver : List ℕ → Record → Stacks → Grammar → List ℕ → InnerEffect
 openedOver u r m g first = whenOuterFits g r m first (byTable programOf u first r closedRecord m (openedInside r m))
 
-pub standing-opens : {t area area′ : List ℕ} {size : ℕ} (s : Standing t area area′ size) (u : List ℕ) (r : Record) (m : Stacks) (e : InnerEffect)
+pub standing-opens : {t area area′ : List ℕ} {size : ℕ} (s : ProgramStands t area area′ size) (u : List ℕ) (r : Record) (m : Stacks) (e : InnerEffect)
     → e ≡ whenOuterFits (grammarOf (s .state)) r m area′ (calledInside u area′ r closedRecord m (openedInside r m)) → e ≡ innerOpens programOf t u area r m
 standing-opens {t} {area} {area′} s u r m e q =
     q

@@ -5,7 +5,7 @@ ghost use Rattle.meaning.specs.Program.{programOf};
 ghost use Rattle.meaning.specs.Calls.{closedRecord};
 ghost use Rattle.meaning.specs.PublicCalls.{stacksOf};
 ghost use Rattle.meaning.specs.Inner.{whenOuterFits, innerOpens};
-ghost use Rattle.fit.specs.Shown.{Shown, Readable};
+ghost use Rattle.run_fit.specs.HasProgram.{HasProgram, Readable};
 ghost use Rattle.records.specs.Records.{stateIs};
 ghost use Rattle.inner_records.specs.Records.{innerLeaves};
 ghost use Rattle.inner_opening.specs.Beginning.{calledInside, openedInside};
@@ -39,7 +39,7 @@ fn open_over(
     program: &mut [u32],
 ) -> InnerHanded
     requires { ⌜ Readable (now program) ⌝ }
-    ensures { λ r. ⌜ ((g : Grammar) → Shown g (now (program .entry)) → innerLeaves r (now (registers .exit)) (now (places .exit)) (now (program .exit)) ≡ (let m = stacksOf (now (registers .entry)) (now (places .entry)) in whenOuterFits g (stateIs outer) m (now (program .entry)) (calledInside (now (table .entry)) (now (program .entry)) (stateIs outer) closedRecord m (openedInside (stateIs outer) m)))) ⌝ }
+    ensures { λ r. ⌜ ((g : Grammar) → HasProgram g (now (program .entry)) → innerLeaves r (now (registers .exit)) (now (places .exit)) (now (program .exit)) ≡ (let m = stacksOf (now (registers .entry)) (now (places .entry)) in whenOuterFits g (stateIs outer) m (now (program .entry)) (calledInside (now (table .entry)) (now (program .entry)) (stateIs outer) closedRecord m (openedInside (stateIs outer) m)))) ⌝ }
 {
     let number = inner_judge::judge(registers, places, program, outer);
     if number != 0 {

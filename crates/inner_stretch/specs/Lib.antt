@@ -1,1 +1,2 @@
+-- The stretch as the cells that are lent on, and the calls on it
 pub mod Lending

@@ -6,7 +6,7 @@ ghost use Rattle.meaning.specs.Grammar.{Grammar};
 ghost use Rattle.meaning.specs.PublicCalls.{stacksOf, callOf};
 ghost use Rattle.meaning.specs.Inner.{engineCall, innerOpenOf, innerOf};
 ghost use Rattle.theory_program.specs.Addresses.{Begins};
-ghost use Rattle.fit.specs.Shown.{Shown, Readable};
+ghost use Rattle.run_fit.specs.HasProgram.{HasProgram, Readable};
 ghost use Rattle.records.specs.Records.{stateIs, handedIs};
 ghost use Rattle.inner_records.specs.Records.{callIs, innerHandedIs};
 ghost use Rattle.inner_stretch.specs.Lending.{stretchCalled};
@@ -32,11 +32,11 @@ pub fn open_above(
     requires { ⌜ 4 < length (now program) ⌝ }
     ensures { λ r. ⌜ ((g : Grammar) → Begins g (now (program .entry)) → innerHandedIs r (now (registers .exit)) (now (places .exit)) ≡ innerOpenOf g (stateIs outer) (stacksOf (now (registers .entry)) (now (places .entry)))) ⌝ }
 {
-    let n = cells::smaller(registers.len(), limits::REGISTERS);
-    let k = cells::smaller(places.len(), limits::PLACES);
+    let n = run_cells::smaller(registers.len(), limits::REGISTERS);
+    let k = run_cells::smaller(places.len(), limits::PLACES);
     let a = beginning(outer.registers, n);
     let b = beginning(outer.places, k);
-    let handed = opening::open_cells(&mut registers[a..n], &mut places[b..k], program);
+    let handed = run_opening::open_cells(&mut registers[a..n], &mut places[b..k], program);
     opened(outer, handed)
 }
 
@@ -51,12 +51,12 @@ fn call_cells(
     values: &[i32],
 ) -> Handed
     requires { ⌜ Readable (now program) ⌝ }
-    ensures { λ r. ⌜ ((g : Grammar) → Shown g (now (program .entry)) → handedIs r (now (registers .exit)) (now (places .exit)) ≡ callOf g (stateIs brought) (stacksOf (now (registers .entry)) (now (places .entry))) (engineCall (callIs call (now (kinds .entry)) (now (values .entry))))) ⌝ }
+    ensures { λ r. ⌜ ((g : Grammar) → HasProgram g (now (program .entry)) → handedIs r (now (registers .exit)) (now (places .exit)) ≡ callOf g (stateIs brought) (stacksOf (now (registers .entry)) (now (places .entry))) (engineCall (callIs call (now (kinds .entry)) (now (values .entry))))) ⌝ }
 {
     match call {
         Call::Feed => {
-            lent::call_cells(
-                lent::Call::Feed,
+            run_lent::call_cells(
+                run_lent::Call::Feed,
                 registers,
                 places,
                 program,
@@ -66,8 +66,8 @@ fn call_cells(
             )
         }
         Call::Finish => {
-            lent::call_cells(
-                lent::Call::Finish,
+            run_lent::call_cells(
+                run_lent::Call::Finish,
                 registers,
                 places,
                 program,
@@ -77,8 +77,8 @@ fn call_cells(
             )
         }
         Call::GiveUp => {
-            lent::call_cells(
-                lent::Call::Feed,
+            run_lent::call_cells(
+                run_lent::Call::Feed,
                 registers,
                 places,
                 program,
@@ -102,13 +102,13 @@ fn call_stretch(
     values: &[i32],
 ) -> InnerHanded
     requires { ⌜ Readable (now program) ⌝ }
-    ensures { λ r. ⌜ ((g : Grammar) → Shown g (now (program .entry)) → innerHandedIs r (now (registers .exit)) (now (places .exit)) ≡ stretchCalled g (stateIs outer) (stateIs inner) (stacksOf (now (registers .entry)) (now (places .entry))) (callIs call (now (kinds .entry)) (now (values .entry)))) ⌝ }
+    ensures { λ r. ⌜ ((g : Grammar) → HasProgram g (now (program .entry)) → innerHandedIs r (now (registers .exit)) (now (places .exit)) ≡ stretchCalled g (stateIs outer) (stateIs inner) (stacksOf (now (registers .entry)) (now (places .entry))) (callIs call (now (kinds .entry)) (now (values .entry)))) ⌝ }
 {
     let alone = inner.alone();
     let handed = call_cells(call, registers, places, program, alone, kinds, values);
     if ends(call, handed) {
-        cells::clear_registers(registers);
-        cells::clear_places(places);
+        run_cells::clear_registers(registers);
+        run_cells::clear_places(places);
         return ended(outer, inner, handed);
     }
     went_on(outer, inner, handed)
@@ -126,7 +126,7 @@ pub fn call_above(
     values: &[i32],
 ) -> InnerHanded
     requires { ⌜ Readable (now program) ⌝ }
-    ensures { λ r. ⌜ ((g : Grammar) → Shown g (now (program .entry)) → innerHandedIs r (now (registers .exit)) (now (places .exit)) ≡ innerOf g (stateIs outer) (stateIs inner) (stacksOf (now (registers .entry)) (now (places .entry))) (callIs call (now (kinds .entry)) (now (values .entry)))) ⌝ }
+    ensures { λ r. ⌜ ((g : Grammar) → HasProgram g (now (program .entry)) → innerHandedIs r (now (registers .exit)) (now (places .exit)) ≡ innerOf g (stateIs outer) (stateIs inner) (stacksOf (now (registers .entry)) (now (places .entry))) (callIs call (now (kinds .entry)) (now (values .entry)))) ⌝ }
 {
     let number = apart(outer, inner);
     if number != 0 {
@@ -136,8 +136,8 @@ pub fn call_above(
             answer: Answer::Refused { number, tokens: 0 },
         };
     }
-    let n = cells::smaller(registers.len(), limits::REGISTERS);
-    let k = cells::smaller(places.len(), limits::PLACES);
+    let n = run_cells::smaller(registers.len(), limits::REGISTERS);
+    let k = run_cells::smaller(places.len(), limits::PLACES);
     let a = beginning(outer.registers, n);
     let b = beginning(outer.places, k);
     call_stretch(

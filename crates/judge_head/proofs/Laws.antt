@@ -32,10 +32,10 @@ module _ (rows inherited synthesized sheet : List ℕ) (at from m i s : ℕ) (ei
     unfolding HeadTold
     head-unlisted l h = omega (arith, h .listed)
 
-    module _ (q : ℕ) (eq : q ≡ byte rows (16 * p)) where
+    module _ (q : ℕ) (eq : q ≡ byte rows (p * 16)) where
       pub head-other : (q ≡ m → ⊥) → HeadTold rows inherited synthesized sheet at from m Unfit
       unfolding HeadTold
-      head-other f h = f (eq ∙ (ap (λ k. byte rows (16 * k)) ep ∙ h .left))
+      head-other f h = f (eq ∙ (ap (λ k. byte rows (k * 16)) ep ∙ h .left))
 
       module _ (w : ℕ) (ew : w ≡ wordAt sheet (at + 4)) where
         pub head-before : (w ≡ from → ⊥) → HeadTold rows inherited synthesized sheet at from m Unfit
@@ -53,7 +53,7 @@ module _ (rows inherited synthesized sheet : List ℕ) (at from m i s : ℕ) (ei
             heads = record {
               inside = omega (arith, both);
               listed = omega (arith, ep);
-              left = ap (λ k. byte rows (16 * k)) (sym ep) ∙ (sym eq ∙ lq);
+              left = ap (λ k. byte rows (k * 16)) (sym ep) ∙ (sym eq ∙ lq);
               before = sym ew ∙ lw;
               ranges = ap (λ n. all inRange (longs sheet (at + 12) n)) (sym both) ∙ (sym ea ∙ la);
             };

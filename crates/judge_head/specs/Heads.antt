@@ -15,8 +15,8 @@ use Rattle.judge_head.specs.declared.Head.the-variants.{Found, Unfit}
 -- the record at an offset is one of nonterminal m, with so many tokens before it and values in range
 pub record Heads (rows inherited synthesized sheet : List ℕ) (at from m : ℕ) : Type 0 where
   pub inside : at + 12 + 8 * (byte inherited m + byte synthesized m) ≤ length sheet
-  pub listed : 16 * wordAt sheet at + 16 ≤ length rows
-  pub left : byte rows (16 * wordAt sheet at) ≡ m
+  pub listed : wordAt sheet at * 16 + 16 ≤ length rows
+  pub left : byte rows (wordAt sheet at * 16) ≡ m
   pub before : wordAt sheet (at + 4) ≡ from
   pub ranges : all inRange (longs sheet (at + 12) (byte inherited m + byte synthesized m)) ≡ true
 

@@ -38,7 +38,7 @@ pub fn heading(
     if rows.len() / 16 <= p {
         return Head::Unfit;
     }
-    if value::byte_at(rows, 16 * p) as usize != m {
+    if value::byte_at(rows, p * 16) as usize != m {
         return Head::Unfit;
     }
     if value::word_at(sheet, at + 4) as usize != from {

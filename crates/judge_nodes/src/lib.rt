@@ -69,7 +69,7 @@ pub fn check_node(
     }
 }
 
-// The same for the symbols of production p, a tree for each; the marks behind the first are then theirs.
+// Whether a tree for each symbol of production p is described from `at` on, and where they end; the marks behind the first are then theirs.
 pub fn check_children(
     table: &[u8],
     rows: &[u8],
@@ -88,13 +88,13 @@ pub fn check_children(
     requires { ⌜ ChildrenReady (now table) (now rows) (now inherited) (now synthesized) (now offsets) (now kinds) (now values) (now sheet) p from × (length (now marks) ≡ 13) ⌝ }
     ensures { λ r. ⌜ ChildrenTold (now (table .entry)) (now (rows .entry)) (now (inherited .entry)) (now (synthesized .entry)) (now (offsets .entry)) (now (kinds .entry)) (now (values .entry)) (now (sheet .entry)) p at from «depth_left» (now (marks .entry)) (now (marks .exit)) r ⌝ }
 {
-    let first = 16 * p;
+    let first = p * 16;
     let size = value::byte_at(rows, first + 1) as usize;
     let mut next = at;
     let mut end = from;
     let mut k: usize = 0;
     while k < size {
-        let symbol = rows[first + (k + 2)];
+        let symbol = rows[first + 2 + k];
         marks[k + 1] = judge_parts::mark_of(sheet.len(), symbol, next, end);
         match check_node(
             table,

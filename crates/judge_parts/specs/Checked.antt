@@ -1,15 +1,16 @@
 -- What the functions that go through a sheet ask, and what their answers mean.
-use Prim.Native.Nat.{ℕ, _+_, _*_, _/_, _≤_, _<_}
+use Prim.Native.Nat.{ℕ, _/_, _≤_, _<_}
 use mathlib.Core.Path.{_≡_}
 use mathlib.Core.List.{List}
 use lib.ListN.{length, getD}
 use lib.IntN.{ℤ}
-use Rattle.meaning.specs.Grammar.{Grammar, terminal, nonterminal, Leaf, leaves, att, nonterminalCount, productionAt}
-use Rattle.meaning.specs.Rules.{Known, WellFormed}
-use Rattle.meaning.specs.Layout.{Bytes, RulesAndConditions}
-use Rattle.meaning.specs.Table.{byte, symbolOf}
+use Rattle.meaning.specs.Grammar.{Grammar, terminal, Leaf, leaves, productionAt}
+use Rattle.meaning.specs.Rules.{Known}
+use Rattle.meaning.specs.Layout.{Bytes}
+use Rattle.meaning.specs.Table.{symbolOf}
 use Rattle.meaning.specs.Calls.{tokensFrom}
-use Rattle.program_words.specs.Brought.{fieldsFrom, stretchEnd, fieldsAt}
+use Rattle.outline.specs.Outline.{grammarIn, CountsOf, Productions}
+use Rattle.program_words.specs.Fields.{fieldsFrom, stretchEnd, fieldsAt}
 use Rattle.theory_judge.specs.Described.{Described, DescribedAll}
 use Rattle.theory_judge.specs.Passing.{Only, None, Marked, Upto}
 use Rattle.judge_parts.specs.declared.Answer.{Answer}
@@ -19,17 +20,11 @@ use Rattle.judge_parts.specs.declared.Answer.the-variants.{Fits, Wrong}
 abbrev pub fieldsOf : List ℕ → List ℕ → List ℕ → ℕ → List ℕ
 fieldsOf table rows offsets p = fieldsAt table (fieldsFrom rows offsets p) (stretchEnd table offsets (length rows / 16) p)
 
--- the outline of an accepted table with its grammar, kinds and values of equal number, and a sheet of bytes
+-- the productions and counts of an accepted table, where the rows hold all productions and nothing else; kinds and values of equal number, and a sheet of bytes
 pub record Book (table rows inherited synthesized offsets ks : List ℕ) (vs : List ℤ) (sheet : List ℕ) : Type 0 where
-  pub grammar : Grammar
-  pub formed : WellFormed grammar
-  pub rowsLong : length rows ≡ 16 * length (grammar .productions)
-  pub left : (p : ℕ) → p < length (grammar .productions) → byte rows (16 * p) ≡ productionAt grammar p .left
-  pub size : (p : ℕ) → p < length (grammar .productions) → byte rows (16 * p + 1) ≡ length (productionAt grammar p .right)
-  pub symbols : (p k : ℕ) → p < length (grammar .productions) → k < length (productionAt grammar p .right) → symbolOf (byte rows (16 * p + (k + 2))) ≡ getD (productionAt grammar p .right) k (terminal 0)
-  pub counts : (n : ℕ) → n < nonterminalCount grammar → byte inherited n + byte synthesized n ≡ att grammar (nonterminal n)
-  pub spans : (p : ℕ) → p < length (grammar .productions) → (fieldsFrom rows offsets p ≤ stretchEnd table offsets (length rows / 16) p) × (stretchEnd table offsets (length rows / 16) p ≤ length table)
-  pub fields : (p : ℕ) → p < length (grammar .productions) → RulesAndConditions (productionAt grammar p .rules) (productionAt grammar p .conditions) (fieldsOf table rows offsets p)
+  pub isTable : Bytes table
+  pub productions : Productions table rows offsets (length rows / 16)
+  pub counts : CountsOf inherited synthesized (grammarIn table)
   pub even : length ks ≡ length vs
   pub few : length ks < 4294967296
   pub isBytes : Bytes sheet
@@ -41,29 +36,29 @@ leavesIn g ks vs = leaves g (tokensFrom ks vs)
 -- ---- answers
 
 -- these ends and no others, or none
-unfoldable pub Told : (ℕ → ℕ → Type 0) → Answer → Type 0
-Told P (Fits n e) = Only P n e
-Told P Wrong = None P
+unfoldable pub EndsOrNone : (ℕ → ℕ → Type 0) → Answer → Type 0
+EndsOrNone P (Fits n e) = Only P n e
+EndsOrNone P Wrong = None P
 
 -- ---- a token
 
 abbrev pub TokenTold : List ℕ → List ℤ → ℕ → ℕ → ℕ → Answer → Type 0
-TokenTold ks vs at from k r = (g : Grammar) (sheet : List ℕ) (d : ℕ) → length ks ≡ length vs → Told (Described g (leavesIn g ks vs) sheet at from (terminal k) d) r
+TokenTold ks vs at from k r = (g : Grammar) (sheet : List ℕ) (d : ℕ) → length ks ≡ length vs → EndsOrNone (Described g (leavesIn g ks vs) sheet at from (terminal k) d) r
 
 -- ---- a node, and the children of a production
 
 pub record NodeReady (table rows inherited synthesized offsets ks : List ℕ) (vs : List ℤ) (sheet : List ℕ) (from symbol : ℕ) : Type 0 where
   pub book : Book table rows inherited synthesized offsets ks vs sheet
-  pub known : Known (book .grammar) (symbolOf symbol)
+  pub known : Known (grammarIn table) (symbolOf symbol)
   pub low : from ≤ length ks
 
 abbrev pub NodeTold : List ℕ → List ℕ → List ℕ → List ℕ → List ℕ → List ℕ → List ℤ → List ℕ → ℕ → ℕ → ℕ → ℕ → Answer → Type 0
 NodeTold table rows inherited synthesized offsets ks vs sheet at from symbol d r =
-    (x : NodeReady table rows inherited synthesized offsets ks vs sheet from symbol) → Told (Described (x .book .grammar) (leavesIn (x .book .grammar) ks vs) sheet at from (symbolOf symbol) d) r
+    (x : NodeReady table rows inherited synthesized offsets ks vs sheet from symbol) → EndsOrNone (Described (grammarIn table) (leavesIn (grammarIn table) ks vs) sheet at from (symbolOf symbol) d) r
 
 pub record ChildrenReady (table rows inherited synthesized offsets ks : List ℕ) (vs : List ℤ) (sheet : List ℕ) (p from : ℕ) : Type 0 where
   pub book : Book table rows inherited synthesized offsets ks vs sheet
-  pub listed : p < length (book .grammar .productions)
+  pub listed : p < length (grammarIn table .productions)
   pub low : from ≤ length ks
 
 -- the marks of the children behind that of the node itself
@@ -74,10 +69,10 @@ MarkedTold g ks vs sheet p at from d old new Wrong = None (DescribedAll g (leave
 
 abbrev pub ChildrenTold : List ℕ → List ℕ → List ℕ → List ℕ → List ℕ → List ℕ → List ℤ → List ℕ → ℕ → ℕ → ℕ → ℕ → List ℕ → List ℕ → Answer → Type 0
 ChildrenTold table rows inherited synthesized offsets ks vs sheet p at from d old new r =
-    (x : ChildrenReady table rows inherited synthesized offsets ks vs sheet p from) → MarkedTold (x .book .grammar) ks vs sheet p at from d old new r
+    (x : ChildrenReady table rows inherited synthesized offsets ks vs sheet p from) → MarkedTold (grammarIn table) ks vs sheet p at from d old new r
 
 -- k symbols of production p are passed: the marks behind the first are theirs, and the first stays
 pub record Passed (table rows inherited synthesized offsets ks : List ℕ) (vs : List ℤ) (sheet : List ℕ) (p at from d : ℕ) (marks₀ : List ℕ) (k next end : ℕ) (marks : List ℕ) : Type 0 where
   pub long : length marks ≡ 13
   pub own : getD marks 0 0 ≡ getD marks₀ 0 0
-  pub upto : (x : ChildrenReady table rows inherited synthesized offsets ks vs sheet p from) → Upto (x .book .grammar) (leavesIn (x .book .grammar) ks vs) sheet vs at from (productionAt (x .book .grammar) p .right) d k next end marks
+  pub upto : (x : ChildrenReady table rows inherited synthesized offsets ks vs sheet p from) → Upto (grammarIn table) (leavesIn (grammarIn table) ks vs) sheet vs at from (productionAt (grammarIn table) p .right) d k next end marks

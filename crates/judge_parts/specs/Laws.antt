@@ -1,31 +1,32 @@
 -- What each way out of a node, of its children and of a token shows.
-use Prim.Native.Nat.{ℕ, suc, _+_, _-_, _*_, _≤_, _<_}
+use Prim.Native.Nat.{ℕ, suc, _+_, _-_, _*_, _/_, _≤_, _<_}
 use native.Mathlib.Omega.{arith}
-use mathlib.Core.Path.{_≡_, refl, sym, ap, _∙_, subst}
+use mathlib.Core.Path.{_≡_, refl, sym, ap, ap₂, _∙_, subst}
 use mathlib.Core.Bool.{Bool, true, false}
 use mathlib.Core.List.{List}
 use lib.ListN.{length, getD, set, length-set}
 use lib.Seq.{getD-set-same, getD-set-other}
 use lib.IntN.{ℤ, pos}
-use borrow.Author.Tests.{lt-ltb, le-ltb}
 use Rattle.meaning.specs.Base.{all}
-use Rattle.meaning.specs.Grammar.{Grammar, Symbol, terminal, nonterminal, att, nonterminalCount, productionAt}
+use Rattle.meaning.specs.Grammar.{Grammar, terminal, nonterminal, att, nonterminalCount, productionAt}
 use Rattle.meaning.specs.Rules.{Known}
 use Rattle.meaning.specs.Table.{byte, symbolOf}
 use Rattle.meaning.specs.Value.{inRange}
-use Rattle.meaning.specs.Scheme.{choose}
 use Rattle.theory_base.specs.Members.{T→true, true→T, getD-in}
 use Rattle.theory_base.specs.WellFormed.{well-formed-at, counts-most}
 use Rattle.value.specs.Constants.{wordAt}
-use Rattle.block_words.specs.Walk.{Listed}
-use Rattle.program_words.specs.Brought.{stretchEnd}
+use Rattle.program_block_words.specs.Walk.{Listed}
+use Rattle.outline.specs.Rows as R
+use Rattle.outline.specs.Rows.{Rows, sizeAt, byteAt, symbol-terminal, symbol-nonterminal}
+use Rattle.outline.specs.Outline.{grammarIn}
+use Rattle.program_words.specs.Fields.{fieldsFrom, stretchEnd, fields-place, fields-own}
 use Rattle.theory_judge.specs.Longs.{longs}
 use Rattle.theory_judge.specs.Described.{Described, DescribedAll, noLeaf, Heading}
 use Rattle.theory_judge.specs.Holding.{allTrue, listedTrue}
 use Rattle.theory_judge.specs.Marks.{readAt, markOf, leaf-at, leaves-many, leaf-in}
 use Rattle.theory_judge.specs.Passing as P
 use Rattle.theory_judge.specs.Passing.{Only, None, Marked}
-use Rattle.judge_parts.specs.Checked.{fieldsOf, Book, leavesIn, Told, TokenTold, NodeReady, NodeTold, ChildrenReady, MarkedTold, ChildrenTold, Passed}
+use Rattle.judge_parts.specs.Checked.{fieldsOf, Book, leavesIn, EndsOrNone, TokenTold, NodeReady, NodeTold, ChildrenReady, MarkedTold, ChildrenTold, Passed}
 use Rattle.judge_head.proofs.Laws.{head-is, head-none}
 use Rattle.judge_head.specs.Heads.{Heads, HeadIs, HeadTold}
 use Rattle.judge_parts.specs.declared.Answer.{Answer}
@@ -35,45 +36,29 @@ use Rattle.judge_head.specs.declared.Head.the-variants.{Found, Unfit}
 
 -- ---- answers
 
-pub told-fits : {P : ℕ → ℕ → Type 0} (n e : ℕ) → Only P n e → Told P (Fits n e)
-unfolding Told
+pub told-fits : {P : ℕ → ℕ → Type 0} (n e : ℕ) → Only P n e → EndsOrNone P (Fits n e)
+unfolding EndsOrNone
 told-fits n e h = h
 
-pub told-wrong : {P : ℕ → ℕ → Type 0} → None P → Told P Wrong
-unfolding Told
+pub told-wrong : {P : ℕ → ℕ → Type 0} → None P → EndsOrNone P Wrong
+unfolding EndsOrNone
 told-wrong h = h
 
-pub fits-told : {P : ℕ → ℕ → Type 0} (r : Answer) (n e : ℕ) → Told P r → r ≡ Fits n e → Only P n e
-unfolding Told
-fits-told {P = P} r n e t q = subst (λ z. Told P z) q t
+pub fits-told : {P : ℕ → ℕ → Type 0} (r : Answer) (n e : ℕ) → EndsOrNone P r → r ≡ Fits n e → Only P n e
+unfolding EndsOrNone
+fits-told {P = P} r n e t q = subst (λ z. EndsOrNone P z) q t
 
-pub wrong-told : (P : ℕ → ℕ → Type 0) (r : Answer) → Told P r → r ≡ Wrong → None P
-unfolding Told
-wrong-told P r t q = subst (λ z. Told P z) q t
+pub wrong-told : (P : ℕ → ℕ → Type 0) (r : Answer) → EndsOrNone P r → r ≡ Wrong → None P
+unfolding EndsOrNone
+wrong-told P r t q = subst (λ z. EndsOrNone P z) q t
 
 -- ---- symbols by their bytes
 
-pub symbol-low : (b : ℕ) → b < 128 → symbolOf b ≡ terminal b
-symbol-low b l = ap (λ c. elim c as (λ z. Symbol) [ true ↦ terminal b | false ↦ nonterminal (b - 128) ]) (lt-ltb b 128 l)
-
-pub symbol-high : (b : ℕ) → 128 ≤ b → symbolOf b ≡ nonterminal (b - 128)
-symbol-high b l = ap (λ c. elim c as (λ z. Symbol) [ true ↦ terminal b | false ↦ nonterminal (b - 128) ]) (le-ltb b 128 l)
-
 pub mark-low : (n b at from : ℕ) → b < 128 → n + from ≡ markOf n (symbolOf b) at from
-mark-low n b at from l = sym (ap (λ x. markOf n x at from) (symbol-low b l))
+mark-low n b at from l = sym (ap (λ x. markOf n x at from) (symbol-terminal b l))
 
 pub mark-high : (n b at from : ℕ) → 128 ≤ b → at ≡ markOf n (symbolOf b) at from
-mark-high n b at from l = sym (ap (λ x. markOf n x at from) (symbol-high b l))
-
--- ---- the end of a stretch
-
-pub end-next : (table offsets : List ℕ) (count p r : ℕ) → p + 1 < count → r ≡ getD offsets (p + 1) 0 → r ≡ stretchEnd table offsets count p
-unfolding stretchEnd
-end-next table offsets count p r l e = e ∙ sym (ap (λ c. choose c (getD offsets (p + 1) 0) (length table)) (lt-ltb (p + 1) count l))
-
-pub end-last : (table offsets : List ℕ) (count p : ℕ) → count ≤ p + 1 → length table ≡ stretchEnd table offsets count p
-unfolding stretchEnd
-end-last table offsets count p l = sym (ap (λ c. choose c (getD offsets (p + 1) 0) (length table)) (le-ltb (p + 1) count l))
+mark-high n b at from l = sym (ap (λ x. markOf n x at from) (symbol-nonterminal b l))
 
 -- ---- a token
 
@@ -96,7 +81,10 @@ module _ (ks : List ℕ) (vs : List ℤ) (at from k : ℕ) where
 
 module _ {table rows inherited synthesized offsets ks : List ℕ} {vs : List ℤ} {sheet : List ℕ} (b : Book table rows inherited synthesized offsets ks vs sheet) where
   abbrev g : Grammar
-  g = b .grammar
+  g = grammarIn table
+
+  abbrev rowsOf : Rows rows (length rows / 16) g
+  rowsOf = b .productions .rowsOf
 
   many : length (leavesIn g ks vs) ≡ length ks
   many = leaves-many g ks vs (b .even)
@@ -105,68 +93,77 @@ module _ {table rows inherited synthesized offsets ks : List ℕ} {vs : List ℤ
   few = omega (arith, many, b .few)
 
   pub productions-few : (p : ℕ) → p < length (g .productions) → p < 128
-  productions-few p l = omega (arith, b .formed .productions .1)
+  productions-few p l = omega (arith, rowsOf .sound .productions .1)
+
+  pub counts-are : (n : ℕ) → n < nonterminalCount g → byte inherited n + byte synthesized n ≡ att g (nonterminal n)
+  counts-are n l = ap₂ _+_ (b .counts .inherits n l) (b .counts .synthesizes n l)
+
+  pub row-at : (p : ℕ) → p < length (g .productions) → p < length rows / 16
+  row-at p l = omega (arith, rowsOf .counted)
 
   pub attributes-few : (n : ℕ) → n < nonterminalCount g → byte inherited n + byte synthesized n ≤ 8
-  attributes-few n l = omega (arith, b .counts n l, counts-most g (b .formed) n)
+  attributes-few n l = omega (arith, counts-are n l, counts-most g (rowsOf .sound) n)
+
+  pub span-inside : (p : ℕ) → p < length (g .productions) → (fieldsFrom rows offsets p ≤ stretchEnd table offsets (length rows / 16) p) × (stretchEnd table offsets (length rows / 16) p ≤ length table)
+  span-inside p l = fields-place (b .productions) (b .isTable) p (row-at p l) _ _ refl refl
 
   -- the rules and conditions of a production, as its fields list them
   abbrev pub listedAt : (p : ℕ) → p < length (g .productions) → Listed (fieldsOf table rows offsets p)
   listedAt p l =
-      let w = well-formed-at g (b .formed) p l in
-      record { rules = productionAt g p .rules; conditions = productionAt g p .conditions; own = b .fields p l; constants = w .constants; proper = w .proper }
+      let w = well-formed-at g (rowsOf .sound) p l in
+      record { rules = productionAt g p .rules; conditions = productionAt g p .conditions; own = fields-own (b .productions) (b .isTable) p (row-at p l) _ _ refl refl; constants = w .constants; proper = w .proper }
 
   module _ (at from m : ℕ) (k : m < nonterminalCount g) where
     heading-of : Heads rows inherited synthesized sheet at from m → Heading g sheet at from m
     heading-of h =
-        let l : wordAt sheet at < length (g .productions) = omega (arith, h .listed, b .rowsLong) in
+        let l : wordAt sheet at < length (g .productions) = omega (arith, h .listed, rowsOf .counted) in
         record {
-          inside = omega (arith, h .inside, b .counts m k);
+          inside = omega (arith, h .inside, counts-are m k);
           listed = l;
-          left = sym (b .left (wordAt sheet at) l) ∙ h .left;
+          left = sym (rowsOf .left (wordAt sheet at) (row-at (wordAt sheet at) l)) ∙ h .left;
           before = h .before;
-          ranges = true→T _ (ap (λ n. all inRange (longs sheet (at + 12) n)) (sym (b .counts m k)) ∙ h .ranges);
+          ranges = true→T _ (ap (λ n. all inRange (longs sheet (at + 12) n)) (sym (counts-are m k)) ∙ h .ranges);
         }
 
     heads-of : Heading g sheet at from m → Heads rows inherited synthesized sheet at from m
     heads-of h = record {
-      inside = omega (arith, h .inside, b .counts m k);
-      listed = omega (arith, h .listed, b .rowsLong);
-      left = b .left (wordAt sheet at) (h .listed) ∙ h .left;
+      inside = omega (arith, h .inside, counts-are m k);
+      listed = omega (arith, h .listed, rowsOf .counted);
+      left = rowsOf .left (wordAt sheet at) (row-at (wordAt sheet at) (h .listed)) ∙ h .left;
       before = h .before;
-      ranges = ap (λ n. all inRange (longs sheet (at + 12) n)) (b .counts m k) ∙ T→true _ (h .ranges);
+      ranges = ap (λ n. all inRange (longs sheet (at + 12) n)) (counts-are m k) ∙ T→true _ (h .ranges);
     }
 
 -- ---- a node
 
 module _ {table rows inherited synthesized offsets ks : List ℕ} {vs : List ℤ} {sheet : List ℕ} {from symbol : ℕ} (x : NodeReady table rows inherited synthesized offsets ks vs sheet from symbol) (at d : ℕ) where
   abbrev gr : Grammar
-  gr = x .book .grammar
+  gr = grammarIn table
 
   abbrev Here : ℕ → ℕ → Type 0
   Here = Described gr (leavesIn gr ks vs) sheet at from (symbolOf symbol) d
 
-  pub by-token : symbol < 128 → (r : Answer) → TokenTold ks vs at from symbol r → Told Here r
-  by-token l r t = subst (λ y. Told (Described gr (leavesIn gr ks vs) sheet at from y d) r) (sym (symbol-low symbol l)) (t gr sheet d (x .book .even))
+  pub by-token : symbol < 128 → (r : Answer) → TokenTold ks vs at from symbol r → EndsOrNone Here r
+  by-token l r t = subst (λ y. EndsOrNone (Described gr (leavesIn gr ks vs) sheet at from y d) r) (sym (symbol-terminal symbol l)) (t gr sheet d (x .book .even))
 
   module _ (big : 128 ≤ symbol) where
     abbrev m : ℕ
     m = symbol - 128
 
     pub known-m : m < nonterminalCount gr
-    known-m = subst (Known gr) (symbol-high symbol big) (x .known)
+    known-m = subst (Known gr) (symbol-nonterminal symbol big) (x .known)
 
     low : from ≤ length (leavesIn gr ks vs)
     low = omega (arith, many (x .book), x .low)
 
-    none-here : None (Described gr (leavesIn gr ks vs) sheet at from (nonterminal m) d) → Told Here Wrong
-    none-here h = told-wrong (subst (λ y. None (Described gr (leavesIn gr ks vs) sheet at from y d)) (sym (symbol-high symbol big)) h)
+    none-here : None (Described gr (leavesIn gr ks vs) sheet at from (nonterminal m) d) → EndsOrNone Here Wrong
+    none-here h = told-wrong (subst (λ y. None (Described gr (leavesIn gr ks vs) sheet at from y d)) (sym (symbol-nonterminal symbol big)) h)
 
-    pub flat : d ≡ 0 → Told Here Wrong
-    flat z = none-here (P.node-flat gr (x .book .formed) ks vs (few (x .book)) sheet (x .book .isBytes) at from m d low z)
+    pub flat : d ≡ 0 → EndsOrNone Here Wrong
+    flat z = none-here (P.node-flat gr (x .book .productions .rowsOf .sound) ks vs (few (x .book)) sheet (x .book .isBytes) at from m d low z)
 
-    pub unfit : (r : Head) → HeadTold rows inherited synthesized sheet at from m r → r ≡ Unfit → Told Here Wrong
-    unfit r t e = none-here (P.node-unfit gr (x .book .formed) ks vs (few (x .book)) sheet (x .book .isBytes) at from m d low (λ h. head-none rows inherited synthesized sheet at from m r t e (heads-of (x .book) at from m known-m h)))
+    pub unfit : (r : Head) → HeadTold rows inherited synthesized sheet at from m r → r ≡ Unfit → EndsOrNone Here Wrong
+    unfit r t e = none-here (P.node-unfit gr (x .book .productions .rowsOf .sound) ks vs (few (x .book)) sheet (x .book .isBytes) at from m d low (λ h. head-none rows inherited synthesized sheet at from m r t e (heads-of (x .book) at from m known-m h)))
 
     module _ (r : Head) (t : HeadTold rows inherited synthesized sheet at from m r) (p behind covered : ℕ) (found : r ≡ Found p behind covered) where
       pub is : HeadIs rows inherited synthesized sheet at from m p behind covered
@@ -179,16 +176,16 @@ module _ {table rows inherited synthesized offsets ks : List ℕ} {vs : List ℤ
       ready = record { book = x .book; listed = subst (λ q. q < length (gr .productions)) (sym (is .production)) (here .listed); low = x .low }
 
       behind-is : behind ≡ at + 12 + 8 * att gr (nonterminal m)
-      behind-is = is .next ∙ ap (λ n. at + 12 + 8 * n) (x .book .counts m known-m)
+      behind-is = is .next ∙ ap (λ n. at + 12 + 8 * n) (counts-are (x .book) m known-m)
 
       module _ (old new : List ℕ) (a : Answer) (below : ChildrenTold table rows inherited synthesized offsets ks vs sheet p behind from (d - 1) old new a) where
         -- the same with the record's own numbers
         told : MarkedTold gr ks vs sheet (wordAt sheet at) (at + 12 + 8 * att gr (nonterminal m)) from (d - 1) old new a
         told = subst (λ q. MarkedTold gr ks vs sheet q (at + 12 + 8 * att gr (nonterminal m)) from (d - 1) old new a) (is .production) (subst (λ q. MarkedTold gr ks vs sheet p q from (d - 1) old new a) behind-is (below ready))
 
-        pub wrong : a ≡ Wrong → Told Here Wrong
+        pub wrong : a ≡ Wrong → EndsOrNone Here Wrong
         unfolding MarkedTold
-        wrong e = none-here (P.node-wrong gr (x .book .formed) ks vs (few (x .book)) sheet (x .book .isBytes) at from m d low (subst (λ z. MarkedTold gr ks vs sheet (wordAt sheet at) (at + 12 + 8 * att gr (nonterminal m)) from (d - 1) old new z) e told))
+        wrong e = none-here (P.node-wrong gr (x .book .productions .rowsOf .sound) ks vs (few (x .book)) sheet (x .book .isBytes) at from m d low (subst (λ z. MarkedTold gr ks vs sheet (wordAt sheet at) (at + 12 + 8 * att gr (nonterminal m)) from (d - 1) old new z) e told))
 
         module _ (n e : ℕ) (fits : a ≡ Fits n e) where
           abbrev Got : Type 0
@@ -208,30 +205,30 @@ module _ {table rows inherited synthesized offsets ks : List ℕ} {vs : List ℤ
           pub from-end : from ≤ e
           from-end = let s = got .0 .0 .stands .tokensEnd in omega (arith, s)
 
-          pub uncovered : (e - from ≡ covered → ⊥) → Told Here Wrong
-          uncovered f = none-here (P.node-uncovered gr (x .book .formed) ks vs (few (x .book)) sheet (x .book .isBytes) at from m d low n e (got .0) (λ q. f (q ∙ sym (is .covers))))
+          pub uncovered : (e - from ≡ covered → ⊥) → EndsOrNone Here Wrong
+          uncovered f = none-here (P.node-uncovered gr (x .book .productions .rowsOf .sound) ks vs (few (x .book)) sheet (x .book .isBytes) at from m d low n e (got .0) (λ q. f (q ∙ sym (is .covers))))
 
           module _ (first : getD old 0 0 ≡ at) (h : Bool) (held : (y : Listed (fieldsOf table rows offsets p)) → h ≡ listedTrue (readAt sheet vs new) y) where
             truth : h ≡ allTrue (readAt sheet vs new) (productionAt gr (wordAt sheet at) .rules) (productionAt gr (wordAt sheet at) .conditions)
             truth = subst (λ q. h ≡ allTrue (readAt sheet vs new) (productionAt gr q .rules) (productionAt gr q .conditions)) (is .production) (held (listedAt (x .book) p (ready .listed)))
 
-            pub unheld : h ≡ false → Told Here Wrong
-            unheld f = none-here (P.node-false gr (x .book .formed) ks vs (few (x .book)) sheet (x .book .isBytes) at from m d low n e (got .0) here new (got .2 ∙ first) (got .1) (sym truth ∙ f))
+            pub unheld : h ≡ false → EndsOrNone Here Wrong
+            unheld f = none-here (P.node-false gr (x .book .productions .rowsOf .sound) ks vs (few (x .book)) sheet (x .book .isBytes) at from m d low n e (got .0) here new (got .2 ∙ first) (got .1) (sym truth ∙ f))
 
-            pub fitting : 0 < d → e - from ≡ covered → h ≡ true → Told Here (Fits n e)
-            fitting deep c f = told-fits n e (subst (λ y. Only (Described gr (leavesIn gr ks vs) sheet at from y d) n e) (sym (symbol-high symbol big)) (P.node-fits gr (x .book .formed) ks vs (few (x .book)) sheet (x .book .isBytes) at from m d low n e (got .0) here new (got .2 ∙ first) (got .1) deep (c ∙ is .covers) (sym truth ∙ f)))
+            pub fitting : 0 < d → e - from ≡ covered → h ≡ true → EndsOrNone Here (Fits n e)
+            fitting deep c f = told-fits n e (subst (λ y. Only (Described gr (leavesIn gr ks vs) sheet at from y d) n e) (sym (symbol-nonterminal symbol big)) (P.node-fits gr (x .book .productions .rowsOf .sound) ks vs (few (x .book)) sheet (x .book .isBytes) at from m d low n e (got .0) here new (got .2 ∙ first) (got .1) deep (c ∙ is .covers) (sym truth ∙ f)))
 
 -- ---- children
 
 module _ {table rows inherited synthesized offsets ks : List ℕ} {vs : List ℤ} {sheet : List ℕ} {p from : ℕ} where
-  pub size-is : (x : ChildrenReady table rows inherited synthesized offsets ks vs sheet p from) → byte rows (16 * p + 1) ≡ length (productionAt (x .book .grammar) p .right)
-  size-is x = x .book .size p (x .listed)
+  pub size-is : (x : ChildrenReady table rows inherited synthesized offsets ks vs sheet p from) → sizeAt rows p ≡ length (productionAt (grammarIn table) p .right)
+  size-is x = R.size-is (x .book .productions .rowsOf) p (row-at (x .book) p (x .listed))
 
-  pub size-few : (x : ChildrenReady table rows inherited synthesized offsets ks vs sheet p from) → byte rows (16 * p + 1) ≤ 12
-  size-few x = omega (arith, size-is x, well-formed-at (x .book .grammar) (x .book .formed) p (x .listed) .short)
+  pub size-few : (x : ChildrenReady table rows inherited synthesized offsets ks vs sheet p from) → sizeAt rows p ≤ 12
+  size-few x = omega (arith, size-is x, well-formed-at (grammarIn table) (x .book .productions .rowsOf .sound) p (x .listed) .short)
 
-  pub row-inside : (x : ChildrenReady table rows inherited synthesized offsets ks vs sheet p from) → 16 * p + 16 ≤ length rows
-  row-inside x = omega (arith, x .listed, x .book .rowsLong)
+  pub row-inside : (x : ChildrenReady table rows inherited synthesized offsets ks vs sheet p from) → p * 16 + 16 ≤ length rows
+  row-inside x = omega (arith, x .listed, x .book .productions .rowsOf .counted)
 
   pub row-few : (x : ChildrenReady table rows inherited synthesized offsets ks vs sheet p from) → p < 128
   row-few x = productions-few (x .book) p (x .listed)
@@ -241,7 +238,7 @@ module _ {table rows inherited synthesized offsets ks : List ℕ} {vs : List ℤ
   passed-none l = record {
     long = l;
     own = refl;
-    upto = λ x. P.upto-none (x .book .grammar) (x .book .formed) ks vs (few (x .book)) sheet at from (productionAt (x .book .grammar) p .right) d (omega (arith, many (x .book), x .low)) marks₀;
+    upto = λ x. P.upto-none (grammarIn table) (x .book .productions .rowsOf .sound) ks vs (few (x .book)) sheet at from (productionAt (grammarIn table) p .right) d (omega (arith, many (x .book), x .low)) marks₀;
   }
 
   module _ {k next end : ℕ} {marks : List ℕ} (s : Passed table rows inherited synthesized offsets ks vs sheet p at from d marks₀ k next end marks) where
@@ -251,43 +248,43 @@ module _ {table rows inherited synthesized offsets ks : List ℕ} {vs : List ℤ
     pub end-small : (x : ChildrenReady table rows inherited synthesized offsets ks vs sheet p from) → end < 4294967296
     end-small x = omega (arith, end-inside x, x .book .few)
 
-    module _ (l : k < byte rows (16 * p + 1)) (symbol : ℕ) (e : symbol ≡ byte rows (16 * p + (k + 2))) where
-      pub at-hand : (x : ChildrenReady table rows inherited synthesized offsets ks vs sheet p from) → symbolOf symbol ≡ getD (productionAt (x .book .grammar) p .right) k (terminal 0)
-      at-hand x = ap symbolOf e ∙ x .book .symbols p k (x .listed) (omega (arith, size-is x))
+    module _ (l : k < sizeAt rows p) (symbol : ℕ) (e : symbol ≡ byteAt rows p k) where
+      pub at-hand : (x : ChildrenReady table rows inherited synthesized offsets ks vs sheet p from) → symbolOf symbol ≡ getD (productionAt (grammarIn table) p .right) k (terminal 0)
+      at-hand x = ap symbolOf e ∙ R.symbol-is (x .book .productions .rowsOf) p (row-at (x .book) p (x .listed)) k (omega (arith, size-is x))
 
       abbrev pub node-ready : (x : ChildrenReady table rows inherited synthesized offsets ks vs sheet p from) → NodeReady table rows inherited synthesized offsets ks vs sheet end symbol
       node-ready x = record {
         book = x .book;
-        known = subst (Known (x .book .grammar)) (sym (at-hand x)) (well-formed-at (x .book .grammar) (x .book .formed) p (x .listed) .symbols _ (getD-in (productionAt (x .book .grammar) p .right) k (terminal 0) (omega (arith, size-is x))));
+        known = subst (Known (grammarIn table)) (sym (at-hand x)) (well-formed-at (grammarIn table) (x .book .productions .rowsOf .sound) p (x .listed) .symbols _ (getD-in (productionAt (grammarIn table) p .right) k (terminal 0) (omega (arith, size-is x))));
         low = end-inside x;
       }
 
       module _ (r : Answer) (t : NodeTold table rows inherited synthesized offsets ks vs sheet next end symbol d r) where
-        node-told : (x : ChildrenReady table rows inherited synthesized offsets ks vs sheet p from) → Told (Described (x .book .grammar) (leavesIn (x .book .grammar) ks vs) sheet next end (getD (productionAt (x .book .grammar) p .right) k (terminal 0)) d) r
-        node-told x = subst (λ y. Told (Described (x .book .grammar) (leavesIn (x .book .grammar) ks vs) sheet next end y d) r) (at-hand x) (t (node-ready x))
+        node-told : (x : ChildrenReady table rows inherited synthesized offsets ks vs sheet p from) → EndsOrNone (Described (grammarIn table) (leavesIn (grammarIn table) ks vs) sheet next end (getD (productionAt (grammarIn table) p .right) k (terminal 0)) d) r
+        node-told x = subst (λ y. EndsOrNone (Described (grammarIn table) (leavesIn (grammarIn table) ks vs) sheet next end y d) r) (at-hand x) (t (node-ready x))
 
         pub passed-wrong : (new : List ℕ) → r ≡ Wrong → ChildrenTold table rows inherited synthesized offsets ks vs sheet p at from d marks₀ new Wrong
         unfolding MarkedTold
-        passed-wrong new w x = P.upto-wrong (x .book .grammar) (x .book .formed) ks vs (few (x .book)) sheet at from (productionAt (x .book .grammar) p .right) d k next end marks (s .upto x) (omega (arith, size-is x)) (wrong-told _ r (node-told x) w)
+        passed-wrong new w x = P.upto-wrong (grammarIn table) (x .book .productions .rowsOf .sound) ks vs (few (x .book)) sheet at from (productionAt (grammarIn table) p .right) d k next end marks (s .upto x) (omega (arith, size-is x)) (wrong-told _ r (node-told x) w)
 
         pub passed-more : (n₁ e₁ : ℕ) → r ≡ Fits n₁ e₁ → k + 1 < 13 → (mark : ℕ) → mark ≡ markOf (length sheet) (symbolOf symbol) next end → Passed table rows inherited synthesized offsets ks vs sheet p at from d marks₀ (k + 1) n₁ e₁ (set marks (k + 1) mark)
         passed-more n₁ e₁ w short mark em = record {
           long = length-set marks (k + 1) mark ∙ s .long;
           own = getD-set-other marks (k + 1) 0 mark 0 (λ q. omega arith) ∙ s .own;
-          upto = λ x. P.upto-more (x .book .grammar) (x .book .formed) ks vs (few (x .book)) sheet at from (productionAt (x .book .grammar) p .right) d k next end marks (s .upto x) (omega (arith, size-is x)) n₁ e₁ (fits-told r n₁ e₁ (node-told x) w) (set marks (k + 1) mark) (λ i j. getD-set-other marks (k + 1) (suc i) mark 0 (λ q. omega arith)) (new-mark x);
+          upto = λ x. P.upto-more (grammarIn table) (x .book .productions .rowsOf .sound) ks vs (few (x .book)) sheet at from (productionAt (grammarIn table) p .right) d k next end marks (s .upto x) (omega (arith, size-is x)) n₁ e₁ (fits-told r n₁ e₁ (node-told x) w) (set marks (k + 1) mark) (λ i j. getD-set-other marks (k + 1) (suc i) mark 0 (λ q. omega arith)) (new-mark x);
         }
           where
-            new-mark : (x : ChildrenReady table rows inherited synthesized offsets ks vs sheet p from) → getD (set marks (k + 1) mark) (suc k) 0 ≡ markOf (length sheet) (getD (productionAt (x .book .grammar) p .right) k (terminal 0)) next end
+            new-mark : (x : ChildrenReady table rows inherited synthesized offsets ks vs sheet p from) → getD (set marks (k + 1) mark) (suc k) 0 ≡ markOf (length sheet) (getD (productionAt (grammarIn table) p .right) k (terminal 0)) next end
             new-mark x =
                 let one : suc k ≡ k + 1 = omega arith in
                 ap (λ i. getD (set marks (k + 1) mark) i 0) one ∙ (getD-set-same marks (k + 1) mark 0 (omega (arith, s .long)) ∙ (em ∙ ap (λ y. markOf (length sheet) y next end) (at-hand x)))
 
-    pub passed-end : byte rows (16 * p + 1) ≡ k → ChildrenTold table rows inherited synthesized offsets ks vs sheet p at from d marks₀ marks (Fits next end)
+    pub passed-end : sizeAt rows p ≡ k → ChildrenTold table rows inherited synthesized offsets ks vs sheet p at from d marks₀ marks (Fits next end)
     unfolding MarkedTold
     passed-end l x =
-        let e : k ≡ length (productionAt (x .book .grammar) p .right) = sym l ∙ size-is x in (
-          P.upto-end (x .book .grammar) (x .book .formed) ks vs (few (x .book)) sheet at from (productionAt (x .book .grammar) p .right) d k next end marks (s .upto x) (omega arith),
-          P.upto-marked (x .book .grammar) (x .book .formed) ks vs (few (x .book)) sheet at from (productionAt (x .book .grammar) p .right) d k next end marks (s .upto x) (omega arith) e,
+        let e : k ≡ length (productionAt (grammarIn table) p .right) = sym l ∙ size-is x in (
+          P.upto-end (grammarIn table) (x .book .productions .rowsOf .sound) ks vs (few (x .book)) sheet at from (productionAt (grammarIn table) p .right) d k next end marks (s .upto x) (omega arith),
+          P.upto-marked (grammarIn table) (x .book .productions .rowsOf .sound) ks vs (few (x .book)) sheet at from (productionAt (grammarIn table) p .right) d k next end marks (s .upto x) (omega arith) e,
           s .own,
           s .long,
         )

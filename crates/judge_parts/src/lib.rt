@@ -3,8 +3,8 @@ ghost use Prim.Native.Nat.{_+_, _/_, _<_, _≤_};
 ghost use mathlib.Core.Path.{_≡_};
 ghost use lib.ListN.{length};
 ghost use Rattle.meaning.specs.Table.{symbolOf};
-ghost use Rattle.program_words.specs.Brought.{fieldsFrom, stretchEnd};
-ghost use Rattle.block_words.specs.Walk.{Listed};
+ghost use Rattle.program_words.specs.Fields.{fieldsFrom, stretchEnd};
+ghost use Rattle.program_block_words.specs.Walk.{Listed};
 ghost use Rattle.theory_judge.specs.Marks.{readAt, markOf};
 ghost use Rattle.theory_judge.specs.Holding.{listedTrue};
 ghost use Rattle.judge_parts.specs.Checked.{fieldsOf, TokenTold};
@@ -13,26 +13,6 @@ ghost use Rattle.judge_parts.specs.Checked.{fieldsOf, TokenTold};
 pub enum Answer {
     Fits { next: usize, end: usize },
     Wrong,
-}
-
-// Where the rules and conditions of production p begin in the table.
-fn fields_from(rows: &[u8], offsets: &[u32], p: usize) -> usize
-    requires { ⌜ p < 128 ⌝ }
-    ensures { λ r. ⌜ r ≡ fieldsFrom (now (rows .entry)) (now (offsets .entry)) p ⌝ }
-{
-    let offset = body_counts::number_at(offsets, p) as usize;
-    offset + 5 + value::byte_at(rows, 16 * p + 1) as usize
-}
-
-// Where its stretch of the table ends.
-fn stretch_end(table: &[u8], offsets: &[u32], count: usize, p: usize) -> usize
-    requires { ⌜ p < 128 ⌝ }
-    ensures { λ r. ⌜ r ≡ stretchEnd (now (table .entry)) (now (offsets .entry)) count p ⌝ }
-{
-    if p + 1 < count {
-        return body_counts::number_at(offsets, p + 1) as usize;
-    }
-    table.len()
 }
 
 // Whether the rules and conditions of production p hold of the values that the marks show.
@@ -48,8 +28,8 @@ pub fn holds(
     requires { ⌜ (p < 128) × (fieldsFrom (now rows) (now offsets) p ≤ stretchEnd (now table) (now offsets) (length (now rows) / 16) p) × (stretchEnd (now table) (now offsets) (length (now rows) / 16) p ≤ length (now table)) × Listed (fieldsOf (now table) (now rows) (now offsets) p) ⌝ }
     ensures { λ r. ⌜ ((x : Listed (fieldsOf (now (table .entry)) (now (rows .entry)) (now (offsets .entry)) p)) → r ≡ listedTrue (readAt (now (sheet .entry)) (now (values .entry)) (now (marks .entry))) x) ⌝ }
 {
-    let from = fields_from(rows, offsets, p);
-    let to = stretch_end(table, offsets, rows.len() / 16, p);
+    let from = program_fields::fields_from(rows, offsets, p);
+    let to = program_fields::stretch_end(table, offsets, rows.len() / 16, p);
     let fields = &table[from..to];
     judge_values::fields_hold(fields, sheet, values, marks)
 }

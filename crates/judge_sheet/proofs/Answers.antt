@@ -14,50 +14,52 @@ use Rattle.theory_judge.specs.Marks.{readMark, leaves-many}
 use Rattle.theory_judge.specs.Passing.{Only}
 use Rattle.theory_judge.specs.Described.{Described}
 use Rattle.theory_judge.specs.Whole.{none-wrong, none-longer, none-tokens, settles-worth, settles-none}
-use Rattle.judge_parts.specs.Checked.{leavesIn, Told, NodeReady, NodeTold}
-use Rattle.judge_parts.specs.Laws.{fits-told, wrong-told, symbol-high}
+use Rattle.outline.specs.Rows.{symbol-nonterminal}
+use Rattle.outline.specs.Outline.{grammarIn}
+use Rattle.judge_parts.specs.Checked.{leavesIn, EndsOrNone, NodeReady, NodeTold}
+use Rattle.judge_parts.specs.Laws.{fits-told, wrong-told}
 use Rattle.judge_parts.specs.declared.Answer as Answer
 use Rattle.judge_parts.specs.declared.Answer.the-variants.{Fits, Wrong}
 use Rattle.judge_sheet.specs.Judged.{SheetReady}
 
 module _ {table rows inherited synthesized offsets ks : List ℕ} {vs : List ℤ} {sheet : List ℕ} {start result : ℕ} (y : SheetReady table rows inherited synthesized offsets ks vs sheet start result) where
   abbrev g : Grammar
-  g = y .book .grammar
+  g = grammarIn table
 
   pub start-small : start < 48
-  start-small = omega (arith, y .isStart, y .book .formed .start, y .book .formed .nonterminals .1)
+  start-small = omega (arith, y .isStart, y .book .productions .rowsOf .sound .start, y .book .productions .rowsOf .sound .nonterminals .1)
 
   pub result-small : result < 256
-  result-small = omega (arith, y .isResult, y .book .formed .result .1, counts-few)
+  result-small = omega (arith, y .isResult, y .book .productions .rowsOf .sound .result .1, counts-few)
     where
       counts-few : syn g (nonterminal (g .start)) ≤ 8
-      counts-few = omega (arith, counts-most g (y .book .formed) (g .start))
+      counts-few = omega (arith, counts-most g (y .book .productions .rowsOf .sound) (g .start))
 
   pub start-is : symbolOf (128 + start) ≡ nonterminal (g .start)
-  start-is = symbol-high (128 + start) (omega arith) ∙ ap nonterminal (omega (arith, y .isStart))
+  start-is = symbol-nonterminal (128 + start) (omega arith) ∙ ap nonterminal (omega (arith, y .isStart))
 
   abbrev pub root-ready : NodeReady table rows inherited synthesized offsets ks vs sheet 0 (128 + start)
-  root-ready = record { book = y .book; known = subst (Known g) (sym start-is) (y .book .formed .start); low = omega arith }
+  root-ready = record { book = y .book; known = subst (Known g) (sym start-is) (y .book .productions .rowsOf .sound .start); low = omega arith }
 
   few-leaves : length (leavesIn g ks vs) < 4294967296
   few-leaves = omega (arith, leaves-many g ks vs (y .book .even), y .book .few)
 
   module _ (r : Answer.Answer) (t : NodeTold table rows inherited synthesized offsets ks vs sheet 0 0 (128 + start) 1023 r) where
-    told : Told (Described g (leavesIn g ks vs) sheet 0 0 (nonterminal (g .start)) 1023) r
-    told = subst (λ z. Told (Described g (leavesIn g ks vs) sheet 0 0 z 1023) r) start-is (t root-ready)
+    told : EndsOrNone (Described g (leavesIn g ks vs) sheet 0 0 (nonterminal (g .start)) 1023) r
+    told = subst (λ z. EndsOrNone (Described g (leavesIn g ks vs) sheet 0 0 z 1023) r) start-is (t root-ready)
 
     pub sheet-wrong : r ≡ Wrong → Settles g (leavesIn g ks vs) sheet (turnedBack 43 0)
-    sheet-wrong w = settles-none g (y .book .formed) ks vs sheet (none-wrong g (y .book .formed) ks vs sheet (wrong-told _ r told w))
+    sheet-wrong w = settles-none g (y .book .productions .rowsOf .sound) ks vs sheet (none-wrong g (y .book .productions .rowsOf .sound) ks vs sheet (wrong-told _ r told w))
 
     module _ (n e : ℕ) (f : r ≡ Fits n e) where
       only : Only (Described g (leavesIn g ks vs) sheet 0 0 (nonterminal (g .start)) 1023) n e
       only = fits-told r n e told f
 
       pub sheet-longer : (n ≡ length sheet → ⊥) → Settles g (leavesIn g ks vs) sheet (turnedBack 43 0)
-      sheet-longer k = settles-none g (y .book .formed) ks vs sheet (none-longer g (y .book .formed) ks vs sheet n e only k)
+      sheet-longer k = settles-none g (y .book .productions .rowsOf .sound) ks vs sheet (none-longer g (y .book .productions .rowsOf .sound) ks vs sheet n e only k)
 
       pub tokens-longer : (e ≡ length ks → ⊥) → Settles g (leavesIn g ks vs) sheet (turnedBack 43 0)
-      tokens-longer k = settles-none g (y .book .formed) ks vs sheet (none-tokens g (y .book .formed) ks vs sheet n e only (λ q. k (q ∙ leaves-many g ks vs (y .book .even))))
+      tokens-longer k = settles-none g (y .book .productions .rowsOf .sound) ks vs sheet (none-tokens g (y .book .productions .rowsOf .sound) ks vs sheet n e only (λ q. k (q ∙ leaves-many g ks vs (y .book .even))))
 
       pub sheet-worth : n ≡ length sheet → e ≡ length ks → (v : ℤ) → v ≡ readMark sheet vs 0 result → Settles g (leavesIn g ks vs) sheet (worth v)
-      sheet-worth p q v is = settles-worth g (y .book .formed) ks vs sheet n e only few-leaves p (q ∙ sym (leaves-many g ks vs (y .book .even))) v (is ∙ ap (readMark sheet vs 0) (y .isResult))
+      sheet-worth p q v is = settles-worth g (y .book .productions .rowsOf .sound) ks vs sheet n e only few-leaves p (q ∙ sym (leaves-many g ks vs (y .book .even))) v (is ∙ ap (readMark sheet vs 0) (y .isResult))

@@ -4,6 +4,7 @@ use mathlib.Core.Path.{_≡_}
 use mathlib.Core.List.{List}
 use lib.IntN.{ℤ}
 use Rattle.meaning_judge.specs.Judge.{JudgeAnswer, worth, turnedBack, Settles}
+use Rattle.outline.specs.Outline.{grammarIn}
 use Rattle.judge_parts.specs.Checked.{Book, leavesIn}
 use Rattle.judge_sheet.specs.declared.Judgement.{Judgement}
 use Rattle.judge_sheet.specs.declared.Judgement.the-variants.{Value, Uneven, Wrong, Unusable}
@@ -17,9 +18,9 @@ judgementIs (Unusable number offset) = turnedBack number offset
 
 pub record SheetReady (table rows inherited synthesized offsets ks : List ℕ) (vs : List ℤ) (sheet : List ℕ) (start result : ℕ) : Type 0 where
   pub book : Book table rows inherited synthesized offsets ks vs sheet
-  pub isStart : start ≡ book .grammar .start
-  pub isResult : result ≡ book .grammar .result
+  pub isStart : start ≡ grammarIn table .start
+  pub isResult : result ≡ grammarIn table .result
 
 abbrev pub SheetTold : List ℕ → List ℕ → List ℕ → List ℕ → List ℕ → List ℕ → List ℤ → List ℕ → ℕ → ℕ → Judgement → Type 0
 SheetTold table rows inherited synthesized offsets ks vs sheet start result r =
-    (x : SheetReady table rows inherited synthesized offsets ks vs sheet start result) → Settles (x .book .grammar) (leavesIn (x .book .grammar) ks vs) sheet (judgementIs r)
+    (x : SheetReady table rows inherited synthesized offsets ks vs sheet start result) → Settles (grammarIn table) (leavesIn (grammarIn table) ks vs) sheet (judgementIs r)

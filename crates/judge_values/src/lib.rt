@@ -3,7 +3,7 @@ ghost use mathlib.Core.Path.{_≡_};
 ghost use mathlib.Core.Bool.{true};
 ghost use Rattle.meaning.specs.Value.{inRange};
 ghost use Rattle.meaning.specs.Table.{constantAt};
-ghost use Rattle.block_words.specs.Walk.{Listed};
+ghost use Rattle.program_block_words.specs.Walk.{Listed};
 ghost use Rattle.theory_judge.specs.Marks.{readAt};
 ghost use Rattle.theory_judge.specs.Holding.{firstHere, secondHere, ruleHere, addedHere, conditionHere, fieldTrue, listedTrue};
 
@@ -41,7 +41,7 @@ fn rule_holds(field: &[u8], sheet: &[u8], values: &[i32], marks: &[usize]) -> bo
     let function = value::byte_at(field, 5);
     let a = first(field, function, sheet, values, marks);
     let b = second(field, function, sheet, values, marks);
-    let c = functions::compute(function, a, b);
+    let c = value_functions::compute(function, a, b);
     let target = judge_marks::occurrence(field, 3, sheet, values, marks);
     value::in_bounds(target, c, c)
 }

@@ -5,7 +5,7 @@ use mathlib.Core.List.{List, [], _∷_}
 use Rattle.meaning.specs.Listing.{Text, refusalLine}
 use Rattle.meaning.specs.Table.{grammarOf}
 use Rattle.meaning.specs.PublicCalls.{unusable, check}
-use Rattle.prepare.specs.Making.{Standing}
+use Rattle.prepare.specs.Making.{ProgramStands}
 use Rattle.listing_text.specs.declared.Cursor.{Cursor}
 use Rattle.listing_text.specs.Cursors.{linesLeft}
 use Rattle.listing_text.specs.Handed.{BeforeAll}
@@ -18,5 +18,5 @@ shows-as {ws = ws} {before = before} {after = after} {r = r} e p = subst (λ ls.
 pub lines-refused : (t : List ℕ) (n o : ℕ) → check t ≡ unusable n o → refusalLine n o ∷ [] ≡ linesOf t
 lines-refused t n o e = sym (ap linesBy e)
 
-pub lines-listing : {t area ws : List ℕ} {size : ℕ} (c : Cursor) → Standing t area ws size → BeforeAll ws c → linesLeft ws c ≡ linesOf t
+pub lines-listing : {t area ws : List ℕ} {size : ℕ} (c : Cursor) → ProgramStands t area ws size → BeforeAll ws c → linesLeft ws c ≡ linesOf t
 lines-listing c s b = b (grammarOf (s .state)) (s .formed) (s .begins) ∙ sym (ap linesBy (s .isUsable))

@@ -1,2 +1,4 @@
+-- One line of the listing each, and its parts by the numbers that the program's words hold
 pub mod Line
-pub mod Rows
+-- Rows: lines from words
+pub mod LineExamples

@@ -8,7 +8,7 @@ use Rattle.meaning.specs.Grammar.{Rule, Condition}
 use Rattle.meaning.specs.Table.{signed}
 use Rattle.meaning.specs.Listing.{Text, number, word, line, action, functionText, conditionText}
 use Rattle.theory_program.specs.Unpacked.{functionFrom, conditionOfKind, conditionFrom}
-use Rattle.text.specs.Decimal.{decimal, integral}
+use Rattle.listing_bytes.specs.Decimal.{decimal, integral}
 
 unfoldable pub addLine : ℕ → ℕ → ℕ → Text
 addLine i k n = line i (action 65 k) (word (number n))

@@ -6,14 +6,14 @@ ghost use lib.ListN.{length};
 ghost use Rattle.meaning.specs.Listing.{word, refusalLine};
 ghost use Rattle.meaning.specs.PublicCalls.{written};
 ghost use Rattle.theory_program.specs.Unpacked.{ruleFrom, conditionFrom};
-ghost use Rattle.text.specs.Written.{Wrote};
-ghost use Rattle.text.specs.Decimal.{decimal, integral};
+ghost use Rattle.listing_bytes.specs.Written.{Wrote};
+ghost use Rattle.listing_bytes.specs.Decimal.{decimal, integral};
 ghost use Rattle.listing_lines.specs.Line.{addLine, ruleLine, conditionLine, removeLine, prefixText, functionAs, conditionAs};
-use text::copy;
-use text::number;
-use text::put;
-use text::spaced_integer;
-use text::spaced_number;
+use listing_bytes::copy;
+use listing_bytes::number;
+use listing_bytes::put;
+use listing_bytes::spaced_integer;
+use listing_bytes::spaced_number;
 
 // ---- functions and conditions
 

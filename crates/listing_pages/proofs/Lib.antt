@@ -1,1 +1,2 @@
+-- Lines written one behind the other into a page
 pub mod Paging

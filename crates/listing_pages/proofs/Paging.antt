@@ -14,7 +14,7 @@ use Rattle.meaning.specs.PublicCalls.{written, joined}
 use Rattle.listing_text.specs.declared.Cursor.{Cursor}
 use Rattle.listing_text.specs.declared.Line.{Line}
 use Rattle.listing_text.specs.Cursors.{linesLeft}
-use Rattle.listing_text.specs.Handed.{Told, told-first, told-none}
+use Rattle.listing_text.specs.Handed.{FirstLineOrOver, told-first, told-none}
 use Rattle.listing_pages.specs.declared.Page.{Page}
 use Rattle.listing_pages.specs.Pages.{lineRoom, leadBy, leftBy, lead, left, isNone, restBy, Shows, OnwardBy, Onward}
 
@@ -125,7 +125,7 @@ module _ {ws before : List ℕ} {c₀ : Cursor} {out : List ℕ} {filled : ℕ} 
   none-behind : drop room (drop filled out) ≡ []
   none-behind = drop-of-length-le (drop filled out) {i = room} (omega (arith, length-drop filled out))
 
-  module _ (r : Line) (after : List ℕ) (t : Told ws (linesLeft ws c) (take room (drop filled out)) after r) where
+  module _ (r : Line) (after : List ℕ) (t : FirstLineOrOver ws (linesLeft ws c) (take room (drop filled out)) after r) where
     pub told-turn : filled + lineRoom ≤ length before → r .over ≡ false → Filled ws before c₀ (putMid filled room out after) (filled + r .length) (r .next)
     told-turn l e =
         let x = told-first ws (linesLeft ws c) r e t in
@@ -142,7 +142,7 @@ module _ {ws before : List ℕ} {c₀ : Cursor} {out : List ℕ} {filled : ℕ} 
 
 -- ---- a line asked for aside says whether one is left
 
-pub told-none-left : (ws : List ℕ) (ls : List Text) (before after : List ℕ) (r : Line) → Told ws ls before after r → r .over ≡ isNone ls
+pub told-none-left : (ws : List ℕ) (ls : List Text) (before after : List ℕ) (r : Line) → FirstLineOrOver ws ls before after r → r .over ≡ isNone ls
 told-none-left ws [] before after r t = t .0
 told-none-left ws (l ∷ ls) before after r t = t .0
 

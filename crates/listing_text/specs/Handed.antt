@@ -12,7 +12,7 @@ use Rattle.meaning.specs.Rules.{WellFormed}
 use Rattle.meaning.specs.Listing.{Text, listing}
 use Rattle.meaning.specs.PublicCalls.{written}
 use Rattle.theory_program.specs.Addresses.{Begins}
-use Rattle.text.specs.Written.{Wrote, wrote-first}
+use Rattle.listing_bytes.specs.Written.{Wrote, wrote-first}
 use Rattle.listing_text.specs.declared.Cursor.{Cursor}
 use Rattle.listing_text.specs.declared.Line.{Line}
 use Rattle.listing_text.specs.Cursors.{wordAt, startOf, insideOf, skipsOf, skipped, ruleHere, behindRule, conditionHere, behindCondition, addHere, behindAdd, removeHere, Step, stop, skip, emit, pickStep, itemStep, headStep, stepOf, followed, linesLeft}
@@ -29,9 +29,9 @@ pub emits-as : {before after : List ℕ} {r : Line} {t u : Text} {d : Cursor} �
 emits-as {before} {after} {r} {t} {u} {d} e h = subst (λ k. Emits before after r k d) e h
 
 -- of the lines still to come: the first one, and the cursor of the others; or that there is none
-abbrev pub Told : List ℕ → List Text → List ℕ → List ℕ → Line → Type 0
-Told ws [] before after r = (r .over ≡ true) × (after ≡ before)
-Told ws (l ∷ ls) before after r = (r .over ≡ false) × (r .length ≡ length l) × (after ≡ written l before) × (linesLeft ws (r .next) ≡ ls)
+abbrev pub FirstLineOrOver : List ℕ → List Text → List ℕ → List ℕ → Line → Type 0
+FirstLineOrOver ws [] before after r = (r .over ≡ true) × (after ≡ before)
+FirstLineOrOver ws (l ∷ ls) before after r = (r .over ≡ false) × (r .length ≡ length l) × (after ≡ written l before) × (linesLeft ws (r .next) ≡ ls)
 
 -- the whole listing is still to come, whatever grammar the words begin with the program of
 abbrev pub BeforeAll : List ℕ → Cursor → Type 0
@@ -91,24 +91,24 @@ module _ (ws : List ℕ) (c d : Cursor) (same : linesLeft ws d ≡ linesLeft ws 
   after-step : (s : Step) → stepOf ws d ≡ s → linesLeft ws c ≡ followed s (λ e. linesLeft ws e)
   after-step s e = sym same ∙ (lines-step ws d ∙ ap (λ k. followed k (λ f. linesLeft ws f)) e)
 
-  pub told-stop : (m : List ℕ) (r : Line) → stepOf ws d ≡ stop → r .over ≡ true → Told ws (linesLeft ws c) m m r
-  told-stop m r e o = subst (λ ls. Told ws ls m m r) (sym (after-step stop e)) (o, refl)
+  pub told-stop : (m : List ℕ) (r : Line) → stepOf ws d ≡ stop → r .over ≡ true → FirstLineOrOver ws (linesLeft ws c) m m r
+  told-stop m r e o = subst (λ ls. FirstLineOrOver ws ls m m r) (sym (after-step stop e)) (o, refl)
 
-  pub told-line : {before after : List ℕ} {r : Line} {t : Text} {e : Cursor} → 64 ≤ length before → stepOf ws d ≡ emit t e → Emits before after r t e → (r .length ≤ 64) × Told ws (linesLeft ws c) before after r
+  pub told-line : {before after : List ℕ} {r : Line} {t : Text} {e : Cursor} → 64 ≤ length before → stepOf ws d ≡ emit t e → Emits before after r t e → (r .length ≤ 64) × FirstLineOrOver ws (linesLeft ws c) before after r
   told-line {before} {after} {r} {t} {e} l s h = (
     h .short,
-    subst (λ ls. Told ws ls before after r) (sym (after-step (emit t e) s))
+    subst (λ ls. FirstLineOrOver ws ls before after r) (sym (after-step (emit t e) s))
         (h .some, omega (arith, h .text .behind), wrote-first (omega (arith, h .short)) (h .text), ap (linesLeft ws) (h .next)),
   )
 
 -- ---- for a caller that asks for one line after the other
 
 -- a line was handed out: it comes first, and one line less is left
-pub told-first : (ws : List ℕ) (ls : List Text) {before after : List ℕ} (r : Line) → r .over ≡ false → Told ws ls before after r → (l : Text) × (ls ≡ l ∷ linesLeft ws (r .next)) × (r .length ≡ length l) × (after ≡ written l before)
+pub told-first : (ws : List ℕ) (ls : List Text) {before after : List ℕ} (r : Line) → r .over ≡ false → FirstLineOrOver ws ls before after r → (l : Text) × (ls ≡ l ∷ linesLeft ws (r .next)) × (r .length ≡ length l) × (after ≡ written l before)
 told-first ws [] r e t = absurd (subst T (sym (t .0) ∙ e) tt)
 told-first ws (l ∷ ls) r e t = (l, ap (λ k. l ∷ k) (sym (t .3)), t .1, t .2)
 
 -- none was
-pub told-none : (ws : List ℕ) (ls : List Text) {before after : List ℕ} (r : Line) → r .over ≡ true → Told ws ls before after r → (ls ≡ []) × (after ≡ before)
+pub told-none : (ws : List ℕ) (ls : List Text) {before after : List ℕ} (r : Line) → r .over ≡ true → FirstLineOrOver ws ls before after r → (ls ≡ []) × (after ≡ before)
 told-none ws [] r e t = (refl, t .1)
 told-none ws (l ∷ ls) r e t = absurd (subst T (sym e ∙ t .0) tt)

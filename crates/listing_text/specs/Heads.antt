@@ -14,7 +14,7 @@ use Rattle.meaning.specs.Scheme.{Instruction, add, evaluate, expect, test, remo
 use Rattle.meaning.specs.Machine.{expects}
 use Rattle.meaning.specs.Program.{instructionWords, schemeWords}
 use Rattle.meaning.specs.Listing.{Text}
-use Rattle.theory_program.specs.Stands.{stands-at, stands-left}
+use Rattle.theory_program.specs.WordsStand.{stands-at, stands-left}
 use Rattle.theory_program.specs.Code.{CodeAt, operation, code-head, code-next, code-evaluate, code-test, rules-length, conditions-length}
 use Rattle.theory_program.specs.Proper.{AllProper}
 use Rattle.listing_lines.specs.Line.{addLine, removeLine}

@@ -16,7 +16,7 @@ use Rattle.meaning.specs.Scheme.{Instruction, add, evaluate, expect, test, remo
 use Rattle.meaning.specs.Program.{schemeWords}
 use Rattle.meaning.specs.Listing.{Text, productionLines, linesFrom}
 use Rattle.theory_base.specs.WellFormed.{listed-at}
-use Rattle.theory_program.specs.Stands.{stands-at}
+use Rattle.theory_program.specs.WordsStand.{stands-at}
 use Rattle.theory_program.specs.Code.{conditions-length}
 use Rattle.theory_program.specs.Addresses.{Begins, recordAddress, entryAddress, entry-at, scheme-at, expects-scheme}
 use Rattle.theory_program.specs.Records.{segment-words, record-words}

@@ -13,7 +13,7 @@ use Rattle.meaning.specs.Grammar.{terminal, nonterminal, Grammar}
 use Rattle.meaning.specs.Rules.{WellFormed}
 use Rattle.meaning.specs.Scheme.{Instruction, add, evaluate, expect, test, remove}
 use Rattle.meaning.specs.Listing.{Text, listing}
-use Rattle.theory_program.specs.Stands.{stands-at}
+use Rattle.theory_program.specs.WordsStand.{stands-at}
 use Rattle.theory_program.specs.Code.{code-head, operation, rule-first, condition-first}
 use Rattle.theory_program.specs.Addresses.{Begins}
 use Rattle.theory_program.specs.Unpacked.{rule-at, condition-at}

@@ -5,7 +5,7 @@ ghost use mathlib.Core.Bool.{true, false};
 ghost use lib.ListN.{length};
 ghost use Rattle.listing_lines.specs.Line.{addLine, removeLine};
 ghost use Rattle.listing_text.specs.Cursors.{wordAt, recordWord, startOf, goOn, insideOf, skipsOf, skipped, positionOf, ruleHere, behindRule, conditionHere, behindCondition, behindAdd, linesLeft};
-ghost use Rattle.listing_text.specs.Handed.{Emits, Told, BeforeAll};
+ghost use Rattle.listing_text.specs.Handed.{Emits, FirstLineOrOver, BeforeAll};
 use limits::AREA;
 
 // 01: "right-side length (0 to 12)".
@@ -239,7 +239,7 @@ pub fn first(program: &[u32]) -> Cursor
 // The first of the lines still to come into the first bytes of `out`, and the cursor of the rest; or that there is none.
 pub fn next_line(program: &[u32], cursor: Cursor, out: &mut [u8]) -> Line
     requires { ⌜ 64 ≤ length (now out) ⌝ }
-    ensures { λ r. ⌜ (r .length ≤ 64) × Told (now (program .entry)) (linesLeft (now (program .entry)) cursor) (now (out .entry)) (now (out .exit)) r ⌝ }
+    ensures { λ r. ⌜ (r .length ≤ 64) × FirstLineOrOver (now (program .entry)) (linesLeft (now (program .entry)) cursor) (now (out .entry)) (now (out .exit)) r ⌝ }
 {
     let c = settle(program, cursor);
     if !is_inside(program, c) {

@@ -13,10 +13,9 @@ use Rattle.meaning.specs.Base.{In, all}
 use Rattle.meaning.specs.Grammar.{Look, nonterminal, Condition, range, atmost, Grammar, productionAt, inh}
 use Rattle.meaning.specs.Rules.{WellFormed}
 use Rattle.meaning.specs.Value.{inRange, added, holds}
-use Rattle.meaning.specs.Scheme.{entryTests}
 use Rattle.meaning.specs.Derivation.{Listed, Starts, entryConditional}
 use Rattle.meaning.specs.Differences.{bound, solvable}
-use Rattle.meaning.specs.Decide.{isRange, pairwise, satisfiable, clash}
+use Rattle.meaning.specs.Decide.{isRange, pairwise, satisfiable, clash, entryConditions}
 
 -- ---- "some whole-number values in range meet all entry conditions". Attributes are read by their selectors, from 1 on
 
@@ -66,7 +65,7 @@ attributes g p = inh g (nonterminal (productionAt g p .left))
 
 -- all entry conditions of both
 abbrev pub ofBoth : Grammar → ℕ → ℕ → List (Condition ℕ)
-ofBoth g p q = entryTests g (productionAt g p) ++ entryTests g (productionAt g q)
+ofBoth g p q = entryConditions (productionAt g p) ++ entryConditions (productionAt g q)
 
 -- ---- what is promised
 

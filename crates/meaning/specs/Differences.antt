@@ -1,7 +1,7 @@
 -- Whether some values in range meet a list of conditions, computed. 02 (j): "the check finds such values or shows that the differences close a cycle with a negative sum, bounds counted in".
 -- Node 0 stands for zero, node a for the attribute a (1 to 8). An entry w in row i and column j says: i is at most j plus w. (That this decides it is proved in theory_differences)
 use Prim.Native.Nat.{ℕ, zero, suc, _+_, _*_, _/_, _%_}
-use mathlib.Core.Bool.{Bool}
+use mathlib.Core.Bool.{Bool, cond}
 use mathlib.Core.List.{List, [], _∷_, map}
 use lib.ListN.{getD, set}
 use lib.Dec.{ltb}
@@ -9,12 +9,12 @@ use lib.IntN.{ℤ, pos, negℤ, _+ℤ_}
 use lib.Signed.{leZ, ltZ}
 use Rattle.meaning.specs.Base.{all, countFrom}
 use Rattle.meaning.specs.Grammar.{Condition, range, atmost}
-use Rattle.meaning.specs.Value.{highest, pick, added}
+use Rattle.meaning.specs.Value.{highest, added}
 
 -- no value of a node is further from zero: 0 for node 0 and for an attribute that is not there. (The limits of values are as far from 0 on both sides)
 unfoldable pub bound : ℕ → ℕ → ℤ
 bound n zero = pos 0
-bound n (suc a) = pick (ltb a n) highest (pos 0)
+bound n (suc a) = cond (ltb a n) highest (pos 0)
 
 -- ---- the matrix of a list of conditions on n attributes
 
@@ -26,7 +26,7 @@ put m i j x = set m (i * 9 + j) x
 
 -- the second only if it is lower
 unfoldable pub lesser : ℤ → ℤ → ℤ
-lesser a b = pick (ltZ b a) b a
+lesser a b = cond (ltZ b a) b a
 
 abbrev pub lowered : List ℤ → ℕ → ℕ → ℤ → List ℤ
 lowered m i j w = put m i j (lesser (at m i j) w)

@@ -7,7 +7,7 @@ use lib.ListN.{length}
 use lib.IntN.{ℤ, pos, negsuc}
 use Rattle.meaning.specs.Base.{In}
 use Rattle.meaning.specs.Limits.{highestWord}
-use Rattle.meaning.specs.Grammar.{Symbol, terminal, nonterminal, Occurrence, Function, const, copy, sum, diff, prod, maxi, mini, addc, quot, Rule, Condition, range, atmost, Production, Counts, Grammar, nonterminalCount, nonterminalBase, TableBytes, FieldBody}
+use Rattle.meaning.specs.Grammar.{Symbol, terminal, nonterminal, Occurrence, Function, const, copy, binary, binaryNumber, addc, quot, Rule, Condition, range, atmost, Production, Counts, Grammar, nonterminalCount, nonterminalBase, TableBytes, FieldBody}
 
 -- ---- tags: the header; the counts of a nonterminal; a production, its rules and conditions; 02 (e): a terminal that carries a value
 
@@ -67,11 +67,7 @@ productionBytes p = p .left ∷ length (p .right) ∷ map symbolByte (p .right)
 abbrev pub functionBytes : Function Occurrence → List ℕ
 functionBytes (const c) = 0 ∷ constantBytes c
 functionBytes (copy a) = 1 ∷ occurrenceBytes a
-functionBytes (sum a b) = 2 ∷ occurrenceBytes a ++ occurrenceBytes b
-functionBytes (diff a b) = 3 ∷ occurrenceBytes a ++ occurrenceBytes b
-functionBytes (prod a b) = 4 ∷ occurrenceBytes a ++ occurrenceBytes b
-functionBytes (maxi a b) = 5 ∷ occurrenceBytes a ++ occurrenceBytes b
-functionBytes (mini a b) = 6 ∷ occurrenceBytes a ++ occurrenceBytes b
+functionBytes (binary f a b) = binaryNumber f ∷ occurrenceBytes a ++ occurrenceBytes b
 functionBytes (addc a c) = 7 ∷ occurrenceBytes a ++ constantBytes c
 functionBytes (quot a c) = 8 ∷ occurrenceBytes a ++ constantBytes c
 

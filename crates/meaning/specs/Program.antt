@@ -1,14 +1,14 @@
 -- The program: the translation scheme of a grammar as 32-bit words, in the layout that docs/PROGRAM.md describes. 01: "Its content depends on the table alone, in a layout written in docs/"
 -- Five sections: 9 words on the whole segment; the directory, 64 words for each nonterminal; a record of 8 words for each production; 12 words for each production, what its places wait at; then each production's body: where its expects stand, its entry tests, its scheme.
 use Prim.Native.Nat.{ℕ, zero, suc, _+_, _-_, _*_}
-use mathlib.Core.Bool.{Bool, true, false, _&&_}
+use mathlib.Core.Bool.{Bool, true, false, _&&_, cond}
 use mathlib.Core.List.{List, [], _∷_, _++_, map}
 use mathlib.Core.Option.{none, some}
 use lib.ListN.{length, replicate}
 use lib.Dec.{eqb}
 use Rattle.meaning.specs.Base.{any, countFrom}
 use Rattle.meaning.specs.Limits.{symbolsLimit}
-use Rattle.meaning.specs.Grammar.{Symbol, terminal, nonterminal, Function, const, copy, sum, diff, prod, maxi, mini, addc, quot, Rule, Condition, range, atmost, Production, Grammar, inh, syn, markedFor, nonterminalCount, ProgramWords, ProgramBuilder}
+use Rattle.meaning.specs.Grammar.{Symbol, terminal, nonterminal, Function, const, copy, binary, binaryNumber, addc, quot, Rule, Condition, range, atmost, Production, Grammar, inh, syn, markedFor, nonterminalCount, ProgramWords, ProgramBuilder}
 use Rattle.meaning.specs.Scheme.{Instruction, add, evaluate, expect, test, remove, scheme, entryTests}
 use Rattle.meaning.specs.Sets.{TokenSet, setSize, has, starts}
 use Rattle.meaning.specs.Layout.{unsigned, symbolByte}
@@ -27,11 +27,7 @@ packed target function a b = target + 128 * function + 2048 * a + 262144 * b
 abbrev pub functionWords : ℕ → Function ℕ → ProgramWords
 functionWords t (const c) = packed t 0 0 0 ∷ unsigned c ∷ []
 functionWords t (copy a) = packed t 1 a 0 ∷ 0 ∷ []
-functionWords t (sum a b) = packed t 2 a b ∷ 0 ∷ []
-functionWords t (diff a b) = packed t 3 a b ∷ 0 ∷ []
-functionWords t (prod a b) = packed t 4 a b ∷ 0 ∷ []
-functionWords t (maxi a b) = packed t 5 a b ∷ 0 ∷ []
-functionWords t (mini a b) = packed t 6 a b ∷ 0 ∷ []
+functionWords t (binary f a b) = packed t (binaryNumber f) a b ∷ 0 ∷ []
 functionWords t (addc a c) = packed t 7 a 0 ∷ unsigned c ∷ []
 functionWords t (quot a c) = packed t 8 a 0 ∷ unsigned c ∷ []
 
@@ -91,14 +87,10 @@ bodiesFrom g a (p ∷ ps) = bodyWords g a p ++ bodiesFrom g (a + bodySize g p) p
 
 -- ---- records: left side, next production of the same left side (its number plus 1, or 0), FIRST-then-FOLLOW as two words, address of the body, number of entry tests, address of the scheme, number of symbols
 
-abbrev pub bitIf : Bool → ℕ → ℕ
-bitIf true n = n
-bitIf false n = 0
-
 -- the places k, k + 1, .. of a set, `size` of them, as a number whose first bit is `weight`
 abbrev pub setBits : TokenSet → ℕ → ℕ → ℕ → ℕ
 setBits s k weight zero = 0
-setBits s k weight (suc size) = bitIf (has s k) weight + setBits s (suc k) (weight + weight) size
+setBits s k weight (suc size) = cond (has s k) weight 0 + setBits s (suc k) (weight + weight) size
 
 -- the first production of n among ps, whose numbers begin at i, that passes a test: its number plus 1, or 0
 abbrev pub firstOf : (Production → Bool) → ℕ → List Production → ℕ

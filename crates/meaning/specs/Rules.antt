@@ -10,18 +10,14 @@ use mathlib.Core.Bool.{Bool, _&&_}
 use mathlib.Core.Option.{none, some}
 use Rattle.meaning.specs.Base.{In, total}
 use Rattle.meaning.specs.Limits.{terminalsLimit, nonterminalsLimit, attributesLimit, productionsLimit, symbolsLimit, rulesLimit, conditionsLimit, divisorLimit}
-use Rattle.meaning.specs.Grammar.{Symbol, terminal, nonterminal, Occurrence, Function, const, copy, sum, diff, prod, maxi, mini, addc, quot, Rule, Condition, range, atmost, Production, Counts, Grammar, inh, syn, att, symbolAt, nonterminalCount}
+use Rattle.meaning.specs.Grammar.{Symbol, terminal, nonterminal, Occurrence, Function, const, copy, binary, addc, quot, Rule, Condition, range, atmost, Production, Counts, Grammar, inh, syn, att, symbolAt, nonterminalCount}
 
 -- ---- what is said of each operand
 
 abbrev pub Operands : {O : Type 0} → (O → Type 0) → Function O → Type 0
 Operands P (const c) = Unit {0}
 Operands P (copy a) = P a
-Operands P (sum a b) = P a × P b
-Operands P (diff a b) = P a × P b
-Operands P (prod a b) = P a × P b
-Operands P (maxi a b) = P a × P b
-Operands P (mini a b) = P a × P b
+Operands P (binary f a b) = P a × P b
 Operands P (addc a c) = P a
 Operands P (quot a c) = P a
 
@@ -74,11 +70,7 @@ InFourBytes c = T (leZ lowestConstant c) × T (leZ c highestConstant)
 abbrev pub Constant : {O : Type 0} → Function O → Type 0
 Constant (const c) = InFourBytes c
 Constant (copy a) = Unit {0}
-Constant (sum a b) = Unit {0}
-Constant (diff a b) = Unit {0}
-Constant (prod a b) = Unit {0}
-Constant (maxi a b) = Unit {0}
-Constant (mini a b) = Unit {0}
+Constant (binary f a b) = Unit {0}
 Constant (addc a c) = InFourBytes c
 Constant (quot a c) = T (leZ (pos 1) c) × T (leZ c divisorLimit)
 

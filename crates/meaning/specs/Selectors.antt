@@ -5,9 +5,9 @@ use mathlib.Core.List.{List, [], _∷_, _++_}
 use lib.ListN.{getD, length}
 use lib.IntN.{ℤ, pos}
 use Rattle.meaning.specs.Base.{In}
-use Rattle.meaning.specs.Grammar.{Grammar, Leaf, Production, Symbol, nonterminal, Occurrence, Rule, Condition, inh, syn, att, addedFor, productionAt, symbolAt}
+use Rattle.meaning.specs.Grammar.{Grammar, Leaf, Production, Symbol, nonterminal, Occurrence, Rule, Condition, inh, syn, att, addedFor, productionAt, symbolAt, conditionsAt}
 use Rattle.meaning.specs.Rules.{Operands, Reads}
-use Rattle.meaning.specs.Scheme.{Instruction, add, evaluate, expect, test, remove, removed, inheritedRules, synthesizedRules, testsAfter, rulesFor, conditionsAt, selectInherited, selectAfter}
+use Rattle.meaning.specs.Scheme.{Instruction, add, evaluate, expect, test, remove, removed, inheritedRules, synthesizedRules, testsAfter, rulesFor, selectInherited, selectAfter}
 use Rattle.meaning.specs.Machine.{Config, readRegister}
 use Rattle.meaning.specs.Tree.{Tree, TreeOf}
 use Rattle.meaning.specs.Part.{Open, Point, fresh, added, valued, left, closing, Ancestor, Part, valueIn, yieldPart, drawFrames, drawRegisters, Good, PartOf}

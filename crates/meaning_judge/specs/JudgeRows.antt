@@ -2,6 +2,7 @@
 use Prim.Native.Nat.{ℕ}
 use native.Mathlib.Omega.{arith}
 use mathlib.Core.Path.{_≡_, refl, ap}
+use mathlib.Core.Logic.{_⊎_, inl, inr}
 use mathlib.Core.List.{List, [], _∷_, _++_}
 use lib.ListN.{length, getD}
 use lib.Dec.{lit<}
@@ -13,6 +14,7 @@ use Rattle.meaning.specs.Drawn.{depth}
 use Rattle.meaning.specs.Examples.Words.{words}
 use Rattle.meaning.specs.Examples.TableRows.{bytes}
 use Rattle.meaning_judge.specs.Judge.{Describes, JudgeAnswer, worth, turnedBack, Settles, JudgedAs}
+use Rattle.meaning_judge.specs.JudgeStatements.{AtFault}
 
 abbrev pub oneWord : List Leaf
 oneWord = leaves words (tokensFrom (0 ∷ []) (pos 5 ∷ []))
@@ -95,3 +97,13 @@ not-turned-back h =
 -- where nothing is described, 43 with 0
 nothing-described : (g : Grammar) (us : List Leaf) (bs : List ℕ) (a : JudgeAnswer) → ((t : Tree) → Describes g us bs t → ⊥) → Settles g us bs a → a ≡ turnedBack 43 0
 nothing-described g us bs a f h = h .refuses f
+
+-- ---- refusals that say that the segment is at fault, and those that say that stacks or a limit are short
+
+at-fault : AtFault 20 × AtFault 21 × AtFault 22 × AtFault 23 × AtFault 24
+at-fault = ((lit< tt, lit< tt), (lit< tt, lit< tt), (lit< tt, lit< tt), (lit< tt, lit< tt), (lit< tt, lit< tt))
+
+not-at-fault : (k : ℕ) → (k ≡ 31) ⊎ ((k ≡ 32) ⊎ (k ≡ 35)) → AtFault k → ⊥
+not-at-fault k (inl e) f = omega (arith, e, f .1)
+not-at-fault k (inr (inl e)) f = omega (arith, e, f .1)
+not-at-fault k (inr (inr e)) f = omega (arith, e, f .1)

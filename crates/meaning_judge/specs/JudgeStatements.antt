@@ -10,11 +10,12 @@ use Rattle.meaning.specs.Decide.{verdictOf}
 use Rattle.meaning.specs.Tree.{Tree, TreeOf, valueOf}
 use Rattle.meaning.specs.Walk.{walk}
 use Rattle.meaning.specs.Drawn.{WalkFits}
-use Rattle.meaning.specs.Calls.{Stacks, value, lentOf, tokensFrom}
-use Rattle.meaning.specs.PublicCalls.{feed, areaLength, opens}
+use Rattle.meaning.specs.Calls.{Stacks, Answer, value, refused, lentOf, tokensFrom}
+use Rattle.meaning.specs.PublicCalls.{feed, areaLength, opens, performs}
 use Rattle.meaning.specs.CallStatements.{Lendable}
 use Rattle.meaning.specs.Statements.{fedAndFinished}
 use Rattle.meaning_sheet.specs.Sheet.{sheetOf, SheetBytes}
+use Rattle.meaning_sheet.specs.SheetCalls.{unlessRefused}
 use Rattle.meaning_judge.specs.Judge.{Describes, JudgeAnswer, worth, turnedBack, JudgedAs}
 
 -- no call has two answers
@@ -36,6 +37,22 @@ RefusedSheets =
     → JudgedAs bs ks vs bytes (turnedBack 43 0) ↔ ((t : Tree) → Describes g (leaves g (tokensFrom ks vs)) bytes t → ⊥))
     × ((bs : TableBytes) (g : Grammar) (ks : TokenKinds) (vs : TokenValues) (bytes : SheetBytes) (a : JudgeAnswer) → Accepted bs g → (length ks ≡ length vs → ⊥) → JudgedAs bs ks vs bytes a ↔ (a ≡ turnedBack 38 0))
     × ((bs : TableBytes) (ks : TokenKinds) (vs : TokenValues) (bytes : SheetBytes) (a : JudgeAnswer) (n o : ℕ) → verdictOf bs ≡ rejected n o → JudgedAs bs ks vs bytes a ↔ (a ≡ turnedBack n o))
+
+-- a segment brought whole: the refusal of its opening, its feed or its finish, or what the finish answers
+abbrev pub answered : ProgramBuilder → TableBytes → Area → Stacks → TokenKinds → TokenValues → Answer
+answered program bs area m ks vs =
+    let o = opens program bs area m in
+    unlessRefused (o .answer) (unlessRefused (performs program bs area (o .state) (o .stacks) (feed ks vs) .answer) (fedAndFinished program bs area ks vs o .answer))
+
+-- 20 to 24: the segment is at fault, and not the stacks or a limit (31, 32, 35)
+abbrev pub AtFault : ℕ → Type 0
+AtFault k = (20 ≤ k) × (k ≤ 24)
+
+-- "Every sheet not accepted, as any for a segment without a tree, is turned back as 43": a segment that is refused as at fault, on whatever stacks, has no tree, and every sheet for it is a 43
+abbrev pub RefusedSegments : Type 0
+RefusedSegments =
+    (program : ProgramBuilder) (bs : TableBytes) (area : Area) (g : Grammar) (m : Stacks) (ks : TokenKinds) (vs : TokenValues) (bytes : SheetBytes) (k n : ℕ)
+    → Accepted bs g → areaLength ≤ length area → Lendable (feed ks vs) → length ks ≡ length vs → answered program bs area m ks vs ≡ refused k n → AtFault k → JudgedAs bs ks vs bytes (turnedBack 43 0)
 
 -- "Each sheet of (i) is accepted.": that of a tree whose walk fits what is lent, with the tree's value
 abbrev pub WrittenSheets : Type 0

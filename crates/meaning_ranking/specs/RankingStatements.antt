@@ -32,7 +32,7 @@ candidatesOf [] ks vs = []
 candidatesOf (n ∷ ns) ks vs = record { kinds = take n ks; values = take n vs } ∷ candidatesOf ns (drop n ks) (drop n vs)
 
 -- an accepted table, and candidates that are not turned back. (The values are signed 32-bit numbers: the type of what a caller lends)
-pub record Brought (bs : TableBytes) (area : Area) (g : Grammar) (lengths : Lengths) (ks : TokenKinds) (vs : TokenValues) (list : ListBuffer) : Type 0 where
+pub record CandidatesBrought (bs : TableBytes) (area : Area) (g : Grammar) (lengths : Lengths) (ks : TokenKinds) (vs : TokenValues) (list : ListBuffer) : Type 0 where
   pub accepts : Accepted bs g
   pub long : areaLength ≤ length area
   pub suits : inOrder lengths ks list ≡ true
@@ -56,7 +56,7 @@ pub record RankedAs (es : List Entry) (lengths : Lengths) (list : ListBuffer) (e
 abbrev pub RankedExactly : Type 0
 RankedExactly =
     (program : ProgramBuilder) (bs : TableBytes) (area : Area) (g : Grammar) (lengths : Lengths) (ks : TokenKinds) (vs : TokenValues) (list : ListBuffer)
-    (m : Stacks) → Brought bs area g lengths ks vs list
+    (m : Stacks) → CandidatesBrought bs area g lengths ks vs list
     → RankedAs (entriesFor g lengths ks vs m) lengths list (rankOf program bs area lengths ks vs list m)
 
 -- of two entries the first stands in front: 02's words
@@ -93,7 +93,7 @@ lastLeft g m s (c ∷ cs) = lastLeft g m (evaluated g m (c .kinds) (c .values) .
 abbrev pub RankedAlone : Type 0
 RankedAlone =
     (bs : TableBytes) (area : Area) (g : Grammar) (lengths : Lengths) (ks : TokenKinds) (vs : TokenValues) (list : ListBuffer) (m : Stacks)
-    → Brought bs area g lengths ks vs list
+    → CandidatesBrought bs area g lengths ks vs list
     → (entriesFor g lengths ks vs m ≡ numbered 0 (map (λ c. evaluated g m (c .kinds) (c .values) .answer) (candidatesOf lengths ks vs)))
     × (evaluations g 0 lengths ks vs m .stacks ≡ lastLeft g m m (candidatesOf lengths ks vs))
 
@@ -114,7 +114,7 @@ RankedAnswers = (bs : TableBytes) (g : Grammar) (m : Stacks) (ks : TokenKinds) (
 abbrev pub RankedValues : Type 0
 RankedValues =
     (bs : TableBytes) (area : Area) (g : Grammar) (lengths : Lengths) (ks : TokenKinds) (vs : TokenValues) (list : ListBuffer) (m : Stacks)
-    → Brought bs area g lengths ks vs list
+    → CandidatesBrought bs area g lengths ks vs list
     → (earlier later : List Candidate) (c : Candidate) → candidatesOf lengths ks vs ≡ earlier ++ (c ∷ later) → (v : ℤ)
     → In (entry (pos (length earlier)) v (pos 0)) (entriesFor g lengths ks vs m) ↔ ((t : Tree) × TreeOf g (leaves g (tokensFrom (c .kinds) (c .values))) t × WalkFits g (lentOf m) t × (valueOf g t ≡ v))
 
@@ -128,7 +128,7 @@ abbrev pub RankedAnyOrder : Type 0
 RankedAnyOrder =
     (bs : TableBytes) (area : Area) (g : Grammar) (lengths : Lengths) (ks : TokenKinds) (vs : TokenValues) (list : ListBuffer)
     (lengths′ : Lengths) (ks′ : TokenKinds) (vs′ : TokenValues) (list′ : ListBuffer) (m : Stacks)
-    → Brought bs area g lengths ks vs list → Brought bs area g lengths′ ks′ vs′ list′ → Shuffled (candidatesOf lengths ks vs) (candidatesOf lengths′ ks′ vs′)
+    → CandidatesBrought bs area g lengths ks vs list → CandidatesBrought bs area g lengths′ ks′ vs′ list′ → Shuffled (candidatesOf lengths ks vs) (candidatesOf lengths′ ks′ vs′)
     → (rs rs′ : List Entry) → Ranks (entriesFor g lengths ks vs m) rs → Ranks (entriesFor g lengths′ ks′ vs′ m) rs′
     → Shuffled (map unnumbered rs) (map unnumbered rs′) × (totalOf rs ≡ totalOf rs′) × (valuedOf rs ≡ valuedOf rs′)
 

@@ -8,7 +8,7 @@ use mathlib.Core.Option.{none}
 use lib.ListN.{getD, length, length-append}
 use lib.IntN.{ℤ, pos}
 use lib.Dec.{lit<, lit≤}
-use Rattle.meaning.specs.Grammar.{Symbol, terminal, nonterminal, const, copy, sum, range, atmost, whole}
+use Rattle.meaning.specs.Grammar.{Symbol, terminal, nonterminal, const, copy, binary, sum, range, atmost, whole}
 use Rattle.meaning.specs.Scheme.{Instruction, evaluate, remove, test}
 use Rattle.meaning.specs.Machine.{Config}
 use Rattle.meaning.specs.Tree.{Tree, leaf, node, noTrees, treeAnd, values, child}
@@ -47,10 +47,10 @@ found-not-at-test : Found wide (open-node 1 (pos 3 ∷ pos 4 ∷ []) (short ∷ 
 found-not-at-test f = omega (arith, ap number (f (atmost (occ 0 1) (occ 1 2) none) (inl refl) .0 .held))
 
 found-not-at-evaluation : Found wide (open-node 1 (pos 3 ∷ []) []) under-X (added Y (terminal 0 ∷ X ∷ Y ∷ [])) → ⊥
-found-not-at-evaluation f = omega (arith, ap number (f (rule (occ 1 1) (sum (occ 0 1) (occ 0 2))) (inl refl) .0 .1 .held))
+found-not-at-evaluation f = omega (arith, ap number (f (rule (occ 1 1) (binary sum (occ 0 1) (occ 0 2))) (inl refl) .0 .1 .held))
 
 found-not-at-results : Found wide (open-node 1 (pos 3 ∷ pos 4 ∷ []) (y4 ∷ x3 ∷ leaf (bare 0) ∷ short ∷ [])) under-X (fresh []) → ⊥
-found-not-at-results f = omega (arith, ap number (f (rule (occ 0 3) (sum (occ 4 2) (occ 1 3))) (inl refl) .0 .1 .held))
+found-not-at-results f = omega (arith, ap number (f (rule (occ 0 3) (binary sum (occ 4 2) (occ 1 3))) (inl refl) .0 .1 .held))
 
 -- at a predict: the second entry condition's attribute is not there
 found-not-at-predict : Found wide (open-node 0 [] []) (waits-at (open-node whole [] []) (nonterminal 0) [] ∷ []) (valued X (pos 3 ∷ []) []) → ⊥
@@ -60,11 +60,11 @@ found-not-at-predict f = omega (arith, ap number (f 1 (lit< tt) refl (range (occ
 
 -- Y's attribute is 3 + 4
 handed-other : Handed wide wide1 (pos 3 ∷ pos 4 ∷ []) [] Y (pos 8 ∷ []) → ⊥
-handed-other h = omega (arith, ap number (h .rules (rule (occ 1 1) (sum (occ 0 1) (occ 0 2))) (inl refl) refl))
+handed-other h = omega (arith, ap number (h .rules (rule (occ 1 1) (binary sum (occ 0 1) (occ 0 2))) (inl refl) refl))
 
 -- X's result is -1 + 8
 results-other : Results wide wide1 (pos 3 ∷ pos 4 ∷ []) (y4 ∷ x3 ∷ leaf (bare 0) ∷ y1 ∷ []) (pos 8 ∷ []) → ⊥
-results-other h = omega (arith, ap number (h .rules (rule (occ 0 3) (sum (occ 4 2) (occ 1 3))) (inr (inl refl)) refl))
+results-other h = omega (arith, ap number (h .rules (rule (occ 0 3) (binary sum (occ 4 2) (occ 1 3))) (inr (inl refl)) refl))
 
 -- 9 is not from 0 to 5
 tested-not : Tested wide1 (pos 3 ∷ pos 9 ∷ []) [] 1 → ⊥
@@ -80,7 +80,7 @@ good-not-child : Good wide (in-X (node 3 (pos 7 ∷ pos 8 ∷ pos 8 ∷ []) (tre
 good-not-child q = omega (arith, ap number (q .node .0 .lefts .1 .0 .rules .0))
 
 good-not-rule : Good wide (in-X (node 3 (pos 8 ∷ pos 8 ∷ pos 9 ∷ []) (treeAnd (leaf (bare 2)) noTrees) ∷ []) (left (terminal 0 ∷ X ∷ Y ∷ []))) → ⊥
-good-not-rule q = omega (arith, ap number (q .node .0 .rules (rule (occ 1 1) (sum (occ 0 1) (occ 0 2))) (inl refl) (lit≤ tt) (lit≤ tt)))
+good-not-rule q = omega (arith, ap number (q .node .0 .rules (rule (occ 1 1) (binary sum (occ 0 1) (occ 0 2))) (inl refl) (lit≤ tt) (lit≤ tt)))
 
 -- inherited values other than the ancestor hands down, an ancestor that waits at another symbol, a production that stands on nothing
 stands-other-value : Stands wide 1 (pos 3 ∷ pos 5 ∷ []) under-X → ⊥

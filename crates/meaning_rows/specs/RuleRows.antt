@@ -5,7 +5,7 @@ use mathlib.Core.List.{List, [], _∷_, _++_, map}
 use mathlib.Core.Option.{none}
 use lib.ListN.{replicate}
 use lib.IntN.{pos, negsuc}
-use Rattle.meaning.specs.Grammar.{const, copy, sum, diff, prod, maxi, mini, addc, quot, range, atmost, terminal, nonterminal}
+use Rattle.meaning.specs.Grammar.{const, copy, binary, sum, diff, prod, maxi, mini, addc, quot, range, atmost, terminal, nonterminal}
 use Rattle.meaning.specs.Table.{readTable}
 use Rattle.meaning.specs.Judgement.{Verdict, accepted, rejected}
 use Rattle.meaning.specs.Decide.{verdictOf}
@@ -26,9 +26,9 @@ functions-read : grammar (readTable functions) ≡ record {
   productions = record {
     left = 0;
     right = nonterminal 1 ∷ [];
-    rules = rule (occ 1 1) (const (negsuc 6)) ∷ rule (occ 0 1) (copy (occ 1 2)) ∷ rule (occ 0 2) (sum (occ 1 2) (occ 1 3))
-        ∷ rule (occ 0 3) (diff (occ 1 2) (occ 1 3)) ∷ rule (occ 0 4) (prod (occ 1 2) (occ 1 3)) ∷ rule (occ 0 5) (maxi (occ 1 2) (occ 1 3))
-        ∷ rule (occ 0 6) (mini (occ 1 2) (occ 1 3)) ∷ rule (occ 0 7) (addc (occ 1 2) (negsuc 499)) ∷ rule (occ 0 8) (quot (occ 1 2) (pos 1000000)) ∷ [];
+    rules = rule (occ 1 1) (const (negsuc 6)) ∷ rule (occ 0 1) (copy (occ 1 2)) ∷ rule (occ 0 2) (binary sum (occ 1 2) (occ 1 3))
+        ∷ rule (occ 0 3) (binary diff (occ 1 2) (occ 1 3)) ∷ rule (occ 0 4) (binary prod (occ 1 2) (occ 1 3)) ∷ rule (occ 0 5) (binary maxi (occ 1 2) (occ 1 3))
+        ∷ rule (occ 0 6) (binary mini (occ 1 2) (occ 1 3)) ∷ rule (occ 0 7) (addc (occ 1 2) (negsuc 499)) ∷ rule (occ 0 8) (quot (occ 1 2) (pos 1000000)) ∷ [];
     conditions = range (occ 1 2) (negsuc 2147483647) (pos 2147483647) ∷ atmost (occ 1 2) (occ 1 3) none ∷ [];
   } ∷ record { left = 1; right = terminal 0 ∷ []; rules = rule (occ 0 2) (copy (occ 0 1)) ∷ rule (occ 0 3) (const (pos 2)) ∷ []; conditions = [] } ∷ [];
 }

@@ -8,7 +8,7 @@ use mathlib.Core.Logic.{inl}
 use lib.ListN.{getD, length, length-append}
 use lib.IntN.{ℤ, pos, negsuc}
 use lib.Dec.{lit<}
-use Rattle.meaning.specs.Grammar.{Grammar, Symbol, Production, Occurrence, Function, terminal, nonterminal, const, copy, sum, diff, prod, maxi, mini, addc, quot, Rule, Condition, range, atmost}
+use Rattle.meaning.specs.Grammar.{Grammar, Symbol, Production, Occurrence, Function, terminal, nonterminal, const, copy, binary, sum, addc, quot, Rule, Condition, range, atmost}
 use Rattle.meaning.specs.Layout as Layout
 use Rattle.meaning.specs.Layout.{field, ruleBytes, conditionBytes, RulesAndConditions, nothing, condition, production}
 use Rattle.meaning.specs.Scheme.{Instruction, add, evaluate, expect, test, remove}
@@ -72,7 +72,7 @@ others = record {
   result = 1;
   productions =
       p0 ∷ p1
-      ∷ record { left = 1; right = terminal 1 ∷ nonterminal 1 ∷ terminal 2 ∷ nonterminal 1 ∷ []; rules = rule (occ 2 1) (addc (occ 0 1) (pos 2)) ∷ rule (occ 4 1) (copy (occ 0 1)) ∷ rule (occ 0 2) (sum (occ 2 2) (occ 4 2)) ∷ []; conditions = range (occ 0 1) (pos 0) (pos 3) ∷ [] }
+      ∷ record { left = 1; right = terminal 1 ∷ nonterminal 1 ∷ terminal 2 ∷ nonterminal 1 ∷ []; rules = rule (occ 2 1) (addc (occ 0 1) (pos 2)) ∷ rule (occ 4 1) (copy (occ 0 1)) ∷ rule (occ 0 2) (binary sum (occ 2 2) (occ 4 2)) ∷ []; conditions = range (occ 0 1) (pos 0) (pos 3) ∷ [] }
       ∷ p3 ∷ [];
 }
 
@@ -88,11 +88,7 @@ bound (atmost a b c ∷ cs) = 0
 abbrev constantOf : Function ℕ → ℕ
 constantOf (const c) = number c
 constantOf (copy a) = 0
-constantOf (sum a b) = 0
-constantOf (diff a b) = 0
-constantOf (prod a b) = 0
-constantOf (maxi a b) = 0
-constantOf (mini a b) = 0
+constantOf (binary f a b) = 0
 constantOf (addc a c) = number c
 constantOf (quot a c) = number c
 

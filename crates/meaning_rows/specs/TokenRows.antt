@@ -10,7 +10,7 @@ use lib.ListN.{length, replicate, take, drop}
 use lib.IntN.{ℤ, pos, negsuc}
 use lib.Dec.{lit<, lit≤}
 use Rattle.meaning.specs.Base.{countFrom}
-use Rattle.meaning.specs.Grammar.{terminal, nonterminal, const, copy, sum, diff, maxi, range, atmost, Leaf, inh, syn, att, markedFor, addedFor, leaves}
+use Rattle.meaning.specs.Grammar.{terminal, nonterminal, const, copy, binary, sum, diff, maxi, range, atmost, Leaf, inh, syn, att, markedFor, addedFor, leaves}
 use Rattle.meaning.specs.Scheme.{add, evaluate, expect, test, remove, scheme, selectInherited, selectAfter}
 use Rattle.meaning.specs.Machine.{Config, opening}
 use Rattle.meaning.specs.Tree.{Tree, leaf, node, noTrees, treeAnd, TreeOf, valueOf, isLeafOf}
@@ -47,7 +47,7 @@ lengths-listing = refl
 owned : map (λ x. inh lengths x ∷ syn lengths x ∷ att lengths x ∷ markedFor lengths x ∷ addedFor lengths x ∷ []) (terminal 0 ∷ terminal 1 ∷ nonterminal 1 ∷ []) ≡ (0 ∷ 1 ∷ 1 ∷ 0 ∷ 0 ∷ []) ∷ (0 ∷ 0 ∷ 0 ∷ 0 ∷ 0 ∷ []) ∷ (1 ∷ 1 ∷ 2 ∷ 1 ∷ 2 ∷ []) ∷ []
 owned = refl
 
-lengths-scheme : scheme lengths lengths1 ≡ expect (terminal 0) ∷ add 2 ∷ evaluate (r 1 (copy 4) ∷ []) ∷ expect (nonterminal 1) ∷ evaluate (r 4 (sum 2 1) ∷ []) ∷ remove 3 ∷ []
+lengths-scheme : scheme lengths lengths1 ≡ expect (terminal 0) ∷ add 2 ∷ evaluate (r 1 (copy 4) ∷ []) ∷ expect (nonterminal 1) ∷ evaluate (r 4 (binary sum 2 1) ∷ []) ∷ remove 3 ∷ []
 lengths-scheme = refl
 
 -- the program: word carries a value; L to word L, its two expects at 229 and 234; read word, add 2, evaluate, expect L
@@ -275,10 +275,10 @@ after-symbols = refl
 
 mixed-scheme : scheme mixed mixed1 ≡
     expect (terminal 0)
-    ∷ add 2 ∷ evaluate (r 1 (sum 4 3) ∷ []) ∷ expect X
+    ∷ add 2 ∷ evaluate (r 1 (binary sum 4 3) ∷ []) ∷ expect X
     ∷ expect (terminal 1) ∷ test (atmost 3 1 none ∷ [])
-    ∷ add 2 ∷ evaluate (r 1 (diff 4 3) ∷ []) ∷ expect X
-    ∷ evaluate (r 6 (maxi 1 4) ∷ []) ∷ remove 5 ∷ []
+    ∷ add 2 ∷ evaluate (r 1 (binary diff 4 3) ∷ []) ∷ expect X
+    ∷ evaluate (r 6 (binary maxi 1 4) ∷ []) ∷ remove 5 ∷ []
 mixed-scheme = refl
 
 abbrev pub mixedLeaves : List Leaf

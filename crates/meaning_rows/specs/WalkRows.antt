@@ -7,7 +7,7 @@ use lib.ListN.{length, take}
 use lib.IntN.{pos}
 use lib.Dec.{lit≤}
 use Rattle.meaning.specs.Base.{countFrom}
-use Rattle.meaning.specs.Grammar.{Grammar, Leaf, Function, const, copy, sum, addc, Rule, nonterminal}
+use Rattle.meaning.specs.Grammar.{Grammar, Leaf, Function, const, copy, binary, sum, addc, Rule, nonterminal}
 use Rattle.meaning.specs.Scheme.{add, evaluate, expect, remove}
 use Rattle.meaning.specs.Machine.{Config, Lent, moved, blocked, opening, next, lookAt, unread, writeAll}
 use Rattle.meaning.specs.Tree.{Tree, leaf, node, noTrees, treeAnd, valueOf}
@@ -38,7 +38,7 @@ its-walk : walk words tree ≡
     ∷ sets 1 3 (addc 1 (pos 1)) ∷ performs 1 (remove 2)
     ∷ reads 2 ∷ performs 2 (add 2) ∷ sets 2 1 (copy 4)
     ∷ predicts 3 ∷ sets 3 2 (const (pos 0)) ∷ performs 3 (remove 1)
-    ∷ sets 2 4 (sum 2 1) ∷ performs 2 (remove 3)
+    ∷ sets 2 4 (binary sum 2 1) ∷ performs 2 (remove 3)
     ∷ sets 1 3 (addc 1 (pos 1)) ∷ performs 1 (remove 2)
     ∷ sets 0 2 (copy 1) ∷ performs 0 (remove 1)
     ∷ []

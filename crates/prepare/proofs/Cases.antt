@@ -6,37 +6,37 @@ use mathlib.Core.Bool.{Bool, true, false}
 use mathlib.Core.List.{List}
 use lib.ListN.{length}
 use borrow.Author.Tests.{lt-ltb, le-ltb}
-use Rattle.meaning.specs.Table.{State, grammarOf}
+use Rattle.meaning.specs.Table.{grammarOf}
 use Rattle.meaning.specs.Program.{programOf}
 use Rattle.meaning.specs.PublicCalls.{Checked, usable, unusable, check, areaLength, written, turned, programmed, made, madeOf}
 use Rattle.meaning.specs.PublicCalls as Calls
 use Rattle.theory_program.specs.Addresses.{Begins, written-begins}
-use Rattle.table.specs.declared.Sizes.{Sizes}
-use Rattle.checker_outline.specs.Outlined.{Brought}
+use Rattle.outline.specs.declared.Sizes.{Sizes}
+use Rattle.outline.specs.Outline.{stateIn, grammarIn}
 use Rattle.checker.specs.Judging.{Judges}
+use Rattle.program.specs.Building.{ProgramWrote}
 use Rattle.checker.proofs.Cases.{accepted-case}
 use Rattle.checker_grammar.specs.declared.Judged.{Judged}
 use Rattle.checker_grammar.specs.declared.Judged.the-variants.{Usable}
-use Rattle.program_words.specs.Outlined as Outlined
 use Rattle.prepare.specs.declared.Made.{Made}
 use Rattle.prepare.specs.declared.Made.the-variants.{Short, Refused, Written}
-use Rattle.prepare.specs.Making.{madeIs, Standing, Case, MadeAs}
+use Rattle.prepare.specs.Making.{madeIs, ProgramStands, Case, MadeAs}
 
 -- ---- an accepted table
 
 module _ (t inherited synthesized rows offsets sets : List ℕ) (q : Judged) (j : Judges t inherited synthesized rows offsets sets q) (area : List ℕ) (l : areaLength ≤ length area) where
-  pub stands : (area′ : List ℕ) (size : ℕ) (sizes : Sizes) → q ≡ Usable sizes → ((s : State) → Brought t s sizes inherited synthesized rows offsets sets → (area′ ≡ written (programOf (grammarOf s)) area) × (size ≡ length (programOf (grammarOf s)))) → Standing t area area′ size
-  stands area′ size sizes e w =
+  pub stands : (area′ : List ℕ) (size : ℕ) (sizes : Sizes) → q ≡ Usable sizes → ProgramWrote (grammarIn t) area area′ size → ProgramStands t area area′ size
+  unfolding grammarIn
+  stands area′ size sizes e z =
       let x = accepted-case t inherited synthesized rows offsets sets q j sizes e in
-      let z = w (x .state) (x .brought) in
       record {
         long = l;
-        state = x .state;
+        state = stateIn t;
         isUsable = x .isUsable;
-        formed = Outlined.formed (x .brought);
-        isWritten = z .0;
-        isSize = z .1;
-        begins = subst (Begins (grammarOf (x .state))) (sym (z .0)) (written-begins (grammarOf (x .state)) area);
+        formed = x .outlined .outline .productions .rowsOf .sound;
+        isWritten = z .memory;
+        isSize = z .size;
+        begins = subst (Begins (grammarIn t)) (sym (z .memory)) (written-begins (grammarIn t) area);
       }
 
 -- ---- the cases fix 01's number and the area
@@ -66,7 +66,7 @@ module _ {t area area′ : List ℕ} {m : Made} (q : MadeAs t area area′ m) wh
   pub refused-made : (n o : ℕ) → m ≡ Refused n o → (areaLength ≤ length area) × (check t ≡ unusable n o) × (area′ ≡ area)
   refused-made n o e = subst (Case t area area′) e (q .case)
 
-  pub written-made : (size : ℕ) → m ≡ Written size → Standing t area area′ size
+  pub written-made : (size : ℕ) → m ≡ Written size → ProgramStands t area area′ size
   written-made size e = subst (Case t area area′) e (q .case)
 
   pub not-short : areaLength ≤ length area → m ≡ Short → ⊥

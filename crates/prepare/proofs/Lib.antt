@@ -1,1 +1,2 @@
+-- The cases of a program made of a table
 pub mod Cases

@@ -1,1 +1,2 @@
+-- 01's numbers for a program made of a table, and what a caller may count on by each
 pub mod Making

@@ -20,7 +20,7 @@ madeIs (Written size) = programmed size
 -- ---- by cases, for a caller that goes by the answer
 
 -- the program of an accepted table is written, and stands at the area's start
-pub record Standing (t area area′ : List ℕ) (size : ℕ) : Type 0 where
+pub record ProgramStands (t area area′ : List ℕ) (size : ℕ) : Type 0 where
   pub long : areaLength ≤ length area
   pub state : State
   pub isUsable : check t ≡ usable state
@@ -32,7 +32,7 @@ pub record Standing (t area area′ : List ℕ) (size : ℕ) : Type 0 where
 abbrev pub Case : List ℕ → List ℕ → List ℕ → Made → Type 0
 Case t area area′ Short = (length area < areaLength) × (area′ ≡ area)
 Case t area area′ (Refused number offset) = (areaLength ≤ length area) × (check t ≡ unusable number offset) × (area′ ≡ area)
-Case t area area′ (Written size) = Standing t area area′ size
+Case t area area′ (Written size) = ProgramStands t area area′ size
 
 pub record MadeAs (t area area′ : List ℕ) (m : Made) : Type 0 where
   pub case : Case t area area′ m

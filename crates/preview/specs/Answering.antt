@@ -16,11 +16,11 @@ use Rattle.meaning_preview.specs.Preview.{tidied, mayFollow, tokens, turned, ma
 use Rattle.theory_base.specs.Feeds.{even-feed}
 use Rattle.theory_preview.specs.Tokens.{passing}
 use Rattle.token_set.specs.declared.TokenSet as Code
-use Rattle.token_set.specs.Words.{setOf}
-use Rattle.moves.specs.declared.Run.{Run}
-use Rattle.fit.specs.Shown.{Shown}
-use Rattle.lent.specs.Judging.{when-not, not-turned}
-use Rattle.lent.specs.Performing.{Starts, Judged}
+use Rattle.token_set.specs.SetBits.{setOf}
+use Rattle.run_moves.specs.declared.Run.{Run}
+use Rattle.run_fit.specs.HasProgram.{HasProgram}
+use Rattle.run_lent.specs.Judging.{when-not, not-turned}
+use Rattle.run_lent.specs.Performing.{Starts, Judged}
 use Rattle.preview_token.specs.Passing.{isStopped, letsThrough}
 use Rattle.preview_collect.specs.Collecting.{Collected}
 use Rattle.preview_judge.specs.Judging.{copyNumber, copied-on}
@@ -35,7 +35,7 @@ pub record SetAnswered (g : Grammar) (r : Record) (vs : List ℤ) (ps : List ℕ
 
 -- ---- on exactly the lent cells
 
-module _ {ws : List ℕ} {vs : List ℤ} {ps : List ℕ} {r : Record} (j : Judged ws vs ps r) (run : Run) (f : Starts ws ps r run) (g : Grammar) (s : Shown g ws) where
+module _ {ws : List ℕ} {vs : List ℤ} {ps : List ℕ} {r : Record} (j : Judged ws vs ps r) (run : Run) (f : Starts ws ps r run) (g : Grammar) (s : HasProgram g ws) where
   lets-is : (v : ℤ) (t : ℕ) → noRefusal (feedOf g r (stacksOf vs ps) (t ∷ []) (v ∷ []) .answer) ≡ letsThrough g (lentOf (stacksOf vs ps)) (configOf g r (stacksOf vs ps)) v t
   lets-is v t =
       let m : Stacks = stacksOf vs ps in
@@ -80,9 +80,9 @@ module _ (g : Grammar) (r : Record) (vs rs : List ℤ) (ps qs : List ℕ) (n k :
       same (t ∷ ts) = ap₂ (λ x xs. x ∷ xs) (ap (λ b. ltb t (g .terminals) && b) (one t)) (same ts)
 
 module _ {ws : List ℕ} (r : Record) (vs rs : List ℤ) (ps qs : List ℕ) (n k : ℕ) (en : n ≡ min (length vs) 4096) (ek : k ≡ min (length ps) 1024)
-    (number : (g : Grammar) → Shown g ws → 0 ≡ copyNumber g r (stacksOf vs ps) (stacksOf rs qs)) where
-  pub may-made : (v : ℤ) (set : Code.TokenSet) (area : List ℕ) (rs′ : List ℤ) (qs′ : List ℕ) → ((g : Grammar) → Shown g ws → SetAnswered g r (take n vs) (take k ps) (take n rs) (take k qs) v (set .0) rs′ qs′)
-      → (g : Grammar) → Shown g ws → mayEffectIs (Tokens set) (rs′ ++ drop n rs) (qs′ ++ drop k qs) area ≡ mayOf g r (stacksOf vs ps) (stacksOf rs qs) v area
+    (number : (g : Grammar) → HasProgram g ws → 0 ≡ copyNumber g r (stacksOf vs ps) (stacksOf rs qs)) where
+  pub may-made : (v : ℤ) (set : Code.TokenSet) (area : List ℕ) (rs′ : List ℤ) (qs′ : List ℕ) → ((g : Grammar) → HasProgram g ws → SetAnswered g r (take n vs) (take k ps) (take n rs) (take k qs) v (set .0) rs′ qs′)
+      → (g : Grammar) → HasProgram g ws → mayEffectIs (Tokens set) (rs′ ++ drop n rs) (qs′ ++ drop k qs) area ≡ mayOf g r (stacksOf vs ps) (stacksOf rs qs) v area
   may-made v set area rs′ qs′ e g s =
       let x = e g s .isSet ∙ set-whole g r vs rs ps qs n k en ek (sym (number g s)) v in
       let y = ap (λ (z : Stacks). stacksOf (z .registers ++ drop n rs) (z .places ++ drop k qs)) (e g s .isTidy) ∙ tidied-whole g r vs rs ps qs n k en ek in

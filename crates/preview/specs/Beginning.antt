@@ -14,7 +14,7 @@ use Rattle.meaning.specs.Calls as Calls
 use Rattle.meaning.specs.Calls.{Record, Stacks, more, value, refused, tableRefused, asBrought}
 use Rattle.meaning.specs.PublicCalls.{Checked, usable, unusable, check, areaLength, written, Effect, effect}
 use Rattle.meaning_preview.specs.Preview.{MayEffect, mayEffect, turned, mayOf, mays}
-use Rattle.prepare.specs.Making.{Standing}
+use Rattle.prepare.specs.Making.{ProgramStands}
 use Rattle.records.specs.declared.Answer.{Answer}
 use Rattle.records.specs.Records.{answerIs}
 use Rattle.engine.specs.declared.Begun.{Begun}
@@ -55,5 +55,5 @@ module _ (t area : List ℕ) (r : Record) (m s : Stacks) (v : ℤ) where
       let z = subst (Case t area _) e (q .case) in
       ap (mayEffect (turned (answerIs a)) s) (z .1) ∙ turned-back a (z .0)
 
-  pub standing-mays : {area′ : List ℕ} {size : ℕ} (x : Standing t area area′ size) (e : MayEffect) → e ≡ mayOf (grammarOf (x .state)) r m s v area′ → e ≡ mays programOf t area r m s v
+  pub standing-mays : {area′ : List ℕ} {size : ℕ} (x : ProgramStands t area area′ size) (e : MayEffect) → e ≡ mayOf (grammarOf (x .state)) r m s v area′ → e ≡ mays programOf t area r m s v
   standing-mays x e q = q ∙ (ap (mayOf (grammarOf (x .state)) r m s v) (x .isWritten) ∙ sym (ap₂ byBoth (le-ltb (length area) areaLength (x .long)) (x .isUsable)))

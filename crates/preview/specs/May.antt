@@ -4,7 +4,7 @@ use mathlib.Core.List.{List}
 use lib.IntN.{ℤ}
 use Rattle.meaning.specs.PublicCalls.{stacksOf}
 use Rattle.meaning_preview.specs.Preview.{MayAnswer, tokens, turned, MayEffect, mayEffect}
-use Rattle.token_set.specs.Words.{setOf}
+use Rattle.token_set.specs.SetBits.{setOf}
 use Rattle.records.specs.Records.{answerIs}
 use Rattle.preview.specs.declared.May.{May}
 use Rattle.preview.specs.declared.May.the-variants.{Tokens, Turned}

@@ -4,9 +4,9 @@ ghost use Rattle.meaning.specs.Grammar.{Grammar};
 ghost use Rattle.meaning.specs.Program.{programOf};
 ghost use Rattle.meaning.specs.PublicCalls.{stacksOf};
 ghost use Rattle.meaning_preview.specs.Preview.{previews, mayOf, mays};
-ghost use Rattle.fit.specs.Shown.{Shown, Readable};
+ghost use Rattle.run_fit.specs.HasProgram.{HasProgram, Readable};
 ghost use Rattle.records.specs.Records.{stateIs};
-ghost use Rattle.lent.specs.Performing.{Judged};
+ghost use Rattle.run_lent.specs.Performing.{Judged};
 ghost use Rattle.engine.specs.Records.{recordIs, effectIs};
 ghost use Rattle.preview_lent.specs.Answering.{LentAlike};
 ghost use Rattle.preview.specs.May.{mayEffectIs};
@@ -65,11 +65,11 @@ fn may_lent(
     value: i32,
 ) -> TokenSet
     requires { ⌜ Judged (now program) (now registers) (now places) (stateIs brought) × LentAlike (now registers) (now places) (now «scratch_registers») (now «scratch_places») ⌝ }
-    ensures { λ r. ⌜ ((g : Grammar) → Shown g (now (program .entry)) → SetAnswered g (stateIs brought) (now (registers .entry)) (now (places .entry)) (now («scratch_registers» .entry)) (now («scratch_places» .entry)) value (r .0) (now («scratch_registers» .exit)) (now («scratch_places» .exit))) ⌝ }
+    ensures { λ r. ⌜ ((g : Grammar) → HasProgram g (now (program .entry)) → SetAnswered g (stateIs brought) (now (registers .entry)) (now (places .entry)) (now («scratch_registers» .entry)) (now («scratch_places» .entry)) value (r .0) (now («scratch_registers» .exit)) (now («scratch_places» .exit))) ⌝ }
 {
-    cells::clear_registers(scratch_registers);
-    cells::clear_places(scratch_places);
-    let run = running::run_of(places, program, brought);
+    run_cells::clear_registers(scratch_registers);
+    run_cells::clear_places(scratch_places);
+    let run = run_states::run_of(places, program, brought);
     preview_collect::collect(
         registers,
         places,
@@ -92,7 +92,7 @@ fn may_cells(
     value: i32,
 ) -> May
     requires { ⌜ Readable (now program) ⌝ }
-    ensures { λ r. ⌜ ((g : Grammar) → Shown g (now (program .entry)) → mayEffectIs r (now («scratch_registers» .exit)) (now («scratch_places» .exit)) (now (program .entry)) ≡ mayOf g (stateIs brought) (stacksOf (now (registers .entry)) (now (places .entry))) (stacksOf (now («scratch_registers» .entry)) (now («scratch_places» .entry))) value (now (program .entry))) ⌝ }
+    ensures { λ r. ⌜ ((g : Grammar) → HasProgram g (now (program .entry)) → mayEffectIs r (now («scratch_registers» .exit)) (now («scratch_places» .exit)) (now (program .entry)) ≡ mayOf g (stateIs brought) (stacksOf (now (registers .entry)) (now (places .entry))) (stacksOf (now («scratch_registers» .entry)) (now («scratch_places» .entry))) value (now (program .entry))) ⌝ }
 {
     let number = preview_judge::judge(
         registers,
@@ -105,8 +105,8 @@ fn may_cells(
     if number != 0 {
         return May::Turned(Answer::Refused { number, tokens: 0 });
     }
-    let n = cells::smaller(registers.len(), limits::REGISTERS);
-    let k = cells::smaller(places.len(), limits::PLACES);
+    let n = run_cells::smaller(registers.len(), limits::REGISTERS);
+    let k = run_cells::smaller(places.len(), limits::PLACES);
     May::Tokens(may_lent(
         &registers[..n],
         &places[..k],

@@ -14,11 +14,11 @@ use Rattle.meaning.specs.PublicCalls.{stacksOf}
 use Rattle.meaning_preview.specs.Preview.{isShort, tidied, tried, previewOf}
 use Rattle.records.specs.declared.Handed as Handed
 use Rattle.records.specs.Records.{handedIs}
-use Rattle.fit.specs.Shown.{Shown, Readable}
-use Rattle.cells.specs.Cutting.{uncut}
-use Rattle.lent.specs.Judging.{numberFor, number-cut}
-use Rattle.lent.specs.Performing.{Judged}
-use Rattle.lent.specs.Cutting.{feed-cut}
+use Rattle.run_fit.specs.HasProgram.{HasProgram, Readable}
+use Rattle.run_cells.specs.Cutting.{uncut}
+use Rattle.run_lent.specs.Judging.{numberFor, number-cut}
+use Rattle.run_lent.specs.Performing.{Judged}
+use Rattle.run_lent.specs.Cutting.{feed-cut}
 use Rattle.preview_judge.specs.Judging.{copyNumber, copied-on, copy-passed, long-both}
 use Rattle.preview_lent.specs.Answering.{LentAlike}
 
@@ -64,8 +64,8 @@ module _ (g : Grammar) (r : Record) (vs rs : List ℤ) (ps qs : List ℕ) (n k :
 -- ---- by the judgement
 
 module _ {ws : List ℕ} (readable : Readable ws) (r : Record) (vs rs : List ℤ) (ps qs : List ℕ) (n k : ℕ) (en : n ≡ min (length vs) 4096) (ek : k ≡ min (length ps) 1024)
-    (number : (g : Grammar) → Shown g ws → 0 ≡ copyNumber g r (stacksOf vs ps) (stacksOf rs qs)) where
-  on : (g : Grammar) → Shown g ws → (numberFor 34 g r (stacksOf vs ps) ≡ 0) × (isShort (stacksOf vs ps) (stacksOf rs qs) ≡ false)
+    (number : (g : Grammar) → HasProgram g ws → 0 ≡ copyNumber g r (stacksOf vs ps) (stacksOf rs qs)) where
+  on : (g : Grammar) → HasProgram g ws → (numberFor 34 g r (stacksOf vs ps) ≡ 0) × (isShort (stacksOf vs ps) (stacksOf rs qs) ≡ false)
   on g s = copy-passed g r (stacksOf vs ps) (stacksOf rs qs) (sym (number g s))
 
   pub scratch-long : (n ≤ length rs) × (k ≤ length qs)
@@ -85,8 +85,8 @@ module _ {ws : List ℕ} (readable : Readable ws) (r : Record) (vs rs : List ℤ
     places = length-take-le k qs (scratch-long .1) ∙ sym (length-take-le k ps (omega arith));
   }
 
-  pub preview-made : (t : ℕ) (v : ℤ) (c : Handed.Handed) (rs′ : List ℤ) (qs′ : List ℕ) → ((g : Grammar) → Shown g ws → handedIs c rs′ qs′ ≡ tried g r (stacksOf (take n vs) (take k ps)) (stacksOf (take n rs) (take k qs)) t v)
-      → (g : Grammar) → Shown g ws → handedIs c (rs′ ++ drop n rs) (qs′ ++ drop k qs) ≡ previewOf g r (stacksOf vs ps) (stacksOf rs qs) t v
+  pub preview-made : (t : ℕ) (v : ℤ) (c : Handed.Handed) (rs′ : List ℤ) (qs′ : List ℕ) → ((g : Grammar) → HasProgram g ws → handedIs c rs′ qs′ ≡ tried g r (stacksOf (take n vs) (take k ps)) (stacksOf (take n rs) (take k qs)) t v)
+      → (g : Grammar) → HasProgram g ws → handedIs c (rs′ ++ drop n rs) (qs′ ++ drop k qs) ≡ previewOf g r (stacksOf vs ps) (stacksOf rs qs) t v
   preview-made t v c rs′ qs′ e g s =
       tried-whole g r vs rs ps qs n k en ek t v c rs′ qs′ (e g s)
       ∙ copied-on g r (stacksOf vs ps) (stacksOf rs qs) (λ j. asBrought (refused j 0) r (stacksOf rs qs)) (tried g r (stacksOf vs ps) (stacksOf rs qs) t v) (sym (number g s))

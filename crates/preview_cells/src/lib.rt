@@ -3,7 +3,7 @@ ghost use mathlib.Core.Path.{_≡_};
 ghost use Rattle.meaning.specs.Grammar.{Grammar};
 ghost use Rattle.meaning.specs.PublicCalls.{stacksOf};
 ghost use Rattle.meaning_preview.specs.Preview.{previewOf};
-ghost use Rattle.fit.specs.Shown.{Shown, Readable};
+ghost use Rattle.run_fit.specs.HasProgram.{HasProgram, Readable};
 ghost use Rattle.records.specs.Records.{stateIs, handedIs};
 use records::Answer;
 use records::Handed;
@@ -20,7 +20,7 @@ pub fn preview_cells(
     value: i32,
 ) -> Handed
     requires { ⌜ Readable (now program) ⌝ }
-    ensures { λ r. ⌜ ((g : Grammar) → Shown g (now (program .entry)) → handedIs r (now («scratch_registers» .exit)) (now («scratch_places» .exit)) ≡ previewOf g (stateIs brought) (stacksOf (now (registers .entry)) (now (places .entry))) (stacksOf (now («scratch_registers» .entry)) (now («scratch_places» .entry))) kind value) ⌝ }
+    ensures { λ r. ⌜ ((g : Grammar) → HasProgram g (now (program .entry)) → handedIs r (now («scratch_registers» .exit)) (now («scratch_places» .exit)) ≡ previewOf g (stateIs brought) (stacksOf (now (registers .entry)) (now (places .entry))) (stacksOf (now («scratch_registers» .entry)) (now («scratch_places» .entry))) kind value) ⌝ }
 {
     let number = preview_judge::judge(
         registers,
@@ -33,8 +33,8 @@ pub fn preview_cells(
     if number != 0 {
         return records::as_brought(brought, Answer::Refused { number, tokens: 0 });
     }
-    let n = cells::smaller(registers.len(), limits::REGISTERS);
-    let k = cells::smaller(places.len(), limits::PLACES);
+    let n = run_cells::smaller(registers.len(), limits::REGISTERS);
+    let k = run_cells::smaller(places.len(), limits::PLACES);
     preview_lent::preview_lent(
         &registers[..n],
         &places[..k],

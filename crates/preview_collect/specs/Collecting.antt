@@ -10,13 +10,13 @@ use Rattle.meaning.specs.Grammar.{Grammar}
 use Rattle.meaning.specs.Sets.{TokenSet, singleton, _∪_}
 use Rattle.meaning.specs.Machine.{Config, Lent}
 use Rattle.theory_program.specs.Records.{segment-words}
-use Rattle.theory_program.specs.Stands.{stands-within}
+use Rattle.theory_program.specs.WordsStand.{stands-within}
 use Rattle.theory_program.specs.Addresses.{segment-at}
 use Rattle.theory_preview.specs.Tokens.{passing, passing-none, passing-not, passing-more}
-use Rattle.token_set.specs.Words.{setOf, set-empty}
-use Rattle.moves.specs.declared.Run.{Run}
-use Rattle.moves.specs.Held.{Held}
-use Rattle.machine.specs.Advancing.{Running}
+use Rattle.token_set.specs.SetBits.{setOf, set-empty}
+use Rattle.run_moves.specs.declared.Run.{Run}
+use Rattle.run_moves.specs.Held.{Held}
+use Rattle.run_machine.specs.Advancing.{Running}
 use Rattle.preview_token.specs.Passing.{letsThrough, PassesAs}
 
 -- with one token more, where it is let through

@@ -1,12 +1,12 @@
 // The set of tokens that are let through, one try after the other.
 ghost use Prim.Native.Nat.{_<_};
 ghost use mathlib.Core.Path.{_≡_};
-ghost use Rattle.token_set.specs.Words.{setOf};
-ghost use Rattle.machine.specs.Advancing.{Running};
+ghost use Rattle.token_set.specs.SetBits.{setOf};
+ghost use Rattle.run_machine.specs.Advancing.{Running};
 ghost use Rattle.preview_scratch.specs.Scratch.{Cleared};
 ghost use Rattle.preview_collect.specs.Collecting.{grownBy, Collected};
-use moves::Run;
 use preview_token::passes;
+use run_moves::Run;
 use token_set::TokenSet;
 
 // The set, with a token where it is let through.
@@ -32,7 +32,7 @@ pub fn collect(
     requires { ⌜ Running (now program) (now registers) (now places) run × Cleared (now registers) (now places) (now «scratch_registers») (now «scratch_places») ⌝ }
     ensures { λ r. ⌜ Collected (now (program .entry)) value (now (registers .entry)) (now (places .entry)) run (r .0) × Cleared (now (registers .entry)) (now (places .entry)) (now («scratch_registers» .exit)) (now («scratch_places» .exit)) ⌝ }
 {
-    let terminals = moves::word_at(program, 3);
+    let terminals = run_moves::word_at(program, 3);
     let mut set = TokenSet::EMPTY;
     let mut token = 0u8;
     while (token as usize) < terminals {

@@ -1,1 +1,2 @@
+-- What the word at hand says of a token before any try
 pub mod Expected

@@ -7,13 +7,13 @@ pub fn expected(program: &[u32], at: usize, token: usize) -> bool
     requires { ⌜ Legible (now program) at token ⌝ }
     ensures { λ r. ⌜ r ≡ expectedAt (now (program .entry)) at token ⌝ }
 {
-    let word = moves::word_at(program, at);
+    let word = run_moves::word_at(program, at);
     let operation = word % 8;
     if operation == operations::READ {
         return word / 8 == token;
     }
     if operation == operations::PREDICT {
-        return moves::word_at(program, 9 + 64 * (word / 8) + token) != 0;
+        return run_moves::word_at(program, 9 + 64 * (word / 8) + token) != 0;
     }
     operation != operations::NOTHING
 }

@@ -15,7 +15,7 @@ use Rattle.meaning_preview.specs.Preview.{isShort, whenCopied}
 use Rattle.theory_base.specs.Members.{T→true}
 use Rattle.theory_preview.specs.Judging.{copiedBy}
 use Rattle.records.specs.States.{gateOf}
-use Rattle.lent.specs.Judging.{numberBy, numberFor, passed}
+use Rattle.run_lent.specs.Judging.{numberBy, numberFor, passed}
 
 -- the number that turns a preview back before its token is tried; 0 for none
 abbrev pub copyNumber : Grammar → Record → Stacks → Stacks → ℕ

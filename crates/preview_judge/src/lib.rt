@@ -2,7 +2,7 @@
 ghost use mathlib.Core.Path.{_≡_};
 ghost use Rattle.meaning.specs.Grammar.{Grammar};
 ghost use Rattle.meaning.specs.PublicCalls.{stacksOf};
-ghost use Rattle.fit.specs.Shown.{Shown, Readable};
+ghost use Rattle.run_fit.specs.HasProgram.{HasProgram, Readable};
 ghost use Rattle.records.specs.Records.{stateIs};
 ghost use Rattle.preview_judge.specs.Judging.{copyNumber};
 use limits::UNFIT;
@@ -21,16 +21,16 @@ pub fn judge(
     brought: State,
 ) -> u32
     requires { ⌜ Readable (now program) ⌝ }
-    ensures { λ r. ⌜ ((g : Grammar) → Shown g (now (program .entry)) → r ≡ copyNumber g (stateIs brought) (stacksOf (now (registers .entry)) (now (places .entry))) (stacksOf (now («scratch_registers» .entry)) (now («scratch_places» .entry)))) ⌝ }
+    ensures { λ r. ⌜ ((g : Grammar) → HasProgram g (now (program .entry)) → r ≡ copyNumber g (stateIs brought) (stacksOf (now (registers .entry)) (now (places .entry))) (stacksOf (now («scratch_registers» .entry)) (now («scratch_places» .entry)))) ⌝ }
 {
-    let number = lent::judge_cells(UNFIT, registers, places, program, brought);
+    let number = run_lent::judge_cells(UNFIT, registers, places, program, brought);
     if number != 0 {
         return number;
     }
-    if scratch_registers.len() < cells::smaller(registers.len(), limits::REGISTERS) {
+    if scratch_registers.len() < run_cells::smaller(registers.len(), limits::REGISTERS) {
         return SHORT;
     }
-    if scratch_places.len() < cells::smaller(places.len(), limits::PLACES) {
+    if scratch_places.len() < run_cells::smaller(places.len(), limits::PLACES) {
         return SHORT;
     }
     0

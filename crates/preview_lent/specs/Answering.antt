@@ -12,11 +12,11 @@ use Rattle.meaning.specs.PublicCalls.{stacksOf}
 use Rattle.meaning_preview.specs.Preview.{tidied, tried}
 use Rattle.records.specs.declared.Handed as Handed
 use Rattle.records.specs.Records.{handedIs}
-use Rattle.moves.specs.declared.Run.{Run}
-use Rattle.machine.specs.declared.Ended as Ended
-use Rattle.fit.specs.Shown.{Shown}
-use Rattle.running.specs.Leaving.{fedFrom}
-use Rattle.lent.specs.Performing.{Starts, Judged, feed-made}
+use Rattle.run_moves.specs.declared.Run.{Run}
+use Rattle.run_machine.specs.declared.Ended as Ended
+use Rattle.run_fit.specs.HasProgram.{HasProgram}
+use Rattle.run_states.specs.Leaving.{fedFrom}
+use Rattle.run_lent.specs.Performing.{Starts, Judged, feed-made}
 use Rattle.preview_scratch.specs.Scratch.{Cleared, TriedAs}
 
 -- as many scratch cells as lent ones
@@ -38,7 +38,7 @@ module _ {vs : List ℤ} {ps : List ℕ} (few : length vs ≤ 4096) (little : le
       let b : replicate (length ps) 0 ++ drop (length ps) qs ≡ replicate (length ps) 0 = ap (λ z. replicate (length ps) 0 ++ z) (drop-of-length-le qs {i = length ps} (omega arith)) ∙ append-nil _ in
       ap₂ stacksOf (c .registers ∙ (sym a ∙ ap (λ i. replicate i mark ++ drop i rs) n)) (c .places ∙ (sym b ∙ ap (λ i. replicate i 0 ++ drop i qs) k))
 
-  module _ {ws : List ℕ} {r : Record} (j : Judged ws vs ps r) (run : Run) (f : Starts ws ps r run) (g : Grammar) (s : Shown g ws) where
+  module _ {ws : List ℕ} {r : Record} (j : Judged ws vs ps r) (run : Run) (f : Starts ws ps r run) (g : Grammar) (s : HasProgram g ws) where
     pub tried-is : (k : ℕ) (v : ℤ) (e : Ended.Ended) → TriedAs ws k v vs ps run e → (c : Handed.Handed) → c ≡ fedFrom e → (rs′ : List ℤ) (qs′ : List ℕ) → Cleared vs ps rs′ qs′
         → handedIs c rs′ qs′ ≡ tried g r (stacksOf vs ps) (stacksOf rs qs) k v
     tried-is k v e t c q rs′ qs′ d =

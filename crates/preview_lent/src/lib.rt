@@ -3,9 +3,9 @@ ghost use mathlib.Core.Path.{_≡_};
 ghost use Rattle.meaning.specs.Grammar.{Grammar};
 ghost use Rattle.meaning.specs.PublicCalls.{stacksOf};
 ghost use Rattle.meaning_preview.specs.Preview.{tried};
-ghost use Rattle.fit.specs.Shown.{Shown};
+ghost use Rattle.run_fit.specs.HasProgram.{HasProgram};
 ghost use Rattle.records.specs.Records.{stateIs, handedIs};
-ghost use Rattle.lent.specs.Performing.{Judged};
+ghost use Rattle.run_lent.specs.Performing.{Judged};
 ghost use Rattle.preview_lent.specs.Answering.{LentAlike};
 use preview_scratch::attempt;
 use records::Handed;
@@ -23,12 +23,12 @@ pub fn preview_lent(
     value: i32,
 ) -> Handed
     requires { ⌜ Judged (now program) (now registers) (now places) (stateIs brought) × LentAlike (now registers) (now places) (now «scratch_registers») (now «scratch_places») ⌝ }
-    ensures { λ r. ⌜ ((g : Grammar) → Shown g (now (program .entry)) → handedIs r (now («scratch_registers» .exit)) (now («scratch_places» .exit)) ≡ tried g (stateIs brought) (stacksOf (now (registers .entry)) (now (places .entry))) (stacksOf (now («scratch_registers» .entry)) (now («scratch_places» .entry))) kind value) ⌝ }
+    ensures { λ r. ⌜ ((g : Grammar) → HasProgram g (now (program .entry)) → handedIs r (now («scratch_registers» .exit)) (now («scratch_places» .exit)) ≡ tried g (stateIs brought) (stacksOf (now (registers .entry)) (now (places .entry))) (stacksOf (now («scratch_registers» .entry)) (now («scratch_places» .entry))) kind value) ⌝ }
 {
-    cells::clear_registers(scratch_registers);
-    cells::clear_places(scratch_places);
-    let run = running::run_of(places, program, brought);
-    running::fed(attempt(
+    run_cells::clear_registers(scratch_registers);
+    run_cells::clear_places(scratch_places);
+    let run = run_states::run_of(places, program, brought);
+    run_states::fed(attempt(
         registers,
         places,
         scratch_registers,

@@ -9,14 +9,14 @@ use lib.IntN.{ℤ}
 use Rattle.meaning.specs.Value.{mark}
 use Rattle.meaning.specs.Machine.{Config, Settled}
 use Rattle.theory_answers.specs.Memory.{lay-above}
-use Rattle.registers.specs.Laid.{laid-inside}
-use Rattle.moves.specs.declared.Run.{Run}
-use Rattle.moves.specs.Laid.{LaidIn, laid-size}
-use Rattle.moves.specs.Held.{Held}
-use Rattle.machine.specs.declared.Ended as Ended
-use Rattle.machine.specs.declared.Ended.the-variants.{Stopped, Failed}
-use Rattle.machine.specs.Advancing.{Running, Settles}
-use Rattle.machine.specs.Feeding.{Feeds}
+use Rattle.run_registers.specs.Laid.{laid-inside}
+use Rattle.run_moves.specs.declared.Run.{Run}
+use Rattle.run_moves.specs.Laid.{LaidIn, laid-size}
+use Rattle.run_moves.specs.Held.{Held}
+use Rattle.run_machine.specs.declared.Ended as Ended
+use Rattle.run_machine.specs.declared.Ended.the-variants.{Stopped, Failed}
+use Rattle.run_machine.specs.Advancing.{Running, Settles}
+use Rattle.run_machine.specs.Feeding.{Feeds}
 
 -- as many cleared cells as vs and ps have
 pub record Cleared (vs : List ℤ) (ps : List ℕ) (rs : List ℤ) (qs : List ℕ) : Type 0 where

@@ -3,10 +3,10 @@ ghost use Prim.Native.Nat.{_≤_};
 ghost use mathlib.Core.Path.{_≡_};
 ghost use mathlib.Core.List.{_++_};
 ghost use lib.ListN.{length, take, drop};
-ghost use Rattle.machine.specs.Advancing.{Running};
+ghost use Rattle.run_machine.specs.Advancing.{Running};
 ghost use Rattle.preview_scratch.specs.Scratch.{Cleared, TriedAs, reachedBy};
-use machine::Ended;
-use moves::Run;
+use run_machine::Ended;
+use run_moves::Run;
 
 // ---- what stands, copied
 
@@ -61,7 +61,7 @@ pub fn attempt(
     copy_places(places, scratch_places, run.places);
     let kinds = [kind; 1];
     let values = [value; 1];
-    let ended = machine::feed(
+    let ended = run_machine::feed(
         scratch_registers,
         scratch_places,
         program,
@@ -70,7 +70,7 @@ pub fn attempt(
         &values,
     );
     let last = reached(ended);
-    cells::clear_registers(&mut scratch_registers[..last.registers]);
-    cells::clear_places(&mut scratch_places[..last.places]);
+    run_cells::clear_registers(&mut scratch_registers[..last.registers]);
+    run_cells::clear_places(&mut scratch_places[..last.places]);
     ended
 }

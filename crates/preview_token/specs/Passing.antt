@@ -7,11 +7,11 @@ use lib.IntN.{ℤ}
 use Rattle.meaning.specs.Grammar.{Grammar, leaves}
 use Rattle.meaning.specs.Machine.{Config, Lent, Settled, stopped, failed, feedAll}
 use Rattle.meaning.specs.Calls.{tokensFrom}
-use Rattle.moves.specs.declared.Run.{Run}
-use Rattle.moves.specs.Held.{Held}
-use Rattle.machine.specs.declared.Ended as Ended
-use Rattle.machine.specs.declared.Ended.the-variants.{Stopped, Failed}
-use Rattle.machine.specs.Advancing.{Settles}
+use Rattle.run_moves.specs.declared.Run.{Run}
+use Rattle.run_moves.specs.Held.{Held}
+use Rattle.run_machine.specs.declared.Ended as Ended
+use Rattle.run_machine.specs.declared.Ended.the-variants.{Stopped, Failed}
+use Rattle.run_machine.specs.Advancing.{Settles}
 use Rattle.preview_scratch.specs.Scratch.{TriedAs}
 
 abbrev pub isStopped : Settled → Bool

@@ -2,22 +2,22 @@
 use Prim.Native.Nat.{ℕ, suc, _+_, _-_, _*_, _/_, _%_, _<_}
 use native.Mathlib.Omega.{arith}
 use mathlib.Core.Path.{_≡_, refl, sym, ap, _∙_}
-use mathlib.Core.Bool.{Bool, true, false, not, _&&_}
+use mathlib.Core.Bool.{Bool, true, false, not, _&&_, cond}
 use mathlib.Core.List.{List, [], _++_}
 use lib.ListN.{length, getD}
 use lib.Dec.{eqb, ltb, leb}
 use lib.IntN.{ℤ}
 use borrow.Author.Tests.{ne-eqb, eqb-true, eqb-false, ltb-true, ltb-false, le-ltb, not-false}
 use Rattle.meaning.specs.Grammar.{Grammar, Leaf, leafOf}
-use Rattle.meaning.specs.Machine.{Config, Lent, comes, moved, blocked, chooseOutcome, next, waits, isDone, Settled, stopped, failed, advanceFrom, feedAll, movesLimit, tokensLimit}
+use Rattle.meaning.specs.Machine.{Config, Lent, comes, moved, blocked, next, waits, isDone, Settled, stopped, failed, advanceFrom, feedAll, movesLimit, tokensLimit}
 use Rattle.theory_base.specs.Members.{apart}
 use Rattle.theory_base.specs.Steps.{advance-failed}
-use Rattle.moves.specs.declared.Run.{Run}
-use Rattle.moves.specs.Held.{Held, bounds, hand-terminal, next-is}
-use Rattle.moves.specs.Moves.{after}
-use Rattle.moves.specs.Passing.{lookIf}
-use Rattle.predict.specs.Entering.{directory-inside, blocked-unexpected}
-use Rattle.machine.specs.Advancing.{Running, blocked-over, blocked-limit}
+use Rattle.run_moves.specs.declared.Run.{Run}
+use Rattle.run_moves.specs.Held.{Held, bounds, hand-terminal, next-is}
+use Rattle.run_moves.specs.Moves.{after}
+use Rattle.run_moves.specs.Passing.{lookIf}
+use Rattle.run_predict.specs.Entering.{directory-inside, blocked-unexpected}
+use Rattle.run_machine.specs.Advancing.{Running, blocked-over, blocked-limit}
 use Rattle.preview_expected.specs.Expected.{expectedBy, expectedAt, Legible}
 use Rattle.preview_token.specs.Passing.{isStopped, letsThrough, PassesAs}
 
@@ -47,8 +47,8 @@ module _ {g : Grammar} {ws : List ℕ} {lent : Lent} {m : List ℤ} {ps : List �
     other-terminal o z =
         let x = hand-terminal h o in
         let vs : List ℤ = leaf .values in
-        let taken = chooseOutcome (ltb (lent .maxRegisters) (length (c .registers) + length vs)) (blocked 31) (moved (after h x (vs ++ c .registers) (suc (c .tokens)))) in
-        (21, next-is h (comes leaf) x limit ∙ ap (λ b. chooseOutcome b taken (blocked 21)) (ne-eqb operand u z))
+        let taken = cond (ltb (lent .maxRegisters) (length (c .registers) + length vs)) (blocked 31) (moved (after h x (vs ++ c .registers) (suc (c .tokens)))) in
+        (21, next-is h (comes leaf) x limit ∙ ap (λ b. cond b taken (blocked 21)) (ne-eqb operand u z))
 
     no-alternative : u < 63 → number ≡ 3 → getD ws (9 + 64 * operand + u) 0 ≡ 0 → Refuses
     no-alternative l o z = (_, blocked-unexpected h o u (omega arith) (comes leaf) (sym (ap (λ b. lookIf b u) (ne-eqb u 63 (λ e. omega arith)))) limit z .0)

@@ -1,12 +1,12 @@
 // Whether a token is let through.
 ghost use Prim.Native.Nat.{_<_};
-ghost use Rattle.machine.specs.Advancing.{Running};
+ghost use Rattle.run_machine.specs.Advancing.{Running};
 ghost use Rattle.preview_scratch.specs.Scratch.{Cleared};
 ghost use Rattle.preview_token.specs.Passing.{PassesAs};
-use machine::Ended;
-use moves::Run;
 use preview_expected::expected;
 use preview_scratch::attempt;
+use run_machine::Ended;
+use run_moves::Run;
 
 // A token that is not expected is left out without a try.
 pub fn passes(

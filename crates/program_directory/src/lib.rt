@@ -2,26 +2,28 @@
 ghost use Prim.Native.Nat.{_+_, _≤_, _<_};
 ghost use mathlib.Core.Path.{_≡_};
 ghost use lib.ListN.{length, getD};
-ghost use Rattle.block_words.specs.Patch.{Wrote};
+ghost use Rattle.program_block_words.specs.Patch.{Wrote};
 ghost use Rattle.program_words.specs.Directory.{Alternatives, Marked};
 ghost use Rattle.meaning.specs.Program.{directory};
+use token_set::TokenSet;
 
-// 0 past the end.
-pub fn set_at(sets: &[u64], at: usize) -> u64
-    ensures { λ r. ⌜ (r ≡ getD (now (sets .entry)) at 0) × (r < 18446744073709551616) ⌝ }
+// The set whose word stands at an index; none past the end.
+pub fn set_at(sets: &[u64], at: usize) -> TokenSet
+    ensures { λ r. ⌜ (r .0 ≡ getD (now (sets .entry)) at 0) × (r .0 < 18446744073709551616) ⌝ }
 {
     if sets.len() <= at {
-        return 0;
+        return TokenSet::EMPTY;
     }
-    sets[at]
+    let word = sets[at];
+    TokenSet(word)
 }
 
 // The number is written at each bit of a set, in a row of 64 words.
-fn mark(set: u64, number: u32, area: &mut [u32], from: usize)
+fn mark(set: TokenSet, number: u32, area: &mut [u32], from: usize)
     requires { ⌜ from + 64 ≤ length (now area) ⌝ }
-    ensures { λ r. ⌜ Marked (now (area .entry)) (now (area .exit)) from set number 64 ⌝ }
+    ensures { λ r. ⌜ Marked (now (area .entry)) (now (area .exit)) from (set .0) number 64 ⌝ }
 {
-    let mut rest = set;
+    let mut rest = set.0;
     let mut u: usize = 0;
     while rest != 0 {
         let zeros = u64::trailing_zeros(rest) as usize;
@@ -43,10 +45,10 @@ pub fn write_directory(
     ensures { λ r. ⌜ ((x : Alternatives (now (rows .entry)) (now (sets .entry)) nonterminals count) → Wrote (now (area .entry)) (now (area .exit)) 9 r (directory (x .grammar))) ⌝ }
 {
     let end = 9 + 64 * nonterminals;
-    body_counts::clear(area, 9, end);
+    program_body_counts::clear(area, 9, end);
     let mut p = count;
     while 0 < p {
-        let left = value::byte_at(rows, 16 * (p - 1)) as usize;
+        let left = value::byte_at(rows, (p - 1) * 16) as usize;
         mark(set_at(sets, p - 1), p as u32, area, 9 + 64 * left);
         p -= 1;
     }

@@ -1,8 +1,9 @@
 // The records and the bodies of all productions, and between them what the places wait at.
 ghost use Prim.Native.Nat.{_≤_};
 ghost use lib.ListN.{length};
-ghost use Rattle.program_words.specs.Built.{Outlined, LinksFit, AllWrote};
-use table::Sizes;
+ghost use Rattle.outline.specs.Outline.{grammarIn, Outlined};
+ghost use Rattle.program_words.specs.Built.{LinksFit, AllWrote};
+use outline::Sizes;
 
 // All records and bodies, and what all places wait at; answers the address behind the last body. The chains of each production's
 // rules and conditions are made in `links`.
@@ -17,13 +18,13 @@ fn write_each(
     links: &mut [u32],
     area: &mut [u32],
 ) -> usize
-    requires { ⌜ Outlined (now table) (now rows) (now inherited) (now synthesized) (now offsets) (now sets) sizes × (16384 ≤ length (now area)) × LinksFit (length (now table)) (length (now links)) ⌝ }
-    ensures { λ r. ⌜ ((x : Outlined (now (table .entry)) (now (rows .entry)) (now (inherited .entry)) (now (synthesized .entry)) (now (offsets .entry)) (now (sets .entry)) sizes) → AllWrote x (now (area .entry)) (now (area .exit)) r) ⌝ }
+    requires { ⌜ Outlined (now table) sizes (now inherited) (now synthesized) (now rows) (now offsets) (now sets) × (16384 ≤ length (now area)) × LinksFit (length (now table)) (length (now links)) ⌝ }
+    ensures { λ r. ⌜ AllWrote (grammarIn (now (table .entry))) (now (area .entry)) (now (area .exit)) r ⌝ }
 {
     let count = sizes.productions;
     let mut at = 9 + 64 * sizes.nonterminals;
     let mut body = at + 20 * count;
-    let nexts = program_records::find_nexts(rows, sets, sizes.nonterminals, count);
+    let nexts = program_records::find_nexts(rows, count);
     let mut p: usize = 0;
     while p < count {
         body = program_records::write_production(
@@ -47,7 +48,7 @@ fn write_each(
     body
 }
 
-// The same with an array for the chains: 104 rules and 512 conditions are the most that a production can have, and each takes eight
+// The records and bodies of all productions, with an array for the chains: 104 rules and 512 conditions are the most that a production can have, and each takes eight
 // bytes of the table at least, so that a short table does with a short array.
 pub fn write_productions(
     table: &[u8],
@@ -59,8 +60,8 @@ pub fn write_productions(
     sizes: Sizes,
     area: &mut [u32],
 ) -> usize
-    requires { ⌜ Outlined (now table) (now rows) (now inherited) (now synthesized) (now offsets) (now sets) sizes × (16384 ≤ length (now area)) ⌝ }
-    ensures { λ r. ⌜ ((x : Outlined (now (table .entry)) (now (rows .entry)) (now (inherited .entry)) (now (synthesized .entry)) (now (offsets .entry)) (now (sets .entry)) sizes) → AllWrote x (now (area .entry)) (now (area .exit)) r) ⌝ }
+    requires { ⌜ Outlined (now table) sizes (now inherited) (now synthesized) (now rows) (now offsets) (now sets) × (16384 ≤ length (now area)) ⌝ }
+    ensures { λ r. ⌜ AllWrote (grammarIn (now (table .entry))) (now (area .entry)) (now (area .exit)) r ⌝ }
 {
     if table.len() <= 512 {
         let mut links = [0u32; 64];

@@ -1,26 +1,27 @@
 // The record and the body of a production, and what its places wait at.
 ghost use mathlib.Core.Path.{_≡_};
 ghost use lib.ListN.{length};
-ghost use Rattle.block_words.specs.Patch.{Wrote};
+ghost use Rattle.program_block_words.specs.Patch.{Wrote};
 ghost use Prim.Native.Nat.{_<_};
-ghost use Rattle.program_words.specs.Brought.{fieldsFrom, stretchEnd};
-ghost use Rattle.program_words.specs.Directory.{Alternatives};
+ghost use Rattle.meaning.specs.Grammar.{Grammar};
+ghost use Rattle.outline.specs.Rows.{Rows};
+ghost use Rattle.outline.specs.Outline.{grammarIn};
 ghost use Rattle.program_words.specs.Records.{NextOf, Nexts, recordAt};
-ghost use Rattle.program_words.specs.Built.{LinksFit, RecordFits, ProductionFits, Produced};
-use table::Sizes;
+ghost use Rattle.program_words.specs.Built.{LinksFit, RecordFits, ProductionFits, ProductionWrote};
+use outline::Sizes;
 
 // For each production the number plus 1 of the next one with the same left side, or 0: the last production first, with the first
 // one so far of each nonterminal.
-pub fn find_nexts(rows: &[u8], sets: &[u64], nonterminals: usize, count: usize) -> [u8; 128]
-    requires { ⌜ Alternatives (now rows) (now sets) nonterminals count ⌝ }
-    ensures { λ r. ⌜ Nexts (now (rows .entry)) (now (sets .entry)) nonterminals count r ⌝ }
+pub fn find_nexts(rows: &[u8], count: usize) -> [u8; 128]
+    requires { ⌜ ((g : Grammar) × Rows (now rows) count g) ⌝ }
+    ensures { λ r. ⌜ Nexts (now (rows .entry)) count r ⌝ }
 {
     let mut nexts = [0u8; 128];
     let mut firsts = [0u8; 48];
     let mut p = count;
     while 0 < p {
         p -= 1;
-        let left = value::byte_at(rows, 16 * p) as usize;
+        let left = value::byte_at(rows, p * 16) as usize;
         nexts[p] = firsts[left];
         firsts[left] = (p + 1) as u8;
     }
@@ -31,7 +32,6 @@ pub fn find_nexts(rows: &[u8], sets: &[u64], nonterminals: usize, count: usize) 
 fn write_record(
     rows: &[u8],
     sets: &[u64],
-    nonterminals: usize,
     count: usize,
     p: usize,
     body: usize,
@@ -40,37 +40,17 @@ fn write_record(
     area: &mut [u32],
     at: usize,
 ) -> usize
-    requires { ⌜ RecordFits (now rows) (now sets) nonterminals count p body entries (now area) at × NextOf (now rows) (now sets) nonterminals count p next ⌝ }
-    ensures { λ r. ⌜ ((x : RecordFits (now (rows .entry)) (now (sets .entry)) nonterminals count p body entries (now (area .entry)) at) → Wrote (now (area .entry)) (now (area .exit)) at r (recordAt (x .alternatives .grammar) p body)) ⌝ }
+    requires { ⌜ RecordFits (now rows) (now sets) count p body entries (now area) at × NextOf (now rows) count p next ⌝ }
+    ensures { λ r. ⌜ ((x : RecordFits (now (rows .entry)) (now (sets .entry)) count p body entries (now (area .entry)) at) → Wrote (now (area .entry)) (now (area .exit)) at r (recordAt (x .grammar) p body)) ⌝ }
 {
-    let left = value::byte_at(rows, 16 * p);
-    let size = value::byte_at(rows, 16 * p + 1);
+    let left = value::byte_at(rows, p * 16);
+    let size = value::byte_at(rows, p * 16 + 1);
     let set = program_directory::set_at(sets, p);
-    let low = (set % 4294967296) as u32;
-    let high = (set / 4294967296) as u32;
+    let low = (set.0 % 4294967296) as u32;
+    let high = (set.0 / 4294967296) as u32;
     let from = body as u32;
     let half = program_segment::put_four(area, at, left, next, low, high);
     program_segment::put_four(area, half, from, entries, from + size + 3 * entries, size)
-}
-
-// Where the rules and conditions of production p begin in the table.
-fn fields_from(rows: &[u8], offsets: &[u32], p: usize) -> usize
-    requires { ⌜ p < 128 ⌝ }
-    ensures { λ r. ⌜ r ≡ fieldsFrom (now (rows .entry)) (now (offsets .entry)) p ⌝ }
-{
-    let offset = body_counts::number_at(offsets, p) as usize;
-    offset + 5 + value::byte_at(rows, 16 * p + 1) as usize
-}
-
-// Where its stretch of the table ends.
-fn stretch_end(table: &[u8], offsets: &[u32], count: usize, p: usize) -> usize
-    requires { ⌜ p < 128 ⌝ }
-    ensures { λ r. ⌜ r ≡ stretchEnd (now (table .entry)) (now (offsets .entry)) count p ⌝ }
-{
-    if p + 1 < count {
-        return body_counts::number_at(offsets, p + 1) as usize;
-    }
-    table.len()
 }
 
 // The record and the body of production p, and what its places wait at; answers the address behind the body. The chains of
@@ -90,35 +70,24 @@ pub fn write_production(
     at: usize,
     body: usize,
 ) -> usize
-    requires { ⌜ ProductionFits (now table) (now rows) (now inherited) (now synthesized) (now offsets) (now sets) sizes p (now area) at body × Nexts (now rows) (now sets) (sizes .nonterminals) (sizes .productions) (now nexts) × LinksFit (length (now table)) (length (now links)) ⌝ }
+    requires { ⌜ ProductionFits (now table) sizes (now inherited) (now synthesized) (now rows) (now offsets) (now sets) p (now area) at body × Nexts (now rows) (sizes .productions) (now nexts) × LinksFit (length (now table)) (length (now links)) ⌝ }
     ensures { λ r. ⌜ (length (now (links .exit)) ≡ length (now (links .entry)))
-        × ((x : ProductionFits (now (table .entry)) (now (rows .entry)) (now (inherited .entry)) (now (synthesized .entry)) (now (offsets .entry)) (now (sets .entry)) sizes p (now (area .entry)) at body) → Produced x (now (area .exit)) r) ⌝ }
+        × ProductionWrote (grammarIn (now (table .entry))) p (now (area .entry)) (now (area .exit)) at body r ⌝ }
 {
     let count = sizes.productions;
-    let from = fields_from(rows, offsets, p);
-    let to = stretch_end(table, offsets, count, p);
+    let from = program_fields::fields_from(rows, offsets, p);
+    let to = program_fields::stretch_end(table, offsets, count, p);
     let fields = &table[from..to];
-    let first = 16 * p;
-    let last = 16 * p + 16;
+    let first = p * 16;
+    let last = p * 16 + 16;
     let row = &rows[first..last];
     let mut marks = [0u32; 64];
-    block_chains::find_items(fields, links, &mut marks);
+    program_chains::find_items(fields, links, &mut marks);
     let entries = marks[1];
     let wait = 9 + 64 * sizes.nonterminals + 8 * count + 12 * p;
     let next = value::byte_at(nexts, p);
-    write_record(
-        rows,
-        sets,
-        sizes.nonterminals,
-        count,
-        p,
-        body,
-        entries,
-        next,
-        area,
-        at,
-    );
-    bodies::write_body(
+    write_record(rows, sets, count, p, body, entries, next, area, at);
+    program_bodies::write_body(
         row,
         fields,
         inherited,

@@ -1,12 +1,11 @@
 // The words of the program on the whole segment.
-ghost use Prim.Native.Nat.{_+_, _≤_};
-ghost use mathlib.Core.List.{[], _∷_};
+ghost use Prim.Native.Nat.{ℕ, _+_, _≤_};
+ghost use mathlib.Core.List.{List, [], _∷_};
 ghost use lib.ListN.{length};
 ghost use Rattle.meaning.specs.Program.{segmentWords};
-ghost use Rattle.block_words.specs.Patch.{Wrote};
-ghost use Rattle.program_words.specs.Brought.{grammarIn};
-ghost use Rattle.program_words.specs.Built.{Outlined};
-use table::Sizes;
+ghost use Rattle.program_block_words.specs.Patch.{Wrote};
+ghost use Rattle.outline.specs.Outline.{grammarIn, Outline};
+use outline::Sizes;
 
 // Four words; answers the address behind them.
 pub fn put_four(area: &mut [u32], at: usize, a: u32, b: u32, c: u32, d: u32) -> usize
@@ -25,18 +24,9 @@ const PREDICT: u32 = operations::PREDICT as u32;
 const NOTHING: u32 = operations::NOTHING as u32;
 
 // The words on the whole segment.
-pub fn write_segment(
-    table: &[u8],
-    rows: &[u8],
-    inherited: &[u8],
-    synthesized: &[u8],
-    offsets: &[u32],
-    sets: &[u64],
-    sizes: Sizes,
-    area: &mut [u32],
-) -> usize
-    requires { ⌜ Outlined (now table) (now rows) (now inherited) (now synthesized) (now offsets) (now sets) sizes × (16384 ≤ length (now area)) ⌝ }
-    ensures { λ r. ⌜ ((x : Outlined (now (table .entry)) (now (rows .entry)) (now (inherited .entry)) (now (synthesized .entry)) (now (offsets .entry)) (now (sets .entry)) sizes) → Wrote (now (area .entry)) (now (area .exit)) 0 r (segmentWords (grammarIn x))) ⌝ }
+pub fn write_segment(synthesized: &[u8], sizes: Sizes, area: &mut [u32]) -> usize
+    requires { ⌜ ((table inherited rows offsets : List ℕ) × Outline table sizes inherited (now synthesized) rows offsets) × (16384 ≤ length (now area)) ⌝ }
+    ensures { λ r. ⌜ ((table inherited rows offsets : List ℕ) → Outline table sizes inherited (now (synthesized .entry)) rows offsets → Wrote (now (area .entry)) (now (area .exit)) 0 r (segmentWords (grammarIn table))) ⌝ }
 {
     let start = sizes.start as u32;
     let records = (9 + 64 * sizes.nonterminals) as u32;
@@ -44,8 +34,8 @@ pub fn write_segment(
     let registers = value::byte_at(synthesized, sizes.start);
     let result = sizes.result as u32;
     let productions = sizes.productions as u32;
-    let low = (sizes.carrying % 4294967296) as u32;
-    let high = (sizes.carrying / 4294967296) as u32;
+    let low = (sizes.carrying.0 % 4294967296) as u32;
+    let high = (sizes.carrying.0 / 4294967296) as u32;
     let next = put_four(area, 0, PREDICT + 8 * start, NOTHING, records, terminals);
     let last = put_four(area, next, registers, result, productions, low);
     area[last] = high;

@@ -7,7 +7,7 @@ use native.Mathlib.Omega.{arith}
 use native.Mathlib.Decide.{decLt, ℕ-discrete}
 use mathlib.Core.Path.{_≡_, refl, sym, ap, _∙_, subst}
 use mathlib.Core.Logic.{_⊎_, inl, inr}
-use mathlib.Core.Bool.{Bool, true, false, _&&_}
+use mathlib.Core.Bool.{Bool, true, false, _&&_, cond}
 use mathlib.Core.List.{List, _∷_}
 use lib.ListN.{length, getD, set, drop, replicate, length-set, length-replicate, getD-replicate, drop-of-length-le}
 use lib.Seq.{drop-cons, getD-set-same, getD-set-other, ext-getD}
@@ -15,26 +15,30 @@ use lib.Pow.{shr-shr, pow-mono}
 use lib.Dec.{eqb, ltb}
 use borrow.Author.Tests.{lt-ltb, le-ltb, eq-eqb, ne-eqb}
 use Rattle.meaning.specs.Grammar.{Production, Grammar, wholeProduction, nonterminalCount, productionAt}
-use Rattle.meaning.specs.Rules.{WellFormed}
-use Rattle.meaning.specs.Scheme.{choose}
 use Rattle.meaning.specs.Sets.{has, starts}
 use Rattle.meaning.specs.Program.{firstOf, directory, directoryWord}
 use Rattle.theory_base.specs.WellFormed.{listed-at, well-formed-at}
+use Rattle.token_set.specs.SetBits.{bit, has-bit}
+use Rattle.outline.specs.declared.Sizes.{Sizes}
+use Rattle.outline.specs.Rows.{Rows, leftAt}
+use Rattle.outline.specs.Outline.{grammarIn, Starting, Outlined}
 use Rattle.theory_program.specs.Addresses.{row-at, directory-length}
-use Rattle.block_words.specs.Patch.{patch, Wrote, patch-length, patch-before, patch-inside, patch-behind}
-use Rattle.program_words.specs.Brought.{Brought, grammarIn, well-formed, count-is}
+use Rattle.program_block_words.specs.Patch.{patch, Wrote, patch-length, patch-before, patch-inside, patch-behind}
 
 -- what is brought of the productions as alternatives of their left sides
 pub record Alternatives (rows sets : List ℕ) (nonterminals count : ℕ) : Type 0 where
   pub grammar : Grammar
-  pub wellFormed : WellFormed grammar
+  pub rowsOf : Rows rows count grammar
   pub isNonterminals : nonterminals ≡ nonterminalCount grammar
-  pub isCount : count ≡ length (grammar .productions)
-  pub left : (p : ℕ) → p < count → getD rows (16 * p) 0 ≡ productionAt grammar p .left
-  pub starting : (p u : ℕ) → p < count → u < 64 → eqb (getD sets p 0 / 2 ^ u % 2) 1 ≡ has (starts grammar (productionAt grammar p)) u
+  pub starting : Starting grammar count sets
 
-abbrev pub alternatives : {table rows inherited synthesized offsets sets : List ℕ} {terminals nonterminals start result count carrying : ℕ} → Brought table rows inherited synthesized offsets sets terminals nonterminals start result count carrying → Alternatives rows sets nonterminals count
-alternatives x = record { grammar = grammarIn x; wellFormed = well-formed x; isNonterminals = x .isNonterminals; isCount = count-is x; left = x .left; starting = x .starting }
+abbrev pub alternatives : {table : List ℕ} {sizes : Sizes} {inherited synthesized rows offsets sets : List ℕ} → Outlined table sizes inherited synthesized rows offsets sets → Alternatives rows sets (sizes .nonterminals) (sizes .productions)
+alternatives {table} x = record { grammar = grammarIn table; rowsOf = x .outline .productions .rowsOf; isNonterminals = x .outline .numbers .nonterminals; starting = x .starting }
+
+-- a set's bits
+pub start-bit : (g : Grammar) (count : ℕ) (sets : List ℕ) → Starting g count sets → (p u : ℕ) → p < count → u < 64 → eqb (getD sets p 0 / 2 ^ u % 2) 1 ≡ has (starts g (productionAt g p)) u
+unfolding bit
+start-bit g count sets k p u l m = sym (has-bit (getD sets p 0) u m) ∙ ap (λ z. has z u) (k p l)
 
 abbrev pub zeros : ℕ → List ℕ
 zeros n = replicate n 0
@@ -44,7 +48,7 @@ zeros n = replicate n 0
 -- the first u places of a row of 64 words hold the number where the set has a bit
 pub record Marked (old new : List ℕ) (from set number u : ℕ) : Type 0 where
   pub size : length new ≡ length old
-  pub inside : (v : ℕ) → v < 64 → getD new (from + v) 0 ≡ choose (ltb v u && eqb (set / 2 ^ v % 2) 1) number (getD old (from + v) 0)
+  pub inside : (v : ℕ) → v < 64 → getD new (from + v) 0 ≡ cond (ltb v u && eqb (set / 2 ^ v % 2) 1) number (getD old (from + v) 0)
   pub outside : (i : ℕ) → (i < from) ⊎ (from + 64 ≤ i) → getD new i 0 ≡ getD old i 0
 
 pub marked-start : (area : List ℕ) (from set number : ℕ) → Marked area area from set number 0
@@ -59,8 +63,8 @@ module _ {old area : List ℕ} {from bits number u : ℕ} (m : Marked old area f
   pub marked-skip : (j : ℕ) → ((v : ℕ) → v < j → bits / 2 ^ u / 2 ^ v % 2 ≡ 0) → Marked old area from bits number (u + j)
   marked-skip j none = record { size = m .size; inside = λ v k. go v k (decLt v u) (decLt v (u + j)); outside = m .outside }
     where
-      go : (v : ℕ) → v < 64 → Dec (v < u) → Dec (v < u + j) → getD area (from + v) 0 ≡ choose (ltb v (u + j) && eqb (bits / 2 ^ v % 2) 1) number (getD old (from + v) 0)
-      go v k (yes h) e = m .inside v k ∙ ap (λ c. choose (c && eqb (bits / 2 ^ v % 2) 1) number (getD old (from + v) 0)) (lt-ltb v u h ∙ sym (lt-ltb v (u + j) (omega arith)))
+      go : (v : ℕ) → v < 64 → Dec (v < u) → Dec (v < u + j) → getD area (from + v) 0 ≡ cond (ltb v (u + j) && eqb (bits / 2 ^ v % 2) 1) number (getD old (from + v) 0)
+      go v k (yes h) e = m .inside v k ∙ ap (λ c. cond (c && eqb (bits / 2 ^ v % 2) 1) number (getD old (from + v) 0)) (lt-ltb v u h ∙ sym (lt-ltb v (u + j) (omega arith)))
       go v k (no h) (no e) = rw (le-ltb v (u + j) (omega arith)) (none-at v k (omega arith))
       go v k (no h) (yes e) =
           let s : u + (v - u) ≡ v = omega arith in
@@ -79,12 +83,12 @@ module _ {old area : List ℕ} {from bits number u : ℕ} (m : Marked old area f
       below v n (yes k) = lt-ltb v (u + 1) (omega arith) ∙ sym (lt-ltb v u k)
       below v n (no k) = le-ltb v (u + 1) (omega arith) ∙ sym (le-ltb v u (omega arith))
 
-      go : (v : ℕ) → v < 64 → Dec (v ≡ u) → getD (set area (from + u) number) (from + v) 0 ≡ choose (ltb v (u + 1) && eqb (bits / 2 ^ v % 2) 1) number (getD old (from + v) 0)
+      go : (v : ℕ) → v < 64 → Dec (v ≡ u) → getD (set area (from + u) number) (from + v) 0 ≡ cond (ltb v (u + 1) && eqb (bits / 2 ^ v % 2) 1) number (getD old (from + v) 0)
       go v k (yes q) = rw (q, lt-ltb u (u + 1) (omega arith), one) (getD-set-same area (from + u) number 0 h)
-      go v k (no n) = getD-set-other area (from + u) (from + v) number 0 (λ q. n (omega arith)) ∙ (m .inside v k ∙ ap (λ c. choose (c && eqb (bits / 2 ^ v % 2) 1) number (getD old (from + v) 0)) (sym (below v n (decLt v u))))
+      go v k (no n) = getD-set-other area (from + u) (from + v) number 0 (λ q. n (omega arith)) ∙ (m .inside v k ∙ ap (λ c. cond (c && eqb (bits / 2 ^ v % 2) 1) number (getD old (from + v) 0)) (sym (below v n (decLt v u))))
 
   pub marked-end : bits / 2 ^ u ≡ 0 → u ≤ 64 → Marked old area from bits number 64
-  marked-end e l = record { size = m .size; inside = λ v k. m .inside v k ∙ ap (λ c. choose c number (getD old (from + v) 0)) (go v k (decLt v u)); outside = m .outside }
+  marked-end e l = record { size = m .size; inside = λ v k. m .inside v k ∙ ap (λ c. cond c number (getD old (from + v) 0)) (go v k (decLt v u)); outside = m .outside }
     where
       go : (v : ℕ) → v < 64 → Dec (v < u) → (ltb v u && eqb (bits / 2 ^ v % 2) 1) ≡ (ltb v 64 && eqb (bits / 2 ^ v % 2) 1)
       go v k (yes h) = rw (lt-ltb v u h, lt-ltb v 64 k)
@@ -174,39 +178,39 @@ module _ (g : Grammar) (old : List ℕ) (room : 9 + 64 * nonterminalCount g ≤ 
             left ∙ sym right
 
 -- one production more
-pub filled-turn : {rows sets : List ℕ} {nonterminals count : ℕ} (x : Alternatives rows sets nonterminals count) {old area new : List ℕ} (p b : ℕ) → p < count → b ≡ getD rows (16 * p) 0 → Filled (x .grammar) old area (p + 1) → Marked area new (9 + 64 * b) (getD sets p 0) (p + 1) 64 → Filled (x .grammar) old new p
+pub filled-turn : {rows sets : List ℕ} {nonterminals count : ℕ} (x : Alternatives rows sets nonterminals count) {old area new : List ℕ} (p b : ℕ) → p < count → b ≡ leftAt rows p → Filled (x .grammar) old area (p + 1) → Marked area new (9 + 64 * b) (getD sets p 0) (p + 1) 64 → Filled (x .grammar) old new p
 filled-turn {rows} {sets} {nonterminals} {count} x {old} {area} {new} p b l eb f m = record { size = m .size ∙ f .size; words = λ n u k h. go n u k h (ℕ-discrete n b); outside = λ i k. m .outside i (beyond i k) ∙ f .outside i k }
   where
     g : Grammar
     g = x .grammar
 
     listed : p < length (g .productions)
-    listed = omega (arith, x .isCount)
+    listed = omega (arith, x .rowsOf .counted)
 
     pr : Production
     pr = productionAt g p
 
     left-is : b ≡ pr .left
-    left-is = eb ∙ x .left p l
+    left-is = eb ∙ x .rowsOf .left p l
 
     left-small : b < nonterminalCount g
-    left-small = omega (arith, left-is, well-formed-at g (x .wellFormed) p listed .left)
+    left-small = omega (arith, left-is, well-formed-at g (x .rowsOf .sound) p listed .left)
 
     beyond : (i : ℕ) → (i < 9) ⊎ (9 + 64 * nonterminalCount g ≤ i) → (i < 9 + 64 * b) ⊎ (9 + 64 * b + 64 ≤ i)
     beyond i (inl k) = inl (omega arith)
     beyond i (inr k) = inr (omega (arith, left-small))
 
     here : drop p (g .productions) ≡ pr ∷ drop (suc p) (g .productions)
-    here = drop-cons (g .productions) p (wholeProduction g) listed ∙ ap (λ q. q ∷ drop (suc p) (g .productions)) (sym (listed-at g (x .wellFormed) p listed))
+    here = drop-cons (g .productions) p (wholeProduction g) listed ∙ ap (λ q. q ∷ drop (suc p) (g .productions)) (sym (listed-at g (x .rowsOf .sound) p listed))
 
     next : p + 1 ≡ suc p
     next = omega arith
 
     -- the word by whether the production starts with u
-    word : (n u : ℕ) → firstOf (startsOf g n u) p (drop p (g .productions)) ≡ choose (startsOf g n u pr) (p + 1) (firstOf (startsOf g n u) (p + 1) (drop (p + 1) (g .productions)))
+    word : (n u : ℕ) → firstOf (startsOf g n u) p (drop p (g .productions)) ≡ cond (startsOf g n u pr) (p + 1) (firstOf (startsOf g n u) (p + 1) (drop (p + 1) (g .productions)))
     word n u = rw (here, next) (by (startsOf g n u pr))
       where
-        by : (c : Bool) → _≡_ {A = ℕ} (elim c [ true ↦ suc p | false ↦ firstOf (startsOf g n u) (suc p) (drop (suc p) (g .productions)) ]) (choose c (suc p) (firstOf (startsOf g n u) (suc p) (drop (suc p) (g .productions))))
+        by : (c : Bool) → _≡_ {A = ℕ} (elim c [ true ↦ suc p | false ↦ firstOf (startsOf g n u) (suc p) (drop (suc p) (g .productions)) ]) (cond c (suc p) (firstOf (startsOf g n u) (suc p) (drop (suc p) (g .productions))))
         by true = refl
         by false = refl
 
@@ -216,8 +220,8 @@ filled-turn {rows} {sets} {nonterminals} {count} x {old} {area} {new} p b l eb f
 
     go : (n u : ℕ) → n < nonterminalCount g → u < 64 → Dec (n ≡ b) → getD new (9 + 64 * n + u) 0 ≡ firstOf (startsOf g n u) p (drop p (g .productions))
     go n u k h (yes e) =
-        let c : startsOf g n u pr ≡ eqb (getD sets p 0 / 2 ^ u % 2) 1 = rw (eq-eqb (pr .left) n (sym left-is ∙ sym e)) (sym (x .starting p u l h)) in
-        rw (word n u, c) (ap (λ j. getD new (9 + 64 * j + u) 0) e ∙ (m .inside u h ∙ (rw (lt-ltb u 64 h) (ap (choose (eqb (getD sets p 0 / 2 ^ u % 2) 1) (p + 1)) (ap (λ j. getD area (9 + 64 * j + u) 0) (sym e) ∙ f .words n u k h)))))
+        let c : startsOf g n u pr ≡ eqb (getD sets p 0 / 2 ^ u % 2) 1 = rw (eq-eqb (pr .left) n (sym left-is ∙ sym e)) (sym (start-bit (x .grammar) count sets (x .starting) p u l h)) in
+        rw (word n u, c) (ap (λ j. getD new (9 + 64 * j + u) 0) e ∙ (m .inside u h ∙ (rw (lt-ltb u 64 h) (ap (cond (eqb (getD sets p 0 / 2 ^ u % 2) 1) (p + 1)) (ap (λ j. getD area (9 + 64 * j + u) 0) (sym e) ∙ f .words n u k h)))))
     go n u k h (no d) =
         let c : startsOf g n u pr ≡ false = rw (ne-eqb (pr .left) n (λ q. d (sym q ∙ sym left-is))) refl in
         rw (word n u, c) (m .outside (9 + 64 * n + u) (away n u h d (decLt n b)) ∙ f .words n u k h)

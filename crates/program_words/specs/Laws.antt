@@ -14,10 +14,13 @@ use Rattle.meaning.specs.Sets.{has}
 use Rattle.meaning.specs.Program.{setBits, carriers, segmentWords}
 use Rattle.meaning.specs.Table.{byte}
 use Rattle.theory_program.specs.Proper.{att-most}
-use Rattle.block_words.specs.Patch.{patch, Wrote, wrote-one, wrote-as, wrote-then}
-use Rattle.token_set.specs.Words.{bit, has-bit}
+use Rattle.program_block_words.specs.Patch.{patch, Wrote, wrote-one, wrote-as, wrote-then}
+use Rattle.token_set.specs.SetBits.{bit, has-bit}
+use Rattle.outline.specs.declared.Sizes.{Sizes}
+use Rattle.outline.specs.Outline.{grammarIn, NumbersOf, Outline}
 use Rattle.table.specs.CarriedSet.{carried-set}
-use Rattle.program_words.specs.Brought.{Brought, grammarIn, well-formed, count-is, stretchEnd}
+use Rattle.program_words.specs.Fields.{stretchEnd}
+use Rattle.program_words.specs.Built.{well-formed, count-is}
 use Rattle.program_words.specs.Directory.{Marked, marked-start, marked-skip, marked-set, marked-end, bits-end, zero-run, bit-there}
 use Rattle.program_words.specs.Records.{two-words}
 
@@ -89,43 +92,46 @@ mark-end m e = marked-end (m .marked) (sym (m .bits) ∙ e) (m .few)
 abbrev segmentBy : ℕ → ℕ → ℕ → ℕ → ℕ → ℕ → ℕ → ℕ → List ℕ
 segmentBy start nonterminals terminals registers result count low high = (3 + 8 * start) ∷ 6 ∷ (9 + 64 * nonterminals) ∷ terminals ∷ registers ∷ result ∷ count ∷ low ∷ high ∷ []
 
-module _ {table rows inherited synthesized offsets sets : List ℕ} {terminals nonterminals start result count carrying : ℕ} (x : Brought table rows inherited synthesized offsets sets terminals nonterminals start result count carrying) where
-  pub start-small : start < nonterminals
-  start-small = omega (arith, x .isStart, x .isNonterminals, well-formed x .start)
+module _ {table : List ℕ} {sizes : Sizes} {inherited synthesized rows offsets : List ℕ} (x : Outline table sizes inherited synthesized rows offsets) where
+  abbrev g : Grammar
+  g = grammarIn table
 
-  pub numbers-small : (nonterminals ≤ 48) × (terminals ≤ 63) × (result ≤ 8) × (count ≤ 128)
+  abbrev numbers : NumbersOf sizes g
+  numbers = x .numbers
+
+  pub start-small : sizes .start < sizes .nonterminals
+  start-small = omega (arith, numbers .start, numbers .nonterminals, well-formed x .start)
+
+  pub numbers-small : (sizes .nonterminals ≤ 48) × (sizes .terminals ≤ 63) × (sizes .result ≤ 8) × (sizes .productions ≤ 128)
   numbers-small = (
-    omega (arith, x .isNonterminals, well-formed x .nonterminals .1),
-    omega (arith, x .isTerminals, well-formed x .terminals .1),
-    omega (arith, x .isResult, well-formed x .result .1, att-most (grammarIn x) (well-formed x) (nonterminal (grammarIn x .start))),
+    omega (arith, numbers .nonterminals, well-formed x .nonterminals .1),
+    omega (arith, numbers .terminals, well-formed x .terminals .1),
+    omega (arith, numbers .result, well-formed x .result .1, att-most g (well-formed x) (nonterminal (g .start))),
     omega (arith, count-is x, well-formed x .productions .1),
   )
 
   -- the carriers' two words
-  carried-words : carrying < 18446744073709551616 → (carrying % 4294967296 ≡ setBits (carriers (grammarIn x)) 0 1 32) × (carrying / 4294967296 ≡ setBits (carriers (grammarIn x)) 32 1 32)
+  carried-words : sizes .carrying .0 < 18446744073709551616 → (sizes .carrying .0 % 4294967296 ≡ setBits (carriers g) 0 1 32) × (sizes .carrying .0 / 4294967296 ≡ setBits (carriers g) 32 1 32)
   unfolding bit
-  carried-words small = two-words (carriers (grammarIn x)) carrying small (λ u l. sym (has-bit carrying u l) ∙ ap (λ z. has z u) (carried-set carrying (grammarIn x) (x .carries)))
+  carried-words small = two-words (carriers g) (sizes .carrying .0) small (λ u l. sym (has-bit (sizes .carrying .0) u l) ∙ ap (λ z. has z u) (carried-set (sizes .carrying .0) g (numbers .carrying)))
 
-  pub segment-written : {old one two : List ℕ} {next last registers : ℕ} → registers ≡ byte synthesized start → carrying < 18446744073709551616
-      → Wrote old one 0 next ((3 + 8 * start) ∷ 6 ∷ (9 + 64 * nonterminals) ∷ terminals ∷ []) → Wrote one two next last (registers ∷ result ∷ count ∷ carrying % 4294967296 ∷ [])
-      → Wrote old (set two last (carrying / 4294967296)) 0 (last + 1) (segmentWords (grammarIn x))
-  segment-written {two = two} {last = last} {registers = registers} e small v w = wrote-as same (wrote-then (wrote-then v w) (wrote-one two last (carrying / 4294967296)))
+  pub segment-written : {old one two : List ℕ} {next last registers : ℕ} → registers ≡ byte synthesized (sizes .start) → sizes .carrying .0 < 18446744073709551616
+      → Wrote old one 0 next ((3 + 8 * sizes .start) ∷ 6 ∷ (9 + 64 * sizes .nonterminals) ∷ sizes .terminals ∷ []) → Wrote one two next last (registers ∷ sizes .result ∷ sizes .productions ∷ sizes .carrying .0 % 4294967296 ∷ [])
+      → Wrote old (set two last (sizes .carrying .0 / 4294967296)) 0 (last + 1) (segmentWords g)
+  segment-written {two = two} {last = last} {registers = registers} e small v w = wrote-as same (wrote-then (wrote-then v w) (wrote-one two last (sizes .carrying .0 / 4294967296)))
     where
-      g : Grammar
-      g = grammarIn x
-
       low : ℕ
-      low = carrying % 4294967296
+      low = sizes .carrying .0 % 4294967296
 
       high : ℕ
-      high = carrying / 4294967296
+      high = sizes .carrying .0 / 4294967296
 
       registers-is : registers ≡ syn g (nonterminal (g .start))
-      registers-is = e ∙ (x .synthesize start start-small ∙ ap (λ n. syn g (nonterminal n)) (x .isStart))
+      registers-is = e ∙ (x .counts .synthesizes (sizes .start) (omega (arith, start-small, numbers .nonterminals)) ∙ ap (λ n. syn g (nonterminal n)) (numbers .start))
 
-      same : segmentBy start nonterminals terminals registers result count low high ≡ segmentWords g
+      same : segmentBy (sizes .start) (sizes .nonterminals) (sizes .terminals) registers (sizes .result) (sizes .productions) low high ≡ segmentWords g
       same =
-          ap₂ (λ n m. segmentBy n m terminals registers result count low high) (x .isStart) (x .isNonterminals)
-          ∙ (ap₂ (λ n m. segmentBy (g .start) (nonterminalCount g) n m result count low high) (x .isTerminals) registers-is
-          ∙ (ap₂ (λ n m. segmentBy (g .start) (nonterminalCount g) (g .terminals) (syn g (nonterminal (g .start))) n m low high) (x .isResult) (count-is x)
+          ap₂ (λ n m. segmentBy n m (sizes .terminals) registers (sizes .result) (sizes .productions) low high) (numbers .start) (numbers .nonterminals)
+          ∙ (ap₂ (λ n m. segmentBy (g .start) (nonterminalCount g) n m (sizes .result) (sizes .productions) low high) (numbers .terminals) registers-is
+          ∙ (ap₂ (λ n m. segmentBy (g .start) (nonterminalCount g) (g .terminals) (syn g (nonterminal (g .start))) n m low high) (numbers .result) (count-is x)
           ∙ ap₂ (λ n m. segmentBy (g .start) (nonterminalCount g) (g .terminals) (syn g (nonterminal (g .start))) (g .result) (length (g .productions)) n m) (carried-words small .0) (carried-words small .1)))

@@ -15,7 +15,7 @@ use Rattle.theory_base.specs.Members.{in-keep}
 use Rattle.theory_base.specs.Evaluate.{distinct-keep}
 use Rattle.theory_program.specs.Proper.{att-most}
 use Rattle.theory_program.specs.RuleCounts.{rules-few}
-use Rattle.block_words.specs.Items.{rule-whole, condition-whole}
+use Rattle.program_block_words.specs.Items.{rule-whole, condition-whole}
 
 in-total : {A : Type 0} (f : A → ℕ) (xs : List A) (x : A) → In x xs → f x ≤ total (map f xs)
 in-total f [] x i = absurd i

@@ -4,7 +4,7 @@ use native.Mathlib.Nat.{div-one}
 use native.Mathlib.Omega.{arith}
 use native.Mathlib.Decide.{ℕ-discrete}
 use mathlib.Core.Path.{_≡_, refl, sym, ap, ap₂, _∙_, subst}
-use mathlib.Core.Bool.{Bool, true, false}
+use mathlib.Core.Bool.{Bool, true, false, cond}
 use mathlib.Core.List.{List, [], _∷_, _++_}
 use lib.ListN.{length, getD, drop, length-append, drop-of-length-le}
 use lib.Seq.{drop-cons}
@@ -14,11 +14,11 @@ use borrow.Author.Tests.{eq-eqb, ne-eqb}
 use Rattle.meaning.specs.Grammar.{Production, Grammar, wholeProduction, productionAt}
 use Rattle.meaning.specs.Rules.{WellFormed}
 use Rattle.meaning.specs.Sets.{TokenSet, has}
-use Rattle.meaning.specs.Program.{bitIf, setBits, firstOf, recordWords, recordsFrom, bodyWords, bodySize, bodiesFrom}
+use Rattle.meaning.specs.Program.{setBits, firstOf, recordWords, recordsFrom, bodyWords, bodySize, bodiesFrom}
 use Rattle.theory_base.specs.WellFormed.{listed-at}
 use Rattle.theory_program.specs.SetWords.{bits-step, bits-small, both-words}
-use Rattle.block_words.specs.Patch.{patch, Wrote, patch-none, patch-length, patch-append, patch-swap}
-use Rattle.program_words.specs.Directory.{Alternatives}
+use Rattle.outline.specs.Rows.{Rows, leftAt}
+use Rattle.program_block_words.specs.Patch.{patch, Wrote, patch-none, patch-length, patch-append, patch-swap}
 
 -- ---- a set's two words
 
@@ -26,7 +26,7 @@ halves : (n x y : ℕ) → n ≡ x + 4294967296 * y → x < 4294967296 → (n % 
 halves n x y e l = (omega arith, omega arith)
 
 module _ (s : TokenSet) where
-  bit-is : (b : Bool) (n : ℕ) → n < 2 → eqb n 1 ≡ b → n ≡ bitIf b 1
+  bit-is : (b : Bool) (n : ℕ) → n < 2 → eqb n 1 ≡ b → n ≡ cond b 1 0
   bit-is true n l e = eqb→eq n 1 (rw e tt)
   bit-is false n l e = go (ℕ-discrete n 1)
     where
@@ -39,7 +39,7 @@ module _ (s : TokenSet) where
   word-is n k zero l h = omega arith
   word-is n k (suc m) l h =
       let double : 2 ^ suc m ≡ 2 * 2 ^ m = ap (λ j. 2 ^ j) (omega arith) ∙ pow-add 2 1 m in
-      let low : n % 2 ≡ bitIf (has s k) 1 = bit-is (has s k) (n % 2) (omega arith) (subst (λ z. eqb (z % 2) 1 ≡ has s k) (div-one n) (subst (λ z. eqb (n / 2 ^ 0 % 2) 1 ≡ has s z) (plus-none k) (h 0 (omega arith)))) in
+      let low : n % 2 ≡ cond (has s k) 1 0 = bit-is (has s k) (n % 2) (omega arith) (subst (λ z. eqb (z % 2) 1 ≡ has s k) (div-one n) (subst (λ z. eqb (n / 2 ^ 0 % 2) 1 ≡ has s z) (plus-none k) (h 0 (omega arith)))) in
       let high : n / 2 ≡ setBits s (suc k) 1 m = word-is (n / 2) (suc k) m (omega (arith, double)) (λ u j. ap (λ z. eqb (z % 2) 1) (shr-shr n 1 u ∙ ap (λ z. n / 2 ^ z) (one-more u)) ∙ (h (suc u) (omega arith) ∙ ap (has s) (slide k u))) in
       omega (arith, low, high, bits-step s k m)
     where
@@ -65,35 +65,32 @@ module _ (s : TokenSet) where
 abbrev pub sameLeft : ℕ → Production → Bool
 sameLeft n q = eqb (q .left) n
 
-module _ {rows sets : List ℕ} {nonterminals count : ℕ} (x : Alternatives rows sets nonterminals count) (n i : ℕ) where
-  abbrev g : Grammar
-  g = x .grammar
-
+module _ {rows : List ℕ} {count : ℕ} {g : Grammar} (x : Rows rows count g) (n i : ℕ) where
   abbrev ps : List Production
   ps = g .productions
 
   next-here : i < count → drop i ps ≡ productionAt g i ∷ drop (suc i) ps
-  next-here l = let m : i < length ps = omega (arith, x .isCount) in drop-cons ps i (wholeProduction g) m ∙ ap (λ q. q ∷ drop (suc i) ps) (sym (listed-at g (x .wellFormed) i m))
+  next-here l = let m : i < length ps = omega (arith, x .counted) in drop-cons ps i (wholeProduction g) m ∙ ap (λ q. q ∷ drop (suc i) ps) (sym (listed-at g (x .sound) i m))
 
   next-by : (c : Bool) → i < count → sameLeft n (productionAt g i) ≡ c → firstOf (sameLeft n) i (drop i ps) ≡ elim c as (λ z. ℕ) [ true ↦ suc i | false ↦ firstOf (sameLeft n) (suc i) (drop (suc i) ps) ]
   next-by c l e = ap (firstOf (sameLeft n) i) (next-here l) ∙ ap (λ (z : Bool). elim z as (λ y. ℕ) [ true ↦ suc i | false ↦ firstOf (sameLeft n) (suc i) (drop (suc i) ps) ]) e
 
-  pub next-found : i < count → (b : ℕ) → b ≡ getD rows (16 * i) 0 → b ≡ n → i + 1 ≡ firstOf (sameLeft n) i (drop i ps)
+  pub next-found : i < count → (b : ℕ) → b ≡ leftAt rows i → b ≡ n → i + 1 ≡ firstOf (sameLeft n) i (drop i ps)
   next-found l b e q = let s : i + 1 ≡ suc i = omega arith in s ∙ sym (next-by true l (eq-eqb (productionAt g i .left) n (sym (x .left i l) ∙ (sym e ∙ q))))
 
-  pub next-passed : i < count → (b : ℕ) → b ≡ getD rows (16 * i) 0 → (b ≡ n → ⊥) → firstOf (sameLeft n) i (drop i ps) ≡ firstOf (sameLeft n) (i + 1) (drop (i + 1) ps)
+  pub next-passed : i < count → (b : ℕ) → b ≡ leftAt rows i → (b ≡ n → ⊥) → firstOf (sameLeft n) i (drop i ps) ≡ firstOf (sameLeft n) (i + 1) (drop (i + 1) ps)
   next-passed l b e d = let s : i + 1 ≡ suc i = omega arith in rw s (next-by false l (ne-eqb (productionAt g i .left) n (λ q. d (e ∙ (x .left i l ∙ q)))))
 
   pub next-none : count ≤ i → 0 ≡ firstOf (sameLeft n) i (drop i ps)
-  next-none l = sym (ap (firstOf (sameLeft n) i) (drop-of-length-le ps {i = i} (omega (arith, x .isCount))))
+  next-none l = sym (ap (firstOf (sameLeft n) i) (drop-of-length-le ps {i = i} (omega (arith, x .counted))))
 
 -- the number plus 1 of the production that follows p among those of its left side, or 0
-abbrev pub NextOf : List ℕ → List ℕ → ℕ → ℕ → ℕ → ℕ → Type 0
-NextOf rows sets nonterminals count p next = (x : Alternatives rows sets nonterminals count) → next ≡ firstOf (sameLeft (getD rows (16 * p) 0)) (p + 1) (drop (p + 1) (x .grammar .productions))
+abbrev pub NextOf : List ℕ → ℕ → ℕ → ℕ → Type 0
+NextOf rows count p next = (g : Grammar) → Rows rows count g → next ≡ firstOf (sameLeft (leftAt rows p)) (p + 1) (drop (p + 1) (g .productions))
 
 -- that of each production
-abbrev pub Nexts : List ℕ → List ℕ → ℕ → ℕ → List ℕ → Type 0
-Nexts rows sets nonterminals count nexts = (x : Alternatives rows sets nonterminals count) (p : ℕ) → p < count → getD nexts p 0 ≡ firstOf (sameLeft (getD rows (16 * p) 0)) (p + 1) (drop (p + 1) (x .grammar .productions))
+abbrev pub Nexts : List ℕ → ℕ → List ℕ → Type 0
+Nexts rows count nexts = (p : ℕ) → p < count → NextOf rows count p (getD nexts p 0)
 
 -- ---- two regions that grow: records from r on, bodies from a on. What will be written there at last is in the goal, which ends before `end`
 

@@ -16,9 +16,9 @@ use Rattle.meaning_ranking.specs.Ranking.{Entry, ranking, cellsOf, totalOf, val
 use Rattle.meaning_ranking.specs.RankCall.{inOrder, evaluations, rankEffect, unranked, listed, rankEven, rankUnder, rankLong, rankSuited, rankOf}
 use Rattle.theory_ranking.specs.Entries.{entriesOf}
 use Rattle.theory_ranking.specs.Cells.{length-cells, length-entries}
-use Rattle.prepare.specs.Making.{Standing}
-use Rattle.fit.specs.Shown.{Shown, Readable}
-use Rattle.candidates.specs.Each.{AllDone}
+use Rattle.prepare.specs.Making.{ProgramStands}
+use Rattle.run_fit.specs.HasProgram.{HasProgram, Readable}
+use Rattle.rank_candidates.specs.Each.{AllDone}
 use Rattle.rank_report.specs.declared.Ranked.{Ranked}
 use Rattle.rank_report.specs.declared.Ranked.the-variants.{Done, Refused}
 use Rattle.rank_report.specs.Report.{Reported}
@@ -28,7 +28,7 @@ use Rattle.rank.specs.Answers.{rankAnswerIs, rankIs}
 
 abbrev pub ListedAs : List ℕ → List ℕ → List ℕ → List ℤ → List ℤ → List ℤ → List ℕ → List ℤ → List ℤ → List ℕ → Ranked → Type 0
 ListedAs ws ns ks us l₀ vs₀ ps₀ l vs ps r =
-    (g : Grammar) → Shown g ws → (area : List ℕ) → rankIs r l vs ps area ≡ rankEven (eqb (length ks) (length us)) l₀ (stacksOf vs₀ ps₀) area (listed (evaluations g 0 ns ks us (stacksOf vs₀ ps₀)) l₀ area)
+    (g : Grammar) → HasProgram g ws → (area : List ℕ) → rankIs r l vs ps area ≡ rankEven (eqb (length ks) (length us)) l₀ (stacksOf vs₀ ps₀) area (listed (evaluations g 0 ns ks us (stacksOf vs₀ ps₀)) l₀ area)
 
 module _ (ws ns ks : List ℕ) (us l₀ vs₀ : List ℤ) (ps₀ : List ℕ) where
   pub uneven-as : (length ks ≡ length us → ⊥) → ListedAs ws ns ks us l₀ vs₀ ps₀ l₀ vs₀ ps₀ (Refused 38 0)
@@ -69,8 +69,8 @@ module _ (t area ns ks : List ℕ) (us l : List ℤ) (m : Stacks) where
       pub rank-usable : (s : State) → check t ≡ usable s → rankOf programOf t area ns ks us l m ≡ rankUnder programOf (usable s) area ns ks us l m
       rank-usable s q = long ∙ ap (λ c. rankUnder programOf c area ns ks us l m) q
 
-module _ {t area area′ : List ℕ} {size : ℕ} (a : Standing t area area′ size) where
-  pub standing-shown : Shown (grammarOf (a .state)) area′
+module _ {t area area′ : List ℕ} {size : ℕ} (a : ProgramStands t area area′ size) where
+  pub standing-shown : HasProgram (grammarOf (a .state)) area′
   standing-shown = record { formed = a .formed; begins = a .begins }
 
   pub standing-readable : Readable area′

@@ -5,7 +5,7 @@ ghost use lib.ListN.{length};
 ghost use Rattle.meaning.specs.Program.{programOf};
 ghost use Rattle.meaning.specs.PublicCalls.{stacksOf};
 ghost use Rattle.meaning_ranking.specs.RankCall.{inOrder, rankOf};
-ghost use Rattle.fit.specs.Shown.{Readable};
+ghost use Rattle.run_fit.specs.HasProgram.{Readable};
 ghost use Rattle.rank.specs.Answers.{rankIs};
 ghost use Rattle.rank.specs.Listing.{ListedAs};
 use prepare::Made;
@@ -30,7 +30,7 @@ fn rank_under(
             offset: 0,
         };
     }
-    candidates::evaluate_all(registers, places, program, list, kinds, values, lengths);
+    rank_candidates::evaluate_all(registers, places, program, list, kinds, values, lengths);
     rank_report::report(list, lengths.len())
 }
 

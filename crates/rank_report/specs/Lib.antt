@@ -1,1 +1,2 @@
+-- What the list comes to
 pub mod Report

@@ -23,7 +23,7 @@ pub fn report(list: &mut [i64], count: usize) -> Ranked
     requires { ⌜ (count ≤ 512) × (3 * count ≤ length (now list)) × Ranged (entriesOf count (now list)) × Distinct (entriesOf count (now list)) ⌝ }
     ensures { λ r. ⌜ Reported count (now (list .entry)) (now (list .exit)) r ⌝ }
 {
-    sorting::rank(list, count);
+    rank_sort::rank(list, count);
     let valued = rank_totals::valued_count(list, count);
     let total = rank_totals::total(list, count);
     Ranked::Done {

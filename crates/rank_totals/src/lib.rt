@@ -12,7 +12,7 @@ fn valued_at(list: &[i64], i: usize) -> bool
 {
     let at = 3 * i;
     let refusal = list[at + 2];
-    ranking::same(refusal, 0)
+    rank_order::same(refusal, 0)
 }
 
 fn worth_at(list: &[i64], i: usize) -> i64

@@ -3,7 +3,7 @@ use Prim.Native.Nat.{ℕ, _+_, _≤_, _<_}
 use native.Mathlib.Omega.{arith}
 use mathlib.Core.Path.{_≡_, refl, sym, ap, _∙_, subst}
 use mathlib.Core.List.{List}
-use lib.ListN.{length, getD, take, length-take}
+use lib.ListN.{length, getD, take}
 use lib.Seq.{length-take-le}
 use lib.Dec.{T}
 use lib.IntN.{ℤ, pos}
@@ -18,12 +18,12 @@ use Rattle.meaning.specs.PublicCalls.{Checked, usable, unusable, check, checked
 use Rattle.meaning_sheet.specs.SheetCalls.{Sheets, WhenChecked}
 use Rattle.theory_sets.specs.Accepted.{verdict→accepted}
 use Rattle.theory_answers.specs.Called.{checks}
-use Rattle.theory_complete.specs.Halves.{only}
-use Rattle.fit.specs.Shown.{Readable}
+use Rattle.theory_complete.specs.CompleteUnique.{only}
+use Rattle.run_fit.specs.HasProgram.{Readable}
 use Rattle.prepare.specs.declared.Made as Made
 use Rattle.prepare.specs.declared.Made.the-variants as M
-use Rattle.prepare.specs.Making.{MadeAs, Case, Standing}
-use Rattle.sheet_moves.specs.Standing.{tokensAs}
+use Rattle.prepare.specs.Making.{MadeAs, Case, ProgramStands}
+use Rattle.sheet_moves.specs.NodeInMemory.{tokensAs}
 use Rattle.sheet.specs.declared.Answer as Answer
 use Rattle.sheet.specs.declared.Answer.the-variants.{TableRefused}
 use Rattle.sheet.specs.Segments.{sheetIs, SegmentDone, Under}
@@ -51,9 +51,6 @@ four-all vs i h l = at-all fourBytes (pos 0) vs (λ j k. h j (omega (arith, k, l
 
 pub cut : {A : Type 0} (n m : ℕ) (xs : List A) → length xs ≡ m → n ≤ m → n ≡ length (take n xs)
 cut n m xs e l = sym (length-take-le n xs (omega (arith, e, l)))
-
-pub cut-few : {A : Type 0} (n m : ℕ) (xs : List A) → n ≤ m → length (take n xs) ≤ m
-cut-few n m xs l = omega (arith, length-take n xs, l)
 
 pub walks-as : (ws ks : List ℕ) (vs : List ℤ) (a b a′ b′ : ℕ) (before after : List ℕ) (r : Answer.Answer) → a ≡ a′ → b ≡ b′ → SegmentDone ws ks vs a b before after r → SegmentDone ws ks vs a′ b′ before after r
 walks-as ws ks vs a b a′ b′ before after r e f w = subst (λ x. SegmentDone ws ks vs a′ x before after r) f (subst (λ x. SegmentDone ws ks vs x b before after r) e w)
@@ -89,10 +86,10 @@ module _ {t area area′ : List ℕ} (m : Made.Made) (k : MadeAs t area area′ 
   pub table-refused : (number offset : ℕ) → m ≡ M.Refused number offset → (r p : ℕ) (ks : List ℕ) (vs : List ℤ) (out : List ℕ) → Sheets t r p ks vs out (sheetIs (TableRefused number offset) out)
   table-refused number offset e r p ks vs out = let c : Case t area area′ (M.Refused number offset) = subst (Case t area area′) e (k .case) in subst (λ x. WhenChecked x r p ks vs out (sheetIs (TableRefused number offset) out)) (sym (c .1)) refl
 
-  pub stands : (size : ℕ) → m ≡ M.Written size → Standing t area area′ size
+  pub stands : (size : ℕ) → m ≡ M.Written size → ProgramStands t area area′ size
   stands size e = subst (Case t area area′) e (k .case)
 
-module _ {t area area′ : List ℕ} {size : ℕ} (s : Standing t area area′ size) where
+module _ {t area area′ : List ℕ} {size : ℕ} (s : ProgramStands t area area′ size) where
   pub readable : Readable area′
   readable = record { grammar = grammarOf (s .state); shown = record { formed = s .formed; begins = s .begins } }
 

@@ -21,9 +21,9 @@ use Rattle.theory_sound.specs.CallSound.{opening-held}
 use Rattle.theory_program.specs.Addresses.{Begins}
 use Rattle.theory_program.specs.Records.{segment-words}
 use Rattle.theory_program.specs.Resuming.{placeAddress}
-use Rattle.moves.specs.declared.Run.{Run}
-use Rattle.moves.specs.Held.{Held}
-use Rattle.running.specs.Starting.{held-start}
+use Rattle.run_moves.specs.declared.Run.{Run}
+use Rattle.run_moves.specs.Held.{Held}
+use Rattle.run_states.specs.Starting.{held-start}
 
 -- the run of an opening
 abbrev pub firstRun : ℕ → Run

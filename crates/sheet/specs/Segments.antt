@@ -14,7 +14,7 @@ use Rattle.meaning.specs.Rules.{WellFormed, fourBytes}
 use Rattle.meaning.specs.Scheme as Scheme
 use Rattle.meaning.specs.Grammar as Grammar
 use Rattle.meaning.specs.Scheme.{Instruction, remove}
-use Rattle.meaning.specs.Machine.{Frame, Config, Lent, comes, stopped, failed, blocked, next, nextOf, opening, waits, isFinished, lookAt, tokensLimit, readRegister}
+use Rattle.meaning.specs.Machine.{Frame, Config, Lent, comes, stopped, blocked, next, nextOf, opening, waits, isFinished, lookAt, tokensLimit, readRegister}
 use Rattle.meaning.specs.Tree.{Tree, Forest, TreeOf}
 use Rattle.meaning.specs.Part.{Point, Open, frame, GoodNode}
 use Rattle.meaning.specs.Selectors.{Due, removes}
@@ -31,18 +31,18 @@ use Rattle.theory_program.specs.Addresses.{Begins}
 use Rattle.theory_program.specs.Code.{operation}
 use Rattle.theory_program.specs.Records.{segment-words}
 use Rattle.theory_sheet.specs.Overlay.{overlay, overlay-all}
-use Rattle.theory_sheet.specs.Whole.{runFrom}
-use Rattle.theory_sheet.specs.Standing.{Stand, withChildren, stand-ready}
+use Rattle.theory_sheet.specs.Whole.{runFrom, Failing, fails-behind}
+use Rattle.theory_sheet.specs.NodeInProgress.{Stand, withChildren, stand-ready}
 use Rattle.theory_sheet.specs.Walking.{rest, comingTo, symbol-left, Fair, look-over, look-35, look-20, look-stuck}
 use Rattle.theory_sheet.specs.Segment.{segmentRun, openedAs, answerOf, stack-run, segment-node, opening-stands, whole-tree}
-use Rattle.moves.specs.declared.Run.{Run}
-use Rattle.registers.specs.Stack.{stack}
-use Rattle.registers.specs.Laid.{laid-stack}
-use Rattle.fit.specs.Shown.{Readable}
-use Rattle.moves.specs.Held.{Held, AtHand, some, nothing, at-hand, bounds}
-use Rattle.sheet_moves.specs.Standing.{tokensAs, isInside, at-look, leafHere, none-left, one-left}
-use Rattle.sheet_walk.specs.Numbers as Walked
-use Rattle.sheet_walk.specs.Cycle.{NodeAt, NodeDone, Listed, none-listed, list-more, rests-look}
+use Rattle.run_moves.specs.declared.Run.{Run}
+use Rattle.run_registers.specs.Stack.{stack}
+use Rattle.run_registers.specs.Laid.{laid-stack}
+use Rattle.run_fit.specs.HasProgram.{Readable}
+use Rattle.run_moves.specs.Held.{Held, AtHand, some, nothing, at-hand, bounds}
+use Rattle.sheet_moves.specs.NodeInMemory.{tokensAs, isInside, at-look, leafHere, none-left, one-left}
+use Rattle.sheet_steps.specs.Numbers as Walked
+use Rattle.sheet_steps.specs.Cycle.{NodeAt, NodeDone, Listed, none-listed, list-more, rests-look}
 use Rattle.sheet.specs.declared.Answer as Answer
 use Rattle.sheet.specs.declared.Answer.the-variants.{Value, Refused, TableRefused}
 use Rattle.sheet.specs.Opening.{firstRun, start-size, opened-held}
@@ -90,7 +90,7 @@ module _ (c : Config) {below : List Frame} (e : c .frames ≡ frame whole [] ∷
 -- 01: a token that "follows a start symbol already left" is a 21, after 35 and 20
 abbrev pub EndsAs : Grammar → List ℕ → Lent → Config → ℕ → Answer.Answer → Type 0
 EndsAs g ks lent c end (Value v moves size) = (v ≡ result g c) × (moves ≡ c .moves) × (size ≡ end) × (length ks ≤ c .tokens)
-EndsAs g ks lent c end (Refused number n) = (n ≡ c .tokens) × ((vs : List ℤ) → length ks ≡ length vs → rest g lent (tokensAs g ks vs) c ≡ failed c number)
+EndsAs g ks lent c end (Refused number n) = (n ≡ c .tokens) × ((vs : List ℤ) → length ks ≡ length vs → Failing g lent (comingTo c (tokensAs g ks vs)) c c number)
 EndsAs g ks lent c end (TableRefused number offset) = ⊥
 
 abbrev pub Ends : List ℕ → List ℕ → List ℤ → Run → ℕ → Answer.Answer → Type 0
@@ -219,7 +219,7 @@ module _ (ws ks : List ℕ) (vs m : List ℤ) (ps sheet₀ : List ℕ) (few : le
         pub segment-failed : (run : Run) (j : ℕ) → NodeDone ws ks vs m′ ps′ (firstRun (getD ws 4 0)) 0 sheet₀ m₂ ps₂ sheet (Walked.Failed run j) → SegmentDone ws ks vs (length m) (length ps) sheet₀ sheet (Refused j (run .tokens))
         segment-failed run j l g b f =
             let x = l g lentHere (opening g) segment-node [] even four (first-held g b f) (opening-stands g f (tokensAs g ks vs)) in
-            past g b f ∙ (ap (answerOf g) (x .fails) ∙ ap (refused j) (sym (x .held .tokens)))
+            past g b f ∙ (ap (answerOf g) (x .fails .isFailed) ∙ ap (refused j) (sym (x .held .tokens)))
 
         module _ (run : Run) (end : ℕ) (n : NodeDone ws ks vs m′ ps′ (firstRun (getD ws 4 0)) 0 sheet₀ m₂ ps₂ sheet (Walked.Left run end)) (rests : isInside (getD ws (run .at) 0 % 8) ≡ false) where
           -- the whole segment has one child
@@ -250,7 +250,7 @@ module _ (ws ks : List ℕ) (vs m : List ℤ) (ps sheet₀ : List ℕ) (few : le
             where
               go : (a : Answer.Answer) (x : Listed g ws lentHere (tokensAs g ks vs) (opening g) segment-node [] 0 sheet₀ m₂ ps₂ sheet run end) {below : List Frame} → x .to .frames ≡ frame whole [] ∷ below → EndsAs g ks lentHere (x .to) end a → SegmentAs g lentHere (tokensAs g ks vs) sheet₀ sheet a
               go (TableRefused number offset) x q z = z
-              go (Refused number n) x q z = past g b f ∙ (ap (answerOf g) (x .same ∙ z .1 vs even) ∙ ap (refused number) (sym (z .0)))
+              go (Refused number n) x q z = past g b f ∙ (ap (answerOf g) (fails-behind (x .same) (z .1 vs even) .isFailed) ∙ ap (refused number) (sym (z .0)))
               go (Value v moves size) x q z =
                   let none : drop (x .to .tokens) (tokensAs g ks vs) ≡ [] = none-left ks vs g (x .to .tokens) (z .3) in
                   let fin : isFinished (x .to) ≡ true = over-finished (x .to) q in

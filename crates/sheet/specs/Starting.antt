@@ -10,10 +10,10 @@ use lib.Dec.{T}
 use lib.IntN.{ℤ}
 use Rattle.meaning.specs.Base.{all}
 use Rattle.meaning.specs.Rules.{fourBytes}
-use Rattle.fit.specs.Shown.{Readable}
-use Rattle.sheet_walk.specs.Numbers.{runIn, walkedIn, low, Fits, kept-fits}
-use Rattle.sheet_walk.specs.Cycle.{NodeAt, NodeDone}
-use Rattle.sheet_walk.specs.Walks.{NodeIn, NodeOut}
+use Rattle.run_fit.specs.HasProgram.{Readable}
+use Rattle.sheet_steps.specs.Numbers.{runIn, walkedIn, low, Fits, kept-fits}
+use Rattle.sheet_steps.specs.Cycle.{NodeAt, NodeDone}
+use Rattle.sheet_steps.specs.Walks.{NodeIn, NodeOut}
 use Rattle.sheet.specs.declared.Answer as Answer
 use Rattle.sheet.specs.declared.Answer.the-variants.{Refused}
 use Rattle.sheet.specs.Opening.{firstRun}

@@ -6,15 +6,15 @@ ghost use Rattle.meaning.specs.Base.{all};
 ghost use Rattle.meaning.specs.Rules.{fourBytes};
 ghost use lib.Dec.{T};
 ghost use Rattle.meaning_sheet.specs.SheetCalls.{Sheets};
-ghost use Rattle.fit.specs.Shown.{Readable};
-ghost use Rattle.sheet_walk.specs.Numbers.{low, runIn};
+ghost use Rattle.run_fit.specs.HasProgram.{Readable};
+ghost use Rattle.sheet_steps.specs.Numbers.{low, runIn};
 ghost use Rattle.sheet.specs.Segments.{Opens, Cells, Ends, Ended, SegmentDone, Under, sheetIs};
 use limits::DEPTH;
 use limits::PLACES;
 use limits::REGISTERS;
 use limits::TOKENS_BEFORE;
-use moves::Run;
 use prepare::Made;
+use run_moves::Run;
 
 pub enum Answer {
     // The segment's value, the moves, and the length of the sheet.
@@ -32,7 +32,7 @@ fn ended(registers: &[i64], program: &[u32], kinds: &[u8], run: Run, end: usize)
 {
     let n = run.tokens as usize;
     if kinds.len() <= n {
-        let value = registers::read(registers, run.registers, program[5]);
+        let value = run_registers::read(registers, run.registers, program[5]);
         return Answer::Value(value, run.moves, end as u64);
     }
     if TOKENS_BEFORE < run.tokens {
@@ -41,7 +41,7 @@ fn ended(registers: &[i64], program: &[u32], kinds: &[u8], run: Run, end: usize)
             tokens: run.tokens,
         };
     }
-    if moves::word_at(program, 3) <= kinds[n] as usize {
+    if run_moves::word_at(program, 3) <= kinds[n] as usize {
         return Answer::Refused {
             number: 20,
             tokens: run.tokens,
@@ -58,7 +58,7 @@ fn open(registers: &mut [i64], places: &mut [u32], program: &[u32], n: usize, k:
     requires { ⌜ (4 < length (now program)) × (n ≤ length (now registers)) × (k ≤ length (now places)) ⌝ }
     ensures { λ r. ⌜ Opens (now (program .entry)) n k (now (registers .entry)) (now (places .entry)) (now (registers .exit)) (now (places .exit)) ⌝ }
 {
-    let opened = opening::open_cells(&mut registers[..n], &mut places[..k], program);
+    let opened = run_opening::open_cells(&mut registers[..n], &mut places[..k], program);
 }
 
 // The answer once the start symbol is left.
@@ -68,7 +68,7 @@ fn over(registers: &[i64], program: &[u32], kinds: &[u8], numbers: &[u64; 8]) ->
 {
     let n = numbers[6] as usize;
     let end = numbers[5] as usize;
-    let run = sheet_walk::run_of(numbers);
+    let run = sheet_steps::run_of(numbers);
     ended(&registers[..n], program, kinds, run, end)
 }
 
@@ -86,7 +86,7 @@ fn segment(
     requires { ⌜ Readable (now program) × Cells (now registers) (now places) n k × (length (now kinds) ≡ length (now values)) × T (all fourBytes (now values)) ⌝ }
     ensures { λ r. ⌜ SegmentDone (now (program .entry)) (now (kinds .entry)) (now (values .entry)) n k (now (sheet .entry)) (now (sheet .exit)) r ⌝ }
 {
-    let count = moves::word_at(program, 4);
+    let count = run_moves::word_at(program, 4);
     if n < count {
         return Answer::Refused {
             number: 31,
@@ -123,7 +123,7 @@ fn segment(
     }
 }
 
-// The same on stacks of its own.
+// A segment walked on stacks of its own.
 fn walk(
     program: &[u32],
     kinds: &[u8],
@@ -137,8 +137,8 @@ fn walk(
 {
     let mut cells = [0i64; 4096];
     let mut waiting = [0u32; 1024];
-    let n = cells::smaller(registers, REGISTERS);
-    let k = cells::smaller(places, PLACES);
+    let n = run_cells::smaller(registers, REGISTERS);
+    let k = run_cells::smaller(places, PLACES);
     segment(
         &mut cells,
         &mut waiting,

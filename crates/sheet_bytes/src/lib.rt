@@ -6,7 +6,7 @@ ghost use Rattle.meaning.specs.Layout.{fourBytes};
 ghost use Rattle.meaning_sheet.specs.Sheet as Sheet;
 ghost use Rattle.meaning_sheet.specs.Sheet.{eightBytes, valueBytes};
 ghost use Rattle.theory_sheet.specs.Overlay.{overlay};
-ghost use Rattle.registers.specs.Stack.{stack};
+ghost use Rattle.run_registers.specs.Stack.{stack};
 
 // ---- numbers
 
@@ -63,7 +63,7 @@ pub fn put_values(
 {
     let mut i = 0;
     while i < count {
-        let value = registers::read(registers, height, (above + i + 1) as u32);
+        let value = run_registers::read(registers, height, (above + i + 1) as u32);
         put_eight(sheet, at + 8 * i, value);
         i += 1;
     }

@@ -1,2 +1,4 @@
+-- One move on memory, or the number that refuses it: the machine's
 pub mod Trying
-pub mod Standing
+-- Memory that holds a node in progress, and what moves lead to: a later configuration, or a refusal
+pub mod NodeInMemory

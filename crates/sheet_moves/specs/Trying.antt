@@ -6,11 +6,11 @@ use lib.IntN.{ℤ}
 use Rattle.meaning.specs.Grammar.{Grammar}
 use Rattle.meaning.specs.Machine.{Config, Lent, Coming, moved, blocked, next}
 use Rattle.theory_answers.specs.ShapeMoves.{IsAhead}
-use Rattle.moves.specs.declared.Run.{Run}
-use Rattle.moves.specs.declared.Step.the-variants.{Moved, Blocked}
-use Rattle.machine.specs.declared.Ended as Ended
-use Rattle.machine.specs.declared.Ended.the-variants.{Stopped, Failed}
-use Rattle.moves.specs.Held.{Held, Answers}
+use Rattle.run_moves.specs.declared.Run.{Run}
+use Rattle.run_moves.specs.declared.Step.the-variants.{Moved, Blocked}
+use Rattle.run_machine.specs.declared.Ended as Ended
+use Rattle.run_machine.specs.declared.Ended.the-variants.{Stopped, Failed}
+use Rattle.run_moves.specs.Held.{Held, Answers}
 
 -- what is answered for the configuration c held at entry, in memory m and ps afterwards
 abbrev pub Tried : Grammar → List ℕ → Lent → Coming → Config → List ℤ → List ℕ → Ended.Ended → Type 0

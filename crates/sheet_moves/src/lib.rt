@@ -2,17 +2,17 @@
 ghost use Prim.Native.Nat.{_%_, _≤_, _<_};
 ghost use mathlib.Core.Path.{_≡_};
 ghost use lib.ListN.{getD};
-ghost use Rattle.moves.specs.Passing.{comingOf};
-ghost use Rattle.one_move.specs.Facing.{Facing};
+ghost use Rattle.run_moves.specs.Passing.{comingOf};
+ghost use Rattle.run_one_move.specs.Facing.{Facing};
 ghost use Rattle.sheet_moves.specs.Trying.{Tries};
-ghost use Rattle.sheet_moves.specs.Standing as Standing;
-ghost use Rattle.sheet_moves.specs.Standing.{Stood, Walking, Settles, Steps, isLook};
+ghost use Rattle.sheet_moves.specs.NodeInMemory as Standing;
+ghost use Rattle.sheet_moves.specs.NodeInMemory.{Stood, Walking, Settles, Steps, isLook};
 use limits::END;
 use limits::MOVES_LIMIT;
 use limits::TOKENS_BEFORE;
-use machine::Ended;
-use moves::Run;
-use moves::Step;
+use run_machine::Ended;
+use run_moves::Run;
+use run_moves::Step;
 
 // One move, unless the limit is reached.
 pub fn made(
@@ -29,7 +29,7 @@ pub fn made(
     if run.moves == MOVES_LIMIT {
         return Ended::Failed(run, 35);
     }
-    match one_move::one(registers, places, program, run, look, value) {
+    match run_one_move::one(registers, places, program, run, look, value) {
         Step::Moved(next) => Ended::Stopped(next),
         Step::Blocked(k) => Ended::Failed(run, k),
     }
@@ -55,7 +55,7 @@ pub fn settle(registers: &mut [i64], places: &mut [u32], program: &[u32], run: R
 {
     let mut state = run;
     loop {
-        if inside(moves::word_at(program, state.at) % 8) {
+        if inside(run_moves::word_at(program, state.at) % 8) {
             match made(registers, places, program, state, END, value::MARK) {
                 Ended::Stopped(next) => {
                     state = next;
@@ -90,9 +90,9 @@ pub fn step(
         return Ended::Failed(run, 35);
     }
     let kind = kinds[n] as usize;
-    if moves::word_at(program, 3) <= kind {
+    if run_moves::word_at(program, 3) <= kind {
         return Ended::Failed(run, 20);
     }
-    let held = looking::carried(program, kind, values[n]);
+    let held = run_looking::carried(program, kind, values[n]);
     made(registers, places, program, run, kind, held)
 }

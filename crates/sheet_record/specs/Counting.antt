@@ -12,14 +12,14 @@ use Rattle.meaning.specs.Part.{Open, Ancestor, Stands}
 use Rattle.theory_base.specs.Values.{drop-head}
 use Rattle.theory_base.specs.Frames.{place-waits}
 use Rattle.theory_base.specs.WellFormed.{well-formed-at}
-use Rattle.theory_program.specs.Stands.{stands-within}
+use Rattle.theory_program.specs.WordsStand.{stands-within}
 use Rattle.theory_program.specs.Addresses.{waitAddress, wait-row-at, wait-row-length}
 use Rattle.theory_program.specs.Records.{segment-words}
 use Rattle.theory_program.specs.Waits as Waits
-use Rattle.theory_sheet.specs.Standing.{Stand, stand-frames}
-use Rattle.moves.specs.declared.Run.{Run}
-use Rattle.moves.specs.Laid.{laid-read}
-use Rattle.moves.specs.Held.{Held}
+use Rattle.theory_sheet.specs.NodeInProgress.{Stand, stand-frames}
+use Rattle.run_moves.specs.declared.Run.{Run}
+use Rattle.run_moves.specs.Laid.{laid-read}
+use Rattle.run_moves.specs.Held.{Held}
 use Rattle.sheet_record.specs.declared.Counts.{Counts}
 
 abbrev pub leftOf : Grammar → Open → Symbol

@@ -16,13 +16,13 @@ use Rattle.meaning_sheet.specs.Sheet.{valueBytes, recordBytes}
 use Rattle.theory_base.specs.WellFormed.{well-formed-at}
 use Rattle.theory_program.specs.Proper.{att-most}
 use Rattle.theory_sheet.specs.Overlay.{overlay, record-laid}
-use Rattle.theory_sheet.specs.Standing.{Stand}
+use Rattle.theory_sheet.specs.NodeInProgress.{Stand}
 use Rattle.theory_sheet.specs.Walking.{ownValues, own-stand}
-use Rattle.registers.specs.Stack.{stack}
-use Rattle.registers.specs.Laid.{laid-stack}
-use Rattle.moves.specs.declared.Run.{Run}
-use Rattle.moves.specs.Laid.{laid-read}
-use Rattle.moves.specs.Held.{Held, hand-remove, bounds}
+use Rattle.run_registers.specs.Stack.{stack}
+use Rattle.run_registers.specs.Laid.{laid-stack}
+use Rattle.run_moves.specs.declared.Run.{Run}
+use Rattle.run_moves.specs.Laid.{laid-read}
+use Rattle.run_moves.specs.Held.{Held, hand-remove, bounds}
 use Rattle.sheet_record.specs.Counting.{Nested, leftOf}
 
 -- some configuration is held that shows a node in progress on another

@@ -4,7 +4,7 @@ ghost use mathlib.Core.Path.{_≡_};
 ghost use lib.ListN.{length, getD};
 ghost use Rattle.sheet_record.specs.Counting.{Nested, Counted};
 ghost use Rattle.sheet_record.specs.Recording.{Inner, Records};
-use moves::Run;
+use run_moves::Run;
 
 // 01: the whole segment's place while the start symbol is waited at.
 const SEGMENT: usize = limits::SEGMENT as usize;
@@ -20,15 +20,15 @@ pub fn attributes(places: &[u32], program: &[u32], run: Run) -> Counts
     requires { ⌜ Nested (now program) (now places) run ⌝ }
     ensures { λ r. ⌜ Counted (now (program .entry)) (now (places .entry)) run r ⌝ }
 {
-    let place = moves::word_at(places, run.places - 2);
+    let place = run_moves::word_at(places, run.places - 2);
     if place == SEGMENT {
         return Counts {
             inherited: 0,
-            total: moves::word_at(program, 4),
+            total: run_moves::word_at(program, 4),
         };
     }
-    let waits = moves::word_at(program, 2) + 8 * moves::word_at(program, 6);
-    let word = moves::word_at(program, waits + 12 * (place / 256) + place % 256);
+    let waits = run_moves::word_at(program, 2) + 8 * run_moves::word_at(program, 6);
+    let word = run_moves::word_at(program, waits + 12 * (place / 256) + place % 256);
     let inherited = word / 131072 % 16;
     Counts {
         inherited,
@@ -50,8 +50,8 @@ pub fn write_record(
     ensures { λ r. ⌜ Records (now (program .entry)) (now (registers .entry)) (now (places .entry)) run at before (now (sheet .entry)) (now (sheet .exit)) ⌝ }
 {
     let sizes = attributes(places, program, run);
-    let production = moves::word_at(places, run.places - 1) / 256;
-    let above = moves::word_at(program, run.at) / 8 - sizes.inherited;
+    let production = run_moves::word_at(places, run.places - 1) / 256;
+    let above = run_moves::word_at(program, run.at) / 8 - sizes.inherited;
     sheet_bytes::put_four(sheet, at, production as u64);
     sheet_bytes::put_four(sheet, at + 4, before);
     sheet_bytes::put_four(sheet, at + 8, run.tokens - before);

@@ -1,1 +1,2 @@
+-- 41, or 0 where a sheet has room
 pub mod Room

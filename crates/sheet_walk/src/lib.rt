@@ -1,187 +1,7 @@
 // The recursive evaluator: a node goes through its children, and each child is a node again. It makes the machine's own moves on stacks of its own and writes a record for each node that it leaves.
 // The run's numbers are in lent cells, and the moves in functions that both evaluators call: so the frames of the two that call each other are small (docs/SHEETS.md).
-ghost use Prim.Native.Nat.{ℕ, _%_, _≤_, _<_};
-ghost use mathlib.Core.Path.{_≡_};
-ghost use lib.ListN.{length, getD};
-ghost use Rattle.sheet_moves.specs.Standing.{Walking, isLook};
-ghost use Rattle.sheet_record.specs.Recording.{Inner};
-ghost use Rattle.sheet_walk.specs.Numbers.{runIn, stored, Told, walkedAs, Rests};
-ghost use Rattle.sheet_walk.specs.Leaving.{Leaves};
-ghost use Rattle.sheet_walk.specs.Cycle.{Passes};
-ghost use Rattle.sheet_walk.specs.Walks.{PassAt, Passed, EnterAt, Opened, LeaveAt, LeftBy, NodeIn, NodeOut, ListIn, ListOut};
+ghost use Rattle.sheet_steps.specs.Walks.{NodeIn, NodeOut, ListIn, ListOut};
 use limits::SYMBOLS;
-use machine::Ended;
-use moves::Run;
-
-// ---- the numbers: tokens, moves, heights of registers and places, the address; where the sheet goes on, or the number that refuses; how many registers and places are lent
-
-// The run in them.
-pub fn run_of(numbers: &[u64; 8]) -> Run
-    ensures { λ r. ⌜ r ≡ runIn (now (numbers .entry)) ⌝ }
-{
-    Run {
-        tokens: numbers[0],
-        moves: numbers[1],
-        registers: numbers[2] as usize,
-        places: numbers[3] as usize,
-        at: numbers[4] as usize,
-    }
-}
-
-fn store(numbers: &mut [u64; 8], run: Run)
-    requires { ⌜ length (now numbers) ≡ 8 ⌝ }
-    ensures { λ r. ⌜ now (numbers .exit) ≡ stored (now (numbers .entry)) run ⌝ }
-{
-    numbers[0] = run.tokens;
-    numbers[1] = run.moves;
-    numbers[2] = run.registers as u64;
-    numbers[3] = run.places as u64;
-    numbers[4] = run.at as u64;
-}
-
-// What the moves came to; whether none was refused.
-fn told(numbers: &mut [u64; 8], ended: Ended) -> bool
-    requires { ⌜ length (now numbers) ≡ 8 ⌝ }
-    ensures { λ r. ⌜ Told (now (numbers .entry)) ended r (now (numbers .exit)) ⌝ }
-{
-    match ended {
-        Ended::Stopped(next) => {
-            store(numbers, next);
-            true
-        }
-        Ended::Failed(last, k) => {
-            store(numbers, last);
-            numbers[5] = k as u64;
-            false
-        }
-    }
-}
-
-// The operation at hand.
-fn operation(program: &[u32], numbers: &[u64; 8]) -> usize
-    requires { ⌜ getD (now numbers) 4 0 < length (now program) ⌝ }
-    ensures { λ r. ⌜ r ≡ getD (now (program .entry)) (getD (now (numbers .entry)) 4 0) 0 % 8 ⌝ }
-{
-    let here = numbers[4] as usize;
-    moves::word_at(program, here) % 8
-}
-
-// ---- the moves
-
-// A token is read, or a node entered; then the moves that need no next token.
-fn pass(
-    registers: &mut [i64],
-    places: &mut [u32],
-    program: &[u32],
-    kinds: &[u8],
-    values: &[i32],
-    run: Run,
-) -> Ended
-    requires { ⌜ Walking (now program) (now kinds) (now values) (now registers) (now places) run × isLook (getD (now program) (run .at) 0 % 8) ⌝ }
-    ensures { λ r. ⌜ ((k : ℕ) → Passes (now (program .entry)) (now (kinds .entry)) (now (values .entry)) (now (registers .entry)) (now (places .entry)) run k (now (registers .exit)) (now (places .exit)) (walkedAs r k)) × ((k : ℕ) → Rests (now (program .entry)) (walkedAs r k)) ⌝ }
-{
-    match sheet_moves::step(registers, places, program, kinds, values, run) {
-        Ended::Failed(last, k) => Ended::Failed(last, k),
-        Ended::Stopped(next) => sheet_moves::settle(registers, places, program, next),
-    }
-}
-
-// The node in progress is left: its record is written, then it is removed; then the moves of the one below that need no next token.
-fn depart(
-    registers: &mut [i64],
-    places: &mut [u32],
-    program: &[u32],
-    sheet: &mut [u8],
-    run: Run,
-    at: usize,
-    before: u64,
-) -> Ended
-    requires { ⌜ Inner (now program) (now registers) (now places) run × (getD (now program) (run .at) 0 % 8 ≡ 5) × (at < 800000000000) × (before ≤ run .tokens) × (length (now registers) ≤ 4096) ⌝ }
-    ensures { λ r. ⌜ ((end : ℕ) → Leaves (now (program .entry)) (now (registers .entry)) (now (places .entry)) run at before end (now (sheet .entry)) (now (registers .exit)) (now (places .exit)) (now (sheet .exit)) (walkedAs r end)) × ((end : ℕ) → Rests (now (program .entry)) (walkedAs r end)) ⌝ }
-{
-    sheet_record::write_record(registers, places, program, sheet, run, at, before);
-    match sheet_moves::made(registers, places, program, run, limits::END, value::MARK) {
-        Ended::Failed(last, k) => Ended::Failed(last, k),
-        Ended::Stopped(next) => sheet_moves::settle(registers, places, program, next),
-    }
-}
-
-// The same on the cells that are lent.
-fn advance(
-    registers: &mut [i64],
-    places: &mut [u32],
-    program: &[u32],
-    kinds: &[u8],
-    values: &[i32],
-    numbers: &mut [u64; 8],
-) -> bool
-    requires { ⌜ PassAt (now program) (now kinds) (now values) (now registers) (now places) (now numbers) ⌝ }
-    ensures { λ r. ⌜ Passed (now (program .entry)) (now (kinds .entry)) (now (values .entry)) (now (registers .entry)) (now (places .entry)) (now (numbers .entry)) (now (registers .exit)) (now (places .exit)) r (now (numbers .exit)) ⌝ }
-{
-    let n = numbers[6] as usize;
-    let k = numbers[7] as usize;
-    let run = run_of(numbers);
-    let ended = pass(
-        &mut registers[..n],
-        &mut places[..k],
-        program,
-        kinds,
-        values,
-        run,
-    );
-    told(numbers, ended)
-}
-
-fn leave(
-    registers: &mut [i64],
-    places: &mut [u32],
-    program: &[u32],
-    sheet: &mut [u8],
-    numbers: &mut [u64; 8],
-    at: usize,
-    before: u64,
-) -> bool
-    requires { ⌜ LeaveAt (now program) (now registers) (now places) (now numbers) at before ⌝ }
-    ensures { λ r. ⌜ LeftBy (now (program .entry)) (now (registers .entry)) (now (places .entry)) (now (numbers .entry)) at before (now (sheet .entry)) (now (registers .exit)) (now (places .exit)) (now (sheet .exit)) r (now (numbers .exit)) ⌝ }
-{
-    let n = numbers[6] as usize;
-    let k = numbers[7] as usize;
-    let run = run_of(numbers);
-    let ended = depart(
-        &mut registers[..n],
-        &mut places[..k],
-        program,
-        sheet,
-        run,
-        at,
-        before,
-    );
-    told(numbers, ended)
-}
-
-// A node is entered: behind the room of its record come those of the nodes below it.
-fn enter(
-    registers: &mut [i64],
-    places: &mut [u32],
-    program: &[u32],
-    kinds: &[u8],
-    values: &[i32],
-    numbers: &mut [u64; 8],
-) -> bool
-    requires { ⌜ EnterAt (now program) (now kinds) (now values) (now registers) (now places) (now numbers) ⌝ }
-    ensures { λ r. ⌜ Opened (now (program .entry)) (now (kinds .entry)) (now (values .entry)) (now (registers .entry)) (now (places .entry)) (now (numbers .entry)) (now (registers .exit)) (now (places .exit)) r (now (numbers .exit)) ⌝ }
-{
-    if advance(registers, places, program, kinds, values, numbers) {
-        let run = run_of(numbers);
-        let k = numbers[7] as usize;
-        let sizes = sheet_record::attributes(&places[..k], program, run);
-        numbers[5] = numbers[5] + (12 + 8 * sizes.total) as u64;
-        return true;
-    }
-    false
-}
-
-// ---- nodes and children
 
 // A node: it is predicted, goes through its children, and is left. Answers whether no move was refused.
 pub fn node(
@@ -199,9 +19,9 @@ pub fn node(
 {
     let before = numbers[0];
     let at = numbers[5] as usize;
-    if enter(registers, places, program, kinds, values, numbers) {
-        if 5 <= operation(program, numbers) {
-            return leave(registers, places, program, sheet, numbers, at, before);
+    if sheet_steps::enter(registers, places, program, kinds, values, numbers) {
+        if 5 <= sheet_steps::operation(program, numbers) {
+            return sheet_steps::leave(registers, places, program, sheet, numbers, at, before);
         }
         if children(
             registers,
@@ -214,7 +34,7 @@ pub fn node(
             depth_left - 1,
             SYMBOLS,
         ) {
-            return leave(registers, places, program, sheet, numbers, at, before);
+            return sheet_steps::leave(registers, places, program, sheet, numbers, at, before);
         }
     }
     false
@@ -235,7 +55,7 @@ fn children(
     requires { ⌜ ListIn (now program) (now kinds) (now values) (now registers) (now places) (now numbers) «depth_left» «symbols_left» ⌝ }
     ensures { λ r. ⌜ ListOut (now (program .entry)) (now (kinds .entry)) (now (values .entry)) (now (registers .entry)) (now (places .entry)) (now (numbers .entry)) (now (sheet .entry)) (now (registers .exit)) (now (places .exit)) (now (sheet .exit)) r (now (numbers .exit)) ⌝ }
 {
-    let passed = if operation(program, numbers) == 3 {
+    let passed = if sheet_steps::operation(program, numbers) == 3 {
         node(
             registers,
             places,
@@ -247,10 +67,10 @@ fn children(
             depth_left,
         )
     } else {
-        advance(registers, places, program, kinds, values, numbers)
+        sheet_steps::advance(registers, places, program, kinds, values, numbers)
     };
     if passed {
-        if 4 < operation(program, numbers) {
+        if 4 < sheet_steps::operation(program, numbers) {
             return true;
         }
         return children(

@@ -12,9 +12,10 @@ use Rattle.meaning.specs.Grammar.{Grammar, terminal, syn, attributeIf}
 use Rattle.meaning.specs.Program.{carriers}
 use Rattle.meaning.specs.Sets.{has}
 use Rattle.theory_sets.specs.Tests.{tabled, length-countFrom}
-use Rattle.token_set.specs.Words.{bit, setOf, setOf-wide}
-use Rattle.fields.specs.Demand.{ifBelow}
-use Rattle.table_carriers.specs.Named.{synthesizedOf, Carries}
+use Rattle.token_set.specs.SetBits.{bit, setOf, setOf-wide}
+use Rattle.outline.specs.Outline.{Carries}
+use Rattle.table_fields.specs.Demand.{ifBelow}
+use Rattle.table_carriers.specs.Named.{synthesizedOf}
 
 module _ (word : ℕ) (g : Grammar) (c : Carries word (g .carrying)) where
   -- a terminal's one attribute

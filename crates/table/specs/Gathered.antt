@@ -12,7 +12,7 @@ use Rattle.meaning.specs.Base.{all, any, countFrom}
 use Rattle.meaning.specs.Grammar.{Occurrence, Rule, Counts}
 use Rattle.meaning.specs.Table.{byte, Header, headerOf, Field, Entry, State, nothingRead, current, isSome, atHeader, atCounts, atFirst, atAny, stage, tagStands, Kind, header, counts, production, rule, condition, carrier, kindOf}
 use Rattle.meaning.specs.Table.{limitsHold, known, startRight, directionsRight, ruleOf, isInput, sameOccurrence, setOnce, occurrencesAt, complete, lastComplete, leftToRight, boundsRight, lowestOf, judgeField, readField, Read, wellFormed, malformed, readAll, readTable}
-use Rattle.rules.specs.Note.{isNoted, Notes}
+use Rattle.table_rules.specs.Note.{isNoted, Notes}
 use Rattle.table.specs.declared.Reading.{Reading}
 use Rattle.table.specs.Answer.{Answers}
 

@@ -15,15 +15,17 @@ use Rattle.meaning.specs.Sets.{has, singleton}
 use Rattle.meaning.specs.Table.{byte, Header, readField, kindOf, judgeField}
 use Rattle.theory_sets.specs.TokenSets.{has-union, has-empty, single-has, single-only}
 use Rattle.theory_sets.specs.Widths.{both-true}
-use Rattle.token_set.specs.Words.{setOf, set-empty, set-or}
-use Rattle.fields.specs.Field.{Whole, Short, rest, bodyAt}
-use Rattle.fields.specs.Judge.{leastAfter, carrierFault}
-use Rattle.fields.specs.Reads.{stateOf}
-use Rattle.fields.proofs.Cases.{nonzero}
-use Rattle.fields.proofs.Fine.{carrier-fine}
-use Rattle.fields.proofs.Judged.{carrier-judged}
-use Rattle.fields.proofs.Rest.{judged-fine, judged-refused, step-short, step-field, calm-complete, body-length, body-byte, fieldOf}
-use Rattle.table_carriers.specs.Named.{Carries, CarrierJudged, NoCarrier, CarriersRead}
+use Rattle.token_set.specs.declared.TokenSet.{TokenSet}
+use Rattle.token_set.specs.SetBits.{setOf, set-empty, set-or}
+use Rattle.table_fields.specs.Field.{Whole, Short, rest, bodyAt}
+use Rattle.table_fields.specs.Judge.{leastAfter, carrierFault}
+use Rattle.table_fields.specs.Reads.{stateOf}
+use Rattle.table_fields.proofs.Cases.{nonzero}
+use Rattle.table_fields.proofs.Fine.{carrier-fine}
+use Rattle.table_fields.proofs.Judged.{carrier-judged}
+use Rattle.table_fields.proofs.Rest.{judged-fine, judged-refused, step-short, step-field, calm-complete, body-length, body-byte, fieldOf}
+use Rattle.outline.specs.Outline.{Carries}
+use Rattle.table_carriers.specs.Named.{CarrierJudged, NoCarrier, CarriersRead}
 
 -- ---- one field
 
@@ -119,9 +121,9 @@ module _ (t : List ℕ) (from terminals : ℕ) where
   pub carrying-start : from ≤ length t → Carrying t from terminals from 0 0
   carrying-start l = record { list = []; read = λ h cs os tm all. refl; held = carries-none; low = refl; inside = l }
 
-  module _ (at least word : ℕ) (w : Carrying t from terminals at least word) where
+  module _ (at least : ℕ) (set : TokenSet) (w : Carrying t from terminals at least (set .0)) where
     module _ (number : ℕ) (j : CarrierJudged t at terminals least number) where
-      pub carrying-refused : (number ≡ 0 → ⊥) → CarriersRead t from terminals (record { number = number; at = at; carrying = word })
+      pub carrying-refused : (number ≡ 0 → ⊥) → CarriersRead t from terminals (record { number = number; at = at; carrying = set })
       carrying-refused n =
           record {
             list = w .list;
@@ -133,17 +135,17 @@ module _ (t : List ℕ) (from terminals : ℕ) where
 
       pub carrying-more :
           number ≡ 0 → terminals ≤ 63 → (one next : ℕ) → setOf one ≡ singleton (byte t (at + 3)) → next ≡ byte t (at + 3) + 1
-          → Carrying t from terminals (at + 4) next (bitOr word one)
+          → Carrying t from terminals (at + 4) next (bitOr (set .0) one)
       carrying-more z few one next e n =
           record {
             list = byte t (at + 3) ∷ w .list;
             read = λ h cs os tm all. w .read h cs os tm all ∙ j .read h cs os (w .list) tm all (w .low) ∙ judged-fine number at _ z;
-            held = carries-more word one (byte t (at + 3)) (w .list) (w .held) e (omega (arith, j .known z));
+            held = carries-more (set .0) one (byte t (at + 3)) (w .list) (w .held) e (omega (arith, j .known z));
             low = omega arith;
             inside = j .long z;
           }
 
-    pub carrying-end : NoCarrier t at → CarriersRead t from terminals (record { number = 0; at = at; carrying = word })
+    pub carrying-end : NoCarrier t at → CarriersRead t from terminals (record { number = 0; at = at; carrying = set })
     carrying-end o =
         record {
           list = w .list;

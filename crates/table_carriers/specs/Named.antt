@@ -2,22 +2,17 @@
 use Prim.Native.Nat.{ℕ, _+_, _-_, _≤_, _<_}
 use mathlib.Core.Path.{_≡_}
 use mathlib.Core.List.{List, [], _∷_, reverse}
-use lib.Dec.{eqb}
 use lib.ListN.{getD, length}
-use Rattle.meaning.specs.Base.{any}
 use Rattle.meaning.specs.Grammar.{Counts, attributeIf}
 use Rattle.meaning.specs.Table.{byte, Header}
 use Rattle.meaning.specs.Sets.{has}
-use Rattle.token_set.specs.Words.{setOf}
-use Rattle.fields.specs.Demand.{ifBelow}
-use Rattle.fields.specs.Reads.{stateOf}
-use Rattle.fields.specs.Field.{rest, judged}
-use Rattle.fields.specs.Judge.{leastAfter}
+use Rattle.token_set.specs.SetBits.{setOf}
+use Rattle.outline.specs.Outline.{Carries}
+use Rattle.table_fields.specs.Demand.{ifBelow}
+use Rattle.table_fields.specs.Reads.{stateOf}
+use Rattle.table_fields.specs.Field.{rest, judged}
+use Rattle.table_fields.specs.Judge.{leastAfter}
 use Rattle.table_carriers.specs.declared.Carried.{Carried}
-
--- a word holds exactly the terminals of a list
-pub record Carries (word : ℕ) (ws : List ℕ) : Type 0 where
-  pub each : (t : ℕ) → has (setOf word) t ≡ any (eqb t) ws
 
 -- a tag 6 field judged, where the numbers from `least` on are above the one before: its number
 pub record CarrierJudged (t : List ℕ) (at terminals least number : ℕ) : Type 0 where
@@ -37,13 +32,13 @@ pub record CarriersRead (t : List ℕ) (from terminals : ℕ) (r : Carried) : Ty
   pub read :
       (h : Header) (cs : List Counts) (os : List ℕ) → h .terminals ≡ terminals → h .nonterminals ≤ length cs
       → rest t (stateOf h cs os [] [] 0 0) from ≡ judged (r .number) (r .at) (rest t (stateOf h cs os list [] 0 0) (r .at))
-  pub held : Carries (r .carrying) (reverse list)
+  pub held : Carries (r .carrying .0) (reverse list)
   pub inside : r .at ≤ length t
   pub other : r .number ≡ 0 → NoCarrier t (r .at)
 
 -- a symbol's count by its byte, 0 for a terminal
-unfoldable pub countOf : List ℕ → ℕ → ℕ
-countOf counts n = ifBelow n 128 0 (getD counts (n - 128) 0)
+unfoldable pub inheritedCount : List ℕ → ℕ → ℕ
+inheritedCount counts n = ifBelow n 128 0 (getD counts (n - 128) 0)
 
 -- a symbol's synthesized count by its byte. 02 (e): "names a terminal with one synthesized attribute"; another terminal has none
 unfoldable pub synthesizedOf : ℕ → List ℕ → ℕ → ℕ

@@ -4,14 +4,14 @@ ghost use mathlib.Core.Bool.{true, false};
 ghost use Prim.Native.Nat.{_+_, _<_, _≤_};
 ghost use lib.ListN.{length};
 ghost use Rattle.meaning.specs.Table.{byte};
-ghost use Rattle.table_carriers.specs.Named.{CarrierJudged, CarriersRead, NoCarrier, countOf, synthesizedOf};
+ghost use Rattle.table_carriers.specs.Named.{CarrierJudged, CarriersRead, NoCarrier, inheritedCount, synthesizedOf};
 use token_set::TokenSet;
 
 // The end of the tag 6 fields (number 0) and the set of the terminals that they name, or the field that is refused.
 pub struct Carried {
     pub number: u8,
     pub at: usize,
-    pub carrying: u64,
+    pub carrying: TokenSet,
 }
 
 // Whether a tag 6 field stands at an offset.
@@ -22,7 +22,7 @@ pub fn is_carrier(table: &[u8], at: usize) -> bool
     if table.len() <= at {
         return false;
     }
-    fields::wide(table[at]) == 6
+    table_fields::wide(table[at]) == 6
 }
 
 // The number of the refusal of the tag 6 field at an offset, or 0. The terminals from `least` on are above the one before.
@@ -30,13 +30,13 @@ pub fn carrier_number(table: &[u8], at: usize, terminals: usize, least: usize) -
     requires { ⌜ (at < length (now table)) × (byte (now table) at ≡ 6) ⌝ }
     ensures { λ r. ⌜ CarrierJudged (now (table .entry)) at terminals least r ⌝ }
 {
-    let size = fields::size_at(table, at);
+    let size = table_fields::size_at(table, at);
     if 65535 < size {
         return 2;
     }
     let from = at + 3;
     let end = from + size;
-    field_faults::carrier_fault(terminals, least, &table[from..end])
+    table_field_faults::carrier_fault(terminals, least, &table[from..end])
 }
 
 // All tag 6 fields from an offset on.
@@ -46,7 +46,7 @@ pub fn read_carriers(table: &[u8], from: usize, terminals: usize) -> Carried
 {
     let mut at = from;
     let mut least: usize = 0;
-    let mut carrying = TokenSet::EMPTY.0;
+    let mut carrying = TokenSet::EMPTY;
     while is_carrier(table, at) {
         let number = carrier_number(table, at, terminals, least);
         if number != 0 {
@@ -57,8 +57,8 @@ pub fn read_carriers(table: &[u8], from: usize, terminals: usize) -> Carried
             };
         }
         let terminal = table[at + 3];
-        carrying |= TokenSet::of_token(terminal).0;
-        least = fields::wide(terminal) + 1;
+        carrying = carrying.union(TokenSet::of_token(terminal));
+        least = table_fields::wide(terminal) + 1;
         at += 4;
     }
     Carried {
@@ -71,7 +71,7 @@ pub fn read_carriers(table: &[u8], from: usize, terminals: usize) -> Carried
 // A symbol's count by its byte, 0 for a terminal.
 pub fn count_of(counts: &[u8; 48], symbol: usize) -> u8
     requires { ⌜ length (now counts) ≡ 48 ⌝ }
-    ensures { λ r. ⌜ r ≡ countOf (now (counts .entry)) symbol ⌝ }
+    ensures { λ r. ⌜ r ≡ inheritedCount (now (counts .entry)) symbol ⌝ }
 {
     if symbol < 128 {
         return 0;
@@ -84,14 +84,14 @@ pub fn count_of(counts: &[u8; 48], symbol: usize) -> u8
 }
 
 // A symbol's synthesized count by its byte: 1 for a terminal that carries a value, 0 for another.
-pub fn synthesized_of(carrying: u64, counts: &[u8; 48], symbol: usize) -> u8
+pub fn synthesized_of(carrying: TokenSet, counts: &[u8; 48], symbol: usize) -> u8
     requires { ⌜ length (now counts) ≡ 48 ⌝ }
-    ensures { λ r. ⌜ r ≡ synthesizedOf carrying (now (counts .entry)) symbol ⌝ }
+    ensures { λ r. ⌜ r ≡ synthesizedOf (carrying .0) (now (counts .entry)) symbol ⌝ }
 {
     if 128 <= symbol {
         return count_of(counts, symbol);
     }
-    if TokenSet(carrying).has(symbol as u8) {
+    if carrying.has(symbol as u8) {
         return 1;
     }
     0

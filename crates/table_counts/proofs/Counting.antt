@@ -9,11 +9,11 @@ use lib.ListN.{length, getD, set, length-set}
 use lib.Seq.{getD-set-same, getD-set-other}
 use Rattle.meaning.specs.Grammar.{Counts}
 use Rattle.meaning.specs.Table.{byte, Read}
-use Rattle.fields.specs.Field.{rest, judged}
-use Rattle.fields.specs.Reads.{stateOf}
-use Rattle.fields.proofs.Rest.{judged-fine, judged-refused}
+use Rattle.table_fields.specs.Field.{rest, judged}
+use Rattle.table_fields.specs.Reads.{stateOf}
+use Rattle.table_fields.proofs.Rest.{judged-fine, judged-refused}
 use Rattle.table_counts.specs.Counted.{headerIn, headed, countsUpTo, offsetsUpTo, counted, SmallCounts, CountsJudged, CountsRead}
-use Rattle.fields.proofs.Cases.{lt-or-le}
+use Rattle.table_fields.proofs.Cases.{lt-or-le}
 
 pub length-counts : (inh syn : List ℕ) (n : ℕ) → length (countsUpTo inh syn n) ≡ n
 length-counts inh syn zero = refl

@@ -8,14 +8,14 @@ use lib.Dec.{eqb}
 use lib.ListN.{length, take, drop}
 use Rattle.meaning.specs.Grammar.{Counts}
 use Rattle.meaning.specs.Table.{byte, Header, State, Stage, atHeader, atCounts, atFirst, atAny, Read, wellFormed, malformed, nothingRead, judgeField, readField, kindOf, header, lastComplete, current}
-use Rattle.fields.specs.Field.{Whole, Short, rest, judged, bodyAt}
-use Rattle.fields.specs.Judge.{headerFault, countsFault}
-use Rattle.fields.specs.Reads.{stateOf}
-use Rattle.fields.proofs.Rest.{rest-end, judged-refused, step-short, step-field, calm-complete, body-length, body-byte, fieldOf}
-use Rattle.fields.proofs.Judged.{header-judged, header-not, counts-judged, counts-not, stage-counts}
-use Rattle.fields.proofs.Fine.{header-fine, counts-fine}
+use Rattle.table_fields.specs.Field.{Whole, Short, rest, judged, bodyAt}
+use Rattle.table_fields.specs.Judge.{headerFault, countsFault}
+use Rattle.table_fields.specs.Reads.{stateOf}
+use Rattle.table_fields.proofs.Rest.{rest-end, judged-refused, step-short, step-field, calm-complete, body-length, body-byte, fieldOf}
+use Rattle.table_fields.proofs.Judged.{header-judged, header-not, counts-judged, counts-not, stage-counts}
+use Rattle.table_fields.proofs.Fine.{header-fine, counts-fine}
 use Rattle.table_counts.specs.Counted.{headed, HeaderJudged, CountsJudged}
-use Rattle.fields.proofs.Cases.{nonzero}
+use Rattle.table_fields.proofs.Cases.{nonzero}
 
 -- the part of a table that a body is
 pub part-body : (t : List ℕ) (at size : ℕ) → take (at + 3 + size - (at + 3)) (drop (at + 3) t) ≡ bodyAt t at size

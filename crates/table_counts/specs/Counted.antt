@@ -5,8 +5,8 @@ use mathlib.Core.List.{List, [], _∷_}
 use lib.ListN.{getD, length}
 use Rattle.meaning.specs.Grammar.{Counts}
 use Rattle.meaning.specs.Table.{byte, Header, State, nothingRead}
-use Rattle.fields.specs.Reads.{stateOf}
-use Rattle.fields.specs.Field.{rest, judged}
+use Rattle.table_fields.specs.Reads.{stateOf}
+use Rattle.table_fields.specs.Field.{rest, judged}
 use Rattle.table_counts.specs.declared.Refusal.{Refusal}
 
 -- the header of a table that has one

@@ -1,1 +1,2 @@
+-- The header and the counts as they are read
 pub mod Counted

@@ -18,15 +18,15 @@ pub fn header_number(table: &[u8]) -> u8
     if table.len() == 0 {
         return 3;
     }
-    let size = fields::size_at(table, 0);
+    let size = table_fields::size_at(table, 0);
     if 65535 < size {
         return 2;
     }
-    if fields::wide(table[0]) != 1 {
+    if table_fields::wide(table[0]) != 1 {
         return 3;
     }
     let end = 3 + size;
-    field_faults::header_fault(&table[3..end])
+    table_field_faults::header_fault(&table[3..end])
 }
 
 // The number of the refusal of nonterminal n's counts, or 0.
@@ -37,16 +37,16 @@ pub fn counts_number(table: &[u8], at: usize, n: usize, start: usize, result: us
     if table.len() <= at {
         return 3;
     }
-    let size = fields::size_at(table, at);
+    let size = table_fields::size_at(table, at);
     if 65535 < size {
         return 2;
     }
-    if fields::wide(table[at]) != 2 {
+    if table_fields::wide(table[at]) != 2 {
         return 3;
     }
     let from = at + 3;
     let end = from + size;
-    field_faults::counts_fault(n, start, result, &table[from..end])
+    table_field_faults::counts_fault(n, start, result, &table[from..end])
 }
 
 // All tag 2 fields.

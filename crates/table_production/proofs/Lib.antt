@@ -1,2 +1,4 @@
+-- The field of a production in each way it can go, and the counts at its positions
 pub mod Producing
-pub mod Rows
+-- Productions, one after the other, and their rows
+pub mod ProductionRows

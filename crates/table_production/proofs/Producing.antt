@@ -12,30 +12,32 @@ use lib.Seq.{getD-drop}
 use borrow.Author.Tests.{ltb-true, ltb-false, le-ltb}
 use Rattle.meaning.specs.Base.{countFrom}
 use Rattle.meaning.specs.Sets.{has}
-use Rattle.token_set.specs.Words.{setOf}
+use Rattle.token_set.specs.SetBits.{setOf}
 use Rattle.meaning.specs.Grammar.{Counts, noCounts, attributeIf, Symbol, terminal, nonterminal, countsIn}
 use Rattle.meaning.specs.Table.{byte, Header, Entry, readField, kindOf, judgeField, symbolOf}
-use Rattle.fields.specs.Demand.{ifBelow}
-use Rattle.fields.specs.Field.{Whole, Short, rest, bodyAt}
-use Rattle.fields.specs.Judge.{productionFault, symbolKnown}
-use Rattle.fields.specs.Reads.{stateOf, entryOf}
-use Rattle.fields.proofs.Demands.{below-yes, below-no}
-use Rattle.fields.proofs.Rest.{step-short, step-field, calm-complete, body-length, body-byte, fieldOf}
-use Rattle.fields.proofs.Judged.{production-judged, first-not}
-use Rattle.fields.proofs.Fine.{ProductionFine, production-fine}
-use Rattle.fields.proofs.Walks.{all-each}
-use Rattle.rules.specs.Rule.{Small}
-use Rattle.rules.specs.Note.{symbolIn}
-use Rattle.table_uses.specs.declared.Uses.{Uses}
+use Rattle.table_fields.specs.Demand.{ifBelow}
+use Rattle.table_fields.specs.Field.{Whole, Short, rest, bodyAt}
+use Rattle.table_fields.specs.Judge.{productionFault, symbolKnown}
+use Rattle.table_fields.specs.Reads.{stateOf, entryOf}
+use Rattle.table_fields.proofs.Demands.{below-yes, below-no}
+use Rattle.table_fields.proofs.Rest.{step-short, step-field, calm-complete, body-length, body-byte, fieldOf}
+use Rattle.table_fields.proofs.Judged.{production-judged, first-not}
+use Rattle.table_fields.proofs.Fine.{ProductionFine, production-fine}
+use Rattle.table_fields.proofs.Walks.{all-each}
+use Rattle.table_rules.specs.Rule.{Small}
+use Rattle.table_rules.specs.Note.{symbolIn}
+use Rattle.table_items.specs.declared.Items.{Items}
 use Rattle.table_counts.specs.Counted.{SmallCounts, countsUpTo}
-use Rattle.table.specs.Outline.{Numbered}
-use Rattle.table_carriers.specs.Named.{Carries, countOf, synthesizedOf}
-use Rattle.table_rows.specs.Rows.{symbolByte, Written}
-use Rattle.table_uses.specs.Progress.{settingOf, Around, Walked, UsesRead, UsesReadFrom, Next}
-use Rattle.sound_uses.specs.Sound.{done, BodySound, BodyTaken}
+use Rattle.outline.specs.Outline.{Carries}
+use Rattle.table.specs.Laid.{Numbered}
+use Rattle.table_carriers.specs.Named.{inheritedCount, synthesizedOf}
+use Rattle.table_rows.specs.RowWritten.{symbolByte, Written}
+use Rattle.table_items.specs.Progress.{settingOf, Around, Walked, UsesRead, UsesReadFrom, Next}
+use Rattle.table_occurrences.specs.OccurrenceBits.{Settled, NoteOf}
+use Rattle.table_sound_items.specs.Sound.{done, BodySound, BodyTaken}
 use Rattle.table_production.specs.Productions.{widthIn, bodyIn, leftIn, rightIn, ProductionKnown, ProductionJudged, SmallBody, CountsAgree, BodyRead}
 use Rattle.table_counts.proofs.Counting.{length-counts}
-use Rattle.fields.proofs.Cases.{lt-or-le, nonzero}
+use Rattle.table_fields.proofs.Cases.{lt-or-le, nonzero}
 
 none-of : (es : List Entry) → length es ≡ 0 → es ≡ []
 none-of [] e = refl
@@ -168,15 +170,15 @@ module _ (inh syn : List ℕ) where
     cs = countsUpTo inh syn n
 
     pub record SymbolCounts (x : Symbol) (k : ℕ) : Type 0 where
-      pub first : countOf inh k ≡ countsIn (reverse cs) (reverse ws) x .inherited
+      pub first : inheritedCount inh k ≡ countsIn (reverse cs) (reverse ws) x .inherited
       pub second : synthesizedOf carrying syn k ≡ countsIn (reverse cs) (reverse ws) x .synthesized
 
     of-terminal : Carries carrying (reverse ws) → (k : ℕ) → k < 128 → SymbolCounts (terminal k) k
-    unfolding countOf synthesizedOf
+    unfolding inheritedCount synthesizedOf
     of-terminal held k l = record { first = sym (below-yes k 128 _ _ l refl); second = sym (below-yes k 128 _ _ l (ap attributeIf (sym (held .each k)))) }
 
     of-nonterminal : (k : ℕ) → 128 ≤ k → k - 128 < n → SymbolCounts (nonterminal (k - 128)) k
-    unfolding countOf synthesizedOf
+    unfolding inheritedCount synthesizedOf
     of-nonterminal k l h =
         record {
           first = sym (below-no k 128 _ _ l (ap (λ x. x .inherited) (counts-at n (k - 128) h)));
@@ -193,18 +195,18 @@ module _ (inh syn : List ℕ) where
             of-nonterminal k (ltb-false k 128 q)
             (ltb-true (k - 128) n (sym (ap (λ (b : Bool). cond b (ltb k terminals) (ltb (k - 128) n)) q) ∙ e))
 
-    small-count : SmallCounts inh syn n → (k : ℕ) → (128 ≤ k → k - 128 < n) → countOf inh k + synthesizedOf carrying syn k ≤ 8
-    unfolding countOf synthesizedOf
+    small-count : SmallCounts inh syn n → (k : ℕ) → (128 ≤ k → k - 128 < n) → inheritedCount inh k + synthesizedOf carrying syn k ≤ 8
+    unfolding inheritedCount synthesizedOf
     small-count small k h = ⊎-elim low high (lt-or-le k 128)
       where
         own : ℕ
         own = attributeIf (has (setOf carrying) k)
 
-        low : k < 128 → countOf inh k + synthesizedOf carrying syn k ≤ 8
+        low : k < 128 → inheritedCount inh k + synthesizedOf carrying syn k ≤ 8
         low l =
             omega (arith, below-yes {A = ℕ} k 128 0 (getD inh (k - 128) 0) l refl, below-yes {A = ℕ} k 128 own (getD syn (k - 128) 0) l refl, one-most (has (setOf carrying) k))
 
-        high : 128 ≤ k → countOf inh k + synthesizedOf carrying syn k ≤ 8
+        high : 128 ≤ k → inheritedCount inh k + synthesizedOf carrying syn k ≤ 8
         high l =
             omega (arith, below-no {A = ℕ} k 128 0 (getD inh (k - 128) 0) l refl, below-no {A = ℕ} k 128 own (getD syn (k - 128) 0) l refl, small (k - 128) (h l))
 
@@ -238,7 +240,7 @@ module _ (t : List ℕ) (at p terminals nonterminals carrying : ℕ) (inh syn : 
   pub counts-agree : (ws : List ℕ) → Carries carrying (reverse ws) → CountsAgree t at carrying inh syn (countsUpTo inh syn nonterminals) ws
   counts-agree ws held = record { inherits = λ k l. each-position ws held k l .first; synthesizes = λ k l. each-position ws held k l .second }
 
-  small-position : SmallCounts inh syn nonterminals → (k : ℕ) → k ≤ widthIn t at → countOf inh (symbolByte (bodyIn t at) k) + synthesizedOf carrying syn (symbolByte (bodyIn t at) k) ≤ 8
+  small-position : SmallCounts inh syn nonterminals → (k : ℕ) → k ≤ widthIn t at → inheritedCount inh (symbolByte (bodyIn t at) k) + synthesizedOf carrying syn (symbolByte (bodyIn t at) k) ≤ 8
   small-position small zero l = small-count inh syn carrying [] nonterminals small (128 + byte (bodyIn t at) 0) (λ h. omega (arith, left-byte, known .left))
   small-position small (suc k) l =
       small-count inh syn carrying [] nonterminals small (byte (bodyIn t at) (k + 2)) (known-below terminals nonterminals (byte (bodyIn t at) (k + 2)) (known .symbols k (omega arith)))
@@ -248,7 +250,7 @@ module _ (t : List ℕ) (at p terminals nonterminals carrying : ℕ) (inh syn : 
 
 -- ---- the lists of counts that the code makes of the body
 
-module _ (t : List ℕ) (at w carrying : ℕ) (inherited synthesized inh syn part : List ℕ) (is-width : w ≡ widthIn t at) (is-body : part ≡ bodyIn t at) (long : at + 5 + widthIn t at ≤ length t) (p : Written (countOf inherited) part inh) (q : Written (synthesizedOf carrying synthesized) part syn) where
+module _ (t : List ℕ) (at w carrying : ℕ) (inherited synthesized inh syn part : List ℕ) (is-width : w ≡ widthIn t at) (is-body : part ≡ bodyIn t at) (long : at + 5 + widthIn t at ≤ length t) (p : Written (inheritedCount inherited) part inh) (q : Written (synthesizedOf carrying synthesized) part syn) where
   body-long : length (bodyIn t at) ≡ 2 + widthIn t at
   body-long = body-length t at (2 + widthIn t at) (omega arith)
 
@@ -257,12 +259,12 @@ module _ (t : List ℕ) (at w carrying : ℕ) (inherited synthesized inh syn par
 
   pub body-small : SmallBody t at carrying inherited synthesized → Small w inh syn
   body-small small =
-      (omega (arith, small .0), λ k l. omega (arith, small .1 k (omega arith), at-place (countOf inherited) inh p k l, at-place (synthesizedOf carrying synthesized) syn q k l))
+      (omega (arith, small .0), λ k l. omega (arith, small .1 k (omega arith), at-place (inheritedCount inherited) inh p k l, at-place (synthesizedOf carrying synthesized) syn q k l))
 
   right-long : length (rightIn t at) ≡ w
   right-long = length-map (drop 2 (bodyIn t at)) symbolOf ∙ length-drop 2 (bodyIn t at) ∙ omega (arith, body-long)
 
-  pub body-read : (r₀ c₀ : ℕ) (u : Uses) → UsesRead (settingOf t at w inh syn) (at + 5 + w) r₀ c₀ u → BodyRead t at carrying inherited synthesized r₀ c₀ u
+  pub body-read : (r₀ c₀ : ℕ) (u : Items) → UsesRead (settingOf t at w inh syn) (at + 5 + w) r₀ c₀ u → BodyRead t at carrying inherited synthesized r₀ c₀ u
   body-read r₀ c₀ u f h cs os ws es all agree =
       let a : Around (settingOf t at w inh syn) =
       record {
@@ -276,7 +278,7 @@ module _ (t : List ℕ) (at w carrying : ℕ) (inherited synthesized inh syn par
         all = all;
         placed = record {
           wide = sym right-long;
-          inherits = λ k l. at-place (countOf inherited) inh p k l ∙ agree .inherits k (omega arith);
+          inherits = λ k l. at-place (inheritedCount inherited) inh p k l ∙ agree .inherits k (omega arith);
           synthesizes = λ k l. at-place (synthesizedOf carrying synthesized) syn q k l ∙ agree .synthesizes k (omega arith);
         };
       }
@@ -301,23 +303,25 @@ pub sound-body :
     (t : List ℕ) (at carrying : ℕ) (inherited synthesized : List ℕ) (r₀ c₀ end r c : ℕ) → at + 5 + widthIn t at ≤ length t → SmallBody t at carrying inherited synthesized
     → BodySound t at carrying inherited synthesized r₀ c₀ end r c → BodyRead t at carrying inherited synthesized r₀ c₀ (done end r c)
 sound-body t at carrying inherited synthesized r₀ c₀ end r c long small b =
-    let p = placed-by (countOf inherited) (bodyIn t at) in
+    let p = placed-by (inheritedCount inherited) (bodyIn t at) in
     let q = placed-by (synthesizedOf carrying synthesized) (bodyIn t at) in
     body-read t at (widthIn t at) carrying inherited synthesized _ _ (bodyIn t at) refl refl long p q r₀ c₀ (done end r c)
     (b .read _ _ p q (body-small t at (widthIn t at) carrying inherited synthesized _ _ (bodyIn t at) refl refl long p q small))
 
--- the same of fields taken up to one of them: what is read from there on
+-- the same of fields taken up to one of them: what is read from there on, by a note that the words tell
 pub taken-body :
     (t : List ℕ) (at w carrying : ℕ) (inherited synthesized inh syn part : List ℕ) → w ≡ widthIn t at → part ≡ bodyIn t at → at + 5 + widthIn t at ≤ length t
-    → Written (countOf inherited) part inh → Written (synthesizedOf carrying synthesized) part syn → SmallBody t at carrying inherited synthesized
-    → (note : List ℕ) (end r c : ℕ) (u : Uses) → UsesReadFrom (settingOf t at w inh syn) note end r c u
-    → (r₀ c₀ : ℕ) → BodyTaken t at carrying inherited synthesized r₀ c₀ note end r c → BodyRead t at carrying inherited synthesized r₀ c₀ u
-taken-body t at w carrying inherited synthesized inh syn part is-width is-body long p q small note end r c u f r₀ c₀ b =
+    → Written (inheritedCount inherited) part inh → Written (synthesizedOf carrying synthesized) part syn → SmallBody t at carrying inherited synthesized
+    → (words made : List ℕ) (end r c : ℕ) (u : Items) → NoteOf w inh syn words made → UsesReadFrom (settingOf t at w inh syn) made end r c u
+    → (r₀ c₀ : ℕ) → BodyTaken t at carrying inherited synthesized r₀ c₀ words end r c → BodyRead t at carrying inherited synthesized r₀ c₀ u
+taken-body t at w carrying inherited synthesized inh syn part is-width is-body long p q small words made end r c u of f r₀ c₀ b =
+    let p′ = subst (λ x. Written (inheritedCount inherited) x inh) is-body p in
+    let q′ = subst (λ x. Written (synthesizedOf carrying synthesized) x syn) is-body q in
+    let few = subst (λ (x : ℕ). Small x inh syn) is-width (body-small t at w carrying inherited synthesized inh syn part is-width is-body long p q small) in
+    let words-by = subst (λ (x : ℕ). Settled x inh syn (b .note) words) (sym is-width) (b .settled inh syn p′ q′ few) in
+    let walked = subst (λ (x : ℕ). Walked (settingOf t at x inh syn) (at + 5 + x) r₀ c₀ (b .note) end r c) (sym is-width) (b .walked inh syn p′ q′ few) in
     body-read t at w carrying inherited synthesized inh syn part is-width is-body long p q r₀ c₀ u
-    (f (at + 5 + w) r₀ c₀
-    (subst (λ (x : ℕ). Walked (settingOf t at x inh syn) (at + 5 + x) r₀ c₀ note end r c) (sym is-width)
-    (b .walked inh syn (subst (λ x. Written (countOf inherited) x inh) is-body p) (subst (λ x. Written (synthesizedOf carrying synthesized) x syn) is-body q)
-    (subst (λ (x : ℕ). Small x inh syn) is-width (body-small t at w carrying inherited synthesized inh syn part is-width is-body long p q small)))))
+    (f (at + 5 + w) r₀ c₀ (λ a. let x = walked a in (x .0, x .1, of (b .note) (x .0) words-by (x .2), x .3)))
 
-pub next-sooner : (t : List ℕ) (a b : ℕ) (u : Uses) → a ≤ b → Next t b u → Next t a u
+pub next-sooner : (t : List ℕ) (a b : ℕ) (u : Items) → a ≤ b → Next t b u → Next t a u
 next-sooner t a b u l n = record { after = omega (arith, n .after); inside = n .inside; over = n .over; rules = n .rules; conditions = n .conditions }

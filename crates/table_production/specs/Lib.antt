@@ -1,1 +1,2 @@
+-- Where the reader stands between two productions
 pub mod Productions

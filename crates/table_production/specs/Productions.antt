@@ -6,17 +6,18 @@ use mathlib.Core.List.{List, [], _∷_, map, reverse}
 use lib.ListN.{length, drop}
 use Rattle.meaning.specs.Grammar.{Counts, Symbol, Rule, Condition, Occurrence, countsIn}
 use Rattle.meaning.specs.Table.{byte, Header, Entry, lastComplete, symbolOf}
-use Rattle.fields.specs.Field.{rest, judged, bodyAt}
-use Rattle.fields.specs.Judge.{symbolKnown}
-use Rattle.fields.specs.Reads.{stateOf, entryOf}
-use Rattle.rules.specs.Note.{symbolIn}
-use Rattle.table.specs.declared.Sizes.{Sizes}
-use Rattle.table_uses.specs.declared.Uses.{Uses}
+use Rattle.table_fields.specs.Field.{rest, judged, bodyAt}
+use Rattle.table_fields.specs.Judge.{symbolKnown}
+use Rattle.table_fields.specs.Reads.{stateOf, entryOf}
+use Rattle.table_rules.specs.Note.{symbolIn}
+use Rattle.outline.specs.declared.Sizes.{Sizes}
+use Rattle.outline.specs.Outline.{Carries}
+use Rattle.table_items.specs.declared.Items.{Items}
 use Rattle.table_counts.specs.Counted.{SmallCounts, countsUpTo}
-use Rattle.table_carriers.specs.Named.{countOf, synthesizedOf, Carries, NoCarrier}
-use Rattle.table_rows.specs.Rows.{symbolByte}
-use Rattle.table.specs.Outline.{Laid}
-use Rattle.table_uses.specs.Progress.{Next}
+use Rattle.table_carriers.specs.Named.{inheritedCount, synthesizedOf, NoCarrier}
+use Rattle.table_rows.specs.RowWritten.{symbolByte}
+use Rattle.table.specs.Laid.{Laid}
+use Rattle.table_items.specs.Progress.{Next}
 
 -- the length of the right side, the body, the left and the right side of the production at an offset
 abbrev pub widthIn : List ℕ → ℕ → ℕ
@@ -52,15 +53,15 @@ pub record ProductionJudged (t : List ℕ) (at p terminals nonterminals number :
 abbrev pub SmallBody : List ℕ → ℕ → ℕ → List ℕ → List ℕ → Type 0
 SmallBody t at carrying inherited synthesized =
     (widthIn t at ≤ 12)
-    × ((k : ℕ) → k ≤ widthIn t at → countOf inherited (symbolByte (bodyIn t at) k) + synthesizedOf carrying synthesized (symbolByte (bodyIn t at) k) ≤ 8)
+    × ((k : ℕ) → k ≤ widthIn t at → inheritedCount inherited (symbolByte (bodyIn t at) k) + synthesizedOf carrying synthesized (symbolByte (bodyIn t at) k) ≤ 8)
 
 -- and those of the counts and terminals read, latest first
 pub record CountsAgree (t : List ℕ) (at carrying : ℕ) (inherited synthesized : List ℕ) (cs : List Counts) (ws : List ℕ) : Type 0 where
-  pub inherits : (k : ℕ) → k ≤ widthIn t at → countOf inherited (symbolByte (bodyIn t at) k) ≡ countsIn (reverse cs) (reverse ws) (symbolIn (leftIn t at) (rightIn t at) k) .inherited
+  pub inherits : (k : ℕ) → k ≤ widthIn t at → inheritedCount inherited (symbolByte (bodyIn t at) k) ≡ countsIn (reverse cs) (reverse ws) (symbolIn (leftIn t at) (rightIn t at) k) .inherited
   pub synthesizes : (k : ℕ) → k ≤ widthIn t at → synthesizedOf carrying synthesized (symbolByte (bodyIn t at) k) ≡ countsIn (reverse cs) (reverse ws) (symbolIn (leftIn t at) (rightIn t at) k) .synthesized
 
 -- the rules and conditions of the production at an offset read, or a refusal
-abbrev pub BodyRead : List ℕ → ℕ → ℕ → List ℕ → List ℕ → ℕ → ℕ → Uses → Type 0
+abbrev pub BodyRead : List ℕ → ℕ → ℕ → List ℕ → List ℕ → ℕ → ℕ → Items → Type 0
 BodyRead t at carrying inherited synthesized r₀ c₀ u =
     (h : Header) (cs : List Counts) (os ws : List ℕ) (es : List Entry) → h .nonterminals ≤ length cs → CountsAgree t at carrying inherited synthesized cs ws
     → (rs : List (Rule Occurrence)) × (cds : List (Condition Occurrence))
@@ -69,7 +70,7 @@ BodyRead t at carrying inherited synthesized r₀ c₀ u =
     × (u .number ≡ 0 → lastComplete (stateOf h cs os ws (entryOf at (leftIn t at) (rightIn t at) rs cds ∷ es) (u .rules) (u .conditions)) ≡ true)
 
 -- production p with all its fields read, or a refusal; rows and offsets before and after
-pub record ProductionRead (t : List ℕ) (at p terminals nonterminals carrying : ℕ) (inherited synthesized rows₀ offsets₀ : List ℕ) (r₀ c₀ : ℕ) (rows offsets : List ℕ) (u : Uses) : Type 0 where
+pub record ProductionRead (t : List ℕ) (at p terminals nonterminals carrying : ℕ) (inherited synthesized rows₀ offsets₀ : List ℕ) (r₀ c₀ : ℕ) (rows offsets : List ℕ) (u : Items) : Type 0 where
   pub read :
       (h : Header) (os ws : List ℕ) (es : List Entry)
       → h .terminals ≡ terminals → h .nonterminals ≡ nonterminals → length es ≡ p → lastComplete (stateOf h (countsUpTo inherited synthesized nonterminals) os ws es r₀ c₀) ≡ true → Laid rows₀ offsets₀ es → Carries carrying (reverse ws)
@@ -84,7 +85,7 @@ pub record ProductionRead (t : List ℕ) (at p terminals nonterminals carrying :
   pub kept : (length rows ≡ 2048) × (length offsets ≡ 128)
 
 -- the table after its header and counts
-pub record Ready (t : List ℕ) (sizes : Sizes) (inherited synthesized : List ℕ) : Type 0 where
+pub record HeaderRead (t : List ℕ) (sizes : Sizes) (inherited synthesized : List ℕ) : Type 0 where
   pub terminals : sizes .terminals ≡ byte t 3
   pub nonterminals : sizes .nonterminals ≡ byte t 4
   pub start : sizes .start ≡ byte t 5
@@ -99,6 +100,6 @@ pub record Ready (t : List ℕ) (sizes : Sizes) (inherited synthesized : List �
 
 -- and after its tag 6 fields, which end at an offset
 pub record Begun (t : List ℕ) (from : ℕ) (sizes : Sizes) (inherited synthesized : List ℕ) : Type 0 where
-  pub ready : Ready t sizes inherited synthesized
+  pub ready : HeaderRead t sizes inherited synthesized
   pub inside : from ≤ length t
   pub other : NoCarrier t from

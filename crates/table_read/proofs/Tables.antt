@@ -5,16 +5,16 @@ use mathlib.Core.List.{List}
 use native.Mathlib.Omega.{arith}
 use lib.ListN.{length}
 use Rattle.meaning.specs.Table.{malformed, readTable}
-use Rattle.fields.specs.Field.{rest, judged}
-use Rattle.fields.proofs.Rest.{rest-table, judged-fine, judged-refused}
-use Rattle.table.specs.declared.Sizes.{Sizes}
+use Rattle.table_fields.specs.Field.{rest, judged}
+use Rattle.table_fields.proofs.Rest.{rest-table, judged-fine, judged-refused}
+use Rattle.outline.specs.declared.Sizes.{Sizes}
 use Rattle.table_carriers.specs.declared.Carried.{Carried}
 use Rattle.table_counts.specs.declared.Refusal.{Refusal}
 use Rattle.table.specs.declared.Reading.{Reading}
 use Rattle.table_counts.specs.Counted.{headerIn, countsUpTo, offsetsUpTo, counted, HeaderJudged, CountsRead}
-use Rattle.table.specs.Outline.{named}
+use Rattle.table.specs.Laid.{named}
 use Rattle.table_carriers.specs.Named.{CarriersRead}
-use Rattle.table_production.specs.Productions.{Ready, Begun}
+use Rattle.table_production.specs.Productions.{HeaderRead, Begun}
 use Rattle.table.specs.Answer.{Answers, AnswersFrom}
 use Rattle.table_counts.proofs.Counting.{length-counts}
 
@@ -38,7 +38,7 @@ module _ (t : List ℕ) (short : length t ≤ 32768) (number : ℕ) (h : HeaderJ
 
 -- ---- from the last tag 2 field on
 
-module _ (t : List ℕ) (sizes : Sizes) (inherited synthesized : List ℕ) (ready : Ready t sizes inherited synthesized) (c : Carried) (r : CarriersRead t (7 + 5 * sizes .nonterminals) (sizes .terminals) c) where
+module _ (t : List ℕ) (sizes : Sizes) (inherited synthesized : List ℕ) (ready : HeaderRead t sizes inherited synthesized) (c : Carried) (r : CarriersRead t (7 + 5 * sizes .nonterminals) (sizes .terminals) c) where
   abbrev known : Sizes
   known = record { terminals = sizes .terminals; nonterminals = sizes .nonterminals; start = sizes .start; result = sizes .result; productions = 0; carrying = c .carrying }
 

@@ -3,12 +3,13 @@ ghost use mathlib.Core.Path.{_≡_};
 ghost use Prim.Native.Nat.{_+_, _*_};
 ghost use lib.ListN.{length};
 ghost use Rattle.meaning.specs.Table.{readTable};
-ghost use Rattle.fields.specs.Field.{rest};
+ghost use Rattle.table_fields.specs.Field.{rest};
 ghost use Rattle.table_counts.specs.Counted.{counted};
 ghost use Rattle.table.specs.Answer.{Answers, AnswersFrom};
-ghost use Rattle.table_production.specs.Productions.{Ready, Begun};
+ghost use Rattle.table_production.specs.Productions.{HeaderRead, Begun};
+use outline::Sizes;
 use table::Reading;
-use table::Sizes;
+use token_set::TokenSet;
 
 // All productions, from an offset on.
 fn read_productions(
@@ -56,13 +57,14 @@ fn read_productions(
         let offset = at as u32;
         return Reading::Malformed { number: 3, offset };
     }
+    let carrying = sizes.carrying;
     Reading::WellFormed(Sizes {
         terminals: sizes.terminals,
         nonterminals: sizes.nonterminals,
         start: sizes.start,
         result: sizes.result,
         productions: p,
-        carrying: sizes.carrying,
+        carrying,
     })
 }
 
@@ -75,7 +77,7 @@ fn read_after_counts(
     rows: &mut [u8; 2048],
     offsets: &mut [u32; 128],
 ) -> Reading
-    requires { ⌜ Ready (now table) sizes (now inherited) (now synthesized) × (length (now rows) ≡ 2048) × (length (now offsets) ≡ 128) ⌝ }
+    requires { ⌜ HeaderRead (now table) sizes (now inherited) (now synthesized) × (length (now rows) ≡ 2048) × (length (now offsets) ≡ 128) ⌝ }
     ensures { λ r. ⌜ Answers r (now (inherited .entry)) (now (synthesized .entry)) (now (rows .exit)) (now (offsets .exit)) (rest (now (table .entry)) (counted (now (table .entry)) (now (inherited .entry)) (now (synthesized .entry)) (sizes .nonterminals)) (7 + 5 * sizes .nonterminals)) ⌝ }
 {
     let from = 7 + 5 * sizes.nonterminals;
@@ -87,13 +89,14 @@ fn read_after_counts(
             offset,
         };
     }
+    let carrying = c.carrying;
     let known = Sizes {
         terminals: sizes.terminals,
         nonterminals: sizes.nonterminals,
         start: sizes.start,
         result: sizes.result,
         productions: 0,
-        carrying: c.carrying,
+        carrying,
     };
     read_productions(table, c.at, known, inherited, synthesized, rows, offsets)
 }
@@ -121,10 +124,10 @@ pub fn read_table(
     if number != 0 {
         return Reading::Malformed { number, offset: 0 };
     }
-    let terminals = fields::wide(table[3]);
-    let nonterminals = fields::wide(table[4]);
-    let start = fields::wide(table[5]);
-    let result = fields::wide(table[6]);
+    let terminals = table_fields::wide(table[3]);
+    let nonterminals = table_fields::wide(table[4]);
+    let start = table_fields::wide(table[5]);
+    let result = table_fields::wide(table[6]);
     let counted = table_counts::read_counts(
         table,
         nonterminals,
@@ -146,7 +149,7 @@ pub fn read_table(
         start,
         result,
         productions: 0,
-        carrying: 0,
+        carrying: TokenSet::EMPTY,
     };
     read_after_counts(table, sizes, inherited, synthesized, rows, offsets)
 }

@@ -1,1 +1,2 @@
+-- Loops that write counts and rows
 pub mod Placing

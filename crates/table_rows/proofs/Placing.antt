@@ -8,8 +8,8 @@ use native.Mathlib.Nat.{not-suc-le-zero}
 use lib.ListN.{length, getD, set, length-set}
 use lib.Seq.{getD-set-same, getD-set-other}
 use Rattle.meaning.specs.Table.{byte}
-use Rattle.table_rows.specs.Rows.{symbolByte, Copied}
-use Rattle.fields.proofs.Cases.{lt-or-le}
+use Rattle.table_rows.specs.RowWritten.{symbolByte, Copied}
+use Rattle.table_fields.proofs.Cases.{lt-or-le}
 
 -- the counts of positions below k are written, where f gives the count of a symbol's byte
 pub record Placing (f : ℕ → ℕ) (b places : List ℕ) (k : ℕ) : Type 0 where
@@ -49,21 +49,21 @@ pub copying-start : (rows : List ℕ) (p : ℕ) (b : List ℕ) → length rows �
 copying-start rows p b l = record { before = λ i h. refl; row = λ j h. absurd (not-suc-le-zero h); kept = l }
 
 pub copying-more :
-    (rows₀ : List ℕ) (p : ℕ) (b rows : List ℕ) (k : ℕ) → Copied rows₀ p b rows k → 16 * p + k < 2048
-    → Copied rows₀ p b (set rows (16 * p + k) (byte b k)) (k + 1)
+    (rows₀ : List ℕ) (p : ℕ) (b rows : List ℕ) (k : ℕ) → Copied rows₀ p b rows k → p * 16 + k < 2048
+    → Copied rows₀ p b (set rows (p * 16 + k) (byte b k)) (k + 1)
 copying-more rows₀ p b rows k c room =
     record {
-      before = λ i h. getD-set-other rows (16 * p + k) i (byte b k) 0 (λ q. omega arith) ∙ c .before i h;
+      before = λ i h. getD-set-other rows (p * 16 + k) i (byte b k) 0 (λ q. omega arith) ∙ c .before i h;
       row = row;
-      kept = length-set rows (16 * p + k) (byte b k) ∙ c .kept;
+      kept = length-set rows (p * 16 + k) (byte b k) ∙ c .kept;
     }
   where
-    row : (j : ℕ) → j < k + 1 → getD (set rows (16 * p + k) (byte b k)) (16 * p + j) 0 ≡ byte b j
+    row : (j : ℕ) → j < k + 1 → getD (set rows (p * 16 + k) (byte b k)) (p * 16 + j) 0 ≡ byte b j
     row j h =
         ⊎-elim
-        (λ l. getD-set-other rows (16 * p + k) (16 * p + j) (byte b k) 0 (λ q. omega arith) ∙ c .row j l)
+        (λ l. getD-set-other rows (p * 16 + k) (p * 16 + j) (byte b k) 0 (λ q. omega arith) ∙ c .row j l)
         (λ l.
         let q : j ≡ k = omega arith in
-        ap (λ (i : ℕ). getD (set rows (16 * p + k) (byte b k)) (16 * p + i) 0) q
-        ∙ getD-set-same rows (16 * p + k) (byte b k) 0 (omega (arith, c .kept)) ∙ ap (byte b) (sym q))
+        ap (λ (i : ℕ). getD (set rows (p * 16 + k) (byte b k)) (p * 16 + i) 0) q
+        ∙ getD-set-same rows (p * 16 + k) (byte b k) 0 (omega (arith, c .kept)) ∙ ap (byte b) (sym q))
         (lt-or-le j k)

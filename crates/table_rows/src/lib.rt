@@ -2,28 +2,29 @@
 ghost use mathlib.Core.Path.{_≡_};
 ghost use Prim.Native.Nat.{_+_, _<_, _≤_};
 ghost use lib.ListN.{length};
-ghost use Rattle.table_carriers.specs.Named.{countOf, synthesizedOf};
-ghost use Rattle.table_rows.specs.Rows.{Written, Copied};
+ghost use Rattle.table_carriers.specs.Named.{inheritedCount, synthesizedOf};
+ghost use Rattle.table_rows.specs.RowWritten.{Written, Copied};
+use token_set::TokenSet;
 
 // The counts at the positions of a production, by its body.
 pub fn place_counts(
     body: &[u8],
-    carrying: u64,
+    carrying: TokenSet,
     inherited: &[u8; 48],
     synthesized: &[u8; 48],
     inh: &mut [u8; 13],
     syn: &mut [u8; 13],
 )
     requires { ⌜ (2 ≤ length (now body)) × (length (now body) ≤ 14) × (length (now inherited) ≡ 48) × (length (now synthesized) ≡ 48) × (length (now inh) ≡ 13) × (length (now syn) ≡ 13) ⌝ }
-    ensures inherits { λ r. ⌜ Written (countOf (now (inherited .entry))) (now (body .entry)) (now (inh .exit)) ⌝ }
-    ensures synthesizes { λ r. ⌜ Written (synthesizedOf carrying (now (synthesized .entry))) (now (body .entry)) (now (syn .exit)) ⌝ }
+    ensures inherits { λ r. ⌜ Written (inheritedCount (now (inherited .entry))) (now (body .entry)) (now (inh .exit)) ⌝ }
+    ensures synthesizes { λ r. ⌜ Written (synthesizedOf (carrying .0) (now (synthesized .entry))) (now (body .entry)) (now (syn .exit)) ⌝ }
 {
-    let left = 128 + fields::wide(body[0]);
+    let left = 128 + table_fields::wide(body[0]);
     inh[0] = table_carriers::count_of(inherited, left);
     syn[0] = table_carriers::synthesized_of(carrying, synthesized, left);
     let mut k: usize = 1;
     while k + 1 < body.len() {
-        let symbol = fields::wide(body[k + 1]);
+        let symbol = table_fields::wide(body[k + 1]);
         inh[k] = table_carriers::count_of(inherited, symbol);
         syn[k] = table_carriers::synthesized_of(carrying, synthesized, symbol);
         k += 1;
@@ -37,7 +38,7 @@ pub fn copy_row(rows: &mut [u8; 2048], p: usize, body: &[u8])
 {
     let mut k: usize = 0;
     while k < body.len() {
-        rows[16 * p + k] = body[k];
+        rows[p * 16 + k] = body[k];
         k += 1;
     }
 }

@@ -3,7 +3,7 @@ use Prim.Native.Nat.{ℕ, suc, _+_, _-_, _≤_, _<_}
 use native.Mathlib.Omega.{arith}
 use mathlib.Core.Path.{_≡_, refl, sym, ap, _∙_, subst}
 use mathlib.Core.Logic.{_⊎_, inl, inr}
-use mathlib.Core.Bool.{Bool, true, false}
+use mathlib.Core.Bool.{Bool, true, false, cond}
 use mathlib.Core.List.{List, [], _∷_, _++_}
 use lib.ListN.{length, drop, length-append, length-replicate, length-drop, length-set}
 use lib.Dec.{T, ltb, leb, eqb, leb→le}
@@ -12,7 +12,7 @@ use Rattle.meaning.specs.Base.{all, isEmpty, keep}
 use Rattle.meaning.specs.Grammar.{Grammar, Leaf, Rule, terminal, nonterminal}
 use Rattle.meaning.specs.Value.{apply, holds, inRange, mark}
 use Rattle.meaning.specs.Scheme.{Instruction, add, evaluate, expect, test, remove}
-use Rattle.meaning.specs.Machine.{Frame, Config, Lent, Coming, comes, ends, asLook, Outcome, moved, blocked, chooseOutcome, counted, step, next, nextOf, move, readRegister, writeRegister, writeAll, movesLimit, onward, parentOnward, accept, push, waits, alternatives, entered, unexpected, schemeAt}
+use Rattle.meaning.specs.Machine.{Frame, Config, Lent, Coming, comes, ends, asLook, Outcome, moved, blocked, counted, step, next, nextOf, move, readRegister, writeRegister, writeAll, movesLimit, onward, parentOnward, accept, push, waits, alternatives, entered, unexpected, schemeAt}
 use Rattle.meaning.specs.Part.{marks, frame, config}
 use Rattle.theory_base.specs.Steps.{at-hand, Result, result}
 use Rattle.theory_answers.specs.Memory.{Within}
@@ -105,7 +105,7 @@ abbrev Says : Coming → Config → Outcome → Type 0
 Says l c (moved d) = Unit {0}
 Says l c (blocked k) = Blocks l c k
 
-says-either : (l : Coming) (c : Config) (b : Bool) (o u : Outcome) → Says l c o → Says l c u → Says l c (chooseOutcome b o u)
+says-either : (l : Coming) (c : Config) (b : Bool) (o u : Outcome) → Says l c o → Says l c u → Says l c (cond b o u)
 says-either l c true o u s t = s
 says-either l c false o u s t = t
 
@@ -118,7 +118,7 @@ says-accept lent ends c f fs t = notExpected
 says-accept lent (comes u) c f fs t =
     let e : Outcome = moved (config (onward f ∷ fs) (u .values ++ c .registers) (suc (c .tokens)) (suc (c .moves))) in
     let full : Bool = ltb (lent .maxRegisters) (length (c .registers) + length (u .values)) in
-    says-either (comes u) c (eqb t (u .kind)) (chooseOutcome full (blocked 31) e) (blocked 21) (says-either (comes u) c full (blocked 31) e noRegister tt) notExpected
+    says-either (comes u) c (eqb t (u .kind)) (cond full (blocked 31) e) (blocked 21) (says-either (comes u) c full (blocked 31) e noRegister tt) notExpected
 
 says-move : (g : Grammar) (lent : Lent) (l : Coming) (c : Config) (f : Frame) (fs : List Frame) (i : Instruction) → Says l c (move g lent l c f fs i)
 says-move g lent l c f fs (add n) = says-either l c (ltb (lent .maxRegisters) (length (c .registers) + n)) (blocked 31) (step c (onward f ∷ fs) (marks n ++ c .registers)) noRegister tt
@@ -132,7 +132,7 @@ says-move g lent l c f fs (expect (nonterminal n)) =
 says-counted : (l : Coming) (c : Config) (o : Outcome) → Says l c o → Says l c (counted c o)
 says-counted l c o s = go (leb movesLimit (c .moves)) refl
   where
-    go : (b : Bool) → leb movesLimit (c .moves) ≡ b → Says l c (chooseOutcome b (blocked 35) o)
+    go : (b : Bool) → leb movesLimit (c .moves) ≡ b → Says l c (cond b (blocked 35) o)
     go true e = atLimit (leb→le movesLimit (c .moves) (rw e tt))
     go false e = s
 

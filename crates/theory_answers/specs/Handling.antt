@@ -7,9 +7,9 @@ use lib.ListN.{length, drop, length-append, length-replicate}
 use lib.Dec.{T, eqb, eqb→eq}
 use lib.IntN.{ℤ}
 use Rattle.meaning.specs.Base.{In, all}
-use Rattle.meaning.specs.Grammar.{Symbol, terminal, nonterminal, Occurrence, Condition, Production, Grammar, inh, markedFor, addedFor, productionAt, conditionPosition}
+use Rattle.meaning.specs.Grammar.{Symbol, terminal, nonterminal, Occurrence, Condition, Production, Grammar, inh, markedFor, addedFor, productionAt, conditionPosition, mapRule, mapCondition, conditionsAt}
 use Rattle.meaning.specs.Value.{inRange, mark}
-use Rattle.meaning.specs.Scheme.{Instruction, evaluate, expect, remove, mapRule, mapCondition, inheritedRules, synthesizedRules, testsAfter, rulesFor, conditionsAt, removed, synBetween, selectInherited, selectAfter}
+use Rattle.meaning.specs.Scheme.{Instruction, evaluate, expect, remove, inheritedRules, synthesizedRules, testsAfter, rulesFor, removed, synBetween, selectInherited, selectAfter}
 use Rattle.meaning.specs.Rules.{Operands, Reads, OutputAt, WellFormed}
 use Rattle.meaning.specs.Machine.{Frame, Config, readRegister}
 use Rattle.meaning.specs.Part.{marks, frame}
@@ -22,7 +22,7 @@ use Rattle.theory_base.specs.Agree.{reads-available}
 use Rattle.theory_base.specs.Selectors.{syn-none, inherited-at, target-of-inherited, target-of-synthesized}
 use Rattle.theory_base.specs.Present.{in-for}
 use Rattle.theory_answers.specs.Selecting.{operands-through, reads-through, after-within, reads-value}
-use Rattle.theory_answers.specs.Shape.{inhLeft, synLeft, Node, nodeRegisters, Stands, evaluable, Due, adds, hands, waits, tests, closes, removes, ends, Shaped}
+use Rattle.theory_answers.specs.Shape.{inhLeft, synLeft, Node, nodeRegisters, StandsOnFrames, evaluable, Due, adds, hands, waits, tests, closes, removes, ends, Shaped}
 
 -- a register among those that hold values
 valued-at : (c : Config) (pre mid post : List ℤ) (k : ℕ) → c .registers ≡ pre ++ (mid ++ post) → T (all inRange mid) → length pre < k → k ≤ length pre + length mid → Valued c k
@@ -38,7 +38,7 @@ conditions-read g p fp c k h t i =
     let e : conditionPosition (a .0) ≡ k = eqb→eq (conditionPosition (a .0)) k (b .0) in
     subst (λ z. Reads (Valued c) z) (sym (a .2)) (reads-through (Valued c) (selectAfter g p k) h (a .0) (reads-available g p k (a .0) (omega (arith, e)) (fp .reads (a .0) (b .1))))
 
-module _ (g : Grammar) (wf : WellFormed g) (c : Config) (p k : ℕ) (vs ss : List ℤ) (fs : List Frame) (base : List ℤ) (st : Stands g p fs base) (nd : Node g p k vs ss) where
+module _ (g : Grammar) (wf : WellFormed g) (c : Config) (p k : ℕ) (vs ss : List ℤ) (fs : List Frame) (base : List ℤ) (st : StandsOnFrames g p fs base) (nd : Node g p k vs ss) where
   -- the values of the node: its passed symbols' and its left side's
   known : T (all inRange (ss ++ vs))
   known = all-append inRange ss vs (nd .passed .ranged) (nd .inherited .ranged)

@@ -8,10 +8,10 @@ use lib.Seq.{getD-append-add}
 use lib.Dec.{T, eqb·suc-zero}
 use lib.IntN.{ℤ}
 use Rattle.meaning.specs.Base.{all}
-use Rattle.meaning.specs.Grammar.{nonterminal, Occurrence, Function, const, copy, sum, diff, prod, maxi, mini, addc, quot, Condition, range, atmost, Production, Grammar, inh, syn, symbolAt}
+use Rattle.meaning.specs.Grammar.{nonterminal, Occurrence, Function, const, copy, binary, addc, quot, Condition, range, atmost, Production, Grammar, inh, syn, symbolAt, mapFunction, mapCondition}
 use Rattle.meaning.specs.Value.{inRange, mark}
 use Rattle.meaning.specs.Rules.{Operands, Reads, InputAt}
-use Rattle.meaning.specs.Scheme.{mapFunction, mapCondition, synBetween, selectAfter}
+use Rattle.meaning.specs.Scheme.{synBetween, selectAfter}
 use Rattle.meaning.specs.Selectors.{occurrence}
 use Rattle.meaning.specs.Machine.{readRegister}
 use Rattle.theory_base.specs.Selectors.{syn-none, syn-more}
@@ -24,11 +24,7 @@ module _ {O Q : Type 0} {P : O → Type 0} (R : Q → Type 0) (sel : O → Q) (h
   pub operands-through : (f : Function O) → Operands P f → Operands R (mapFunction sel f)
   operands-through (const c) u = tt
   operands-through (copy a) u = h a u
-  operands-through (sum a b) u = (h a (u .0), h b (u .1))
-  operands-through (diff a b) u = (h a (u .0), h b (u .1))
-  operands-through (prod a b) u = (h a (u .0), h b (u .1))
-  operands-through (maxi a b) u = (h a (u .0), h b (u .1))
-  operands-through (mini a b) u = (h a (u .0), h b (u .1))
+  operands-through (binary f a b) u = (h a (u .0), h b (u .1))
   operands-through (addc a c) u = h a u
   operands-through (quot a c) u = h a u
 

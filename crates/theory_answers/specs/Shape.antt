@@ -2,17 +2,17 @@
 use Prim.Native.Nat.{ℕ, suc, _≤_, _<_}
 use native.Mathlib.Omega.{arith}
 use mathlib.Core.Path.{_≡_, refl, sym, ap, _∙_, subst}
-use mathlib.Core.Bool.{Bool, true, false, not}
+use mathlib.Core.Bool.{Bool, true, false, not, cond}
 use mathlib.Core.List.{List, [], _∷_, _++_}
 use lib.ListN.{length, drop}
 use lib.Dec.{eqb, eqb→eq, ltb, nltb→le}
 use lib.IntN.{ℤ}
 use Rattle.meaning.specs.Base.{consIf, isEmpty}
 use Rattle.meaning.specs.Grammar.{Symbol, terminal, nonterminal, Grammar, inh, syn, markedFor, addedFor, productionAt, whole}
-use Rattle.meaning.specs.Scheme.{Instruction, add, evaluate, test, remove, inheritedRules, synthesizedRules, testsAfter, removed, synBetween}
+use Rattle.meaning.specs.Scheme.{Instruction, add, evaluate, test, remove, inheritedRules, synthesizedRules, testsAfter, removed, synBetween, schemeEnd}
 use Rattle.meaning.specs.Rules.{WellFormed}
 use Rattle.meaning.specs.Machine.{Frame}
-use Rattle.meaning.specs.Part.{marks, tailIf, freshRest, leftRest, waitRest, frame}
+use Rattle.meaning.specs.Part.{marks, freshRest, leftRest, waitRest, frame}
 use Rattle.meaning.specs.Fit.{Values}
 use Rattle.theory_base.specs.Values.{drop-head}
 use Rattle.theory_base.specs.Present.{inherited-present, synthesized-present}
@@ -37,14 +37,14 @@ abbrev pub nodeRegisters : List ℤ → List ℤ → List ℤ → List ℤ → L
 nodeRegisters ss vs results base = ss ++ (vs ++ (results ++ base))
 
 -- a node of production p on the frames that wait for it and the registers below its own
-pub data Stands (g : Grammar) : ℕ → List Frame → List ℤ → Type 0 where
-  segment : Stands g whole [] []
+pub data StandsOnFrames (g : Grammar) : ℕ → List Frame → List ℤ → Type 0 where
+  segment : StandsOnFrames g whole [] []
   inside : {p : ℕ} (q k : ℕ) (xs : List Symbol) (vs ss : List ℤ) {fs : List Frame} {base : List ℤ}
       → p < length (g .productions) → drop k (productionAt g q .right) ≡ nonterminal (productionAt g p .left) ∷ xs
-      → Node g q k vs ss → Stands g q fs base
-      → Stands g p (frame q (waitRest g q k (nonterminal (productionAt g p .left)) xs) ∷ fs) (nodeRegisters ss vs (marks (synLeft g q)) base)
+      → Node g q k vs ss → StandsOnFrames g q fs base
+      → StandsOnFrames g p (frame q (waitRest g q k (nonterminal (productionAt g p .left)) xs) ∷ fs) (nodeRegisters ss vs (marks (synLeft g q)) base)
 
-pub evaluable : (g : Grammar) → WellFormed g → {p : ℕ} {fs : List Frame} {base : List ℤ} → Stands g p fs base → Evaluable g (productionAt g p)
+pub evaluable : (g : Grammar) → WellFormed g → {p : ℕ} {fs : List Frame} {base : List ℤ} → StandsOnFrames g p fs base → Evaluable g (productionAt g p)
 evaluable g wf segment = evaluable-whole g wf
 evaluable g wf (inside {p} q k xs vs ss l e n s) = evaluable-at g wf p l
 
@@ -79,7 +79,7 @@ pub record Shaped (g : Grammar) (fs : List Frame) (rs : List ℤ) : Type 0 where
   pub rest : List Instruction
   pub top : List ℤ
   pub results : List ℤ
-  pub stands : Stands g production below base
+  pub stands : StandsOnFrames g production below base
   pub node : Node g production passed inherited values
   pub due : Due g production passed rest top results
   pub isFrames : frame production rest ∷ below ≡ fs
@@ -93,7 +93,7 @@ absent l n e q = omega (arith, nltb→le 0 n (rw (← e) (rw q tt)))
 pub no-values : Values 0 []
 no-values = record { size = refl; ranged = tt }
 
-module _ (g : Grammar) (wf : WellFormed g) (p k : ℕ) (vs ss : List ℤ) (fs : List Frame) (base : List ℤ) (st : Stands g p fs base) (nd : Node g p k vs ss) where
+module _ (g : Grammar) (wf : WellFormed g) (p k : ℕ) (vs ss : List ℤ) (fs : List Frame) (base : List ℤ) (st : StandsOnFrames g p fs base) (nd : Node g p k vs ss) where
   abbrev own : List ℤ
   own = nodeRegisters ss vs (marks (synLeft g p)) base
 
@@ -146,7 +146,7 @@ module _ (g : Grammar) (wf : WellFormed g) (p k : ℕ) (vs ss : List ℤ) (fs : 
           let v : Values (synLeft g p) [] = rw z no-values in
           subst (λ n. Shaped g (frame p (remove (removed g (productionAt g p)) ∷ []) ∷ fs) (nodeRegisters ss vs (marks n) base)) (sym z) (shaped (remove (removed g (productionAt g p)) ∷ []) [] [] (removes [] e w v))
 
-      go : (b : Bool) → eqb p whole ≡ b → Shaped g (frame p (tailIf b g (productionAt g p)) ∷ fs) own
+      go : (b : Bool) → eqb p whole ≡ b → Shaped g (frame p (cond b [] (schemeEnd g (productionAt g p))) ∷ fs) own
       go true w = shaped [] [] (marks (synLeft g p)) (ends e (eqb→eq p whole (rw w tt)))
       go false w = close w (isEmpty (synthesizedRules g (productionAt g p))) refl
 

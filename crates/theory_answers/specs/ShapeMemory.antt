@@ -23,17 +23,17 @@ use Rattle.theory_base.specs.Values.{drop-head, drop-over}
 use Rattle.theory_base.specs.WellFormed.{whole-counts, well-formed-at}
 use Rattle.theory_base.specs.Frames.{place-waits, frame-back}
 use Rattle.theory_sets.specs.Tests.{all-at}
-use Rattle.theory_answers.specs.Shape.{inhLeft, synLeft, Node, nodeRegisters, Stands, segment, inside, Due, adds, hands, waits, tests, closes, removes, ends, Shaped, no-values}
+use Rattle.theory_answers.specs.Shape.{inhLeft, synLeft, Node, nodeRegisters, StandsOnFrames, segment, inside, Due, adds, hands, waits, tests, closes, removes, ends, Shaped, no-values}
 use Rattle.meaning.specs.Machine as Machine
 use Rattle.meaning.specs.Fit as Fit
 
 -- ---- a place and its frame
 
-pub listed : (g : Grammar) → {p : ℕ} {fs : List Frame} {base : List ℤ} → Stands g p fs base → (p ≡ whole) ⊎ (p < length (g .productions))
+pub listed : (g : Grammar) → {p : ℕ} {fs : List Frame} {base : List ℤ} → StandsOnFrames g p fs base → (p ≡ whole) ⊎ (p < length (g .productions))
 listed g segment = inl refl
 listed g (inside q k xs vs ss l e n s) = inr l
 
-pub short : (g : Grammar) → WellFormed g → {p : ℕ} {fs : List Frame} {base : List ℤ} → Stands g p fs base → length (productionAt g p .right) ≤ 12
+pub short : (g : Grammar) → WellFormed g → {p : ℕ} {fs : List Frame} {base : List ℤ} → StandsOnFrames g p fs base → length (productionAt g p .right) ≤ 12
 short g wf segment = omega arith
 short g wf (inside {p} q k xs vs ss l e n s) = well-formed-at g wf p l .short
 
@@ -66,7 +66,7 @@ pub record Waiting (g : Grammar) (fs : List Frame) (rs : List ℤ) (x : Symbol) 
   pub values : List ℤ
   pub below : List Frame
   pub base : List ℤ
-  pub stands : Stands g production below base
+  pub stands : StandsOnFrames g production below base
   pub node : Node g production passed inherited values
   pub symbols : drop passed (productionAt g production .right) ≡ x ∷ ahead
   pub ranged : Values (inh g x) handed
@@ -118,7 +118,7 @@ waiting g wf (Fit.inside p k vs ss {ps} {rs} l s m v u w) =
     let e : drop k right ≡ x ∷ drop (suc k) right = drop-cons right k (terminal 0) s in
     let parent : Frame = frame (b .production) (waitRest g (b .production) (b .passed) (nonterminal (productionAt g p .left)) (b .ahead)) in
     let own : List ℤ = nodeRegisters (b .values) (b .inherited) (marks (synLeft g (b .production))) (b .base) in
-    let st : Stands g p (parent ∷ b .below) own = inside (b .production) (b .passed) (b .ahead) (b .inherited) (b .values) l (b .symbols) (b .node) (b .stands) in
+    let st : StandsOnFrames g p (parent ∷ b .below) own = inside (b .production) (b .passed) (b .ahead) (b .inherited) (b .values) l (b .symbols) (b .node) (b .stands) in
     record {
       production = p;
       passed = k;
@@ -178,7 +178,7 @@ pub record Waits (g : Grammar) (fs : List Frame) (rs : List ℤ) (x : Symbol) : 
   pub back : map (frameOf g) (map (placeOf g) fs) ≡ fs
 
 -- the place of a frame that waits, and the frame from that place
-module _ (g : Grammar) (wf : WellFormed g) {p : ℕ} {fs : List Frame} {base : List ℤ} (st : Stands g p fs base) (k : ℕ) (x : Symbol) (xs : List Symbol) (e : drop k (productionAt g p .right) ≡ x ∷ xs) where
+module _ (g : Grammar) (wf : WellFormed g) {p : ℕ} {fs : List Frame} {base : List ℤ} (st : StandsOnFrames g p fs base) (k : ℕ) (x : Symbol) (xs : List Symbol) (e : drop k (productionAt g p .right) ≡ x ∷ xs) where
   pub place-short : k < 256
   place-short = omega (arith, drop-head k (productionAt g p .right) x (terminal 0) xs e .0, short g wf st)
 
@@ -198,11 +198,11 @@ segment-waits g wf zero vs ss nd x xs e is v =
     let registers : is ++ marks (markedFor g x) ≡ (is ++ marks (markedFor g x)) ++ nodeRegisters ss vs (marks (synLeft g whole)) [] = sym (append-nil (is ++ marks (markedFor g x))) ∙ ap (λ z. (is ++ marks (markedFor g x)) ++ z) (sym own) in
     subst₂ (λ n z. WaitsAt g (n ∷ []) z x) place registers (subst (λ y. Values (inh g y) is → WaitsAt g (32768 ∷ []) (is ++ marks (markedFor g y)) y) named (Fit.segment is) v)
 
-waits-on : (g : Grammar) → WellFormed g → {p : ℕ} {fs : List Frame} {base : List ℤ} → Stands g p fs base → (k : ℕ) (vs ss : List ℤ) → Node g p k vs ss → (x : Symbol) (xs : List Symbol) → drop k (productionAt g p .right) ≡ x ∷ xs → (is : List ℤ) → Values (inh g x) is
+waits-on : (g : Grammar) → WellFormed g → {p : ℕ} {fs : List Frame} {base : List ℤ} → StandsOnFrames g p fs base → (k : ℕ) (vs ss : List ℤ) → Node g p k vs ss → (x : Symbol) (xs : List Symbol) → drop k (productionAt g p .right) ≡ x ∷ xs → (is : List ℤ) → Values (inh g x) is
     → Waits g (frame p (waitRest g p k x xs) ∷ fs) ((is ++ marks (markedFor g x)) ++ nodeRegisters ss vs (marks (synLeft g p)) base) x
 waits-on g wf segment k vs ss nd x xs e is v = record { places = segment-waits g wf k vs ss nd x xs e is v; back = ap (λ f. f ∷ []) (place-back g wf segment k x xs e) }
 waits-on g wf (inside {p} q j ys us ts {fs} {base} l d n s) k vs ss nd x xs e is v =
-    let st : Stands g p (frame q (waitRest g q j (nonterminal (productionAt g p .left)) ys) ∷ fs) (nodeRegisters ts us (marks (synLeft g q)) base) = inside q j ys us ts l d n s in
+    let st : StandsOnFrames g p (frame q (waitRest g q j (nonterminal (productionAt g p .left)) ys) ∷ fs) (nodeRegisters ts us (marks (synLeft g q)) base) = inside q j ys us ts l d n s in
     let r = waits-on g wf s j us ts n (nonterminal (productionAt g p .left)) ys d vs (nd .inherited) in
     let h = drop-head k (productionAt g p .right) x (terminal 0) xs e in
     let named : symbolAt (productionAt g p) (suc k) ≡ x = h .1 in
@@ -222,7 +222,7 @@ waits-on g wf (inside {p} q j ys us ts {fs} {base} l d n s) k vs ss nd x xs e is
 -- ---- a configuration of the shape that waits
 
 -- the start symbol is left: only its values stand
-ended : (g : Grammar) → WellFormed g → {p : ℕ} {fs : List Frame} {base : List ℤ} → Stands g p fs base → (k : ℕ) (vs ss : List ℤ) → Node g p k vs ss
+ended : (g : Grammar) → WellFormed g → {p : ℕ} {fs : List Frame} {base : List ℤ} → StandsOnFrames g p fs base → (k : ℕ) (vs ss : List ℤ) → Node g p k vs ss
     → drop k (productionAt g p .right) ≡ [] → p ≡ whole → (fs ≡ []) × Values (syn g (nonterminal (g .start))) (nodeRegisters ss vs (marks (synLeft g p)) base)
 ended g wf (inside {p} q j ys us ts l d n s) k vs ss nd e w = absurd (omega (arith, wf .productions .1, l, w))
 ended g wf segment k vs ss nd e w =
@@ -235,7 +235,7 @@ ended g wf segment k vs ss nd e w =
 ended-stop : (g : Grammar) (p : ℕ) (fs : List Frame) (rs : List ℤ) → p ≡ whole → fs ≡ [] → Values (syn g (nonterminal (g .start))) rs → AtStop g (frame p [] ∷ fs) rs
 ended-stop g p fs rs w e v = subst₂ (λ n hs. AtStop g (frame n [] ∷ hs) rs) (sym w) (sym e) (record { fits = inr (record { place = refl; results = v }); back = refl })
 
-stop-due : (g : Grammar) → WellFormed g → {p : ℕ} {fs : List Frame} {base : List ℤ} → Stands g p fs base → (k : ℕ) (vs ss : List ℤ) → Node g p k vs ss
+stop-due : (g : Grammar) → WellFormed g → {p : ℕ} {fs : List Frame} {base : List ℤ} → StandsOnFrames g p fs base → (k : ℕ) (vs ss : List ℤ) → Node g p k vs ss
     → {rest : List Instruction} {top results : List ℤ} → Due g p k rest top results → T (Machine.needsLook rest) → AtStop g (frame p rest ∷ fs) (top ++ nodeRegisters ss vs results base)
 stop-due g wf st k vs ss nd (adds x xs e) w = absurd w
 stop-due g wf st k vs ss nd (hands x xs e) w = absurd w
@@ -249,7 +249,7 @@ pub at-stop : (g : Grammar) → WellFormed g → (fs : List Frame) (rs : List �
 at-stop g wf fs rs s w = subst₂ (λ a b. AtStop g a b) (s .isFrames) (s .isRegisters) (stop-due g wf (s .stands) (s .passed) (s .inherited) (s .values) (s .node) (s .due) (subst (λ z. T (Machine.waits z)) (sym (s .isFrames)) w))
 
 -- the segment's value is in range
-ended-due : (g : Grammar) → WellFormed g → {p : ℕ} {fs : List Frame} {base : List ℤ} → Stands g p fs base → (k : ℕ) (vs ss : List ℤ) → Node g p k vs ss
+ended-due : (g : Grammar) → WellFormed g → {p : ℕ} {fs : List Frame} {base : List ℤ} → StandsOnFrames g p fs base → (k : ℕ) (vs ss : List ℤ) → Node g p k vs ss
     → {rest : List Instruction} {top results : List ℤ} → Due g p k rest top results → rest ≡ [] → Values (syn g (nonterminal (g .start))) (top ++ nodeRegisters ss vs results base)
 ended-due g wf st k vs ss nd (adds x xs e) z = absurd (cons≢nil z)
 ended-due g wf st k vs ss nd (hands x xs e) z = absurd (cons≢nil z)

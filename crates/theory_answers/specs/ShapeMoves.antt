@@ -23,7 +23,7 @@ use Rattle.theory_base.specs.Values.{drop-head, drop-over}
 use Rattle.theory_base.specs.Frames.{scheme-is}
 use Rattle.theory_base.specs.Selectors.{leaf-size, leaf-ranges, syn-none, syn-more}
 use Rattle.theory_base.specs.Steps.{not-moved, move-of, Result, result, Predicted}
-use Rattle.theory_answers.specs.Shape.{synLeft, Node, nodeRegisters, Stands, segment, inside, evaluable, addedRest, Due, adds, hands, waits, tests, closes, removes, ends, Shaped, no-values, shaped, at-added, at-fresh, at-left}
+use Rattle.theory_answers.specs.Shape.{synLeft, Node, nodeRegisters, StandsOnFrames, segment, inside, evaluable, addedRest, Due, adds, hands, waits, tests, closes, removes, ends, Shaped, no-values, shaped, at-added, at-fresh, at-left}
 use Rattle.theory_base.specs.Evaluations.{inherited-made, synthesized-made}
 
 -- ---- the moves
@@ -52,7 +52,7 @@ nothing-of [] v = refl
 nothing-of (x ∷ xs) v = absurd (omega (arith, v .size))
 
 -- the node is left: its parent has one symbol more behind it
-leave : (g : Grammar) → WellFormed g → {p : ℕ} {fs : List Frame} {base : List ℤ} → Stands g p fs base → (rs : List ℤ) → eqb p whole ≡ false → Values (synLeft g p) rs → Shaped g (parentOnward fs) (rs ++ base)
+leave : (g : Grammar) → WellFormed g → {p : ℕ} {fs : List Frame} {base : List ℤ} → StandsOnFrames g p fs base → (rs : List ℤ) → eqb p whole ≡ false → Values (synLeft g p) rs → Shaped g (parentOnward fs) (rs ++ base)
 leave g wf segment rs w v = absurd (subst T w tt)
 leave g wf (inside {p} q j xs us ts {fs} {base} l e n s) rs w v =
     let x : Symbol = nonterminal (productionAt g p .left) in
@@ -60,7 +60,7 @@ leave g wf (inside {p} q j xs us ts {fs} {base} l e n s) rs w v =
     subst (λ z. Shaped g (frame q (leftRest g q (suc j) xs) ∷ fs) z) (append-assoc rs ts (us ++ (marks (synLeft g q) ++ base)))
     (at-left g wf q (suc j) us (rs ++ ts) fs base s (node-more g q j us ts n x xs e rs v) xs (h .2))
 
-module _ (g : Grammar) (wf : WellFormed g) (lent : Lent) (l : Coming) (ok : IsAhead g l) (c d : Config) (p k : ℕ) (vs ss : List ℤ) (fs : List Frame) (base : List ℤ) (st : Stands g p fs base) (nd : Node g p k vs ss) where
+module _ (g : Grammar) (wf : WellFormed g) (lent : Lent) (l : Coming) (ok : IsAhead g l) (c d : Config) (p k : ℕ) (vs ss : List ℤ) (fs : List Frame) (base : List ℤ) (st : StandsOnFrames g p fs base) (nd : Node g p k vs ss) where
   abbrev ours : List ℤ
   ours = nodeRegisters ss vs (marks (synLeft g p)) base
 
@@ -82,7 +82,7 @@ module _ (g : Grammar) (wf : WellFormed g) (lent : Lent) (l : Coming) (ok : IsAh
   by-predict n xs is e v f r u =
       let q : ℕ = u .production in
       let named : nonterminal (productionAt g q .left) ≡ nonterminal n = ap nonterminal (u .left) in
-      let above : Stands g q (frame p (waitRest g p k (nonterminal (productionAt g q .left)) xs) ∷ fs) ours = inside p k xs vs ss (u .listed) (e ∙ ap (λ z. z ∷ xs) (sym named)) nd st in
+      let above : StandsOnFrames g q (frame p (waitRest g p k (nonterminal (productionAt g q .left)) xs) ∷ fs) ours = inside p k xs vs ss (u .listed) (e ∙ ap (λ z. z ∷ xs) (sym named)) nd st in
       let new : Node g q 0 is [] = record { inherited = subst (λ z. Values (inh g z) is) (sym named) v; passed = rw (syn-none g (productionAt g q) 0) no-values; within = omega arith } in
       let s = at-fresh g wf q 0 is [] (frame p (waitRest g p k (nonterminal (productionAt g q .left)) xs) ∷ fs) ours above new (productionAt g q .right) refl in
       let isScheme : freshRest g q 0 (productionAt g q .right) ≡ schemeAt g q = scheme-is g wf q (u .listed) in

@@ -7,9 +7,9 @@ use lib.ListN.{getD, length, drop, length-append, replicate-append-replicate}
 use lib.Dec.{T, eqb}
 use lib.IntN.{ℤ, pos}
 use Rattle.meaning.specs.Base.{all, In}
-use Rattle.meaning.specs.Grammar.{Symbol, terminal, nonterminal, Occurrence, Rule, Production, Grammar, inh, syn, addedFor, markedFor}
+use Rattle.meaning.specs.Grammar.{Symbol, terminal, nonterminal, Occurrence, Rule, Production, Grammar, inh, syn, addedFor, markedFor, mapFunction}
 use Rattle.meaning.specs.Value.{apply, inRange, mark}
-use Rattle.meaning.specs.Scheme.{mapFunction, rulesFor, inheritedRules, synthesizedRules, selectInherited, selectAfter, synBetween}
+use Rattle.meaning.specs.Scheme.{rulesFor, inheritedRules, synthesizedRules, selectInherited, selectAfter, synBetween}
 use Rattle.meaning.specs.Machine.{readRegister, writeAll}
 use Rattle.meaning.specs.Rules.{OutputAt}
 use Rattle.meaning.specs.Selectors.{occurrence}

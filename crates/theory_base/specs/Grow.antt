@@ -9,9 +9,9 @@ use lib.Seq.{ext-getD}
 use lib.Dec.{T, eqb, eqb-refl, eqb→eq}
 use lib.IntN.{ℤ, pos}
 use Rattle.meaning.specs.Base.{all, In}
-use Rattle.meaning.specs.Grammar.{Symbol, terminal, nonterminal, Occurrence, Rule, Production, Grammar, inh, syn, addedFor, markedFor, symbolAt, conditionPosition, Condition}
+use Rattle.meaning.specs.Grammar.{Symbol, terminal, nonterminal, Occurrence, Rule, Production, Grammar, inh, syn, addedFor, markedFor, symbolAt, conditionPosition, Condition, mapFunction, mapCondition, conditionsAt}
 use Rattle.meaning.specs.Value.{apply, holds, inRange, mark}
-use Rattle.meaning.specs.Scheme.{mapFunction, mapCondition, conditionsAt, inheritedRules, synthesizedRules, testsAfter, selectInherited, selectAfter, synBetween}
+use Rattle.meaning.specs.Scheme.{inheritedRules, synthesizedRules, testsAfter, selectInherited, selectAfter, synBetween}
 use Rattle.meaning.specs.Machine.{readRegister, writeAll}
 use Rattle.meaning.specs.Tree.{Tree}
 use Rattle.meaning.specs.Rules.{OutputAt}

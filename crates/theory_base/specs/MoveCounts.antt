@@ -3,8 +3,7 @@ use Prim.Native.Nat.{ℕ, suc, _+_}
 use mathlib.Core.Bool.{Bool, true, false, not}
 use lib.Dec.{ltb}
 use Rattle.meaning.specs.Base.{isEmpty}
-use Rattle.meaning.specs.Grammar.{Grammar, nonterminal, productionAt, symbolAt, inh, syn, addedFor}
-use Rattle.meaning.specs.Scheme.{conditionsAt}
+use Rattle.meaning.specs.Grammar.{Grammar, nonterminal, productionAt, symbolAt, inh, syn, addedFor, conditionsAt}
 use Rattle.meaning.specs.Tree.{Tree, Forest, leaf, node, noTrees, treeAnd, width, isOpened, isLeft}
 
 -- so many that all is opened

@@ -8,8 +8,8 @@ use mathlib.Core.List.{List, [], _∷_, map}
 use lib.ListN.{length}
 use lib.Dec.{ltb, eqb, eqb-refl, eqb→eq, lt→ltb}
 use Rattle.meaning.specs.Base.{isEmpty, In}
-use Rattle.meaning.specs.Grammar.{nonterminal, Rule, Occurrence, Production, Grammar, inh, syn, symbolAt}
-use Rattle.meaning.specs.Scheme.{mapRule, mapCondition, rulesFor, conditionsAt, inheritedRules, synthesizedRules, testsAfter, selectInherited, selectAfter}
+use Rattle.meaning.specs.Grammar.{nonterminal, Rule, Occurrence, Production, Grammar, inh, syn, symbolAt, mapRule, mapCondition, conditionsAt}
+use Rattle.meaning.specs.Scheme.{rulesFor, inheritedRules, synthesizedRules, testsAfter, selectInherited, selectAfter}
 use Rattle.meaning.specs.Rules.{OutputAt}
 use Rattle.meaning.specs.Selectors.{occurrence}
 use Rattle.theory_base.specs.Members.{keep-in, in-keep, T→true}

@@ -3,7 +3,7 @@ use Prim.Native.Nat.{ℕ, zero, suc, _+_, _≤_, _<_}
 use native.Mathlib.Omega.{arith}
 use mathlib.Core.Path.{_≡_, refl, sym, ap, subst, ap₂}
 use mathlib.Core.Logic.{inl}
-use mathlib.Core.Bool.{Bool, true, false, not, _&&_}
+use mathlib.Core.Bool.{Bool, true, false, not, _&&_, cond}
 use mathlib.Core.List.{List, [], _∷_, _++_}
 use lib.ListN.{length, drop}
 use lib.Dec.{T, ltb, leb, eqb, eqb→eq, nltb→le, nleb→lt}
@@ -12,7 +12,7 @@ use Rattle.meaning.specs.Base.{In, all, isEmpty, keep, countFrom}
 use Rattle.meaning.specs.Grammar.{Grammar, Leaf, terminal, nonterminal, productionAt, Look}
 use Rattle.meaning.specs.Value.{apply, holds, inRange}
 use Rattle.meaning.specs.Scheme.{Instruction, add, evaluate, expect, test, remove}
-use Rattle.meaning.specs.Machine.{Frame, Config, Lent, Coming, comes, ends, asLook, Outcome, moved, blocked, chooseOutcome, next, nextOf, move, readRegister, writeAll, movesLimit, onward, parentOnward, accept, predict, push}
+use Rattle.meaning.specs.Machine.{Frame, Config, Lent, Coming, comes, ends, asLook, Outcome, moved, blocked, next, nextOf, move, readRegister, writeAll, movesLimit, onward, parentOnward, accept, predict, push}
 use Rattle.meaning.specs.Machine.{alternatives, entered, isOf, unexpected, schemeAt, Settled, stopped, failed, waits, isDone, advance}
 use Rattle.meaning.specs.Sets.{lookNumber, starts, has}
 use Rattle.meaning.specs.Part.{marks, frame, config}
@@ -21,11 +21,11 @@ use Rattle.theory_base.specs.Members.{both, in-keep, from-in}
 pub not-moved : {k : ℕ} {d : Config} {A : Type 0} → blocked k ≡ moved d → A
 not-moved e = absurd (let z : _≡_ {A = ℕ} 0 1 = cc in omega arith)
 
-pub unless : (b : Bool) (k : ℕ) (o : Outcome) (d : Config) → chooseOutcome b (blocked k) o ≡ moved d → T (not b) × (o ≡ moved d)
+pub unless : (b : Bool) (k : ℕ) (o : Outcome) (d : Config) → cond b (blocked k) o ≡ moved d → T (not b) × (o ≡ moved d)
 unless true k o d e = not-moved e
 unless false k o d e = (tt, e)
 
-pub provided : (b : Bool) (k : ℕ) (o : Outcome) (d : Config) → chooseOutcome b o (blocked k) ≡ moved d → T b × (o ≡ moved d)
+pub provided : (b : Bool) (k : ℕ) (o : Outcome) (d : Config) → cond b o (blocked k) ≡ moved d → T b × (o ≡ moved d)
 provided true k o d e = (tt, e)
 provided false k o d e = not-moved e
 
@@ -33,7 +33,7 @@ pub moved-is : (c d : Config) → moved c ≡ moved d → c ≡ d
 moved-is c d e = cc
 
 -- 35 did not refuse it
-pub below-limit : (moves : ℕ) (o : Outcome) (d : Config) → chooseOutcome (leb movesLimit moves) (blocked 35) o ≡ moved d → (moves < movesLimit) × (o ≡ moved d)
+pub below-limit : (moves : ℕ) (o : Outcome) (d : Config) → cond (leb movesLimit moves) (blocked 35) o ≡ moved d → (moves < movesLimit) × (o ≡ moved d)
 below-limit moves o d h = let u = unless (leb movesLimit moves) 35 o d h in (nleb→lt movesLimit moves (u .0), u .1)
 
 -- ---- the instruction of a move
@@ -79,7 +79,7 @@ must-accept lent c f fs t ends d h = not-moved h
 must-accept lent c f fs t (comes u) d h =
     let e : Config = config (onward f ∷ fs) (u .values ++ c .registers) (suc (c .tokens)) (suc (c .moves)) in
     let full : Bool = ltb (lent .maxRegisters) (length (c .registers) + length (u .values)) in
-    let v = provided (eqb t (u .kind)) 21 (chooseOutcome full (blocked 31) (moved e)) d h in
+    let v = provided (eqb t (u .kind)) 21 (cond full (blocked 31) (moved e)) d h in
     let w = unless full 31 (moved e) d (v .1) in
     record { leaf = u; ahead = refl; kind = sym (eqb→eq t (u .kind) (v .0)); fits = nltb→le (lent .maxRegisters) (length (c .registers) + length (u .values)) (w .0); result = moved-is e d (w .1) }
 

@@ -8,16 +8,15 @@ use lib.ListN.{length, drop, length-append, length-drop}
 use lib.Seq.{drop-cons}
 use lib.Dec.{ltb, ltb→lt, lt→ltb}
 use Rattle.meaning.specs.Base.{consIf, isEmpty}
-use Rattle.meaning.specs.Grammar.{Symbol, terminal, Grammar, inh, addedFor, productionAt, symbolAt}
+use Rattle.meaning.specs.Grammar.{Symbol, terminal, Grammar, inh, addedFor, productionAt, symbolAt, conditionsAt}
 use Rattle.meaning.specs.Rules.{WellFormedProduction, WellFormed}
-use Rattle.meaning.specs.Scheme.{Instruction, add, evaluate, expect, test, remove, conditionsAt, inheritedRules, synthesizedRules, testsAfter, removed, symbolScheme, symbolsScheme, scheme}
+use Rattle.meaning.specs.Scheme.{Instruction, add, evaluate, expect, test, remove, inheritedRules, synthesizedRules, testsAfter, removed, symbolScheme, symbolsScheme, scheme, schemeEnd}
 use Rattle.meaning.specs.Machine.{isExpect}
 use Rattle.meaning.specs.Tree.{Tree, Forest, leaf, node, noTrees, treeAnd, yield, yields, width, WellEvaluated, WellEvaluateds, isOpened, isLeft, areLeft}
 use Rattle.theory_base.specs.MoveCounts.{oneIf, countIf, movesOf, movesIn}
 use Rattle.meaning.specs.Walk.{Act, predicts, reads, performs, beforeExpect, afterExpect, walk, walkOn, walkTo}
 use Rattle.theory_base.specs.WellFormed.{well-formed-at, evaluable}
 use Rattle.theory_base.specs.Present.{inherited-present, synthesized-present, tests-present}
-use Rattle.meaning.specs.Part.{tailIf}
 
 -- how many of the moves are made on r more tokens
 abbrev made : ℕ → List Act → ℕ
@@ -87,7 +86,7 @@ when false b n z = refl
 
 module _ (g : Grammar) (j : ℕ) where
   -- behind the last child: an evaluate where the left side has synthesized attributes, and the remove
-  made-closing : (b p : ℕ) (ws : List Act) → WellFormedProduction g (productionAt g p) → made (j - b) (walkOn g p (tailIf false g (productionAt g p)) noTrees ++ ws) ≡ movesIn g j b p 1 noTrees + made (j - (b + 0)) ws
+  made-closing : (b p : ℕ) (ws : List Act) → WellFormedProduction g (productionAt g p) → made (j - b) (walkOn g p (schemeEnd g (productionAt g p)) noTrees ++ ws) ≡ movesIn g j b p 1 noTrees + made (j - (b + 0)) ws
   made-closing b p ws q =
       let r = productionAt g p in
       let z : b + 0 ≡ b = omega arith in
@@ -124,7 +123,7 @@ module _ (g : Grammar) (w : WellFormed g) (j : ℕ) where
         ∙ when (isOpened j b) (areLeft j b f) (movesIn g j b p 1 f) (made (j - (b + length (yields f))) ws))
 
     made-in : (b p k : ℕ) (f : Forest) (xs : List Symbol) (ws : List Act) → WellFormedProduction g (productionAt g p) → drop k (productionAt g p .right) ≡ xs → WellEvaluateds g f xs
-        → made (j - b) (walkOn g p (symbolsScheme g (productionAt g p) (suc k) xs (tailIf false g (productionAt g p))) f ++ ws) ≡ movesIn g j b p (suc k) f + countIf (areLeft j b f) (made (j - (b + length (yields f))) ws)
+        → made (j - b) (walkOn g p (symbolsScheme g (productionAt g p) (suc k) xs (schemeEnd g (productionAt g p))) f ++ ws) ≡ movesIn g j b p (suc k) f + countIf (areLeft j b f) (made (j - (b + length (yields f))) ws)
     made-in b p k noTrees [] ws q d e = made-closing g j b p ws q
     made-in b p k noTrees (x ∷ xs) ws q d e = absurd e
     made-in b p k (treeAnd t f) [] ws q d e = absurd e
@@ -136,7 +135,7 @@ module _ (g : Grammar) (w : WellFormed g) (j : ℕ) where
         let later : drop (suc k) (r .right) ≡ xs = cc in
         let n : b + length (yield t ++ yields f) ≡ b + width t + length (yields f) = omega (arith, length-append (yield t) (yields f)) in
         let z = made (j - (b + length (yields (treeAnd t f)))) ws in
-        let is = symbolsScheme g r (suc (suc k)) xs (tailIf false g r) in
+        let is = symbolsScheme g r (suc (suc k)) xs (schemeEnd g r) in
         let others = subst (λ m. made (j - (b + width t)) (walkOn g p is f ++ ws) ≡ movesIn g j (b + width t) p (suc (suc k)) f + countIf (areLeft j (b + width t) f) (made (j - m) ws)) (sym n) (made-in (b + width t) p (suc k) f xs ws q later (e .1)) in
         subst (λ y. made (j - b) (walkOn g p (symbolScheme g r (suc k) y is) (treeAnd t f) ++ ws) ≡ movesIn g j b p (suc k) (treeAnd t f) + countIf (areLeft j b (treeAnd t f)) z) here
         (made-child g j b p k t f is ws z q l (λ vs. made-tree b x t vs (e .0)) others)

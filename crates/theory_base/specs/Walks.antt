@@ -6,8 +6,7 @@ use mathlib.Core.Bool.{Bool, true, false, not}
 use lib.ListN.{length, length-append}
 use lib.Dec.{ltb, lt→ltb, ltb→lt}
 use Rattle.meaning.specs.Base.{isEmpty}
-use Rattle.meaning.specs.Grammar.{nonterminal, Grammar, inh, syn, addedFor, productionAt, symbolAt}
-use Rattle.meaning.specs.Scheme.{conditionsAt}
+use Rattle.meaning.specs.Grammar.{nonterminal, Grammar, inh, syn, addedFor, productionAt, symbolAt, conditionsAt}
 use Rattle.meaning.specs.Tree.{Tree, Forest, leaf, node, noTrees, treeAnd, yield, yields, width, isOpened, isLeft, areLeft}
 use Rattle.theory_base.specs.MoveCounts.{oneIf, countIf, movesOf, movesIn}
 use Rattle.meaning.specs.Drawn.{registersFor, registersIn}

@@ -18,8 +18,8 @@ use Rattle.theory_base.specs.Feeds.{leaves-append, leaves-length}
 use Rattle.theory_table.specs.AcceptedTable.{accepted-well-formed}
 use Rattle.theory_answers.specs.TurnedBack.{by-gate}
 use Rattle.theory_sound.specs.Histories.{Run, runs}
-use Rattle.theory_sound.specs.Answers.{finish-sound, not-value}
-use Rattle.theory_complete.specs.Halves.{only, pictured, valued}
+use Rattle.theory_sound.specs.ValueSound.{finish-sound, not-value}
+use Rattle.theory_complete.specs.CompleteUnique.{only, pictured, valued}
 use Rattle.theory_demands.specs.ByGrammar.{performs-is, by-grammar}
 
 pub only-tree : OnlyTree

@@ -10,7 +10,7 @@ use lib.Seq.{take-at, take-length}
 use lib.Dec.{T}
 use Rattle.meaning.specs.Base.{all}
 use Rattle.theory_base.specs.Feeds.{leaves-append, leaves-length}
-use Rattle.theory_complete.specs.Segment.{leaves-known}
+use Rattle.theory_complete.specs.SegmentComplete.{leaves-known}
 use Rattle.meaning.specs.Grammar.{Grammar, Leaf, leaves, nonterminal}
 use Rattle.meaning.specs.Judgement.{Accepted}
 use Rattle.meaning.specs.Machine.{Config, Lent, opening}
@@ -23,7 +23,7 @@ use Rattle.theory_base.specs.Members.{no-elements}
 use Rattle.theory_table.specs.AcceptedTable.{accepted-well-formed}
 use Rattle.theory_answers.specs.Memory.{record-open}
 use Rattle.theory_sound.specs.Histories.{Run, runs}
-use Rattle.theory_moves.specs.Always.{accepted-made}
+use Rattle.theory_moves.specs.SelectorsAlways.{accepted-made}
 use Rattle.theory_demands.specs.ByGrammar.{by-grammar}
 use Rattle.theory_demands.specs.Pictures.{picture-always}
 use Rattle.theory_demands.specs.Reaching.{counted}

@@ -22,7 +22,7 @@ use Rattle.meaning.specs.CompareStatements.{valueIn, Satisfiable, Edge, highest
 use Rattle.theory_differences.specs.Graph.{Node, Known, AllKnown, no-negative-cycle}
 use Rattle.theory_differences.specs.Closing.{put-same, put-column, put-row, Every}
 use Rattle.theory_differences.specs.Solving.{NoneNegative}
-use Rattle.theory_differences.specs.Decided.{Stands, found, cycle, either, listed, length-listed, getD-listed, Diagonal, clear, negative, diagonal}
+use Rattle.theory_differences.specs.Decided.{EntriesAreWalks, found, cycle, either, listed, length-listed, getD-listed, Diagonal, clear, negative, diagonal}
 
 -- ---- one entry lowered
 
@@ -79,14 +79,14 @@ known-more : (c : Condition ℕ) (cs : List (Condition ℕ)) → Known c → ((d
 known-more c cs p f d (inl e) = rw e p
 known-more c cs p f d (inr m) = f d m
 
-stands-more : (l m : List ℤ) (n : ℕ) (cs : List (Condition ℕ)) (c : Condition ℕ) → Stands l n cs → Known c → length m ≡ 81 → Every (Walk n (c ∷ cs)) m → ((i j : ℕ) → j < 9 → at m i j ≤ℤ at l i j) → ((i j : ℕ) (w : ℤ) → Adds c i j w → at m i j ≤ℤ w) → Stands m n (c ∷ cs)
+stands-more : (l m : List ℤ) (n : ℕ) (cs : List (Condition ℕ)) (c : Condition ℕ) → EntriesAreWalks l n cs → Known c → length m ≡ 81 → Every (Walk n (c ∷ cs)) m → ((i j : ℕ) → j < 9 → at m i j ≤ℤ at l i j) → ((i j : ℕ) (w : ℤ) → Adds c i j w → at m i j ≤ℤ w) → EntriesAreWalks m n (c ∷ cs)
 stands-more l m n cs c s p e f g h = record { fits = s .fits; size = e; known = known-more c cs p (s .known); walks = f; covers = λ i j w x q r. go i j w q r (edge-split c x) }
   where
     go : (i j : ℕ) (w : ℤ) → i < 9 → j < 9 → Edge n cs i j w ⊎ Adds c i j w → at m i j ≤ℤ w
     go i j w q r (inl x) = ≤-trans (g i j r) (s .covers i j w x q r)
     go i j w q r (inr x) = h i j w x
 
-pub stands-atmost : (l : List ℤ) (n : ℕ) (cs : List (Condition ℕ)) (a b : ℕ) (c : Option ℤ) → Node a → Node b → Stands l n cs → Stands (lowered l a b (added c)) n (atmost a b c ∷ cs)
+pub stands-atmost : (l : List ℤ) (n : ℕ) (cs : List (Condition ℕ)) (a b : ℕ) (c : Option ℤ) → Node a → Node b → EntriesAreWalks l n cs → EntriesAreWalks (lowered l a b (added c)) n (atmost a b c ∷ cs)
 stands-atmost l n cs a b c p q s = stands-more l (lowered l a b (added c)) n cs (atmost a b c) s (p, q) (lowered-size l a b (added c) e) walks lower adds
   where
     e : length l ≡ 81
@@ -107,7 +107,7 @@ stands-atmost l n cs a b c p q s = stands-more l (lowered l a b (added c)) n cs 
     adds : (i j : ℕ) (w : ℤ) → Adds (atmost a b c) i j w → at (lowered l a b (added c)) i j ≤ℤ w
     adds i j w x = rw (x .0, x .1, x .2) (lowered-here l a b (added c) e aInside bInside)
 
-pub stands-range : (l : List ℤ) (n : ℕ) (cs : List (Condition ℕ)) (a : ℕ) (x y : ℤ) → Node a → Stands l n cs → Stands (lowered (lowered l a 0 y) 0 a (negℤ x)) n (range a x y ∷ cs)
+pub stands-range : (l : List ℤ) (n : ℕ) (cs : List (Condition ℕ)) (a : ℕ) (x y : ℤ) → Node a → EntriesAreWalks l n cs → EntriesAreWalks (lowered (lowered l a 0 y) 0 a (negℤ x)) n (range a x y ∷ cs)
 stands-range l n cs a x y p s = stands-more l (lowered m 0 a (negℤ x)) n cs (range a x y) s p (lowered-size m 0 a (negℤ x) f) walks lower adds
   where
     m : List ℤ
@@ -140,7 +140,7 @@ stands-range l n cs a x y p s = stands-more l (lowered m 0 a (negℤ x)) n cs (r
 abbrev pub Fresh : ℕ → List ℤ → Type 0
 Fresh n l = Every (λ i j x. x ≡ bound n i +ℤ bound n j) l
 
-pub stands-fresh : (l : List ℤ) (n : ℕ) → n ≤ 8 → length l ≡ 81 → Fresh n l → Stands l n []
+pub stands-fresh : (l : List ℤ) (n : ℕ) → n ≤ 8 → length l ≡ 81 → Fresh n l → EntriesAreWalks l n []
 unfolding bound
 stands-fresh l n p e f =
     record {
@@ -183,11 +183,11 @@ is-fresh n l e f = ext-getD (pos 0) l (matrixOf n []) (e ∙ sym (fresh-size n))
         let k : t < 81 = omega arith in
         f t k ∙ sym (ap (λ z. getD z t (pos 0)) (map-from (fresh n) 0 81) ∙ (getD-listed (fresh n) 0 81 t k ∙ ap (fresh n) (omega arith)))
 
-stands-constrained : (c : Condition ℕ) (l : List ℤ) (n : ℕ) (cs : List (Condition ℕ)) → Known c → Stands l n cs → Stands (constrained c l) n (c ∷ cs)
+stands-constrained : (c : Condition ℕ) (l : List ℤ) (n : ℕ) (cs : List (Condition ℕ)) → Known c → EntriesAreWalks l n cs → EntriesAreWalks (constrained c l) n (c ∷ cs)
 stands-constrained (range a x y) l n cs p s = stands-range l n cs a x y p s
 stands-constrained (atmost a b c) l n cs p s = stands-atmost l n cs a b c (p .0) (p .1) s
 
-pub stands-matrix : (n : ℕ) (cs : List (Condition ℕ)) → n ≤ 8 → AllKnown cs → Stands (matrixOf n cs) n cs
+pub stands-matrix : (n : ℕ) (cs : List (Condition ℕ)) → n ≤ 8 → AllKnown cs → EntriesAreWalks (matrixOf n cs) n cs
 stands-matrix n [] p f = stands-fresh (matrixOf n []) n p (fresh-size n) (fresh-list n)
 stands-matrix n (c ∷ cs) p f = stands-constrained c (matrixOf n cs) n cs (f c (inl refl)) (stands-matrix n cs p (λ d m. f d (inr m)))
 

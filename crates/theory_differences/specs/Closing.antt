@@ -54,23 +54,23 @@ row l k i (suc j) e p q r = next (row l k i j e p q (omega arith))
 
 -- ---- the rows
 
-pub record Rows (l : List ℤ) (k i : ℕ) (m : List ℤ) : Type 0 where
+pub record RowsDone (l : List ℤ) (k i : ℕ) (m : List ℤ) : Type 0 where
   pub size : length m ≡ 81
   pub done : (a b : ℕ) → a < i → b < k → at m a b ≡ shorter l k a b
   pub later : (a b : ℕ) → i ≤ a → b < 9 → at m a b ≡ at l a b
   pub right : (a b : ℕ) → k ≤ b → b < 9 → at m a b ≡ at l a b
 
-pub rows : (l : List ℤ) (k i : ℕ) → length l ≡ 81 → k < 9 → i ≤ k → Rows l k i (relaxed l k i)
+pub rows : (l : List ℤ) (k i : ℕ) → length l ≡ 81 → k < 9 → i ≤ k → RowsDone l k i (relaxed l k i)
 rows l k zero e p q = record { size = e; done = λ a b h g. absurd (omega arith); later = λ a b h g. refl; right = λ a b h g. refl }
 rows l k (suc i) e p q = next (rows l k i e p (omega arith))
   where
     m : List ℤ
     m = relaxed l k i
 
-    next : Rows l k i m → Rows l k (suc i) (rowRelaxed m k i k)
+    next : RowsDone l k i m → RowsDone l k (suc i) (rowRelaxed m k i k)
     next o = from (row m k i k (o .size) p (omega arith) (omega arith))
       where
-        from : Row m k i k (rowRelaxed m k i k) → Rows l k (suc i) (rowRelaxed m k i k)
+        from : Row m k i k (rowRelaxed m k i k) → RowsDone l k (suc i) (rowRelaxed m k i k)
         from w =
             record {
               size = w .size;
@@ -104,7 +104,7 @@ Small b l = Every (λ i j x. natAbs x ≤ b) l
 by-entry : (P : ℤ → Type 0) (l : List ℤ) (k i : ℕ) → length l ≡ 81 → k < 9 → i ≤ k → (a b : ℕ) → a < 9 → b < 9 → P (at l a b) → P (at l a k +ℤ at l k b) → P (at (relaxed l k i) a b)
 by-entry P l k i e p q a b r s x y = go (rows l k i e p q) (decLt a i) (decLt b k)
   where
-    go : Rows l k i (relaxed l k i) → Dec (a < i) → Dec (b < k) → P (at (relaxed l k i) a b)
+    go : RowsDone l k i (relaxed l k i) → Dec (a < i) → Dec (b < k) → P (at (relaxed l k i) a b)
     go o (yes h) (yes g) = rw (o .done a b h g) (lesser-keeps P (at l a b) (at l a k +ℤ at l k b) x y)
     go o (no h) g = rw (o .later a b (omega arith) s) x
     go o (yes h) (no g) = rw (o .right a b (omega arith) s) x
@@ -118,7 +118,7 @@ relaxed-small c l k i e p q f a b r s = by-entry (λ x. natAbs x ≤ c + c) l k 
 pub relaxed-lower : (l : List ℤ) (k i : ℕ) → length l ≡ 81 → k < 9 → i ≤ k → (a b : ℕ) → b < 9 → at (relaxed l k i) a b ≤ℤ at l a b
 relaxed-lower l k i e p q a b s = go (rows l k i e p q) (decLt a i) (decLt b k)
   where
-    go : Rows l k i (relaxed l k i) → Dec (a < i) → Dec (b < k) → at (relaxed l k i) a b ≤ℤ at l a b
+    go : RowsDone l k i (relaxed l k i) → Dec (a < i) → Dec (b < k) → at (relaxed l k i) a b ≤ℤ at l a b
     go o (yes h) (yes g) = ≤-trans (≤-is (o .done a b h g)) (lesser-first (at l a b) (at l a k +ℤ at l k b))
     go o (no h) g = ≤-is (o .later a b (omega arith) s)
     go o (yes h) (no g) = ≤-is (o .right a b (omega arith) s)
@@ -158,7 +158,7 @@ closing-eliminated l (suc k) e p c i j r s t = go (ℕ-discrete c (suc k)) (clos
     m : List ℤ
     m = eliminated l (suc k)
 
-    o : Rows l (suc k) (suc k) m
+    o : RowsDone l (suc k) (suc k) m
     o = rows l (suc k) (suc k) e p (omega arith)
 
     last : i < suc k → j < suc k → at (closing m k) i j ≤ℤ (at (closing m k) i (suc k) +ℤ at (closing m k) (suc k) j)

@@ -22,7 +22,7 @@ use Rattle.theory_differences.specs.Solving.{NoneNegative, solution, sol
 use Rattle.theory_differences.specs.Closing.{closing-every, closing-lower, closing-eliminated, Every, Small}
 
 -- each entry is the length of a walk, and no edge is shorter than its entry
-pub record Stands (l : List ℤ) (n : ℕ) (cs : List (Condition ℕ)) : Type 0 where
+pub record EntriesAreWalks (l : List ℤ) (n : ℕ) (cs : List (Condition ℕ)) : Type 0 where
   pub fits : n ≤ 8
   pub size : length l ≡ 81
   pub known : AllKnown cs
@@ -31,7 +31,7 @@ pub record Stands (l : List ℤ) (n : ℕ) (cs : List (Condition ℕ)) : Type 0 
 
 -- ---- a negative entry on the diagonal is a cycle
 
-pub cycle : (l : List ℤ) (n : ℕ) (cs : List (Condition ℕ)) → Stands l n cs → (k : ℕ) → k < 9 → at (closed l) k k <ℤ pos 0 → NegativeCycle n cs
+pub cycle : (l : List ℤ) (n : ℕ) (cs : List (Condition ℕ)) → EntriesAreWalks l n cs → (k : ℕ) → k < 9 → at (closed l) k k <ℤ pos 0 → NegativeCycle n cs
 unfolding closed
 cycle l n cs s k p h = record { node = k; sum = at (closing l 8) k k; walk = closing-every (Walk n cs) (λ i k j x y. join) l 8 (s .size) (omega arith) (s .walks) k k p p; negative = h }
 
@@ -102,7 +102,7 @@ module _ (n : ℕ) (cs : List (Condition ℕ)) (v : ℕ → ℤ) (z : v 0 ≡ po
     each = in-all (holds (valueIn (listed v 1 n))) cs (λ c m. met c m (g c m));
   }
 
-pub found : (l : List ℤ) (n : ℕ) (cs : List (Condition ℕ)) → Stands l n cs → NoneNegative (at (closed l)) 9 → Meets n cs (listed (solution (at (closed l)) 8) 1 n)
+pub found : (l : List ℤ) (n : ℕ) (cs : List (Condition ℕ)) → EntriesAreWalks l n cs → NoneNegative (at (closed l)) 9 → Meets n cs (listed (solution (at (closed l)) 8) 1 n)
 unfolding closed
 found l n cs s h = satisfied n cs (solution M 8) (solution-zero M 8) keeps (s .fits) (s .known)
   where
@@ -133,7 +133,7 @@ diagonal M (suc n) = go (diagonal M n) (decided (pos 0) (M n n))
     go (clear f) (inr h) = negative n (omega arith) h
     go (clear f) (inl h) = clear (λ k p. last f h k p (ℕ-discrete k n))
 
-pub either : (l : List ℤ) (n : ℕ) (cs : List (Condition ℕ)) → Stands l n cs → Satisfiable n cs ⊎ NegativeCycle n cs
+pub either : (l : List ℤ) (n : ℕ) (cs : List (Condition ℕ)) → EntriesAreWalks l n cs → Satisfiable n cs ⊎ NegativeCycle n cs
 either l n cs s = go (diagonal (at (closed l)) 9)
   where
     go : Diagonal (at (closed l)) 9 → Satisfiable n cs ⊎ NegativeCycle n cs
@@ -147,7 +147,7 @@ abbrev pub limit : ℕ
 limit = 2000000000000
 
 pub record Matrix (l : List ℤ) (n : ℕ) (cs : List (Condition ℕ)) : Type 0 where
-  pub stands : Stands l n cs
+  pub stands : EntriesAreWalks l n cs
   pub small : Small limit l
 
 -- values that meet the conditions, or a cycle with a negative sum

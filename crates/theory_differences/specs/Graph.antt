@@ -2,7 +2,7 @@
 use Prim.Native.Nat.{ℕ, zero, suc, _≤_, _<_}
 use native.Mathlib.Omega.{arith}
 use mathlib.Core.Path.{_≡_, refl, sym, ap, _∙_}
-use mathlib.Core.Bool.{Bool, true, false, _&&_, not}
+use mathlib.Core.Bool.{Bool, true, false, _&&_, not, cond}
 use mathlib.Core.Option.{Option}
 use mathlib.Core.List.{List, [], _∷_}
 use borrow.Author.Tests.{lt-ltb, le-ltb}
@@ -12,7 +12,7 @@ use lib.ListN.{getD, length, List·getD-eq-default}
 use lib.Signed.{leZ, _≤ℤ_, ≤ℤ-refl, clashℤ}
 use Rattle.meaning.specs.Base.{all, In}
 use Rattle.meaning.specs.Grammar.{Condition, range, atmost}
-use Rattle.meaning.specs.Value.{inRange, lowest, highest, pick, added, holds}
+use Rattle.meaning.specs.Value.{inRange, lowest, highest, added, holds}
 use Rattle.meaning.specs.Differences.{bound}
 use Rattle.meaning.specs.CompareStatements.{valueIn, Satisfiable, Edge, highestEdge, lowestEdge, highEdge, lowEdge, atmostEdge, Walk, step, join, NegativeCycle}
 use Rattle.theory_base.specs.Members.{both, all-in}
@@ -76,7 +76,7 @@ module _ (n : ℕ) (cs : List (Condition ℕ)) (known : AllKnown cs) (s : Satisf
   below-bound zero = ≤ℤ-refl (pos 0)
   below-bound (suc a) = go (ltb a n) (λ t. there a (ltb→lt a n t)) (λ t. absent a (nltb→le a n t))
     where
-      go : (b : Bool) → (T b → T (inRange (value (suc a)))) → (T (not b) → value (suc a) ≡ pos 0) → value (suc a) ≤ℤ pick b highest (pos 0)
+      go : (b : Bool) → (T b → T (inRange (value (suc a)))) → (T (not b) → value (suc a) ≡ pos 0) → value (suc a) ≤ℤ cond b highest (pos 0)
       go true f g = record { le = both (leZ lowest (value (suc a))) (leZ (value (suc a)) highest) (f tt) .1 }
       go false f g = ≤-is (g tt)
 
@@ -85,7 +85,7 @@ module _ (n : ℕ) (cs : List (Condition ℕ)) (known : AllKnown cs) (s : Satisf
   above-bound zero = ≤ℤ-refl (pos 0)
   above-bound (suc a) = go (ltb a n) (λ t. there a (ltb→lt a n t)) (λ t. absent a (nltb→le a n t))
     where
-      go : (b : Bool) → (T b → T (inRange (value (suc a)))) → (T (not b) → value (suc a) ≡ pos 0) → pos 0 ≤ℤ (value (suc a) +ℤ pick b highest (pos 0))
+      go : (b : Bool) → (T b → T (inRange (value (suc a)))) → (T (not b) → value (suc a) ≡ pos 0) → pos 0 ≤ℤ (value (suc a) +ℤ cond b highest (pos 0))
       go true f g = from-below lowest (value (suc a)) (record { le = both (leZ lowest (value (suc a))) (leZ (value (suc a)) highest) (f tt) .0 })
       go false f g = ≤-is (sym (g tt) ∙ sym (+ℤ-idr (value (suc a))))
 

@@ -7,7 +7,6 @@ use mathlib.Core.Bool.{Bool, true, false, not, cond}
 use lib.Dec.{T, ltb, leb→le, le→leb, ltb→lt}
 use lib.IntN.{ℤ, pos, negsuc, negℤ, natAbs, sucℤ, predℤ, _+ℤ_, +ℤ-sucℤ, +ℤ-predℤ, +ℤ-idl, +ℤ-idr, +ℤ-assoc, +ℤ-comm, +ℤ-invl, +ℤ-invr}
 use lib.Signed.{leZ, ltZ, _≤ℤ_, _<ℤ_, ltZ-yes, ltZ-no, ≤ℤ-refl}
-use Rattle.meaning.specs.Value.{pick}
 use Rattle.meaning.specs.Differences.{lesser}
 
 pub ≤-is : {a b : ℤ} → a ≡ b → a ≤ℤ b
@@ -72,9 +71,6 @@ plus-right {a} {b} c t = record { le = mono′ a b c (t .le) }
 pub plus-left : {a b : ℤ} (c : ℤ) → a ≤ℤ b → (c +ℤ a) ≤ℤ (c +ℤ b)
 plus-left {a} {b} c t = rw (+ℤ-comm c a, +ℤ-comm c b) (plus-right c t)
 
-pub plus-both : {a b c d : ℤ} → a ≤ℤ b → c ≤ℤ d → (a +ℤ c) ≤ℤ (b +ℤ d)
-plus-both {b = b} {c = c} s t = ≤-trans (plus-right c s) (plus-left b t)
-
 -- two differences follow each other
 pub through : (a b d x y : ℤ) → a ≤ℤ (b +ℤ x) → b ≤ℤ (d +ℤ y) → a ≤ℤ (d +ℤ (x +ℤ y))
 through a b d x y s t =
@@ -105,7 +101,7 @@ pub lesser-first : (a b : ℤ) → lesser a b ≤ℤ a
 unfolding lesser
 lesser-first a b = go (ltZ b a) (λ t. t)
   where
-    go : (c : Bool) → (T c → T (ltZ b a)) → pick c b a ≤ℤ a
+    go : (c : Bool) → (T c → T (ltZ b a)) → cond c b a ≤ℤ a
     go true k = record { le = less′ b a (k tt) }
     go false k = ≤ℤ-refl a
 
@@ -113,7 +109,7 @@ pub lesser-second : (a b : ℤ) → lesser a b ≤ℤ b
 unfolding lesser
 lesser-second a b = go (ltZ b a) (λ t. t)
   where
-    go : (c : Bool) → (T (not c) → T (not (ltZ b a))) → pick c b a ≤ℤ b
+    go : (c : Bool) → (T (not c) → T (not (ltZ b a))) → cond c b a ≤ℤ b
     go true k = ≤ℤ-refl b
     go false k = ltZ-no (k tt)
 
@@ -121,7 +117,7 @@ pub lesser-keeps : (P : ℤ → Type 0) (a b : ℤ) → P a → P b → P (lesse
 unfolding lesser
 lesser-keeps P a b p q = go (ltZ b a)
   where
-    go : (c : Bool) → P (pick c b a)
+    go : (c : Bool) → P (cond c b a)
     go true = q
     go false = p
 

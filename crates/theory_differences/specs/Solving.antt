@@ -3,11 +3,11 @@ use Prim.Native.Nat.{ℕ, zero, suc, _≤_, _<_}
 use native.Mathlib.Omega.{arith}
 use native.Mathlib.Decide.{ℕ-discrete}
 use mathlib.Core.Path.{_≡_, refl, sym, ap, ap₂, _∙_}
+use mathlib.Core.Bool.{cond}
 use borrow.Author.Tests.{eq-eqb, ne-eqb}
 use lib.Dec.{eqb}
 use lib.IntN.{ℤ, pos, _+ℤ_, +ℤ-assoc, +ℤ-comm}
 use lib.Signed.{_≤ℤ_, ≤ℤ-refl}
-use Rattle.meaning.specs.Value.{pick}
 use Rattle.meaning.specs.Differences.{lesser}
 use Rattle.theory_differences.specs.Order.{lesser-first, lesser-second, lesser-keeps, ≤-is, ≤-trans, plus-left, not-negative-cycle}
 use Rattle.theory_differences.specs.Graph.{Keeps}
@@ -58,7 +58,7 @@ least-keeps P f (suc m) h = lesser-keeps P (least f m) (f (suc m)) (least-keeps 
 -- ---- the values
 
 abbrev pub changed : (ℕ → ℤ) → ℕ → ℤ → ℕ → ℤ
-changed v k x i = pick (eqb i k) x (v i)
+changed v k x i = cond (eqb i k) x (v i)
 
 abbrev pub solution : (ℕ → ℕ → ℤ) → ℕ → ℕ → ℤ
 solution M zero = λ i. pos 0

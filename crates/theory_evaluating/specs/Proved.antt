@@ -18,7 +18,7 @@ use Rattle.meaning.specs.Calls.{Stacks, Answer}
 use Rattle.meaning.specs.PublicCalls.{Checked, usable, unusable, check, areaLength, written}
 use Rattle.meaning_ranking.specs.Ranking.{Entry, entry, number, value, valued, Ranks, ranking, cellsOf, worth, totalOf, valuedOf}
 use Rattle.meaning_ranking.specs.RankCall.{evaluated, entryOf, evaluations, ranked, unranked, RankEffect, inOrder, listed, rankEven, rankUnder, rankLong, rankSuited, rankOf}
-use Rattle.meaning_ranking.specs.RankingStatements.{Candidate, candidatesOf, entriesFor, Brought, RankedExactly, RankedInFront, numbered, RankedAlone, RankedAnswers, RankedValues, unnumbered, RankedAnyOrder, RankedUntouched}
+use Rattle.meaning_ranking.specs.RankingStatements.{Candidate, candidatesOf, entriesFor, CandidatesBrought, RankedExactly, RankedInFront, numbered, RankedAlone, RankedAnswers, RankedValues, unnumbered, RankedAnyOrder, RankedUntouched}
 use Rattle.theory_base.specs.Members.{same-true}
 use Rattle.theory_table.specs.AcceptedTable.{accepted-well-formed}
 use Rattle.theory_answers.specs.Called.{checks, long-enough}
@@ -41,7 +41,7 @@ entries-size g i (n ∷ ns) ks vs m = ap suc (entries-size g (suc i) ns (drop n 
 
 -- ---- the list
 
-module _ (program : Grammar → List ℕ) (bs area : List ℕ) (g : Grammar) (lengths ks : List ℕ) (vs list : List ℤ) (m : Stacks) (b : Brought bs area g lengths ks vs list) where
+module _ (program : Grammar → List ℕ) (bs area : List ℕ) (g : Grammar) (lengths ks : List ℕ) (vs list : List ℤ) (m : Stacks) (b : CandidatesBrought bs area g lengths ks vs list) where
   is-listed : rankOf program bs area lengths ks vs list m ≡ listed (evaluations g 0 lengths ks vs m) list (written (program g) area)
   is-listed =
       ap (λ z. rankSuited program z bs area lengths ks vs list m) (b .suits)
@@ -155,7 +155,7 @@ unfolding valuedOf
 valued-unnumbered [] = refl
 valued-unnumbered (entry n v r ∷ es) = ap (λ z. cond (valued (entry n v r)) 1 0 + z) (valued-unnumbered es)
 
-module _ (bs area : List ℕ) (g : Grammar) (lengths ks : List ℕ) (vs list : List ℤ) (m : Stacks) (b : Brought bs area g lengths ks vs list) (rs : List Entry) (r : Ranks (entriesFor g lengths ks vs m) rs) where
+module _ (bs area : List ℕ) (g : Grammar) (lengths ks : List ℕ) (vs list : List ℤ) (m : Stacks) (b : CandidatesBrought bs area g lengths ks vs list) (rs : List Entry) (r : Ranks (entriesFor g lengths ks vs m) rs) where
   -- a list's values and refusals are the candidates'
   as-candidates : Shuffled (map unnumbered rs) (map (entryOf 0) (map (answerOf g (accepted-well-formed bs g (b .accepts)) m) (candidatesOf lengths ks vs)))
   as-candidates =

@@ -28,7 +28,7 @@ use Rattle.theory_base.specs.Feeds.{even-feed}
 use Rattle.theory_table.specs.AcceptedTable.{accepted-well-formed}
 use Rattle.theory_sound.specs.CallSound.{opening-held, feed-is}
 use Rattle.theory_demands.specs.ByGrammar.{opens-is, performs-is}
-use Rattle.theory_demands.specs.Whole.{value-whole}
+use Rattle.theory_demands.specs.ValueWhole.{value-whole}
 use Rattle.theory_evaluating.specs.Whole.{is-open, opened-31, opened-32, evaluated-31, evaluated-32}
 
 -- ---- the value of a candidate

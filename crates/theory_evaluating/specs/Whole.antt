@@ -25,7 +25,7 @@ use Rattle.theory_answers.specs.ShapeMemory.{at-stop, result-ranged}
 use Rattle.theory_answers.specs.ShapeMoves.{ShapedAt}
 use Rattle.theory_answers.specs.Answers.{when-met}
 use Rattle.theory_answers.specs.Runs.{makes-keep, with-nothing, with-end, Fed, FeedBlocks, fed, Finished, finished}
-use Rattle.theory_sound.specs.Follow.{Stopped}
+use Rattle.theory_sound.specs.KeptByCalls.{Stopped}
 use Rattle.theory_sound.specs.CallSound.{Held, held-feed, held-finish, opening-held, feed-is}
 
 -- what a finish after all tokens, or the refusal of one, leaves

@@ -21,7 +21,7 @@ use Rattle.theory_answers.specs.Called.{called-is}
 use Rattle.theory_answers.specs.Answers.{fit-answers}
 use Rattle.theory_answers.specs.Memory.{open-is}
 use Rattle.theory_answers.specs.TurnedBack.{refuses, short-area, bad-table, bad-state, all-cases}
-use Rattle.theory_inner.specs.Engine.{open-record, call-cases}
+use Rattle.theory_inner.specs.OpenRunKept.{open-record, call-cases}
 use Rattle.theory_inner.specs.Cases.{inner-openings}
 use Rattle.theory_inner.specs.Calling.{alone-runs, inner-calls}
 

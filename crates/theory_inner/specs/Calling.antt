@@ -9,7 +9,7 @@ use lib.Dec.{T, ltb, ltb→lt, nltb→le, eqb, eqb-refl, eqb→eq}
 use Rattle.meaning.specs.Grammar.{Grammar}
 use Rattle.meaning.specs.Judgement.{Verdict, accepted, rejected, Accepted}
 use Rattle.meaning.specs.Decide.{verdictOf}
-use Rattle.meaning.specs.Calls.{Status, running, waiting, closed, Kind, outer, inner, isOpen, Record, Stacks, refused}
+use Rattle.meaning.specs.Calls.{Status, running, waiting, closed, Kind, outer, inner, Record, Stacks, refused}
 use Rattle.meaning.specs.PublicCalls.{Checked, usable, unusable, check, callOf, areaLength, written, Effect}
 use Rattle.meaning.specs.Inner.{above, alone, InnerCalled, handedBack, InnerCall, engineCall, onStretch, ends, afterInner, isClosed, isRunning, isWaiting, isOuter, beginsAt, belongs, innerOf, InnerEffect, innerEffect, byTable, innerPerforms}
 use Rattle.meaning.specs.InnerStatements.{Belongs, InnerCase, tooShort, badTable, eitherClosed, apart, byEngine, stretchCall, calledBy, innerCallEffect, whichInner, InnerCalls}
@@ -17,7 +17,7 @@ use Rattle.theory_base.specs.Members.{T→true, both}
 use Rattle.theory_sets.specs.Accepted.{judged-is, verdict→accepted}
 use Rattle.theory_answers.specs.Called.{checks, called-is, long-enough}
 use Rattle.theory_answers.specs.TurnedBack.{is-below, refuses}
-use Rattle.theory_inner.specs.Engine.{open-record}
+use Rattle.theory_inner.specs.OpenRunKept.{open-record}
 use Rattle.theory_inner.specs.Cases.{by-accepted, by-refused}
 
 -- ---- the records
@@ -57,9 +57,6 @@ module _ (o i : Record) where
   -- the inner record, read as a record of its own, is open
   pub alone-runs : Belongs o i → alone i ≡ open-record (i .tokens) (i .moves) (i .registerHeight) (i .placeHeight)
   alone-runs b = λ j. record { status = b .runs j; kind = outer; tokens = i .tokens; moves = i .moves; registerHeight = i .registerHeight; placeHeight = i .placeHeight }
-
-  pub alone-open : Belongs o i → isOpen (alone i) ≡ true
-  alone-open b = ap isOpen (alone-runs b)
 
 not-closed : (s : Status) → (s ≡ closed → ⊥) → isClosed s ≡ false
 not-closed running e = refl

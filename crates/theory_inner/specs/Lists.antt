@@ -11,9 +11,9 @@ use Rattle.meaning.specs.Inner.{above, cleared, alone, beginning, engine}
 use Rattle.meaning.specs.Statements.{opened, fed, finished, History}
 use Rattle.meaning.specs.InnerLists.{Alone, Both, bothOf, openedAlone, performsInside}
 use Rattle.meaning.specs.InnerStatements.{AsAlone, InsideHistory, begins, passes, feeds, finishes, InsideAlone}
-use Rattle.theory_inner.specs.Engine.{open-record}
-use Rattle.theory_inner.specs.Standing.{Standing, stands, ended, closing-engine, step}
-use Rattle.theory_inner.specs.Begun.{open-outer, begun}
+use Rattle.theory_inner.specs.OpenRunKept.{open-record}
+use Rattle.theory_inner.specs.InnerAlone.{BesideAlone, stands, ended, closing-engine, step}
+use Rattle.theory_inner.specs.InnerOpened.{open-outer, begun}
 use Rattle.theory_inner.specs.Proved.{as-alone}
 
 -- the outer record of a list of inner calls was open
@@ -27,18 +27,18 @@ module _ (program : Grammar → List ℕ) (outerTable bs : List ℕ) (t n rh ph 
   pub record Beside (ts : List Token) (isOver : Bool) (b : Both) : Type 0 where
     pub run : Alone
     pub isClear : cleared (above (inner rh ph) m) ≡ above (inner rh ph) m
-    pub standing : Standing t n rh ph m b run
+    pub standing : BesideAlone t n rh ph m b run
     pub history : History program bs m₀ ts isOver (run .state) (run .stacks)
 
-  same-open : {b : Both} {a : Alone} → Standing t n rh ph m b a → isOpen (alone (b .innerState)) ≡ isOpen (a .state)
+  same-open : {b : Both} {a : Alone} → BesideAlone t n rh ph m b a → isOpen (alone (b .innerState)) ≡ isOpen (a .state)
   same-open (stands u v h p part f) = refl
   same-open (ended u v h p part) = refl
 
-  after : (c : Call) (area : List ℕ) (b : Both) (a : Alone) → cleared (above (inner rh ph) m) ≡ above (inner rh ph) m → Standing t n rh ph m b a
-      → Standing t n rh ph m (bothOf (performsInside program b (record { table = bs; area = area; call = engine c }))) (record { state = performs program bs area (a .state) (a .stacks) c .state; stacks = performs program bs area (a .state) (a .stacks) c .stacks })
+  after : (c : Call) (area : List ℕ) (b : Both) (a : Alone) → cleared (above (inner rh ph) m) ≡ above (inner rh ph) m → BesideAlone t n rh ph m b a
+      → BesideAlone t n rh ph m (bothOf (performsInside program b (record { table = bs; area = area; call = engine c }))) (record { state = performs program bs area (a .state) (a .stacks) c .state; stacks = performs program bs area (a .state) (a .stacks) c .stacks })
   after c area b a isClear st =
       let e : Effect = performs program bs area (a .state) (a .stacks) c in
-      subst (λ z. Standing t n rh ph m (bothOf (performsInside program b (record { table = bs; area = area; call = engine c }))) (record { state = z; stacks = e .stacks })) (closing-engine (e .answer) c (e .state)) (step t n rh ph m isClear program bs area (engine c) b a st .1)
+      subst (λ z. BesideAlone t n rh ph m (bothOf (performsInside program b (record { table = bs; area = area; call = engine c }))) (record { state = z; stacks = e .stacks })) (closing-engine (e .answer) c (e .state)) (step t n rh ph m isClear program bs area (engine c) b a st .1)
 
   pub beside : {ts : List Token} {isOver : Bool} {b : Both} → InsideHistory program outerTable bs (open-record t n rh ph) m ts isOver b → Beside ts isOver b
   beside (begins area h) =

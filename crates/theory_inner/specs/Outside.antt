@@ -20,7 +20,7 @@ use Rattle.theory_table.specs.AcceptedTable.{accepted-well-formed}
 use Rattle.theory_answers.specs.Called.{called-is}
 use Rattle.theory_inner.specs.Stretch.{Fills, pasted-size, paste-lent, paste-above, paste-below, past-registers, past-places, above-registers, above-places}
 use Rattle.theory_inner.specs.Slices.{cappedAt, capped, above-capped, below-capped, paste-capped}
-use Rattle.theory_inner.specs.Engine.{SameSize, opening-size, call-leaves}
+use Rattle.theory_inner.specs.OpenRunKept.{SameSize, opening-size, call-leaves}
 use Rattle.theory_inner.specs.Cases.{inner-openings}
 use Rattle.theory_inner.specs.Calling.{alone-runs, inner-calls}
 

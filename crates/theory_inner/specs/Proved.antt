@@ -12,9 +12,9 @@ use Rattle.meaning.specs.Inner.{above, cleared, withKind, alone, beginning, Inn
 use Rattle.meaning.specs.InnerLists.{Alone, Both, bothOf, openedAlone, Step, performsAlone, performsInside, aloneAfter, aloneAnswers, insideAfter, insideAnswers, inside}
 use Rattle.meaning.specs.InnerStatements.{AsAlone, InnerAlone, Kept, OuterKept}
 use Rattle.theory_inner.specs.Stretch.{above-registers, above-places, paste-above, paste-below, past-registers, past-places}
-use Rattle.theory_inner.specs.Engine.{open-record}
-use Rattle.theory_inner.specs.Standing.{Standing, stands, ended, closing, closing-engine, step}
-use Rattle.theory_inner.specs.Begun.{open-outer, begun}
+use Rattle.theory_inner.specs.OpenRunKept.{open-record}
+use Rattle.theory_inner.specs.InnerAlone.{BesideAlone, stands, ended, closing, closing-engine, step}
+use Rattle.theory_inner.specs.InnerOpened.{open-outer, begun}
 
 never : {A : Type 0} → false ≡ true → A
 never e = absurd (subst T (sym e) tt)
@@ -22,19 +22,19 @@ never e = absurd (subst T (sym e) tt)
 module _ (program : Grammar → List ℕ) (t n rh ph : ℕ) (m : Stacks) where
   -- ---- where the two stand beside each other
 
-  same-record : {b : Both} {a : Alone} → Standing t n rh ph m b a → b .innerState ≡ withKind (inner rh ph) (a .state)
+  same-record : {b : Both} {a : Alone} → BesideAlone t n rh ph m b a → b .innerState ≡ withKind (inner rh ph) (a .state)
   same-record (stands u v h p part f) = refl
   same-record (ended u v h p part) = refl
 
-  same-cells : {b : Both} {a : Alone} → Standing t n rh ph m b a → isOpen (a .state) ≡ true → above (inner rh ph) (b .stacks) ≡ a .stacks
+  same-cells : {b : Both} {a : Alone} → BesideAlone t n rh ph m b a → isOpen (a .state) ≡ true → above (inner rh ph) (b .stacks) ≡ a .stacks
   same-cells (stands u v h p part f) z = paste-above (inner rh ph) m part f
   same-cells (ended u v h p part) z = never z
 
-  same-before : {b : Both} {a : Alone} → Standing t n rh ph m b a → isOpen (a .state) ≡ true → (s : Step Call) → performs program (s .table) (s .area) (alone (b .innerState)) (above (b .innerState .kind) (b .stacks)) (s .call) ≡ performsAlone program a s
+  same-before : {b : Both} {a : Alone} → BesideAlone t n rh ph m b a → isOpen (a .state) ≡ true → (s : Step Call) → performs program (s .table) (s .area) (alone (b .innerState)) (above (b .innerState .kind) (b .stacks)) (s .call) ≡ performsAlone program a s
   same-before (stands u v h p part f) z s = ap (λ q. performs program (s .table) (s .area) (open-record u v h p) q (s .call)) (paste-above (inner rh ph) m part f)
   same-before (ended u v h p part) z s = never z
 
-  pub as-alone : cleared (above (inner rh ph) m) ≡ above (inner rh ph) m → (b : Both) (a : Alone) → Standing t n rh ph m b a → AsAlone program (inner rh ph) b a
+  pub as-alone : cleared (above (inner rh ph) m) ≡ above (inner rh ph) m → (b : Both) (a : Alone) → BesideAlone t n rh ph m b a → AsAlone program (inner rh ph) b a
   as-alone isClear b a st = record {
     isRecord = same-record st;
     isStretch = same-cells st;
@@ -43,25 +43,25 @@ module _ (program : Grammar → List ℕ) (t n rh ph : ℕ) (m : Stacks) where
     isBefore = same-before st;
   }
 
-  kept : {b : Both} {a : Alone} → Standing t n rh ph m b a → Kept (open-record t n rh ph) m b
+  kept : {b : Both} {a : Alone} → BesideAlone t n rh ph m b a → Kept (open-record t n rh ph) m b
   kept (stands u v h p part f) = record { isBelow = paste-below (inner rh ph) m part f; pastRegisters = past-registers (inner rh ph) m part f; pastPlaces = past-places (inner rh ph) m part f; waits = λ z. refl; restored = λ z. never z }
   kept (ended u v h p part) = record { isBelow = refl; pastRegisters = refl; pastPlaces = refl; waits = λ z. never (sym z); restored = λ z. (refl, refl) }
 
   -- ---- lists of calls
 
   module _ (isClear : cleared (above (inner rh ph) m) ≡ above (inner rh ph) m) where
-    list-alone : (ss : List (Step Call)) (b : Both) (a : Alone) → Standing t n rh ph m b a
+    list-alone : (ss : List (Step Call)) (b : Both) (a : Alone) → BesideAlone t n rh ph m b a
         → (insideAnswers program b (map inside ss) ≡ aloneAnswers program a ss) × AsAlone program (inner rh ph) (insideAfter program b (map inside ss)) (aloneAfter program a ss)
     list-alone [] b a st = (refl, as-alone isClear b a st)
     list-alone (s ∷ ss) b a st =
         let w = step t n rh ph m isClear program (s .table) (s .area) (engine (s .call)) b a st in
         let e : Effect = performsAlone program a s in
         let now : Both = bothOf (performsInside program b (inside s)) in
-        let st′ : Standing t n rh ph m now (record { state = e .state; stacks = e .stacks }) = subst (λ z. Standing t n rh ph m now (record { state = z; stacks = e .stacks })) (closing-engine (e .answer) (s .call) (e .state)) (w .1) in
+        let st′ : BesideAlone t n rh ph m now (record { state = e .state; stacks = e .stacks }) = subst (λ z. BesideAlone t n rh ph m now (record { state = z; stacks = e .stacks })) (closing-engine (e .answer) (s .call) (e .state)) (w .1) in
         let rest = list-alone ss now (record { state = e .state; stacks = e .stacks }) st′ in
         (ap₂ (λ x xs. x ∷ xs) (w .0) (rest .0), rest .1)
 
-    list-kept : (ss : List (Step InnerCall)) (b : Both) (a : Alone) → Standing t n rh ph m b a → Kept (open-record t n rh ph) m (insideAfter program b ss)
+    list-kept : (ss : List (Step InnerCall)) (b : Both) (a : Alone) → BesideAlone t n rh ph m b a → Kept (open-record t n rh ph) m (insideAfter program b ss)
     list-kept [] b a st = kept st
     list-kept (s ∷ ss) b a st =
         let w = step t n rh ph m isClear program (s .table) (s .area) (s .call) b a st in

@@ -106,10 +106,3 @@ module _ (k : Kind) (m : Stacks) where
 
   pub above-places : length (above k m .places) ≡ lentOf m .maxPlaces - placeBase k
   above-places = length-drop (placeBase k) (take (lentOf m .maxPlaces) (m .places)) ∙ omega (arith, length-take (lentOf m .maxPlaces) (m .places))
-
-  -- all of it counts as lent
-  pub above-lent : lentOf (above k m) ≡ record { maxRegisters = lentOf m .maxRegisters - registerBase k; maxPlaces = lentOf m .maxPlaces - placeBase k }
-  above-lent =
-      let a : min (length (above k m .registers)) 4096 ≡ lentOf m .maxRegisters - registerBase k = omega (arith, above-registers) in
-      let b : min (length (above k m .places)) 1024 ≡ lentOf m .maxPlaces - placeBase k = omega (arith, above-places) in
-      λ i. record { maxRegisters = a i; maxPlaces = b i }

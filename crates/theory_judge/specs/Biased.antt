@@ -4,7 +4,7 @@ use native.Mathlib.Omega.{arith}
 use native.Mathlib.Decide.{decLt}
 use mathlib.Core.Path.{_≡_, sym, ap, _∙_, subst}
 use mathlib.Core.List.{List}
-use mathlib.Core.Bool.{true, false}
+use mathlib.Core.Bool.{true, false, cond}
 use lib.IntN.{ℤ, pos, negsuc, _-ℤ_}
 use lib.Signed.{leZ}
 use borrow.Author.Tests.{lt-ltb, le-ltb}
@@ -13,7 +13,7 @@ use lib.Dec.{T, le→leb}
 use Rattle.meaning.specs.Rules.{fourBytes}
 use Rattle.theory_base.specs.Members.{and}
 use mir.Val.{SFits}
-use Rattle.meaning.specs.Value.{inRange, mark, pick}
+use Rattle.meaning.specs.Value.{inRange, mark}
 use Rattle.value.specs.Ranged.{ranged, ranged-in, in-ranged}
 use Rattle.value.specs.Overflow.{large-out}
 use Rattle.theory_judge.specs.Longs.{longOf, long-low, long-high, bitsAt, longAt}
@@ -49,7 +49,7 @@ module _ (n : ℕ) (small : n < 18446744073709551616) where
 
 -- what is far is no value, so the mark stands for it
 far-ranged : (y : ℤ) → inRange y ≡ false → ranged mark ≡ ranged y
-far-ranged y e = sym (ap (λ b. pick b y mark) e)
+far-ranged y e = sym (ap (λ b. cond b y mark) e)
 
 module _ (z y : ℤ) (same : ranged z ≡ ranged y) where
   pub in-same : inRange z ≡ inRange y
@@ -58,10 +58,10 @@ module _ (z y : ℤ) (same : ranged z ≡ ranged y) where
   pub told-value : inRange z ≡ true → z ≡ told y
   told-value e =
       let i : inRange y ≡ true = sym in-same ∙ e in
-      sym (ranged-in z e) ∙ (same ∙ (ranged-in y i ∙ sym (ap (λ b. pick b y (pos 0)) i)))
+      sym (ranged-in z e) ∙ (same ∙ (ranged-in y i ∙ sym (ap (λ b. cond b y (pos 0)) i)))
 
   pub told-none : inRange z ≡ false → pos 0 ≡ told y
-  told-none e = sym (ap (λ b. pick b y (pos 0)) (sym in-same ∙ e))
+  told-none e = sym (ap (λ b. cond b y (pos 0)) (sym in-same ∙ e))
 
 -- the same of what stands at a place: n is what was read, b is that with 2 ^ 62 added
 module _ (bytes : List ℕ) (at n b : ℕ) (small : n < 18446744073709551616) (read : n ≡ bitsAt bytes at) (added : b ≡ (n + 4611686018427387904) % 18446744073709551616) where

@@ -66,7 +66,7 @@ record-there bytes h at n l =
 -- ---- trees from a place on
 
 -- these bytes stand in the sheet from `at` up to `next`, these leaves in the segment from `from` up to `end`
-pub record Stands (us : List Leaf) (bytes : List ℕ) (at from : ℕ) (cells : List ℕ) (read : List Leaf) (next end : ℕ) : Type 0 where
+pub record BytesStand (us : List Leaf) (bytes : List ℕ) (at from : ℕ) (cells : List ℕ) (read : List Leaf) (next end : ℕ) : Type 0 where
   pub written : drop at bytes ≡ cells ++ drop next bytes
   pub sheetEnd : next ≡ at + length cells
   pub tokens : drop from us ≡ read ++ drop end us
@@ -77,20 +77,20 @@ pub record Described (g : Grammar) (us : List Leaf) (bytes : List ℕ) (at from 
   pub tree : Tree
   pub evaluated : WellEvaluated g tree x
   pub shallow : depth tree ≤ d
-  pub stands : Stands us bytes at from (sheet from tree) (yield tree) next end
+  pub stands : BytesStand us bytes at from (sheet from tree) (yield tree) next end
 
 -- the same for a list of symbols and a tree for each
 pub record DescribedAll (g : Grammar) (us : List Leaf) (bytes : List ℕ) (at from : ℕ) (xs : List Symbol) (d next end : ℕ) : Type 0 where
   pub trees : Forest
   pub evaluated : WellEvaluateds g trees xs
   pub shallow : depths trees ≤ d
-  pub stands : Stands us bytes at from (sheets from trees) (yields trees) next end
+  pub stands : BytesStand us bytes at from (sheets from trees) (yields trees) next end
 
 -- what ends behind a first part of the segment ends in it
-pub ends-inside : {us : List Leaf} {bytes : List ℕ} {at from : ℕ} {cells : List ℕ} {read : List Leaf} {next end : ℕ} → from ≤ length us → Stands us bytes at from cells read next end → end ≤ length us
+pub ends-inside : {us : List Leaf} {bytes : List ℕ} {at from : ℕ} {cells : List ℕ} {read : List Leaf} {next end : ℕ} → from ≤ length us → BytesStand us bytes at from cells read next end → end ≤ length us
 ends-inside {us = us} {from = from} {read = read} {end = end} l s = omega (arith, l, ap length (s .tokens), length-drop from us, length-append read (drop end us), length-drop end us, s .tokensEnd)
 
-pub yield-small : {us : List Leaf} {bytes : List ℕ} {at from : ℕ} {cells : List ℕ} {read : List Leaf} {next end : ℕ} → Stands us bytes at from cells read next end → length read ≤ length us
+pub yield-small : {us : List Leaf} {bytes : List ℕ} {at from : ℕ} {cells : List ℕ} {read : List Leaf} {next end : ℕ} → BytesStand us bytes at from cells read next end → length read ≤ length us
 yield-small {us = us} {from = from} {read = read} {end = end} s = omega (arith, ap length (s .tokens), length-drop from us, length-append read (drop end us))
 
 -- ---- a token
@@ -116,7 +116,7 @@ module _ (g : Grammar) (us : List Leaf) (bytes : List ℕ) (at from k d : ℕ) w
   pub token-only : (n e : ℕ) → Described g us bytes at from (terminal k) d n e → TokenHere n e
   token-only n e h = go (h .tree) (h .evaluated) (h .stands)
     where
-      go : (t : Tree) → WellEvaluated g t (terminal k) → Stands us bytes at from (sheet from t) (yield t) n e → TokenHere n e
+      go : (t : Tree) → WellEvaluated g t (terminal k) → BytesStand us bytes at from (sheet from t) (yield t) n e → TokenHere n e
       go (leaf u) w s =
           let l : from < length us = omega (arith, ap length (s .tokens), length-drop from us) in
           let f : getD us from noLeaf ∷ drop (from + 1) us ≡ u ∷ drop e us = sym (cons-one us noLeaf from l) ∙ s .tokens in
@@ -152,7 +152,7 @@ module _ (g : Grammar) (formed : WellFormed g) (us : List Leaf) (few : length us
   pub node-only : Described g us bytes at from (nonterminal m) d n e → NodeHere g us bytes at from m d n e
   node-only h = go (h .tree) (h .evaluated) (h .shallow) (h .stands)
     where
-      go : (t : Tree) → WellEvaluated g t (nonterminal m) → depth t ≤ d → Stands us bytes at from (sheet from t) (yield t) n e → NodeHere g us bytes at from m d n e
+      go : (t : Tree) → WellEvaluated g t (nonterminal m) → depth t ≤ d → BytesStand us bytes at from (sheet from t) (yield t) n e → NodeHere g us bytes at from m d n e
       go (leaf u) w l s = let z = w .0 in let y : _≡_ {A = ℕ} 0 1 = cc in absurd (omega arith)
       go (node p vs f) w l s =
           let own : Node g (nonterminal m) p vs f = w .0 in
@@ -229,7 +229,7 @@ children-none g us bytes at from d = record { trees = noTrees; evaluated = tt; s
 pub none-only : (g : Grammar) (us : List Leaf) (bytes : List ℕ) (at from d n e : ℕ) → DescribedAll g us bytes at from [] d n e → (n ≡ at) × (e ≡ from)
 none-only g us bytes at from d n e h = go (h .trees) (h .evaluated) (h .stands)
   where
-    go : (f : Forest) → WellEvaluateds g f [] → Stands us bytes at from (sheets from f) (yields f) n e → (n ≡ at) × (e ≡ from)
+    go : (f : Forest) → WellEvaluateds g f [] → BytesStand us bytes at from (sheets from f) (yields f) n e → (n ≡ at) × (e ≡ from)
     go noTrees w s = (omega (arith, s .sheetEnd), omega (arith, s .tokensEnd))
     go (treeAnd t f) w s = absurd w
 
@@ -264,7 +264,7 @@ module _ (g : Grammar) (us : List Leaf) (bytes : List ℕ) (at from : ℕ) (x : 
   pub children-split : (h : DescribedAll g us bytes at from (x ∷ xs) d n e) → Split g us bytes at from x xs d n e (h .trees)
   children-split h = go (h .trees) (h .evaluated) (h .shallow) (h .stands)
     where
-      go : (f : Forest) → WellEvaluateds g f (x ∷ xs) → depths f ≤ d → Stands us bytes at from (sheets from f) (yields f) n e → Split g us bytes at from x xs d n e f
+      go : (f : Forest) → WellEvaluateds g f (x ∷ xs) → depths f ≤ d → BytesStand us bytes at from (sheets from f) (yields f) n e → Split g us bytes at from x xs d n e f
       go noTrees k l s = absurd k
       go (treeAnd t f) k l s =
           let i : ℕ = from + length (yield t) in

@@ -3,7 +3,7 @@ use Prim.Native.Nat.{ℕ, _+_, _-_, _*_, _/_, _%_, _≤_, _<_}
 use native.Mathlib.Omega.{arith}
 use mathlib.Core.Path.{_≡_, refl, sym, ap, ap₂, _∙_, subst}
 use mathlib.Core.Logic.{inl, inr}
-use mathlib.Core.Bool.{Bool, true, false, _&&_}
+use mathlib.Core.Bool.{Bool, true, false, _&&_, cond}
 use mathlib.Core.List.{List, [], _++_}
 use mathlib.Core.Option.{none, some}
 use lib.ListN.{length, take, drop, length-append, length-drop}
@@ -12,16 +12,16 @@ use lib.Dec.{T, eqb, ltb, leb→le}
 use lib.IntN.{ℤ, pos, negsuc, _+ℤ_}
 use lib.Signed.{leZ}
 use Rattle.meaning.specs.Base.{In, all}
-use Rattle.meaning.specs.Grammar.{Occurrence, Function, const, copy, sum, diff, prod, maxi, mini, addc, quot, Rule, Condition, range, atmost}
+use Rattle.meaning.specs.Grammar.{Occurrence, Function, const, copy, binary, sum, diff, prod, maxi, mini, addc, quot, Rule, Condition, range, atmost}
 use Rattle.meaning.specs.Rules.{Constant, Proper, InFourBytes}
 use Rattle.meaning.specs.Layout.{field, unsigned, ruleBytes, conditionBytes, RulesAndConditions, nothing, rule, condition}
 use Rattle.meaning.specs.Table.{byte, signed, constantAt}
-use Rattle.meaning.specs.Value.{apply, holds, pick}
+use Rattle.meaning.specs.Value.{apply, holds}
 use Rattle.theory_base.specs.Members.{both}
 use Rattle.theory_table.specs.Numbers.{four-joined, unsigned-small, signed-unsigned, divisor-in}
 use Rattle.value.specs.Computed.{computed}
 use Rattle.value.specs.Ranged.{ranged}
-use Rattle.block_words.specs.Walk.{Listed}
+use Rattle.program_block_words.specs.Walk.{Listed}
 
 -- ---- what holds, by the values v of the occurrences
 
@@ -47,17 +47,17 @@ unfoldable pub occurrenceHere : (Occurrence → ℤ) → List ℕ → ℕ → �
 occurrenceHere v d i = v (record { position = byte d i; attribute = byte d (i + 1) })
 
 unfoldable pub firstHere : (Occurrence → ℤ) → List ℕ → ℕ → ℤ
-firstHere v d f = pick (eqb f 0) (constantAt d 6) (occurrenceHere v d 6)
+firstHere v d f = cond (eqb f 0) (constantAt d 6) (occurrenceHere v d 6)
 
 unfoldable pub secondHere : (Occurrence → ℤ) → List ℕ → ℕ → ℤ
-secondHere v d f = pick (ltb f 7) (occurrenceHere v d 8) (constantAt d 8)
+secondHere v d f = cond (ltb f 7) (occurrenceHere v d 8) (constantAt d 8)
 
 unfoldable pub ruleHere : (Occurrence → ℤ) → List ℕ → Bool
 ruleHere v d = sameZ (ranged (computed (byte d 5) (firstHere v d (byte d 5)) (secondHere v d (byte d 5)))) (occurrenceHere v d 3)
 
 -- what a comparison adds: kind 1 has no constant
 unfoldable pub addedHere : List ℕ → ℤ
-addedHere d = pick (eqb (byte d 3) 1) (pos 0) (constantAt d 8)
+addedHere d = cond (eqb (byte d 3) 1) (pos 0) (constantAt d 8)
 
 abbrev pub chooseBool : Bool → Bool → Bool → Bool
 chooseBool true a b = a
@@ -82,11 +82,11 @@ module _ (v : Occurrence → ℤ) where
       go : (o : Occurrence) (f : Function Occurrence) → Constant f → fieldTrue v (field 4 (ruleBytes (record { target = o; function = f })) ++ rest) ≡ ruleTrue v (record { target = o; function = f })
       go o (const c) k = ap (λ z. sameZ (ranged z) (v o)) (constant-back c k)
       go o (copy a) k = refl
-      go o (sum a b) k = refl
-      go o (diff a b) k = refl
-      go o (prod a b) k = refl
-      go o (maxi a b) k = refl
-      go o (mini a b) k = refl
+      go o (binary sum a b) k = refl
+      go o (binary diff a b) k = refl
+      go o (binary prod a b) k = refl
+      go o (binary maxi a b) k = refl
+      go o (binary mini a b) k = refl
       go o (addc a c) k = ap (λ z. sameZ (ranged (computed 7 (v a) z)) (v o)) (constant-back c k)
       go o (quot a c) k = ap (λ z. sameZ (ranged (computed 8 (v a) z)) (v o)) (constant-back c (divisor-in c k))
 
@@ -107,11 +107,7 @@ rule-size r = go (r .target) (r .function)
     go : (o : Occurrence) (f : Function Occurrence) → fieldSize (field 4 (ruleBytes (record { target = o; function = f }))) ≡ length (field 4 (ruleBytes (record { target = o; function = f })))
     go o (const c) = refl
     go o (copy a) = refl
-    go o (sum a b) = refl
-    go o (diff a b) = refl
-    go o (prod a b) = refl
-    go o (maxi a b) = refl
-    go o (mini a b) = refl
+    go o (binary f a b) = refl
     go o (addc a c) = refl
     go o (quot a c) = refl
 

@@ -1,5 +1,5 @@
 -- The statements on sheets from other tools, proved.
-use Prim.Native.Nat.{ℕ}
+use Prim.Native.Nat.{ℕ, _≤_}
 use native.Mathlib.Omega.{arith}
 use mathlib.Core.Path.{_≡_, refl, sym, ap, _∙_, subst}
 use mathlib.Core.Logic.{_↔_}
@@ -11,16 +11,22 @@ use lib.IntN.{ℤ}
 use Rattle.meaning.specs.Grammar.{Grammar, Leaf, leaves}
 use Rattle.meaning.specs.Judgement.{Accepted}
 use Rattle.meaning.specs.Tree.{Tree, valueOf}
-use Rattle.meaning.specs.Calls.{tokensFrom}
-use Rattle.meaning.specs.PublicCalls.{Checked, usable, unusable, check}
+use Rattle.meaning.specs.Calls.{Stacks, refused, openOf, feedOf, lentOf, tokensFrom}
+use Rattle.meaning.specs.PublicCalls.{Checked, usable, unusable, check, Call, feed, finish, areaLength, Effect, opens, performs}
 use Rattle.meaning_sheet.specs.Sheet.{sheetOf}
+use Rattle.meaning_sheet.specs.SheetCalls.{unlessRefused, stackRun}
 use Rattle.meaning_judge.specs.Judge.{Describes, JudgeAnswer, worth, turnedBack, Settles, SettlesIf, SettlesUnder, JudgedAs}
-use Rattle.meaning_judge.specs.JudgeStatements.{JudgedOnce, AcceptedSheets, RefusedSheets, WrittenSheets, SheetValue}
+use Rattle.meaning_judge.specs.JudgeStatements.{JudgedOnce, AcceptedSheets, RefusedSheets, answered, AtFault, RefusedSegments, WrittenSheets, SheetValue}
 use Rattle.theory_base.specs.Members.{same-true, differ-false}
 use Rattle.theory_answers.specs.Called.{checks}
 use Rattle.theory_answers.specs.TurnedBack.{refuses}
-use Rattle.theory_complete.specs.Halves.{only}
-use Rattle.theory_demands.specs.Whole.{value-whole}
+use Rattle.theory_sets.specs.Accepted.{accepted-sane}
+use Rattle.theory_complete.specs.CompleteUnique.{only, foreseen}
+use Rattle.theory_complete.specs.Run.{Short, registers-short, places-short, limit-short}
+use Rattle.theory_sheet.specs.Segment.{segmentRun, stack-run}
+use Rattle.theory_sheet.specs.BigStep.{refused-short}
+use Rattle.theory_demands.specs.ByGrammar.{opens-is, performs-is}
+use Rattle.theory_demands.specs.ValueWhole.{value-whole}
 
 -- ---- one answer
 
@@ -85,6 +91,32 @@ refused-sheets = (
   (λ bs g ks vs bytes a acc f. ((λ h. subst (λ z. z) (uneven bs g ks vs bytes acc f a) h), (λ q. subst (λ z. z) (sym (uneven bs g ks vs bytes acc f a)) q))),
   (λ bs ks vs bytes a n o r. let e = ap (λ c. SettlesUnder c ks vs bytes a) (refuses bs n o r) in ((λ h. subst (λ z. z) e h), (λ q. subst (λ z. z) (sym e) q))),
 )
+
+-- ---- a segment that is refused as at fault
+
+-- under an accepted table the calls are the stack run
+pub run-answered : (program : Grammar → List ℕ) (bs area : List ℕ) (g : Grammar) (m : Stacks) (ks : List ℕ) (vs : List ℤ) → Accepted bs g → areaLength ≤ length area → answered program bs area m ks vs ≡ stackRun g m ks vs
+run-answered program bs area g m ks vs acc l =
+    let o = openOf g m in
+    let f = feedOf g (o .state) (o .stacks) ks vs in
+    let then : Effect → Call → Effect = λ z c. performs program bs area (z .state) (z .stacks) c in
+    let opened = opens-is program bs g acc area m l in
+    let fed = ap (λ z. then z (feed ks vs)) opened ∙ performs-is program bs g acc area (o .state) (o .stacks) (feed ks vs) l in
+    let finished = ap (λ z. then z finish) fed ∙ performs-is program bs g acc area (f .state) (f .stacks) finish l in
+    λ i. unlessRefused (opened i .answer) (unlessRefused (fed i .answer) (finished i .answer))
+
+not-short : (k : ℕ) → AtFault k → Short k → ⊥
+not-short k f registers-short = omega (arith, f .1)
+not-short k f places-short = omega (arith, f .1)
+not-short k f limit-short = omega (arith, f .1)
+
+-- with a tree its run, which passes it as one big step, would be refused with 31, 32 or 35 only
+pub refused-segments : RefusedSegments
+refused-segments program bs area g m ks vs bytes k n acc l lent e h f =
+    let s = accepted-sane bs g acc in
+    let us : List Leaf = leaves g (tokensFrom ks vs) in
+    let run : segmentRun g (lentOf m) us ≡ refused k n = sym (stack-run g (s .formed) m ks vs e lent) ∙ (sym (run-answered program bs area g m ks vs acc l) ∙ h) in
+    refused-exactly bs g ks vs bytes acc e .1 (λ t d. not-short k f (refused-short g (s .formed) (lentOf m) us t (d .tree) (foreseen g s us t (d .tree)) k n run))
 
 -- ---- sheets of trees, and values
 

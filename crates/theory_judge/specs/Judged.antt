@@ -1,7 +1,7 @@
 -- What is read from the bytes of a field, step by step, is what the field says.
 use Prim.Native.Nat.{ℕ, _+_, _≤_, _<_}
 use mathlib.Core.Path.{_≡_, sym, ap, ap₂, _∙_}
-use mathlib.Core.Bool.{Bool, _&&_}
+use mathlib.Core.Bool.{Bool, _&&_, cond}
 use mathlib.Core.List.{List}
 use lib.ListN.{getD}
 use lib.IntN.{ℤ, pos, _+ℤ_}
@@ -9,7 +9,6 @@ use lib.Signed.{leZ}
 use borrow.Author.Tests.{lt-ltb, le-ltb, eq-eqb, ne-eqb}
 use Rattle.meaning.specs.Grammar.{Occurrence}
 use Rattle.meaning.specs.Table.{byte, constantAt}
-use Rattle.meaning.specs.Value.{pick}
 use Rattle.value.specs.Computed.{computed}
 use Rattle.value.specs.Ranged.{ranged}
 use Rattle.theory_judge.specs.Holding.{sameZ, occurrenceHere, firstHere, secondHere, ruleHere, addedHere, chooseBool, conditionHere, fieldTrue}
@@ -23,19 +22,19 @@ module _ (v : Occurrence → ℤ) (d : List ℕ) where
   module _ (f : ℕ) (r : ℤ) where
     pub first-constant : f ≡ 0 → r ≡ constantAt d 6 → r ≡ firstHere v d f
     unfolding firstHere
-    first-constant e q = q ∙ sym (ap (λ b. pick b (constantAt d 6) (occurrenceHere v d 6)) (eq-eqb f 0 e))
+    first-constant e q = q ∙ sym (ap (λ b. cond b (constantAt d 6) (occurrenceHere v d 6)) (eq-eqb f 0 e))
 
     pub first-occurrence : (f ≡ 0 → ⊥) → r ≡ occurrenceHere v d 6 → r ≡ firstHere v d f
     unfolding firstHere
-    first-occurrence e q = q ∙ sym (ap (λ b. pick b (constantAt d 6) (occurrenceHere v d 6)) (ne-eqb f 0 e))
+    first-occurrence e q = q ∙ sym (ap (λ b. cond b (constantAt d 6) (occurrenceHere v d 6)) (ne-eqb f 0 e))
 
     pub second-occurrence : f < 7 → r ≡ occurrenceHere v d 8 → r ≡ secondHere v d f
     unfolding secondHere
-    second-occurrence e q = q ∙ sym (ap (λ b. pick b (occurrenceHere v d 8) (constantAt d 8)) (lt-ltb f 7 e))
+    second-occurrence e q = q ∙ sym (ap (λ b. cond b (occurrenceHere v d 8) (constantAt d 8)) (lt-ltb f 7 e))
 
     pub second-constant : 7 ≤ f → r ≡ constantAt d 8 → r ≡ secondHere v d f
     unfolding secondHere
-    second-constant e q = q ∙ sym (ap (λ b. pick b (occurrenceHere v d 8) (constantAt d 8)) (le-ltb f 7 e))
+    second-constant e q = q ∙ sym (ap (λ b. cond b (occurrenceHere v d 8) (constantAt d 8)) (le-ltb f 7 e))
 
   pub rule-is : (f : ℕ) (a b c t : ℤ) (r : Bool) → f ≡ byte d 5 → a ≡ firstHere v d f → b ≡ secondHere v d f → c ≡ ranged (computed f a b) → t ≡ occurrenceHere v d 3 → r ≡ sameZ c t → r ≡ ruleHere v d
   unfolding ruleHere
@@ -64,8 +63,8 @@ module _ (v : Occurrence → ℤ) (d : List ℕ) where
 module _ (d : List ℕ) (k : ℕ) (r : ℤ) where
   pub added-none : k ≡ byte d 3 → k ≡ 1 → r ≡ pos 0 → r ≡ addedHere d
   unfolding addedHere
-  added-none ek e q = q ∙ sym (ap (λ b. pick b (pos 0) (constantAt d 8)) (eq-eqb (byte d 3) 1 (sym ek ∙ e)))
+  added-none ek e q = q ∙ sym (ap (λ b. cond b (pos 0) (constantAt d 8)) (eq-eqb (byte d 3) 1 (sym ek ∙ e)))
 
   pub added-constant : k ≡ byte d 3 → (k ≡ 1 → ⊥) → r ≡ constantAt d 8 → r ≡ addedHere d
   unfolding addedHere
-  added-constant ek e q = q ∙ sym (ap (λ b. pick b (pos 0) (constantAt d 8)) (ne-eqb (byte d 3) 1 (λ z. e (ek ∙ z))))
+  added-constant ek e q = q ∙ sym (ap (λ b. cond b (pos 0) (constantAt d 8)) (ne-eqb (byte d 3) 1 (λ z. e (ek ∙ z))))

@@ -3,7 +3,7 @@ use Prim.Native.Nat.{ℕ, zero, suc, _+_, _-_, _*_, _≤_, _<_}
 use native.Mathlib.Omega.{arith}
 use mathlib.Core.Path.{_≡_, refl, sym, ap, ap₂, _∙_, subst}
 use mathlib.Core.Logic.{inl, inr}
-use mathlib.Core.Bool.{Bool, true, false, _&&_}
+use mathlib.Core.Bool.{Bool, true, false, _&&_, cond}
 use mathlib.Core.List.{List, [], _∷_, _++_, append-assoc}
 use lib.ListN.{getD, length, drop, length-drop}
 use lib.Dec.{T, ltb, eqb, leb, le→leb}
@@ -12,7 +12,7 @@ use borrow.Author.Tests.{lt-ltb, le-ltb}
 use Rattle.meaning.specs.Base.{In, all, any}
 use Rattle.meaning.specs.Grammar.{Grammar, Symbol, terminal, nonterminal, Occurrence, Rule, Condition, Production, Leaf, attributeIf, carried, leafOf, leaves, att, symbolAt}
 use Rattle.meaning.specs.Rules.{InputAt, OutputAt, Input, Output, Operand, WellFormed, WellFormedProduction}
-use Rattle.meaning.specs.Value.{inRange, apply, holds, pick}
+use Rattle.meaning.specs.Value.{inRange, apply, holds}
 use Rattle.meaning.specs.Calls.{tokensFrom}
 use Rattle.meaning.specs.Tree.{Tree, Forest, leaf, node, noTrees, treeAnd, yield, yields, values, child, valueAt, RulesHold, isLeafOf, WellEvaluated, WellEvaluateds}
 use Rattle.meaning_sheet.specs.Sheet.{recordBytes, sheet, sheets}
@@ -21,36 +21,36 @@ use Rattle.theory_base.specs.Agree.{operands-map, apply-agree, reads-map, holds
 use Rattle.theory_base.specs.Selectors.{leaf-ranges, tree-size}
 use Rattle.value.specs.Ranged.{ranged, ranged-in, in-ranged}
 use Rattle.theory_judge.specs.Longs.{longAt, longs, longs-at, cons-one}
-use Rattle.theory_judge.specs.Described.{record-read, Stands, yield-small, Described, noLeaf}
+use Rattle.theory_judge.specs.Described.{record-read, BytesStand, yield-small, Described, noLeaf}
 use Rattle.theory_judge.specs.Holding.{sameZ, same-exactly, ruleTrue, allTrue}
 
 -- ---- reading
 
 -- a number where it is a value, else 0
 abbrev pub told : ℤ → ℤ
-told z = pick (inRange z) z (pos 0)
+told z = cond (inRange z) z (pos 0)
 
 pub told-same : (z : ℤ) → T (inRange z) → told z ≡ z
-told-same z t = ap (λ b. pick b z (pos 0)) (T→true (inRange z) t)
+told-same z t = ap (λ b. cond b z (pos 0)) (T→true (inRange z) t)
 
 unfoldable pub readMark : List ℕ → List ℤ → ℕ → ℕ → ℤ
-readMark bytes vals m a = pick (ltb m (length bytes)) (told (longAt bytes (m + 4 + 8 * a))) (getD vals (m - length bytes) (pos 0))
+readMark bytes vals m a = cond (ltb m (length bytes)) (told (longAt bytes (m + 4 + 8 * a))) (getD vals (m - length bytes) (pos 0))
 
 unfoldable pub readAt : List ℕ → List ℤ → List ℕ → Occurrence → ℤ
 readAt bytes vals marks o = readMark bytes vals (getD marks (o .position) 0) (o .attribute)
 
 pub read-record : (bytes : List ℕ) (vals : List ℤ) (m a : ℕ) → m < length bytes → readMark bytes vals m a ≡ told (longAt bytes (m + 4 + 8 * a))
 unfolding readMark
-read-record bytes vals m a l = ap (λ b. pick b (told (longAt bytes (m + 4 + 8 * a))) (getD vals (m - length bytes) (pos 0))) (lt-ltb m (length bytes) l)
+read-record bytes vals m a l = ap (λ b. cond b (told (longAt bytes (m + 4 + 8 * a))) (getD vals (m - length bytes) (pos 0))) (lt-ltb m (length bytes) l)
 
 pub read-token : (bytes : List ℕ) (vals : List ℤ) (m a : ℕ) → length bytes ≤ m → readMark bytes vals m a ≡ getD vals (m - length bytes) (pos 0)
 unfolding readMark
-read-token bytes vals m a l = ap (λ b. pick b (told (longAt bytes (m + 4 + 8 * a))) (getD vals (m - length bytes) (pos 0))) (le-ltb m (length bytes) l)
+read-token bytes vals m a l = ap (λ b. cond b (told (longAt bytes (m + 4 + 8 * a))) (getD vals (m - length bytes) (pos 0))) (le-ltb m (length bytes) l)
 
 -- ---- a mark shows the values of a tree
 
-abbrev pub Shown : List ℕ → List ℤ → ℕ → Tree → Type 0
-Shown bytes vals m t = (a : ℕ) → 1 ≤ a → a ≤ length (values t) → readMark bytes vals m a ≡ getD (values t) (a - 1) (pos 0)
+abbrev pub MarkShows : List ℕ → List ℤ → ℕ → Tree → Type 0
+MarkShows bytes vals m t = (a : ℕ) → 1 ≤ a → a ≤ length (values t) → readMark bytes vals m a ≡ getD (values t) (a - 1) (pos 0)
 
 -- the mark of a symbol whose records or token begin there, in a sheet of n bytes
 abbrev pub markOf : ℕ → Symbol → ℕ → ℕ → ℕ
@@ -89,7 +89,7 @@ in-range-at (v ∷ vs) h zero l = both (inRange v) (all inRange vs) h .0
 in-range-at (v ∷ vs) h (suc i) l = in-range-at vs (both (inRange v) (all inRange vs) h .1) i (omega arith)
 
 -- the values of a record that stands at m
-pub values-shown : (bytes : List ℕ) (vals : List ℤ) (m : ℕ) (p : ℕ) (vs : List ℤ) (f : Forest) → m < length bytes → T (all inRange vs) → longs bytes (m + 12) (length vs) ≡ vs → Shown bytes vals m (node p vs f)
+pub values-shown : (bytes : List ℕ) (vals : List ℤ) (m : ℕ) (p : ℕ) (vs : List ℤ) (f : Forest) → m < length bytes → T (all inRange vs) → longs bytes (m + 12) (length vs) ≡ vs → MarkShows bytes vals m (node p vs f)
 values-shown bytes vals m p vs f l t e a low high =
     let i : ℕ = a - 1 in
     let at-place : m + 12 + 8 * i ≡ m + 4 + 8 * a = omega arith in
@@ -100,10 +100,10 @@ module _ (g : Grammar) (formed : WellFormed g) (ks : List ℕ) (vals : List ℤ)
   abbrev us : List Leaf
   us = leaves g (tokensFrom ks vals)
 
-  pub described-shown : (x : Symbol) (d n e : ℕ) (h : Described g us bytes at from x d n e) → Shown bytes vals (markOf (length bytes) x at from) (h .tree)
+  pub described-shown : (x : Symbol) (d n e : ℕ) (h : Described g us bytes at from x d n e) → MarkShows bytes vals (markOf (length bytes) x at from) (h .tree)
   described-shown x d n e h = go x (h .tree) (h .evaluated) (h .stands)
     where
-      go : (x : Symbol) (t : Tree) → WellEvaluated g t x → Stands us bytes at from (sheet from t) (yield t) n e → Shown bytes vals (markOf (length bytes) x at from) t
+      go : (x : Symbol) (t : Tree) → WellEvaluated g t x → BytesStand us bytes at from (sheet from t) (yield t) n e → MarkShows bytes vals (markOf (length bytes) x at from) t
       go (terminal k) (leaf u) w s a lo hi =
           let l : from < length us = omega (arith, ap length (s .tokens), length-drop from us) in
           let f : getD us from noLeaf ∷ drop (from + 1) us ≡ u ∷ drop e us = sym (cons-one us noLeaf from l) ∙ s .tokens in
@@ -170,7 +170,7 @@ child-ranges g (treeAnd t f) (x ∷ xs) w (suc i) l = child-ranges g f xs (w .1)
 
 module _ (g : Grammar) (bytes : List ℕ) (vals : List ℤ) (marks : List ℕ) (pr : Production) (formed : WellFormedProduction g pr) (vs : List ℤ) (f : Forest)
     (size : length vs ≡ att g (nonterminal (pr .left))) (ranges : T (all inRange vs)) (kids : WellEvaluateds g f (pr .right))
-    (own : Shown bytes vals (getD marks 0 0) (node 0 vs f)) (shown : (i : ℕ) → i < length (pr .right) → Shown bytes vals (getD marks (suc i) 0) (child f i)) where
+    (own : MarkShows bytes vals (getD marks 0 0) (node 0 vs f)) (shown : (i : ℕ) → i < length (pr .right) → MarkShows bytes vals (getD marks (suc i) 0) (child f i)) where
   agrees : (o : Occurrence) → Has g pr o → readAt bytes vals marks o ≡ valueAt vs f o
   unfolding readAt
   agrees o h = go (o .position) (o .attribute) h

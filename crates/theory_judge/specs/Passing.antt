@@ -18,9 +18,9 @@ use Rattle.theory_base.specs.Members.{apart}
 use Rattle.theory_base.specs.WellFormed.{well-formed-at}
 use Rattle.value.specs.Constants.{wordAt}
 use Rattle.theory_judge.specs.Longs.{longs, longs-size, cons-one}
-use Rattle.theory_judge.specs.Described.{Stands, Described, DescribedAll, noLeaf, token-made, token-only, Heading, ownValues, NodeHere, node-only, node-made, children-none, none-only, children-more, Split, children-split, ends-inside}
+use Rattle.theory_judge.specs.Described.{BytesStand, Described, DescribedAll, noLeaf, token-made, token-only, Heading, ownValues, NodeHere, node-only, node-made, children-none, none-only, children-more, Split, children-split, ends-inside}
 use Rattle.theory_judge.specs.Holding.{allTrue}
-use Rattle.theory_judge.specs.Marks.{readAt, Shown, markOf, values-shown, described-shown, all-hold, hold-all}
+use Rattle.theory_judge.specs.Marks.{readAt, MarkShows, markOf, values-shown, described-shown, all-hold, hold-all}
 
 -- these ends, and no others
 abbrev pub Only : (ℕ → ℕ → Type 0) → ℕ → ℕ → Type 0
@@ -52,12 +52,12 @@ moved {us = us} {bytes = bytes} {from = from} {at′ = at′} {n = n} {e = e} h 
   trees = h .trees;
   evaluated = h .evaluated;
   shallow = h .shallow;
-  stands = subst (λ k. Stands us bytes at′ k (sheets k (h .trees)) (yields (h .trees)) n e) q (subst (λ k. Stands us bytes k from (sheets from (h .trees)) (yields (h .trees)) n e) p (h .stands));
+  stands = subst (λ k. BytesStand us bytes at′ k (sheets k (h .trees)) (yields (h .trees)) n e) q (subst (λ k. BytesStand us bytes k from (sheets from (h .trees)) (yields (h .trees)) n e) p (h .stands));
 }
 
 -- the marks of a list of symbols show the values of their trees
 pub record Marked (g : Grammar) (us : List Leaf) (bytes : List ℕ) (vals : List ℤ) (at from : ℕ) (xs : List Symbol) (d : ℕ) (marks : List ℕ) : Type 0 where
-  pub shown : (n e : ℕ) (x : DescribedAll g us bytes at from xs d n e) (i : ℕ) → i < length xs → Shown bytes vals (getD marks (suc i) 0) (child (x .trees) i)
+  pub shown : (n e : ℕ) (x : DescribedAll g us bytes at from xs d n e) (i : ℕ) → i < length xs → MarkShows bytes vals (getD marks (suc i) 0) (child (x .trees) i)
 
 -- the trees from the k-th on
 pub record Rest (g : Grammar) (us : List Leaf) (bytes : List ℕ) (xs : List Symbol) (d k next end n e : ℕ) (whole : Forest) : Type 0 where
@@ -68,7 +68,7 @@ pub record Rest (g : Grammar) (us : List Leaf) (bytes : List ℕ) (xs : List Sym
 pub record Upto (g : Grammar) (us : List Leaf) (bytes : List ℕ) (vals : List ℤ) (at from : ℕ) (xs : List Symbol) (d k next end : ℕ) (marks : List ℕ) : Type 0 where
   pub made : (n e : ℕ) → DescribedAll g us bytes next end (drop k xs) d n e → DescribedAll g us bytes at from xs d n e
   pub rest : (n e : ℕ) (x : DescribedAll g us bytes at from xs d n e) → Rest g us bytes xs d k next end n e (x .trees)
-  pub marked : (n e : ℕ) (x : DescribedAll g us bytes at from xs d n e) (i : ℕ) → i < k → Shown bytes vals (getD marks (suc i) 0) (child (x .trees) i)
+  pub marked : (n e : ℕ) (x : DescribedAll g us bytes at from xs d n e) (i : ℕ) → i < k → MarkShows bytes vals (getD marks (suc i) 0) (child (x .trees) i)
   pub inside : end ≤ length us
 
 module _ (g : Grammar) (formed : WellFormed g) (ks : List ℕ) (vals : List ℤ) (few : length (leaves g (tokensFrom ks vals)) < 4294967296) (bytes : List ℕ) (at from : ℕ) (xs : List Symbol) (d : ℕ) where
@@ -116,21 +116,21 @@ module _ (g : Grammar) (formed : WellFormed g) (ks : List ℕ) (vals : List ℤ)
                   ap (child (x .trees)) e₀ ∙ (q .same (suc i) ∙ ap (λ f. child f (suc i)) (s .joined));
             }
 
-        at-hand : (n e : ℕ) (x : DescribedAll g us bytes at from xs d n e) → Shown bytes vals (getD marks′ (suc k) 0) (child (x .trees) k)
+        at-hand : (n e : ℕ) (x : DescribedAll g us bytes at from xs d n e) → MarkShows bytes vals (getD marks′ (suc k) 0) (child (x .trees) k)
         at-hand n e x =
             let q = u .rest n e x in
             let s = parted n e x in
             let e₀ : k ≡ k + 0 = omega arith in
             let t : child (x .trees) k ≡ s .first .tree = ap (child (x .trees)) e₀ ∙ (q .same 0 ∙ ap (λ f. child f 0) (s .joined)) in
-            subst (λ m. Shown bytes vals m (child (x .trees) k)) (sym new)
-            (subst (λ t. Shown bytes vals (markOf (length bytes) x₀ next end) t) (sym t) (described-shown g formed ks vals few bytes next end (u .inside) x₀ d (s .mid) (s .seam) (s .first)))
+            subst (λ m. MarkShows bytes vals m (child (x .trees) k)) (sym new)
+            (subst (λ t. MarkShows bytes vals (markOf (length bytes) x₀ next end) t) (sym t) (described-shown g formed ks vals few bytes next end (u .inside) x₀ d (s .mid) (s .seam) (s .first)))
 
-        marked-more : (n e : ℕ) (x : DescribedAll g us bytes at from xs d n e) (i : ℕ) → i < k + 1 → Shown bytes vals (getD marks′ (suc i) 0) (child (x .trees) i)
+        marked-more : (n e : ℕ) (x : DescribedAll g us bytes at from xs d n e) (i : ℕ) → i < k + 1 → MarkShows bytes vals (getD marks′ (suc i) 0) (child (x .trees) i)
         marked-more n e x i h = go (decLt i k)
           where
-            go : Dec (i < k) → Shown bytes vals (getD marks′ (suc i) 0) (child (x .trees) i)
-            go (yes m) = subst (λ v. Shown bytes vals v (child (x .trees) i)) (sym (kept i m)) (u .marked n e x i m)
-            go (no m) = let same : k ≡ i = omega arith in subst (λ j. Shown bytes vals (getD marks′ (suc j) 0) (child (x .trees) j)) same (at-hand n e x)
+            go : Dec (i < k) → MarkShows bytes vals (getD marks′ (suc i) 0) (child (x .trees) i)
+            go (yes m) = subst (λ v. MarkShows bytes vals v (child (x .trees) i)) (sym (kept i m)) (u .marked n e x i m)
+            go (no m) = let same : k ≡ i = omega arith in subst (λ j. MarkShows bytes vals (getD marks′ (suc j) 0) (child (x .trees) j)) same (at-hand n e x)
 
         pub upto-more : Upto g us bytes vals at from xs d (k + 1) n₁ e₁ marks′
         upto-more = record { made = made-more; rest = rest-more; marked = marked-more; inside = ends-inside (u .inside) (only .0 .stands) }
@@ -183,8 +183,8 @@ module _ (g : Grammar) (formed : WellFormed g) (ks : List ℕ) (vals : List ℤ)
       good : WellFormedProduction g pr
       good = well-formed-at g formed (wordAt bytes at) (heading .listed)
 
-      own : (f : Forest) → Shown bytes vals (getD marks 0 0) (node 0 (ownValues g bytes at m) f)
-      own f = subst (λ k. Shown bytes vals k (node 0 (ownValues g bytes at m) f)) (sym first) (values-shown bytes vals at 0 (ownValues g bytes at m) f (omega (arith, heading .inside)) (heading .ranges) (ap (longs bytes (at + 12)) (longs-size bytes (at + 12) (att g (nonterminal m)))))
+      own : (f : Forest) → MarkShows bytes vals (getD marks 0 0) (node 0 (ownValues g bytes at m) f)
+      own f = subst (λ k. MarkShows bytes vals k (node 0 (ownValues g bytes at m) f)) (sym first) (values-shown bytes vals at 0 (ownValues g bytes at m) f (omega (arith, heading .inside)) (heading .ranges) (ap (longs bytes (at + 12)) (longs-size bytes (at + 12) (att g (nonterminal m)))))
 
       pub node-fits : 1 ≤ d → e - from ≡ wordAt bytes (at + 8) → allTrue (readAt bytes vals marks) (pr .rules) (pr .conditions) ≡ true → Only Here n e
       node-fits deep covered h =

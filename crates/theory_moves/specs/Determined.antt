@@ -10,10 +10,10 @@ use Rattle.meaning.specs.Rules.{WellFormed}
 use Rattle.meaning.specs.Part.{forestOnto, Handed}
 use Rattle.theory_base.specs.Values.{drop-head, treeOf}
 use Rattle.theory_base.specs.Grow.{handed-one}
-use Rattle.theory_complete.specs.Passing.{Evaluated, inheritedIn, handed}
-use Rattle.theory_complete.specs.Subtree.{node-evaluated}
+use Rattle.theory_complete.specs.NodeInProgressGood.{Evaluated, inheritedIn, handed}
+use Rattle.theory_complete.specs.SubtreeComplete.{node-evaluated}
 use Rattle.theory_complete.specs.Unique.{values-determined}
-use Rattle.theory_moves.specs.Ahead.{onto-firsts, ahead-evaluated, no-child, no-symbol}
+use Rattle.theory_moves.specs.ChildrenToCome.{onto-firsts, ahead-evaluated, no-child, no-symbol}
 
 pub same-handed : (g : Grammar) (p : Production) (vs : List ℤ) (ts : List Tree) (f : Forest) (x : Symbol) (xs : List Symbol) (is : List ℤ) → Evaluated g p vs (forestOnto ts f)
     → drop (length ts) (p .right) ≡ x ∷ xs → Handed g p (inheritedIn g p vs) ts x is → inheritedOf g (child (forestOnto ts f) (length ts)) ≡ is

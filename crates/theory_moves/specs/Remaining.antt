@@ -3,18 +3,18 @@ use Prim.Native.Nat.{ℕ, suc, _+_, _<_}
 use native.Mathlib.Omega.{arith}
 use mathlib.Core.Path.{_≡_, refl, sym, ap, ap₂, _∙_}
 use mathlib.Core.Logic.{_⊎_, inl, inr}
-use mathlib.Core.Bool.{Bool, true, false, not}
+use mathlib.Core.Bool.{Bool, true, false, not, cond}
 use mathlib.Core.List.{List, [], _∷_, _++_, append-assoc}
 use lib.ListN.{length, drop, length-append}
 use lib.Dec.{eqb, ltb}
 use lib.IntN.{ℤ}
 use Rattle.meaning.specs.Base.{consIf, isEmpty}
 use Rattle.meaning.specs.Grammar.{Grammar, Symbol, Rule, terminal, nonterminal, addedFor, productionAt, whole, Leaf}
-use Rattle.meaning.specs.Scheme.{Instruction, add, evaluate, expect, test, remove, scheme, inheritedRules, synthesizedRules, testsAfter, removed}
+use Rattle.meaning.specs.Scheme.{Instruction, add, evaluate, expect, test, remove, scheme, inheritedRules, synthesizedRules, testsAfter, removed, schemeEnd}
 use Rattle.meaning.specs.Machine.{Frame, Config, Lent, moved, next, isExpect, parentOnward, schemeAt, Coming}
 use Rattle.meaning.specs.Tree.{Tree, Forest, leaf, node, noTrees, treeAnd, child}
 use Rattle.meaning.specs.Rules.{WellFormed}
-use Rattle.meaning.specs.Part.{Open, Point, fresh, added, valued, left, closing, Ancestor, Part, yieldsOf, yieldBelow, yieldPart, forestOnto, tailIf, freshRest, leftRest, waitRest, drawRest, frame, drawFrames, childrenOf, nodeOn}
+use Rattle.meaning.specs.Part.{Open, Point, fresh, added, valued, left, closing, Ancestor, Part, yieldsOf, yieldBelow, yieldPart, forestOnto, freshRest, leftRest, waitRest, drawRest, frame, drawFrames, childrenOf, nodeOn}
 use Rattle.meaning.specs.Walk.{Act, performs, walkOn, topProduction, actBy}
 use Rattle.meaning.specs.Walk as Walk
 use Rattle.meaning.specs.Machine as Machine
@@ -22,13 +22,13 @@ use Rattle.theory_base.specs.Values.{treeOf}
 use Rattle.theory_base.specs.Frames.{scheme-listed}
 use Rattle.theory_base.specs.Steps.{move-of, Result, result}
 use Rattle.theory_answers.specs.Bounds.{length-parent}
-use Rattle.theory_sound.specs.Moves.{Grown, within, reads, predicts, removes, Moved, nodeOf, partOf, waitingAt, withChild}
-use Rattle.theory_sound.specs.Runs.{Shows}
-use Rattle.theory_sound.specs.Nested.{frames-are}
-use Rattle.theory_complete.specs.Subtree.{dropF, dropF-next}
-use Rattle.theory_moves.specs.Ahead.{ahead-child}
-use Rattle.theory_moves.specs.Along.{along-node}
-use Rattle.theory_moves.specs.Begun.{Begun}
+use Rattle.theory_sound.specs.MovesKeepPart.{Grown, within, reads, predicts, removes, Moved, nodeOf, partOf, waitingAt, withChild}
+use Rattle.theory_sound.specs.RunsShowPart.{Shows}
+use Rattle.theory_sound.specs.BelowUnchanged.{frames-are}
+use Rattle.theory_complete.specs.SubtreeComplete.{dropF, dropF-next}
+use Rattle.theory_moves.specs.ChildrenToCome.{ahead-child}
+use Rattle.theory_moves.specs.NodeOnAncestors.{along-node}
+use Rattle.theory_moves.specs.BegunKept.{Begun}
 
 -- the children of t's node on these ancestors, from the k-th on
 abbrev pub comes : Tree → List Ancestor → ℕ → Forest
@@ -92,7 +92,7 @@ module _ (g : Grammar) (o : Open) (n : ℕ) (is : List Instruction) where
   not-expect : {A : Type 0} (x : Symbol) (js : List Instruction) → expect x ∷ js ≡ remove n ∷ is → A
   not-expect x js e = absurd (let z : _≡_ {A = ℕ} 0 1 = cc in omega arith)
 
-  last-tail : (b : Bool) → tailIf b g (productionAt g (o .production)) ≡ remove n ∷ is → is ≡ []
+  last-tail : (b : Bool) → cond b [] (schemeEnd g (productionAt g (o .production))) ≡ remove n ∷ is → is ≡ []
   last-tail true e = absurd (let z : _≡_ {A = ℕ} 0 1 = cc in omega arith)
   last-tail false e = sym (ap (drop 1) (past-evaluate (synthesizedRules g (productionAt g (o .production))) (remove (removed g (productionAt g (o .production))) ∷ []) e))
 

@@ -1,7 +1,7 @@
 -- Configurations that correspond: the same places, registers and counts, and instructions that do the same.
 use Prim.Native.Nat.{ℕ, zero, suc, _+_}
 use mathlib.Core.Path.{_≡_, refl, ap, ap₂, subst}
-use mathlib.Core.Bool.{Bool, true, false, _&&_}
+use mathlib.Core.Bool.{Bool, true, false, _&&_, cond}
 use mathlib.Core.List.{List, [], _∷_}
 use lib.ListN.{length, drop}
 use lib.Dec.{eqb}
@@ -10,7 +10,7 @@ use Rattle.meaning.specs.Base.{all, isEmpty}
 use Rattle.meaning.specs.Grammar.{Symbol, Rule, Condition, whole}
 use Rattle.meaning.specs.Value.{apply, holds, inRange}
 use Rattle.meaning.specs.Scheme.{Instruction, add, evaluate, expect, test, remove}
-use Rattle.meaning.specs.Machine.{Coming, comes, ends, Frame, Config, Outcome, moved, blocked, chooseOutcome, Settled, stopped, failed, readRegister, writeAll, parentOnward, needsLook, waits, isFinished, isDone, expects, pendingTest}
+use Rattle.meaning.specs.Machine.{Coming, comes, ends, Frame, Config, Outcome, moved, blocked, Settled, stopped, failed, readRegister, writeAll, parentOnward, needsLook, waits, isFinished, isDone, expects, pendingTest}
 use Rattle.meaning.specs.Calls.{fromExpect}
 use Rattle.meaning.specs.Part.{frame, config}
 
@@ -53,12 +53,12 @@ pub data AlikeSettled : Settled → Settled → Type 0 where
 pub alike-by : {fs hs : List Frame} (rs qs : List ℤ) (t m : ℕ) → rs ≡ qs → AlikeFrames fs hs → AlikeConfig (config fs rs t m) (config hs qs t m)
 alike-by {fs} {hs} rs qs t m e a = subst (λ z. AlikeConfig (config fs rs t m) (config hs z t m)) e (alike rs t m a)
 
-pub choose-alike : (b : Bool) {o n o′ n′ : Outcome} → AlikeOutcome o o′ → AlikeOutcome n n′ → AlikeOutcome (chooseOutcome b o n) (chooseOutcome b o′ n′)
+pub choose-alike : (b : Bool) {o n o′ n′ : Outcome} → AlikeOutcome o o′ → AlikeOutcome n n′ → AlikeOutcome (cond b o n) (cond b o′ n′)
 choose-alike true x y = x
 choose-alike false x y = y
 
-pub choose-by : (a b : Bool) → a ≡ b → {o n o′ n′ : Outcome} → AlikeOutcome o o′ → AlikeOutcome n n′ → AlikeOutcome (chooseOutcome a o n) (chooseOutcome b o′ n′)
-choose-by a b e {o} {n} {o′} {n′} x y = subst (λ z. AlikeOutcome (chooseOutcome a o n) (chooseOutcome z o′ n′)) e (choose-alike a x y)
+pub choose-by : (a b : Bool) → a ≡ b → {o n o′ n′ : Outcome} → AlikeOutcome o o′ → AlikeOutcome n n′ → AlikeOutcome (cond a o n) (cond b o′ n′)
+choose-by a b e {o} {n} {o′} {n′} x y = subst (λ z. AlikeOutcome (cond a o n) (cond z o′ n′)) e (choose-alike a x y)
 
 -- ---- what corresponding lists share
 

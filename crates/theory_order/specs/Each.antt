@@ -2,12 +2,12 @@
 use Prim.Native.Nat.{ℕ, zero, suc}
 use mathlib.Core.Path.{_≡_, refl, sym, ap, ap₂, subst}
 use mathlib.Core.Logic.{inl, inr}
-use mathlib.Core.Bool.{Bool, true, false, _||_}
+use mathlib.Core.Bool.{Bool, true, false, _||_, cond}
 use mathlib.Core.List.{List, [], _∷_, map}
 use lib.ListN.{length, getD, List·getD-eq-default}
 use lib.Dec.{T, eqb, ltb, ltb→lt, nltb→le, not-T}
 use Rattle.meaning.specs.Base.{any, keep, consIf, In}
-use Rattle.meaning.specs.Grammar.{Symbol, terminal, nonterminal, Occurrence, Rule, Condition, Production, Grammar, productionAt, markedFor, pickProduction, wholeProduction, whole}
+use Rattle.meaning.specs.Grammar.{Symbol, terminal, nonterminal, Occurrence, Rule, Condition, Production, Grammar, productionAt, markedFor, wholeProduction, whole}
 use Rattle.meaning.specs.Rules.{WellFormed}
 use Rattle.theory_base.specs.Members.{apart, getD-in, true→T}
 use Rattle.theory_base.specs.WellFormed.{Evaluable, evaluable, evaluable-whole}
@@ -30,10 +30,6 @@ pub redone-is : (p q : Production) → SameProduction p q → redone p (q .rules
 redone-is p q s = λ i. record { left = s .left i; right = s .right i; rules = q .rules; conditions = q .conditions }
 
 -- ---- each of a list
-
-pub each-refl : (ps : List Production) → SameEach ps ps
-each-refl [] = tt
-each-refl (p ∷ ps) = (same-refl p, each-refl ps)
 
 pub each-sym : (ps qs : List Production) → SameEach ps qs → SameEach qs ps
 each-sym [] [] e = tt
@@ -102,7 +98,7 @@ marked-redone g qs (nonterminal n) = refl
 pub same-at : (g : Grammar) (qs : List Production) → SameEach (g .productions) qs → (n : ℕ) → SameProduction (productionAt g n) (productionAt (regrouped g qs) n)
 same-at g qs e n = go (eqb n whole)
   where
-    go : (b : Bool) → SameProduction (pickProduction b (wholeProduction g) (getD (g .productions) n (wholeProduction g))) (pickProduction b (wholeProduction g) (getD qs n (wholeProduction g)))
+    go : (b : Bool) → SameProduction (cond b (wholeProduction g) (getD (g .productions) n (wholeProduction g))) (cond b (wholeProduction g) (getD qs n (wholeProduction g)))
     go true = same-refl (wholeProduction g)
     go false = each-at (g .productions) qs e n (wholeProduction g)
 
@@ -110,7 +106,7 @@ same-at g qs e n = go (eqb n whole)
 pub ready-at : (g : Grammar) → WellFormed g → (n : ℕ) → Evaluable g (productionAt g n)
 ready-at g w n = go (eqb n whole) (ltb n (length (g .productions))) refl
   where
-    go : (b c : Bool) → ltb n (length (g .productions)) ≡ c → Evaluable g (pickProduction b (wholeProduction g) (getD (g .productions) n (wholeProduction g)))
+    go : (b c : Bool) → ltb n (length (g .productions)) ≡ c → Evaluable g (cond b (wholeProduction g) (getD (g .productions) n (wholeProduction g)))
     go true c e = evaluable-whole g w
     go false true e = evaluable (w .each (getD (g .productions) n (wholeProduction g)) (getD-in (g .productions) n (wholeProduction g) (ltb→lt n (length (g .productions)) (true→T (ltb n (length (g .productions))) e))))
     go false false e = subst (Evaluable g) (sym (List·getD-eq-default (g .productions) (wholeProduction g) (nltb→le n (length (g .productions)) (not-T (ltb n (length (g .productions))) (λ t. subst T e t))))) (evaluable-whole g w)

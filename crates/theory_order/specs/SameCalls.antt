@@ -1,21 +1,19 @@
 -- Grammars that are the same but for order: the same moves, and every call gives the same answer, record and stacks.
-use Prim.Native.Nat.{ℕ}
 use mathlib.Core.Path.{_≡_, refl, ap, subst}
 use mathlib.Core.List.{List}
 use lib.ListN.{length}
-use lib.IntN.{ℤ}
 use Rattle.meaning.specs.Grammar.{Grammar, Production}
 use Rattle.meaning.specs.Rules.{WellFormed}
-use Rattle.meaning.specs.Machine.{Coming, Config, Lent, next, advance, opening}
-use Rattle.meaning.specs.Calls.{Record, Stacks, configOf, openOf, feedOf, finishOf}
+use Rattle.meaning.specs.Machine.{Coming, Config, Lent, next}
+use Rattle.meaning.specs.Calls.{Record, Stacks, configOf, openOf}
 use Rattle.meaning.specs.PublicCalls.{Call, callOf}
 use Rattle.meaning.specs.Order.{SameEach, SameButOrder}
 use Rattle.theory_order.specs.Each.{regrouped, regrouped-is, same-at}
 use Rattle.theory_order.specs.SameSets.{alternatives-same}
 use Rattle.theory_order.specs.SameSchemes.{scheme-same, entered-same}
 use Rattle.theory_order.specs.SameFit.{fit-same}
-use Rattle.theory_order.specs.Alike.{AlikeConfig, AlikeOutcome, AlikeSettled}
-use Rattle.theory_order.specs.SameMoves.{Matched, same-next, same-advance, same-config, same-opening, same-openOf, same-feedOf, same-finishOf, same-call}
+use Rattle.theory_order.specs.Alike.{AlikeConfig, AlikeOutcome}
+use Rattle.theory_order.specs.SameMoves.{Matched, same-next, same-config, same-openOf, same-call}
 
 matched-regrouped : (g : Grammar) → WellFormed g → (qs : List Production) → SameEach (g .productions) qs → Matched g (regrouped g qs)
 matched-regrouped g w qs s = record {
@@ -37,24 +35,11 @@ module _ (g h : Grammar) (w : WellFormed g) (s : SameButOrder g h) where
   pub next-same : (lent : Lent) (ahead : Coming) {c d : Config} → AlikeConfig c d → AlikeOutcome (next g lent ahead c) (next h lent ahead d)
   next-same lent ahead = same-next g h (matched g h w s) lent ahead
 
-  pub advance-same : (lent : Lent) (ahead : Coming) (left n : ℕ) (c d : Config) → AlikeConfig c d → AlikeSettled (advance left g lent ahead n c) (advance left h lent ahead n d)
-  advance-same lent ahead = same-advance g h (matched g h w s) lent ahead
-
-  -- where the moves begin: an opening, and what a call reads back from the stacks
-  pub opening-same : AlikeConfig (opening g) (opening h)
-  opening-same = same-opening g h (matched g h w s)
-
   pub config-same : (r : Record) (m : Stacks) → AlikeConfig (configOf g r m) (configOf h r m)
   config-same = same-config g h (matched g h w s)
 
   pub open-same : (m : Stacks) → openOf g m ≡ openOf h m
   open-same = same-openOf g h (matched g h w s)
-
-  pub feed-same : (r : Record) (m : Stacks) (ks : List ℕ) (vs : List ℤ) → feedOf g r m ks vs ≡ feedOf h r m ks vs
-  feed-same = same-feedOf g h (matched g h w s)
-
-  pub finish-same : (r : Record) (m : Stacks) → finishOf g r m ≡ finishOf h r m
-  finish-same = same-finishOf g h (matched g h w s)
 
   pub call-same : (r : Record) (m : Stacks) (c : Call) → callOf g r m c ≡ callOf h r m c
   call-same = same-call g h (matched g h w s)

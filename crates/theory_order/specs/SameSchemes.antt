@@ -3,18 +3,18 @@ use Prim.Native.Nat.{ℕ, zero, suc, _+_, _-_, _≤_}
 use native.Mathlib.Omega.{arith}
 use mathlib.Core.Path.{_≡_, refl, sym, ap, ap₂, subst, _∙_, fun-ext}
 use mathlib.Core.Logic.{inl}
-use mathlib.Core.Bool.{Bool, true, false, not}
+use mathlib.Core.Bool.{Bool, true, false, not, cond}
 use mathlib.Core.List.{List, [], _∷_, map}
 use lib.ListN.{length, set}
 use lib.Seq.{set-comm}
 use lib.Dec.{eqb, ltb}
 use lib.IntN.{ℤ}
 use Rattle.meaning.specs.Base.{consIf, isEmpty, In}
-use Rattle.meaning.specs.Grammar.{Symbol, nonterminal, Occurrence, Rule, Condition, Production, Grammar, productionAt, symbolAt, addedFor, inh, whole, conditionPosition}
+use Rattle.meaning.specs.Grammar.{Symbol, nonterminal, Occurrence, Rule, Condition, Production, Grammar, productionAt, symbolAt, addedFor, inh, whole, conditionPosition, mapRule, mapCondition, conditionsAt}
 use Rattle.meaning.specs.Value.{apply, holds, inRange}
 use Rattle.meaning.specs.Rules.{Distinct, OutputAt, WellFormed}
-use Rattle.meaning.specs.Scheme.{Instruction, add, mapRule, mapCondition, choose, selectInherited, selectAfter, synBetween, rulesFor, conditionsAt, entryTests, testsAfter, inheritedRules, synthesizedRules, removed, symbolsScheme, scheme}
-use Rattle.meaning.specs.Machine.{readRegister, writeAll, schemeIf, schemeAt, entered}
+use Rattle.meaning.specs.Scheme.{Instruction, add, selectInherited, selectAfter, synBetween, rulesFor, entryTests, testsAfter, inheritedRules, synthesizedRules, removed, symbolsScheme, scheme, expect}
+use Rattle.meaning.specs.Machine.{readRegister, writeAll, schemeAt, entered}
 use Rattle.theory_base.specs.WellFormed.{Evaluable}
 use Rattle.theory_base.specs.Selectors.{target-of-inherited, target-of-synthesized}
 use Rattle.theory_base.specs.Present.{in-for}
@@ -70,15 +70,15 @@ module _ (g : Grammar) (qs : List Production) (p : Production) (rs : List (Rule 
 
   inherited-redone : (k : ℕ) → selectInherited g p k ≡ selectInherited (regrouped g qs) (redone p rs cs) k
   inherited-redone k = fun-ext (λ o. ap₂ (λ (n : ℕ) (y : Symbol).
-      choose (eqb (o .position) k)
+      cond (eqb (o .position) k)
       (o .attribute)
-      (choose (eqb (o .position) 0)
+      (cond (eqb (o .position) 0)
       (n + synBetween g p 0 (k - 1) + o .attribute)
       (n + synBetween g p (o .position) (k - 1) + (o .attribute - inh g y)))) (ap (addedFor g) (symbol-redone k) ∙ added-redone (symbolAt (redone p rs cs) k)) (symbol-redone (o .position)))
 
   after-redone : (k : ℕ) → selectAfter g p k ≡ selectAfter (regrouped g qs) (redone p rs cs) k
   after-redone k = fun-ext (λ o. ap (λ y.
-      choose (eqb (o .position) 0)
+      cond (eqb (o .position) 0)
       (synBetween g p 0 k + o .attribute)
       (synBetween g p (o .position) k + (o .attribute - inh g y))) (symbol-redone (o .position)))
 
@@ -153,13 +153,13 @@ module _ (g : Grammar) (w : WellFormed g) (qs : List Production) (s : SameEach (
       x : SameProduction (productionAt g n) (productionAt (regrouped g qs) n)
       x = same-at g qs s n
 
-      go : (b : Bool) → AlikeAll (schemeIf b g (productionAt g n)) (schemeIf b (regrouped g qs) (productionAt (regrouped g qs) n))
+      go : (b : Bool) → AlikeAll (cond b (expect (nonterminal (g .start)) ∷ []) (scheme g (productionAt g n))) (cond b (expect (nonterminal ((regrouped g qs) .start)) ∷ []) (scheme (regrouped g qs) (productionAt (regrouped g qs) n)))
       go true = followed (awaits (nonterminal (g .start))) ended
       go false = subst (λ z. AlikeAll (scheme g (productionAt g n)) (scheme (regrouped g qs) z)) (redone-is (productionAt g n) (productionAt (regrouped g qs) n) x)
           (scheme-redone g qs (productionAt g n) (productionAt (regrouped g qs) n .rules) (productionAt (regrouped g qs) n .conditions) (ready-at g w n) (x .rules) (x .conditions))
 
 -- the entry conditions of a production and of its like
-pub entry-members : (g : Grammar) (qs : List Production) (p q : Production) → SameProduction p q → SameMembers (entryTests g p) (entryTests (regrouped g qs) q)
+entry-members : (g : Grammar) (qs : List Production) (p q : Production) → SameProduction p q → SameMembers (entryTests g p) (entryTests (regrouped g qs) q)
 entry-members g qs p q x = subst (λ z. SameMembers (entryTests g p) (entryTests (regrouped g qs) z)) (redone-is p q x)
     (tests-redone g qs p (q .rules) (q .conditions) (x .conditions) 0)
 

@@ -4,20 +4,19 @@ use mathlib.Core.Path.{_≡_, refl, sym, ap, subst, _∙_, fun-ext}
 use mathlib.Core.Logic.{_⊎_, inl, inr}
 use mathlib.Core.Bool.{not}
 use mathlib.Core.List.{List, [], _∷_, _++_, map}
-use lib.ListN.{length, getD}
+use lib.ListN.{length}
 use lib.Dec.{T, eqb}
-use lib.IntN.{ℤ, pos}
+use lib.IntN.{ℤ}
 use Rattle.meaning.specs.Base.{In, all, total}
-use Rattle.meaning.specs.Grammar.{Symbol, terminal, nonterminal, Rule, Condition, Occurrence, Production, Grammar, productionAt, inh, Look, token, over, nonterminalCount, conditionPosition}
+use Rattle.meaning.specs.Grammar.{Symbol, terminal, nonterminal, Rule, Condition, Occurrence, Production, Grammar, productionAt, inh, Look, token, over, nonterminalCount, conditionPosition, conditionsAt}
 use Rattle.meaning.specs.Value.{holds, inRange}
 use Rattle.meaning.specs.Rules.{WellFormed, WellFormedProduction, Known, Input, InputAt, Output, OutputAt, Operand, Operands, Reads}
-use Rattle.meaning.specs.Scheme.{conditionsAt, entryTests}
-use Rattle.meaning.specs.Derivation.{Listed, Derives, itself, step, startForm, Reachable, Productive, LeftRecursive, Follow, Starts, entryConditional, Enters, Clash}
+use Rattle.meaning.specs.Derivation.{Listed, Derives, itself, step, startForm, Reachable, Productive, LeftRecursive, Follow, Starts, entryConditional, entryValue, Enters, Clash}
 use Rattle.meaning.specs.Judgement.{AllUseful, NoneRecursive, NoneClash}
-use Rattle.meaning.specs.Order.{SameProduction, SameEach, SameButOrder}
+use Rattle.meaning.specs.Order.{SameProduction, SameEach, SameButOrder, SameMembers}
 use Rattle.theory_order.specs.Shuffles.{shuffled-in, shuffled-sym, length-shuffled, apart-shuffled, all-members, empty-members, keep-members}
 use Rattle.theory_order.specs.Each.{redone, redone-is, regrouped, regrouped-is, each-sym, each-length, each-in, map-each, same-at}
-use Rattle.theory_order.specs.SameSchemes.{distinct-apart, apart-distinct, entry-members}
+use Rattle.theory_order.specs.SameSchemes.{distinct-apart, apart-distinct}
 
 pub same-but-sym : (g h : Grammar) → SameButOrder g h → SameButOrder h g
 same-but-sym g h s = record { terminals = sym (s .terminals); counts = sym (s .counts); carrying = sym (s .carrying); start = sym (s .start); result = sym (s .result); productions = each-sym (g .productions) (h .productions) (s .productions) }
@@ -97,7 +96,7 @@ pub record SameSides (g h : Grammar) : Type 0 where
   pub rights : (n : ℕ) → productionAt g n .right ≡ productionAt h n .right
   pub inherited : (n : ℕ) → inh g (nonterminal n) ≡ inh h (nonterminal n)
   pub conditional : (n : ℕ) → entryConditional g n ≡ entryConditional h n
-  pub enters : (vs : List ℤ) (n : ℕ) → all (holds (λ a. getD vs (Prim.Native.Nat._-_ a 1) (pos 0))) (entryTests g (productionAt g n)) ≡ all (holds (λ a. getD vs (Prim.Native.Nat._-_ a 1) (pos 0))) (entryTests h (productionAt h n))
+  pub enters : (vs : List ℤ) (n : ℕ) → all (holds (entryValue vs)) (conditionsAt (productionAt g n) 0) ≡ all (holds (entryValue vs)) (conditionsAt (productionAt h n) 0)
 
 sides-regrouped : (g : Grammar) (qs : List Production) → SameEach (g .productions) qs → SameSides g (regrouped g qs)
 sides-regrouped g qs s = record {
@@ -107,9 +106,12 @@ sides-regrouped g qs s = record {
   lefts = λ n. same-at g qs s n .left;
   rights = λ n. same-at g qs s n .right;
   inherited = λ n. refl;
-  conditional = λ n. ap not (empty-members (conditionsAt (productionAt g n) 0) (conditionsAt (productionAt (regrouped g qs) n) 0) (keep-members (λ c. eqb (conditionPosition c) 0) (productionAt g n .conditions) (productionAt (regrouped g qs) n .conditions) (same-at g qs s n .conditions)));
-  enters = λ vs n. all-members (holds (λ a. getD vs (Prim.Native.Nat._-_ a 1) (pos 0))) (entryTests g (productionAt g n)) (entryTests (regrouped g qs) (productionAt (regrouped g qs) n)) (entry-members g qs (productionAt g n) (productionAt (regrouped g qs) n) (same-at g qs s n));
+  conditional = λ n. ap not (empty-members (conditionsAt (productionAt g n) 0) (conditionsAt (productionAt (regrouped g qs) n) 0) (same-entries n));
+  enters = λ vs n. all-members (holds (entryValue vs)) (conditionsAt (productionAt g n) 0) (conditionsAt (productionAt (regrouped g qs) n) 0) (same-entries n);
 }
+  where
+    same-entries : (n : ℕ) → SameMembers (conditionsAt (productionAt g n) 0) (conditionsAt (productionAt (regrouped g qs) n) 0)
+    same-entries n = keep-members (λ c. eqb (conditionPosition c) 0) (productionAt g n .conditions) (productionAt (regrouped g qs) n .conditions) (same-at g qs s n .conditions)
 
 pub same-sides : (g h : Grammar) → SameButOrder g h → SameSides g h
 same-sides g h s = subst (SameSides g) (regrouped-is g h s) (sides-regrouped g (h .productions) (s .productions))

@@ -18,7 +18,7 @@ use Rattle.meaning.specs.Program.{concat, schemeWords, expectsAt, entryWords, s
 use Rattle.theory_base.specs.WellFormed.{listed-at, well-formed-at}
 use Rattle.theory_base.specs.Frames.{expects-skip, expects-symbols}
 use Rattle.theory_sets.specs.Tests.{tabled, length-countFrom}
-use Rattle.theory_program.specs.Stands.{Stands, stands-at, stands-in, stands-first, stands-behind, stands-left, stands-right, stands-word}
+use Rattle.theory_program.specs.WordsStand.{WordsStand, stands-at, stands-in, stands-first, stands-behind, stands-left, stands-right, stands-word}
 use Rattle.theory_program.specs.Code.{CodeAt, ConditionsAt, conditions-length, expects-length, code-from}
 
 -- ---- addresses
@@ -120,26 +120,26 @@ directory-length g = rows-length (directoryWord g) 64 0 (nonterminalCount g)
 
 -- ---- the p-th record, the p-th row of what places wait at, and the p-th body
 
-record-in : (g : Grammar) (a i : ℕ) (ps : List Production) (p : ℕ) (d : Production) (b j : ℕ) → p < length ps → a + bodiesBefore g p ps ≡ b → i + p ≡ j → Stands (recordsFrom g a i ps) (8 * p) (recordWords g b j (getD ps p d) (drop (suc p) ps))
+record-in : (g : Grammar) (a i : ℕ) (ps : List Production) (p : ℕ) (d : Production) (b j : ℕ) → p < length ps → a + bodiesBefore g p ps ≡ b → i + p ≡ j → WordsStand (recordsFrom g a i ps) (8 * p) (recordWords g b j (getD ps p d) (drop (suc p) ps))
 record-in g a i [] p d b j l e q = absurd (omega arith)
 record-in g a i (r ∷ ps) zero d b j l e q =
     let x : a ≡ b = omega arith in
     let y : i ≡ j = omega arith in
-    stands-at (8 * 0) (omega arith) (subst (λ c. Stands (recordsFrom g a i (r ∷ ps)) 0 (recordWords g c j r ps)) x (subst (λ c. Stands (recordsFrom g a i (r ∷ ps)) 0 (recordWords g a c r ps)) y (stands-first (recordWords g a i r ps) (recordsFrom g (a + bodySize g r) (suc i) ps))))
+    stands-at (8 * 0) (omega arith) (subst (λ c. WordsStand (recordsFrom g a i (r ∷ ps)) 0 (recordWords g c j r ps)) x (subst (λ c. WordsStand (recordsFrom g a i (r ∷ ps)) 0 (recordWords g a c r ps)) y (stands-first (recordWords g a i r ps) (recordsFrom g (a + bodySize g r) (suc i) ps))))
 record-in g a i (r ∷ ps) (suc p) d b j l e q =
     stands-at (8 * suc p) (omega arith) (stands-in (stands-behind (recordWords g a i r ps) (recordsFrom g (a + bodySize g r) (suc i) ps)) (record-in g (a + bodySize g r) (suc i) ps p d b j (omega arith) (omega arith) (omega arith)))
 
-wait-in : (g : Grammar) (ps : List Production) (p : ℕ) (d : Production) → Short ps → p < length ps → Stands (concat (map (waitRow g) ps)) (12 * p) (waitRow g (getD ps p d))
+wait-in : (g : Grammar) (ps : List Production) (p : ℕ) (d : Production) → Short ps → p < length ps → WordsStand (concat (map (waitRow g) ps)) (12 * p) (waitRow g (getD ps p d))
 wait-in g [] p d h l = absurd (omega arith)
 wait-in g (r ∷ ps) zero d h l = stands-at (12 * 0) (omega arith) (stands-first (waitRow g r) (concat (map (waitRow g) ps)))
 wait-in g (r ∷ ps) (suc p) d h l =
     stands-at (12 * suc p) (omega (arith, wait-row-length g r (h r (inl refl)))) (stands-in (stands-behind (waitRow g r) (concat (map (waitRow g) ps))) (wait-in g ps p d (λ q i. h q (inr i)) (omega arith)))
 
-body-in : (g : Grammar) (a : ℕ) (ps : List Production) (p : ℕ) (d : Production) (b : ℕ) → p < length ps → a + bodiesBefore g p ps ≡ b → Stands (bodiesFrom g a ps) (bodiesBefore g p ps) (bodyWords g b (getD ps p d))
+body-in : (g : Grammar) (a : ℕ) (ps : List Production) (p : ℕ) (d : Production) (b : ℕ) → p < length ps → a + bodiesBefore g p ps ≡ b → WordsStand (bodiesFrom g a ps) (bodiesBefore g p ps) (bodyWords g b (getD ps p d))
 body-in g a [] p d b l e = absurd (omega arith)
 body-in g a (r ∷ ps) zero d b l e =
     let x : a ≡ b = omega arith in
-    subst (λ c. Stands (bodiesFrom g a (r ∷ ps)) 0 (bodyWords g c r)) x (stands-first (bodyWords g a r) (bodiesFrom g (a + bodySize g r) ps))
+    subst (λ c. WordsStand (bodiesFrom g a (r ∷ ps)) 0 (bodyWords g c r)) x (stands-first (bodyWords g a r) (bodiesFrom g (a + bodySize g r) ps))
 body-in g a (r ∷ ps) (suc p) d b l e =
     stands-at (bodySize g r + bodiesBefore g p ps) (omega (arith, body-length g a r)) (stands-in (stands-behind (bodyWords g a r) (bodiesFrom g (a + bodySize g r) ps)) (body-in g (a + bodySize g r) ps p d b (omega arith) (omega arith)))
 
@@ -149,7 +149,7 @@ short-productions w p i = w .each p i .short
 -- ---- in a list that begins with the program
 
 pub record Begins (g : Grammar) (ws : List ℕ) : Type 0 where
-  pub words : Stands ws 0 (programOf g)
+  pub words : WordsStand ws 0 (programOf g)
 
 -- an area into which the program was written
 pub written-begins : (g : Grammar) (area : List ℕ) → Begins g (written (programOf g) area)
@@ -166,16 +166,16 @@ module _ {g : Grammar} {ws : List ℕ} (s : Begins g ws) where
   abbrev behind : List ℕ
   behind = records ++ (waits g ++ bodies)
 
-  pub segment-at : Stands ws 0 (segmentWords g)
+  pub segment-at : WordsStand ws 0 (segmentWords g)
   segment-at = stands-left (segmentWords g) (directory g ++ behind) (s .words)
 
-  behind-segment : Stands ws 9 (directory g ++ behind)
+  behind-segment : WordsStand ws 9 (directory g ++ behind)
   behind-segment = stands-right (segmentWords g) (directory g ++ behind) (s .words)
 
-  behind-directory : Stands ws (recordsAddress g) behind
+  behind-directory : WordsStand ws (recordsAddress g) behind
   behind-directory = stands-at (recordsAddress g) (omega (arith, directory-length g)) (stands-right (directory g) behind behind-segment)
 
-  behind-records : Stands ws (waitsAddress g) (waits g ++ bodies)
+  behind-records : WordsStand ws (waitsAddress g) (waits g ++ bodies)
   behind-records = stands-at (waitsAddress g) (omega (arith, records-length g (bodiesAddress g) 0 (g .productions))) (stands-right records (waits g ++ bodies) behind-directory)
 
   pub directory-at : (n u : ℕ) → n < nonterminalCount g → u < 64 → getD ws (9 + 64 * n + u) 0 ≡ directoryWord g n u
@@ -190,25 +190,25 @@ module _ {g : Grammar} {ws : List ℕ} (s : Begins g ws) where
   whole-at = record { words = stands-left (symbolHead (nonterminal (g .start)) ∷ []) (drop 1 (segmentWords g)) segment-at }
 
   module _ (w : WellFormed g) (p : ℕ) (l : p < length (g .productions)) where
-    pub record-at : Stands ws (recordAddress g p) (recordWords g (bodyAddress g p) p (productionAt g p) (drop (suc p) (g .productions)))
+    pub record-at : WordsStand ws (recordAddress g p) (recordWords g (bodyAddress g p) p (productionAt g p) (drop (suc p) (g .productions)))
     record-at =
         let here = record-in g (bodiesAddress g) 0 (g .productions) p (wholeProduction g) (bodyAddress g p) p l refl (omega arith) in
-        subst (λ q. Stands ws (recordAddress g p) (recordWords g (bodyAddress g p) p q (drop (suc p) (g .productions)))) (sym (listed-at g w p l)) (stands-in (stands-left records (waits g ++ bodies) behind-directory) here)
+        subst (λ q. WordsStand ws (recordAddress g p) (recordWords g (bodyAddress g p) p q (drop (suc p) (g .productions)))) (sym (listed-at g w p l)) (stands-in (stands-left records (waits g ++ bodies) behind-directory) here)
 
     -- what its places wait at
-    pub wait-row-at : Stands ws (waitAddress g p) (waitRow g (productionAt g p))
+    pub wait-row-at : WordsStand ws (waitAddress g p) (waitRow g (productionAt g p))
     wait-row-at =
         let here = wait-in g (g .productions) p (wholeProduction g) (short-productions w) l in
-        subst (λ q. Stands ws (waitAddress g p) (waitRow g q)) (sym (listed-at g w p l)) (stands-in (stands-left (waits g) bodies behind-records) here)
+        subst (λ q. WordsStand ws (waitAddress g p) (waitRow g q)) (sym (listed-at g w p l)) (stands-in (stands-left (waits g) bodies behind-records) here)
 
     pub wait-at : (k : ℕ) → k < 12 → getD ws (waitAddress g p + k) 0 ≡ getD (waitRow g (productionAt g p)) k 0
     wait-at k m = stands-word wait-row-at k (omega (arith, wait-row-length g (productionAt g p) (well-formed-at g w p l .short)))
 
-    pub body-at : Stands ws (bodyAddress g p) (bodyWords g (bodyAddress g p) (productionAt g p))
+    pub body-at : WordsStand ws (bodyAddress g p) (bodyWords g (bodyAddress g p) (productionAt g p))
     body-at =
         let here = body-in g (bodiesAddress g) (g .productions) p (wholeProduction g) (bodyAddress g p) l refl in
         let all = stands-right (waits g) bodies behind-records in
-        subst (λ q. Stands ws (bodyAddress g p) (bodyWords g (bodyAddress g p) q)) (sym (listed-at g w p l)) (stands-at (bodyAddress g p) (omega (arith, waits-length g (g .productions) (short-productions w))) (stands-in all here))
+        subst (λ q. WordsStand ws (bodyAddress g p) (bodyWords g (bodyAddress g p) q)) (sym (listed-at g w p l)) (stands-at (bodyAddress g p) (omega (arith, waits-length g (g .productions) (short-productions w))) (stands-in all here))
 
     abbrev addresses : List ℕ
     addresses = expectsAt (schemeAddress g p) (scheme g (productionAt g p))
@@ -216,7 +216,7 @@ module _ {g : Grammar} {ws : List ℕ} (s : Begins g ws) where
     addresses-length : length addresses ≡ length (productionAt g p .right)
     addresses-length = expects-length (schemeAddress g p) (scheme g (productionAt g p)) ∙ expects-scheme g (productionAt g p)
 
-    behind-addresses : Stands ws (entryAddress g p) (entryWords g (productionAt g p) ++ schemeWords (scheme g (productionAt g p)))
+    behind-addresses : WordsStand ws (entryAddress g p) (entryWords g (productionAt g p) ++ schemeWords (scheme g (productionAt g p)))
     behind-addresses = stands-at (entryAddress g p) (omega (arith, addresses-length)) (stands-right addresses (entryWords g (productionAt g p) ++ schemeWords (scheme g (productionAt g p))) body-at)
 
     pub entry-at : ConditionsAt ws (entryAddress g p) (entryTests g (productionAt g p))

@@ -7,21 +7,21 @@ use mathlib.Core.List.{List, [], _∷_, map}
 use mathlib.Core.Option.{none, some}
 use lib.ListN.{length, getD, length-append}
 use Rattle.meaning.specs.Base.{In}
-use Rattle.meaning.specs.Grammar.{terminal, nonterminal, Function, const, copy, sum, diff, prod, maxi, mini, addc, quot, Rule, Condition, range, atmost}
+use Rattle.meaning.specs.Grammar.{terminal, nonterminal, Function, const, copy, binary, addc, quot, Rule, Condition, range, atmost}
 use Rattle.meaning.specs.Scheme.{Instruction, add, evaluate, expect, test, remove}
 use Rattle.meaning.specs.Machine.{expects}
 use Rattle.meaning.specs.Calls.{fromExpect}
 use Rattle.meaning.specs.Program.{concat, functionWords, ruleWords, conditionWords, instructionWords, schemeWords, expectsAt}
-use Rattle.theory_program.specs.Stands.{Stands, stands-at, stands-left, stands-right, stands-tail, stands-word, stands-head}
+use Rattle.theory_program.specs.WordsStand.{WordsStand, stands-at, stands-left, stands-right, stands-tail, stands-word, stands-head}
 
 pub record RulesAt (ws : List ℕ) (a : ℕ) (rs : List (Rule ℕ)) : Type 0 where
-  pub words : Stands ws a (concat (map ruleWords rs))
+  pub words : WordsStand ws a (concat (map ruleWords rs))
 
 pub record ConditionsAt (ws : List ℕ) (a : ℕ) (cs : List (Condition ℕ)) : Type 0 where
-  pub words : Stands ws a (concat (map conditionWords cs))
+  pub words : WordsStand ws a (concat (map conditionWords cs))
 
 pub record CodeAt (ws : List ℕ) (a : ℕ) (is : List Instruction) : Type 0 where
-  pub words : Stands ws a (schemeWords is)
+  pub words : WordsStand ws a (schemeWords is)
 
 -- ---- how many words there are
 
@@ -31,11 +31,7 @@ rule-length r = go (r .target) (r .function)
     go : (t : ℕ) (f : Function ℕ) → length (functionWords t f) ≡ 2
     go t (const c) = refl
     go t (copy a) = refl
-    go t (sum a b) = refl
-    go t (diff a b) = refl
-    go t (prod a b) = refl
-    go t (maxi a b) = refl
-    go t (mini a b) = refl
+    go t (binary f a b) = refl
     go t (addc a c) = refl
     go t (quot a c) = refl
 

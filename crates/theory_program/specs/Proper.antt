@@ -9,10 +9,10 @@ use mathlib.Core.List.{List, [], _∷_, map}
 use lib.ListN.{length, take, drop, length-map, length-take, length-drop}
 use lib.Dec.{T, eqb, ltb, ltb→lt, eqb·suc-zero}
 use Rattle.meaning.specs.Base.{In, keep, consIf, total, isEmpty, any}
-use Rattle.meaning.specs.Grammar.{Symbol, terminal, nonterminal, Occurrence, Function, const, copy, sum, diff, prod, maxi, mini, addc, quot, Rule, Condition, range, atmost, Production, Grammar, syn, att, symbolAt, productionAt, wholeProduction, conditionPosition, addedFor, attributeIf}
+use Rattle.meaning.specs.Grammar.{Symbol, terminal, nonterminal, Occurrence, Function, const, copy, binary, addc, quot, Rule, Condition, range, atmost, Production, Grammar, syn, att, symbolAt, productionAt, wholeProduction, conditionPosition, addedFor, attributeIf, mapFunction, mapCondition, mapRule, conditionsAt}
 use Rattle.meaning.specs.Rules.{Operands, Reads, Input, InputAt, Output, OutputAt, Operand, Known, InFourBytes, Constant, Proper, WellFormedProduction, WellFormed}
 use Rattle.meaning.specs.Selectors.{occurrence}
-use Rattle.meaning.specs.Scheme.{Instruction, add, evaluate, expect, test, remove, mapFunction, mapCondition, mapRule, synBetween, selectInherited, selectAfter, rulesFor, conditionsAt, entryTests, testsAfter, inheritedRules, synthesizedRules, removed, symbolScheme, symbolsScheme, scheme}
+use Rattle.meaning.specs.Scheme.{Instruction, add, evaluate, expect, test, remove, synBetween, selectInherited, selectAfter, rulesFor, entryTests, testsAfter, inheritedRules, synthesizedRules, removed, symbolScheme, symbolsScheme, scheme}
 use Rattle.theory_base.specs.Members.{in-keep, getD-in, map-in}
 use Rattle.theory_base.specs.WellFormed.{listed-at, counts-most}
 use Rattle.theory_base.specs.Selectors.{inherited-at, target-of-inherited, target-of-synthesized}
@@ -55,11 +55,7 @@ AllProper g is = (i : Instruction) → In i is → ProperInstruction g i
 constant-map : {O P : Type 0} (s : O → P) (f : Function O) → Constant f → Constant (mapFunction s f)
 constant-map s (const c) h = h
 constant-map s (copy a) h = tt
-constant-map s (sum a b) h = tt
-constant-map s (diff a b) h = tt
-constant-map s (prod a b) h = tt
-constant-map s (maxi a b) h = tt
-constant-map s (mini a b) h = tt
+constant-map s (binary f a b) h = tt
 constant-map s (addc a c) h = h
 constant-map s (quot a c) h = h
 

@@ -16,7 +16,7 @@ use Rattle.meaning.specs.Sets.{TokenSet, has, starts}
 use Rattle.meaning.specs.Program.{setBits, carriers, recordsAddress}
 use Rattle.theory_base.specs.Members.{map-at}
 use Rattle.theory_sets.specs.Verdicts.{counted}
-use Rattle.theory_program.specs.Stands.{stands-word}
+use Rattle.theory_program.specs.WordsStand.{stands-word}
 use Rattle.theory_program.specs.Addresses.{Begins, recordAddress, bodyAddress, schemeAddress, segment-at, record-at}
 use Rattle.theory_program.specs.SetWords.{set-bit}
 use Rattle.theory_program.specs.Search.{nextWord}

@@ -4,11 +4,12 @@ use native.Mathlib.Omega.{arith}
 use mathlib.Core.Path.{_≡_, sym, ap, subst}
 use mathlib.Core.Logic.{_⊎_, inl, inr}
 use mathlib.Core.List.{List, [], _∷_}
+use mathlib.Core.Bool.{cond}
 use lib.ListN.{length}
 use lib.Dec.{T, eqb, ltb, ltb→lt, eqb→eq}
 use Rattle.meaning.specs.Grammar.{Grammar, productionAt, whole}
 use Rattle.meaning.specs.Rules.{WellFormed}
-use Rattle.meaning.specs.Scheme.{Instruction, add, evaluate, expect, test, remove, choose}
+use Rattle.meaning.specs.Scheme.{Instruction, add, evaluate, expect, test, remove}
 use Rattle.meaning.specs.Machine.{schemeAt}
 use Rattle.meaning.specs.Calls.{fromExpect, frameOf, isListed, placeWaits}
 use Rattle.theory_base.specs.Members.{both, or-cases}
@@ -20,7 +21,7 @@ use Rattle.theory_base.specs.Frames.{scheme-listed}
 
 -- where the code of a place begins: the whole segment's stands in words 0 and 1
 abbrev pub placeAddress : Grammar → ℕ → ℕ
-placeAddress g q = choose (eqb (q / 256) whole) (q % 256) (expectAddress g (q / 256) (q % 256))
+placeAddress g q = cond (eqb (q / 256) whole) (q % 256) (expectAddress g (q / 256) (q % 256))
 
 listed-cases : (g : Grammar) (p : ℕ) → T (isListed g p) → (p < length (g .productions)) ⊎ (p ≡ whole)
 listed-cases g p t = go (or-cases (ltb p (length (g .productions))) (eqb p whole) t)
@@ -32,11 +33,11 @@ listed-cases g p t = go (or-cases (ltb p (length (g .productions))) (eqb p whole
 -- ---- code
 
 module _ {g : Grammar} {ws : List ℕ} (b : Begins g ws) (w : WellFormed g) where
-  code-waits : (p k : ℕ) → (p < length (g .productions)) ⊎ (p ≡ whole) → k < length (productionAt g p .right) → CodeAt ws (choose (eqb p whole) k (expectAddress g p k)) (fromExpect (schemeAt g p) k)
+  code-waits : (p k : ℕ) → (p < length (g .productions)) ⊎ (p ≡ whole) → k < length (productionAt g p .right) → CodeAt ws (cond (eqb p whole) k (expectAddress g p k)) (fromExpect (schemeAt g p) k)
   code-waits p k (inl l) m =
-      subst (λ a. CodeAt ws a (fromExpect (schemeAt g p) k)) (ap (λ c. choose c k (expectAddress g p k)) (sym (not-whole g w p l)))
+      subst (λ a. CodeAt ws a (fromExpect (schemeAt g p) k)) (ap (λ c. cond c k (expectAddress g p k)) (sym (not-whole g w p l)))
       (subst (λ is. CodeAt ws (expectAddress g p k) (fromExpect is k)) (sym (scheme-listed g w p l)) (expect-at b w p l k m))
-  code-waits p k (inr e) m = subst (λ r. CodeAt ws (choose (eqb r whole) k (expectAddress g r k)) (fromExpect (schemeAt g r) k)) (sym e) (first k (subst (λ r. k < length (productionAt g r .right)) e m))
+  code-waits p k (inr e) m = subst (λ r. CodeAt ws (cond (eqb r whole) k (expectAddress g r k)) (fromExpect (schemeAt g r) k)) (sym e) (first k (subst (λ r. k < length (productionAt g r .right)) e m))
     where
       first : (k : ℕ) → k < length (productionAt g whole .right) → CodeAt ws k (fromExpect (schemeAt g whole) k)
       first zero l = whole-at b

@@ -3,7 +3,7 @@ use Prim.Native.Nat.{ℕ, zero, suc, _+_, _-_, _≤_, _<_}
 use native.Mathlib.Omega.{arith}
 use mathlib.Core.Path.{_≡_, refl, sym, ap, _∙_, subst}
 use mathlib.Core.Logic.{_↔_}
-use mathlib.Core.Bool.{Bool, true, false, _&&_}
+use mathlib.Core.Bool.{Bool, true, false, _&&_, cond}
 use mathlib.Core.List.{List, [], _∷_}
 use lib.ListN.{length, getD, drop, length-drop}
 use lib.Seq.{getD-drop}
@@ -12,7 +12,6 @@ use lib.IntN.{ℤ}
 use Rattle.meaning.specs.Base.{keep, consIf, countFrom, isEmpty}
 use Rattle.meaning.specs.Grammar.{Production, Grammar, productionAt, wholeProduction, Look}
 use Rattle.meaning.specs.Rules.{WellFormed}
-use Rattle.meaning.specs.Scheme.{choose}
 use Rattle.meaning.specs.Sets.{has, starts, lookNumber}
 use Rattle.meaning.specs.Machine.{isOf, alternatives, entered}
 use Rattle.meaning.specs.Program.{firstOf, directoryWord}
@@ -38,7 +37,7 @@ first-some (x ∷ xs) p = ((λ e. let h : x ≡ p = omega arith in (xs, ap (λ y
 abbrev pub firstFrom : (ℕ → Bool) → ℕ → ℕ → ℕ
 firstFrom f i n = firstNumber (keep f (countFrom i n))
 
-first-kept : (b : Bool) (i : ℕ) (xs : List ℕ) → firstNumber (consIf b i xs) ≡ choose b (suc i) (firstNumber xs)
+first-kept : (b : Bool) (i : ℕ) (xs : List ℕ) → firstNumber (consIf b i xs) ≡ cond b (suc i) (firstNumber xs)
 first-kept true i xs = refl
 first-kept false i xs = refl
 
@@ -46,7 +45,7 @@ pub first-passes : (f : ℕ → Bool) (i n q : ℕ) → firstFrom f i n ≡ suc 
 first-passes f i zero q e = absurd (omega arith)
 first-passes f i (suc n) q e = go (f i) refl (sym (first-kept (f i) i (keep f (countFrom (suc i) n))) ∙ e) (λ h. first-passes f (suc i) n q h)
   where
-    go : (b : Bool) → f i ≡ b → choose b (suc i) (firstFrom f (suc i) n) ≡ suc q → (firstFrom f (suc i) n ≡ suc q → (suc i ≤ q) × (q < suc i + n) × T (f q)) → (i ≤ q) × (q < i + suc n) × T (f q)
+    go : (b : Bool) → f i ≡ b → cond b (suc i) (firstFrom f (suc i) n) ≡ suc q → (firstFrom f (suc i) n ≡ suc q → (suc i ≤ q) × (q < suc i + n) × T (f q)) → (i ≤ q) × (q < i + suc n) × T (f q)
     go true t h ih = let z : q ≡ i = omega arith in (omega arith, omega arith, subst (λ k. T (f k)) (sym z) (rw t tt))
     go false t h ih = let r = ih h in (omega (arith, r .0), omega (arith, r .1), r .2)
 
@@ -60,11 +59,11 @@ first-skips : (f c : ℕ → Bool) → ((k : ℕ) → T (f k) → T (c k)) → (
 first-skips f c h i zero = refl
 first-skips f c h i (suc n) = rw (first-kept (c i) i (keep c (countFrom (suc i) n))) (go (c i) refl (first-skips f c h (suc i) n))
   where
-    go : (b : Bool) → c i ≡ b → firstFrom f (suc i) n ≡ resumed f (suc i + n) (firstFrom c (suc i) n) → firstFrom f i (suc n) ≡ resumed f (i + suc n) (choose b (suc i) (firstFrom c (suc i) n))
+    go : (b : Bool) → c i ≡ b → firstFrom f (suc i) n ≡ resumed f (suc i + n) (firstFrom c (suc i) n) → firstFrom f i (suc n) ≡ resumed f (i + suc n) (cond b (suc i) (firstFrom c (suc i) n))
     go true e ih = let z : suc n ≡ i + suc n - i = omega arith in ap (firstFrom f i) z
     go false e ih =
         let z : suc i + n ≡ i + suc n = omega arith in
-        first-kept (f i) i (keep f (countFrom (suc i) n)) ∙ (ap (λ b. choose b (suc i) (firstFrom f (suc i) n)) (fails (f i) (h i)) ∙ subst (λ m. firstFrom f (suc i) n ≡ resumed f m (firstFrom c (suc i) n)) z ih)
+        first-kept (f i) i (keep f (countFrom (suc i) n)) ∙ (ap (λ b. cond b (suc i) (firstFrom f (suc i) n)) (fails (f i) (h i)) ∙ subst (λ m. firstFrom f (suc i) n ≡ resumed f m (firstFrom c (suc i) n)) z ih)
       where
         fails : (b : Bool) → (T b → T (c i)) → b ≡ false
         fails true k = absurd (rw e at (k tt))
@@ -77,9 +76,9 @@ first-numbered f h i [] d e = refl
 first-numbered f h i (p ∷ ps) d e =
     let here : h i ≡ f p = ap h (omega arith) ∙ e 0 (omega arith) in
     let later = first-numbered f h (suc i) ps d (λ k l. ap h (omega arith) ∙ e (suc k) (omega arith)) in
-    go (f p) later ∙ (ap (λ b. choose b (suc i) (firstFrom h (suc i) (length ps))) (sym here) ∙ sym (first-kept (h i) i (keep h (countFrom (suc i) (length ps)))))
+    go (f p) later ∙ (ap (λ b. cond b (suc i) (firstFrom h (suc i) (length ps))) (sym here) ∙ sym (first-kept (h i) i (keep h (countFrom (suc i) (length ps)))))
   where
-    go : (b : Bool) → firstOf f (suc i) ps ≡ firstFrom h (suc i) (length ps) → _≡_ {A = ℕ} (elim b [ true ↦ suc i | false ↦ firstOf f (suc i) ps ]) (choose b (suc i) (firstFrom h (suc i) (length ps)))
+    go : (b : Bool) → firstOf f (suc i) ps ≡ firstFrom h (suc i) (length ps) → _≡_ {A = ℕ} (elim b [ true ↦ suc i | false ↦ firstOf f (suc i) ps ]) (cond b (suc i) (firstFrom h (suc i) (length ps)))
     go true q = refl
     go false q = q
 
@@ -134,7 +133,7 @@ passes g rs look p = has (starts g (productionAt g p)) (lookNumber look) && ente
 abbrev pub searchFrom : ℕ → Grammar → List ℤ → Look → ℕ → ℕ
 searchFrom zero g rs look d = 0
 searchFrom (suc steps) g rs look zero = 0
-searchFrom (suc steps) g rs look (suc p) = choose (passes g rs look p) (suc p) (searchFrom steps g rs look (nextWord g p))
+searchFrom (suc steps) g rs look (suc p) = cond (passes g rs look p) (suc p) (searchFrom steps g rs look (nextWord g p))
 
 -- the number plus 1 of the production found, or 0
 abbrev pub search : Grammar → List ℤ → ℕ → Look → ℕ
@@ -154,7 +153,7 @@ module _ (g : Grammar) (w : WellFormed g) (rs : List ℤ) (n : ℕ) (look : Look
   wanted-is : (p : ℕ) → productionAt g p .left ≡ n → wanted p ≡ passes g rs look p
   wanted-is p e = ap (λ b. (b && holding p) && entered g rs p) (T→true (isLeft g n p) (subst (λ m. T (eqb (productionAt g p .left) m)) e (eqb-refl (productionAt g p .left))))
 
-  found-at : (p : ℕ) → p < length (g .productions) → productionAt g p .left ≡ n → found g rs n look (suc p) ≡ choose (passes g rs look p) (suc p) (found g rs n look (nextWord g p))
+  found-at : (p : ℕ) → p < length (g .productions) → productionAt g p .left ≡ n → found g rs n look (suc p) ≡ cond (passes g rs look p) (suc p) (found g rs n look (nextWord g p))
   found-at p l e =
       let m = length (g .productions) in
       let z : m - p ≡ suc (m - suc p) = omega arith in
@@ -163,8 +162,8 @@ module _ (g : Grammar) (w : WellFormed g) (rs : List ℤ) (n : ℕ) (look : Look
       let next : firstFrom (isLeft g n) (suc p) (m - suc p) ≡ nextWord g p = subst (λ r. firstFrom (isLeft g r) (suc p) (m - suc p) ≡ nextWord g p) e (sym (next-is g w p)) in
       ap (firstFrom wanted p) z
       ∙ (first-kept (wanted p) p (keep wanted (countFrom (suc p) (m - suc p)))
-      ∙ (ap (λ b. choose b (suc p) (firstFrom wanted (suc p) (m - suc p))) (wanted-is p e)
-      ∙ ap (choose (passes g rs look p) (suc p)) (skips ∙ (ap (λ k. resumed wanted k (firstFrom (isLeft g n) (suc p) (m - suc p))) y ∙ ap (resumed wanted m) next))))
+      ∙ (ap (λ b. cond b (suc p) (firstFrom wanted (suc p) (m - suc p))) (wanted-is p e)
+      ∙ ap (cond (passes g rs look p) (suc p)) (skips ∙ (ap (λ k. resumed wanted k (firstFrom (isLeft g n) (suc p) (m - suc p))) y ∙ ap (resumed wanted m) next))))
 
   -- start, turn and stop of the search
   pub found-start : found g rs n look (directoryWord g n (lookNumber look)) ≡ firstNumber (keep (entered g rs) (alternatives g n look))
@@ -175,10 +174,10 @@ module _ (g : Grammar) (w : WellFormed g) (rs : List ℤ) (n : ℕ) (look : Look
       sym (ap firstNumber (keep-keep (isOf g n look) (entered g rs) (countFrom 0 m)) ∙ (skips ∙ (ap (λ k. resumed wanted k (firstFrom (isOf g n look) 0 m)) z ∙ ap (resumed wanted m) (sym (directory-is g w n look)))))
 
   pub found-turn : (p : ℕ) → p < length (g .productions) → productionAt g p .left ≡ n → passes g rs look p ≡ false → found g rs n look (suc p) ≡ found g rs n look (nextWord g p)
-  found-turn p l e h = found-at p l e ∙ ap (λ b. choose b (suc p) (found g rs n look (nextWord g p))) h
+  found-turn p l e h = found-at p l e ∙ ap (λ b. cond b (suc p) (found g rs n look (nextWord g p))) h
 
   pub found-stop : (p : ℕ) → p < length (g .productions) → productionAt g p .left ≡ n → passes g rs look p ≡ true → found g rs n look (suc p) ≡ suc p
-  found-stop p l e h = found-at p l e ∙ ap (λ b. choose b (suc p) (found g rs n look (nextWord g p))) h
+  found-stop p l e h = found-at p l e ∙ ap (λ b. cond b (suc p) (found g rs n look (nextWord g p))) h
 
   -- a word that leads to a production of n, or nowhere; so many steps are enough from there
   abbrev Leads : ℕ → ℕ → Type 0
@@ -191,7 +190,7 @@ module _ (g : Grammar) (w : WellFormed g) (rs : List ℤ) (n : ℕ) (look : Look
   searches (suc steps) (suc p) h =
       let q = h p refl in
       let ih = searches steps (nextWord g p) (leads q) in
-      ap (choose (passes g rs look p) (suc p)) ih ∙ sym (found-at p (q .0) (q .1))
+      ap (cond (passes g rs look p) (suc p)) ih ∙ sym (found-at p (q .0) (q .1))
     where
       leads : (p < length (g .productions)) × (productionAt g p .left ≡ n) × (length (g .productions) ≤ p + suc steps) → Leads steps (nextWord g p)
       leads q r e = let k = next-listed g w p r (q .0) e in (k .1, k .2 ∙ q .1, omega (arith, k .0, q .2))

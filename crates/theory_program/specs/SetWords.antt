@@ -3,15 +3,15 @@ use Prim.Native.Nat.{ℕ, zero, suc, _+_, _*_, _/_, _%_, _^_, _≤_, _<_}
 use native.Mathlib.Omega.{arith}
 use mathlib.Core.Path.{_≡_, sym, ap, _∙_}
 use mathlib.Core.Logic.{_↔_}
-use mathlib.Core.Bool.{Bool, true, false}
+use mathlib.Core.Bool.{Bool, true, false, cond}
 use lib.Dec.{T}
 use lib.Pow.{shr-shr, pow-add}
 use Rattle.meaning.specs.Sets.{TokenSet, has}
-use Rattle.meaning.specs.Program.{bitIf, setBits}
+use Rattle.meaning.specs.Program.{setBits}
 
 -- ---- with another weight for the first place
 
-bit-scaled : (b : Bool) (w : ℕ) → bitIf b w ≡ w * bitIf b 1
+bit-scaled : (b : Bool) (w : ℕ) → cond b w 0 ≡ w * cond b 1 0
 bit-scaled true w = omega arith
 bit-scaled false w = omega arith
 
@@ -19,19 +19,19 @@ scaled : (s : TokenSet) (k w n : ℕ) → setBits s k w n ≡ w * setBits s k 1 
 scaled s k w zero = omega arith
 scaled s k w (suc n) =
     let x : ℕ = setBits s (suc k) 1 n in
-    let b : ℕ = bitIf (has s k) 1 in
+    let b : ℕ = cond (has s k) 1 0 in
     let step : b + 2 * x ≡ setBits s k 1 (suc n) = omega (arith, scaled s (suc k) 2 n) in
-    let here : bitIf (has s k) w + setBits s (suc k) (w + w) n ≡ w * b + (w + w) * x = omega (arith, bit-scaled (has s k) w, scaled s (suc k) (w + w) n) in
+    let here : cond (has s k) w 0 + setBits s (suc k) (w + w) n ≡ w * b + (w + w) * x = omega (arith, bit-scaled (has s k) w, scaled s (suc k) (w + w) n) in
     here ∙ (spread w b x ∙ ap (λ y. w * y) step)
   where
     spread : (w b x : ℕ) → w * b + (w + w) * x ≡ w * (b + 2 * x)
     spread w b x = omega arith
 
 -- the first place, and twice the others
-pub bits-step : (s : TokenSet) (k n : ℕ) → setBits s k 1 (suc n) ≡ bitIf (has s k) 1 + 2 * setBits s (suc k) 1 n
+pub bits-step : (s : TokenSet) (k n : ℕ) → setBits s k 1 (suc n) ≡ cond (has s k) 1 0 + 2 * setBits s (suc k) 1 n
 bits-step s k n = omega (arith, scaled s (suc k) 2 n)
 
-bit-small : (b : Bool) → bitIf b 1 ≤ 1
+bit-small : (b : Bool) → cond b 1 0 ≤ 1
 bit-small true = omega arith
 bit-small false = omega arith
 
@@ -44,20 +44,20 @@ bits-small s k (suc n) = omega (arith, bits-step s k n, bit-small (has s k), bit
 
 -- ---- one place
 
-pub bit-is : (s : TokenSet) (k n u : ℕ) → u < n → setBits s k 1 n / 2 ^ u % 2 ≡ bitIf (has s (k + u)) 1
+pub bit-is : (s : TokenSet) (k n u : ℕ) → u < n → setBits s k 1 n / 2 ^ u % 2 ≡ cond (has s (k + u)) 1 0
 bit-is s k zero u l = absurd (omega arith)
 bit-is s k (suc n) zero l =
     let e : k + 0 ≡ k = omega arith in
     ap (λ x. x / 2 ^ 0 % 2) (bits-step s k n) ∙ (rw e (omega (arith, bit-small (has s k))))
 bit-is s k (suc n) (suc u) l =
     let x : ℕ = setBits s (suc k) 1 n in
-    let b : ℕ = bitIf (has s k) 1 in
+    let b : ℕ = cond (has s k) 1 0 in
     let half : (b + 2 * x) / 2 ≡ x = omega (arith, bit-small (has s k)) in
     let down : (b + 2 * x) / 2 ^ suc u ≡ x / 2 ^ u = ap (λ m. (b + 2 * x) / 2 ^ m) (omega arith) ∙ (sym (shr-shr (b + 2 * x) 1 u) ∙ ap (λ y. y / 2 ^ u) half) in
     ap (λ y. y / 2 ^ suc u % 2) (bits-step s k n)
-    ∙ (ap (λ y. y % 2) down ∙ (bit-is s (suc k) n u (omega arith) ∙ ap (λ m. bitIf (has s m) 1) (omega arith)))
+    ∙ (ap (λ y. y % 2) down ∙ (bit-is s (suc k) n u (omega arith) ∙ ap (λ m. cond (has s m) 1 0) (omega arith)))
 
-one-is : (b : Bool) (n : ℕ) → n ≡ bitIf b 1 → (n ≡ 1) ↔ T b
+one-is : (b : Bool) (n : ℕ) → n ≡ cond b 1 0 → (n ≡ 1) ↔ T b
 one-is true n e = ((λ h. tt), (λ t. e))
 one-is false n e = ((λ h. absurd (omega arith)), (λ t. absurd t))
 

@@ -8,11 +8,11 @@ use mathlib.Core.List.{List, [], _∷_, _++_, map}
 use lib.ListN.{length, length-append, length-map}
 use lib.Dec.{T, eqb, ltb, leb, leb→le, le→leb, eqb→eq}
 use Rattle.meaning.specs.Base.{In, keep, consIf, total, isEmpty}
-use Rattle.meaning.specs.Grammar.{Symbol, Occurrence, Rule, Condition, Production, Grammar, addedFor, productionAt, conditionPosition}
+use Rattle.meaning.specs.Grammar.{Symbol, Occurrence, Rule, Condition, Production, Grammar, addedFor, productionAt, conditionPosition, mapRule, mapCondition, conditionsAt}
 use Rattle.meaning.specs.Rules.{WellFormed}
-use Rattle.meaning.specs.Scheme.{Instruction, add, evaluate, expect, test, remove, mapRule, mapCondition, selectInherited, selectAfter, rulesFor, conditionsAt, entryTests, testsAfter, inheritedRules, synthesizedRules, removed, symbolScheme, symbolsScheme}
+use Rattle.meaning.specs.Scheme.{Instruction, add, evaluate, expect, test, remove, selectInherited, selectAfter, rulesFor, entryTests, testsAfter, inheritedRules, synthesizedRules, removed, symbolScheme, symbolsScheme}
 use Rattle.meaning.specs.Program.{instructionWords, schemeWords, bodySize, recordsFrom, bodiesFrom, waits, directory, bodiesAddress, segmentWords, programOf}
-use Rattle.theory_program.specs.Stands.{stands-whole, stands-within}
+use Rattle.theory_program.specs.WordsStand.{stands-whole, stands-within}
 use Rattle.theory_program.specs.Code.{rules-length, conditions-length}
 use Rattle.theory_program.specs.Addresses.{bodyAddress, Begins, body-at, body-length, directory-length, records-length, waits-length, bodies-length, short-productions}
 use Rattle.theory_program.specs.Proper.{keep-few, some-present}

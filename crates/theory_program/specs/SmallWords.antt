@@ -9,14 +9,14 @@ use mathlib.Core.Option.{none, some}
 use lib.ListN.{length, replicate}
 use lib.Dec.{eqb}
 use Rattle.meaning.specs.Base.{In, countFrom, total}
-use Rattle.meaning.specs.Grammar.{Symbol, terminal, nonterminal, Function, const, copy, sum, diff, prod, maxi, mini, addc, quot, Condition, range, atmost, Production, Grammar, syn, nonterminalCount}
+use Rattle.meaning.specs.Grammar.{Symbol, terminal, nonterminal, Function, const, copy, binary, binaryNumber, addc, quot, Condition, range, atmost, Production, Grammar, syn, nonterminalCount}
 use Rattle.meaning.specs.Rules.{Known, WellFormed}
 use Rattle.meaning.specs.Scheme.{Instruction, add, evaluate, expect, test, remove, scheme, entryTests}
 use Rattle.meaning.specs.Sets.{has, starts}
 use Rattle.meaning.specs.Program.{concat, packed, functionWords, ruleWords, conditionWords, symbolHead, instructionWords, schemeWords, expectsAt, entryWords, schemeOffset, bodyWords, bodySize, bodiesFrom, firstOf, recordWords}
 use Rattle.meaning.specs.Program.{recordsFrom, waitWord, waitsFrom, waitRow, waits, directoryWord, directory, bodiesAddress, segmentWords, programOf, carriers}
 use Rattle.theory_base.specs.Members.{map-in, in-append}
-use Rattle.theory_table.specs.Numbers.{unsigned-small, divisor-in}
+use Rattle.theory_table.specs.Numbers.{unsigned-small, divisor-in, binary-most}
 use Rattle.theory_program.specs.Code.{expects-below}
 use Rattle.theory_program.specs.Proper.{ProperRule, ProperCondition, ProperInstruction, att-most, added-most, scheme-proper, entry-proper, entry-most}
 use Rattle.theory_program.specs.SetWords.{bits-small}
@@ -69,11 +69,7 @@ two-small t f a b c k l m n o = each-small (packed t f a b ∷ c ∷ []) (packed
 function-small : (t : ℕ) (f : Function ℕ) → ProperRule (record { target = t; function = f }) → Small (functionWords t f)
 function-small t (const c) p = two-small t 0 0 0 _ (p .target .1) (omega arith) (omega arith) (omega arith) (unsigned-small c (p .constant))
 function-small t (copy a) p = two-small t 1 a 0 0 (p .target .1) (omega arith) (p .operands .1) (omega arith) (omega arith)
-function-small t (sum a b) p = two-small t 2 a b 0 (p .target .1) (omega arith) (p .operands .0 .1) (p .operands .1 .1) (omega arith)
-function-small t (diff a b) p = two-small t 3 a b 0 (p .target .1) (omega arith) (p .operands .0 .1) (p .operands .1 .1) (omega arith)
-function-small t (prod a b) p = two-small t 4 a b 0 (p .target .1) (omega arith) (p .operands .0 .1) (p .operands .1 .1) (omega arith)
-function-small t (maxi a b) p = two-small t 5 a b 0 (p .target .1) (omega arith) (p .operands .0 .1) (p .operands .1 .1) (omega arith)
-function-small t (mini a b) p = two-small t 6 a b 0 (p .target .1) (omega arith) (p .operands .0 .1) (p .operands .1 .1) (omega arith)
+function-small t (binary f a b) p = two-small t (binaryNumber f) a b 0 (p .target .1) (omega (arith, binary-most f)) (p .operands .0 .1) (p .operands .1 .1) (omega arith)
 function-small t (addc a c) p = two-small t 7 a 0 _ (p .target .1) (omega arith) (p .operands .1) (omega arith) (unsigned-small c (p .constant))
 function-small t (quot a c) p = two-small t 8 a 0 _ (p .target .1) (omega arith) (p .operands .1) (omega arith) (unsigned-small c (divisor-in c (p .constant)))
 

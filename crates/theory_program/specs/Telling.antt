@@ -16,7 +16,7 @@ use Rattle.meaning.specs.Scheme.{Instruction, add, evaluate, expect, test, remo
 use Rattle.meaning.specs.Program.{instructionWords, recordsAddress, programOf}
 use Rattle.meaning.specs.TableStatements.{SameProduction, SameScheme}
 use Rattle.theory_base.specs.Members.{in-at}
-use Rattle.theory_program.specs.Stands.{Stands, stands-whole}
+use Rattle.theory_program.specs.WordsStand.{WordsStand, stands-whole}
 use Rattle.theory_program.specs.Code.{RulesAt, ConditionsAt, CodeAt, rule-first, condition-first, operation, operand, code-head, code-next, code-evaluate, code-test, is-add, is-evaluate, is-terminal, is-nonterminal, is-test, is-remove}
 use Rattle.theory_program.specs.Unpacked.{rule-at, condition-at}
 use Rattle.theory_program.specs.Proper.{ProperRule, ProperCondition, ProperInstruction, AllProper, production-in, scheme-proper, entry-proper}
@@ -195,4 +195,4 @@ module _ {g h : Grammar} {ws : List ℕ} (b : Begins g ws) (c : Begins h ws) (w 
       }
 
 pub program-tells : (g h : Grammar) → WellFormed g → WellFormed h → programOf g ≡ programOf h → SameScheme g h
-program-tells g h w v e = same-scheme (record { words = stands-whole (programOf g) }) (record { words = subst (Stands (programOf g) 0) e (stands-whole (programOf g)) }) w v
+program-tells g h w v e = same-scheme (record { words = stands-whole (programOf g) }) (record { words = subst (WordsStand (programOf g) 0) e (stands-whole (programOf g)) }) w v

@@ -3,12 +3,12 @@ use Prim.Native.Nat.{ℕ, _+_, _/_, _%_, _<_}
 use native.Mathlib.Omega.{arith}
 use mathlib.Core.Path.{_≡_, refl, ap₂, _∙_}
 use mathlib.Core.Bool.{Bool, true, false}
-use mathlib.Core.List.{List, [], _∷_}
+use mathlib.Core.List.{List, _∷_}
 use mathlib.Core.Option.{Option, none, some}
 use lib.ListN.{getD}
 use lib.IntN.{ℤ, pos}
 use lib.Dec.{eqb}
-use Rattle.meaning.specs.Grammar.{Function, const, copy, sum, diff, prod, maxi, mini, addc, quot, Rule, Condition, range, atmost}
+use Rattle.meaning.specs.Grammar.{Function, const, copy, functionsOf, binary, sum, diff, prod, maxi, mini, addc, quot, Rule, Condition, range, atmost}
 use Rattle.meaning.specs.Layout.{unsigned}
 use Rattle.meaning.specs.Table.{signed}
 use Rattle.meaning.specs.Program.{packed, ruleWords, conditionWords}
@@ -31,7 +31,7 @@ unpacked t f a b l m n = record { first = omega arith; function = omega arith; s
 
 -- the function with a number
 abbrev pub functionFrom : ℕ → ℕ → ℕ → ℤ → Function ℕ
-functionFrom k a b c = getD (const c ∷ copy a ∷ sum a b ∷ diff a b ∷ prod a b ∷ maxi a b ∷ mini a b ∷ addc a c ∷ quot a c ∷ []) k (const c)
+functionFrom k a b c = getD (functionsOf a b c c) k (const c)
 
 abbrev pub ruleFrom : ℕ → ℕ → Rule ℕ
 ruleFrom w c = record { target = w % 128; function = functionFrom (w / 128 % 16) (w / 2048 % 128) (w / 262144) (signed c) }
@@ -40,16 +40,16 @@ ruleFrom w c = record { target = w % 128; function = functionFrom (w / 128 % 16)
 rule-named : (t f a b : ℕ) (c : ℕ) (z : ℤ) → t < 128 → f < 16 → a < 128 → signed c ≡ z → ruleFrom (packed t f a b) c ≡ record { target = t; function = functionFrom f a b z }
 rule-named t f a b c z l m n e =
     let u = unpacked t f a b l m n in
-    rw (u .first, u .function, u .second, u .third, e) refl
+    λ i. record { target = u .first i; function = functionFrom (u .function i) (u .second i) (u .third i) (e i) }
 
 rule-back-of : (t : ℕ) (f : Function ℕ) → ProperRule (record { target = t; function = f }) → ruleFrom (getD (ruleWords (record { target = t; function = f })) 0 0) (getD (ruleWords (record { target = t; function = f })) 1 0) ≡ record { target = t; function = f }
 rule-back-of t (const c) p = rule-named t 0 0 0 (unsigned c) c (omega (arith, p .target .1)) (omega arith) (omega arith) (signed-unsigned c (p .constant))
 rule-back-of t (copy a) p = rule-named t 1 a 0 0 (pos 0) (omega (arith, p .target .1)) (omega arith) (omega (arith, p .operands .1)) refl
-rule-back-of t (sum a b) p = rule-named t 2 a b 0 (pos 0) (omega (arith, p .target .1)) (omega arith) (omega (arith, p .operands .0 .1)) refl
-rule-back-of t (diff a b) p = rule-named t 3 a b 0 (pos 0) (omega (arith, p .target .1)) (omega arith) (omega (arith, p .operands .0 .1)) refl
-rule-back-of t (prod a b) p = rule-named t 4 a b 0 (pos 0) (omega (arith, p .target .1)) (omega arith) (omega (arith, p .operands .0 .1)) refl
-rule-back-of t (maxi a b) p = rule-named t 5 a b 0 (pos 0) (omega (arith, p .target .1)) (omega arith) (omega (arith, p .operands .0 .1)) refl
-rule-back-of t (mini a b) p = rule-named t 6 a b 0 (pos 0) (omega (arith, p .target .1)) (omega arith) (omega (arith, p .operands .0 .1)) refl
+rule-back-of t (binary sum a b) p = rule-named t 2 a b 0 (pos 0) (omega (arith, p .target .1)) (omega arith) (omega (arith, p .operands .0 .1)) refl
+rule-back-of t (binary diff a b) p = rule-named t 3 a b 0 (pos 0) (omega (arith, p .target .1)) (omega arith) (omega (arith, p .operands .0 .1)) refl
+rule-back-of t (binary prod a b) p = rule-named t 4 a b 0 (pos 0) (omega (arith, p .target .1)) (omega arith) (omega (arith, p .operands .0 .1)) refl
+rule-back-of t (binary maxi a b) p = rule-named t 5 a b 0 (pos 0) (omega (arith, p .target .1)) (omega arith) (omega (arith, p .operands .0 .1)) refl
+rule-back-of t (binary mini a b) p = rule-named t 6 a b 0 (pos 0) (omega (arith, p .target .1)) (omega arith) (omega (arith, p .operands .0 .1)) refl
 rule-back-of t (addc a c) p = rule-named t 7 a 0 (unsigned c) c (omega (arith, p .target .1)) (omega arith) (omega (arith, p .operands .1)) (signed-unsigned c (p .constant))
 rule-back-of t (quot a c) p = rule-named t 8 a 0 (unsigned c) c (omega (arith, p .target .1)) (omega arith) (omega (arith, p .operands .1)) (signed-unsigned c (divisor-in c (p .constant)))
 

@@ -1,17 +1,17 @@
 -- For the caller who brings candidates one by one: what holds of one more, and the report read from the list.
-use Prim.Native.Nat.{ℕ, suc, _+_, _≤_}
+use Prim.Native.Nat.{ℕ, suc, _+_}
 use native.Mathlib.Omega.{arith}
 use mathlib.Core.Path.{_≡_, sym, ap, subst, _∙_}
-use mathlib.Core.Bool.{Bool, true, false, cond}
+use mathlib.Core.Bool.{true}
 use mathlib.Core.List.{List, [], _∷_, _++_}
 use lib.ListN.{length}
 use lib.IntN.{ℤ, pos}
 use Rattle.meaning.specs.Value.{inRange}
-use Rattle.meaning_ranking.specs.Ranking.{Entry, number, value, valued, Ranks, totalOf, valuedOf}
+use Rattle.meaning_ranking.specs.Ranking.{Entry, number, value, valued, totalOf, valuedOf}
 use Rattle.theory_ranking.specs.Entries.{Ranged, entriesOf}
 use Rattle.theory_ranking.specs.Sorting.{ranking-ranks}
 use Rattle.theory_ranking.specs.Listing.{Listed, listed-entries}
-use Rattle.theory_ranking.specs.Report.{countedFrom, counted-one, total-shuffled, valued-shuffled, ranged-shuffled}
+use Rattle.theory_ranking.specs.Report.{countedFrom, total-shuffled, valued-shuffled, ranged-shuffled}
 
 counted-end : (k : ℕ) (es : List Entry) (e : Entry) → countedFrom k es → number e ≡ pos (k + length es) → countedFrom k (es ++ (e ∷ []))
 counted-end k [] e c p = let z : k + 0 ≡ k = omega arith in (p ∙ ap pos z, tt)
@@ -25,15 +25,6 @@ pub ranged-more : (es : List Entry) (e : Entry) → Ranged es → inRange (value
 ranged-more [] e r p = (p, tt)
 ranged-more (x ∷ es) e r p = (r .0, ranged-more es e (r .1) p)
 
-counts-one : (b : Bool) (n : ℕ) → cond b 1 0 + n ≤ suc n
-counts-one true n = omega arith
-counts-one false n = omega arith
-
-pub valued-length : (es : List Entry) → valuedOf es ≤ length es
-unfolding valuedOf
-valued-length [] = omega arith
-valued-length (e ∷ es) = omega (arith, valued-length es, counts-one (valued e) (valuedOf es))
-
 module _ (es : List Entry) (l₀ l : List ℤ) (q : Listed es l₀ l) where
   -- what the total requires
   pub listed-ranged : Ranged es → Ranged (entriesOf (length es) l)
@@ -45,7 +36,3 @@ module _ (es : List Entry) (l₀ l : List ℤ) (q : Listed es l₀ l) where
 
   pub listed-valued : valuedOf (entriesOf (length es) l) ≡ valuedOf es
   listed-valued = ap valuedOf (listed-entries es l₀ l q) ∙ sym (valued-shuffled (ranking-ranks es .each))
-
-  -- the only list of the candidates, each once, in order
-  pub listed-one : countedFrom 0 es → (rs : List Entry) → Ranks es rs → rs ≡ entriesOf (length es) l
-  listed-one c rs r = counted-one es rs c r ∙ sym (listed-entries es l₀ l q)

@@ -11,10 +11,10 @@ use lib.Signed.{ltZ}
 use Rattle.meaning.specs.Base.{In}
 use Rattle.meaning.specs.Order.{Shuffled, neither, kept, swapped, through}
 use Rattle.meaning_ranking.specs.RankingStatements.{Front}
-use Rattle.meaning_ranking.specs.Ranking.{Entry, number, value, valued, ahead, stands, before, Ranks, ranking, worth, totalOf, valuedOf}
+use Rattle.meaning_ranking.specs.Ranking.{Entry, number, value, valued, ahead, stands, before, Ranks, worth, totalOf, valuedOf}
 use Rattle.theory_ranking.specs.Entries.{Distinct, Ranged}
 use Rattle.theory_ranking.specs.Ordering.{absurdly, not-less, neither-less}
-use Rattle.theory_ranking.specs.Sorting.{blank, in-get, sorted-get, distinct-shuffled, ranking-one}
+use Rattle.theory_ranking.specs.Sorting.{blank, in-get, sorted-get, distinct-shuffled}
 
 -- ---- candidates counted from 0
 
@@ -36,10 +36,6 @@ later-number k es y c i e = go (suc k) es c i e (omega arith)
 pub counted-distinct : (k : ℕ) (es : List Entry) → countedFrom k es → Distinct es
 counted-distinct k [] c = tt
 counted-distinct k (e ∷ es) c = ((λ y i q. later-number k es y (c .1) i (q ∙ c .0)), counted-distinct (suc k) es (c .1))
-
--- for candidates counted from 0 there is one ranking
-pub counted-one : (es rs : List Entry) → countedFrom 0 es → Ranks es rs → rs ≡ ranking es
-counted-one es rs c r = ranking-one es rs (counted-distinct 0 es c) r
 
 -- ---- who stands in front
 

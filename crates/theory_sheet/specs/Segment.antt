@@ -18,13 +18,13 @@ use Rattle.meaning_sheet.specs.Sheet.{sheet, sheets, sheetOf}
 use Rattle.meaning_sheet.specs.SheetCalls.{unlessRefused, stackRun}
 use Rattle.theory_base.specs.Feeds.{even-feed, leaves-of}
 use Rattle.theory_answers.specs.Memory.{lay-over}
-use Rattle.theory_sound.specs.Moves.{nodeOf}
-use Rattle.theory_sound.specs.Runs.{empty-good, empty-registers}
+use Rattle.theory_sound.specs.MovesKeepPart.{nodeOf}
+use Rattle.theory_sound.specs.RunsShowPart.{empty-good, empty-registers}
 use Rattle.theory_sound.specs.Sound.{finished-done}
-use Rattle.theory_sound.specs.Follow.{Stopped}
+use Rattle.theory_sound.specs.KeptByCalls.{Stopped}
 use Rattle.theory_sound.specs.CallSound.{Held, feed-is, finish-is, opening-held, held-feed}
 use Rattle.theory_sheet.specs.Whole.{andThen, runFrom, run-whole}
-use Rattle.theory_sheet.specs.Standing.{Stand, withChildren, onto, onto-forest, shows}
+use Rattle.theory_sheet.specs.NodeInProgress.{Stand, withChildren, onto, onto-forest, shows}
 
 -- ---- the answer
 

@@ -13,7 +13,7 @@ use Rattle.meaning.specs.Base.{all}
 use Rattle.meaning.specs.Grammar.{Grammar, Leaf, Symbol, terminal, nonterminal, inh, att, productionAt}
 use Rattle.meaning.specs.Rules.{WellFormed}
 use Rattle.meaning.specs.Scheme.{Instruction, add, evaluate, expect, test, remove, removed, synBetween}
-use Rattle.meaning.specs.Machine.{Frame, Config, Lent, Coming, Outcome, ends, moved, blocked, Settled, stopped, failed, waits, isFinished, next, lookAt, unread, tokensLimit}
+use Rattle.meaning.specs.Machine.{Frame, Config, Lent, Coming, Outcome, ends, moved, blocked, Settled, stopped, waits, isFinished, next, lookAt, unread, tokensLimit}
 use Rattle.meaning.specs.Tree.{leaf, node, synthesizedOf, isLeafOf}
 use Rattle.meaning.specs.Part.{Open, Point, closing, left, Ancestor, GoodNode, frame, synsOf, drawBelow, drawRegisters}
 use Rattle.meaning.specs.Selectors as Selectors
@@ -22,10 +22,10 @@ use Rattle.theory_base.specs.Selectors.{length-syns}
 use Rattle.theory_base.specs.Values.{treeOf, lefts-length, drop-over, drop-head}
 use Rattle.theory_base.specs.Steps.{move-of, Result, result}
 use Rattle.theory_answers.specs.Bounds.{look-free, length-parent}
-use Rattle.theory_sound.specs.Moves.{nodeOf, partOf, withChild, waitingAt}
+use Rattle.theory_sound.specs.MovesKeepPart.{nodeOf, partOf, withChild, waitingAt}
 use Rattle.theory_sound.specs.Return.{under, left-on}
-use Rattle.theory_sheet.specs.Whole.{Turn, goes, fails, done, asTurn, turn, turnIf, tokenIf, endIf, judged, runFrom, run-fails, run-goes, run-done}
-use Rattle.theory_sheet.specs.Standing.{Stand, stand-step, stand-ready, stays, read, predicted, removed-node}
+use Rattle.theory_sheet.specs.Whole.{Turn, goes, fails, done, asTurn, turn, turnIf, tokenIf, endIf, judged, runFrom, Failing, run-fails, run-goes, run-done}
+use Rattle.theory_sheet.specs.NodeInProgress.{Stand, stand-step, stand-ready, stays, read, predicted, removed-node}
 
 -- the moves inside a node that need no next token
 abbrev pub inside : Instruction → Bool
@@ -49,7 +49,7 @@ module _ (g : Grammar) (lent : Lent) (us : List Leaf) (c : Config) (w : waits (c
   idle-turn : (o : Outcome) → next g lent l c ≡ o → turn g lent us c ≡ asTurn o
   idle-turn o h = ap (λ b. turnIf b (asTurn (next g lent (lookAt us) c)) (judged g c us (asTurn (next g lent (lookAt us) c)))) w ∙ ap asTurn (look-free g lent (lookAt us) l c w ∙ h)
 
-  pub idle-stuck : (k : ℕ) → next g lent l c ≡ blocked k → runFrom g lent us c ≡ failed c k
+  pub idle-stuck : (k : ℕ) → next g lent l c ≡ blocked k → Failing g lent us c c k
   idle-stuck k h = run-fails g lent us c k (idle-turn (blocked k) h)
 
   pub idle-goes : (d : Config) → next g lent l c ≡ moved d → runFrom g lent us c ≡ runFrom g lent (unread c d us) d
@@ -73,19 +73,19 @@ module _ (g : Grammar) (lent : Lent) (us : List Leaf) (c : Config) (w : waits (c
       go [] f t = ap (λ b. endIf b t) f
       go (u ∷ us) f t = ap₂ (λ a b. tokenIf a b t) (lt-leb tokensLimit (c .tokens) (f .0)) (lt-ltb (u .kind) (g .terminals) (f .1))
 
-  pub look-stuck : Fair g c us → (k : ℕ) → next g lent (lookAt us) c ≡ blocked k → runFrom g lent us c ≡ failed c k
+  pub look-stuck : Fair g c us → (k : ℕ) → next g lent (lookAt us) c ≡ blocked k → Failing g lent us c c k
   look-stuck f k h = run-fails g lent us c k (fair-turn f ∙ ap asTurn h)
 
   pub look-goes : Fair g c us → (d : Config) → next g lent (lookAt us) c ≡ moved d → runFrom g lent us c ≡ runFrom g lent (unread c d us) d
   look-goes f d h = run-goes g lent us c d (fair-turn f ∙ ap asTurn h) h
 
   -- 01: "35 a token after 65,535", then 20
-  pub look-35 : (u : Leaf) (vs : List Leaf) → us ≡ u ∷ vs → tokensLimit ≤ c .tokens → runFrom g lent us c ≡ failed c 35
+  pub look-35 : (u : Leaf) (vs : List Leaf) → us ≡ u ∷ vs → tokensLimit ≤ c .tokens → Failing g lent us c c 35
   look-35 u vs e l =
       run-fails g lent us c 35
       (look-turn ∙ (ap (λ z. judged g c z (asTurn (next g lent (lookAt us) c))) e ∙ ap (λ b. tokenIf b (ltb (u .kind) (g .terminals)) (asTurn (next g lent (lookAt us) c))) (le-leb tokensLimit (c .tokens) l)))
 
-  pub look-20 : (u : Leaf) (vs : List Leaf) → us ≡ u ∷ vs → c .tokens < tokensLimit → g .terminals ≤ u .kind → runFrom g lent us c ≡ failed c 20
+  pub look-20 : (u : Leaf) (vs : List Leaf) → us ≡ u ∷ vs → c .tokens < tokensLimit → g .terminals ≤ u .kind → Failing g lent us c c 20
   look-20 u vs e l k =
       run-fails g lent us c 20
       (look-turn ∙ (ap (λ z. judged g c z (asTurn (next g lent (lookAt us) c))) e ∙ ap₂ (λ a b. tokenIf a b (asTurn (next g lent (lookAt us) c))) (lt-leb tokensLimit (c .tokens) l) (le-ltb (u .kind) (g .terminals) k)))
@@ -195,7 +195,7 @@ module _ (g : Grammar) (f : WellFormed g) (lent : Lent) (tokens : List Leaf) (kn
         kept (remove n) k l d r = absurd (subst T (sym k) tt)
         kept (expect x) k l d r = absurd (subst T (sym k) tt)
 
-    pub inside-stuck : inside i ≡ true → (l : Coming) (k : ℕ) → next g lent l c ≡ blocked k → rest g lent tokens c ≡ failed c k
+    pub inside-stuck : inside i ≡ true → (l : Coming) (k : ℕ) → next g lent l c ≡ blocked k → Failing g lent (comingTo c tokens) c c k
     inside-stuck z l k h = idle-stuck g lent (comingTo c tokens) c (idles z) l k h
 
     -- a move that looks at what comes next, if it is let through
@@ -205,7 +205,7 @@ module _ (g : Grammar) (f : WellFormed g) (lent : Lent) (tokens : List Leaf) (kn
     pub look-on : (x : Symbol) → i ≡ expect x → Fair g c (comingTo c tokens) → (d : Config) → next g lent (lookAt (comingTo c tokens)) c ≡ moved d → rest g lent tokens c ≡ rest g lent tokens d
     look-on x k fair d h = look-goes g lent (comingTo c tokens) c (expects-it x k) fair d h ∙ ap (λ us. runFrom g lent us d) (stand-step g f lent tokens known c d s h .rest)
 
-    pub look-refused : (x : Symbol) → i ≡ expect x → Fair g c (comingTo c tokens) → (k : ℕ) → next g lent (lookAt (comingTo c tokens)) c ≡ blocked k → rest g lent tokens c ≡ failed c k
+    pub look-refused : (x : Symbol) → i ≡ expect x → Fair g c (comingTo c tokens) → (k : ℕ) → next g lent (lookAt (comingTo c tokens)) c ≡ blocked k → Failing g lent (comingTo c tokens) c c k
     look-refused x j fair k h = look-stuck g lent (comingTo c tokens) c (expects-it x j) fair k h
 
     -- a token is read: it is a child
@@ -242,5 +242,5 @@ module _ (g : Grammar) (f : WellFormed g) (lent : Lent) (tokens : List Leaf) (kn
       let own : o .inherited ++ k .0 ≡ ownValues g (o .production) n (c .registers) = ap (λ z. o .inherited ++ z) (right-cancel (k .0) (x .results) (under g (b .node) bs) ends) ∙ sym (own-are x) in
       (subst (λ vs. Stand g tokens (withChild (b .node) (treeOf (o .production) vs (o .children))) bs d) own (k .1), idle-goes g lent (comingTo c tokens) c w l d h ∙ ap (λ us. runFrom g lent us d) (v .rest))
 
-  pub remove-stuck : (n : ℕ) → c .frames ≡ frame p (remove n ∷ is) ∷ fs → (l : Coming) (k : ℕ) → next g lent l c ≡ blocked k → rest g lent tokens c ≡ failed c k
+  pub remove-stuck : (n : ℕ) → c .frames ≡ frame p (remove n ∷ is) ∷ fs → (l : Coming) (k : ℕ) → next g lent l c ≡ blocked k → Failing g lent (comingTo c tokens) c c k
   remove-stuck n e l k h = idle-stuck g lent (comingTo c tokens) c (ap waits e) l k h

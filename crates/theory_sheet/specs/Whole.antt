@@ -64,12 +64,22 @@ abbrev pub andThen : Settled → (Config → Settled) → Settled
 andThen (stopped c) f = f c
 andThen (failed c k) f = failed c k
 
+-- ---- a part that fails, as one step
+
+-- the run from c on, with us to come, fails at e with k
+pub record Failing (g : Grammar) (lent : Lent) (us : List Leaf) (c e : Config) (k : ℕ) : Type 0 where
+  pub isFailed : runFrom g lent us c ≡ failed e k
+
+-- what fails behind a part that is passed fails the run from before that part on, at the same place and with the same number
+pub fails-behind : {g : Grammar} {lent : Lent} {us vs : List Leaf} {c d e : Config} {k : ℕ} → runFrom g lent us c ≡ runFrom g lent vs d → Failing g lent vs d e k → Failing g lent us c e k
+fails-behind p f = record { isFailed = p ∙ f .isFailed }
+
 -- ---- one turn
 
 module _ (g : Grammar) (lent : Lent) (us : List Leaf) (c : Config) where
-  pub run-fails : (k : ℕ) → turn g lent us c ≡ fails k → runFrom g lent us c ≡ failed c k
+  pub run-fails : (k : ℕ) → turn g lent us c ≡ fails k → Failing g lent us c c k
   unfolding runFrom
-  run-fails k e = go (movesLimit - c .moves)
+  run-fails k e = record { isFailed = go (movesLimit - c .moves) }
     where
       go : (left : ℕ) → run left g lent us c ≡ failed c k
       go zero = ap (λ z. byTurn c z (λ d. failed c 35)) e
@@ -98,11 +108,15 @@ fedFinished g lent us c = andThen (feedAll g lent us c) (finishAll g lent)
 abbrev round : Bool → Outcome → Config → (Config → Settled) → Settled
 round b o c f = elim b [ true ↦ stopped c | false ↦ elim o [ blocked k ↦ failed c k | moved d ↦ f d ] ]
 
-unread-same : (c d : Config) (us : List Leaf) → d .tokens ≡ c .tokens → unread c d us ≡ us
+pub unread-same : (c d : Config) (us : List Leaf) → d .tokens ≡ c .tokens → unread c d us ≡ us
 unread-same c d us e = let z : d .tokens - c .tokens ≡ 0 = omega (arith, e) in ap (λ n. drop n us) z
 
-unread-next : (c d : Config) (u : Leaf) (us : List Leaf) → d .tokens ≡ suc (c .tokens) → unread c d (u ∷ us) ≡ us
+pub unread-next : (c d : Config) (u : Leaf) (us : List Leaf) → d .tokens ≡ suc (c .tokens) → unread c d (u ∷ us) ≡ us
 unread-next c d u us e = let z : d .tokens - c .tokens ≡ 1 = omega (arith, e) in ap (λ n. drop n (u ∷ us)) z
+
+pub and-false : (b : Bool) → b && false ≡ false
+and-false true = refl
+and-false false = refl
 
 unread-none : (n : ℕ) → _≡_ {A = List Leaf} (drop n []) []
 unread-none zero = refl
@@ -191,11 +205,7 @@ module _ (g : Grammar) (lent : Lent) where
     to-come-by left c m e ih = go (next g lent (comes u) c) refl
       where
         unread-yet : waits (c .frames) && isDone (comes u) n c ≡ false
-        unread-yet = ap (λ b. waits (c .frames) && b) (le-ltb n (c .tokens) (omega arith)) ∙ none (waits (c .frames))
-          where
-            none : (b : Bool) → b && false ≡ false
-            none true = refl
-            none false = refl
+        unread-yet = ap (λ b. waits (c .frames) && b) (le-ltb n (c .tokens) (omega arith)) ∙ and-false (waits (c .frames))
 
         turns : (o : Outcome) → next g lent (comes u) c ≡ o → turn g lent (u ∷ us) c ≡ asTurn o
         turns o h = by (waits (c .frames)) ∙ ap asTurn h
@@ -244,6 +254,6 @@ module _ (g : Grammar) (lent : Lent) where
 
       go : (a : Bool) → leb tokensLimit (c .tokens) ≡ a → (b : Bool) → ltb (u .kind) (g .terminals) ≡ b → ((d : Config) → T (waits (d .frames)) → d .moves ≤ movesLimit → runFrom g lent us d ≡ fedFinished g lent us d)
           → runFrom g lent (u ∷ us) c ≡ feedBy u us c a b
-      go true x b y ih = run-fails g lent (u ∷ us) c 35 (judges true x b y)
-      go false x false y ih = run-fails g lent (u ∷ us) c 20 (judges false x false y)
+      go true x b y ih = run-fails g lent (u ∷ us) c 35 (judges true x b y) .isFailed
+      go false x false y ih = run-fails g lent (u ∷ us) c 20 (judges false x false y) .isFailed
       go false x true y ih = to-come u us (c .tokens) x y ih (movesLimit - c .moves) c (omega arith) refl ∙ fed-after us (advanceFrom g lent (comes u) c)

@@ -16,7 +16,7 @@ use Rattle.meaning_sheet.specs.Sheet.{sheetOf}
 use Rattle.meaning_sheet.specs.SheetCalls.{withSheet, stackRun, stacksFor, AfterRun, WhenEven, WhenChecked, SheetsOnce}
 use Rattle.theory_sets.specs.Accepted.{verdict→accepted}
 use Rattle.theory_answers.specs.Called.{checks}
-use Rattle.theory_complete.specs.Halves.{only}
+use Rattle.theory_complete.specs.CompleteUnique.{only}
 
 usable-is : (s u : State) → _≡_ {A = Checked} (usable s) (usable u) → s ≡ u
 usable-is s u e = cc

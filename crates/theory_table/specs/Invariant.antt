@@ -12,7 +12,7 @@ use lib.IntN.{ℤ, pos, negsuc}
 use lib.Signed.{leZ}
 use lib.Dec.{T, eqb, ltb, leb, eqb→eq, eqb-refl, leb→le, le→leb, ltb→lt, nltb→le, T-not}
 use Rattle.meaning.specs.Base.{all, In, total}
-use Rattle.meaning.specs.Grammar.{Symbol, terminal, nonterminal, Occurrence, Function, const, copy, sum, diff, prod, maxi, mini, addc, quot, Rule, Condition, range, atmost, Production, Counts, noCounts, Grammar}
+use Rattle.meaning.specs.Grammar.{Symbol, terminal, nonterminal, Occurrence, Function, const, functionsOf, Rule, Condition, range, atmost, Production, Counts, noCounts, Grammar}
 use Rattle.meaning.specs.Rules.{Operands, Reads, Input, Output, Operand, Distinct, Constant, Proper, InFourBytes}
 use Rattle.meaning.specs.Table as Table
 use Rattle.meaning.specs.Table.{State, Header, Entry, Kind, header, counts, production, rule, condition, carrier, noHeader, headerOf, isSome, byte, signed, constantAt, occurrenceAt, within, symbolOf, symbolKnown, functionOf}
@@ -41,10 +41,7 @@ constant-of : (b : List ℕ) → T (not (eqb (byte b 2) 8) || divisor (constantA
 constant-of b h = go (byte b 2) h
   where
     fs : List (Function Occurrence)
-    fs =
-        let x = occurrenceAt b 3 in
-        let y = occurrenceAt b 5 in
-        const (constantAt b 3) ∷ copy x ∷ sum x y ∷ diff x y ∷ prod x y ∷ maxi x y ∷ mini x y ∷ addc x (constantAt b 5) ∷ quot x (constantAt b 5) ∷ []
+    fs = functionsOf (occurrenceAt b 3) (occurrenceAt b 5) (constantAt b 3) (constantAt b 5)
 
     go : (f : ℕ) → T (not (eqb f 8) || divisor (constantAt b 5)) → Constant (getD fs f (const (pos 0)))
     go zero h = constant-in b 3

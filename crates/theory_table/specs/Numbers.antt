@@ -10,7 +10,7 @@ use lib.IntN.{ℤ, pos, negsuc}
 use lib.Signed.{leZ}
 use lib.Dec.{T, eqb, ltb, leb, leb→le, le→leb, ltb→lt, lt→ltb, nltb→le}
 use Rattle.meaning.specs.Base.{countFrom}
-use Rattle.meaning.specs.Grammar.{Symbol, terminal, nonterminal, Occurrence, Function, const, copy, sum, diff, prod, maxi, mini, addc, quot, Rule, Condition, range, atmost, Grammar}
+use Rattle.meaning.specs.Grammar.{Symbol, terminal, nonterminal, Occurrence, Function, const, functionsOf, Binary, binaryNumber, copy, binary, sum, diff, prod, maxi, mini, addc, quot, Rule, Condition, range, atmost, Grammar}
 use Rattle.meaning.specs.Rules.{InFourBytes, Constant, Proper, Known, WellFormed}
 use Rattle.meaning.specs.Layout.{unsigned, fourBytes, constantBytes, occurrenceBytes, symbolByte, functionBytes, ruleBytes, conditionBytes, Bytes}
 use mathlib.Core.Option.{Option, none, some}
@@ -139,17 +139,7 @@ listed n b e = listed-from (byte b) 0 n b e (λ i l. ap (byte b) (omega arith))
 
 -- what a body lists for each function's number
 abbrev functions : List ℕ → List (Function Occurrence)
-functions b =
-    const (constantAt b 3)
-    ∷ copy (occurrenceAt b 3)
-    ∷ sum (occurrenceAt b 3) (occurrenceAt b 5)
-    ∷ diff (occurrenceAt b 3) (occurrenceAt b 5)
-    ∷ prod (occurrenceAt b 3) (occurrenceAt b 5)
-    ∷ maxi (occurrenceAt b 3) (occurrenceAt b 5)
-    ∷ mini (occurrenceAt b 3) (occurrenceAt b 5)
-    ∷ addc (occurrenceAt b 3) (constantAt b 5)
-    ∷ quot (occurrenceAt b 3) (constantAt b 5)
-    ∷ []
+functions b = functionsOf (occurrenceAt b 3) (occurrenceAt b 5) (constantAt b 3) (constantAt b 5)
 
 function-bytes : (b : List ℕ) (f : ℕ) → Bytes b → f ≤ 8 → byte b 2 ≡ f → length b ≡ ruleLength f → b ≡ occurrenceBytes (occurrenceAt b 0) ++ functionBytes (getD (functions b) f (const (pos 0)))
 function-bytes b zero h l e n = listed 7 b n ∙ ap₂ (λ x ys. byte b 0 ∷ byte b 1 ∷ x ∷ ys) e (constant-bytes b 3 h)
@@ -182,14 +172,22 @@ pub divisor-in : (c : ℤ) → T (leZ (pos 1) c) × T (leZ c (pos 1000000)) → 
 divisor-in (pos n) h = (tt, le→leb n 2147483647 (omega (arith, leb→le n 1000000 (h .1))))
 divisor-in (negsuc n) h = absurd (h .0)
 
+-- behind the functions of two operands come those with a constant
+pub binary-most : (f : Binary) → binaryNumber f ≤ 6
+binary-most sum = omega arith
+binary-most diff = omega arith
+binary-most prod = omega arith
+binary-most maxi = omega arith
+binary-most mini = omega arith
+
 rule-read-of : (o : Occurrence) (f : Function Occurrence) → Constant f → RuleRead (ruleWith o f)
 rule-read-of o (const c) h = record { same = ap (λ z. ruleWith o (const z)) (constant-back c h); long = tt; named = tt; right = tt; divides = tt }
 rule-read-of o (copy a) h = record { same = refl; long = tt; named = tt; right = tt; divides = tt }
-rule-read-of o (sum a b) h = record { same = refl; long = tt; named = tt; right = tt; divides = tt }
-rule-read-of o (diff a b) h = record { same = refl; long = tt; named = tt; right = tt; divides = tt }
-rule-read-of o (prod a b) h = record { same = refl; long = tt; named = tt; right = tt; divides = tt }
-rule-read-of o (maxi a b) h = record { same = refl; long = tt; named = tt; right = tt; divides = tt }
-rule-read-of o (mini a b) h = record { same = refl; long = tt; named = tt; right = tt; divides = tt }
+rule-read-of o (binary sum a b) h = record { same = refl; long = tt; named = tt; right = tt; divides = tt }
+rule-read-of o (binary diff a b) h = record { same = refl; long = tt; named = tt; right = tt; divides = tt }
+rule-read-of o (binary prod a b) h = record { same = refl; long = tt; named = tt; right = tt; divides = tt }
+rule-read-of o (binary maxi a b) h = record { same = refl; long = tt; named = tt; right = tt; divides = tt }
+rule-read-of o (binary mini a b) h = record { same = refl; long = tt; named = tt; right = tt; divides = tt }
 rule-read-of o (addc a c) h = record { same = ap (λ z. ruleWith o (addc a z)) (constant-back c h); long = tt; named = tt; right = tt; divides = tt }
 rule-read-of o (quot a c) h =
     let e = constant-back c (divisor-in c h) in

@@ -3,14 +3,14 @@ use Prim.Native.Nat.{ℕ, zero, suc, _+_, _≤_, _<_}
 use native.Mathlib.Omega.{arith}
 use mathlib.Core.Path.{_≡_, refl, sym, ap, _∙_, subst}
 use mathlib.Core.Logic.{_⊎_, inl, inr}
-use mathlib.Core.Bool.{Bool, true, false, not, _||_}
+use mathlib.Core.Bool.{Bool, true, false, not, _||_, cond}
 use mathlib.Core.List.{List, [], _∷_}
 use lib.ListN.{length, getD}
 use lib.Dec.{T, eqb, eqb→eq, eqb-refl, ltb, leb, leb→le, le→leb, nleb→lt, ltb→lt, lt→ltb, eqb·suc-zero, T-not, not-T}
 use Rattle.meaning.specs.Base.{all, countFrom, In}
-use Rattle.meaning.specs.Grammar.{Symbol, terminal, nonterminal, Occurrence, Function, const, copy, sum, diff, prod, maxi, mini, addc, quot, Rule, Condition, range, atmost, Production, Grammar, Counts, countsIn, inh, att, symbolAt}
+use Rattle.meaning.specs.Grammar.{Symbol, terminal, nonterminal, Occurrence, Function, const, copy, binary, addc, quot, Rule, Condition, range, atmost, Production, Grammar, Counts, countsIn, inh, att, symbolAt}
 use Rattle.meaning.specs.Rules.{Operands, Reads, Input, InputAt, OutputAt, Operand}
-use Rattle.meaning.specs.Table.{State, Entry, countsAt, entrySymbol, occurrenceKnown, isInput, isInherited, within, operands, reads, sameOccurrence, hasRule, occurrencesAt, complete, productionOf, grammarOf, sameAs}
+use Rattle.meaning.specs.Table.{State, Entry, countsAt, entrySymbol, occurrenceKnown, isInput, isInherited, within, operands, reads, sameOccurrence, hasRule, occurrencesAt, complete, productionOf, grammarOf}
 use Rattle.theory_base.specs.Members.{both, and, or-cases, or-right, not-not, all-in, in-all, any-in, in-any, in-map, map-in, in-from, from-in}
 
 abbrev occ : ℕ → ℕ → Occurrence
@@ -91,7 +91,7 @@ module _ (s : State) (e : Entry) where
 
   -- at a right-side position, an input is what is not inherited
   abbrev rightTest : ℕ → ℕ → Bool → Bool
-  rightTest k a b = sameAs b (isInherited s e (occ (suc k) a))
+  rightTest k a b = cond b (isInherited s e (occ (suc k) a)) (not (isInherited s e (occ (suc k) a)))
 
   pub input-at : (k a : ℕ) → T (occurrenceKnown s e (occ k a)) → T (isInput s e (occ k a)) → InputAt (grammarOf s) (productionOf e) k a
   input-at zero a h i = (known-facts zero a h .1, inherited-yes zero a i)
@@ -123,11 +123,7 @@ module _ (s : State) (e : Entry) where
 pub operands-all : (P : Occurrence → Type 0) (f : Function Occurrence) → ((o : Occurrence) → In o (operands f) → P o) → Operands P f
 operands-all P (const c) h = tt
 operands-all P (copy a) h = h a (inl refl)
-operands-all P (sum a b) h = (h a (inl refl), h b (inr (inl refl)))
-operands-all P (diff a b) h = (h a (inl refl), h b (inr (inl refl)))
-operands-all P (prod a b) h = (h a (inl refl), h b (inr (inl refl)))
-operands-all P (maxi a b) h = (h a (inl refl), h b (inr (inl refl)))
-operands-all P (mini a b) h = (h a (inl refl), h b (inr (inl refl)))
+operands-all P (binary f a b) h = (h a (inl refl), h b (inr (inl refl)))
 operands-all P (addc a c) h = h a (inl refl)
 operands-all P (quot a c) h = h a (inl refl)
 
@@ -142,11 +138,7 @@ of-two P a b x o (inr i) = of-one P b (x .1) o i
 pub all-operands : (P : Occurrence → Type 0) (f : Function Occurrence) → Operands P f → (o : Occurrence) → In o (operands f) → P o
 all-operands P (const c) h o i = absurd i
 all-operands P (copy a) h o i = of-one P a h o i
-all-operands P (sum a b) h o i = of-two P a b h o i
-all-operands P (diff a b) h o i = of-two P a b h o i
-all-operands P (prod a b) h o i = of-two P a b h o i
-all-operands P (maxi a b) h o i = of-two P a b h o i
-all-operands P (mini a b) h o i = of-two P a b h o i
+all-operands P (binary f a b) h o i = of-two P a b h o i
 all-operands P (addc a c) h o i = of-one P a h o i
 all-operands P (quot a c) h o i = of-one P a h o i
 

@@ -4,13 +4,13 @@ use native.Mathlib.Omega.{arith}
 use native.Mathlib.Decide.{decLt}
 use mathlib.Core.Path.{_≡_, refl, sym, ap, _∙_, subst}
 use mathlib.Core.Logic.{_⊎_, inl, inr}
-use mathlib.Core.Bool.{Bool, true, false, not, _&&_}
+use mathlib.Core.Bool.{Bool, true, false, not, _&&_, cond}
 use mathlib.Core.List.{List, [], _∷_, _++_, map, reverse, reverse-cons}
 use lib.ListN.{getD, length, drop, length-append, length-map, length-drop, length-reverse, List·getD-append}
 use lib.Seq.{getD-at, getD-append-add, getD-drop}
 use lib.Dec.{T, eqb, leb, eqb→eq, T-not}
 use Rattle.meaning.specs.Base.{In}
-use Rattle.meaning.specs.Grammar.{Symbol, terminal, Counts, noCounts, wholeProduction, productionAt, whole, pickProduction}
+use Rattle.meaning.specs.Grammar.{Symbol, terminal, Counts, noCounts, wholeProduction, productionAt, whole}
 use Rattle.meaning.specs.Table.{State, Header, Entry, noEntry, Kind, header, counts, production, rule, condition, carrier, isSome, headerOf, byte, within, symbolOf, readField, onCurrent, withRule, withCondition, ruleOf, conditionOf, wellFormed, readTable, nothingRead, productionOf, grammarOf}
 use Rattle.meaning.specs.Judgement.{entryOffset, countsOffset}
 use Rattle.theory_base.specs.Members.{both, in-reverse, getD-in, map-at}
@@ -354,6 +354,6 @@ read-places bs s e = record {
     number : (p : ℕ) → p < length (s .entries) → productionAt (grammarOf s) p ≡ productionOf (getD (reverse (s .entries)) p noEntry)
     number p l = go (eqb p whole) (λ t. let q = eqb→eq p whole t in omega (arith, w .inv .fewEntries))
       where
-        go : (b : Bool) → (T b → ⊥) → pickProduction b (wholeProduction (grammarOf s)) (getD (map productionOf (reverse (s .entries))) p (wholeProduction (grammarOf s))) ≡ productionOf (getD (reverse (s .entries)) p noEntry)
+        go : (b : Bool) → (T b → ⊥) → cond b (wholeProduction (grammarOf s)) (getD (map productionOf (reverse (s .entries))) p (wholeProduction (grammarOf s))) ≡ productionOf (getD (reverse (s .entries)) p noEntry)
         go true k = absurd (k tt)
         go false k = map-at productionOf (reverse (s .entries)) p noEntry (wholeProduction (grammarOf s)) (omega (arith, length-reverse (s .entries)))

@@ -22,14 +22,6 @@ use Rattle.theory_window.specs.Leaders.{length-leads, all-leads}
 pub small-pos : (m : ℕ) → m ≤ 64 → small (pos m) ≡ m
 small-pos m l = rw (le-leb m 64 l) refl
 
-pub small-most : (z : ℤ) → small z ≤ 65
-small-most (pos m) = by (leb m 64) refl
-  where
-    by : (b : Bool) → leb m 64 ≡ b → cond b m 65 ≤ 65
-    by true e = omega (arith, leb-true m 64 e)
-    by false e = omega arith
-small-most (negsuc m) = omega arith
-
 pub small-back : (z : ℤ) → small z ≤ 64 → z ≡ pos (small z)
 small-back (pos m) l = by (leb m 64) l
   where

@@ -16,7 +16,7 @@ use Rattle.theory_window.specs.Lists.{all-getD}
 use Rattle.theory_window.specs.Ring.{grown, staying, order-full, values-order}
 use Rattle.theory_window.specs.Leaders.{stays, leaders-push, downFrom, down-order}
 use Rattle.theory_window.specs.Kept.{sameNumber-same, place-held, place-room}
-use Rattle.theory_window.specs.Brought.{PassedIn, kept-held, kept-next, kept-slots, set-long, push-values, push-long, push-total, first-value}
+use Rattle.theory_window.specs.FormByParts.{PassedIn, kept-held, kept-next, kept-slots, set-long, push-values, push-long, push-total, first-value}
 
 -- ---- the value that leaves
 

@@ -15,7 +15,7 @@ use Rattle.meaning.specs.WindowStatements.{WindowCall, opening, later, callsWin
 use Rattle.theory_base.specs.Members.{apart}
 use Rattle.theory_window.specs.Lists.{both, and-left, and-right}
 use Rattle.theory_window.specs.Kept.{Valid, size-of, past-of}
-use Rattle.theory_window.specs.Brought.{passed, push-valid}
+use Rattle.theory_window.specs.FormByParts.{passed, push-valid}
 use Rattle.theory_window.specs.Cases.{opens-not, opens-met, value-not, value-met, state-not, state-met}
 use Rattle.theory_window.specs.Reached.{kept-reached, reached-kept, fresh-form}
 

@@ -2,9 +2,9 @@
 use Rattle.meaning.specs.Window.{wellKept}
 use Rattle.meaning.specs.WindowStatements.{ScanAlways, ReachedExactly, KeptAlways, TurnedBackExactly, Untouched, PastUntouched, KeptBeside}
 use Rattle.theory_base.specs.Members.{T→true, true→T}
-use Rattle.theory_window.specs.Brought.{answer-kept}
+use Rattle.theory_window.specs.FormByParts.{answer-kept}
 use Rattle.theory_window.specs.Reached.{kept-reached, reached-kept}
-use Rattle.theory_window.specs.Always as Always
+use Rattle.theory_window.specs.ScanAlways as Always
 use Rattle.theory_window.specs.Promises as Promises
 
 pub scan-always : ScanAlways

@@ -16,7 +16,7 @@ use Rattle.meaning.specs.WindowStatements.{afterValues, Reached}
 use Rattle.theory_base.specs.Members.{T→true, true→T}
 use Rattle.theory_window.specs.Lists.{and-left, and-right, both, all-append}
 use Rattle.theory_window.specs.Kept.{Valid, place-by, zeros-in, size-of, next-of, values-of, past-of, form-kept}
-use Rattle.theory_window.specs.Brought.{passed, kept-valid, kept-form, push-valid, kept-next}
+use Rattle.theory_window.specs.FormByParts.{passed, kept-valid, kept-form, push-valid, kept-next}
 
 -- values brought after each other
 abbrev pub bringsAll : List ℤ → Outcome → Outcome

@@ -1,8 +1,11 @@
 // 01: "A token set has at most 63 tokens and the end of the segment": a word whose bit t is token t, and bit 63 the end.
+pub mod word;
+
 ghost use mathlib.Core.Path.{_≡_};
-ghost use Rattle.meaning.specs.Sets.{_∪_, has, singleton, endNumber};
+ghost use lib.Bits.{bitOr};
+ghost use Rattle.meaning.specs.Sets.{_∪_, emptySet, has, singleton, endNumber};
 ghost use Rattle.meaning.specs.Decide.{meet};
-ghost use Rattle.token_set.specs.Words.{setOf};
+ghost use Rattle.token_set.specs.SetBits.{setOf};
 
 pub struct TokenSet(pub u64);
 
@@ -15,14 +18,12 @@ impl TokenSet {
     pub fn of_token(t: u8) -> TokenSet
         ensures { λ r. ⌜ setOf (r .0) ≡ singleton t ⌝ }
     {
-        if 64 <= t {
-            return TokenSet::EMPTY;
-        }
-        TokenSet(1u64 << t)
+        TokenSet(word::one(t))
     }
 
     pub fn union(self, other: TokenSet) -> TokenSet
-        ensures { λ r. ⌜ setOf (r .0) ≡ setOf (self .0) ∪ setOf (other .0) ⌝ }
+        ensures set { λ r. ⌜ setOf (r .0) ≡ setOf (self .0) ∪ setOf (other .0) ⌝ }
+        ensures word { λ r. ⌜ r .0 ≡ bitOr (self .0) (other .0) ⌝ }
     {
         TokenSet(self.0 | other.0)
     }
@@ -30,10 +31,7 @@ impl TokenSet {
     pub fn has(self, t: u8) -> bool
         ensures { λ r. ⌜ r ≡ has (setOf (self .0)) t ⌝ }
     {
-        if 64 <= t {
-            return false;
-        }
-        (self.0 >> t) & 1 == 1
+        word::has(self.0, t)
     }
 
     pub fn has_end(self) -> bool
@@ -48,4 +46,17 @@ impl TokenSet {
     {
         self.0 & other.0 != 0
     }
+}
+
+// What the constants are: rows of code, since definitions do not see constants.
+fn empty_row() -> TokenSet
+    ensures { λ r. ⌜ setOf (r .0) ≡ emptySet ⌝ }
+{
+    TokenSet::EMPTY
+}
+
+fn end_row() -> TokenSet
+    ensures { λ r. ⌜ setOf (r .0) ≡ singleton endNumber ⌝ }
+{
+    TokenSet::END
 }

@@ -1,7 +1,7 @@
 -- A signed local holds bits: what is read back from them.
 use Prim.Native.Nat.{_<_}
 use mathlib.Core.Path.{_≡_, refl, sym, subst}
-use mathlib.Core.Bool.{Bool, true, false}
+use mathlib.Core.Bool.{Bool, true, false, cond}
 use native.Mathlib.Omega.{arith}
 use borrow.Author.Tests.{leb-true}
 use lib.Dec.{T}
@@ -10,7 +10,7 @@ use lib.Signed.{leZ}
 use mir.Syntax.{w64}
 use mir.Facts.{toZ-ofZ}
 use mir.Val.{SFits, toZ, ofZ}
-use Rattle.meaning.specs.Value.{inRange, mark, pick}
+use Rattle.meaning.specs.Value.{inRange, mark}
 use Rattle.value.specs.Ranged.{ranged}
 use Rattle.value.specs.Overflow.{in-range-size, fits64}
 
@@ -20,7 +20,7 @@ in-range-fits z e = fits64 z (omega (arith, in-range-size z e))
 pub ranged-fits : (z : ℤ) → SFits w64 (ranged z)
 ranged-fits z = at-pick (inRange z) refl
   where
-    at-pick : (b : Bool) → inRange z ≡ b → SFits w64 (pick b z mark)
+    at-pick : (b : Bool) → inRange z ≡ b → SFits w64 (cond b z mark)
     at-pick true e = in-range-fits z e
     at-pick false e = record { sfits = omega arith }
 

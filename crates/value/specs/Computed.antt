@@ -1,18 +1,18 @@
 -- The nine functions by their numbers in 01.
 use Prim.Native.Nat.{ℕ}
-use mathlib.Core.Path.{_≡_, refl}
 use mathlib.Core.List.{List, [], _∷_}
+use mathlib.Core.Bool.{cond}
 use lib.ListN.{getD}
 use lib.IntN.{ℤ, pos, _+ℤ_, _-ℤ_, _*ℤ_}
 use lib.Signed.{leZ}
-use Rattle.meaning.specs.Grammar.{Function, const, copy, sum, diff, prod, maxi, mini, addc, quot}
-use Rattle.meaning.specs.Value.{apply, pick, quotient}
+use Rattle.meaning.specs.Grammar.{Function, const, copy, binary, binaryNumber, addc, quot}
+use Rattle.meaning.specs.Value.{quotient}
 
 abbrev pub larger : ℤ → ℤ → ℤ
-larger a b = pick (leZ a b) b a
+larger a b = cond (leZ a b) b a
 
 abbrev pub smaller : ℤ → ℤ → ℤ
-smaller a b = pick (leZ a b) a b
+smaller a b = cond (leZ a b) a b
 
 -- the exact result of each function on its operands and constant, in 01's order
 abbrev pub results : ℤ → ℤ → List ℤ
@@ -22,25 +22,17 @@ results a b = a ∷ a ∷ (a +ℤ b) ∷ (a -ℤ b) ∷ (a *ℤ b) ∷ larger a 
 abbrev pub computed : ℕ → ℤ → ℤ → ℤ
 computed f a b = getD (results a b) f (pos 0)
 
-abbrev pub numberOf : {O : Type 0} → Function O → ℕ
-numberOf (const c) = 0
-numberOf (copy a) = 1
-numberOf (sum a b) = 2
-numberOf (diff a b) = 3
-numberOf (prod a b) = 4
-numberOf (maxi a b) = 5
-numberOf (mini a b) = 6
-numberOf (addc a c) = 7
-numberOf (quot a c) = 8
+abbrev pub functionNumber : {O : Type 0} → Function O → ℕ
+functionNumber (const c) = 0
+functionNumber (copy a) = 1
+functionNumber (binary f a b) = binaryNumber f
+functionNumber (addc a c) = 7
+functionNumber (quot a c) = 8
 
 abbrev pub firstOperand : {O : Type 0} → (O → ℤ) → Function O → ℤ
 firstOperand v (const c) = c
 firstOperand v (copy a) = v a
-firstOperand v (sum a b) = v a
-firstOperand v (diff a b) = v a
-firstOperand v (prod a b) = v a
-firstOperand v (maxi a b) = v a
-firstOperand v (mini a b) = v a
+firstOperand v (binary f a b) = v a
 firstOperand v (addc a c) = v a
 firstOperand v (quot a c) = v a
 
@@ -48,21 +40,6 @@ firstOperand v (quot a c) = v a
 abbrev pub secondOperand : {O : Type 0} → (O → ℤ) → Function O → ℤ
 secondOperand v (const c) = pos 0
 secondOperand v (copy a) = pos 0
-secondOperand v (sum a b) = v b
-secondOperand v (diff a b) = v b
-secondOperand v (prod a b) = v b
-secondOperand v (maxi a b) = v b
-secondOperand v (mini a b) = v b
+secondOperand v (binary f a b) = v b
 secondOperand v (addc a c) = c
 secondOperand v (quot a c) = c
-
-pub apply-computed : {O : Type 0} (v : O → ℤ) (f : Function O) → apply v f ≡ computed (numberOf f) (firstOperand v f) (secondOperand v f)
-apply-computed v (const c) = refl
-apply-computed v (copy a) = refl
-apply-computed v (sum a b) = refl
-apply-computed v (diff a b) = refl
-apply-computed v (prod a b) = refl
-apply-computed v (maxi a b) = refl
-apply-computed v (mini a b) = refl
-apply-computed v (addc a c) = refl
-apply-computed v (quot a c) = refl

@@ -2,21 +2,18 @@
 use Prim.Native.Nat.{ℕ, _+_, _*_, _-_, _%_, _≤_, _<_}
 use native.Mathlib.Decide.{decLt}
 use native.Mathlib.Omega.{arith}
-use mathlib.Core.Path.{_≡_, refl, ap}
+use mathlib.Core.Path.{_≡_, ap}
 use mathlib.Core.Bool.{true}
 use mathlib.Core.List.{List}
 use borrow.Author.Tests.{lt-ltb, le-ltb, le-leb}
 use lib.ListN.{length, List·getD-eq-default}
 use lib.IntN.{pos, negsuc, _-ℤ_}
 use lib.Signed.{mag}
-use Rattle.meaning.specs.Table.{byte, signed, constantAt}
+use Rattle.meaning.specs.Table.{byte, signed}
 use Rattle.meaning.specs.Value.{inRange, lowest, highest}
 
 abbrev pub wordAt : List ℕ → ℕ → ℕ
 wordAt b i = ((byte b i * 256 + byte b (i + 1)) * 256 + byte b (i + 2)) * 256 + byte b (i + 3)
-
-pub constant-of-word : (b : List ℕ) (i : ℕ) → constantAt b i ≡ signed (wordAt b i)
-constant-of-word b i = refl
 
 pub word-past : (b : List ℕ) (i : ℕ) → length b ≤ i → wordAt b i ≡ 0
 word-past b i h = rw (List·getD-eq-default b 0 {n = i} h, List·getD-eq-default b 0 {n = i + 1} (omega arith), List·getD-eq-default b 0 {n = i + 2} (omega arith), List·getD-eq-default b 0 {n = i + 3} (omega arith))

@@ -2,19 +2,18 @@
 use Prim.Native.Nat.{ℕ, zero, suc, _^_, _≤_, _<_}
 use native.Mathlib.Omega.{arith}
 use mathlib.Core.Path.{_≡_, refl, ap, _∙_}
-use mathlib.Core.Bool.{Bool, true, false, _&&_, not}
+use mathlib.Core.Bool.{Bool, true, false, _&&_, not, cond}
 use borrow.Author.Tests.{lt-leb}
 use lib.IntN.{ℤ, pos, negsuc, natAbs, _+ℤ_}
 use lib.Signed.{leZ, mag}
 use mir.Syntax.{w64}
 use mir.Val.{SFits}
-use Rattle.meaning.specs.Grammar.{Function}
-use Rattle.meaning.specs.Value.{apply, inRange, lowest, mark, pick, quotient}
+use Rattle.meaning.specs.Value.{inRange, lowest, mark, quotient}
 use Rattle.meaning.specs.Calls.{isMark}
 use Rattle.theory_base.specs.Members.{T→true, true→T}
 use Rattle.theory_base.specs.Quotients.{value-size, quotient-size, quotient-ranged}
 use Rattle.value.specs.Ranged.{ranged, pick-in}
-use Rattle.value.specs.Computed.{larger, smaller, computed, numberOf, firstOperand, secondOperand, apply-computed}
+use Rattle.value.specs.Computed.{larger, smaller, computed}
 use Rattle.value.specs.Sizes.{natAbs-add, natAbs-sub}
 
 -- no value has a larger size
@@ -50,7 +49,7 @@ value-unmarked (negsuc n) e = ap (λ b. leZ mark (negsuc n) && b) (lt-leb (mag m
 pub isMark-ranged : (z : ℤ) → isMark (ranged z) ≡ not (inRange z)
 isMark-ranged z = at-pick (inRange z) refl
   where
-    at-pick : (b : Bool) → inRange z ≡ b → isMark (pick b z mark) ≡ not b
+    at-pick : (b : Bool) → inRange z ≡ b → isMark (cond b z mark) ≡ not b
     at-pick true e = value-unmarked z e
     at-pick false e = refl
 
@@ -89,9 +88,6 @@ computed-size f a b other p q = each f other
     each (suc (suc (suc (suc (suc (suc (suc zero))))))) k = plus
     each (suc (suc (suc (suc (suc (suc (suc (suc zero)))))))) k = omega (arith, quotient-size a b, m)
     each (suc (suc (suc (suc (suc (suc (suc (suc (suc f))))))))) k = omega arith
-
-pub apply-size : {O : Type 0} (v : O → ℤ) (f : Function O) → (numberOf f ≡ 4 → ⊥) → inRange (firstOperand v f) ≡ true → inRange (secondOperand v f) ≡ true → Fits64 (apply v f)
-apply-size v f k p q = rw (apply-computed v f) (computed-size (numberOf f) (firstOperand v f) (secondOperand v f) k p q)
 
 pub computed-fits : (f : ℕ) (a b : ℤ) → (f ≡ 4 → ⊥) → inRange a ≡ true → inRange b ≡ true → SFits w64 (computed f a b)
 computed-fits f a b k p q = fits64 (computed f a b) (computed-size f a b k p q)

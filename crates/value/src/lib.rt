@@ -105,7 +105,7 @@ pub fn whole_word(bytes: &[u8], at: usize) -> u32
     ((a * 256 + b) * 256 + c) * 256 + d
 }
 
-// The same, with 0 for each byte past the end.
+// Four bytes as one number, the highest first, with 0 for each byte past the end.
 pub fn word_at(bytes: &[u8], at: usize) -> u32
     ensures { λ r. ⌜ r ≡ wordAt (now (bytes .entry)) at ⌝ }
 {

@@ -12,7 +12,7 @@ use Rattle.meaning.specs.Window.{stands, empty, turned, order, zeros, slotsOf, 
 use Rattle.theory_window.specs.Lists.{both}
 use Rattle.theory_window.specs.Ring.{length-order}
 use Rattle.theory_window.specs.Cases.{opens-met, value-met}
-use Rattle.theory_window.specs.Brought.{passed}
+use Rattle.theory_window.specs.FormByParts.{passed}
 use Rattle.theory_window.specs.Next.{topWith, push-shown}
 use Rattle.window_found.specs.Checks.{foundIn}
 

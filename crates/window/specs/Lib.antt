@@ -1,1 +1,2 @@
+-- The meaning of the code's answers
 pub mod Answers

@@ -36,7 +36,7 @@ fn standing(held: usize, total: i64, largest: i64) -> WindowAnswer
 
 // The value enters: total and largest with it are what the check has found.
 fn push(value: i64, buffer: &mut [i64], found: Found, leaders: &[u8]) -> WindowAnswer
-    requires { ⌜ Parts.Brought (now buffer) found value (now leaders) × (inRange value ≡ true) ⌝ }
+    requires { ⌜ Parts.ValueBrought (now buffer) found value (now leaders) × (inRange value ≡ true) ⌝ }
     ensures { λ r. ⌜ outcomeIs r (now (buffer .exit)) ≡ bringsValue value (now (buffer .entry)) ⌝ }
 {
     renew(buffer, found, value, leaders);

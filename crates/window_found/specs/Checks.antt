@@ -89,15 +89,15 @@ pub record CheckedIn (b : List ℤ) (v : ℤ) (r : Checked) (cells : List ℕ) :
   pub leaders : wellKept b ≡ true → EndsWith (newLeaders b (sizeIn b) v) cells
 
 -- what is known where the check answers that a buffer is well kept
-pub record Told (b : List ℤ) (v : ℤ) (f : Found) (cells : List ℕ) : Type 0 where
+pub record KnownWhereKept (b : List ℤ) (v : ℤ) (f : Found) (cells : List ℕ) : Type 0 where
   pub kept : wellKept b ≡ true
   pub found : f ≡ foundIn b v
   pub leaders : EndsWith (newLeaders b (sizeIn b) v) cells
 
-pub told-kept : (b : List ℤ) (v : ℤ) {r : Checked} {cells : List ℕ} {f : Found} → CheckedIn b v r cells → r ≡ Kept f → Told b v f cells
+pub told-kept : (b : List ℤ) (v : ℤ) {r : Checked} {cells : List ℕ} {f : Found} → CheckedIn b v r cells → r ≡ Kept f → KnownWhereKept b v f cells
 told-kept b v {cells = cells} {f = f} w d = by (wellKept b) refl (sym d ∙ w .answer)
   where
-    by : (x : Bool) → wellKept b ≡ x → Kept f ≡ checked x (foundIn b v) → Told b v f cells
+    by : (x : Bool) → wellKept b ≡ x → Kept f ≡ checked x (foundIn b v) → KnownWhereKept b v f cells
     by true e q = record { kept = e; found = cc; leaders = w .leaders e }
     by false e q = absurd (let z : _≡_ {A = ℕ} 0 1 = cc in omega arith)
 

@@ -20,7 +20,7 @@ use Rattle.theory_window.specs.Parts.{topAt}
 use Rattle.theory_window.specs.Leaders.{stays, downFrom, before, before-below}
 use Rattle.theory_window.specs.Next.{lastRead, leavingOf, last-leaves, leadersWith, topWith}
 use Rattle.window_found.specs.Parts as Parts
-use Rattle.window_found.specs.Turns.{Ready, Ended, matchedAt, staysAt, turnBy, cellsBy, turned, cellsAfter, passing, ending, staying, foundBy, concluded}
+use Rattle.window_found.specs.Turns.{ReadyForTurn, Ended, matchedAt, staysAt, turnBy, cellsBy, turned, cellsAfter, passing, ending, staying, foundBy, concluded}
 use Rattle.window_found.specs.Checks.{checked, claimed, valuesKept, foundOf, Walked, EndsWith}
 use Rattle.window_found.specs.declared.Numbers.{Numbers}
 use Rattle.window_found.specs.declared.Walk.{Walk}
@@ -95,7 +95,7 @@ module _ (s area : List ℤ) (at : Numbers) (v : ℤ) (p : Parts.Window s area a
     abbrev u : ℕ
     u = w .unmatched
 
-    pub ready : Ready s w
+    pub ready : ReadyForTurn s w
     ready = record { few = p .few; slot = m .slot; room = m .room; most = m .most; size = omega (arith, m .size, m .few, p .held, p .few) }
 
     read-on : lastRead (valueAt s) (pos 0) (downFrom (length s) (at .held) (at .next)) ≡ lastRead (valueAt s) x (downFrom (length s) (left - 1) i)

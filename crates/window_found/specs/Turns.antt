@@ -20,7 +20,7 @@ use Rattle.window_found.specs.declared.Checked.{Checked}
 use Rattle.window_found.specs.declared.Checked.the-variants as Checked
 
 -- what a turn needs: a slot, room for a leader where one is not matched yet, and a sum that has room
-pub record Ready (s : List ℤ) (w : Walk) : Type 0 where
+pub record ReadyForTurn (s : List ℤ) (w : Walk) : Type 0 where
   pub few : length s ≤ 64
   pub slot : w .slot < length s
   pub room : w .unmatched ≤ w .from

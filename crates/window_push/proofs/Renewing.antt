@@ -10,7 +10,7 @@ use lib.IntN.{ℤ, pos, _+ℤ_, _-ℤ_}
 use Rattle.meaning.specs.Window.{total, zeros, after, valueAt, leadersOf, leaderCells, cells, formLength, sizeIn, heldIn, nextIn, totalIn, slotsIn, wellKept, written, valuesWith}
 use Rattle.theory_window.specs.Ring.{grown}
 use Rattle.theory_window.specs.Kept.{leaders-few}
-use Rattle.theory_window.specs.Brought.{passed, kept-held, kept-next, kept-slots, kept-cells, push-form}
+use Rattle.theory_window.specs.FormByParts.{passed, kept-held, kept-next, kept-slots, kept-cells, push-form}
 use Rattle.window_found.specs.Checks.{newLeaders}
 use Rattle.window_push.specs.Parts.{stored}
 use Rattle.window_push.specs.Leading.{new-leaders}

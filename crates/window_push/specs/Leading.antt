@@ -12,10 +12,10 @@ use Rattle.theory_window.specs.Ring.{grown, length-grown}
 use Rattle.theory_window.specs.Leaders.{stays, leaders-push}
 use Rattle.theory_window.specs.Kept.{leaders-few}
 use Rattle.theory_window.specs.Next.{leadersWith}
-use Rattle.theory_window.specs.Brought.{passed, kept-held, kept-next, kept-slots}
-use Rattle.window_found.specs.Checks.{Told, newLeaders}
+use Rattle.theory_window.specs.FormByParts.{passed, kept-held, kept-next, kept-slots}
+use Rattle.window_found.specs.Checks.{KnownWhereKept, newLeaders}
 use Rattle.window_found.specs.declared.Found.{Found}
-use Rattle.window_push.specs.Parts.{Brought}
+use Rattle.window_push.specs.Parts.{ValueBrought}
 
 module _ (b : List ℤ) (kept : wellKept b ≡ true) (v : ℤ) where
   abbrev n : ℕ
@@ -44,7 +44,7 @@ module _ (b : List ℤ) (kept : wellKept b ≡ true) (v : ℤ) where
   some-leaders : 1 ≤ length (newLeaders b (sizeIn b) v)
   some-leaders = omega (arith, ap length new-leaders, length-append (keep (stays s k v) (leadersOf n h k s)) (k ∷ []))
 
-  pub brought : (f : Found) (cells : List ℕ) → Told b v f cells → Brought b f v cells
+  pub brought : (f : Found) (cells : List ℕ) → KnownWhereKept b v f cells → ValueBrought b f v cells
   brought f cells w =
       let size : f .size ≡ n = ap (λ x. x .size) (w .found) in
       let held : f .held ≡ h = ap (λ x. x .held) (w .found) in

@@ -3,7 +3,7 @@ use Prim.Native.Nat.{ℕ, _+_, _-_, _*_, _≤_, _<_}
 use mathlib.Core.List.{List}
 use lib.ListN.{length, set}
 use lib.IntN.{ℤ, pos}
-use Rattle.window_found.specs.Checks.{Told}
+use Rattle.window_found.specs.Checks.{KnownWhereKept}
 use Rattle.window_found.specs.declared.Found.{Found}
 
 -- a window's numbers and the value in its slot written
@@ -11,8 +11,8 @@ abbrev pub stored : List ℤ → ℕ → ℕ → ℤ → ℕ → ℕ → ℤ →
 stored b h k t c slot v = set (set (set (set (set b 1 (pos h)) 2 (pos k)) 3 t) 4 (pos c)) (5 + slot) v
 
 -- a well kept buffer, what the check has found in it, and a value to bring
-pub record Brought (b : List ℤ) (f : Found) (v : ℤ) (cells : List ℕ) : Type 0 where
-  pub told : Told b v f cells
+pub record ValueBrought (b : List ℤ) (f : Found) (v : ℤ) (cells : List ℕ) : Type 0 where
+  pub told : KnownWhereKept b v f cells
   pub most : f .size ≤ 64
   pub long : 5 + 2 * f .size ≤ length b
   pub place : f .held ≤ f .size

@@ -63,7 +63,7 @@ fn store(
 
 // The buffer with one more value, from what the check has found: no cell is read.
 pub fn renew(buffer: &mut [i64], found: Found, value: i64, leaders: &[u8])
-    requires { ⌜ Parts.Brought (now buffer) found value (now leaders) ⌝ }
+    requires { ⌜ Parts.ValueBrought (now buffer) found value (now leaders) ⌝ }
     ensures { λ r. ⌜ now (buffer .exit) ≡ written (sizeIn (now (buffer .entry))) (Window.after (sizeIn (now (buffer .entry))) (nextIn (now (buffer .entry)))) (valuesWith value (now (buffer .entry))) (now (buffer .entry)) ⌝ }
 {
     let size = found.size;

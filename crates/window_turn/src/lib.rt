@@ -2,7 +2,7 @@
 ghost use Prim.Native.Nat.{_<_};
 ghost use mathlib.Core.Path.{_≡_};
 ghost use Rattle.theory_window.specs.Leaders as Leaders;
-ghost use Rattle.window_found.specs.Turns.{Ready, matchedAt, staysAt, turned, cellsAfter};
+ghost use Rattle.window_found.specs.Turns.{ReadyForTurn, matchedAt, staysAt, turned, cellsAfter};
 use value::in_range;
 use window_cells::number_at;
 use window_found::Turn;
@@ -47,7 +47,7 @@ pub fn one_turn(
     w: Walk,
     leaders: &mut [u8; 65],
 ) -> Turn
-    requires { ⌜ Ready (now slots) w ⌝ }
+    requires { ⌜ ReadyForTurn (now slots) w ⌝ }
     ensures { λ r. ⌜ (r ≡ turned (now (slots .entry)) (now (area .entry)) next value w) × (now (leaders .exit) ≡ cellsAfter (now (slots .entry)) (now (area .entry)) next value w (now (leaders .entry))) ⌝ }
 {
     let slot = before(slots.len(), w.slot);

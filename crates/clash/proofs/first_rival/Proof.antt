@@ -5,11 +5,11 @@ use borrow.Author.Needs.{needs}
 use Rattle.clash.proofs.first_rival.Statement.{statement}
 use Rattle.clash.proofs.first_rival.Tie as tie
 
-mul-t10 : tie.Need-mul-t10
-mul-t10 c = search needs
+mul-set : tie.Need-mul-set
+mul-set c = search needs
 
-element-copy-out-t13 : tie.Need-element-copy-out-t13
-element-copy-out-t13 c = search needs
+element-copy-out-set : tie.Need-element-copy-out-set
+element-copy-out-set c = search needs
 
 meets-requires : tie.Need-meets-requires
 meets-requires c κs = search needs
@@ -30,4 +30,4 @@ returns-2 c =
 pub first-rival-spec : {M : Type 1} → statement M
 first-rival-spec =
     tie.close
-    (tie.spec mul-t10 element-copy-out-t13 meets-requires next-rival-requires returns returns-2)
+    (tie.spec mul-set element-copy-out-set meets-requires next-rival-requires returns returns-2)

@@ -4,23 +4,23 @@ use borrow.Author.Needs.{needs}
 use mathlib.Core.Path.{_≡_, refl}
 use mathlib.Core.Bool.{true}
 use Rattle.meaning.specs.Decide.{clashes}
-use Rattle.analysis.specs.Rows.{leftAt, image-of}
+use Rattle.outline.specs.Rows.{leftAt, image-of}
 use Rattle.analysis.specs.Numbers.{Clear, clear-none, clear-more, found-here, found-none}
-use Rattle.rivals.specs.Rivals.{startTogether, rival, rival-starts}
-use Rattle.clash.specs.Together.{grammarIn}
-use Rattle.clash.specs.Clashing.{clashIn, KeptTo, kept-none, kept-next, both-kept, clash-met, clashes-one, clashes-none, Seen, seen-none, seen-next}
+use Rattle.clash_rivals.specs.Rivals.{startTogether, rival, rival-starts}
+use Rattle.outline.specs.Outline.{grammarIn}
+use Rattle.clash.specs.Clashing.{given-place, clashIn, KeptTo, kept-none, kept-next, both-kept, clash-met, clashes-one, clashes-none, Seen, seen-none, seen-next}
 use Rattle.clash.proofs.Laws.{rival-enters, clear-on, first-known}
 use Rattle.clash.proofs.lowest_by_entry.Statement.{statement}
 use Rattle.clash.proofs.lowest_by_entry.Tie as tie
 
 abbrev Inv-loop : tie.InvT-loop
-Inv-loop table rows offsets sets count met lows highs ranks seen later left at wanted earlier₀ earlier = (earlier ≤ later) × Clear (clashIn table later) earlier × (earlier < later → rival rows sets lows highs ranks later earlier ≡ true)
+Inv-loop table rows offsets sets count met lows highs ranks seen later left at wanted had earlier₀ earlier = (earlier ≤ later) × Clear (clashIn table later) earlier × (earlier < later → rival rows sets lows highs ranks later earlier ≡ true)
 
 abbrev μ-loop : tie.MeasureT-loop
-μ-loop table rows offsets sets count met lows highs ranks seen later left at wanted earlier₀ earlier = later - earlier
+μ-loop table rows offsets sets count met lows highs ranks seen later left at wanted had earlier₀ earlier = later - earlier
 
 abbrev Inv-pairs : tie.InvT-pairs
-Inv-pairs table rows offsets sets count met lows₀ highs₀ ranks₀ seen₀ later₀ lows highs ranks seen later = (later ≤ count) × Seen rows sets later seen × Clear (clashes (grammarIn table)) later × KeptTo table rows met lows highs ranks later
+Inv-pairs table rows offsets sets count met lows₀ highs₀ ranks₀ seen₀ later₀ lows highs ranks seen later = (later ≤ count) × Seen rows sets later seen × Clear (clashes (grammarIn table)) later × KeptTo table rows (met .0) lows highs ranks later
 
 abbrev μ-pairs : tie.MeasureT-pairs
 μ-pairs table rows offsets sets count met lows₀ highs₀ ranks₀ seen₀ later₀ lows highs ranks seen later = count - later
@@ -40,10 +40,10 @@ full c = omega arith
 
 -- the left side is a nonterminal
 below : (c : tie.In-pairs Inv-loop μ-loop Inv-pairs μ-pairs) → leftAt (start (c .before) .args .rows .now) (c .before .pairs .later) < 48
-below c = image-of (start (c .before) .pre .0 .rowsOf) .lefts _ (c .pairs-test .taken)
+below c = image-of (start (c .before) .pre .0 .productions .rowsOf) .lefts _ (c .pairs-test .taken)
 
 few : (c : tie.In-pairs Inv-loop μ-loop Inv-pairs μ-pairs) → start (c .before) .args .count ≤ 128
-few c = image-of (start (c .before) .pre .0 .rowsOf) .few
+few c = image-of (start (c .before) .pre .0 .productions .rowsOf) .few
 
 -- what is kept with the later production
 keeping :
@@ -51,7 +51,7 @@ keeping :
     → let pr = c .before .before .before .before .before .before in
     let st = start (pr .before) in
     let x = c .keep .last .1 .1 .1 .1 in
-    KeptTo (st .args .table .now) (st .args .rows .now) (st .args .met) (x .0) (x .1 .0) (x .1 .1 .0) (pr .before .pairs .later + 1)
+    KeptTo (st .args .table .now) (st .args .rows .now) (st .args .met .0) (x .0) (x .1 .0) (x .1 .1 .0) (pr .before .pairs .later + 1)
 keeping c =
     let h = c .before .before .before .before in
     let pr = h .before .before in
@@ -92,13 +92,13 @@ keep-requires c κs =
     let k = pr .before .pairs .inv .3 in
     let n = few pr in
     let l = pr .pairs-test .taken in
-    (omega arith, start (pr .before) .pre .0 .placed _ l, k .lows-all, k .highs-all)
+    (omega arith, given-place (start (pr .before) .pre .0) _ l, k .lows-all, k .highs-all)
 
-mul-first-rival : tie.Need-mul-first-rival Inv-loop μ-loop Inv-pairs μ-pairs
-mul-first-rival c = omega (arith, below (c .before .before .before .before .before .before .before .before .before))
+mul-had : tie.Need-mul-had Inv-loop μ-loop Inv-pairs μ-pairs
+mul-had c = omega (arith, below (c .before .before .before .before .before .before))
 
-array-read-first-rival : tie.Need-array-read-first-rival Inv-loop μ-loop Inv-pairs μ-pairs
-array-read-first-rival c = omega (arith, below (c .before .before .before .before .before .before .before .before .before))
+array-read-had : tie.Need-array-read-had Inv-loop μ-loop Inv-pairs μ-pairs
+array-read-had c = omega (arith, below (c .before .before .before .before .before .before))
 
 first-rival-requires : tie.Need-first-rival-requires Inv-loop μ-loop Inv-pairs μ-pairs
 first-rival-requires c κs =
@@ -122,7 +122,7 @@ enters-together-requires c κs =
     let m = listed lp in
     let kept = keeping (kept-at (lp .before)) in
     let k = both-kept (pre .1) _ _ kept l (lp .loop-test .taken) _ refl (rivalling lp) in
-    ((omega arith, pre .0 .placed _ l, k .0 .rank), ((omega arith, pre .0 .placed _ m, k .1 .rank), rival-enters (pre .0) (pre .1) _ kept l _ (lp .loop-test .taken) (lp .before .loop .inv .2 (lp .loop-test .taken))))
+    ((omega arith, given-place (pre .0) _ l, k .0 .rank), ((omega arith, given-place (pre .0) _ m, k .1 .rank), rival-enters (pre .0) (pre .1) _ kept l _ (lp .loop-test .taken) (lp .before .loop .inv .2 (lp .loop-test .taken))))
 
 add-next-rival : tie.Need-add-next-rival Inv-loop μ-loop Inv-pairs μ-pairs
 add-next-rival c =
@@ -150,37 +150,38 @@ loop-again c =
     let e = clash-met (pre .0) _ _ l (listed lp) _ refl (rivalling lp) _ (et .enters-together .ensures) _ (el .if1 .left) in
     (n .upto, clear-on (pre .0) (pre .1) _ (keeping (kept-at (lp .before))) l _ _ (clear-more _ _ (lp .before .loop .inv .1) (λ t. rw e at t)) n, n .here)
 
+-- the turn that the inner loop stands in
+abbrev paired : (c : tie.After-loop Inv-loop μ-loop Inv-pairs μ-pairs) → tie.In-pairs Inv-loop μ-loop Inv-pairs μ-pairs
+paired c = kept-at (c .before) .before .before .before .before .before .before
+
+mul-set : tie.Need-mul-set Inv-loop μ-loop Inv-pairs μ-pairs
+mul-set c = omega (arith, few (paired c))
+
+element-copy-out-set : tie.Need-element-copy-out-set Inv-loop μ-loop Inv-pairs μ-pairs
+element-copy-out-set c = omega (arith, few (paired c))
+
+union-requires : tie.Need-union-requires Inv-loop μ-loop Inv-pairs μ-pairs
+union-requires c κs = search needs
+
 mul-seen : tie.Need-mul-seen Inv-loop μ-loop Inv-pairs μ-pairs
-mul-seen c = omega (arith, below (kept-at (c .before) .before .before .before .before .before .before))
-
-array-read-seen : tie.Need-array-read-seen Inv-loop μ-loop Inv-pairs μ-pairs
-array-read-seen c = omega (arith, below (kept-at (c .before) .before .before .before .before .before .before))
-
-mul-seen-2 : tie.Need-mul-seen-2 Inv-loop μ-loop Inv-pairs μ-pairs
-mul-seen-2 c = omega (arith, few (kept-at (c .before) .before .before .before .before .before .before))
-
-element-copy-out-seen : tie.Need-element-copy-out-seen Inv-loop μ-loop Inv-pairs μ-pairs
-element-copy-out-seen c = omega (arith, few (kept-at (c .before) .before .before .before .before .before .before))
-
-mul-seen-3 : tie.Need-mul-seen-3 Inv-loop μ-loop Inv-pairs μ-pairs
-mul-seen-3 c = omega (arith, below (kept-at (c .before .before) .before .before .before .before .before .before))
+mul-seen c = omega (arith, below (paired (c .before .before)))
 
 array-write-seen : tie.Need-array-write-seen Inv-loop μ-loop Inv-pairs μ-pairs
-array-write-seen c = omega (arith, below (kept-at (c .before .before) .before .before .before .before .before .before))
+array-write-seen c = omega (arith, below (paired (c .before .before)))
 
 add-later : tie.Need-add-later Inv-loop μ-loop Inv-pairs μ-pairs
-add-later c = omega (arith, few (kept-at (c .before .before) .before .before .before .before .before .before))
+add-later c = omega (arith, few (paired (c .before .before)))
 
 pairs-less : tie.Need-pairs-less Inv-loop μ-loop Inv-pairs μ-pairs
 pairs-less c = omega arith
 
 pairs-again : tie.Need-pairs-again Inv-loop μ-loop Inv-pairs μ-pairs
 pairs-again c =
-    let en = c .before in
+    let en = c .before .before in
     let kp = kept-at (en .before) in
     let pr = kp .before .before .before .before .before .before in
     let inv = pr .before .pairs .inv in
-    (omega arith, seen-next _ _ _ _ (below pr) (inv .1), clear-more _ _ (inv .2) (clashes-none _ _ (rw (full en) at (en .before .loop .inv .1))), keeping kp)
+    (omega arith, rw (c .union .ensures .1) (seen-next _ _ _ _ (below pr) (inv .1)), clear-more _ _ (inv .2) (clashes-none _ _ (rw (full en) at (en .before .loop .inv .1))), keeping kp)
 
 returns : tie.Need-returns Inv-loop μ-loop Inv-pairs μ-pairs
 returns c = found-none _ _ _ (omega arith) (c .before .pairs .inv .2)
@@ -207,8 +208,8 @@ lowest-by-entry-spec =
     cast-at
     has-requires
     keep-requires
-    mul-first-rival
-    array-read-first-rival
+    mul-had
+    array-read-had
     first-rival-requires
     loop-holds
     enters-together-requires
@@ -216,11 +217,10 @@ lowest-by-entry-spec =
     next-rival-requires
     loop-less
     loop-again
+    mul-set
+    element-copy-out-set
+    union-requires
     mul-seen
-    array-read-seen
-    mul-seen-2
-    element-copy-out-seen
-    mul-seen-3
     array-write-seen
     add-later
     pairs-less

@@ -1,13 +1,14 @@
 use Prim.Native.Nat.{_≤_, _<_, _-_}
 use native.Mathlib.Omega.{arith}
+use borrow.Author.Needs.{needs}
 use mathlib.Core.Path.{_≡_}
-use Rattle.analysis.specs.Rows.{leftAt}
+use Rattle.outline.specs.Rows.{leftAt}
 use Rattle.clash.specs.Clashing.{Seen, seen-none, seen-next, Meeting, meeting-none, meeting-next}
 use Rattle.clash.proofs.meeting.Statement.{statement}
 use Rattle.clash.proofs.meeting.Tie as tie
 
 abbrev Inv-loop : tie.InvT-loop
-Inv-loop rows sets count seen₀ met₀ k₀ seen met k = (k ≤ count) × Seen rows sets k seen × Meeting rows sets k met
+Inv-loop rows sets count seen₀ met₀ k₀ seen met k = (k ≤ count) × Seen rows sets k seen × Meeting rows sets k (met .0)
 
 abbrev μ-loop : tie.MeasureT-loop
 μ-loop rows sets count seen₀ met₀ k₀ seen met k = count - k
@@ -28,50 +29,46 @@ element-copy-out-left c = omega (arith, c .before .before .pre .few)
 cast-at : tie.Need-cast-at Inv-loop μ-loop
 cast-at c = omega (arith, below (c .before))
 
-mul-crossing : tie.Need-mul-crossing Inv-loop μ-loop
-mul-crossing c = omega (arith, below (c .before))
+mul-had : tie.Need-mul-had Inv-loop μ-loop
+mul-had c = omega (arith, below (c .before))
 
-array-read-crossing : tie.Need-array-read-crossing Inv-loop μ-loop
-array-read-crossing c = omega (arith, below (c .before))
+array-read-had : tie.Need-array-read-had Inv-loop μ-loop
+array-read-had c = omega (arith, below (c .before))
 
-mul-crossing-2 : tie.Need-mul-crossing-2 Inv-loop μ-loop
-mul-crossing-2 c = omega (arith, c .before .before .before .pre .few)
+mul-set : tie.Need-mul-set Inv-loop μ-loop
+mul-set c = omega (arith, c .before .before .before .pre .few)
 
-element-copy-out-crossing : tie.Need-element-copy-out-crossing Inv-loop μ-loop
-element-copy-out-crossing c = omega (arith, c .before .before .before .pre .few)
+element-copy-out-set : tie.Need-element-copy-out-set Inv-loop μ-loop
+element-copy-out-set c = omega (arith, c .before .before .before .pre .few)
 
 crossing-requires : tie.Need-crossing-requires Inv-loop μ-loop
 crossing-requires c κs = omega (arith, below (c .before .before))
 
+union-requires : tie.Need-union-requires Inv-loop μ-loop
+union-requires c κs = search needs
+
+union-requires-2 : tie.Need-union-requires-2 Inv-loop μ-loop
+union-requires-2 c κs = search needs
+
 mul-seen : tie.Need-mul-seen Inv-loop μ-loop
-mul-seen c = omega (arith, below (c .before .before .before))
-
-array-read-seen : tie.Need-array-read-seen Inv-loop μ-loop
-array-read-seen c = omega (arith, below (c .before .before .before))
-
-mul-seen-2 : tie.Need-mul-seen-2 Inv-loop μ-loop
-mul-seen-2 c = omega (arith, c .before .before .before .before .before .pre .few)
-
-element-copy-out-seen : tie.Need-element-copy-out-seen Inv-loop μ-loop
-element-copy-out-seen c = omega (arith, c .before .before .before .before .before .pre .few)
-
-mul-seen-3 : tie.Need-mul-seen-3 Inv-loop μ-loop
-mul-seen-3 c = omega (arith, below (c .before .before .before .before))
+mul-seen c = omega (arith, below (c .before .before .before .before .before))
 
 array-write-seen : tie.Need-array-write-seen Inv-loop μ-loop
-array-write-seen c = omega (arith, below (c .before .before .before .before))
+array-write-seen c = omega (arith, below (c .before .before .before .before .before))
 
 add-k : tie.Need-add-k Inv-loop μ-loop
-add-k c = omega (arith, c .before .before .before .before .before .before .pre .few)
+add-k c = omega (arith, c .before .before .before .before .before .before .before .pre .few)
 
 loop-less : tie.Need-loop-less Inv-loop μ-loop
 loop-less c = omega arith
 
 loop-again : tie.Need-loop-again Inv-loop μ-loop
 loop-again c =
-    let il = c .before .before .before .before in
+    let un = c .before in
+    let cr = un .before in
+    let il = cr .before .before .before in
     let inv = il .before .loop .inv in
-    (omega arith, seen-next _ _ _ _ (below il) (inv .1), meeting-next (inv .1) (inv .2) _ (c .before .crossing .ensures))
+    (omega arith, rw (c .union2 .ensures .1) (seen-next _ _ _ _ (below il) (inv .1)), rw (un .union .ensures .1) (meeting-next (inv .1) (inv .2) _ (cr .crossing .ensures)))
 
 returns : tie.Need-returns Inv-loop μ-loop
 returns c = let e : c .before .loop .k ≡ c .before .before .args .count = omega arith in rw e at (c .before .loop .inv .2)
@@ -86,16 +83,14 @@ meeting-spec =
     mul-left
     element-copy-out-left
     cast-at
-    mul-crossing
-    array-read-crossing
-    mul-crossing-2
-    element-copy-out-crossing
+    mul-had
+    array-read-had
+    mul-set
+    element-copy-out-set
     crossing-requires
+    union-requires
+    union-requires-2
     mul-seen
-    array-read-seen
-    mul-seen-2
-    element-copy-out-seen
-    mul-seen-3
     array-write-seen
     add-k
     loop-less

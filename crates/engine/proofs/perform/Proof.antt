@@ -3,7 +3,7 @@ use borrow.Author.Needs.{needs}
 use denote.Ref.{now}
 use Rattle.meaning.specs.PublicCalls.{stacksOf, callOf}
 use Rattle.records.specs.Records.{stateIs, handedIs}
-use Rattle.lent.specs.Performing.{callIs}
+use Rattle.run_lent.specs.Performing.{callIs}
 use Rattle.engine.specs.Records.{leavesAs}
 use Rattle.engine.specs.Beginning.{standing-shown, standing-readable, standing-called}
 use Rattle.engine.proofs.Cases.{ready-case, turned-case}

@@ -4,7 +4,7 @@ use Rattle.meaning.specs.Program.{programOf}
 use Rattle.meaning.specs.PublicCalls.{stacksOf, finish}
 use Rattle.meaning.specs.Inner as Inner
 use Rattle.meaning.specs.Inner.{InnerEffect, innerPerforms}
-use Rattle.host_numbers.specs.Lent.{valueOf}
+use Rattle.host_numbers.specs.Lent.{answerValue}
 use borrow.Author.Needs.{sfits-of}
 use mir.Facts.{toZ-ofZ}
 use Rattle.host_inner.specs.Both.{both-passed-on}
@@ -45,7 +45,7 @@ returns c =
     let e = ap₂ (λ z y. innerPerforms programOf (now (a .table)) (now (a .program)) z y (stacksOf (now (a .registers)) (now (a .places))) (Inner.engine finish)) outer inner in
     let q = f .ensures ∙ e in
     let v = c .before .before .before .before .before .value-of in
-    (both-passed-on (f .result) _ _ _ _ q _ _ _ _ (c .pass-on .ensures), toZ-ofZ (sfits-of (v .ok)) ∙ (v .ensures ∙ ap (λ (z : InnerEffect). valueOf (z .answer)) q))
+    (both-passed-on (f .result) _ _ _ _ q _ _ _ _ (c .pass-on .ensures), toZ-ofZ (sfits-of (v .ok)) ∙ (v .ensures ∙ ap (λ (z : InnerEffect). answerValue (z .answer)) q))
 
 pub finish-spec : {M : Type 1} → statement M
 finish-spec =

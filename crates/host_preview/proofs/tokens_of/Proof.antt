@@ -1,5 +1,5 @@
 use mathlib.Core.Path.{sym, ap, _∙_}
-use Rattle.token_set.specs.Words.{set-empty}
+use Rattle.token_set.specs.SetBits.{set-empty}
 use Rattle.preview.specs.May.{mayIs}
 use Rattle.host_preview.specs.Previewed.{tokensIn}
 use borrow.Author.Needs.{needs}

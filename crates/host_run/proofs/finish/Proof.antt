@@ -4,7 +4,7 @@ use denote.Ref.{now}
 use Rattle.meaning.specs.Program.{programOf}
 use Rattle.meaning.specs.PublicCalls.{performs, finish}
 use Rattle.meaning.specs.PublicCalls.{stacksOf}
-use Rattle.host_numbers.specs.Lent.{valueOf, passed-on}
+use Rattle.host_numbers.specs.Lent.{answerValue, passed-on}
 use borrow.Author.Needs.{needs, sfits-of}
 use Rattle.host_run.proofs.finish.Statement.{statement}
 use Rattle.host_run.proofs.finish.Tie as tie
@@ -35,7 +35,7 @@ returns c =
     let a = c .before .before .before .before .before .before .before .before .before .before .before .before .before .before .before .before .before .before .before .args in
     let e = ap (λ z. performs programOf (now (a .table)) (now (a .program)) z (stacksOf (now (a .registers)) (now (a .places))) finish) (c .before .before .before .before .before .before .before .before .before .before .before .before .before .before .brought .ensures) in
     let q = c .before .before .before .before .before .before .before .before .before .before .finish .ensures ∙ e in
-    (passed-on (c .before .before .before .before .before .before .before .before .before .before .finish .result) _ _ _ _ q _ _ _ (c .pass-on .ensures), toZ-ofZ (sfits-of (c .before .before .before .before .value-of .ok)) ∙ (c .before .before .before .before .value-of .ensures ∙ ap (λ z. valueOf (z .answer)) q))
+    (passed-on (c .before .before .before .before .before .before .before .before .before .before .finish .result) _ _ _ _ q _ _ _ (c .pass-on .ensures), toZ-ofZ (sfits-of (c .before .before .before .before .value-of .ok)) ∙ (c .before .before .before .before .value-of .ensures ∙ ap (λ z. answerValue (z .answer)) q))
 
 pub finish-spec : {M : Type 1} → statement M
 finish-spec =

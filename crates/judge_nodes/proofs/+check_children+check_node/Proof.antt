@@ -54,7 +54,7 @@ check-node-below t =
 
 abbrev check-children-Inv-loop : check-children-lts.InvT-loop
 check-children-Inv-loop table rows inherited synthesized offsets kinds values sheet p at from depth-left marks₀ first size next₀ end₀ k₀ marks next end k =
-    (size ≡ byte rows (16 * p + 1)) × (k ≤ size) × Passed table rows inherited synthesized offsets kinds values sheet p at from depth-left marks₀ k next end marks
+    (size ≡ byte rows (p * 16 + 1)) × (k ≤ size) × Passed table rows inherited synthesized offsets kinds values sheet p at from depth-left marks₀ k next end marks
 
 abbrev check-children-μ-loop : check-children-lts.MeasureT-loop
 check-children-μ-loop table rows inherited synthesized offsets kinds values sheet p at from depth-left marks₀ first size next₀ end₀ k₀ marks next end k =
@@ -474,7 +474,7 @@ check-node-holds-requires t c κs =
     let a = c .before .before .before .before .before in
     let h = a .before .before .before .before .before in
     let z = L.ready y _ 0 (omega arith) _ (h .heading .ensures) _ _ _ (a .before .before .before .production .given .1) in
-    (L.productions-few (y .book) _ (z .listed), y .book .spans _ (z .listed) .0, y .book .spans _ (z .listed) .1, L.listedAt (y .book) _ (z .listed))
+    (L.productions-few (y .book) _ (z .listed), L.span-inside (y .book) _ (z .listed) .0, L.span-inside (y .book) _ (z .listed) .1, L.listedAt (y .book) _ (z .listed))
 
 check-node-returns-4 : (t : ℕ) → check-node-lts.Need-returns-4 (
   check-token-reads.Asked,

@@ -1,7 +1,7 @@
 use mathlib.Core.Path.{_≡_, sym, subst₂}
 use denote.Ref.{now}
-use Rattle.block_words.specs.Walk.{Listed}
-use Rattle.program_words.specs.Brought.{fieldsAt}
+use Rattle.program_block_words.specs.Walk.{Listed}
+use Rattle.program_words.specs.Fields.{fieldsAt}
 use Rattle.theory_judge.specs.Holding.{listedTrue}
 use Rattle.theory_judge.specs.Marks.{readAt}
 use borrow.Author.Needs.{needs}

@@ -1,5 +1,5 @@
 use native.Mathlib.Omega.{arith}
-use Rattle.text.specs.Written.{_then_, wrote-as}
+use Rattle.listing_bytes.specs.Written.{_then_, wrote-as}
 use Rattle.listing_lines.specs.Line.{is-range, is-atmost, is-atmost-plus}
 use borrow.Author.Needs.{needs}
 use Rattle.listing_lines.proofs.condition.Statement.{statement}

@@ -1,6 +1,6 @@
-use Rattle.text.specs.Decimal.{decimal, integral}
+use Rattle.listing_bytes.specs.Decimal.{decimal, integral}
 use Rattle.listing_lines.specs.Line.{functionAs, no-function}
-use Rattle.text.specs.Written.{_then_, wrote-as}
+use Rattle.listing_bytes.specs.Written.{_then_, wrote-as}
 use mathlib.Core.Path.{sym, ap}
 use native.Mathlib.Omega.{arith}
 use borrow.Author.Needs.{needs}

@@ -1,5 +1,5 @@
 use Rattle.listing_lines.specs.Line.{prefixText}
-use Rattle.text.specs.Written.{_then_}
+use Rattle.listing_bytes.specs.Written.{_then_}
 use native.Mathlib.Omega.{arith}
 use borrow.Author.Needs.{needs}
 use Rattle.listing_lines.proofs.prefix.Statement.{statement}

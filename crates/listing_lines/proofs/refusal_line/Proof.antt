@@ -1,6 +1,6 @@
 use Prim.Native.Nat.{_≤_}
-use Rattle.text.specs.Decimal.{decimal}
-use Rattle.text.specs.Written.{_then_, wrote-first}
+use Rattle.listing_bytes.specs.Decimal.{decimal}
+use Rattle.listing_bytes.specs.Written.{_then_, wrote-first}
 use native.Mathlib.Omega.{arith}
 use borrow.Author.Needs.{needs}
 use Rattle.listing_lines.proofs.refusal_line.Statement.{statement}

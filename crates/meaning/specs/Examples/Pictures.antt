@@ -8,7 +8,7 @@ use lib.Dec.{lit<}
 use Rattle.meaning.specs.Grammar.{TokenKinds}
 use Rattle.meaning.specs.Tree.{Tree, leaf, node, noTrees, treeAnd, picture, valueOf, TreeOf}
 use Rattle.meaning.specs.Walk.{walk, walkTo}
-use Rattle.meaning.specs.Examples.Words.{words, bare, plain, Shown, after-feed, lent}
+use Rattle.meaning.specs.Examples.Words.{words, bare, plain, RunState, after-feed, lent}
 
 abbrev pub tree : Tree
 tree =
@@ -22,7 +22,7 @@ tree =
 abbrev pub segment : TokenKinds
 segment = 0 ∷ 1 ∷ 0 ∷ 2 ∷ []
 
-drawn : ℕ → Shown
+drawn : ℕ → RunState
 drawn j = record { number = 0; tokens = j; moves = length (walkTo j (walk words tree)); registers = picture words j tree .registers; places = reverse (picture words j tree .places) }
 
 at0 : after-feed (lent 9 9) (take 0 segment) ≡ drawn 0

@@ -5,7 +5,7 @@ use mathlib.Core.Bool.{true, false}
 use mathlib.Core.Option.{none}
 use mathlib.Core.List.{List, [], _∷_, map}
 use lib.IntN.{ℤ, pos}
-use Rattle.meaning.specs.Grammar.{Symbol, terminal, nonterminal, Function, const, copy, sum, diff, maxi, Rule, range, atmost, Leaf, Production, Grammar}
+use Rattle.meaning.specs.Grammar.{Symbol, terminal, nonterminal, Function, const, copy, binary, sum, diff, maxi, Rule, range, atmost, Leaf, Production, Grammar}
 use Rattle.meaning.specs.Scheme.{evaluate, expect, test, remove, scheme}
 use Rattle.meaning.specs.Tree.{Tree, leaf, node, noTrees, treeAnd, picture}
 use Rattle.meaning.specs.Calls.{Called, refused, openOf, feedOf}
@@ -26,7 +26,7 @@ r t f = record { target = t; function = f }
 -- ---- the grammar of words and tags, where a word carries its length and n adds the lengths up
 
 abbrev pub lengths1 : Production
-lengths1 = record { left = 1; right = terminal 0 ∷ nonterminal 1 ∷ []; rules = rule (occ 2 1) (copy (occ 0 1)) ∷ rule (occ 0 2) (sum (occ 1 1) (occ 2 2)) ∷ []; conditions = [] }
+lengths1 = record { left = 1; right = terminal 0 ∷ nonterminal 1 ∷ []; rules = rule (occ 2 1) (copy (occ 0 1)) ∷ rule (occ 0 2) (binary sum (occ 1 1) (occ 2 2)) ∷ []; conditions = [] }
 
 abbrev pub lengths : Grammar
 lengths = record { terminals = 3; counts = words .counts; carrying = 0 ∷ []; start = 0; result = 1; productions = p0 ∷ lengths1 ∷ p2 ∷ p3 ∷ [] }
@@ -55,12 +55,12 @@ lengthsTable =
 -- ---- S to a b, both with a value: a from 0 to 9 and at most b; n is a - b
 
 abbrev pub pair0 : Production
-pair0 = record { left = 0; right = terminal 0 ∷ terminal 1 ∷ []; rules = rule (occ 0 1) (diff (occ 1 1) (occ 2 1)) ∷ []; conditions = atmost (occ 1 1) (occ 2 1) none ∷ range (occ 1 1) (pos 0) (pos 9) ∷ [] }
+pair0 = record { left = 0; right = terminal 0 ∷ terminal 1 ∷ []; rules = rule (occ 0 1) (binary diff (occ 1 1) (occ 2 1)) ∷ []; conditions = atmost (occ 1 1) (occ 2 1) none ∷ range (occ 1 1) (pos 0) (pos 9) ∷ [] }
 
 abbrev pub pair : Grammar
 pair = record { terminals = 2; counts = record { inherited = 0; synthesized = 1 } ∷ []; carrying = 0 ∷ 1 ∷ []; start = 0; result = 1; productions = pair0 ∷ [] }
 
-pair-scheme : scheme pair pair0 ≡ expect (terminal 0) ∷ test (range 1 (pos 0) (pos 9) ∷ []) ∷ expect (terminal 1) ∷ test (atmost 2 1 none ∷ []) ∷ evaluate (r 3 (diff 2 1) ∷ []) ∷ remove 2 ∷ []
+pair-scheme : scheme pair pair0 ≡ expect (terminal 0) ∷ test (range 1 (pos 0) (pos 9) ∷ []) ∷ expect (terminal 1) ∷ test (atmost 2 1 none ∷ []) ∷ evaluate (r 3 (binary diff 2 1) ∷ []) ∷ remove 2 ∷ []
 pair-scheme = refl
 
 -- 31 at a read, after 21; 20 before both
@@ -82,7 +82,7 @@ abbrev pub X : Symbol
 X = nonterminal 1
 
 abbrev pub mixed1 : Production
-mixed1 = record { left = 1; right = terminal 0 ∷ X ∷ terminal 1 ∷ X ∷ []; rules = rule (occ 2 1) (sum (occ 0 1) (occ 1 1)) ∷ rule (occ 4 1) (diff (occ 2 2) (occ 3 1)) ∷ rule (occ 0 2) (maxi (occ 4 2) (occ 1 1)) ∷ []; conditions = atmost (occ 1 1) (occ 3 1) none ∷ [] }
+mixed1 = record { left = 1; right = terminal 0 ∷ X ∷ terminal 1 ∷ X ∷ []; rules = rule (occ 2 1) (binary sum (occ 0 1) (occ 1 1)) ∷ rule (occ 4 1) (binary diff (occ 2 2) (occ 3 1)) ∷ rule (occ 0 2) (binary maxi (occ 4 2) (occ 1 1)) ∷ []; conditions = atmost (occ 1 1) (occ 3 1) none ∷ [] }
 
 abbrev pub mixed : Grammar
 mixed = record {

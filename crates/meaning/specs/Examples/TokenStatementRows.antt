@@ -8,7 +8,7 @@ use mathlib.Core.List.{List, [], _∷_}
 use lib.ListN.{take, drop}
 use lib.IntN.{pos, negsuc}
 use lib.Dec.{lit<}
-use Rattle.meaning.specs.Grammar.{const, copy, sum, addc, range}
+use Rattle.meaning.specs.Grammar.{const, copy, binary, sum, addc, range}
 use Rattle.meaning.specs.Layout as Layout
 use Rattle.meaning.specs.Layout.{RulesAndConditions, nothing, condition, production}
 use Rattle.meaning.specs.PublicCalls.{feed}
@@ -50,7 +50,7 @@ body = 4 ∷ 0 ∷ 5 ∷ 2 ∷ 1 ∷ 1 ∷ 0 ∷ 1 ∷ 4 ∷ 0 ∷ 7 ∷ 0 ∷ 2
 -- the rules and the condition of open list close list
 nested : RulesAndConditions (p2 .rules) (p2 .conditions) (take 44 (drop 79 lengthsTable))
 unfolding lengthsTable
-nested = Layout.rule (rule (occ 2 1) (addc (occ 0 1) (pos 1))) (Layout.rule (rule (occ 4 1) (copy (occ 0 1))) (Layout.rule (rule (occ 0 2) (sum (occ 2 2) (occ 4 2))) (condition (range (occ 0 1) (pos 0) (pos 2)) nothing)))
+nested = Layout.rule (rule (occ 2 1) (addc (occ 0 1) (pos 1))) (Layout.rule (rule (occ 4 1) (copy (occ 0 1))) (Layout.rule (rule (occ 0 2) (binary sum (occ 2 2) (occ 4 2))) (condition (range (occ 0 1) (pos 0) (pos 2)) nothing)))
 
 second : StretchIn lengthsTable lengths 1 (3 ∷ 0 ∷ 4 ∷ 1 ∷ 2 ∷ 0 ∷ 129 ∷ body)
 unfolding lengthsTable
@@ -59,7 +59,7 @@ second = record {
   body = body;
   later = drop 70 lengthsTable;
   isEarlier = production p0 (Layout.rule (rule (occ 1 1) (const (pos 0))) (Layout.rule (rule (occ 0 1) (copy (occ 1 2))) nothing)) nothing;
-  isBody = Layout.rule (rule (occ 2 1) (copy (occ 0 1))) (Layout.rule (rule (occ 0 2) (sum (occ 1 1) (occ 2 2))) nothing);
+  isBody = Layout.rule (rule (occ 2 1) (copy (occ 0 1))) (Layout.rule (rule (occ 0 2) (binary sum (occ 1 1) (occ 2 2))) nothing);
   isPart = refl;
   isLater = production p2 nested (production p3 (Layout.rule (rule (occ 0 2) (const (pos 0))) nothing) nothing);
   isTable = refl;

@@ -6,7 +6,7 @@ use mathlib.Core.List.{[], _∷_, map}
 use mathlib.Core.Option.{none}
 use lib.ListN.{getD, replicate}
 use lib.IntN.{ℤ, pos, negsuc}
-use Rattle.meaning.specs.Grammar.{Function, const, copy, sum, diff, prod, maxi, mini, addc, quot, range, atmost}
+use Rattle.meaning.specs.Grammar.{Function, const, copy, binary, sum, diff, prod, maxi, mini, addc, quot, range, atmost}
 use Rattle.meaning.specs.Value.{lowest, highest, inRange, mark, nearest, floored, quotient, apply, holds}
 
 -- negsuc n is -(n + 1)
@@ -32,23 +32,23 @@ constants : map computed (const (pos 5) ∷ const (negsuc 4) ∷ copy 0 ∷ copy
 unfolding vals computed
 constants = refl
 
-sums : map computed (sum 0 2 ∷ sum 0 3 ∷ sum 1 2 ∷ sum 1 3 ∷ sum 0 1 ∷ []) ≡ pos 9 ∷ pos 5 ∷ negsuc 4 ∷ negsuc 8 ∷ pos 0 ∷ []
+sums : map computed (binary sum 0 2 ∷ binary sum 0 3 ∷ binary sum 1 2 ∷ binary sum 1 3 ∷ binary sum 0 1 ∷ []) ≡ pos 9 ∷ pos 5 ∷ negsuc 4 ∷ negsuc 8 ∷ pos 0 ∷ []
 unfolding vals computed
 sums = refl
 
-differences : map computed (diff 0 2 ∷ diff 2 0 ∷ diff 0 3 ∷ diff 1 2 ∷ diff 1 3 ∷ diff 0 0 ∷ []) ≡ pos 5 ∷ negsuc 4 ∷ pos 9 ∷ negsuc 8 ∷ negsuc 4 ∷ pos 0 ∷ []
+differences : map computed (binary diff 0 2 ∷ binary diff 2 0 ∷ binary diff 0 3 ∷ binary diff 1 2 ∷ binary diff 1 3 ∷ binary diff 0 0 ∷ []) ≡ pos 5 ∷ negsuc 4 ∷ pos 9 ∷ negsuc 8 ∷ negsuc 4 ∷ pos 0 ∷ []
 unfolding vals computed
 differences = refl
 
-products : map computed (prod 0 2 ∷ prod 0 3 ∷ prod 1 2 ∷ prod 1 3 ∷ []) ≡ pos 14 ∷ negsuc 13 ∷ negsuc 13 ∷ pos 14 ∷ []
+products : map computed (binary prod 0 2 ∷ binary prod 0 3 ∷ binary prod 1 2 ∷ binary prod 1 3 ∷ []) ≡ pos 14 ∷ negsuc 13 ∷ negsuc 13 ∷ pos 14 ∷ []
 unfolding vals computed
 products = refl
 
-greatest : map computed (maxi 0 2 ∷ maxi 2 0 ∷ maxi 1 2 ∷ maxi 1 3 ∷ maxi 3 1 ∷ maxi 0 0 ∷ []) ≡ pos 7 ∷ pos 7 ∷ pos 2 ∷ negsuc 1 ∷ negsuc 1 ∷ pos 7 ∷ []
+greatest : map computed (binary maxi 0 2 ∷ binary maxi 2 0 ∷ binary maxi 1 2 ∷ binary maxi 1 3 ∷ binary maxi 3 1 ∷ binary maxi 0 0 ∷ []) ≡ pos 7 ∷ pos 7 ∷ pos 2 ∷ negsuc 1 ∷ negsuc 1 ∷ pos 7 ∷ []
 unfolding vals computed
 greatest = refl
 
-least : map computed (mini 0 2 ∷ mini 2 0 ∷ mini 1 2 ∷ mini 1 3 ∷ mini 3 1 ∷ mini 0 0 ∷ []) ≡ pos 2 ∷ pos 2 ∷ negsuc 6 ∷ negsuc 6 ∷ negsuc 6 ∷ pos 7 ∷ []
+least : map computed (binary mini 0 2 ∷ binary mini 2 0 ∷ binary mini 1 2 ∷ binary mini 1 3 ∷ binary mini 3 1 ∷ binary mini 0 0 ∷ []) ≡ pos 2 ∷ pos 2 ∷ negsuc 6 ∷ negsuc 6 ∷ negsuc 6 ∷ pos 7 ∷ []
 unfolding vals computed
 least = refl
 
@@ -96,21 +96,21 @@ limits : ℕ → ℤ
 limits k = getD (lowest ∷ highest ∷ pos 1 ∷ negsuc 0 ∷ pos 1000000 ∷ negsuc 999999 ∷ pos 10001 ∷ pos 99990001 ∷ negsuc 99990000 ∷ []) k (pos 0)
 
 -- 1,000,000 by 1,000,000 and -1,000,000,000,000 by -1, and their opposites; the limits themselves
-at-limits : map (apply limits) (prod 4 4 ∷ prod 0 3 ∷ prod 4 5 ∷ prod 1 3 ∷ copy 1 ∷ copy 0 ∷ []) ≡ highest ∷ highest ∷ lowest ∷ lowest ∷ highest ∷ lowest ∷ []
+at-limits : map (apply limits) (binary prod 4 4 ∷ binary prod 0 3 ∷ binary prod 4 5 ∷ binary prod 1 3 ∷ copy 1 ∷ copy 0 ∷ []) ≡ highest ∷ highest ∷ lowest ∷ lowest ∷ highest ∷ lowest ∷ []
 unfolding limits
 at-limits = refl
 
 -- exact, in range or not: one past each limit by sum, diff, prod and addc
-past-highest : map (apply limits) (sum 1 2 ∷ diff 1 3 ∷ prod 6 7 ∷ addc 1 (pos 1) ∷ []) ≡ replicate 4 (pos 1000000000001)
+past-highest : map (apply limits) (binary sum 1 2 ∷ binary diff 1 3 ∷ binary prod 6 7 ∷ addc 1 (pos 1) ∷ []) ≡ replicate 4 (pos 1000000000001)
 unfolding limits
 past-highest = refl
 
-past-lowest : map (apply limits) (sum 0 3 ∷ diff 0 2 ∷ prod 6 8 ∷ addc 0 (negsuc 0) ∷ []) ≡ replicate 4 (negsuc 1000000000000)
+past-lowest : map (apply limits) (binary sum 0 3 ∷ binary diff 0 2 ∷ binary prod 6 8 ∷ addc 0 (negsuc 0) ∷ []) ≡ replicate 4 (negsuc 1000000000000)
 unfolding limits
 past-lowest = refl
 
 -- 10^24 and -10^24, past 64 bits
-products-of-limits : map (apply limits) (prod 0 0 ∷ prod 0 1 ∷ []) ≡ pos 1000000000000000000000000 ∷ negsuc 999999999999999999999999 ∷ []
+products-of-limits : map (apply limits) (binary prod 0 0 ∷ binary prod 0 1 ∷ []) ≡ pos 1000000000000000000000000 ∷ negsuc 999999999999999999999999 ∷ []
 unfolding limits
 products-of-limits = refl
 

@@ -24,7 +24,7 @@ build-requires c κs =
     let judged = c .before .before .before .before .before .before .before .before .before .judge-table .ensures in
     let sizes = c .before .before .before .before .before .before .before .sizes .given in
     let x = accepted-case _ _ _ _ _ _ _ judged (sizes .0 .0) (sizes .1) in
-    ((x .state, x .brought), c .before .before .before .before .before .before .before .before .before .before .before .before .before .before .before .if1 .left)
+    (x .outlined, c .before .before .before .before .before .before .before .before .before .before .before .before .before .before .before .if1 .left)
 
 returns-2 : tie.Need-returns-2
 returns-2 c = answered _ _ _ (Refused _ _) (c .before .before .before .before .before .before .before .before .before .if1 .left, refused-case _ _ _ _ _ _ _ (c .before .before .before .judge-table .ensures) _ _ (c .before .number .given .1), refl)

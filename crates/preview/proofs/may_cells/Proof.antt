@@ -4,7 +4,7 @@ use mir.Facts.{toZ-ofZ}
 use Prim.Native.Nat.{_≤_}
 use lib.ListN.{length}
 use Rattle.meaning.specs.Grammar.{Grammar}
-use Rattle.fit.specs.Shown.{Shown}
+use Rattle.run_fit.specs.HasProgram.{HasProgram}
 use mathlib.Core.Path.{_≡_, sym, ap, _∙_}
 use native.Mathlib.Omega.{arith}
 use denote.Ref.{now}
@@ -21,7 +21,7 @@ use Rattle.preview.proofs.may_cells.Statement.{statement}
 use Rattle.preview.proofs.may_cells.Tie as tie
 
 -- 0 was judged, for the run's own stacks
-judged-none : (c : tie.Else1) → (let a = c .before .before .before .before .before .before .before .args in (g : Grammar) → Shown g (now (a .program)) → 0 ≡ copyNumber g (stateIs (a .brought)) (stacksOf (now (a .registers)) (now (a .places))) (stacksOf (now (a .scratch-registers)) (now (a .scratch-places))))
+judged-none : (c : tie.Else1) → (let a = c .before .before .before .before .before .before .before .args in (g : Grammar) → HasProgram g (now (a .program)) → 0 ≡ copyNumber g (stateIs (a .brought)) (stacksOf (now (a .registers)) (now (a .places))) (stacksOf (now (a .scratch-registers)) (now (a .scratch-places))))
 judged-none c g x = sym (c .if1 .left) ∙ c .before .judge .ensures g x
 
 long : (c : tie.After-smaller2) → (let a = c .before .before .before .before .before .before .before .before .before .args in (c .before .smaller .result ≤ length (now (a .scratch-registers))) × (c .smaller2 .result ≤ length (now (a .scratch-places))))

@@ -4,7 +4,7 @@ use mir.Facts.{toZ-ofZ}
 use Prim.Native.Nat.{_≤_}
 use lib.ListN.{length}
 use Rattle.meaning.specs.Grammar.{Grammar}
-use Rattle.fit.specs.Shown.{Shown}
+use Rattle.run_fit.specs.HasProgram.{HasProgram}
 use mathlib.Core.Path.{_≡_, sym, ap, _∙_}
 use native.Mathlib.Omega.{arith}
 use denote.Ref.{now}
@@ -20,7 +20,7 @@ use Rattle.preview_cells.proofs.preview_cells.Statement.{statement}
 use Rattle.preview_cells.proofs.preview_cells.Tie as tie
 
 -- 0 was judged, for the run's own stacks
-judged-none : (c : tie.Else1) → (let a = c .before .before .before .before .before .before .before .args in (g : Grammar) → Shown g (now (a .program)) → 0 ≡ copyNumber g (stateIs (a .brought)) (stacksOf (now (a .registers)) (now (a .places))) (stacksOf (now (a .scratch-registers)) (now (a .scratch-places))))
+judged-none : (c : tie.Else1) → (let a = c .before .before .before .before .before .before .before .args in (g : Grammar) → HasProgram g (now (a .program)) → 0 ≡ copyNumber g (stateIs (a .brought)) (stacksOf (now (a .registers)) (now (a .places))) (stacksOf (now (a .scratch-registers)) (now (a .scratch-places))))
 judged-none c g x = sym (c .if1 .left) ∙ c .before .judge .ensures g x
 
 long : (c : tie.After-smaller2) → (let a = c .before .before .before .before .before .before .before .before .before .args in (c .before .smaller .result ≤ length (now (a .scratch-registers))) × (c .smaller2 .result ≤ length (now (a .scratch-places))))
@@ -93,7 +93,14 @@ preview-lent-requires c κs =
     let k = c .before .before .before .before in
     let s = k .before .before .before .before .before .before .before .before .before in
     let a = s .args in
-    (cells-judged (s .pre) (stateIs (a .brought)) (now (a .registers)) (now (a .scratch-registers)) (now (a .places)) (now (a .scratch-places)) (k .before .smaller .result) (k .smaller2 .result) (k .before .smaller .ensures) (k .smaller2 .ensures) (judged-none (k .before .before)), cells-alike (s .pre) (stateIs (a .brought)) (now (a .registers)) (now (a .scratch-registers)) (now (a .places)) (now (a .scratch-places)) (k .before .smaller .result) (k .smaller2 .result) (k .before .smaller .ensures) (k .smaller2 .ensures) (judged-none (k .before .before)))
+    let start = k .before .before in
+    let registers = now (a .registers) in
+    let scratch-registers = now (a .scratch-registers) in
+    let places = now (a .places) in
+    let scratch-places = now (a .scratch-places) in (
+      cells-judged (s .pre) (stateIs (a .brought)) registers scratch-registers places scratch-places (k .before .smaller .result) (k .smaller2 .result) (k .before .smaller .ensures) (k .smaller2 .ensures) (judged-none start),
+      cells-alike (s .pre) (stateIs (a .brought)) registers scratch-registers places scratch-places (k .before .smaller .result) (k .smaller2 .result) (k .before .smaller .ensures) (k .smaller2 .ensures) (judged-none start),
+    )
 
 -- src/cells.rt:117:1
 same-length-3 : tie.Need-same-length-3
@@ -112,7 +119,14 @@ returns-2 c =
     let a = s .args in
     let v = toZ w32 (ofZ w32 (a .value)) in
     let e : v ≡ a .value = toZ-ofZ (s .fits .value) in
-    λ g x. preview-made (s .pre) (stateIs (a .brought)) (now (a .registers)) (now (a .scratch-registers)) (now (a .places)) (now (a .scratch-places)) (k .before .smaller .result) (k .smaller2 .result) (k .before .smaller .ensures) (k .smaller2 .ensures) (judged-none (k .before .before)) (a .kind) v (f .result) (f .last .1 .1 .0) (f .last .1 .1 .1 .0) (f .ensures) g x ∙ ap (previewOf g (stateIs (a .brought)) (stacksOf (now (a .registers)) (now (a .places))) (stacksOf (now (a .scratch-registers)) (now (a .scratch-places))) (a .kind)) e
+    let registers = now (a .registers) in
+    let scratch-registers = now (a .scratch-registers) in
+    let places = now (a .places) in
+    let scratch-places = now (a .scratch-places) in
+    λ g x.
+    preview-made (s .pre) (stateIs (a .brought)) registers scratch-registers places scratch-places (k .before .smaller .result) (k .smaller2 .result) (k .before .smaller .ensures) (k .smaller2 .ensures)
+    (judged-none (k .before .before)) (a .kind) v (f .result) (f .last .1 .1 .0) (f .last .1 .1 .1 .0) (f .ensures) g x ∙ ap
+    (previewOf g (stateIs (a .brought)) (stacksOf registers places) (stacksOf scratch-registers scratch-places) (a .kind)) e
 
 pub preview-cells-spec : {M : Type 1} → statement M
 preview-cells-spec =

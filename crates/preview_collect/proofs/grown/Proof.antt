@@ -1,6 +1,6 @@
 use mathlib.Core.Path.{sym, ap, _∙_}
 use Rattle.meaning.specs.Sets.{_∪_}
-use Rattle.token_set.specs.Words.{setOf}
+use Rattle.token_set.specs.SetBits.{setOf}
 use Rattle.preview_collect.specs.Collecting.{grownBy}
 use borrow.Author.Needs.{needs}
 use Rattle.preview_collect.proofs.grown.Statement.{statement}
@@ -18,7 +18,7 @@ union-requires c κs = search needs
 returns : tie.Need-returns
 returns c =
     let a = c .before .before .before .args in
-    c .union .ensures ∙ (ap (λ z. setOf (a .set .0) ∪ z) (c .before .of-token .ensures) ∙ ap (grownBy (setOf (a .set .0)) (a .token)) (sym (c .before .before .if1 .taken)))
+    c .union .ensures .0 ∙ (ap (λ z. setOf (a .set .0) ∪ z) (c .before .of-token .ensures) ∙ ap (grownBy (setOf (a .set .0)) (a .token)) (sym (c .before .before .if1 .taken)))
 
 -- src/collect.rt:41:1
 returns-2 : tie.Need-returns-2

@@ -6,7 +6,7 @@ use mathlib.Core.Path.{_≡_, ap, _∙_}
 use denote.Ref.{now}
 use Rattle.meaning.specs.PublicCalls.{stacksOf}
 use Rattle.records.specs.Records.{stateIs}
-use Rattle.lent.specs.Performing.{judged-fitting, judged-running}
+use Rattle.run_lent.specs.Performing.{judged-fitting, judged-running}
 use Rattle.preview_lent.specs.Answering.{alike-cleared, tried-is}
 use borrow.Author.Needs.{needs}
 use Rattle.preview_lent.proofs.preview_lent.Statement.{statement}

@@ -7,8 +7,8 @@ use denote.Ref.{now}
 use lib.Seq.{length-take-le}
 use borrow.Author.Needs.{needs}
 use mathlib.Core.List.{[], _∷_}
-use Rattle.machine.specs.Feeding.{Feeds}
-use Rattle.moves.specs.declared.Run.{Run}
+use Rattle.run_machine.specs.Feeding.{Feeds}
+use Rattle.run_moves.specs.declared.Run.{Run}
 use Rattle.preview_scratch.specs.Scratch.{registers-inside, places-inside, scratch-registers-inside, scratch-places-inside, running-copied, fed-copied, registers-reached, places-reached, cleared-by}
 use Rattle.preview_scratch.proofs.attempt.Statement.{statement}
 use Rattle.preview_scratch.proofs.attempt.Tie as tie
@@ -103,7 +103,12 @@ returns c =
     let k = c .before .before .before .before .before .before .before .before .before .before .before in
     let s = k .before .before .before .before .before .before .before .before .before .before .before .before .before .before .before in
     let f = k .feed in
-    (record { registers = f .last .0; places = f .last .1 .0; fed = fed k }, cleared-by (s .pre .0) (s .args .kind) (s .args .value) (f .last .0) (f .last .1 .0) (f .result) (fed k) (c .before .before .before .before .before .before .before .reached .result) (c .before .before .before .before .before .before .before .reached .ensures) (c .before .before .before .before .before .clear-registers .last .0) (c .before .before .clear-places .last .0) (c .before .before .before .before .before .clear-registers .ensures) (c .before .before .clear-places .ensures))
+    let clear-places = c .before .before .clear-places in
+    let clear-registers = c .before .before .before .before .before .clear-registers in
+    let reached = c .before .before .before .before .before .before .before .reached in (
+      record { registers = f .last .0; places = f .last .1 .0; fed = fed k },
+      cleared-by (s .pre .0) (s .args .kind) (s .args .value) (f .last .0) (f .last .1 .0) (f .result) (fed k) (reached .result) (reached .ensures) (clear-registers .last .0) (clear-places .last .0) (clear-registers .ensures) (clear-places .ensures),
+    )
 
 pub attempt-spec : {M : Type 1} → statement M
 attempt-spec =

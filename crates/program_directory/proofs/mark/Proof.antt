@@ -1,14 +1,20 @@
+use Prim.Native.Nat.{_<_}
 use native.Mathlib.Omega.{arith}
+use borrow.Author.Needs.{needs}
 use lib.Count.{trailing-le}
 use Rattle.program_words.specs.Laws as L
 use Rattle.program_directory.proofs.mark.Statement.{statement}
 use Rattle.program_directory.proofs.mark.Tie as tie
 
 abbrev Inv-loop : tie.InvT-loop
-Inv-loop set number area₀ from rest₀ u₀ area rest u = L.MarkGo area₀ area from set number rest u
+Inv-loop number area₀ from rest₀ u₀ area rest u = L.MarkGo area₀ area from rest₀ number rest u
 
 abbrev μ-loop : tie.MeasureT-loop
-μ-loop set number area₀ from rest₀ u₀ area rest u = rest
+μ-loop number area₀ from rest₀ u₀ area rest u = rest
+
+-- the set is a word
+small : (c : tie.In-loop Inv-loop μ-loop) → c .before .before .args .set .0 < 18446744073709551616
+small c = search needs
 
 loop-holds : tie.Need-loop-holds Inv-loop μ-loop
 loop-holds c = L.mark-start _ _ _ _
@@ -17,31 +23,31 @@ cast-zeros : tie.Need-cast-zeros Inv-loop μ-loop
 cast-zeros c = omega (arith, trailing-le 64 (c .before .loop .rest))
 
 add-area : tie.Need-add-area Inv-loop μ-loop
-add-area c = omega (arith, L.mark-few (c .before .loop .inv) (omega (arith, c .before .before .fits .set)) (omega arith), L.mark-room (c .before .loop .inv) (omega (arith, c .before .before .fits .set)) (omega arith) (c .before .before .pre))
+add-area c = omega (arith, L.mark-few (c .before .loop .inv) (omega (arith, small c)) (omega arith), L.mark-room (c .before .loop .inv) (omega (arith, small c)) (omega arith) (c .before .before .pre))
 
 add-area-2 : tie.Need-add-area-2 Inv-loop μ-loop
-add-area-2 c = omega (arith, L.mark-few (c .before .loop .inv) (omega (arith, c .before .before .fits .set)) (omega arith), L.mark-room (c .before .loop .inv) (omega (arith, c .before .before .fits .set)) (omega arith) (c .before .before .pre))
+add-area-2 c = omega (arith, L.mark-few (c .before .loop .inv) (omega (arith, small c)) (omega arith), L.mark-room (c .before .loop .inv) (omega (arith, small c)) (omega arith) (c .before .before .pre))
 
 mul-area : tie.Need-mul-area Inv-loop μ-loop
-mul-area c = omega (arith, L.mark-few (c .before .loop .inv) (omega (arith, c .before .before .fits .set)) (omega arith), L.mark-room (c .before .loop .inv) (omega (arith, c .before .before .fits .set)) (omega arith) (c .before .before .pre))
+mul-area c = omega (arith, L.mark-few (c .before .loop .inv) (omega (arith, small c)) (omega arith), L.mark-room (c .before .loop .inv) (omega (arith, small c)) (omega arith) (c .before .before .pre))
 
 slice-write-area : tie.Need-slice-write-area Inv-loop μ-loop
-slice-write-area c = L.mark-room (c .before .loop .inv) (omega (arith, c .before .before .fits .set)) (omega arith) (c .before .before .pre)
+slice-write-area c = L.mark-room (c .before .loop .inv) (omega (arith, small c)) (omega arith) (c .before .before .pre)
 
 shr-rest : tie.Need-shr-rest Inv-loop μ-loop
-shr-rest c = omega (arith, L.mark-few (c .before .loop .inv) (omega (arith, c .before .before .fits .set)) (omega arith), L.mark-room (c .before .loop .inv) (omega (arith, c .before .before .fits .set)) (omega arith) (c .before .before .pre))
+shr-rest c = omega (arith, L.mark-few (c .before .loop .inv) (omega (arith, small c)) (omega arith), L.mark-room (c .before .loop .inv) (omega (arith, small c)) (omega arith) (c .before .before .pre))
 
 add-u : tie.Need-add-u Inv-loop μ-loop
-add-u c = omega (arith, L.mark-few (c .before .loop .inv) (omega (arith, c .before .before .fits .set)) (omega arith), L.mark-room (c .before .loop .inv) (omega (arith, c .before .before .fits .set)) (omega arith) (c .before .before .pre))
+add-u c = omega (arith, L.mark-few (c .before .loop .inv) (omega (arith, small c)) (omega arith), L.mark-room (c .before .loop .inv) (omega (arith, small c)) (omega arith) (c .before .before .pre))
 
 add-u-2 : tie.Need-add-u-2 Inv-loop μ-loop
-add-u-2 c = omega (arith, L.mark-few (c .before .loop .inv) (omega (arith, c .before .before .fits .set)) (omega arith), L.mark-room (c .before .loop .inv) (omega (arith, c .before .before .fits .set)) (omega arith) (c .before .before .pre))
+add-u-2 c = omega (arith, L.mark-few (c .before .loop .inv) (omega (arith, small c)) (omega arith), L.mark-room (c .before .loop .inv) (omega (arith, small c)) (omega arith) (c .before .before .pre))
 
 loop-less : tie.Need-loop-less Inv-loop μ-loop
 loop-less c = L.mark-less (c .before .loop .inv) (omega arith)
 
 loop-again : tie.Need-loop-again Inv-loop μ-loop
-loop-again c = L.mark-turn (c .before .loop .inv) (omega (arith, c .before .before .fits .set)) (omega arith) (c .before .before .pre)
+loop-again c = L.mark-turn (c .before .loop .inv) (omega (arith, small c)) (omega arith) (c .before .before .pre)
 
 same-length : tie.Need-same-length Inv-loop μ-loop
 same-length c = c .before .loop .inv .marked .size

@@ -3,7 +3,7 @@ use Prim.Native.Nat.{ℕ, _≤_, _+_, _*_, _-_}
 use mathlib.Core.Path.{_≡_}
 use mathlib.Core.List.{List}
 use lib.ListN.{length}
-use Rattle.block_words.specs.Patch.{patch}
+use Rattle.program_block_words.specs.Patch.{patch}
 use Rattle.program_words.specs.Directory.{zeros}
 use native.Mathlib.Omega.{arith}
 use borrow.Author.Needs.{needs}
@@ -33,7 +33,7 @@ sub-byte-at : tie.Need-sub-byte-at Inv-loop μ-loop
 sub-byte-at c = omega arith
 
 mul-byte-at : tie.Need-mul-byte-at Inv-loop μ-loop
-mul-byte-at c = omega (arith, S.count-few (c .before .before .before .before .before .before .before .before .before .pre .0))
+mul-byte-at c = omega (arith, S.count-few (c .before .before .before .before .before .before .before .before .before .pre .0 .rowsOf))
 
 byte-at-requires : tie.Need-byte-at-requires Inv-loop μ-loop
 byte-at-requires c κs = search needs
@@ -48,16 +48,20 @@ set-at-requires : tie.Need-set-at-requires Inv-loop μ-loop
 set-at-requires c κs = search needs
 
 cast-mark : tie.Need-cast-mark Inv-loop μ-loop
-cast-mark c = omega (arith, S.count-few (c .before .before .before .before .before .before .before .before .before .before .before .pre .0))
+cast-mark c = omega (arith, S.count-few (c .before .before .before .before .before .before .before .before .before .before .before .pre .0 .rowsOf))
 
 mul-mark : tie.Need-mul-mark Inv-loop μ-loop
-mul-mark c = omega (arith, S.left-few (c .before .before .before .before .before .before .before .before .before .before .before .before .pre .0) _ _ (omega arith) (c .before .before .byte-at .ensures .0))
+mul-mark c = omega (arith, S.left-few (c .before .before .before .before .before .before .before .before .before .before .before .before .pre .0 .rowsOf) _ _ (omega arith) (c .before .before .byte-at .ensures .0))
 
 add-mark : tie.Need-add-mark Inv-loop μ-loop
-add-mark c = omega (arith, S.left-few (c .before .before .before .before .before .before .before .before .before .before .before .before .pre .0) _ _ (omega arith) (c .before .before .byte-at .ensures .0))
+add-mark c = omega (arith, S.left-few (c .before .before .before .before .before .before .before .before .before .before .before .before .pre .0 .rowsOf) _ _ (omega arith) (c .before .before .byte-at .ensures .0))
 
 mark-requires : tie.Need-mark-requires Inv-loop μ-loop
-mark-requires c κs = omega (arith, S.left-few (c .before .before .before .before .before .before .before .before .before .before .before .before .pre .0) _ _ (omega arith) (c .before .before .byte-at .ensures .0), c .before .before .before .before .before .before .before .before .before .before .before .before .pre .1, S.directory-size (c .before .before .before .before .before .before .before .before .before .before .before .before .pre .1) (c .before .before .before .before .loop .inv .1 (now (c .before .before .before .before .before .before .before .before .before .before .before .before .args .area)) (c .before .before .before .before .before .before .before .before .before .before .before .before .pre .1) (c .before .before .before .before .before .before .before .clear .ensures)) (c .before .before .before .before .before .before .before .before .before .before .before .before .pre .0))
+mark-requires c κs =
+    let loop = c .before .before .before .before .loop in
+    let clear = c .before .before .before .before .before .before .before .clear in
+    let s = c .before .before .before .before .before .before .before .before .before .before .before .before in
+    omega (arith, S.left-few (s .pre .0 .rowsOf) _ _ (omega arith) (c .before .before .byte-at .ensures .0), s .pre .1, S.directory-size (s .pre .1) (loop .inv .1 (now (s .args .area)) (s .pre .1) (clear .ensures)) (s .pre .0))
 
 sub-p : tie.Need-sub-p Inv-loop μ-loop
 sub-p c = omega arith
@@ -66,13 +70,24 @@ loop-less : tie.Need-loop-less Inv-loop μ-loop
 loop-less c = omega arith
 
 loop-again : tie.Need-loop-again Inv-loop μ-loop
-loop-again c = (omega arith, λ old long e. S.directory-turn long (c .before .before .before .before .before .before .before .loop .inv .1 old long e) (omega arith) (omega arith) (c .before .before .before .before .before .byte-at .ensures .0) (c .before .before .before .before .set-at .ensures .0) (c .before .before .mark .ensures))
+loop-again c =
+    let set-at = c .before .before .before .before .set-at in
+    let byte-at = c .before .before .before .before .before .byte-at in
+    let loop = c .before .before .before .before .before .before .before .loop in
+    (omega arith, λ old long e. S.directory-turn long (loop .inv .1 old long e) (omega arith) (omega arith) (byte-at .ensures .0) (set-at .ensures .0) (c .before .before .mark .ensures))
 
 same-length : tie.Need-same-length Inv-loop μ-loop
-same-length c = S.directory-size (c .before .before .before .before .before .before .before .before .before .pre .1) (c .before .loop .inv .1 (now (c .before .before .before .before .before .before .before .before .before .args .area)) (c .before .before .before .before .before .before .before .before .before .pre .1) (c .before .before .before .before .clear .ensures)) (c .before .before .before .before .before .before .before .before .before .pre .0)
+same-length c =
+    let clear = c .before .before .before .before .clear in
+    let s = c .before .before .before .before .before .before .before .before .before in
+    S.directory-size (s .pre .1) (c .before .loop .inv .1 (now (s .args .area)) (s .pre .1) (clear .ensures)) (s .pre .0)
 
 returns : tie.Need-returns Inv-loop μ-loop
-returns c = λ x. S.directory-end (c .before .before .before .before .before .before .before .before .before .pre .1) (c .before .loop .inv .1 (now (c .before .before .before .before .before .before .before .before .before .args .area)) (c .before .before .before .before .before .before .before .before .before .pre .1) (c .before .before .before .before .clear .ensures)) (omega arith) x
+returns c =
+    let clear = c .before .before .before .before .clear in
+    let s = c .before .before .before .before .before .before .before .before .before in
+    λ x.
+    S.directory-end (s .pre .1) (c .before .loop .inv .1 (now (s .args .area)) (s .pre .1) (clear .ensures)) (omega arith) x
 
 pub write-directory-spec : {M : Type 1} → statement M
 write-directory-spec =

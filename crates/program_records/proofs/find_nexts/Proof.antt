@@ -8,10 +8,10 @@ use Rattle.program_records.proofs.find_nexts.Statement.{statement}
 use Rattle.program_records.proofs.find_nexts.Tie as tie
 
 abbrev Inv-loop : tie.InvT-loop
-Inv-loop rows sets nonterminals count nexts₀ firsts₀ p₀ nexts firsts p = (p ≤ count) × NextsGo rows sets nonterminals count p nexts firsts
+Inv-loop rows count nexts₀ firsts₀ p₀ nexts firsts p = (p ≤ count) × NextsGo rows count p nexts firsts
 
 abbrev μ-loop : tie.MeasureT-loop
-μ-loop rows sets nonterminals count nexts₀ firsts₀ p₀ nexts firsts p = p
+μ-loop rows count nexts₀ firsts₀ p₀ nexts firsts p = p
 
 loop-holds : tie.Need-loop-holds Inv-loop μ-loop
 loop-holds c = (omega arith, nexts-start)
@@ -20,7 +20,7 @@ sub-p : tie.Need-sub-p Inv-loop μ-loop
 sub-p c = omega arith
 
 mul-byte-at : tie.Need-mul-byte-at Inv-loop μ-loop
-mul-byte-at c = omega (arith, S.count-few (c .before .before .before .before .pre))
+mul-byte-at c = omega (arith, S.count-few (c .before .before .before .pre .1))
 
 byte-at-requires : tie.Need-byte-at-requires Inv-loop μ-loop
 byte-at-requires c κs = search needs
@@ -29,25 +29,25 @@ cast-left : tie.Need-cast-left Inv-loop μ-loop
 cast-left c = search needs
 
 array-read-nexts : tie.Need-array-read-nexts Inv-loop μ-loop
-array-read-nexts c = omega (arith, S.left-few (c .before .before .before .before .before .pre) _ _ (omega arith) (c .byte-at .ensures .0))
+array-read-nexts c = omega (arith, S.left-few (c .before .before .before .before .pre .1) _ _ (omega arith) (c .byte-at .ensures .0))
 
 array-write-nexts : tie.Need-array-write-nexts Inv-loop μ-loop
-array-write-nexts c = omega (arith, S.count-few (c .before .before .before .before .before .pre))
+array-write-nexts c = omega (arith, S.count-few (c .before .before .before .before .pre .1))
 
 add-firsts : tie.Need-add-firsts Inv-loop μ-loop
-add-firsts c = omega (arith, S.count-few (c .before .before .before .before .before .pre))
+add-firsts c = omega (arith, S.count-few (c .before .before .before .before .pre .1))
 
 cast-firsts : tie.Need-cast-firsts Inv-loop μ-loop
-cast-firsts c = omega (arith, S.count-few (c .before .before .before .before .before .pre))
+cast-firsts c = omega (arith, S.count-few (c .before .before .before .before .pre .1))
 
 array-write-firsts : tie.Need-array-write-firsts Inv-loop μ-loop
-array-write-firsts c = omega (arith, S.left-few (c .before .before .before .before .before .pre) _ _ (omega arith) (c .byte-at .ensures .0))
+array-write-firsts c = omega (arith, S.left-few (c .before .before .before .before .pre .1) _ _ (omega arith) (c .byte-at .ensures .0))
 
 loop-less : tie.Need-loop-less Inv-loop μ-loop
 loop-less c = omega arith
 
 loop-again : tie.Need-loop-again Inv-loop μ-loop
-loop-again c = (omega arith, nexts-turn (c .before .before .loop .inv .1) (omega arith) (omega arith) (S.count-few (c .before .before .before .before .before .pre)) (c .byte-at .ensures .0) (S.left-few (c .before .before .before .before .before .pre) _ _ (omega arith) (c .byte-at .ensures .0)))
+loop-again c = (omega arith, nexts-turn (c .before .before .loop .inv .1) (omega arith) (omega arith) (S.count-few (c .before .before .before .before .pre .1)) (c .byte-at .ensures .0) (S.left-few (c .before .before .before .before .pre .1) _ _ (omega arith) (c .byte-at .ensures .0)))
 
 returns : tie.Need-returns Inv-loop μ-loop
 returns c = let e : c .before .loop .p ≡ 0 = omega arith in nexts-end (rw e at (c .before .loop .inv .1))

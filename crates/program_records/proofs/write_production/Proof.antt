@@ -1,7 +1,7 @@
 use denote.Ref.{now}
 use mathlib.Core.Path.{_∙_}
 use native.Mathlib.Omega.{arith}
-use Rattle.block_words.specs.Chains.{clear-zeros}
+use Rattle.program_block_words.specs.Chains.{clear-zeros}
 use Rattle.clash.specs.Placing.{bytes-of}
 use Rattle.program_words.specs.Laws as L
 use Rattle.program_words.specs.Sections as S
@@ -12,12 +12,12 @@ use Rattle.program_records.proofs.write_production.Tie as tie
 fields-from-requires : tie.Need-fields-from-requires
 fields-from-requires c κs =
     let x = c .before .before .before .before .before .before .before .before .before .pre .0 in
-    omega (arith, x .here, S.productions-few (x .brought))
+    omega (arith, x .here, S.productions-few (x .outlined))
 
 stretch-end-requires : tie.Need-stretch-end-requires
 stretch-end-requires c κs =
     let x = c .before .before .before .before .before .before .before .before .before .before .pre .0 in
-    omega (arith, x .here, S.productions-few (x .brought))
+    omega (arith, x .here, S.productions-few (x .outlined))
 
 sub-fields : tie.Need-sub-fields
 sub-fields c =
@@ -49,17 +49,17 @@ part-fields-end c =
 mul-first : tie.Need-mul-first
 mul-first c =
     let x = c .before .before .before .before .before .before .before .before .before .before .before .before .pre .0 in
-    omega (arith, x .here, S.productions-few (x .brought))
+    omega (arith, x .here, S.productions-few (x .outlined))
 
 mul-last : tie.Need-mul-last
 mul-last c =
     let x = c .before .before .before .before .before .before .before .before .before .before .before .before .pre .0 in
-    omega (arith, x .here, S.productions-few (x .brought))
+    omega (arith, x .here, S.productions-few (x .outlined))
 
 add-last : tie.Need-add-last
 add-last c =
     let x = c .before .before .before .before .before .before .before .before .before .before .before .before .pre .0 in
-    omega (arith, x .here, S.productions-few (x .brought))
+    omega (arith, x .here, S.productions-few (x .outlined))
 
 sub-row : tie.Need-sub-row
 sub-row c = omega arith
@@ -93,37 +93,37 @@ array-read-entries c = search needs
 mul-wait : tie.Need-mul-wait
 mul-wait c =
     let x = c .before .before .before .before .before .before .before .before .before .before .before .before .before .before .before .before .before .before .before .before .pre .0 in
-    let n = L.numbers-small (x .brought) in
+    let n = L.numbers-small (x .outlined .outline) in
     omega (arith, n .0, n .3, x .here)
 
 add-wait : tie.Need-add-wait
 add-wait c =
     let x = c .before .before .before .before .before .before .before .before .before .before .before .before .before .before .before .before .before .before .before .before .pre .0 in
-    let n = L.numbers-small (x .brought) in
+    let n = L.numbers-small (x .outlined .outline) in
     omega (arith, n .0, n .3, x .here)
 
 mul-wait-2 : tie.Need-mul-wait-2
 mul-wait-2 c =
     let x = c .before .before .before .before .before .before .before .before .before .before .before .before .before .before .before .before .before .before .before .before .pre .0 in
-    let n = L.numbers-small (x .brought) in
+    let n = L.numbers-small (x .outlined .outline) in
     omega (arith, n .0, n .3, x .here)
 
 add-wait-2 : tie.Need-add-wait-2
 add-wait-2 c =
     let x = c .before .before .before .before .before .before .before .before .before .before .before .before .before .before .before .before .before .before .before .before .pre .0 in
-    let n = L.numbers-small (x .brought) in
+    let n = L.numbers-small (x .outlined .outline) in
     omega (arith, n .0, n .3, x .here)
 
 mul-wait-3 : tie.Need-mul-wait-3
 mul-wait-3 c =
     let x = c .before .before .before .before .before .before .before .before .before .before .before .before .before .before .before .before .before .before .before .before .pre .0 in
-    let n = L.numbers-small (x .brought) in
+    let n = L.numbers-small (x .outlined .outline) in
     omega (arith, n .0, n .3, x .here)
 
 add-wait-3 : tie.Need-add-wait-3
 add-wait-3 c =
     let x = c .before .before .before .before .before .before .before .before .before .before .before .before .before .before .before .before .before .before .before .before .pre .0 in
-    let n = L.numbers-small (x .brought) in
+    let n = L.numbers-small (x .outlined .outline) in
     omega (arith, n .0, n .3, x .here)
 
 byte-at-requires : tie.Need-byte-at-requires
@@ -138,7 +138,7 @@ write-record-requires c κs =
     let to = c .before .before .before .before .before .before .before .before .before .before .before .stretch-end .ensures in
     let nodes = c .before .before .before .before .before .before .before .before .before .before .before .before .before .before .before .before .before .before .before .before .before .before .pre .2 in
     let found = c .before .before .before .before .before .before .find-items .ensures .1 in
-    (S.record-fits x b from to _ _ nodes found, λ y. c .before .byte-at .ensures .0 ∙ c .before .before .before .before .before .before .before .before .before .before .before .before .before .before .before .before .before .before .before .before .before .before .pre .1 y _ (x .here))
+    (S.record-fits x b from to _ _ nodes found, λ y z. c .before .byte-at .ensures .0 ∙ c .before .before .before .before .before .before .before .before .before .before .before .before .before .before .before .before .before .before .before .before .before .before .pre .1 _ (x .here) y z)
 
 slice-aggregate-write-body : tie.Need-slice-aggregate-write-body
 slice-aggregate-write-body c = search needs
@@ -172,7 +172,7 @@ returns c =
     let found = c .before .before .before .before .before .before .before .before .before .before .before .before .before .before .before .find-items .ensures .1 in
     let wrote = c .before .before .before .before .before .before .before .before .write-record .ensures in
     let body = c .before .before .write-body .ensures in
-    (same-length c, λ x. S.production-written x b from to _ _ nodes found wrote body)
+    (same-length c, S.production-written (start .pre .0) b from to _ _ nodes found wrote body)
 
 pub write-production-spec : {M : Type 1} → statement M
 write-production-spec =

@@ -1,33 +1,33 @@
 use native.Mathlib.Omega.{arith}
 use borrow.Author.Needs.{needs}
 use Rattle.program_words.specs.Laws as L
-use Rattle.block_words.specs.Patch.{wrote-length}
+use Rattle.program_block_words.specs.Patch.{wrote-length}
 use Rattle.program_segment.proofs.write_segment.Statement.{statement}
 use Rattle.program_segment.proofs.write_segment.Tie as tie
 
 cast-start : tie.Need-cast-start
 cast-start c =
-    let x = c .before .before .before .before .before .before .before .before .pre .0 in
+    let x = c .before .before .before .pre .0 .4 in
     omega (arith, L.numbers-small x .0, L.numbers-small x .1, L.numbers-small x .2, L.numbers-small x .3, L.start-small x)
 
 mul-records : tie.Need-mul-records
 mul-records c =
-    let x = c .before .before .before .before .before .before .before .before .before .pre .0 in
+    let x = c .before .before .before .before .pre .0 .4 in
     omega (arith, L.numbers-small x .0, L.numbers-small x .1, L.numbers-small x .2, L.numbers-small x .3, L.start-small x)
 
 add-records : tie.Need-add-records
 add-records c =
-    let x = c .before .before .before .before .before .before .before .before .before .pre .0 in
+    let x = c .before .before .before .before .pre .0 .4 in
     omega (arith, L.numbers-small x .0, L.numbers-small x .1, L.numbers-small x .2, L.numbers-small x .3, L.start-small x)
 
 cast-records : tie.Need-cast-records
 cast-records c =
-    let x = c .before .before .before .before .before .before .before .before .before .pre .0 in
+    let x = c .before .before .before .before .pre .0 .4 in
     omega (arith, L.numbers-small x .0, L.numbers-small x .1, L.numbers-small x .2, L.numbers-small x .3, L.start-small x)
 
 cast-terminals : tie.Need-cast-terminals
 cast-terminals c =
-    let x = c .before .before .before .before .before .before .before .before .before .before .pre .0 in
+    let x = c .before .before .before .before .before .pre .0 .4 in
     omega (arith, L.numbers-small x .0, L.numbers-small x .1, L.numbers-small x .2, L.numbers-small x .3, L.start-small x)
 
 byte-at-requires : tie.Need-byte-at-requires
@@ -35,12 +35,12 @@ byte-at-requires c κs = search needs
 
 cast-result : tie.Need-cast-result
 cast-result c =
-    let x = c .before .before .before .before .before .before .before .before .before .before .before .before .pre .0 in
+    let x = c .before .before .before .before .before .before .before .pre .0 .4 in
     omega (arith, L.numbers-small x .0, L.numbers-small x .1, L.numbers-small x .2, L.numbers-small x .3, L.start-small x)
 
 cast-productions : tie.Need-cast-productions
 cast-productions c =
-    let x = c .before .before .before .before .before .before .before .before .before .before .before .before .before .pre .0 in
+    let x = c .before .before .before .before .before .before .before .before .pre .0 .4 in
     omega (arith, L.numbers-small x .0, L.numbers-small x .1, L.numbers-small x .2, L.numbers-small x .3, L.start-small x)
 
 cast-low : tie.Need-cast-low
@@ -51,53 +51,55 @@ cast-high c = omega arith
 
 mul-put-four : tie.Need-mul-put-four
 mul-put-four c =
-    let x = c .before .before .before .before .before .before .before .before .before .before .before .before .before .before .before .before .pre .0 in
+    let x = c .before .before .before .before .before .before .before .before .before .before .before .pre .0 .4 in
     omega (arith, L.numbers-small x .0, L.numbers-small x .1, L.numbers-small x .2, L.numbers-small x .3, L.start-small x)
 
 add-put-four : tie.Need-add-put-four
 add-put-four c =
-    let x = c .before .before .before .before .before .before .before .before .before .before .before .before .before .before .before .before .pre .0 in
+    let x = c .before .before .before .before .before .before .before .before .before .before .before .pre .0 .4 in
     omega (arith, L.numbers-small x .0, L.numbers-small x .1, L.numbers-small x .2, L.numbers-small x .3, L.start-small x)
 
 put-four-requires : tie.Need-put-four-requires
-put-four-requires c κs = omega (arith, c .before .before .before .before .before .before .before .before .before .before .before .before .before .before .before .before .pre .1)
+put-four-requires c κs = omega (arith, c .before .before .before .before .before .before .before .before .before .before .before .pre .1)
 
 put-four-requires-2 : tie.Need-put-four-requires-2
 put-four-requires-2 c κs =
     let first = c .before .before .before .put-four .ensures in
-    omega (arith, c .before .before .before .before .before .before .before .before .before .before .before .before .before .before .before .before .before .before .before .before .pre .1, first .address, wrote-length first)
+    omega (arith, c .before .before .before .before .before .before .before .before .before .before .before .before .before .before .before .pre .1, first .address, wrote-length first)
 
 mul-area : tie.Need-mul-area
 mul-area c =
-    let start = c .before .before .before .before .before .before .before .before .before .before .before .before .before .before .before .before .before .before .before .before .before .before .before .pre in
+    let start = c .before .before .before .before .before .before .before .before .before .before .before .before .before .before .before .before .before .before .pre in
     let first = c .before .before .before .before .before .before .put-four .ensures in
     let second = c .before .before .put-four2 .ensures in
     omega (arith, start .1, first .address, second .address, wrote-length first, wrote-length second)
 
 slice-write-area : tie.Need-slice-write-area
 slice-write-area c =
-    let start = c .before .before .before .before .before .before .before .before .before .before .before .before .before .before .before .before .before .before .before .before .before .before .before .pre in
+    let start = c .before .before .before .before .before .before .before .before .before .before .before .before .before .before .before .before .before .before .pre in
     let first = c .before .before .before .before .before .before .put-four .ensures in
     let second = c .before .before .put-four2 .ensures in
     omega (arith, start .1, first .address, second .address, wrote-length first, wrote-length second)
 
 add-result : tie.Need-add-result
 add-result c =
-    let start = c .before .before .before .before .before .before .before .before .before .before .before .before .before .before .before .before .before .before .before .before .before .before .before .pre in
+    let start = c .before .before .before .before .before .before .before .before .before .before .before .before .before .before .before .before .before .before .pre in
     let first = c .before .before .before .before .before .before .put-four .ensures in
     let second = c .before .before .put-four2 .ensures in
     omega (arith, start .1, first .address, second .address, wrote-length first, wrote-length second)
 
 same-length : tie.Need-same-length
 same-length c =
-    let x = c .before .before .before .before .before .before .before .before .before .before .before .before .before .before .before .before .before .before .before .before .before .before .before .pre .0 in
+    let x = c .before .before .before .before .before .before .before .before .before .before .before .before .before .before .before .before .before .before .pre .0 .4 in
     let registers = c .before .before .before .before .before .before .before .before .before .before .before .before .byte-at .ensures .0 in
-    wrote-length (L.segment-written x registers (omega arith) (c .before .before .before .before .before .before .put-four .ensures) (c .before .before .put-four2 .ensures))
+    let known = c .before .before .before .before .before .before .before .before .before .before .before .before .before .struct-known3 .given in
+    wrote-length (L.segment-written x registers (omega (arith, known .1 .1 .1 .1 .1)) (c .before .before .before .before .before .before .put-four .ensures) (c .before .before .put-four2 .ensures))
 
 returns : tie.Need-returns
-returns c = λ x.
+returns c = λ table inherited rows offsets x.
     let registers = c .before .before .before .before .before .before .before .before .before .before .before .before .byte-at .ensures .0 in
-    L.segment-written x registers (omega arith) (c .before .before .before .before .before .before .put-four .ensures) (c .before .before .put-four2 .ensures)
+    let known = c .before .before .before .before .before .before .before .before .before .before .before .before .before .struct-known3 .given in
+    L.segment-written x registers (omega (arith, known .1 .1 .1 .1 .1)) (c .before .before .before .before .before .before .put-four .ensures) (c .before .before .put-four2 .ensures)
 
 pub write-segment-spec : {M : Type 1} → statement M
 write-segment-spec =

@@ -26,7 +26,10 @@ enum-known-length c = search needs
 rank-under-requires : tie.Need-rank-under-requires
 rank-under-requires c κs =
     let p = c .before .before .before .before .before .before .before .before .before .program-of in
-    (standing-readable (written-made (p .ensures .1) (c .before .before .before .before .before .length .given .0 .0) (c .before .before .before .before .before .length .given .1)), sym (c .before .before .before .before .before .before .before .before .before .before .before .before .in-order .ensures) ∙ c .before .before .before .before .before .before .before .before .before .before .before .if1 .taken)
+    let length = c .before .before .before .before .before .length in
+    let if1 = c .before .before .before .before .before .before .before .before .before .before .before .if1 in
+    let in-order = c .before .before .before .before .before .before .before .before .before .before .before .before .in-order in
+    (standing-readable (written-made (p .ensures .1) (length .given .0 .0) (length .given .1)), sym (in-order .ensures) ∙ if1 .taken)
 
 same-length : tie.Need-same-length
 same-length c = search needs
@@ -39,7 +42,12 @@ returns c =
     let s = c .before .before .before .before .before .before .before .before .before .before .before .before .before .before in
     let p = c .before .before .before .before .program-of in
     let z = short-made (p .ensures .1) (c .enum-told .given .1) in
-    ap (rankEffect (unranked 30 0) (now (s .args .list)) (stacksOf (now (s .args .registers)) (now (s .args .places)))) (z .1) ∙ rank-30 (now (s .args .table)) (now (s .args .program)) (now (s .args .lengths)) (now (s .args .kinds)) (now (s .args .values)) (now (s .args .list)) (stacksOf (now (s .args .registers)) (now (s .args .places))) (sym (c .before .before .before .before .before .before .before .in-order .ensures) ∙ c .before .before .before .before .before .before .if1 .taken) (z .0)
+    let if1 = c .before .before .before .before .before .before .if1 in
+    let in-order = c .before .before .before .before .before .before .before .in-order in
+    let list = now (s .args .list) in
+    let registers = now (s .args .registers) in
+    let places = now (s .args .places) in
+    ap (rankEffect (unranked 30 0) list (stacksOf registers places)) (z .1) ∙ rank-30 (now (s .args .table)) (now (s .args .program)) (now (s .args .lengths)) (now (s .args .kinds)) (now (s .args .values)) list (stacksOf registers places) (sym (in-order .ensures) ∙ if1 .taken) (z .0)
 
 same-length-3 : tie.Need-same-length-3
 same-length-3 c = search needs
@@ -53,7 +61,13 @@ returns-2 c =
     let p = c .before .before .before .before .before .program-of in
     let n = c .before .number .given in
     let z = refused-made (p .ensures .1) (n .0 .0) (n .0 .1 .0) (n .1) in
-    ap (rankEffect (unranked (n .0 .0) (n .0 .1 .0)) (now (s .args .list)) (stacksOf (now (s .args .registers)) (now (s .args .places)))) (z .2) ∙ rank-refused (now (s .args .table)) (now (s .args .program)) (now (s .args .lengths)) (now (s .args .kinds)) (now (s .args .values)) (now (s .args .list)) (stacksOf (now (s .args .registers)) (now (s .args .places))) (sym (c .before .before .before .before .before .before .before .before .in-order .ensures) ∙ c .before .before .before .before .before .before .before .if1 .taken) (z .0) (n .0 .0) (n .0 .1 .0) (z .1)
+    let if1 = c .before .before .before .before .before .before .before .if1 in
+    let in-order = c .before .before .before .before .before .before .before .before .in-order in
+    let list = now (s .args .list) in
+    let registers = now (s .args .registers) in
+    let places = now (s .args .places) in
+    ap (rankEffect (unranked (n .0 .0) (n .0 .1 .0)) list (stacksOf registers places)) (z .2) ∙ rank-refused (now (s .args .table)) (now (s .args .program)) (now (s .args .lengths)) (now (s .args .kinds))
+    (now (s .args .values)) list (stacksOf registers places) (sym (in-order .ensures) ∙ if1 .taken) (z .0) (n .0 .0) (n .0 .1 .0) (z .1)
 
 same-length-5 : tie.Need-same-length-5
 same-length-5 c = search needs
@@ -73,13 +87,18 @@ returns-3 c =
     let p = c .before .before .before .before .before .before .before .before .before .before .before .before .before .before .program-of in
     let n = c .before .before .before .before .before .before .before .before .before .before .length .given in
     let r = c .before .before .before .before .rank-under in
-    standing-ranked (written-made (p .ensures .1) (n .0 .0) (n .1)) (now (s .args .lengths)) (now (s .args .kinds)) (now (s .args .values)) (now (s .args .list)) (now (s .args .registers)) (now (s .args .places)) (r .last .1 .1 .1 .0) (r .last .0) (r .last .1 .0) (r .result) (sym (c .before .before .before .before .before .before .before .before .before .before .before .before .before .before .before .before .before .in-order .ensures) ∙ c .before .before .before .before .before .before .before .before .before .before .before .before .before .before .before .before .if1 .taken) (r .ensures)
+    let if1 = c .before .before .before .before .before .before .before .before .before .before .before .before .before .before .before .before .if1 in
+    let in-order = c .before .before .before .before .before .before .before .before .before .before .before .before .before .before .before .before .before .in-order in
+    standing-ranked (written-made (p .ensures .1) (n .0 .0) (n .1)) (now (s .args .lengths)) (now (s .args .kinds)) (now (s .args .values)) (now (s .args .list)) (now (s .args .registers))
+    (now (s .args .places)) (r .last .1 .1 .1 .0) (r .last .0) (r .last .1 .0) (r .result) (sym (in-order .ensures) ∙ if1 .taken) (r .ensures)
 
 same-length-9 : tie.Need-same-length-9
 same-length-9 c = search needs
 
 returns-4 : tie.Need-returns-4
-returns-4 c = let s = c .before .before .before .before .before .before .before .before in rank-37 (now (s .args .table)) (now (s .args .program)) (now (s .args .lengths)) (now (s .args .kinds)) (now (s .args .values)) (now (s .args .list)) (stacksOf (now (s .args .registers)) (now (s .args .places))) (sym (c .before .in-order .ensures) ∙ c .if1 .left)
+returns-4 c =
+    let s = c .before .before .before .before .before .before .before .before in
+    rank-37 (now (s .args .table)) (now (s .args .program)) (now (s .args .lengths)) (now (s .args .kinds)) (now (s .args .values)) (now (s .args .list)) (stacksOf (now (s .args .registers)) (now (s .args .places))) (sym (c .before .in-order .ensures) ∙ c .if1 .left)
 
 pub rank-spec : {M : Type 1} → statement M
 rank-spec =

@@ -37,7 +37,9 @@ returns-2 c =
     let k = suits (now (s .args .lengths)) (now (s .args .kinds)) (now (s .args .list)) (s .pre .1) in
     let e = c .before .before .before .before .before .before .before .evaluate-all in
     let r = c .before .report in
-    listed-as (now (s .args .program)) (now (s .args .lengths)) (now (s .args .kinds)) (now (s .args .values)) (now (s .args .list)) (now (s .args .registers)) (now (s .args .places)) (c .before .before .before .before .before .before .before .before .before .before .before .if1 .left) (k .room) (e .last .1 .1 .1 .0) (e .last .0) (e .last .1 .0) (e .ensures) (r .last .0) (r .result) (omega (arith, k .room, e .kept .1 .1 .1 .0)) (r .ensures)
+    let if1 = c .before .before .before .before .before .before .before .before .before .before .before .if1 in
+    listed-as (now (s .args .program)) (now (s .args .lengths)) (now (s .args .kinds)) (now (s .args .values)) (now (s .args .list)) (now (s .args .registers)) (now (s .args .places)) (if1 .left)
+    (k .room) (e .last .1 .1 .1 .0) (e .last .0) (e .last .1 .0) (e .ensures) (r .last .0) (r .result) (omega (arith, k .room, e .kept .1 .1 .1 .0)) (r .ensures)
 
 pub rank-under-spec : {M : Type 1} → statement M
 rank-under-spec =

@@ -5,8 +5,8 @@ use mathlib.Core.Bool.{Bool, true, false}
 use lib.ListN.{getD}
 use denote.Ref.{now}
 use Rattle.theory_program.specs.Addresses.{segment-at}
-use Rattle.theory_program.specs.Stands.{stands-within}
-use Rattle.sheet_walk.specs.Walks.{NodeOut}
+use Rattle.theory_program.specs.WordsStand.{stands-within}
+use Rattle.sheet_steps.specs.Walks.{NodeOut}
 use Rattle.sheet.specs.Starting.{firstNumbers, whole-31, whole-32, whole-in, whole-failed, whole-ended, whole-over}
 use borrow.Author.Needs.{needs}
 use Rattle.sheet.proofs.segment.Statement.{statement}

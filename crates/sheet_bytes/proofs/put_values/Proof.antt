@@ -4,7 +4,7 @@ use mathlib.Core.Path.{_≡_, refl, sym, ap, _∙_}
 use lib.ListN.{length, take, drop}
 use Rattle.meaning_sheet.specs.Sheet.{valueBytes}
 use Rattle.theory_sheet.specs.Overlay.{overlay, overlay-none, value-laid}
-use Rattle.registers.specs.Stack.{stack, stack-length}
+use Rattle.run_registers.specs.Stack.{stack, stack-length}
 use denote.Ref.{now}
 use mir.Facts.{toZ-ofZ}
 use borrow.Author.Needs.{needs, sfits-of}

@@ -3,11 +3,11 @@ use borrow.Author.Needs.{needs}
 use mir.Facts.{toZ-ofZ}
 use mathlib.Core.Path.{_≡_, refl, subst}
 use denote.Ref.{now}
-use Rattle.moves.specs.declared.Step.{Step}
-use Rattle.moves.specs.declared.Step.the-variants.{Moved, Blocked}
-use Rattle.moves.specs.Held.{Answers, bounds}
-use Rattle.moves.specs.Passing.{comingOf}
-use Rattle.machine.specs.Advancing.{blocked-limit}
+use Rattle.run_moves.specs.declared.Step.{Step}
+use Rattle.run_moves.specs.declared.Step.the-variants.{Moved, Blocked}
+use Rattle.run_moves.specs.Held.{Answers, bounds}
+use Rattle.run_moves.specs.Passing.{comingOf}
+use Rattle.run_machine.specs.Advancing.{blocked-limit}
 use Rattle.sheet_moves.specs.Trying.{tried-moved, tried-blocked}
 use Rattle.sheet_moves.proofs.made.Statement.{statement}
 use Rattle.sheet_moves.proofs.made.Tie as tie

@@ -6,11 +6,11 @@ use lib.ListN.{length, getD}
 use denote.Ref.{now}
 use borrow.Author.Needs.{needs}
 use Rattle.meaning.specs.Machine.{ends, movesLimit}
-use Rattle.moves.specs.Held.{bounds}
-use Rattle.machine.specs.declared.Ended as Ended
-use Rattle.machine.specs.declared.Ended.the-variants.{Stopped}
+use Rattle.run_moves.specs.Held.{bounds}
+use Rattle.run_machine.specs.declared.Ended as Ended
+use Rattle.run_machine.specs.declared.Ended.the-variants.{Stopped}
 use Rattle.sheet_moves.specs.Trying.{Tries}
-use Rattle.sheet_moves.specs.Standing.{Stood, Going, isInside, inside-few, going-start, going-stood, going-stop, going-on, going-fail, going-less}
+use Rattle.sheet_moves.specs.NodeInMemory.{Stood, Going, isInside, inside-few, going-start, going-stood, going-stop, going-on, going-fail, going-less}
 use Rattle.sheet_moves.proofs.settle.Statement.{statement}
 use Rattle.sheet_moves.proofs.settle.Tie as tie
 
@@ -44,7 +44,10 @@ made-requires c κs =
 
 -- the move that was tried
 tried : (c : tie.After-made Inv-loop μ-loop) (e : Ended.Ended) → c .made .result ≡ e → Tries (now (c .before .before .before .before .before .before .before .before .before .args .program)) (c .before .before .before .before .before .before .loop .registers) (c .before .before .before .before .before .before .loop .places) (c .before .before .before .before .before .before .loop .state) ends (c .made .last .0) (c .made .last .1 .0) e
-tried c e q = subst (λ z. Tries (now (c .before .before .before .before .before .before .before .before .before .args .program)) (c .before .before .before .before .before .before .loop .registers) (c .before .before .before .before .before .before .loop .places) (c .before .before .before .before .before .before .loop .state) ends (c .made .last .0) (c .made .last .1 .0) z) q (c .made .ensures)
+tried c e q =
+    let loop = c .before .before .before .before .before .before .loop in
+    let s = c .before .before .before .before .before .before .before .before .before in
+    subst (λ z. Tries (now (s .args .program)) (loop .registers) (loop .places) (loop .state) ends (c .made .last .0) (c .made .last .1 .0) z) q (c .made .ensures)
 
 enum-known-next : tie.Need-enum-known-next Inv-loop μ-loop
 enum-known-next c = search needs

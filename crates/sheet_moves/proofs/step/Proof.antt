@@ -6,10 +6,10 @@ use denote.Ref.{now}
 use mir.Facts.{toZ-ofZ}
 use borrow.Author.Needs.{needs, sfits-of}
 use Rattle.theory_program.specs.Addresses.{segment-at}
-use Rattle.theory_program.specs.Stands.{stands-within}
-use Rattle.machine.specs.Feeding.{terminals-few}
-use Rattle.one_move.specs.Facing.{facing}
-use Rattle.sheet_moves.specs.Standing.{four-at, running-of, step-end, step-35, step-20, step-token}
+use Rattle.theory_program.specs.WordsStand.{stands-within}
+use Rattle.run_machine.specs.Feeding.{terminals-few}
+use Rattle.run_one_move.specs.Facing.{facing}
+use Rattle.sheet_moves.specs.NodeInMemory.{four-at, running-of, step-end, step-35, step-20, step-token}
 use Rattle.sheet_moves.proofs.step.Statement.{statement}
 use Rattle.sheet_moves.proofs.step.Tie as tie
 
@@ -70,7 +70,9 @@ made-requires-2 c κs =
     let k = c .before .before in
     let n = s .args .run .tokens in
     let look = s .pre .1 in
-    (rw (toZ-ofZ (sfits-of (k .carried .ok)), k .carried .ensures, toZ-ofZ (sfits-of (k .before .carried-arg .given))) (facing (running-of (s .pre .0)) (getD (now (s .args .kinds)) n 0) (getD (now (s .args .values)) n (pos 0)) (small (c .before .before .before .before)) (four-at (now (s .args .values)) n (s .pre .0 .four))), omega (arith, look .1), small (c .before .before .before .before))
+    let start = c .before .before .before .before in
+    let values = now (s .args .values) in
+    (rw (toZ-ofZ (sfits-of (k .carried .ok)), k .carried .ensures, toZ-ofZ (sfits-of (k .before .carried-arg .given))) (facing (running-of (s .pre .0)) (getD (now (s .args .kinds)) n 0) (getD values n (pos 0)) (small start) (four-at values n (s .pre .0 .four))), omega (arith, look .1), small start)
 
 same-length-3 : tie.Need-same-length-3
 same-length-3 c = search needs
@@ -83,7 +85,12 @@ returns-4 c =
     let s = c .before .before .before .before .before .before .before .before .before .before .before .before .before .before .before .before .before in
     let k = c .before .before .before .before .before .before in
     let l : s .args .run .tokens < length (now (s .args .kinds)) = omega (arith, c .before .before .before .before .before .before .before .before .before .before .before .before .before .if1 .left) in
-    step-token (s .pre .1) (now (s .args .kinds)) (now (s .args .values)) l _ _ (c .before .before .before .made2 .result) (omega (arith, c .before .before .before .before .before .before .before .before .before .before .before .if2 .left)) (omega (arith, c .before .before .before .before .before .before .before .before .if3 .left, c .before .before .before .before .before .before .before .before .before .word-at .ensures .0)) (rw (toZ-ofZ (sfits-of (k .carried .ok)), k .carried .ensures, toZ-ofZ (sfits-of (k .before .carried-arg .given))) at (c .before .before .before .made2 .ensures))
+    let made2 = c .before .before .before .made2 in
+    let if3 = c .before .before .before .before .before .before .before .before .if3 in
+    let word-at = c .before .before .before .before .before .before .before .before .before .word-at in
+    let if2 = c .before .before .before .before .before .before .before .before .before .before .before .if2 in
+    step-token (s .pre .1) (now (s .args .kinds)) (now (s .args .values)) l _ _ (made2 .result) (omega (arith, if2 .left)) (omega (arith, if3 .left, word-at .ensures .0))
+    (rw (toZ-ofZ (sfits-of (k .carried .ok)), k .carried .ensures, toZ-ofZ (sfits-of (k .before .carried-arg .given))) at (made2 .ensures))
 
 pub step-spec : {M : Type 1} → statement M
 step-spec =

@@ -1,8 +1,8 @@
 use native.Mathlib.Omega.{arith}
 use mathlib.Core.Path.{sym, _∙_}
 use Rattle.theory_program.specs.Addresses.{segment-at}
-use Rattle.theory_program.specs.Stands.{stands-within}
-use Rattle.moves.specs.Held.{bounds}
+use Rattle.theory_program.specs.WordsStand.{stands-within}
+use Rattle.run_moves.specs.Held.{bounds}
 use Rattle.sheet_record.specs.Counting.{two-places, segment-counts, address-inside, word-counts}
 use borrow.Author.Needs.{needs}
 use Rattle.sheet_record.proofs.attributes.Statement.{statement}

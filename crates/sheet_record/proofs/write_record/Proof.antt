@@ -1,7 +1,7 @@
 use Prim.Native.Nat.{_/_}
 use native.Mathlib.Omega.{arith}
 use mathlib.Core.Path.{ap}
-use Rattle.moves.specs.Held.{bounds}
+use Rattle.run_moves.specs.Held.{bounds}
 use Rattle.sheet_record.specs.Recording.{values-there, few-values, record-here}
 use borrow.Author.Needs.{needs}
 use Rattle.sheet_record.proofs.write_record.Statement.{statement}
@@ -22,7 +22,9 @@ word-at-requires-2 c κs = bounds (c .before .before .before .before .before .be
 sub-above : tie.Need-sub-above
 sub-above c =
     let i = c .before .before .before .before .before .before .before .before .pre .0 in
-    omega (arith, values-there (i .held) (i .stand) (c .before .before .before .before .before .before .before .before .pre .1) .0, c .before .before .before .before .attributes .ensures (i .grammar) (i .lent) (i .tokens) _ (i .config) (i .node) (i .parent) (i .below) (i .held) (i .stand) .0, c .before .word-at2 .ensures .0)
+    let attributes = c .before .before .before .before .attributes in
+    let s = c .before .before .before .before .before .before .before .before in
+    omega (arith, values-there (i .held) (i .stand) (s .pre .1) .0, attributes .ensures (i .grammar) (i .lent) (i .tokens) _ (i .config) (i .node) (i .parent) (i .below) (i .held) (i .stand) .0, c .before .word-at2 .ensures .0)
 
 put-four-requires : tie.Need-put-four-requires
 put-four-requires c κs = search needs
@@ -62,7 +64,12 @@ returns : tie.Need-returns
 returns c = λ g lent tokens d o b bs h t.
     let s = c .before .before .before .before .before .before .before .before .before .before .before .before .before .before .before .before .before .before .before .before .before .before .before .before .before in
     let n = c .before .before .before .before .before .before .before .before .before .before .before .before .before .before .before .before .before .before .before .before .before .attributes .ensures g lent tokens _ d o b bs h t in
-    record-here h t (s .pre .1) _ _ _ _ _ _ _ _ _ _ (ap (λ q. q / 256) (c .before .before .before .before .before .before .before .before .before .before .before .before .before .before .before .before .before .before .before .word-at .ensures .0)) (n .0) (n .1) (c .before .before .before .before .before .before .before .before .before .before .before .before .before .before .before .put-four .ensures) (c .before .before .before .before .before .before .before .before .before .before .before .put-four2 .ensures) (c .before .before .before .before .before .before .put-four3 .ensures) (rw (c .before .before .before .before .before .before .before .before .before .before .before .before .before .before .before .before .before .before .word-at2 .ensures .0) at (c .before .before .put-values .ensures))
+    let put-four3 = c .before .before .before .before .before .before .put-four3 in
+    let put-four2 = c .before .before .before .before .before .before .before .before .before .before .before .put-four2 in
+    let put-four = c .before .before .before .before .before .before .before .before .before .before .before .before .before .before .before .put-four in
+    let word-at2 = c .before .before .before .before .before .before .before .before .before .before .before .before .before .before .before .before .before .before .word-at2 in
+    let word-at = c .before .before .before .before .before .before .before .before .before .before .before .before .before .before .before .before .before .before .before .word-at in
+    record-here h t (s .pre .1) _ _ _ _ _ _ _ _ _ _ (ap (λ q. q / 256) (word-at .ensures .0)) (n .0) (n .1) (put-four .ensures) (put-four2 .ensures) (put-four3 .ensures) (rw (word-at2 .ensures .0) at (c .before .before .put-values .ensures))
 
 pub write-record-spec : {M : Type 1} → statement M
 write-record-spec =

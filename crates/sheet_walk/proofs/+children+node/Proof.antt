@@ -7,9 +7,9 @@ use mathlib.Core.Logic.{inl, inr}
 use lib.ListN.{length}
 use denote.Ref.{now}
 use borrow.Author.Needs.{needs}
-use Rattle.moves.specs.Held.{bounds}
-use Rattle.sheet_walk.specs.Cycle.{list-symbols, list-node-at}
-use Rattle.sheet_walk.specs.Walks.{Opened, NodeOut, ListOut, pass-out, node-out-as, child-inside, child-over, child-more-in, child-more, child-fails, node-enter, enter-out, open-inside, open-depth, open-list, open-none, open-fails, leave-at, left-out}
+use Rattle.run_moves.specs.Held.{bounds}
+use Rattle.sheet_steps.specs.Cycle.{list-symbols, list-node-at}
+use Rattle.sheet_steps.specs.Walks.{Opened, NodeOut, ListOut, pass-out, node-out-as, child-inside, child-over, child-more-in, child-more, child-fails, node-enter, enter-out, open-inside, open-depth, open-list, open-none, open-fails, leave-at, left-out}
 use borrow.Fn.Kinds.{In}
 use borrow.Fn.PlainCycle.{Measures, is, falls, and}
 use Rattle.sheet_walk.proofs.children.Reads as children
@@ -18,10 +18,10 @@ use Rattle.sheet_walk.proofs.+children+node.Lts-children as children-lt
 use Rattle.sheet_walk.proofs.node.Reads as node
 use Rattle.sheet_walk.proofs.node.Kinds as node-kinds
 use Rattle.sheet_walk.proofs.+children+node.Lts-node as node-lts
-use Rattle.sheet_walk.proofs.advance.Reads as advance-reads
-use Rattle.sheet_walk.proofs.enter.Reads as enter-reads
-use Rattle.sheet_walk.proofs.leave.Reads as leave-reads
-use Rattle.sheet_walk.proofs.operation.Reads as operation-reads
+use Rattle.sheet_steps.proofs.advance.Reads as advance-reads
+use Rattle.sheet_steps.proofs.enter.Reads as enter-reads
+use Rattle.sheet_steps.proofs.leave.Reads as leave-reads
+use Rattle.sheet_steps.proofs.operation.Reads as operation-reads
 use Rattle.sheet_walk.proofs.+children+node.{statement}
 use Rattle.sheet_walk.proofs.+children+node.Tie.{close}
 

@@ -6,7 +6,7 @@ use Rattle.table_carriers.proofs.read_carriers.Statement.{statement}
 use Rattle.table_carriers.proofs.read_carriers.Tie as tie
 
 abbrev Inv-loop : tie.InvT-loop
-Inv-loop table from terminals at₀ least₀ carrying₀ at least carrying = Carrying table from terminals at least carrying
+Inv-loop table from terminals at₀ least₀ carrying₀ at least carrying = Carrying table from terminals at least (carrying .0)
 
 abbrev μ-loop : tie.MeasureT-loop
 μ-loop table from terminals at₀ least₀ carrying₀ at least carrying = length table - at
@@ -32,6 +32,9 @@ shared-slice-read-terminal c = omega (arith, c .before .before .carrier-number .
 of-token-requires : tie.Need-of-token-requires Inv-loop μ-loop
 of-token-requires c κs = tt
 
+union-requires : tie.Need-union-requires Inv-loop μ-loop
+union-requires c κs = tt
+
 wide-requires : tie.Need-wide-requires Inv-loop μ-loop
 wide-requires c κs = tt
 
@@ -46,9 +49,12 @@ loop-less c = omega (arith, c .before .before .before .before .before .carrier-n
 
 loop-again : tie.Need-loop-again Inv-loop μ-loop
 loop-again c =
-    let cn = c .before .before .before .before .before in
+    let un = c .before in
+    let ot = un .before in
+    let cn = ot .before .before .before in
     let lp = cn .before .before .before in
-    carrying-more _ _ _ _ _ _ (lp .loop .inv) _ (cn .carrier-number .ensures) (omega arith) (lp .before .before .pre .1) _ _ (c .before .before .of-token .ensures) (omega (arith, c .wide .ensures .0))
+    rw (un .union .ensures .1)
+    (carrying-more _ _ _ _ _ _ (lp .loop .inv) _ (cn .carrier-number .ensures) (omega arith) (lp .before .before .pre .1) _ _ (ot .of-token .ensures) (omega (arith, c .wide .ensures .0)))
 
 returns-2 : tie.Need-returns-2 Inv-loop μ-loop
 returns-2 c = carrying-end _ _ _ _ _ _ (c .before .before .loop .inv) (c .before .is-carrier .ensures .1 (c .if1 .left))
@@ -66,6 +72,7 @@ read-carriers-spec =
     add-terminal
     shared-slice-read-terminal
     of-token-requires
+    union-requires
     wide-requires
     add-least
     add-at

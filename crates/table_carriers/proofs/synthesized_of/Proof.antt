@@ -2,8 +2,8 @@ use mathlib.Core.Path.{refl, sym, _∙_, ap}
 use native.Mathlib.Omega.{arith}
 use borrow.Author.Needs.{needs}
 use Rattle.meaning.specs.Grammar.{attributeIf}
-use Rattle.fields.proofs.Demands.{below-yes, below-no}
-use Rattle.table_carriers.specs.Named.{countOf, synthesizedOf}
+use Rattle.table_fields.proofs.Demands.{below-yes, below-no}
+use Rattle.table_carriers.specs.Named.{inheritedCount, synthesizedOf}
 use Rattle.table_carriers.proofs.synthesized_of.Statement.{statement}
 use Rattle.table_carriers.proofs.synthesized_of.Tie as tie
 
@@ -11,7 +11,7 @@ count-of-requires : tie.Need-count-of-requires
 count-of-requires c κs = search needs
 
 returns : tie.Need-returns
-unfolding countOf synthesizedOf
+unfolding inheritedCount synthesizedOf
 returns c = below-no _ _ _ _ (omega arith) (c .count-of .ensures ∙ sym (below-no _ _ _ _ (omega arith) refl))
 
 cast-has : tie.Need-cast-has

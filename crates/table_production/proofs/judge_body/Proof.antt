@@ -35,22 +35,36 @@ part-place-counts-end c = search needs
 place-counts-requires : tie.Need-place-counts-requires
 place-counts-requires c κs = (search needs, search needs, search needs, search needs, refl, refl)
 
-read-uses-requires : tie.Need-read-uses-requires
-read-uses-requires c κs =
-    let w = c .before .before .before .before .before .before .before in
+note-of-requires : tie.Need-note-of-requires
+note-of-requires c κs =
+    let counting = c .before .before in
+    let counted = counting .place-counts .ensures in
+    let w = counting .before .before .before .before in
     let st = w .before .before .before in
-    let counted = c .before .before .before .place-counts .ensures in
-    let part = part-in (st .args .table .now) (st .args .at) (w .wide .result) (w .wide .ensures .0) in
-    (body-small (st .args .table .now) (st .args .at) _ _ _ _ _ _ _ (w .wide .ensures .0) part (omega arith) (counted .0) (counted .1) (st .pre .1), omega arith, omega arith, omega arith, omega arith)
+    let t = st .args .table .now in
+    let part = part-in t (st .args .at) (w .wide .result) (w .wide .ensures .0) in
+    body-small t (st .args .at) _ _ _ _ _ _ _ (w .wide .ensures .0) part (omega arith) (counted .0) (counted .1) (st .pre .1)
+
+read-items-requires : tie.Need-read-items-requires
+read-items-requires c κs =
+    let counting = c .before .before .before .before .before .before in
+    let counted = counting .place-counts .ensures in
+    let w = counting .before .before .before .before in
+    let st = w .before .before .before in
+    let t = st .args .table .now in
+    let part = part-in t (st .args .at) (w .wide .result) (w .wide .ensures .0) in
+    (body-small t (st .args .at) _ _ _ _ _ _ _ (w .wide .ensures .0) part (omega arith) (counted .0) (counted .1) (st .pre .1), omega arith, omega arith, omega arith, omega arith)
 
 returns : tie.Need-returns
 returns c =
-    let w = c .before .before .before .before .before .before .before .before in
+    let counting = c .before .before .before .before .before .before .before in
+    let counted = counting .place-counts .ensures in
+    let w = counting .before .before .before .before in
     let st = w .before .before .before in
-    let counted = c .before .before .before .before .place-counts .ensures in
-    let part = part-in (st .args .table .now) (st .args .at) (w .wide .result) (w .wide .ensures .0) in (
-      taken-body (st .args .table .now) (st .args .at) _ _ _ _ _ _ _ (w .wide .ensures .0) part (omega arith) (counted .0) (counted .1) (st .pre .1) _ _ _ _ _ (c .read-uses .ensures .0),
-      ((λ z. next-sooner _ _ _ _ (omega arith) (c .read-uses .ensures .1 .0 z)), c .read-uses .ensures .1 .1),
+    let t = st .args .table .now in
+    let part = part-in t (st .args .at) (w .wide .result) (w .wide .ensures .0) in (
+      taken-body t (st .args .at) _ _ _ _ _ _ _ (w .wide .ensures .0) part (omega arith) (counted .0) (counted .1) (st .pre .1) _ _ _ _ _ _ (c .before .before .before .before .note-of .ensures) (c .read-items .ensures .0),
+      ((λ z. next-sooner _ _ _ _ (omega arith) (c .read-items .ensures .1 .0 z)), c .read-items .ensures .1 .1),
     )
 
 pub judge-body-spec : {M : Type 1} → statement M
@@ -67,5 +81,6 @@ judge-body-spec =
     part-place-counts-start
     part-place-counts-end
     place-counts-requires
-    read-uses-requires
+    note-of-requires
+    read-items-requires
     returns)

@@ -1,7 +1,7 @@
 use native.Mathlib.Omega.{arith}
 use borrow.Author.Needs.{needs}
 use Rattle.table_production.proofs.Producing.{part-in, part-short, small-body}
-use Rattle.table_production.proofs.Rows.{production-refused, production-read}
+use Rattle.table_production.proofs.ProductionRows.{production-refused, production-read}
 use Rattle.table_production.proofs.read_production.Statement.{statement}
 use Rattle.table_production.proofs.read_production.Tie as tie
 

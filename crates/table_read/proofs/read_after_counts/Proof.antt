@@ -1,6 +1,4 @@
-use mathlib.Core.Path.{refl}
 use native.Mathlib.Omega.{arith}
-use Rattle.table_production.proofs.Rows.{answer-refused}
 use Rattle.table_read.proofs.Tables.{begun, carriers-refused, carriers-answer}
 use Rattle.table_read.proofs.read_after_counts.Statement.{statement}
 use Rattle.table_read.proofs.read_after_counts.Tie as tie
@@ -20,18 +18,18 @@ cast-offset c = let rc = c .before .before .before in omega (arith, rc .read-car
 returns : tie.Need-returns
 returns c =
     let rc = c .before .before .before in
-    answer-refused _ _ _ _ _ _ _ _ (carriers-refused _ _ _ _ (rc .before .before .before .pre .0) _ (rc .read-carriers .ensures) (c .before .if1 .taken)) refl
+    carriers-refused _ _ _ _ (rc .before .before .before .pre .0) _ (rc .read-carriers .ensures) (c .before .if1 .taken)
 
 read-productions-requires : tie.Need-read-productions-requires
 read-productions-requires c κs =
-    let rc = c .before .before .before .before in
+    let rc = c .before .before .before .before .before in
     let st = rc .before .before .before in
     (begun _ _ _ _ (st .pre .0) _ (rc .read-carriers .ensures) (omega arith), st .pre .1, st .pre .2)
 
 returns-2 : tie.Need-returns-2
 returns-2 c =
-    let rc = c .before .before .before .before .before in
-    carriers-answer _ _ _ _ (rc .before .before .before .pre .0) _ (rc .read-carriers .ensures) _ _ _ (omega arith) (c .read-productions .ensures)
+    let rc = c .before .before .before .before .before .before in
+    carriers-answer _ _ _ _ (rc .before .before .before .pre .0) _ (rc .read-carriers .ensures) (c .read-productions .result) _ _ (omega arith) (c .read-productions .ensures)
 
 pub read-after-counts-spec : {M : Type 1} → statement M
 read-after-counts-spec =

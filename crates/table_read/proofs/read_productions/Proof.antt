@@ -1,13 +1,13 @@
-use mathlib.Core.Path.{refl}
 use native.Mathlib.Omega.{arith}
 use Prim.Native.Nat.{_-_}
 use lib.ListN.{length}
-use Rattle.table_production.proofs.Rows.{Reached, reached-start, reached-more, reached-refused, reached-none, answer-refused, answer-whole}
+use Rattle.table_production.proofs.ProductionRows.{Reached, reached-start, reached-more, reached-refused, reached-none}
+use Rattle.table_read.proofs.Outlining.{answer-whole}
 use Rattle.table_read.proofs.read_productions.Statement.{statement}
 use Rattle.table_read.proofs.read_productions.Tie as tie
 
 abbrev Inv-loop : tie.InvT-loop
-Inv-loop table from sizes inherited synthesized rows₀ offsets₀ at₀ p₀ rules₀ conditions₀ rows offsets at p rules conditions = Reached table from (sizes .nonterminals) (sizes .carrying) inherited synthesized rows offsets p at rules conditions
+Inv-loop table from sizes inherited synthesized rows₀ offsets₀ at₀ p₀ rules₀ conditions₀ rows offsets at p rules conditions = Reached table from (sizes .nonterminals) (sizes .carrying .0) inherited synthesized rows offsets p at rules conditions
 
 abbrev μ-loop : tie.MeasureT-loop
 μ-loop table from sizes inherited synthesized rows₀ offsets₀ at₀ p₀ rules₀ conditions₀ rows offsets at p rules conditions = length table - at
@@ -30,7 +30,7 @@ returns : tie.Need-returns Inv-loop μ-loop
 returns c =
     let lp = c .before .before .before .before .before .before .before in
     let ready = lp .before .before .pre .0 .ready in
-    λ ws held. answer-refused _ _ _ _ _ _ _ _ (reached-refused _ _ _ _ _ _ _ _ _ _ _ _ (lp .loop .inv) (ready .nonterminals) _ (ready .terminals) _ _ _ (c .before .before .before .read-production .ensures) (c .before .if1 .taken) ws held) refl
+    reached-refused _ _ _ _ _ _ _ _ _ _ _ _ (lp .loop .inv) (ready .nonterminals) _ (ready .terminals) _ _ _ (c .before .before .before .read-production .ensures) (c .before .if1 .taken)
 
 add-p : tie.Need-add-p Inv-loop μ-loop
 add-p c = omega (arith, c .before .before .before .before .before .before .loop .inv .few)
@@ -48,10 +48,10 @@ cast-offset-2 : tie.Need-cast-offset-2 Inv-loop μ-loop
 cast-offset-2 c = omega (arith, c .before .before .loop .inv .inside, c .before .before .before .before .pre .0 .ready .short)
 
 returns-2 : tie.Need-returns-2 Inv-loop μ-loop
-returns-2 c ws held = answer-refused _ _ _ _ _ _ _ _ (reached-none _ _ _ _ _ _ _ _ _ _ _ _ (c .before .before .loop .inv) (c .before .before .before .before .pre .0 .ready .nonterminals) (c .before .loop-test .left) ws (c .before .before .loop .inv .found ws held) (omega arith)) refl
+returns-2 c ws held = reached-none _ _ _ _ _ _ _ _ _ _ _ _ (c .before .before .loop .inv) (c .before .before .before .before .pre .0 .ready .nonterminals) (c .before .loop-test .left) ws (c .before .before .loop .inv .found ws held) (omega arith)
 
 returns-3 : tie.Need-returns-3 Inv-loop μ-loop
-returns-3 c = answer-whole _ _ _ _ _ _ _ _ _ _ _ (c .before .before .before .before .pre .0 .ready) (c .before .before .loop .inv) (c .before .loop-test .left) (c .if2 .left)
+returns-3 c = let el = c .before in answer-whole _ _ _ _ _ _ _ _ _ _ _ (el .before .before .before .before .pre .0 .ready) (el .before .before .loop .inv) (el .before .loop-test .left) (el .if2 .left)
 
 pub read-productions-spec : {M : Type 1} → statement M
 read-productions-spec =

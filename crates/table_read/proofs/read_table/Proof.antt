@@ -1,20 +1,18 @@
-use mathlib.Core.Path.{refl}
 use native.Mathlib.Omega.{arith}
 use borrow.Author.Needs.{needs}
-use Rattle.table_production.proofs.Rows.{answer-refused}
 use Rattle.table_read.proofs.Tables.{header-answer, counts-answer, productions-answer}
-use Rattle.fields.proofs.Rest.{table-long}
+use Rattle.table_fields.proofs.Rest.{table-long}
 use Rattle.table_read.proofs.read_table.Statement.{statement}
 use Rattle.table_read.proofs.read_table.Tie as tie
 
 returns : tie.Need-returns
-returns c = answer-refused _ _ _ _ _ _ _ _ (table-long (c .before .before .args .table .now) (c .if1 .taken)) refl
+returns c = table-long (c .before .before .args .table .now) (c .if1 .taken)
 
 header-number-requires : tie.Need-header-number-requires
 header-number-requires c κs = search needs
 
 returns-2 : tie.Need-returns-2
-returns-2 c = answer-refused _ _ _ _ _ _ _ _ (header-answer _ (omega arith) _ (c .before .header-number .ensures) (c .if2 .taken)) refl
+returns-2 c = header-answer _ (omega arith) _ (c .before .header-number .ensures) (c .if2 .taken)
 
 shared-slice-read-wide : tie.Need-shared-slice-read-wide
 shared-slice-read-wide c = omega (arith, c .before .before .header-number .ensures .long (omega arith))
@@ -55,7 +53,7 @@ returns-3 : tie.Need-returns-3
 returns-3 c =
     let rc = c .before .before .before in
     let fine = rc .before .before .before .before .before .before .before .before .before .before .before in
-    answer-refused _ _ _ _ _ _ _ _ (counts-answer _ (omega arith) _ (fine .before .header-number .ensures) (fine .if2 .left) _ _ _ _ (rc .read-counts .ensures .0) (c .before .if3 .taken)) refl
+    counts-answer _ (omega arith) _ (fine .before .header-number .ensures) (fine .if2 .left) _ _ _ _ (rc .read-counts .ensures .0) (c .before .if3 .taken)
 
 read-after-counts-requires : tie.Need-read-after-counts-requires
 read-after-counts-requires c κs =
@@ -84,7 +82,7 @@ returns-4 : tie.Need-returns-4
 returns-4 c =
     let rc = c .before .before .before .before .before .before .before in
     let hn = rc .before .before .before .before .before .before .before .before .before .before .before .before in
-    productions-answer _ (omega arith) _ (hn .header-number .ensures) (rc .before .before .before .before .before .before .before .before .before .before .before .if2 .left) _ _ _ _ (rc .read-counts .ensures .0) _ _ _ (omega arith) (c .read-after-counts .ensures)
+    productions-answer _ (omega arith) _ (hn .header-number .ensures) (rc .before .before .before .before .before .before .before .before .before .before .before .if2 .left) _ _ _ _ (rc .read-counts .ensures .0) (c .read-after-counts .result) _ _ (omega arith) (c .read-after-counts .ensures)
 
 pub read-table-spec : {M : Type 1} → statement M
 read-table-spec =

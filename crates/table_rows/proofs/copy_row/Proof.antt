@@ -1,7 +1,7 @@
 use native.Mathlib.Omega.{arith}
 use Prim.Native.Nat.{_-_, _≤_}
 use lib.ListN.{length}
-use Rattle.table_rows.specs.Rows.{Copied}
+use Rattle.table_rows.specs.RowWritten.{Copied}
 use Rattle.table_rows.proofs.Placing.{copying-start, copying-more}
 use Rattle.table_rows.proofs.copy_row.Statement.{statement}
 use Rattle.table_rows.proofs.copy_row.Tie as tie

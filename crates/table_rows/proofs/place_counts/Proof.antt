@@ -2,12 +2,12 @@ use Prim.Native.Nat.{_+_, _-_, _≤_}
 use native.Mathlib.Omega.{arith}
 use lib.ListN.{length}
 use Rattle.table_rows.proofs.Placing.{Placing, placing-start, placing-more}
-use Rattle.table_carriers.specs.Named.{countOf, synthesizedOf}
+use Rattle.table_carriers.specs.Named.{inheritedCount, synthesizedOf}
 use Rattle.table_rows.proofs.place_counts.Statement.{statement}
 use Rattle.table_rows.proofs.place_counts.Tie as tie
 
 abbrev Inv-loop : tie.InvT-loop
-Inv-loop body carrying inherited synthesized inh₀ syn₀ left k₀ inh syn k = (1 ≤ k) × (k + 1 ≤ length body) × Placing (countOf inherited) body inh k × Placing (synthesizedOf carrying synthesized) body syn k
+Inv-loop body carrying inherited synthesized inh₀ syn₀ left k₀ inh syn k = (1 ≤ k) × (k + 1 ≤ length body) × Placing (inheritedCount inherited) body inh k × Placing (synthesizedOf (carrying .0) synthesized) body syn k
 
 abbrev μ-loop : tie.MeasureT-loop
 μ-loop body carrying inherited synthesized inh₀ syn₀ left k₀ inh syn k = length body - k

@@ -5,7 +5,7 @@ use mir.Syntax.{w64}
 use mir.Val.{toZ, ofZ}
 use Rattle.theory_window.specs.Parts.{answerOf}
 use Rattle.theory_window.specs.Cases.{state-not, state-met}
-use Rattle.theory_window.specs.Brought.{passed, answer-read}
+use Rattle.theory_window.specs.FormByParts.{passed, answer-read}
 use Rattle.window_found.specs.Checks.{told-kept, told-wrong}
 use borrow.Author.Needs.{needs}
 use Rattle.window.proofs.window_state.Statement.{statement}

@@ -8,7 +8,7 @@ use Rattle.meaning.specs.Window.{wellKept, bringsValue}
 use borrow.Author.Tests.{not-true, not-false}
 use Rattle.window_cells.specs.Signed.{back}
 use Rattle.theory_window.specs.Cases.{value-not}
-use Rattle.window_found.specs.Checks.{Told, told-kept, told-wrong}
+use Rattle.window_found.specs.Checks.{KnownWhereKept, told-kept, told-wrong}
 use Rattle.window_push.specs.Leading.{brought}
 use borrow.Author.Needs.{needs}
 use Rattle.window.proofs.window_value.Statement.{statement}
@@ -52,7 +52,7 @@ returns-2 c =
     sym (value-not (s .args .value) b (ap (λ x. x && wellKept b) t ∙ w))
 
 -- what the check has found
-told : (c : tie.After-found) → Told (now (c .before .before .before .before .before .before .before .args .buffer)) (toZ w64 (ofZ w64 (c .before .before .before .before .before .before .before .args .value))) (c .found .given .0 .0) (c .before .before .check .last .1 .1 .0)
+told : (c : tie.After-found) → KnownWhereKept (now (c .before .before .before .before .before .before .before .args .buffer)) (toZ w64 (ofZ w64 (c .before .before .before .before .before .before .before .args .value))) (c .found .given .0 .0) (c .before .before .check .last .1 .1 .0)
 told c = told-kept (now (c .before .before .before .before .before .before .before .args .buffer)) (toZ w64 (ofZ w64 (c .before .before .before .before .before .before .before .args .value))) (c .before .before .check .ensures) (c .found .given .1)
 
 slice-aggregate-push : tie.Need-slice-aggregate-push

@@ -6,32 +6,36 @@ use Rattle.analysis.proofs.closing.close_by.Tie as tie
 known-by-requires : tie.Need-known-by-requires
 known-by-requires c κs = search needs
 
-mul-lies-in : tie.Need-mul-lies-in
-mul-lies-in c = search needs
+mul-right : tie.Need-mul-right
+mul-right c = search needs
 
-element-copy-out-lies-in : tie.Need-element-copy-out-lies-in
-element-copy-out-lies-in c = search needs
+element-copy-out-right : tie.Need-element-copy-out-right
+element-copy-out-right c = search needs
 
 lies-in-requires : tie.Need-lies-in-requires
 lies-in-requires c κs = search needs
 
-mul-of-token : tie.Need-mul-of-token
-mul-of-token c = search needs
+mul-of-nonterminal : tie.Need-mul-of-nonterminal
+mul-of-nonterminal c = search needs
 
-element-copy-out-of-token : tie.Need-element-copy-out-of-token
-element-copy-out-of-token c = search needs
+element-copy-out-of-nonterminal : tie.Need-element-copy-out-of-nonterminal
+element-copy-out-of-nonterminal c = search needs
 
-of-token-requires : tie.Need-of-token-requires
-of-token-requires c κs = search needs
+of-nonterminal-requires : tie.Need-of-nonterminal-requires
+of-nonterminal-requires c κs = search needs
+
+union-requires : tie.Need-union-requires
+union-requires c κs = search needs
 
 returns : tie.Need-returns
 returns c =
-    let ot = c .before in
-    let th = ot .before .before in
+    let on = c .before in
+    let th = on .before .before in
     let li = th .before in
     let kb = li .before .before in
     let st = kb .before in
-    closes-new _ (st .pre .0) _ (st .pre .2) _ _ _ (kb .known-by .ensures) (st .pre .1 .is _ (st .pre .2)) _ (li .lies-in .ensures .inside (th .if1 .taken)) (ot .of-token .ensures)
+    rw (c .union .ensures .1)
+    (closes-new _ (st .pre .0) _ (st .pre .2) _ _ _ (kb .known-by .ensures) (st .pre .1 .is _ (st .pre .2)) _ (li .lies-in .ensures .inside (th .if1 .taken)) (on .of-nonterminal .ensures))
 
 returns-2 : tie.Need-returns-2
 returns-2 c =
@@ -45,11 +49,12 @@ close-by-spec =
     tie.close
     (tie.spec
     known-by-requires
-    mul-lies-in
-    element-copy-out-lies-in
+    mul-right
+    element-copy-out-right
     lies-in-requires
-    mul-of-token
-    element-copy-out-of-token
-    of-token-requires
+    mul-of-nonterminal
+    element-copy-out-of-nonterminal
+    of-nonterminal-requires
+    union-requires
     returns
     returns-2)

@@ -1,6 +1,6 @@
 use borrow.Author.Needs.{needs}
 use mathlib.Core.Path.{refl}
-use Rattle.analysis.specs.Rows.{symbol-terminal, symbol-nonterminal}
+use Rattle.outline.specs.Rows.{symbol-terminal, symbol-nonterminal}
 use Rattle.analysis.proofs.closing.symbol_in.Statement.{statement}
 use Rattle.analysis.proofs.closing.symbol_in.Tie as tie
 

@@ -10,7 +10,7 @@ use Rattle.analysis.proofs.judging.lowest_useless.Statement.{statement}
 use Rattle.analysis.proofs.judging.lowest_useless.Tie as tie
 
 abbrev Inv-loop : tie.InvT-loop
-Inv-loop reached productive n i₀ i = (i ≤ n) × Clear (λ j. not (members reached j && members productive j)) i
+Inv-loop reached productive n i₀ i = (i ≤ n) × Clear (λ j. not (members (reached .0) j && members (productive .0) j)) i
 
 abbrev μ-loop : tie.MeasureT-loop
 μ-loop reached productive n i₀ i = n - i
@@ -39,7 +39,7 @@ returns-2 : tie.Need-returns-2 Inv-loop μ-loop
 returns-2 c =
     let el = c .before .before in
     let lp = el .before .before in
-    found-here _ _ _ (lp .loop-test .taken) (lp .before .loop .inv .1) (without-second (members (lp .before .before .args .reached) (lp .before .loop .i)) _ (sym (c .before .has2 .ensures) ∙ not-true _ (c .if2 .taken)))
+    found-here _ _ _ (lp .loop-test .taken) (lp .before .loop .inv .1) (without-second (members (lp .before .before .args .reached .0) (lp .before .loop .i)) _ (sym (c .before .has2 .ensures) ∙ not-true _ (c .if2 .taken)))
 
 add-i : tie.Need-add-i Inv-loop μ-loop
 add-i c = omega arith

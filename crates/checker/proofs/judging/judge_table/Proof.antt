@@ -1,4 +1,4 @@
-use Rattle.checker.proofs.Answers.{read-refused, read-outlined, read-judged}
+use Rattle.checker.proofs.Answers.{read-refused, read-outline, read-judged}
 use borrow.Author.Needs.{needs}
 use Rattle.checker.proofs.judging.judge_table.Statement.{statement}
 use Rattle.checker.proofs.judging.judge_table.Tie as tie
@@ -19,7 +19,8 @@ judge-grammar-requires : tie.Need-judge-grammar-requires
 judge-grammar-requires c κs =
     let rt = c .before .before .before .before .before .before in
     let st = rt .before .before .before .before .before .before in
-    (read-outlined (st .args .table .now) (rt .read-table .last .1 .0) (rt .read-table .last .1 .1 .0) _ _ _ (rt .read-table .ensures) _ (c .before .before .before .before .sizes .given .1), st .pre .4)
+    let o = read-outline (st .args .table .now) (rt .read-table .last .1 .0) (rt .read-table .last .1 .1 .0) _ _ _ (rt .read-table .ensures) _ (c .before .before .before .before .sizes .given .1) in
+    (o .productions, o .numbers, st .pre .4)
 
 returns : tie.Need-returns
 returns c = read-refused _ _ _ _ _ _ (c .before .before .before .read-table .ensures) _ _ _ (c .before .number .given .1)

@@ -1,6 +1,6 @@
 use native.Mathlib.Omega.{arith}
 use Rattle.meaning.specs.Grammar.{productionAt}
-use Rattle.clash.specs.Together.{grammarIn}
+use Rattle.outline.specs.Outline.{grammarIn}
 use Rattle.clash.proofs.Laws.{ranges-free, differences-told, rank-small}
 use borrow.Author.Needs.{needs}
 use Rattle.clash.proofs.together.enters_together.Statement.{statement}

@@ -1,8 +1,8 @@
 use mathlib.Core.Path.{refl, ap, _∙_}
 use Rattle.meaning.specs.Differences.{constrained}
 use Rattle.meaning.specs.Grammar.{productionAt}
-use Rattle.clash.specs.Together.{grammarIn}
-use Rattle.entry_conditions.specs.Walk.{afterAll}
+use Rattle.outline.specs.Outline.{grammarIn}
+use Rattle.clash_conditions.specs.Walk.{afterAll}
 use Rattle.clash.proofs.Laws.{stretch-slice, solved-told}
 use borrow.Author.Needs.{needs}
 use Rattle.clash.proofs.together.leaves_differences.Statement.{statement}

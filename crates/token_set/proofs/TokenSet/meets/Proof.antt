@@ -1,5 +1,5 @@
 use borrow.Author.Needs.{needs}
-use Rattle.token_set.specs.Words.{meet-test}
+use Rattle.token_set.specs.SetBits.{meet-test}
 use Rattle.token_set.proofs.TokenSet.meets.Statement.{statement}
 use Rattle.token_set.proofs.TokenSet.meets.Tie as tie
 

@@ -1,9 +1,10 @@
-use Rattle.token_set.specs.Words.{set-or}
+use mathlib.Core.Path.{refl}
+use Rattle.token_set.specs.SetBits.{set-or}
 use Rattle.token_set.proofs.TokenSet.union.Statement.{statement}
 use Rattle.token_set.proofs.TokenSet.union.Tie as tie
 
 returns : tie.Need-returns
-returns c = set-or _ _
+returns c = (set-or _ _, refl)
 
 pub union-spec : {M : Type 1} → statement M
 union-spec = tie.close (tie.spec returns)

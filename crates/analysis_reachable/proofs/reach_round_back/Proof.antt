@@ -1,0 +1,36 @@
+use Prim.Native.Nat.{_≤_}
+use native.Mathlib.Omega.{arith}
+use mathlib.Core.Path.{_≡_}
+use Rattle.analysis.specs.Views.{Within, within-none, within-before, ReachAt}
+use Rattle.analysis.specs.Growth.{Grown, grown-none, grown-then}
+use Rattle.analysis_reachable.proofs.reach_round_back.Statement.{statement}
+use Rattle.analysis_reachable.proofs.reach_round_back.Tie as tie
+
+abbrev Inv-loop : tie.InvT-loop
+Inv-loop rows count rights next₀ k₀ next k = (k ≤ count) × Grown (Within (ReachAt rows) 0 count) (Within (ReachAt rows) k count) (next₀ .0) (next .0)
+
+abbrev μ-loop : tie.MeasureT-loop
+μ-loop rows count rights next₀ k₀ next k = k
+
+loop-holds : tie.Need-loop-holds Inv-loop μ-loop
+loop-holds c = (omega arith, grown-none _ (within-none _ _ (omega arith)))
+
+sub-k : tie.Need-sub-k Inv-loop μ-loop
+sub-k c = omega arith
+
+reach-by-requires : tie.Need-reach-by-requires Inv-loop μ-loop
+reach-by-requires c κs = let st = c .before .before in (st .pre .0, st .pre .1, omega arith)
+
+loop-less : tie.Need-loop-less Inv-loop μ-loop
+loop-less c = omega arith
+
+loop-again : tie.Need-loop-again Inv-loop μ-loop
+loop-again c = let lp = c .before in (omega arith, grown-then _ _ _ (lp .before .loop .inv .1) (c .reach-by .ensures) (within-before _ _))
+
+returns : tie.Need-returns Inv-loop μ-loop
+returns c = let e : c .before .loop .k ≡ 0 = omega arith in rw e at (c .before .loop .inv .1)
+
+pub reach-round-back-spec : {M : Type 1} → statement M
+reach-round-back-spec =
+    tie.close
+    (tie.spec Inv-loop μ-loop loop-holds sub-k reach-by-requires loop-less loop-again returns)

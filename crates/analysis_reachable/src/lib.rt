@@ -1,0 +1,115 @@
+// 11: the nonterminals that the start symbol reaches, and the lowest that is unreachable or derives no token string.
+use analysis::closing::closure;
+use analysis::judging::lowest_useless;
+use analysis_rights::right_sets;
+use nonterminal_set::NonterminalSet;
+ghost use mathlib.Core.Path.{_≡_};
+ghost use Prim.Native.Nat.{_<_, _≤_};
+ghost use lib.ListN.{length};
+ghost use Rattle.meaning.specs.Grammar.{Grammar, nonterminalCount};
+ghost use Rattle.outline.specs.Rows.{Image, Rows};
+ghost use Rattle.analysis.specs.Views.{rightBy, ReachAt, Within};
+ghost use Rattle.analysis.specs.Growth.{Grown, Settled, SetsTo};
+ghost use Rattle.analysis.specs.Numbers.{Found};
+ghost use Rattle.analysis.specs.Finding.{isUseless};
+
+// The set, with the symbols on the right of production k where its left side is in.
+fn reach_by(
+    rows: &[u8; 2048],
+    count: usize,
+    rights: &[u64; 128],
+    k: usize,
+    set: NonterminalSet,
+) -> NonterminalSet
+    requires { ⌜ Image (now rows) count × SetsTo (rightBy (now rows)) count (now rights) × (k < count) ⌝ }
+    ensures { λ r. ⌜ Grown (Within (ReachAt (now (rows .entry))) 0 count) (ReachAt (now (rows .entry)) k) (set .0) (r .0) ⌝ }
+{
+    if !set.has(rows[k * 16]) {
+        return set;
+    }
+    let right = rights[k];
+    set.union(NonterminalSet(right))
+}
+
+// One round over the productions.
+fn reach_round(
+    rows: &[u8; 2048],
+    count: usize,
+    rights: &[u64; 128],
+    set: NonterminalSet,
+) -> NonterminalSet
+    requires { ⌜ Image (now rows) count × SetsTo (rightBy (now rows)) count (now rights) ⌝ }
+    ensures { λ r. ⌜ Grown (Within (ReachAt (now (rows .entry))) 0 count) (Within (ReachAt (now (rows .entry))) 0 count) (set .0) (r .0) ⌝ }
+{
+    let mut next = set;
+    let mut k: usize = 0;
+    while k < count {
+        next = reach_by(rows, count, rights, k, next);
+        k += 1;
+    }
+    next
+}
+
+// One round the other way, the last production first.
+fn reach_round_back(
+    rows: &[u8; 2048],
+    count: usize,
+    rights: &[u64; 128],
+    set: NonterminalSet,
+) -> NonterminalSet
+    requires { ⌜ Image (now rows) count × SetsTo (rightBy (now rows)) count (now rights) ⌝ }
+    ensures { λ r. ⌜ Grown (Within (ReachAt (now (rows .entry))) 0 count) (Within (ReachAt (now (rows .entry))) 0 count) (set .0) (r .0) ⌝ }
+{
+    let mut next = set;
+    let mut k = count;
+    while 0 < k {
+        k -= 1;
+        next = reach_by(rows, count, rights, k, next);
+    }
+    next
+}
+
+// The nonterminals that those of a set reach, and the bit of the end where they reach a token; from the words of the right sides.
+pub fn reach(
+    rows: &[u8; 2048],
+    count: usize,
+    rights: &[u64; 128],
+    first: NonterminalSet,
+) -> NonterminalSet
+    requires { ⌜ Image (now rows) count × SetsTo (rightBy (now rows)) count (now rights) ⌝ }
+    ensures { λ r. ⌜ Settled (Within (ReachAt (now (rows .entry))) 0 count) (first .0) (r .0) ⌝ }
+{
+    let mut set = first;
+    loop {
+        let next = reach_round(rows, count, rights, set);
+        if next.same(set) {
+            return set;
+        }
+        let last = reach_round_back(rows, count, rights, next);
+        if last.same(next) {
+            return next;
+        }
+        set = last;
+    }
+}
+
+// 11: the lowest nonterminal that is unreachable or derives no token string; `nonterminals` where there is none.
+// The lent array then holds the words of the right sides.
+pub fn useless(
+    rows: &[u8; 2048],
+    count: usize,
+    nonterminals: usize,
+    start: u8,
+    rights: &mut [u64; 128],
+) -> usize
+    requires { ⌜ Image (now rows) count × (nonterminals ≤ 48) × (length (now rights) ≡ 128) ⌝ }
+    ensures words { λ r. ⌜ SetsTo (rightBy (now (rows .entry))) count (now (rights .exit)) ⌝ }
+    ensures found { λ r. ⌜ ((g : Grammar) → Rows (now (rows .entry)) count g → nonterminals ≡ nonterminalCount g → start ≡ g .start
+        → Found (isUseless g) (nonterminalCount g) r) ⌝ }
+{
+    right_sets(rows, count, rights);
+    let productive = closure(rows, count, rights, true);
+    let first = NonterminalSet::of_nonterminal(start);
+    let reached = reach(rows, count, rights, first);
+    lowest_useless(reached, productive, nonterminals)
+}

@@ -1,0 +1,21 @@
+// 12: left recursion, the nonterminals that can come to begin with themselves.
+use nonterminal_set::NonterminalSet;
+ghost use Prim.Native.Nat.{_≤_};
+ghost use Rattle.analysis.specs.Numbers.{Found};
+ghost use Rattle.analysis.specs.Views.{sees};
+
+// 12: the lowest of the first n nonterminals that leads to itself, by the table of which lead to which; n where there is none.
+pub fn left_recursive(led: &[u64; 48], n: usize) -> usize
+    requires { ⌜ n ≤ 48 ⌝ }
+    ensures { λ r. ⌜ Found (λ i. sees (now (led .entry)) i i) n r ⌝ }
+{
+    let mut i: usize = 0;
+    while i < n {
+        let row = led[i];
+        if NonterminalSet(row).has(i as u8) {
+            return i;
+        }
+        i += 1;
+    }
+    i
+}

@@ -1,0 +1,68 @@
+// Sets that spread along edges: where entry a of the edges has b, a has what b has. Closed one nonterminal after the other, so that the cost
+// is bounded whatever the order of the productions.
+use nonterminal_set::NonterminalSet;
+ghost use mathlib.Core.Path.{_≡_};
+ghost use Prim.Native.Nat.{_<_, _≤_};
+ghost use lib.ListN.{length};
+ghost use Rattle.meaning.specs.Grammar.{nonterminal};
+ghost use Rattle.analysis.specs.Tables.{Added};
+ghost use Rattle.analysis.specs.Spreading.{United, Turned, Spreads};
+
+// Adds a set, of tokens or of nonterminals, to entry a of a table.
+pub fn add(table: &mut [u64; 48], a: usize, more: u64)
+    requires { ⌜ (a < 48) × (length (now table) ≡ 48) ⌝ }
+    ensures { λ r. ⌜ Added (now (table .entry)) (nonterminal a) more (now (table .exit)) ⌝ }
+{
+    table[a] = table[a] | more;
+}
+
+// All that the first n entries of a table of nonterminals have.
+fn union_of(table: &[u64; 48], n: usize) -> NonterminalSet
+    requires { ⌜ n ≤ 48 ⌝ }
+    ensures { λ r. ⌜ United (now (table .entry)) n (r .0) ⌝ }
+{
+    let mut out = NonterminalSet::EMPTY;
+    let mut i: usize = 0;
+    while i < n {
+        let entry = table[i];
+        out = out.union(NonterminalSet(entry));
+        i += 1;
+    }
+    out
+}
+
+// Gives what entry k has, edges and set, to the entries with an edge to k.
+fn spread_by(edges: &mut [u64; 48], sets: &mut [u64; 48], n: usize, k: usize)
+    requires { ⌜ (length (now edges) ≡ 48) × (length (now sets) ≡ 48) × (n ≤ 48) × (k < 48) ⌝ }
+    ensures edges { λ r. ⌜ Turned k (now (edges .entry)) (now (edges .entry)) (now (edges .exit)) n ⌝ }
+    ensures sets { λ r. ⌜ Turned k (now (edges .entry)) (now (sets .entry)) (now (sets .exit)) n ⌝ }
+{
+    let edge = edges[k];
+    let set = sets[k];
+    let mut i: usize = 0;
+    while i < n {
+        let at = i;
+        i += 1;
+        let old = edges[at];
+        if NonterminalSet(old).has(k as u8) {
+            edges[at] = old | edge;
+            sets[at] = sets[at] | set;
+        }
+    }
+}
+
+// The edges closed, and the sets spread along them. Only nonterminals that some edge goes to can pass anything on.
+pub fn spread(edges: &mut [u64; 48], sets: &mut [u64; 48], n: usize)
+    requires { ⌜ (length (now edges) ≡ 48) × (length (now sets) ≡ 48) × (n ≤ 48) ⌝ }
+    ensures { λ r. ⌜ Spreads n (now (edges .entry)) (now (sets .entry)) (now (edges .exit)) (now (sets .exit)) ⌝ }
+{
+    let used = union_of(edges, n);
+    let mut k: usize = 0;
+    while k < n {
+        let at = k;
+        k += 1;
+        if used.has(at as u8) {
+            spread_by(edges, sets, n, at);
+        }
+    }
+}

@@ -1,0 +1,30 @@
+// FIRST-then-FOLLOW of each production.
+use analysis_first::begins;
+use nonterminal_set::NonterminalSet;
+use token_set::TokenSet;
+ghost use mathlib.Core.Path.{_≡_};
+ghost use lib.ListN.{length};
+ghost use Rattle.outline.specs.Rows.{Image};
+ghost use Rattle.analysis.specs.Views.{members};
+ghost use Rattle.analysis.specs.Growth.{SetsTo};
+ghost use Rattle.analysis.specs.Starts.{startsBy};
+
+pub fn all_starts(
+    rows: &[u8; 2048],
+    count: usize,
+    null: NonterminalSet,
+    first: &[u64; 48],
+    follow: &[u64; 48],
+    sets: &mut [u64; 128],
+)
+    requires { ⌜ Image (now rows) count × (length (now sets) ≡ 128) ⌝ }
+    ensures { λ r. ⌜ SetsTo (startsBy (members (null .0)) (now (first .entry)) (now (follow .entry)) (now (rows .entry))) count (now (sets .exit)) ⌝ }
+{
+    let mut k: usize = 0;
+    while k < count {
+        let left = rows[k * 16] as usize;
+        let after = follow[left];
+        sets[k] = begins(rows, count, k, null, first, TokenSet(after)).0;
+        k += 1;
+    }
+}

@@ -1,0 +1,40 @@
+use Prim.Native.Nat.{_≤_, _-_}
+use native.Mathlib.Nat.{not-suc-le-zero}
+use native.Mathlib.Omega.{arith}
+use borrow.Author.Needs.{needs}
+use mathlib.Core.Path.{_≡_}
+use Rattle.analysis.specs.Views.{members}
+use Rattle.analysis.specs.Follows.{EdgesTo, Filled, filled-none, filled-then, edges-more}
+use Rattle.analysis_tails.proofs.tails.Statement.{statement}
+use Rattle.analysis_tails.proofs.tails.Tie as tie
+
+abbrev Inv-loop : tie.InvT-loop
+Inv-loop rows count null edges₀ k₀ edges k = (k ≤ count) × Filled (EdgesTo (members (null .0)) rows count) (EdgesTo (members (null .0)) rows k) edges₀ edges
+
+abbrev μ-loop : tie.MeasureT-loop
+μ-loop rows count null edges₀ k₀ edges k = count - k
+
+loop-holds : tie.Need-loop-holds Inv-loop μ-loop
+loop-holds c = (omega arith, filled-none _ (λ u. record { edge = λ p l. absurd (not-suc-le-zero l) }))
+
+tail-by-requires : tie.Need-tail-by-requires Inv-loop μ-loop
+tail-by-requires c κs = search needs
+
+add-k : tie.Need-add-k Inv-loop μ-loop
+add-k c = omega arith
+
+loop-less : tie.Need-loop-less Inv-loop μ-loop
+loop-less c = omega arith
+
+loop-again : tie.Need-loop-again Inv-loop μ-loop
+loop-again c =
+    let at = c .before .before .before in
+    (omega arith, filled-then _ _ _ (at .loop .inv .1) (c .tail-by .ensures) (λ u. edges-more _ _ _ u _ _))
+
+returns : tie.Need-returns Inv-loop μ-loop
+returns c = let e : c .before .loop .k ≡ c .before .before .args .count = omega arith in rw e at (c .before .loop .inv .1)
+
+pub tails-spec : {M : Type 1} → statement M
+tails-spec =
+    tie.close
+    (tie.spec Inv-loop μ-loop loop-holds tail-by-requires add-k loop-less loop-again returns)

@@ -1,0 +1,55 @@
+// Refusals 11 and 12, and FIRST-then-FOLLOW of each production, on the image of a table's productions (outline `Rows`).
+use analysis::closing::closure;
+use analysis_first::fronts;
+use analysis_follow::starting;
+use analysis_reachable::useless;
+use analysis_recursion::left_recursive;
+ghost use mathlib.Core.Path.{_≡_};
+ghost use Prim.Native.Nat.{_<_, _≤_};
+ghost use lib.ListN.{length};
+ghost use Rattle.meaning.specs.Grammar.{Grammar, nonterminalCount};
+ghost use Rattle.outline.specs.Rows.{Image, Rows};
+ghost use Rattle.analysis.specs.Finding.{Analysed};
+
+// The number of the refusal, or 0; its nonterminal.
+pub struct Analysis {
+    pub number: u32,
+    pub index: usize,
+}
+
+// The lent array holds, where the number is 0, FIRST-then-FOLLOW of each production.
+pub fn analyse(
+    rows: &[u8; 2048],
+    count: usize,
+    nonterminals: usize,
+    start: u8,
+    sets: &mut [u64; 128],
+) -> Analysis
+    requires { ⌜ Image (now rows) count × (nonterminals ≤ 48) × (start < 48) × (length (now sets) ≡ 128) ⌝ }
+    ensures { λ r. ⌜ ((g : Grammar) → Rows (now (rows .entry)) count g → nonterminals ≡ nonterminalCount g → start ≡ g .start
+        → Analysed g (r .number) (r .index) (now (sets .exit))) ⌝ }
+{
+    let useless_at = useless(rows, count, nonterminals, start, sets);
+    if useless_at < nonterminals {
+        return Analysis {
+            number: 11,
+            index: useless_at,
+        };
+    }
+    let null = closure(rows, count, sets, false);
+    let mut led = [0u64; 48];
+    let mut first = [0u64; 48];
+    fronts(rows, count, nonterminals, null, &mut led, &mut first);
+    let recursive_at = left_recursive(&led, nonterminals);
+    if recursive_at < nonterminals {
+        return Analysis {
+            number: 12,
+            index: recursive_at,
+        };
+    }
+    starting(rows, count, nonterminals, start, null, &first, sets);
+    Analysis {
+        number: 0,
+        index: 0,
+    }
+}

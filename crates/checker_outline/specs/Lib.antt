@@ -1,2 +1,0 @@
-pub mod Outlined
-pub mod Taken

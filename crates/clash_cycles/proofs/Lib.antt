@@ -1,0 +1,2 @@
+-- Laws for the functions that place the values
+pub mod Placing

@@ -1,0 +1,2 @@
+-- The values of the nodes, as the code writes them into nine cells
+pub mod Values

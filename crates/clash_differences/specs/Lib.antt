@@ -1,0 +1,2 @@
+-- What the test of a diagonal says
+pub mod Tested

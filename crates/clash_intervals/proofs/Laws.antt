@@ -1,0 +1,40 @@
+-- The ways of the test of two productions' intervals.
+use Prim.Native.Nat.{ℕ, _+_, _*_, _≤_, _<_, min, max}
+use native.Mathlib.Decide.{decLt}
+use native.Mathlib.Omega.{arith}
+use mathlib.Core.Path.{_≡_, sym, subst}
+use mathlib.Core.Bool.{Bool, true, false}
+use mathlib.Core.List.{List}
+use borrow.Author.Tests.{lt-leb}
+use lib.Dec.{leb, le→leb}
+use lib.ListN.{getD}
+use Rattle.meaning.specs.Base.{all, countFrom}
+use Rattle.theory_base.specs.Members.{T→true}
+use Rattle.theory_sets.specs.Widths.{both-true}
+use Rattle.analysis.specs.Numbers.{all-count, count-all}
+use Rattle.clash_intervals.specs.Intervals.{leaveValues}
+
+module _ (lows highs : List ℕ) (p q : ℕ) where
+  -- both leave some value to the attribute a
+  abbrev pub Shared : ℕ → Type 0
+  Shared a = max (getD lows (8 * p + a) 0) (getD lows (8 * q + a) 0) ≤ min (getD highs (8 * p + a) 0) (getD highs (8 * q + a) 0)
+
+  abbrev overlapAt : ℕ → Bool
+  overlapAt a = leb (max (getD lows (8 * p + a) 0) (getD lows (8 * q + a) 0)) (min (getD highs (8 * p + a) 0) (getD highs (8 * q + a) 0))
+
+  pub values-left : ((a : ℕ) → a < 8 → Shared a) → true ≡ leaveValues lows highs p q
+  unfolding leaveValues
+  values-left k = sym (T→true _ (all-count overlapAt 0 8 (λ a l m. le→leb _ _ (k a m))))
+
+  pub none-left : (a : ℕ) → a < 8 → min (getD highs (8 * p + a) 0) (getD highs (8 * q + a) 0) < max (getD lows (8 * p + a) 0) (getD lows (8 * q + a) 0) → false ≡ leaveValues lows highs p q
+  unfolding leaveValues
+  none-left a l h = both-true false (all overlapAt (countFrom 0 8)) (λ t. absurd t) (λ t. rw (lt-leb (max (getD lows (8 * p + a) 0) (getD lows (8 * q + a) 0)) (min (getD highs (8 * p + a) 0) (getD highs (8 * q + a) 0)) h) at (count-all overlapAt 0 8 t a (omega arith) l))
+
+  pub shared-more : (k : ℕ) → ((a : ℕ) → a < k → Shared a) → Shared k → (a : ℕ) → a < k + 1 → Shared a
+  shared-more k f h a l = go (decLt a k)
+    where
+      go : Dec (a < k) → Shared a
+      go (yes m) = f a m
+      go (no m) =
+          let e : k ≡ a = omega arith in
+          subst Shared e h

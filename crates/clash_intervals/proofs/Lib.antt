@@ -1,0 +1,2 @@
+-- The ways of the test of two productions' intervals
+pub mod Laws

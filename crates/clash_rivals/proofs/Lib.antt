@@ -1,0 +1,2 @@
+-- The loop over earlier productions
+pub mod Laws

@@ -1,4 +1,0 @@
-pub mod Words
-pub mod Entry
-pub mod Walk
-pub mod Cases

@@ -1,6 +1,0 @@
-pub mod Cases
-pub mod Demands
-pub mod Walks
-pub mod Fine
-pub mod Rest
-pub mod Judged

@@ -1,4 +1,0 @@
-pub mod Demand
-pub mod Field
-pub mod Judge
-pub mod Reads

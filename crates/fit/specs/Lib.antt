@@ -1,4 +1,0 @@
-pub mod Upward
-pub mod Shown
-pub mod Cut
-pub mod Examples

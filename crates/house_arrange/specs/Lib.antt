@@ -1,0 +1,2 @@
+-- What collecting and gathering promise
+pub mod Promises

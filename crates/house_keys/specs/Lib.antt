@@ -1,0 +1,2 @@
+-- What comparing two keys promises
+pub mod Promises

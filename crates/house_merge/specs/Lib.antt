@@ -1,0 +1,2 @@
+-- What a merge promises
+pub mod Promises

@@ -1,3 +1,0 @@
-pub mod Judging
-pub mod Performing
-pub mod Cutting

@@ -1,4 +1,0 @@
-pub mod Advancing
-pub mod Feeding
-pub mod Flows
-pub mod Rows

@@ -1,2 +1,0 @@
-pub mod Merging
-pub mod Merged

@@ -1,5 +1,0 @@
-pub mod Laid
-pub mod Ahead
-pub mod Held
-pub mod Moves
-pub mod Passing

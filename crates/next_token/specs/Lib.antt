@@ -1,3 +1,0 @@
-pub mod Operations
-pub mod Coming
-pub mod Turns

@@ -1,0 +1,4 @@
+-- The image of a table's productions: 16 bytes for each
+pub mod Rows
+-- The outline of a table that is read whole: what the lent arrays, and the numbers beside them, say of its grammar
+pub mod Outline

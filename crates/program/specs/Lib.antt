@@ -1,0 +1,2 @@
+-- The program of a grammar written, and nothing behind it
+pub mod Building

@@ -1,0 +1,118 @@
+// The body of a production: the addresses of its expects, its entry tests, its scheme; and what its places wait at.
+ghost use Prim.Native.Nat.{ℕ};
+ghost use mathlib.Core.Path.{_≡_};
+ghost use mathlib.Core.List.{List};
+ghost use lib.ListN.{length};
+ghost use Rattle.meaning.specs.Scheme.{synBetween};
+ghost use Rattle.program_block_words.specs.Patch.{Wrote};
+ghost use Rattle.program_body_words.specs.SchemeWords.{endWords};
+ghost use Rattle.program_body_words.specs.Given.{rightOf, Prepared, EndFits, BodyFits, BodyWrote};
+use program_body_counts::count_at;
+use program_body_counts::number_at;
+use program_body_levels::find_levels;
+use program_body_symbols::write_symbols;
+use token_set::TokenSet;
+
+// The synthesized attributes of all symbols.
+fn whole_sum(row: &[u8], inherited: &[u8], levels: &[u32]) -> u32
+    requires { ⌜ ((fs : List ℕ) × ((ss : List ℕ) × ((ms : List ℕ) × ((ls : List ℕ) × Prepared (now row) fs (now inherited) ss ms ls (now levels))))) ⌝ }
+    ensures { λ r. ⌜ ((fs ss ms ls : List ℕ) (x : Prepared (now (row .entry)) fs (now (inherited .entry)) ss ms ls (now (levels .entry))) → r ≡ synBetween (x .given .grammar) (x .given .production) 0 (length (rightOf (x .given)))) ⌝ }
+{
+    let size = value::byte_at(row, 1) as usize;
+    if size == 0 {
+        return 0;
+    }
+    let own = count_at(inherited, value::byte_at(row, size + 1));
+    number_at(levels, size) - own
+}
+
+const REMOVE: u32 = operations::REMOVE as u32;
+
+// The left side's synthesized attributes, and the remove.
+fn write_end(
+    row: &[u8],
+    fields: &[u8],
+    inherited: &[u8],
+    synthesized: &[u8],
+    marks: &[u32],
+    links: &[u32],
+    levels: &[u32],
+    area: &mut [u32],
+    address: usize,
+) -> usize
+    requires { ⌜ EndFits (now row) (now fields) (now inherited) (now synthesized) (now marks) (now links) (now levels) (now area) address ⌝ }
+    ensures { λ r. ⌜ ((x : EndFits (now (row .entry)) (now (fields .entry)) (now (inherited .entry)) (now (synthesized .entry)) (now (marks .entry)) (now (links .entry)) (now (levels .entry)) (now (area .entry)) address) → Wrote (now (area .entry)) (now (area .exit)) address r (endWords (x .prepared .given .grammar) (x .prepared .given .production))) ⌝ }
+{
+    let sum = whole_sum(row, inherited, levels);
+    let own = value::byte_at(inherited, value::byte_at(row, 0) as usize);
+    let remove = program_blocks::write_block(
+        fields,
+        marks,
+        links,
+        true,
+        0,
+        sum,
+        levels,
+        area,
+        address,
+    );
+    area[remove] = REMOVE + 8 * (own + sum);
+    remove + 1
+}
+
+// The body from an address on, and from another one on what the places wait at.
+pub fn write_body(
+    row: &[u8],
+    fields: &[u8],
+    inherited: &[u8],
+    synthesized: &[u8],
+    carrying: TokenSet,
+    marks: &[u32],
+    links: &[u32],
+    area: &mut [u32],
+    address: usize,
+    wait: usize,
+) -> usize
+    requires { ⌜ BodyFits (now row) (now fields) (now inherited) (now synthesized) (carrying .0) (now marks) (now links) (now area) address wait ⌝ }
+    ensures { λ r. ⌜ ((x : BodyFits (now (row .entry)) (now (fields .entry)) (now (inherited .entry)) (now (synthesized .entry)) (carrying .0) (now (marks .entry)) (now (links .entry)) (now (area .entry)) address wait) → BodyWrote x (now (area .exit)) r) ⌝ }
+{
+    let levels = find_levels(row, inherited, synthesized, carrying, area, wait);
+    let size = value::byte_at(row, 1) as usize;
+    let tests = number_at(marks, 1);
+    let entry = address + size;
+    let last = number_at(marks, 33);
+    let first = program_blocks::write_items(
+        fields,
+        links,
+        false,
+        tests,
+        last,
+        0,
+        &levels,
+        area,
+        entry,
+    );
+    let end = write_symbols(
+        row,
+        fields,
+        inherited,
+        synthesized,
+        marks,
+        links,
+        &levels,
+        area,
+        first,
+        address,
+    );
+    write_end(
+        row,
+        fields,
+        inherited,
+        synthesized,
+        marks,
+        links,
+        &levels,
+        area,
+        end,
+    )
+}

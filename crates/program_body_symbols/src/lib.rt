@@ -1,0 +1,122 @@
+// The instructions of a production's symbols.
+ghost use Prim.Native.Nat.{_+_, _≤_, _<_};
+ghost use mathlib.Core.Path.{_≡_};
+ghost use lib.ListN.{length};
+ghost use Rattle.program_block_words.specs.Patch.{Wrote};
+ghost use Rattle.program_body_words.specs.SchemeWords.{addWords, addSize};
+ghost use Rattle.program_body_words.specs.Given.{headOf, SymbolFits, SymbolWrote, SymbolsFit, SymbolsWrote};
+use program_body_counts::count_at;
+use program_body_counts::number_at;
+
+const READ: u32 = operations::READ as u32;
+
+const PREDICT: u32 = operations::PREDICT as u32;
+
+// The expect of a symbol, by its byte.
+fn head_of(symbol: u32) -> u32
+    requires { ⌜ symbol < 256 ⌝ }
+    ensures { λ r. ⌜ r ≡ headOf symbol ⌝ }
+{
+    if symbol < 128 {
+        return READ + 8 * symbol;
+    }
+    PREDICT + 8 * (symbol - 128)
+}
+
+fn write_add(n: u32, area: &mut [u32], address: usize) -> usize
+    requires { ⌜ (n < 512) × (address + addSize n ≤ length (now area)) ⌝ }
+    ensures { λ r. ⌜ Wrote (now (area .entry)) (now (area .exit)) address r (addWords n) ⌝ }
+{
+    if n == 0 {
+        return address;
+    }
+    area[address] = 8 * n;
+    address + 1
+}
+
+// The instructions of the symbol at position k + 1; the address of its expect is noted among those of the production's expects, which
+// stand from another address on.
+fn write_symbol(
+    row: &[u8],
+    fields: &[u8],
+    inherited: &[u8],
+    synthesized: &[u8],
+    marks: &[u32],
+    links: &[u32],
+    levels: &[u32],
+    k: usize,
+    area: &mut [u32],
+    address: usize,
+    expects: usize,
+) -> usize
+    requires { ⌜ SymbolFits (now row) (now fields) (now inherited) (now synthesized) (now marks) (now links) (now levels) k (now area) address expects ⌝ }
+    ensures { λ r. ⌜ ((x : SymbolFits (now (row .entry)) (now (fields .entry)) (now (inherited .entry)) (now (synthesized .entry)) (now (marks .entry)) (now (links .entry)) (now (levels .entry)) k (now (area .entry)) address expects) → SymbolWrote x (now (area .exit)) r) ⌝ }
+{
+    let symbol = value::byte_at(row, k + 2);
+    let own = count_at(inherited, symbol);
+    let all = own + count_at(synthesized, symbol);
+    let top = number_at(levels, k + 1);
+    let evaluate = write_add(all, area, address);
+    let expect = program_blocks::write_block(
+        fields,
+        marks,
+        links,
+        true,
+        k + 1,
+        top,
+        levels,
+        area,
+        evaluate,
+    );
+    area[expects + k] = expect as u32;
+    area[expect] = head_of(symbol);
+    program_blocks::write_block(
+        fields,
+        marks,
+        links,
+        false,
+        k + 1,
+        top - own,
+        levels,
+        area,
+        expect + 1,
+    )
+}
+
+// The instructions of all symbols, and the addresses of their expects.
+pub fn write_symbols(
+    row: &[u8],
+    fields: &[u8],
+    inherited: &[u8],
+    synthesized: &[u8],
+    marks: &[u32],
+    links: &[u32],
+    levels: &[u32],
+    area: &mut [u32],
+    address: usize,
+    expects: usize,
+) -> usize
+    requires { ⌜ SymbolsFit (now row) (now fields) (now inherited) (now synthesized) (now marks) (now links) (now levels) (now area) address expects ⌝ }
+    ensures { λ r. ⌜ ((x : SymbolsFit (now (row .entry)) (now (fields .entry)) (now (inherited .entry)) (now (synthesized .entry)) (now (marks .entry)) (now (links .entry)) (now (levels .entry)) (now (area .entry)) address expects) → SymbolsWrote x (now (area .exit)) r) ⌝ }
+{
+    let size = value::byte_at(row, 1) as usize;
+    let mut k: usize = 0;
+    let mut to = address;
+    while k < size {
+        to = write_symbol(
+            row,
+            fields,
+            inherited,
+            synthesized,
+            marks,
+            links,
+            levels,
+            k,
+            area,
+            to,
+            expects,
+        );
+        k += 1;
+    }
+    to
+}

@@ -1,0 +1,69 @@
+-- The definitions of specs/ by the tests that the code makes.
+use Prim.Native.Nat.{ℕ, _+_, _-_, _*_, _≤_, _<_}
+use native.Mathlib.Omega.{arith}
+use mathlib.Core.Path.{_≡_, sym, ap, _∙_}
+use mathlib.Core.Bool.{Bool}
+use mathlib.Core.List.{List, [], _∷_}
+use lib.ListN.{length, set, getD, List·getD-eq-default}
+use borrow.Author.Tests.{lt-ltb, le-ltb, eq-eqb, ne-eqb}
+use Rattle.meaning.specs.Grammar.{attributeIf}
+use Rattle.meaning.specs.Sets.{has}
+use Rattle.meaning.specs.Table.{byte}
+use Rattle.token_set.specs.SetBits.{setOf}
+use Rattle.program_block_words.specs.Items.{itemSize}
+use Rattle.program_block_words.specs.Patch.{patch, Wrote, wrote-none, wrote-one, patch-swap}
+use Rattle.program_body_words.specs.SchemeWords.{addWords, addSize, blockSize}
+use Rattle.program_body_words.specs.Given.{countAt, synthesizedAt, headOf}
+
+pub past-end : (l : List ℕ) (i : ℕ) → length l ≤ i → 0 ≡ getD l i 0
+past-end l i h = sym (List·getD-eq-default l 0 {n = i} h)
+
+pub count-terminal : (counts : List ℕ) (b : ℕ) → b < 128 → 0 ≡ countAt counts b
+unfolding countAt
+count-terminal counts b l = rw (lt-ltb b 128 l)
+
+pub count-nonterminal : (counts : List ℕ) (b r : ℕ) → 128 ≤ b → r ≡ byte counts (b - 128) → r ≡ countAt counts b
+unfolding countAt
+count-nonterminal counts b r l e = rw (le-ltb b 128 l) e
+
+pub synthesized-nonterminal : (carrying : ℕ) (counts : List ℕ) (b r : ℕ) → 128 ≤ b → r ≡ countAt counts b → r ≡ synthesizedAt carrying counts b
+unfolding countAt synthesizedAt
+synthesized-nonterminal carrying counts b r l e = rw (le-ltb b 128 l) (rw (le-ltb b 128 l) at e)
+
+pub synthesized-terminal : (carrying : ℕ) (counts : List ℕ) (b : ℕ) {c d : Bool} → b < 128 → c ≡ has (setOf carrying) b → c ≡ d → attributeIf d ≡ synthesizedAt carrying counts b
+unfolding synthesizedAt
+synthesized-terminal carrying counts b l e q = rw (lt-ltb b 128 l) (ap attributeIf (sym q ∙ e))
+
+pub head-terminal : (b : ℕ) → b < 128 → 2 + 8 * b ≡ headOf b
+unfolding headOf
+head-terminal b l = rw (lt-ltb b 128 l)
+
+pub head-nonterminal : (b : ℕ) → 128 ≤ b → 3 + 8 * (b - 128) ≡ headOf b
+unfolding headOf
+head-nonterminal b l = rw (le-ltb b 128 l)
+
+pub add-some : (n : ℕ) → (n ≡ 0 → ⊥) → 1 ≡ addSize n
+unfolding addSize
+add-some n e = rw (ne-eqb n 0 e)
+
+pub add-not-written : (area : List ℕ) (a n : ℕ) → n ≡ 0 → Wrote area area a a (addWords n)
+unfolding addWords
+add-not-written area a n e = rw (eq-eqb n 0 e) (wrote-none area a)
+
+pub add-written : (area : List ℕ) (a n : ℕ) → (n ≡ 0 → ⊥) → Wrote area (set area a (8 * n)) a (a + 1) (addWords n)
+unfolding addWords
+add-written area a n e = rw (ne-eqb n 0 e) (wrote-one area a (8 * n))
+
+pub size-some : (rules : Bool) (n : ℕ) → (n ≡ 0 → ⊥) → 1 + itemSize rules * n ≡ blockSize rules n
+unfolding blockSize
+size-some rules n e = rw (ne-eqb n 0 e)
+
+-- ---- words that stand before those written
+
+module _ {old new : List ℕ} {a next : ℕ} {ws : List ℕ} where
+  pub patch-beside : (i : ℕ) (vs : List ℕ) → i + length vs ≤ a → Wrote old new a next ws → Wrote (patch old i vs) (patch new i vs) a next ws
+  patch-beside i vs l w = record { memory = ap (λ m. patch m i vs) (w .memory) ∙ sym (patch-swap old i vs a ws l); address = w .address }
+
+  pub set-beside : (i v : ℕ) → i < a → Wrote old new a next ws → Wrote (set old i v) (set new i v) a next ws
+  unfolding patch
+  set-beside i v l w = patch-beside i (v ∷ []) (omega arith) w

@@ -1,0 +1,2 @@
+-- Candidates that are evaluated, and those that are left
+pub mod Each

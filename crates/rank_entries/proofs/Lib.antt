@@ -1,0 +1,2 @@
+-- Small numbers as signed words
+pub mod SmallNumbers

@@ -1,0 +1,2 @@
+-- Entries in the list
+pub mod Entries

@@ -1,3 +1,0 @@
-pub mod Accepted
-pub mod Held
-pub mod Walking

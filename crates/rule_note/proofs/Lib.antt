@@ -1,4 +1,0 @@
-pub mod Bits
-pub mod Noting
-pub mod Complete
-pub mod Gaps

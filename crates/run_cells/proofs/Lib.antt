@@ -1,0 +1,2 @@
+-- Cells that are cleared one after the other
+pub mod Clearing

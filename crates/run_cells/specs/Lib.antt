@@ -1,0 +1,2 @@
+-- What is made on the lent cells, with the cells past them as they were
+pub mod Cutting

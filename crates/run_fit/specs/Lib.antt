@@ -1,0 +1,8 @@
+-- 34's test from the bottom up: the places and the registers as they lie in memory
+pub mod Upward
+-- What the program says of a grammar's places: one word a place, and the start symbol's registers
+pub mod HasProgram
+-- 34 looks at the lent cells alone
+pub mod Cut
+-- Rows: 01's grammar of words and tags, stopped after word open
+pub mod Examples

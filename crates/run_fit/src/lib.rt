@@ -1,0 +1,177 @@
+// 34: whether the stacks fit, in any record and any lent cells. Registers are taken from the bottom up, as the places tell them.
+ghost use Prim.Native.Nat.{_+_, _-_, _/_, _%_, _≤_};
+ghost use mathlib.Core.Path.{_≡_};
+ghost use mathlib.Core.Bool.{_&&_};
+ghost use mathlib.Core.List.{_++_};
+ghost use lib.ListN.{length, drop, replicate};
+ghost use lib.Dec.{eqb};
+ghost use Rattle.meaning.specs.Grammar.{Grammar, nonterminal};
+ghost use Rattle.meaning.specs.Calls.{stacksFit};
+ghost use Rattle.run_fit_past.specs.Passing.{fitsFrom};
+ghost use Rattle.run_fit.specs.Upward.{placesAbove, cellsAbove, standsFit};
+ghost use Rattle.run_fit.specs.HasProgram.{HasProgram, Readable, RowsAt, waitAt};
+ghost use Rattle.meaning.specs.PublicCalls.{stacksOf};
+ghost use Rattle.run_fit.specs.Cut.{numbers};
+use limits::LEFT;
+use limits::MOVES_LIMIT;
+use limits::SEGMENT;
+use limits::TOKENS_LIMIT;
+
+// More than any place.
+const NO_PLACE: usize = 4294967296;
+
+// ---- what the program says of a place
+
+// The rows of words that say what places wait at, one for each production, and where they begin.
+struct Rows {
+    count: usize,
+    begin: usize,
+}
+
+fn read_rows(program: &[u32]) -> Rows
+    requires { ⌜ Readable (now program) ⌝ }
+    ensures { λ r. ⌜ RowsAt (now (program .entry)) (r .count) (r .begin) ⌝ }
+{
+    let count = run_moves::word_at(program, 6);
+    let begin = run_moves::word_at(program, 2) + 8 * count;
+    Rows { count, begin }
+}
+
+// The word that says what a place waits at; 0 where it has no production, or no symbol left.
+fn wait_word(program: &[u32], rows: Rows, place: usize) -> usize
+    requires { ⌜ Readable (now program) × RowsAt (now program) (rows .count) (rows .begin) ⌝ }
+    ensures { λ r. ⌜ r ≡ waitAt (now (program .entry)) place ⌝ }
+{
+    let production = place / 256;
+    if rows.count <= production {
+        return 0;
+    }
+    let passed = place % 256;
+    if 12 <= passed {
+        return 0;
+    }
+    run_moves::word_at(program, rows.begin + 12 * production + passed)
+}
+
+// Whether the left side of a place with word `next` is the symbol that one with word `word` waits at. 0, the word of a place that does not wait, waits at no nonterminal.
+fn stands_on(next: usize, word: usize) -> bool
+    ensures { λ r. ⌜ r ≡ eqb (128 + next % 64) (word / 2097152 % 256) ⌝ }
+{
+    128 + next % 64 == word / 2097152 % 256
+}
+
+// ---- places
+
+// Where the places that are this one end, from `from` on.
+fn alike(places: &[u32], from: usize, place: usize) -> usize
+    ensures { λ r. ⌜ (from ≤ r) × (drop from (now (places .entry)) ≡ replicate (r - from) place ++ drop r (now (places .entry))) ⌝ }
+{
+    let mut i = from;
+    while i < places.len() {
+        if run_moves::word_at(places, i) != place {
+            return i;
+        }
+        i += 1;
+    }
+    i
+}
+
+// Whether the places above the bottom one stand on each other, and the registers from `at` up are theirs. The bottom place's word has the start symbol alone. Equal places, as nests and lists leave them, are looked up once and taken together.
+fn stand_above(registers: &[i64], at: usize, places: &[u32], program: &[u32]) -> bool
+    requires { ⌜ (at ≤ length (now registers) + 1) × Readable (now program) ⌝ }
+    ensures { λ r. ⌜ ((g : Grammar) → HasProgram g (now (program .entry)) → r ≡ placesAbove g (nonterminal (g .start)) (drop 1 (now (places .entry))) && fitsFrom (now (registers .entry)) at (cellsAbove g (drop 1 (now (places .entry))))) ⌝ }
+{
+    let rows = read_rows(program);
+    let mut word = (128 + run_moves::word_at(program, 0) / 8) * 2097152;
+    let mut below = NO_PLACE;
+    let mut reached = at;
+    let mut i = 1;
+    while i < places.len() {
+        let place = run_moves::word_at(places, i);
+        if place != below {
+            let next = wait_word(program, rows, place);
+            if !stands_on(next, word) {
+                return false;
+            }
+            reached = run_fit_past::past_place(registers, reached, word, next);
+            if registers.len() < reached {
+                return false;
+            }
+            word = next;
+            below = place;
+            i += 1;
+        } else {
+            if !stands_on(word, word) {
+                return false;
+            }
+            let end = alike(places, i + 1, place);
+            reached = run_fit_past::past_alike(registers, reached, word, end - i);
+            i = end;
+        }
+    }
+    if word == 0 {
+        return false;
+    }
+    run_fit_past::past(registers, reached, word / 131072 % 16, false) == registers.len()
+}
+
+// ---- the whole test
+
+// Whether the registers are those that the places tell, both without the cells above the heights.
+fn stand(registers: &[i64], places: &[u32], program: &[u32]) -> bool
+    requires { ⌜ Readable (now program) ⌝ }
+    ensures { λ r. ⌜ ((g : Grammar) → HasProgram g (now (program .entry)) → r ≡ standsFit g (now (places .entry)) (now (registers .entry))) ⌝ }
+{
+    if places.len() == 0 {
+        return false;
+    }
+    let bottom = places[0];
+    let count = run_moves::word_at(program, 4);
+    if bottom == LEFT {
+        if places.len() != 1 {
+            return false;
+        }
+        return run_fit_past::past(registers, 0, count, false) == registers.len();
+    }
+    if bottom != SEGMENT {
+        return false;
+    }
+    let at = run_fit_past::past(registers, 0, count, true);
+    stand_above(registers, at, places, program)
+}
+
+// 34: whether the lent cells that count fit a record's numbers.
+pub fn fits(
+    registers: &[i64],
+    places: &[u32],
+    tokens: u64,
+    moves: u64,
+    register_height: u64,
+    place_height: u64,
+    program: &[u32],
+) -> bool
+    requires { ⌜ (length (now registers) ≤ 4096) × (length (now places) ≤ 1024) × Readable (now program) ⌝ }
+    ensures { λ r. ⌜ ((g : Grammar) → HasProgram g (now (program .entry)) → r ≡ stacksFit g (numbers tokens moves «register_height» «place_height») (stacksOf (now (registers .entry)) (now (places .entry)))) ⌝ }
+{
+    if TOKENS_LIMIT < tokens {
+        return false;
+    }
+    if MOVES_LIMIT < moves {
+        return false;
+    }
+    let height = register_height as usize;
+    if registers.len() < height {
+        return false;
+    }
+    let top = place_height as usize;
+    if places.len() < top {
+        return false;
+    }
+    if !stand(&registers[..height], &places[..top], program) {
+        return false;
+    }
+    if !run_fit_marked::all_marked(&registers[height..]) {
+        return false;
+    }
+    run_fit_cells::all_zero(&places[top..])
+}

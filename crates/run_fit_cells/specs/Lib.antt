@@ -1,0 +1,2 @@
+-- The loops, a turn at a time
+pub mod Gathering

@@ -1,0 +1,2 @@
+-- A stretch of registers, its cells tested
+pub mod Laws

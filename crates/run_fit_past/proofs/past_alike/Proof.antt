@@ -1,0 +1,47 @@
+use Prim.Native.Nat.{_-_, _≤_}
+use native.Mathlib.Omega.{arith}
+use mathlib.Core.Path.{_≡_}
+use borrow.Author.Needs.{needs}
+use denote.Ref.{now}
+use Rattle.run_fit_past.specs.Passing.{Passes, repeated, repeated-none, repeated-more, cellsBetween}
+use Rattle.run_fit_past.proofs.past_alike.Statement.{statement}
+use Rattle.run_fit_past.proofs.past_alike.Tie as tie
+
+abbrev Inv-loop : tie.InvT-loop
+Inv-loop registers at word times valued marked reached₀ k₀ reached k = (k ≤ times) × Passes registers (repeated k (cellsBetween word word)) at reached
+
+abbrev μ-loop : tie.MeasureT-loop
+μ-loop registers at word times valued marked reached₀ k₀ reached k = times - k
+
+add-valued : tie.Need-add-valued Inv-loop μ-loop
+add-valued c = search needs
+
+loop-holds : tie.Need-loop-holds Inv-loop μ-loop
+loop-holds c =
+    let a = c .args in
+    (omega arith, repeated-none (now (a .registers)) (cellsBetween (a .word) (a .word)) (a .at) (c .pre))
+
+past-both-requires : tie.Need-past-both-requires Inv-loop μ-loop
+past-both-requires c κs = (c .before .loop .inv .1 .inside, omega arith, omega arith)
+
+add-k : tie.Need-add-k Inv-loop μ-loop
+add-k c = search needs
+
+loop-less : tie.Need-loop-less Inv-loop μ-loop
+loop-less c = omega arith
+
+loop-again : tie.Need-loop-again Inv-loop μ-loop
+loop-again c =
+    let l = c .before .before .loop in
+    let a = c .before .before .before .args in
+    (omega arith, repeated-more (now (a .registers)) (cellsBetween (a .word) (a .word)) (a .at) (l .k) (l .inv .1) (c .past-both .ensures))
+
+returns : tie.Need-returns Inv-loop μ-loop
+returns c =
+    let l = c .before .loop in
+    let a = c .before .before .args in
+    let e : l .k ≡ a .times = omega arith in
+    rw e at (l .inv .1)
+
+pub past-alike-spec : {M : Type 1} → statement M
+past-alike-spec = tie.close (tie.spec Inv-loop μ-loop add-valued loop-holds past-both-requires add-k loop-less loop-again returns)

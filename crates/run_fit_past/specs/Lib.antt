@@ -1,0 +1,2 @@
+-- Registers passed from the bottom up, a stretch at a time
+pub mod Passing

@@ -1,0 +1,6 @@
+-- Some configuration is held, and what the operation's number says of the move at hand
+pub mod Operations
+-- What comes next, one after the other: tokens that are fed, or the end; as a grammar sees them and as the code brings them
+pub mod Coming
+-- One turn of the loop over the moves: what is left after it, and what it answers
+pub mod Turns

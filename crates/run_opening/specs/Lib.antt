@@ -1,0 +1,2 @@
+-- What an opening leaves in the lent cells
+pub mod Opening

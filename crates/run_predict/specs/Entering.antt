@@ -1,0 +1,170 @@
+-- What a predict leaves: the place of the production found by the search is pushed, or the number refuses it.
+use Prim.Native.Nat.{ℕ, zero, suc, _+_, _-_, _*_, _/_, _%_, _≤_, _<_}
+use native.Mathlib.Omega.{arith}
+use mathlib.Core.Path.{_≡_, refl, sym, ap, ap₂, _∙_, subst}
+use mathlib.Core.Logic.{inl}
+use mathlib.Core.Bool.{Bool, true, false, cond}
+use mathlib.Core.List.{List, [], _∷_, map}
+use lib.ListN.{length, getD, set, length-map}
+use lib.Dec.{T}
+use lib.IntN.{ℤ}
+use borrow.Author.Tests.{lt-ltb, le-ltb}
+use Rattle.meaning.specs.Base.{In, keep, isEmpty, countFrom}
+use Rattle.meaning.specs.Grammar.{Grammar, nonterminal, productionAt}
+use Rattle.meaning.specs.Scheme.{expect}
+use Rattle.meaning.specs.Sets.{has, starts}
+use Rattle.meaning.specs.Machine.{Config, Lent, Coming, asLook, predict, lookNumber, moved, blocked, step, next, push, unexpected, isOf, alternatives, entered, placeOf, schemeAt, movesLimit}
+use Rattle.meaning.specs.Part.{frame, config}
+use Rattle.meaning.specs.Program.{directoryWord}
+use Rattle.theory_base.specs.Members.{T→true, in-keep, from-in}
+use Rattle.theory_answers.specs.ShapeMoves.{IsAhead, shape-move}
+use Rattle.theory_program.specs.WordsStand.{stands-within}
+use Rattle.theory_program.specs.Addresses.{record-at, directory-at, schemeAddress}
+use Rattle.theory_program.specs.Search.{firstNumber, first-none, first-some, directory-none, directory-listed, found, found-start}
+use Rattle.run_registers.specs.Stack.{stack}
+use Rattle.run_registers.specs.Laid.{laid-stack, laid-push}
+use Rattle.run_moves.specs.declared.Run.{Run}
+use Rattle.run_moves.specs.declared.Step.the-variants.{Moved, Blocked}
+use Rattle.run_moves.specs.Laid.{LaidIn, laid-size}
+use Rattle.run_moves.specs.Ahead.{Ahead, ahead-scheme, place-begins}
+use Rattle.run_moves.specs.Held.{Held, Made, Hand, hand-nonterminal, hand-proper, next-is}
+use Rattle.run_moves.specs.Passing.{lookOf, look-number}
+use Rattle.run_alternatives.specs.Predicting.{recordOf, holdsAt, holds-here, at-record, at-scheme, Leads, Led}
+
+empty-push : (g : Grammar) (lent : Lent) (c : Config) (ps : List ℕ) → isEmpty ps ≡ true → push g lent c ps ≡ blocked 22
+empty-push g lent c [] e = refl
+empty-push g lent c (p ∷ ps) e = let z : _≡_ {A = ℕ} 0 1 = cc in absurd (omega arith)
+
+module _ {g : Grammar} {ws : List ℕ} {lent : Lent} {m : List ℤ} {ps : List ℕ} {run : Run} {c : Config} (h : Held g ws lent m ps run c) (o : getD ws (run .at) 0 % 8 ≡ 3) (u : ℕ) (small : u < 64) where
+  abbrev wanted : ℕ
+  wanted = getD ws (run .at) 0 / 8
+
+  abbrev first : ℕ
+  first = getD ws (9 + 64 * wanted + u) 0
+
+  hand : Hand g ws (run .at) c (expect (nonterminal wanted))
+  hand = hand-nonterminal h o
+
+  pub directory-inside : 9 + 64 * wanted + u < length ws
+  directory-inside = omega (arith, hand-proper h hand, stands-within (record-at (h .begins) (h .wellFormed) 0 (h .wellFormed .productions .0)))
+
+  first-is : first ≡ directoryWord g wanted (lookNumber (lookOf u))
+  first-is = directory-at (h .begins) wanted u (hand-proper h hand) small ∙ ap (directoryWord g wanted) (sym (look-number u))
+
+  pub first-leads : Leads g ws (stack (run .registers) m) wanted first
+  first-leads =
+      record {
+        begins = h .begins;
+        wellFormed = h .wellFormed;
+        listed = λ q e. let k = directory-listed g (h .wellFormed) wanted (lookOf u) q (sym first-is ∙ e) in (k .0, k .1);
+        valued = rw (laid-stack (h .registers)) (λ q l e t i. hand .handled q l (ap nonterminal (sym e)) t i);
+      }
+
+  pub first-led : Led ws (stack (run .registers) m) first
+  first-led = record { grammar = g; wanted = wanted; leads = first-leads }
+
+  pub first-holds : (first ≡ 0 → ⊥) → holdsAt ws (recordOf ws first) u ≡ true
+  first-holds n = go first refl n
+    where
+      go : (p : ℕ) → first ≡ p → (p ≡ 0 → ⊥) → holdsAt ws (recordOf ws p) u ≡ true
+      go zero e z = absurd (z refl)
+      go (suc q) e z =
+          let k = directory-listed g (h .wellFormed) wanted (lookOf u) q (sym first-is ∙ e) in
+          holds-here (h .begins) (h .wellFormed) (c .registers) q (k .0) u small ∙ T→true (has (starts g (productionAt g q)) u) (subst (λ j. T (has (starts g (productionAt g q)) j)) (look-number u) (k .2))
+
+  -- what a search from there finds
+  pub found-first : (p f : ℕ) → f ≡ first → ((g : Grammar) (n : ℕ) → Leads g ws (stack (run .registers) m) n f → p ≡ found g (stack (run .registers) m) n (lookOf u) f) → p ≡ found g (stack (run .registers) m) wanted (lookOf u) first
+  found-first p f e k = k g wanted (subst (Leads g ws (stack (run .registers) m) wanted) (sym e) first-leads) ∙ ap (found g (stack (run .registers) m) wanted (lookOf u)) e
+
+  -- ---- the outcome
+
+  abbrev choice : List ℕ
+  choice = keep (entered g (c .registers)) (alternatives g wanted (lookOf u))
+
+  -- whatever comes next that token sets see as u
+  module _ (ahead : Coming) (same : asLook ahead ≡ lookOf u) where
+    predicts : run .moves < movesLimit → (b : Bool) → isEmpty (alternatives g wanted (lookOf u)) ≡ b → next g lent ahead c ≡ cond b (blocked (unexpected (lookOf u))) (push g lent c choice)
+    predicts limit b e = next-is h ahead hand limit ∙ ap (λ l. predict g lent c wanted l) same ∙ ap (λ z. cond z (blocked (unexpected (lookOf u))) (push g lent c choice)) e
+
+    pub blocked-unexpected : run .moves < movesLimit → first ≡ 0 → Made g ws lent (next g lent ahead c) m ps m ps (Blocked (unexpected (lookOf u)))
+    blocked-unexpected limit e = (predicts limit true (directory-none g (h .wellFormed) wanted (lookOf u) .0 (sym first-is ∙ e)), refl, refl)
+
+    module _ (limit : run .moves < movesLimit) (n : first ≡ 0 → ⊥) (p : ℕ) (is : p ≡ found g (stack (run .registers) m) wanted (lookOf u) first) where
+      chosen : p ≡ firstNumber choice
+      chosen = is ∙ (ap₂ (λ rs d. found g rs wanted (lookOf u) d) (laid-stack (h .registers)) first-is ∙ found-start g (h .wellFormed) (c .registers) wanted (lookOf u))
+
+      pushes : next g lent ahead c ≡ push g lent c choice
+      pushes = predicts limit false (go (isEmpty (alternatives g wanted (lookOf u))) refl)
+        where
+          go : (b : Bool) → isEmpty (alternatives g wanted (lookOf u)) ≡ b → isEmpty (alternatives g wanted (lookOf u)) ≡ false
+          go true e = absurd (n (first-is ∙ directory-none g (h .wellFormed) wanted (lookOf u) .1 e))
+          go false e = e
+
+      pub blocked-none : p ≡ 0 → Made g ws lent (next g lent ahead c) m ps m ps (Blocked 22)
+      blocked-none e = (pushes ∙ empty-push g lent c choice (first-none choice .0 (sym chosen ∙ e)), refl, refl)
+
+      -- the production entered
+      record Entered : Type 0 where
+        production : ℕ
+        number : p ≡ suc production
+        listed : production < length (g .productions)
+        pushed : next g lent ahead c ≡ push g lent c (production ∷ [])
+
+      module _ (some : p ≡ 0 → ⊥) where
+        entering : Entered
+        entering = go p refl some
+          where
+            go : (k : ℕ) → p ≡ k → (k ≡ 0 → ⊥) → Entered
+            go zero e z = absurd (z refl)
+            go (suc q) e z =
+                let f = first-some choice q .0 (sym chosen ∙ e) in
+                let i : In q choice = subst (In q) (sym (f .1)) (inl refl) in
+                let a = in-keep (isOf g wanted (lookOf u)) (countFrom 0 (length (g .productions))) q (in-keep (entered g (c .registers)) (alternatives g wanted (lookOf u)) q i .1) in
+                record { production = q; number = e; listed = omega (arith, from-in 0 (length (g .productions)) q (a .1) .1); pushed = pushes ∙ ap (push g lent c) (f .1) }
+
+        abbrev q : ℕ
+        q = entering .production
+
+        listed : q < length (g .productions)
+        listed = entering .listed
+
+        pub entering-small : p ≤ 128
+        entering-small = omega (arith, entering .number, listed, h .wellFormed .productions .1)
+
+        pub entering-inside : recordOf ws p + 8 ≤ length ws
+        entering-inside = rw (entering .number) (omega (arith, at-record (h .begins) (h .wellFormed) (c .registers) q listed, stands-within (record-at (h .begins) (h .wellFormed) q listed)))
+
+        pub blocked-full : run .places ≡ length ps → Made g ws lent (next g lent ahead c) m ps m ps (Blocked 32)
+        blocked-full e =
+            let k = h .places .height in
+            let z = length-map (c .frames) (placeOf g) in
+            let s = laid-size (h .places) in
+            (entering .pushed ∙ ap (λ b. cond b (blocked 32) (step c (frame q (schemeAt g q) ∷ c .frames) (c .registers))) (lt-ltb (lent .maxPlaces) (suc (length (c .frames))) (omega arith)), refl, refl)
+
+        pub made-predict : IsAhead g ahead → run .places < length ps → (v : ℕ) → v ≡ 256 * (p - 1)
+            → Made g ws lent (next g lent ahead c) m ps m (set ps (run .places) v) (Moved (record { tokens = run .tokens; moves = run .moves + 1; registers = run .registers; places = run .places + 1; at = getD ws (recordOf ws p + 6) 0 }))
+        made-predict ok room v isPlace =
+            let k = h .places .height in
+            let z = length-map (c .frames) (placeOf g) in
+            let s = laid-size (h .places) in
+            let mv = h .moves in
+            let ft = h .fewTokens in
+            let d : Config = config (frame q (schemeAt g q) ∷ c .frames) (c .registers) (c .tokens) (suc (c .moves)) in
+            let e : next g lent ahead c ≡ moved d = entering .pushed ∙ ap (λ b. cond b (blocked 32) (moved d)) (le-ltb (lent .maxPlaces) (suc (length (c .frames))) (omega arith)) in
+            let place : v ≡ placeOf g (frame q (schemeAt g q)) = isPlace ∙ (omega (arith, entering .number, place-begins g (h .wellFormed) q listed)) in
+            let address : schemeAddress g q ≡ getD ws (recordOf ws p + 6) 0 = sym (ap (λ j. getD ws (recordOf ws j + 6) 0) (entering .number) ∙ at-scheme (h .begins) (h .wellFormed) (c .registers) q listed) in (
+              d,
+              e,
+              record {
+                wellFormed = h .wellFormed;
+                begins = h .begins;
+                shaped = shape-move g (h .wellFormed) lent ahead ok c d (h .shaped) e;
+                registers = h .registers;
+                places = subst (λ y. LaidIn 0 (lent .maxPlaces) (set ps (run .places) v) (run .places + 1) (y ∷ map (placeOf g) (c .frames))) place (laid-push (h .places) v (omega arith));
+                ahead = subst (λ a. Ahead g ws a (frame q (schemeAt g q))) address (ahead-scheme (h .begins) (h .wellFormed) q listed);
+                tokens = h .tokens;
+                moves = omega arith;
+                fewMoves = omega arith;
+                fewTokens = omega arith;
+              },
+            )

@@ -1,0 +1,2 @@
+-- What a predict leaves: the place of the production found by the search is pushed, or the number refuses it
+pub mod Entering

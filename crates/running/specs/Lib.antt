@@ -1,2 +1,0 @@
-pub mod Starting
-pub mod Leaving

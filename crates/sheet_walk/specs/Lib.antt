@@ -1,4 +1,0 @@
-pub mod Numbers
-pub mod Leaving
-pub mod Cycle
-pub mod Walks

@@ -1,0 +1,73 @@
+-- What holds of a field without a fault.
+use Prim.Native.Nat.{ℕ, _+_, _≤_, _<_}
+use mathlib.Core.Path.{_≡_, refl}
+use mathlib.Core.Bool.{Bool, true, false, cond}
+use mathlib.Core.List.{List}
+use lib.Dec.{eqb, leb, ltb}
+use lib.ListN.{length}
+use borrow.Author.Tests.{eqb-true, leb-true, ltb-true}
+use Rattle.meaning.specs.Table.{byte}
+use Rattle.table_fields.specs.Demand.{holds, equal, atMost, below}
+use Rattle.table_fields.specs.Judge.{headerFault, countsFault, productionFault, carrierFault, symbolsKnown}
+use Rattle.table_fields.proofs.Cases.{nonzero}
+
+-- a demand with number n that is met, and the demands after it
+by-test : (b : Bool) (n r : ℕ) → cond b r n ≡ 0 → (n ≡ 0 → ⊥) → (b ≡ true) × (r ≡ 0)
+by-test true n r e h = (refl, e)
+by-test false n r e h = absurd (h e)
+
+module _ {n r : ℕ} (h : n ≡ 0 → ⊥) where
+  pub equal-fine : (a b : ℕ) → equal a b n r ≡ 0 → (a ≡ b) × (r ≡ 0)
+  unfolding equal
+  equal-fine a b e = let q = by-test (eqb a b) n r e h in (eqb-true a b (q .0), q .1)
+
+  pub atMost-fine : (a b : ℕ) → atMost a b n r ≡ 0 → (a ≤ b) × (r ≡ 0)
+  unfolding atMost
+  atMost-fine a b e = let q = by-test (leb a b) n r e h in (leb-true a b (q .0), q .1)
+
+  pub below-fine : (a b : ℕ) → below a b n r ≡ 0 → (a < b) × (r ≡ 0)
+  unfolding below
+  below-fine a b e = let q = by-test (ltb a b) n r e h in (ltb-true a b (q .0), q .1)
+
+  pub holds-fine : (b : Bool) → holds b n r ≡ 0 → (b ≡ true) × (r ≡ 0)
+  unfolding holds
+  holds-fine b e = by-test b n r e h
+
+module _ (b : List ℕ) where
+  pub header-fine : headerFault b ≡ 0 → (length b ≡ 4) × (byte b 1 ≤ 48) × (byte b 0 ≤ 63)
+  unfolding headerFault
+  header-fine e =
+      let q = equal-fine (nonzero 3) (length b) 4 e in
+      let u = atMost-fine (nonzero 3) 1 (byte b 0) (q .1) in
+      let v = atMost-fine (nonzero 3) (byte b 0) 63 (u .1) in
+      let w = atMost-fine (nonzero 3) 1 (byte b 1) (v .1) in
+      (q .0, atMost-fine (nonzero 3) (byte b 1) 48 (w .1) .0, v .0)
+
+  pub counts-fine : (n start result : ℕ) → countsFault n start result b ≡ 0 → (length b ≡ 2) × (byte b 0 + byte b 1 ≤ 8)
+  unfolding countsFault
+  counts-fine n start result e =
+      let q = equal-fine (nonzero 3) (length b) 2 e in
+      (q .0, atMost-fine (nonzero 3) (byte b 0 + byte b 1) 8 (q .1) .0)
+
+  pub carrier-fine : (terminals least : ℕ) → carrierFault terminals least b ≡ 0 → (length b ≡ 1) × (byte b 0 < terminals)
+  unfolding carrierFault
+  carrier-fine terminals least e =
+      let q = equal-fine (nonzero 3) (length b) 1 e in
+      (q .0, below-fine (nonzero 4) (byte b 0) terminals (q .1) .0)
+
+  pub record ProductionFine (terminals nonterminals p : ℕ) : Type 0 where
+    pub short : byte b 1 ≤ 12
+    pub long : length b ≡ 2 + byte b 1
+    pub few : p < 128
+    pub left : byte b 0 < nonterminals
+    pub symbols : symbolsKnown terminals nonterminals b 2 ≡ true
+
+  pub production-fine : (terminals nonterminals p : ℕ) → productionFault terminals nonterminals p b ≡ 0 → ProductionFine terminals nonterminals p
+  unfolding productionFault
+  production-fine terminals nonterminals p e =
+      let q = atMost-fine (nonzero 3) 2 (length b) e in
+      let u = atMost-fine (nonzero 3) (byte b 1) 12 (q .1) in
+      let v = equal-fine (nonzero 3) (length b) (2 + byte b 1) (u .1) in
+      let w = below-fine (nonzero 3) p 128 (v .1) in
+      let x = below-fine (nonzero 4) (byte b 0) nonterminals (w .1) in
+      record { short = u .0; long = v .0; few = w .0; left = x .0; symbols = holds-fine (nonzero 4) (symbolsKnown terminals nonterminals b 2) (x .1) .0 }

@@ -1,0 +1,78 @@
+// The fields of a table, and the faults of tag 3. The definitions of all faults of tags 1 to 3 and 6 are here.
+ghost use mathlib.Core.Path.{_≡_};
+ghost use Prim.Native.Nat.{_+_, _<_, _≤_};
+ghost use lib.ListN.{length};
+ghost use Rattle.table_fields.specs.Field.{Whole, Short};
+ghost use Rattle.table_fields.specs.Judge.{symbolsKnown, productionFault};
+
+pub fn wide(x: u8) -> usize
+    ensures { λ r. ⌜ (r ≡ x) × (r < 256) ⌝ }
+{
+    x as usize
+}
+
+// The size of the body of the field at an offset; 65,536 where the field is cut short.
+pub fn size_at(table: &[u8], at: usize) -> usize
+    requires { ⌜ at ≤ length (now table) ⌝ }
+    ensures whole { λ r. ⌜ (r < 65536 → Whole (now (table .entry)) at r) ⌝ }
+    ensures short { λ r. ⌜ (65536 ≤ r → Short (now (table .entry)) at) ⌝ }
+{
+    let left = table.len() - at;
+    if left < 3 {
+        return 65536;
+    }
+    let size = wide(table[at + 1]) * 256 + wide(table[at + 2]);
+    if left - 3 < size {
+        return 65536;
+    }
+    size
+}
+
+// Whether every symbol from the byte 2 of a production's body on is known.
+pub fn symbols_known(terminals: usize, nonterminals: usize, body: &[u8]) -> bool
+    requires { ⌜ 2 ≤ length (now body) ⌝ }
+    ensures { λ r. ⌜ r ≡ symbolsKnown terminals nonterminals (now (body .entry)) 2 ⌝ }
+{
+    let mut k: usize = 2;
+    while k < body.len() {
+        let n = wide(body[k]);
+        k += 1;
+        if n < 128 {
+            if terminals <= n {
+                return false;
+            }
+            continue;
+        }
+        if nonterminals <= n - 128 {
+            return false;
+        }
+    }
+    true
+}
+
+// The lowest number that applies to the body of a tag 3 field after p others, or 0.
+pub fn production_fault(terminals: usize, nonterminals: usize, p: usize, body: &[u8]) -> u8
+    ensures { λ r. ⌜ r ≡ productionFault terminals nonterminals p (now (body .entry)) ⌝ }
+{
+    if body.len() < 2 {
+        return 4;
+    }
+    let right = wide(body[1]);
+    if 12 < right {
+        return 4;
+    }
+    if body.len() != 2 + right {
+        return 4;
+    }
+    if 128 <= p {
+        return 4;
+    }
+    let left = wide(body[0]);
+    if nonterminals <= left {
+        return 5;
+    }
+    if !symbols_known(terminals, nonterminals, body) {
+        return 5;
+    }
+    0
+}

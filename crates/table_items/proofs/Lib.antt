@@ -1,0 +1,2 @@
+-- The rules and conditions of a production, one after the other
+pub mod Walking

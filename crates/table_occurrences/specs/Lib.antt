@@ -1,0 +1,2 @@
+-- Occurrences of attributes as bits: bit a of the word at a position stands for attribute a there
+pub mod OccurrenceBits

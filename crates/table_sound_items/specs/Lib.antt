@@ -1,0 +1,2 @@
+-- Rules and conditions that nothing is wrong with, and a walk past them
+pub mod Sound

@@ -1,3 +1,0 @@
-pub mod Written
-pub mod Decimal
-pub mod Rows

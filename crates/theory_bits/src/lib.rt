@@ -1,0 +1,1 @@
+// Bits of a number, proved; no code.
