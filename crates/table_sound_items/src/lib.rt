@@ -1,5 +1,5 @@
 // The rules and conditions of a production that has nothing wrong with it. Most productions are such, so this is asked first; what is wrong with
-// another is told by `table_uses`, which goes on at the field where this stops; the words that are settled tell the note of the rules before it.
+// another is told by `table_items`, which goes on at the field where this stops; the words that are settled tell the note of the rules before it.
 ghost use mathlib.Core.Path.{_≡_};
 ghost use mathlib.Core.Bool.{true, false};
 ghost use Prim.Native.Nat.{_+_, _*_, _<_, _≤_};
