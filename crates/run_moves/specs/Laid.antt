@@ -1,4 +1,4 @@
--- A stack in cells of which all are lent: beside the laws of `registers`, what is read from the top, and a pop.
+-- A stack in cells of which all are lent: beside the laws of `run_registers`, what is read from the top, and a pop.
 use Prim.Native.Nat.{ℕ, _-_, _≤_}
 use native.Mathlib.Omega.{arith}
 use mathlib.Core.Path.{_≡_, sym, ap, _∙_}

@@ -1,4 +1,4 @@
--- A stack in cells of which all are lent: beside the laws of `registers`, what is read from the top, and a pop
+-- A stack in cells of which all are lent: beside the laws of `run_registers`, what is read from the top, and a pop
 pub mod Laid
 -- What the top frame still has ahead of it, as words from an address on
 pub mod Ahead
