@@ -39,8 +39,8 @@ RefusedSheets =
     × ((bs : TableBytes) (ks : TokenKinds) (vs : TokenValues) (bytes : SheetBytes) (a : JudgeAnswer) (n o : ℕ) → verdictOf bs ≡ rejected n o → JudgedAs bs ks vs bytes a ↔ (a ≡ turnedBack n o))
 
 -- a segment brought whole: the refusal of its opening, its feed or its finish, or what the finish answers
-abbrev pub answered : ProgramBuilder → TableBytes → Area → Stacks → TokenKinds → TokenValues → Answer
-answered program bs area m ks vs =
+abbrev pub segmentAnswer : ProgramBuilder → TableBytes → Area → Stacks → TokenKinds → TokenValues → Answer
+segmentAnswer program bs area m ks vs =
     let o = opens program bs area m in
     unlessRefused (o .answer) (unlessRefused (performs program bs area (o .state) (o .stacks) (feed ks vs) .answer) (fedAndFinished program bs area ks vs o .answer))
 
@@ -52,7 +52,7 @@ AtFault k = (20 ≤ k) × (k ≤ 24)
 abbrev pub RefusedSegments : Type 0
 RefusedSegments =
     (program : ProgramBuilder) (bs : TableBytes) (area : Area) (g : Grammar) (m : Stacks) (ks : TokenKinds) (vs : TokenValues) (bytes : SheetBytes) (k n : ℕ)
-    → Accepted bs g → areaLength ≤ length area → Lendable (feed ks vs) → length ks ≡ length vs → answered program bs area m ks vs ≡ refused k n → AtFault k → JudgedAs bs ks vs bytes (turnedBack 43 0)
+    → Accepted bs g → areaLength ≤ length area → Lendable (feed ks vs) → length ks ≡ length vs → segmentAnswer program bs area m ks vs ≡ refused k n → AtFault k → JudgedAs bs ks vs bytes (turnedBack 43 0)
 
 -- "Each sheet of (i) is accepted.": that of a tree whose walk fits what is lent, with the tree's value
 abbrev pub WrittenSheets : Type 0

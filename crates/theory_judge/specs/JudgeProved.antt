@@ -16,7 +16,7 @@ use Rattle.meaning.specs.PublicCalls.{Checked, usable, unusable, check, Call, f
 use Rattle.meaning_sheet.specs.Sheet.{sheetOf}
 use Rattle.meaning_sheet.specs.SheetCalls.{unlessRefused, stackRun}
 use Rattle.meaning_judge.specs.Judge.{Describes, JudgeAnswer, worth, turnedBack, Settles, SettlesIf, SettlesUnder, JudgedAs}
-use Rattle.meaning_judge.specs.JudgeStatements.{JudgedOnce, AcceptedSheets, RefusedSheets, answered, AtFault, RefusedSegments, WrittenSheets, SheetValue}
+use Rattle.meaning_judge.specs.JudgeStatements.{JudgedOnce, AcceptedSheets, RefusedSheets, segmentAnswer, AtFault, RefusedSegments, WrittenSheets, SheetValue}
 use Rattle.theory_base.specs.Members.{same-true, differ-false}
 use Rattle.theory_answers.specs.Called.{checks}
 use Rattle.theory_answers.specs.TurnedBack.{refuses}
@@ -95,7 +95,7 @@ refused-sheets = (
 -- ---- a segment that is refused as at fault
 
 -- under an accepted table the calls are the stack run
-pub run-answered : (program : Grammar → List ℕ) (bs area : List ℕ) (g : Grammar) (m : Stacks) (ks : List ℕ) (vs : List ℤ) → Accepted bs g → areaLength ≤ length area → answered program bs area m ks vs ≡ stackRun g m ks vs
+pub run-answered : (program : Grammar → List ℕ) (bs area : List ℕ) (g : Grammar) (m : Stacks) (ks : List ℕ) (vs : List ℤ) → Accepted bs g → areaLength ≤ length area → segmentAnswer program bs area m ks vs ≡ stackRun g m ks vs
 run-answered program bs area g m ks vs acc l =
     let o = openOf g m in
     let f = feedOf g (o .state) (o .stacks) ks vs in

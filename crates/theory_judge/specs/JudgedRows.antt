@@ -18,7 +18,7 @@ use Rattle.theory_sets.specs.Accepted.{verdict→accepted}
 use Rattle.theory_complete.specs.CompleteUnique.{only}
 use Rattle.meaning_sheet.specs.SheetCalls.{stacksFor, stackRun}
 use Rattle.meaning_judge.specs.Judge.{Describes, worth, turnedBack, JudgedAs}
-use Rattle.meaning_judge.specs.JudgeStatements.{answered}
+use Rattle.meaning_judge.specs.JudgeStatements.{segmentAnswer}
 use Rattle.meaning_judge.specs.JudgeRows.{oneWord, oneTree, oneSheet, one-tree, described, trailing, other-value, other-before}
 use Rattle.theory_judge.specs.JudgeProved.{accepted-sheets, refused-sheets, run-answered, refused-segments}
 
@@ -65,7 +65,7 @@ module _ (program : Grammar → List ℕ) (area : List ℕ) (l : areaLength ≤ 
   abbrev unopened : List ℕ
   unopened = 0 ∷ 2 ∷ []
 
-  refused-21 : answered program bytes area (stacksFor 8 5) unopened (replicate 2 (pos 0)) ≡ Calls.refused 21 1
+  refused-21 : segmentAnswer program bytes area (stacksFor 8 5) unopened (replicate 2 (pos 0)) ≡ Calls.refused 21 1
   refused-21 = let run : stackRun words (stacksFor 8 5) unopened (replicate 2 (pos 0)) ≡ Calls.refused 21 1 = refl in run-answered program bytes area words (stacksFor 8 5) unopened (replicate 2 (pos 0)) words-table l ∙ run
 
   all-43-for-21 : (bs : List ℕ) → JudgedAs bytes unopened (replicate 2 (pos 0)) bs (turnedBack 43 0)
@@ -75,15 +75,15 @@ module _ (program : Grammar → List ℕ) (area : List ℕ) (l : areaLength ≤ 
   abbrev tooDeep : List ℕ
   tooDeep = replicate 4 1
 
-  refused-22 : answered program bytes area (stacksFor 12 6) tooDeep (replicate 4 (pos 0)) ≡ Calls.refused 22 3
+  refused-22 : segmentAnswer program bytes area (stacksFor 12 6) tooDeep (replicate 4 (pos 0)) ≡ Calls.refused 22 3
   refused-22 = let run : stackRun words (stacksFor 12 6) tooDeep (replicate 4 (pos 0)) ≡ Calls.refused 22 3 = refl in run-answered program bytes area words (stacksFor 12 6) tooDeep (replicate 4 (pos 0)) words-table l ∙ run
 
   all-43-for-22 : (bs : List ℕ) → JudgedAs bytes tooDeep (replicate 4 (pos 0)) bs (turnedBack 43 0)
   all-43-for-22 bs = refused-segments program bytes area words (stacksFor 12 6) tooDeep (replicate 4 (pos 0)) bs 22 3 words-table l tt refl refused-22 (lit< tt, lit< tt)
 
   -- one word on too few registers, or too few places: 31 and 32 do not tell that it has no tree, and its sheet is accepted
-  refused-31 : (answered program bytes area (stacksFor 2 6) (0 ∷ []) (pos 5 ∷ []) ≡ Calls.refused 31 0) × JudgedAs bytes (0 ∷ []) (pos 5 ∷ []) oneSheet (worth (pos 1))
+  refused-31 : (segmentAnswer program bytes area (stacksFor 2 6) (0 ∷ []) (pos 5 ∷ []) ≡ Calls.refused 31 0) × JudgedAs bytes (0 ∷ []) (pos 5 ∷ []) oneSheet (worth (pos 1))
   refused-31 = let run : stackRun words (stacksFor 2 6) (0 ∷ []) (pos 5 ∷ []) ≡ Calls.refused 31 0 = refl in (run-answered program bytes area words (stacksFor 2 6) (0 ∷ []) (pos 5 ∷ []) words-table l ∙ run, accepted)
 
-  refused-32 : (answered program bytes area (stacksFor 8 2) (0 ∷ []) (pos 5 ∷ []) ≡ Calls.refused 32 0) × JudgedAs bytes (0 ∷ []) (pos 5 ∷ []) oneSheet (worth (pos 1))
+  refused-32 : (segmentAnswer program bytes area (stacksFor 8 2) (0 ∷ []) (pos 5 ∷ []) ≡ Calls.refused 32 0) × JudgedAs bytes (0 ∷ []) (pos 5 ∷ []) oneSheet (worth (pos 1))
   refused-32 = let run : stackRun words (stacksFor 8 2) (0 ∷ []) (pos 5 ∷ []) ≡ Calls.refused 32 0 = refl in (run-answered program bytes area words (stacksFor 8 2) (0 ∷ []) (pos 5 ∷ []) words-table l ∙ run, accepted)
