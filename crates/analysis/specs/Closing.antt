@@ -13,7 +13,7 @@ use Rattle.meaning.specs.Base.{all, any}
 use Rattle.meaning.specs.Grammar.{Symbol, terminal, nonterminal}
 use Rattle.meaning.specs.Sets.{singleton, endNumber}
 use Rattle.meaning.specs.Table.{symbolOf}
-use Rattle.theory_base.specs.Members.{and, both, or-cases, or-left, or-right}
+use Rattle.theory_base.specs.Members.{T→true, and, both, or-cases, or-left, or-right}
 use Rattle.theory_sets.specs.Tests.{all-map}
 use Rattle.theory_sets.specs.TokenSets.{single-has, single-only}
 use Rattle.token_set.specs.SetBits.{setOf, set-end}
@@ -50,20 +50,33 @@ pub record Knows (b : Bool) (see known : ℕ → Bool) : Type 0 where
   pub into : Inside see known
   pub outof : (m : ℕ) → m < 48 → T (known m) → T (see m)
 
-pub knows-none : (s : ℕ) → Narrow s → Knows false (members s) (members s)
-knows-none s w = record { tokens = λ t. absurd t; allowed = λ t. w .low endNumber t; into = λ n t. t; outof = λ m l t. t }
+-- a set with no bit but that of the tokens, and whether it has it
+abbrev pub tokensIn : ℕ → Bool
+tokensIn w = members w endNumber
 
-pub knows-tokens : (s : ℕ) → Knows true (members s) (members (bitOr s (2 ^ 63)))
-knows-tokens s =
+pub record Free (w : ℕ) : Type 0 where
+  pub only : (n : ℕ) → T (members w n) → n ≡ endNumber
+
+pub free-none : Free 0
+free-none = record { only = λ n t. absurd (rw (none-in n) at t) }
+
+pub free-tokens : Free (2 ^ 63)
+free-tokens = record { only = λ n t. single-only endNumber n (rw set-end at t) }
+
+pub tokens-none : tokensIn 0 ≡ false
+tokens-none = none-in endNumber
+
+pub tokens-in : tokensIn (2 ^ 63) ≡ true
+tokens-in = T→true _ (rw set-end (single-has endNumber (lit< tt)))
+
+pub knows : (s w : ℕ) → Narrow s → Free w → Knows (tokensIn w) (members s) (members (bitOr s w))
+knows s w low free =
     record {
-      tokens = λ _. rw (or-is s (2 ^ 63) endNumber) (or-right (members s endNumber) (members (2 ^ 63) endNumber) (rw set-end (single-has endNumber (lit< tt))));
-      allowed = λ _. tt;
-      into = λ n t. rw (or-is s (2 ^ 63) n) (or-left (members s n) (members (2 ^ 63) n) t);
-      outof = λ m l t. ⊎-elim (λ h. h) (other m l) (or-cases (members s m) (members (2 ^ 63) m) (rw (or-is s (2 ^ 63) m) at t));
+      tokens = λ t. rw (or-is s w endNumber) (or-right (members s endNumber) (members w endNumber) t);
+      allowed = λ t. ⊎-elim (λ h. absurd (low .low endNumber h)) (λ h. h) (or-cases (members s endNumber) (members w endNumber) (rw (or-is s w endNumber) at t));
+      into = λ n t. rw (or-is s w n) (or-left (members s n) (members w n) t);
+      outof = λ m l t. ⊎-elim (λ h. h) (λ h. absurd (let e = free .only m h in omega arith)) (or-cases (members s m) (members w m) (rw (or-is s w m) at t));
     }
-  where
-    other : (m : ℕ) → m < 48 → T (members (2 ^ 63) m) → T (members s m)
-    other m l h = let e : m ≡ 63 = single-only endNumber m (rw set-end at h) in absurd (omega arith)
 
 -- all symbols of a string are in where its bits are
 module _ {b : Bool} {see known : ℕ → Bool} (k : Knows b see known) where

@@ -74,7 +74,10 @@ judge-is s =
     go (firstWhere (isUseless (grammarOf s)) (countFrom 0 (nonterminalCount (grammarOf s)))) (firstWhere (isLeftRecursive (grammarOf s)) (countFrom 0 (nonterminalCount (grammarOf s))))
     (firstWhere (clashes (grammarOf s)) (countFrom 0 (length (grammarOf s .productions))))
   where
-    go : (a b c : Option ℕ) → _≡_ {A = Verdict} (elim a [ some n ↦ rejected 11 (countsOffset s n) | none ↦ elim b [ some n ↦ rejected 12 (countsOffset s n) | none ↦ elim c [ some p ↦ rejected 13 (entryOffset s p) | none ↦ accepted ] ] ]) (verdictFrom s (otherwise (orElse a useless (orElse b recursive fine)) (orElse c clashing fine)))
+    go :
+        (a b c : Option ℕ)
+        → _≡_ {A = Verdict} (elim a [ some n ↦ rejected 11 (countsOffset s n) | none ↦ elim b [ some n ↦ rejected 12 (countsOffset s n) | none ↦ elim c [ some p ↦ rejected 13 (entryOffset s p) | none ↦ accepted ] ] ])
+        (verdictFrom s (otherwise (orElse a useless (orElse b recursive fine)) (orElse c clashing fine)))
     go (some n) b c = refl
     go none (some n) c = refl
     go none none (some p) = refl

@@ -17,7 +17,7 @@ use Rattle.meaning.specs.Table.{symbolOf}
 use Rattle.token_set.specs.SetBits.{setOf, set-end}
 use Rattle.theory_base.specs.Members.{both}
 use Rattle.theory_sets.specs.TokenSets.{or-false, single-has, single-only}
-use Rattle.outline.specs.Rows.{Image, leftAt, sizeAt, byteAt, rightAt, right-cons, right-back, right-end, symbol-terminal, symbol-nonterminal}
+use Rattle.outline.specs.Rows.{Image, leftAt, sizeAt, byteAt, rightAt, right-back, right-end, symbol-terminal, symbol-nonterminal}
 use Rattle.analysis.specs.Views.{members, sees, Inside, fit, turn, opens, Below}
 use Rattle.analysis.specs.Growth.{or-is, none-in}
 use Rattle.analysis.specs.Tables.{Added, Short, zeros-none}
@@ -142,11 +142,13 @@ module _ (gone : ℕ → Bool) (first : List ℕ) (s rest u : ℕ) where
   turn-stop h c = sym (at (nonterminal (s - 128)) (symbol-nonterminal s h) ∙ ap (λ (y : Bool). sees first u (s - 128) || (y && members rest u)) c ∙ or-false (sees first u (s - 128)))
 
 -- ---- tails
--- behind place r of production k and behind all later ones everything derives nothing, behind no earlier one
-pub record Tail (gone : ℕ → Bool) (rows : List ℕ) (k r : ℕ) : Type 0 where
-  pub upto : r ≤ sizeAt rows k
-  pub inner : (j : ℕ) → r ≤ j → T (all (fit false gone) (drop (j + 1) (rightAt rows k)))
-  pub outer : (j n : ℕ) (rest : List Symbol) → j < r → drop j (rightAt rows k) ≡ nonterminal n ∷ rest → T (all (fit false gone) rest) → ⊥
+-- from place i of production p on: a nonterminal behind which all derives nothing has an edge to the left side
+pub record EdgeFrom (gone : ℕ → Bool) (rows : List ℕ) (p i b : ℕ) (see : ℕ → Bool) : Type 0 where
+  pub at : (j n : ℕ) (rest : List Symbol) → i ≤ j → drop j (rightAt rows p) ≡ nonterminal n ∷ rest → T (all (fit false gone) rest) → leftAt rows p ≡ b → T (see n)
+
+-- the productions before k
+pub record EdgesTo (gone : ℕ → Bool) (rows : List ℕ) (k b : ℕ) (see : ℕ → Bool) : Type 0 where
+  pub edge : (p : ℕ) → p < k → EdgeFrom gone rows p 0 b see
 
 all-drop : (f : Symbol → Bool) (m : ℕ) (xs : List Symbol) → T (all f xs) → T (all f (drop m xs))
 all-drop f zero xs t = t
@@ -166,61 +168,67 @@ module _ (gone : ℕ → Bool) {rows : List ℕ} {count : ℕ} (image : Image ro
   pub tail-start : T (all (fit false gone) (drop (sizeAt rows k) (rightAt rows k)))
   tail-start = rw (right-end image k lt (sizeAt rows k) (omega arith)) tt
 
-  module _ (i : ℕ) (more : 0 < i) (upto : i ≤ sizeAt rows k) (t : T (all (fit false gone) (drop i (rightAt rows k)))) where
-    pub tail-next : fit false gone (symbolOf (byteAt rows k (i - 1))) ≡ true → T (all (fit false gone) (drop (i - 1) (rightAt rows k)))
-    tail-next e = rw (right-back image k lt i more upto, e) t
+  pub edge-end : (b : ℕ) (see : ℕ → Bool) → EdgeFrom gone rows k (sizeAt rows k) b see
+  edge-end b see = record { at = λ j n xs l e a t. absurd (let d : [] ≡ nonterminal n ∷ xs = sym (right-end image k lt j l) ∙ e in let z : _≡_ {A = ℕ} 0 1 = cc in omega arith) }
 
-    pub tail-here : fit false gone (symbolOf (byteAt rows k (i - 1))) ≡ false → Tail gone rows k (i - 1)
-    tail-here e = record { upto = omega arith; inner = λ j l. later i (j + 1) (omega arith) t; outer = λ j n rest l q a. not-here (later (j + 1) (i - 1) (omega arith) (subst (λ (xs : List Symbol). T (all (fit false gone) xs)) (behind j n rest q) a)) }
+  -- the symbol before place i, where all from there on derives nothing
+  module _ (i : ℕ) (more : 0 < i) (upto : i ≤ sizeAt rows k) where
+    -- one that does not derive nothing: no earlier nonterminal has an edge
+    pub edge-stop : fit false gone (symbolOf (byteAt rows k (i - 1))) ≡ false → (b : ℕ) (see : ℕ → Bool) → EdgeFrom gone rows k (i - 1) b see → EdgeFrom gone rows k 0 b see
+    edge-stop stays b see c = record { at = λ j n xs l e a t. go j n xs e a t (decLt j (i - 1)) }
       where
-        not-here : T (all (fit false gone) (drop (i - 1) (rightAt rows k))) → ⊥
-        not-here a = rw (right-back image k lt i more upto, e) at a
+        go : (j n : ℕ) (xs : List Symbol) → drop j (rightAt rows k) ≡ nonterminal n ∷ xs → T (all (fit false gone) xs) → leftAt rows k ≡ b → Dec (j < i - 1) → T (see n)
+        go j n xs e a t (no m) = c .at j n xs (omega arith) e a t
+        go j n xs e a t (yes m) =
+            let z = later (j + 1) (i - 1) (omega arith) (subst (λ (ys : List Symbol). T (all (fit false gone) ys)) (behind j n xs e) a) in
+            absurd (rw (right-back image k lt i more upto, stays) at z)
 
-  pub tail-all : (i : ℕ) → i ≡ 0 → T (all (fit false gone) (drop i (rightAt rows k))) → Tail gone rows k i
-  tail-all i z t = record { upto = omega arith; inner = λ j l. later i (j + 1) (omega arith) t; outer = λ j n rest l q a. omega arith }
+    -- a token has no edge
+    pub edge-token : byteAt rows k (i - 1) < 128 → (b : ℕ) (see : ℕ → Bool) → EdgeFrom gone rows k i b see → EdgeFrom gone rows k 0 b see
+    edge-token h b see c = edge-stop (ap (fit false gone) (symbol-terminal (byteAt rows k (i - 1)) h)) b see (record { at = λ j n xs l e a t. go j n xs l e a t (decLt j i) })
+      where
+        go : (j n : ℕ) (xs : List Symbol) → i - 1 ≤ j → drop j (rightAt rows k) ≡ nonterminal n ∷ xs → T (all (fit false gone) xs) → leftAt rows k ≡ b → Dec (j < i) → T (see n)
+        go j n xs l e a t (no m) = c .at j n xs (omega arith) e a t
+        go j n xs l e a t (yes m) =
+            let q : j ≡ i - 1 = omega arith in
+            let o : drop (i - 1) (rightAt rows k) ≡ terminal (byteAt rows k (i - 1)) ∷ drop i (rightAt rows k) = right-back image k lt i more upto ∙ ap (λ (y : Symbol). y ∷ drop i (rightAt rows k)) (symbol-terminal (byteAt rows k (i - 1)) h) in
+            let d : terminal (byteAt rows k (i - 1)) ∷ drop i (rightAt rows k) ≡ nonterminal n ∷ xs = sym o ∙ ap (λ (y : ℕ). drop y (rightAt rows k)) (sym q) ∙ e in
+            absurd (let z : _≡_ {A = ℕ} 0 1 = cc in omega arith)
 
--- from place i of production p on: a nonterminal behind which all derives nothing has an edge to the left side
-pub record EdgeFrom (gone : ℕ → Bool) (rows : List ℕ) (p i b : ℕ) (see : ℕ → Bool) : Type 0 where
-  pub at : (j n : ℕ) (rest : List Symbol) → i ≤ j → drop j (rightAt rows p) ≡ nonterminal n ∷ rest → T (all (fit false gone) rest) → leftAt rows p ≡ b → T (see n)
+    module _ (high : 128 ≤ byteAt rows k (i - 1)) where
+      abbrev here : ℕ
+      here = byteAt rows k (i - 1) - 128
 
--- the productions before k
-pub record EdgesTo (gone : ℕ → Bool) (rows : List ℕ) (k b : ℕ) (see : ℕ → Bool) : Type 0 where
-  pub edge : (p : ℕ) → p < k → EdgeFrom gone rows p 0 b see
+      is-here : drop (i - 1) (rightAt rows k) ≡ nonterminal here ∷ drop i (rightAt rows k)
+      is-here = right-back image k lt i more upto ∙ ap (λ (y : Symbol). y ∷ drop i (rightAt rows k)) (symbol-nonterminal (byteAt rows k (i - 1)) high)
 
--- places r to i - 1 of production k have got theirs
-pub record EdgeTo (rows : List ℕ) (k r i b : ℕ) (see : ℕ → Bool) : Type 0 where
-  pub at : (j n : ℕ) (rest : List Symbol) → r ≤ j → j < i → drop j (rightAt rows k) ≡ nonterminal n ∷ rest → leftAt rows k ≡ b → T (see n)
+      pub tail-next : gone here ≡ true → T (all (fit false gone) (drop i (rightAt rows k))) → T (all (fit false gone) (drop (i - 1) (rightAt rows k)))
+      tail-next e t = rw (is-here, e) t
 
-module _ (gone : ℕ → Bool) {rows : List ℕ} {count : ℕ} (image : Image rows count) (k : ℕ) (lt : k < count) (r : ℕ) (tail : Tail gone rows k r) (x : ℕ) (one : setOf x ≡ singleton (leftAt rows k)) where
-  pub edge-step : (s q : List ℕ) (i : ℕ) → r ≤ i → i < sizeAt rows k → Added s (symbolOf (byteAt rows k i)) x q → Filled (EdgesTo gone rows count) (Gets (symbolOf (byteAt rows k i)) x) s q
-  edge-step s q i l m j = filled-join s q (symbolOf (byteAt rows k i)) x j fine
-    where
-      fine : (b : ℕ) (see : ℕ → Bool) → EdgesTo gone rows count b see → T (members x b) → (n : ℕ) → symbolOf (byteAt rows k i) ≡ nonterminal n → T (see n)
-      fine b see c t n e =
-          c .edge k lt .at i n (drop (i + 1) (rightAt rows k)) zero-le (right-cons image k lt i m ∙ ap (λ (y : Symbol). y ∷ drop (i + 1) (rightAt rows k)) e) (tail .inner i l)
-          (sym (single-only (leftAt rows k) b (rw one at t)))
+      pub tail-stop : gone here ≡ false → fit false gone (symbolOf (byteAt rows k (i - 1))) ≡ false
+      tail-stop e = ap (fit false gone) (symbol-nonterminal (byteAt rows k (i - 1)) high) ∙ e
 
-  pub edge-more : (i b : ℕ) (f h : ℕ → Bool) → i < sizeAt rows k → Inside f h → EdgeTo rows k r i b f → Gets (symbolOf (byteAt rows k i)) x b h → EdgeTo rows k r (i + 1) b h
-  edge-more i b f h m sub c g = record { at = λ j n xs l v e t. go j n xs l v e t (decLt j i) }
-    where
-      own : leftAt rows k ≡ b → T (members x b)
-      own t = rw (one, ← t) (single-has (leftAt rows k) (omega (arith, image .lefts k lt)))
+      -- a nonterminal gets its edge
+      module _ (t : T (all (fit false gone) (drop i (rightAt rows k)))) (x : ℕ) (one : setOf x ≡ singleton (leftAt rows k)) where
+        pub edge-step : (s r q : List ℕ) → Filled (EdgesTo gone rows count) (EdgeFrom gone rows k i) s r → Added r (nonterminal here) x q → Filled (EdgesTo gone rows count) (EdgeFrom gone rows k (i - 1)) s q
+        edge-step s r q f j = filled-then s r q f (filled-join r q (nonterminal here) x j fine) more-of
+          where
+            fine : (b : ℕ) (see : ℕ → Bool) → EdgesTo gone rows count b see → T (members x b) → (n : ℕ) → nonterminal here ≡ nonterminal n → T (see n)
+            fine b see c h n e = c .edge k lt .at (i - 1) n (drop i (rightAt rows k)) zero-le (is-here ∙ ap (λ (y : Symbol). y ∷ drop i (rightAt rows k)) e) t (sym (single-only (leftAt rows k) b (rw one at h)))
 
-      go : (j n : ℕ) (xs : List Symbol) → r ≤ j → j < i + 1 → drop j (rightAt rows k) ≡ nonterminal n ∷ xs → leftAt rows k ≡ b → Dec (j < i) → T (h n)
-      go j n xs l v e t (yes q) = sub n (c .at j n xs l q e t)
-      go j n xs l v e t (no q) =
-          let z : j ≡ i = omega arith in
-          let d : symbolOf (byteAt rows k i) ∷ drop (i + 1) (rightAt rows k) ≡ nonterminal n ∷ xs = sym (right-cons image k lt i m) ∙ ap (λ (y : ℕ). drop y (rightAt rows k)) (sym z) ∙ e in
-          let y : symbolOf (byteAt rows k i) ≡ nonterminal n = cc in
-          g .got n y (own t)
+            own : (b : ℕ) → leftAt rows k ≡ b → T (members x b)
+            own b h = rw (one, ← h) (single-has (leftAt rows k) (omega (arith, image .lefts k lt)))
 
-  pub edge-done : (i b : ℕ) (see : ℕ → Bool) → sizeAt rows k ≤ i → EdgeTo rows k r i b see → EdgeFrom gone rows k 0 b see
-  edge-done i b see m c = record { at = λ j n xs l e a t. go j n xs e a t (decLt j r) (decLt j (sizeAt rows k)) }
-    where
-      go : (j n : ℕ) (xs : List Symbol) → drop j (rightAt rows k) ≡ nonterminal n ∷ xs → T (all (fit false gone) xs) → leftAt rows k ≡ b → Dec (j < r) → Dec (j < sizeAt rows k) → T (see n)
-      go j n xs e a t (yes q) d = absurd (tail .outer j n xs q e a)
-      go j n xs e a t (no q) (yes d) = c .at j n xs (omega arith) (omega arith) e t
-      go j n xs e a t (no q) (no d) = absurd (let f : [] ≡ nonterminal n ∷ xs = sym (right-end image k lt j (omega arith)) ∙ e in let z : _≡_ {A = ℕ} 0 1 = cc in omega arith)
+            more-of : (b : ℕ) → Inside (sees r b) (sees q b) → EdgeFrom gone rows k i b (sees r b) → Gets (nonterminal here) x b (sees q b) → EdgeFrom gone rows k (i - 1) b (sees q b)
+            more-of b sub c g = record { at = λ j n xs l e a h. go j n xs l e a h (decLt j i) }
+              where
+                go : (j n : ℕ) (xs : List Symbol) → i - 1 ≤ j → drop j (rightAt rows k) ≡ nonterminal n ∷ xs → T (all (fit false gone) xs) → leftAt rows k ≡ b → Dec (j < i) → T (sees q b n)
+                go j n xs l e a h (no m) = sub n (c .at j n xs (omega arith) e a h)
+                go j n xs l e a h (yes m) =
+                    let z : j ≡ i - 1 = omega arith in
+                    let d : nonterminal here ∷ drop i (rightAt rows k) ≡ nonterminal n ∷ xs = sym is-here ∙ ap (λ (y : ℕ). drop y (rightAt rows k)) (sym z) ∙ e in
+                    let y : nonterminal here ≡ nonterminal n = cc in
+                    g .got n y (own b h)
 
 edge-lift : {gone : ℕ → Bool} {rows : List ℕ} {p b : ℕ} (f h : ℕ → Bool) → Inside f h → EdgeFrom gone rows p 0 b f → EdgeFrom gone rows p 0 b h
 edge-lift f h sub c = record { at = λ j n xs l e a t. sub n (c .at j n xs l e a t) }

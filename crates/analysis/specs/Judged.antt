@@ -24,7 +24,9 @@ use Rattle.analysis.specs.RecursionAgreeing.{recursive-is}
 use Rattle.analysis.specs.Finding.{isUseless}
 
 module _ {rows : List ℕ} {count : ℕ} {g : Grammar} (r : Rows rows count g) where
-  pub useless-found : (x reached live n : ℕ) → setOf x ≡ singleton (g .start) → Settled (Within (ReachAt rows) 0 count) x reached → Settled (Within (ClosedAt true rows) 0 count) 0 live → Found (λ i. not (members reached i && members live i)) (nonterminalCount g) n → Found (isUseless g) (nonterminalCount g) n
+  pub useless-found :
+      (x reached live n : ℕ) → setOf x ≡ singleton (g .start) → Settled (Within (ReachAt rows) 0 count) x reached → Settled (Within (ClosedAt true rows) 0 count) 0 live
+      → Found (λ i. not (members reached i && members live i)) (nonterminalCount g) n → Found (isUseless g) (nonterminalCount g) n
   useless-found x reached live n one a b =
       found-same (λ i. not (members reached i && members live i)) (isUseless g) (nonterminalCount g) n
       (λ j l. ap₂ (λ (p q : Bool). not (p && q)) (reachable-below r x reached one a j l) (productive-marks r live b .is j))

@@ -109,7 +109,9 @@ module _ {rows : List ℕ} {count : ℕ} {g : Grammar} (r : Rows rows count g) (
     pub follow-holds : (t : List ℕ) → Followed (members null) f rows count (g .start) t → Holds t (follow g)
     follow-holds t st = record { is = λ n u. both-true (sees t u n) (has (getD (follow g) n emptySet) u) (to u n) (back u n) }
       where
-        add : (u p j n : ℕ) (rest : List Symbol) → p < count → drop j (rightAt rows p) ≡ nonterminal n ∷ rest → T (has (firstString (nullable g) (first g) rest) u) ⊎ (T (emptyString (nullable g) rest) × T (has (getD (follow g) (productionAt g p .left) emptySet) u)) → T (has (getD (follow g) n emptySet) u)
+        add :
+            (u p j n : ℕ) (rest : List Symbol) → p < count → drop j (rightAt rows p) ≡ nonterminal n ∷ rest
+            → T (has (firstString (nullable g) (first g) rest) u) ⊎ (T (emptyString (nullable g) rest) × T (has (getD (follow g) (productionAt g p .left) emptySet) u)) → T (has (getD (follow g) n emptySet) u)
         add u p j n rest l e k =
             let d : drop j (productionAt g p .right) ≡ nonterminal n ∷ rest = rw (r .right p l) at e in
             follow-closed (r .sound) u n (known-head g n j (productionAt g p .right) rest (symbols (r .sound) p (listed r p l)) d)

@@ -2,7 +2,7 @@
 use Prim.Native.Nat.{ℕ, _+_, _-_, _≤_, _<_}
 use native.Mathlib.Decide.{decLt}
 use native.Mathlib.Omega.{arith}
-use mathlib.Core.Path.{_≡_}
+use mathlib.Core.Path.{_≡_, sym, ap, _∙_}
 use mathlib.Core.Logic.{_⊎_, inl, inr}
 use mathlib.Core.Bool.{Bool, true, false, _&&_, _||_}
 use mathlib.Core.List.{List, [], _∷_}
@@ -10,9 +10,10 @@ use lib.Dec.{T, eqb}
 use lib.ListN.{getD, drop}
 use Rattle.meaning.specs.Base.{all, any}
 use Rattle.meaning.specs.Grammar.{Symbol, terminal, nonterminal}
+use Rattle.meaning.specs.Table.{symbolOf}
 use Rattle.meaning.specs.Sets.{has, singleton, endNumber}
 use Rattle.token_set.specs.SetBits.{setOf}
-use Rattle.outline.specs.Rows.{leftAt, rightAt}
+use Rattle.outline.specs.Rows.{Image, leftAt, sizeAt, byteAt, rightAt, right-cons, symbol-terminal, symbol-nonterminal}
 use Rattle.theory_base.specs.Members.{and, both, or-cases, or-left, or-right}
 
 -- the view of a word
@@ -52,6 +53,23 @@ module _ {At : ℕ → (ℕ → Bool) → Type 0} {see : ℕ → Bool} where
 -- the same for the view of each token
 abbrev pub WithinAll : (ℕ → ℕ → (ℕ → Bool) → Type 0) → ℕ → ℕ → ℕ → (ℕ → Bool) → Type 0
 WithinAll At i j u = Within (At u) i j
+
+-- production p is one of those of an image
+pub record Imaged (rows : List ℕ) (p : ℕ) : Type 0 where
+  pub count : ℕ
+  pub image : Image rows count
+  pub listed : p < count
+
+-- the symbol at place i of its right side, by the byte s that is read there
+module _ {rows : List ℕ} {p : ℕ} (row : Imaged rows p) (i s : ℕ) (h : i < sizeAt rows p) (e : s ≡ byteAt rows p i) where
+  pub next-small : s < 176
+  next-small = rw e (row .image .symbols p i (row .listed) h)
+
+  pub next-token : s < 128 → drop i (rightAt rows p) ≡ terminal s ∷ drop (i + 1) (rightAt rows p)
+  next-token l = right-cons (row .image) p (row .listed) i h ∙ ap (λ (x : Symbol). x ∷ drop (i + 1) (rightAt rows p)) (ap symbolOf (sym e) ∙ symbol-terminal s l)
+
+  pub next-nonterminal : 128 ≤ s → drop i (rightAt rows p) ≡ nonterminal (s - 128) ∷ drop (i + 1) (rightAt rows p)
+  next-nonterminal l = right-cons (row .image) p (row .listed) i h ∙ ap (λ (x : Symbol). x ∷ drop (i + 1) (rightAt rows p)) (ap symbolOf (sym e) ∙ symbol-nonterminal s l)
 
 -- ---- nonterminals whose symbols are all in: nullable, and with the tokens productive
 abbrev pub fit : Bool → (ℕ → Bool) → Symbol → Bool

@@ -1,34 +1,15 @@
 // The nonterminals with a production whose symbols are all in: those that derive nothing, or some token string.
 use nonterminal_set::NonterminalSet;
+use outline::left_of;
 ghost use mathlib.Core.Path.{_≡_};
-ghost use Prim.Native.Nat.{_<_};
-ghost use Rattle.meaning.specs.Table.{symbolOf};
+ghost use mathlib.Core.Bool.{true, false};
+ghost use Prim.Native.Nat.{ℕ, _<_};
+ghost use lib.ListN.{getD};
 ghost use Rattle.outline.specs.Rows.{Image};
-ghost use Rattle.analysis.specs.Views.{members, fit, rightBy, ClosedAt, Within};
+ghost use Rattle.analysis.specs.Views.{members, rightBy, ClosedAt, Imaged, Within};
 ghost use Rattle.analysis.specs.Growth.{Grown, Settled, SetsTo};
 ghost use Rattle.analysis.specs.Bits.{Covers};
-ghost use Rattle.analysis.specs.Closing.{Narrow, Knows};
-
-// Whether a symbol is in the set, or a token where `tokens` lets tokens stand.
-pub fn symbol_in(s: u8, set: NonterminalSet, tokens: bool) -> bool
-    ensures { λ r. ⌜ r ≡ fit tokens (members (set .0)) (symbolOf s) ⌝ }
-{
-    if s < 128 {
-        return tokens;
-    }
-    set.has(s - 128)
-}
-
-// The set, with the bit of the tokens where they may stand.
-fn known_by(set: NonterminalSet, tokens: bool) -> NonterminalSet
-    requires { ⌜ Narrow (set .0) ⌝ }
-    ensures { λ r. ⌜ Knows tokens (members (set .0)) (members (r .0)) ⌝ }
-{
-    if tokens {
-        return set.union(NonterminalSet::TOKENS);
-    }
-    set
-}
+ghost use Rattle.analysis.specs.Closing.{Narrow, Free, tokensIn};
 
 // Whether a set lies in another.
 fn lies_in(part: NonterminalSet, whole: NonterminalSet) -> bool
@@ -37,22 +18,22 @@ fn lies_in(part: NonterminalSet, whole: NonterminalSet) -> bool
     part.union(whole).same(whole)
 }
 
-// The set, with the left side of production k where all its symbols are in.
+// The set, with the left side of production k where all its symbols are in the set, or tokens that are free to stand.
 fn close_by(
     rows: &[u8; 2048],
-    count: usize,
     rights: &[u64; 128],
     k: usize,
     set: NonterminalSet,
-    tokens: bool,
+    free: NonterminalSet,
 ) -> NonterminalSet
-    requires { ⌜ Image (now rows) count × SetsTo (rightBy (now rows)) count (now rights) × (k < count) × Narrow (set .0) ⌝ }
-    ensures { λ r. ⌜ Grown (Within (ClosedAt tokens (now (rows .entry))) 0 count) (ClosedAt tokens (now (rows .entry)) k) (set .0) (r .0) ⌝ }
+    requires row { ⌜ Imaged (now rows) k × ((n : ℕ) → members (getD (now rights) k 0) n ≡ rightBy (now rows) k n) ⌝ }
+    requires sets { ⌜ Narrow (set .0) × Free (free .0) ⌝ }
+    ensures { λ r. ⌜ ((count : ℕ) → Image (now (rows .entry)) count → k < count
+        → Grown (Within (ClosedAt (tokensIn (free .0)) (now (rows .entry))) 0 count) (ClosedAt (tokensIn (free .0)) (now (rows .entry)) k) (set .0) (r .0)) ⌝ }
 {
-    let known = known_by(set, tokens);
     let right = rights[k];
-    if lies_in(NonterminalSet(right), known) {
-        return set.union(NonterminalSet::of_nonterminal(rows[k * 16]));
+    if lies_in(NonterminalSet(right), set.union(free)) {
+        return set.union(NonterminalSet::of_nonterminal(left_of(rows, k)));
     }
     set
 }
@@ -63,16 +44,16 @@ fn close_round(
     count: usize,
     rights: &[u64; 128],
     set: NonterminalSet,
-    tokens: bool,
+    free: NonterminalSet,
 ) -> NonterminalSet
-    requires { ⌜ Image (now rows) count × SetsTo (rightBy (now rows)) count (now rights) × Narrow (set .0) ⌝ }
-    ensures { λ r. ⌜ Grown (Within (ClosedAt tokens (now (rows .entry))) 0 count) (Within (ClosedAt tokens (now (rows .entry))) 0 count) (set .0) (r .0) ⌝ }
+    requires { ⌜ Image (now rows) count × SetsTo (rightBy (now rows)) count (now rights) × Narrow (set .0) × Free (free .0) ⌝ }
+    ensures { λ r. ⌜ Grown (Within (ClosedAt (tokensIn (free .0)) (now (rows .entry))) 0 count) (Within (ClosedAt (tokensIn (free .0)) (now (rows .entry))) 0 count) (set .0) (r .0) ⌝ }
 {
     let mut next = set;
     let mut k = count;
     while 0 < k {
         k -= 1;
-        next = close_by(rows, count, rights, k, next, tokens);
+        next = close_by(rows, rights, k, next, free);
     }
     next
 }
@@ -83,36 +64,57 @@ fn close_round_back(
     count: usize,
     rights: &[u64; 128],
     set: NonterminalSet,
-    tokens: bool,
+    free: NonterminalSet,
 ) -> NonterminalSet
-    requires { ⌜ Image (now rows) count × SetsTo (rightBy (now rows)) count (now rights) × Narrow (set .0) ⌝ }
-    ensures { λ r. ⌜ Grown (Within (ClosedAt tokens (now (rows .entry))) 0 count) (Within (ClosedAt tokens (now (rows .entry))) 0 count) (set .0) (r .0) ⌝ }
+    requires { ⌜ Image (now rows) count × SetsTo (rightBy (now rows)) count (now rights) × Narrow (set .0) × Free (free .0) ⌝ }
+    ensures { λ r. ⌜ Grown (Within (ClosedAt (tokensIn (free .0)) (now (rows .entry))) 0 count) (Within (ClosedAt (tokensIn (free .0)) (now (rows .entry))) 0 count) (set .0) (r .0) ⌝ }
 {
     let mut next = set;
     let mut k: usize = 0;
     while k < count {
-        next = close_by(rows, count, rights, k, next, tokens);
+        next = close_by(rows, rights, k, next, free);
         k += 1;
     }
     next
 }
 
-// The nonterminals that derive a string of tokens, or, where `tokens` is false, nothing; from the words of the right sides.
+// The least set closed under the productions, from the words of the right sides; in these the bit of the tokens is free to stand or not.
 // The rounds go both ways in turn, so that a chain is closed in three whether it is declared from its start or from its end.
-pub fn closure(rows: &[u8; 2048], count: usize, rights: &[u64; 128], tokens: bool) -> NonterminalSet
-    requires { ⌜ Image (now rows) count × SetsTo (rightBy (now rows)) count (now rights) ⌝ }
-    ensures { λ r. ⌜ Settled (Within (ClosedAt tokens (now (rows .entry))) 0 count) 0 (r .0) ⌝ }
+fn closure(
+    rows: &[u8; 2048],
+    count: usize,
+    rights: &[u64; 128],
+    free: NonterminalSet,
+) -> NonterminalSet
+    requires { ⌜ Image (now rows) count × SetsTo (rightBy (now rows)) count (now rights) × Free (free .0) ⌝ }
+    ensures { λ r. ⌜ Settled (Within (ClosedAt (tokensIn (free .0)) (now (rows .entry))) 0 count) 0 (r .0) ⌝ }
 {
     let mut set = NonterminalSet::EMPTY;
     loop {
-        let next = close_round(rows, count, rights, set, tokens);
+        let next = close_round(rows, count, rights, set, free);
         if next.same(set) {
             return set;
         }
-        let last = close_round_back(rows, count, rights, next, tokens);
+        let last = close_round_back(rows, count, rights, next, free);
         if last.same(next) {
             return next;
         }
         set = last;
     }
+}
+
+// The nonterminals that derive nothing.
+pub fn nullable(rows: &[u8; 2048], count: usize, rights: &[u64; 128]) -> NonterminalSet
+    requires { ⌜ Image (now rows) count × SetsTo (rightBy (now rows)) count (now rights) ⌝ }
+    ensures { λ r. ⌜ Settled (Within (ClosedAt false (now (rows .entry))) 0 count) 0 (r .0) ⌝ }
+{
+    closure(rows, count, rights, NonterminalSet::EMPTY)
+}
+
+// The nonterminals that derive some string of tokens.
+pub fn productive(rows: &[u8; 2048], count: usize, rights: &[u64; 128]) -> NonterminalSet
+    requires { ⌜ Image (now rows) count × SetsTo (rightBy (now rows)) count (now rights) ⌝ }
+    ensures { λ r. ⌜ Settled (Within (ClosedAt true (now (rows .entry))) 0 count) 0 (r .0) ⌝ }
+{
+    closure(rows, count, rights, NonterminalSet::TOKENS)
 }

@@ -2,34 +2,35 @@
 use analysis_spreading::add;
 use analysis_spreading::spread;
 use nonterminal_set::NonterminalSet;
+use outline::left_of;
+use outline::size_of;
+use outline::symbol_of;
 use token_set::TokenSet;
 ghost use mathlib.Core.Path.{_≡_};
 ghost use mathlib.Core.Bool.{true};
-ghost use Prim.Native.Nat.{ℕ, _<_, _≤_};
+ghost use Prim.Native.Nat.{ℕ, _≤_};
 ghost use lib.ListN.{replicate};
 ghost use Rattle.outline.specs.Rows.{Image, rightAt};
-ghost use Rattle.analysis.specs.Views.{members, sees, WithinAll, opens, FrontAt, LeadAt, Below};
+ghost use Rattle.analysis.specs.Views.{members, sees, WithinAll, opens, FrontAt, LeadAt, Below, Imaged};
 ghost use Rattle.analysis.specs.Tables.{SettledTable};
 ghost use Rattle.analysis.specs.Fronts.{FrontOf, Gathers, headsBy, leadingBy};
 
 // What the right side of production k begins with by the table, and where it derives nothing also what comes after.
 pub fn begins(
     rows: &[u8; 2048],
-    count: usize,
     k: usize,
     null: NonterminalSet,
     table: &[u64; 48],
     after: TokenSet,
 ) -> TokenSet
-    requires { ⌜ Image (now rows) count × (k < count) ⌝ }
+    requires { ⌜ Imaged (now rows) k ⌝ }
     ensures { λ r. ⌜ ((u : ℕ) → members (r .0) u ≡ opens true (members (null .0)) (sees (now (table .entry)) u) u (members (after .0) u) (rightAt (now (rows .entry)) k)) ⌝ }
 {
-    let at = k * 16;
-    let n = rows[at + 1] as usize;
+    let n = size_of(rows, k);
     let mut out = TokenSet::EMPTY;
     let mut i: usize = 0;
     while i < n {
-        let s = rows[at + 2 + i];
+        let s = symbol_of(rows, k, i);
         if s < 128 {
             return out.union(TokenSet::of_token(s));
         }
@@ -51,16 +52,15 @@ pub struct Front {
 }
 
 // That of production k.
-fn front_of(rows: &[u8; 2048], count: usize, k: usize, null: NonterminalSet) -> Front
-    requires { ⌜ Image (now rows) count × (k < count) ⌝ }
+fn front_of(rows: &[u8; 2048], k: usize, null: NonterminalSet) -> Front
+    requires { ⌜ Imaged (now rows) k ⌝ }
     ensures { λ r. ⌜ FrontOf (members (null .0)) (rightAt (now (rows .entry)) k) (r .token .0) (r .heads .0) ⌝ }
 {
-    let at = k * 16;
-    let n = rows[at + 1] as usize;
+    let n = size_of(rows, k);
     let mut heads = NonterminalSet::EMPTY;
     let mut i: usize = 0;
     while i < n {
-        let s = rows[at + 2 + i];
+        let s = symbol_of(rows, k, i);
         if s < 128 {
             return Front {
                 token: TokenSet::of_token(s),
@@ -96,8 +96,8 @@ fn edges_of(
 {
     let mut k: usize = 0;
     while k < count {
-        let left = rows[k * 16] as usize;
-        let front = front_of(rows, count, k, null);
+        let left = left_of(rows, k) as usize;
+        let front = front_of(rows, k, null);
         add(edges, left, front.heads.0);
         add(sets, left, front.token.0);
         k += 1;

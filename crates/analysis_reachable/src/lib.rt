@@ -1,30 +1,25 @@
 // 11: the nonterminals that the start symbol reaches, and the lowest that is unreachable or derives no token string.
-use analysis::closing::closure;
+use analysis::closing::productive;
 use analysis::judging::lowest_useless;
 use analysis_rights::right_sets;
 use nonterminal_set::NonterminalSet;
+use outline::left_of;
 ghost use mathlib.Core.Path.{_≡_};
-ghost use Prim.Native.Nat.{_<_, _≤_};
-ghost use lib.ListN.{length};
+ghost use Prim.Native.Nat.{ℕ, _<_, _≤_};
+ghost use lib.ListN.{length, getD};
 ghost use Rattle.meaning.specs.Grammar.{Grammar, nonterminalCount};
 ghost use Rattle.outline.specs.Rows.{Image, Rows};
-ghost use Rattle.analysis.specs.Views.{rightBy, ReachAt, Within};
+ghost use Rattle.analysis.specs.Views.{members, rightBy, ReachAt, Imaged, Within};
 ghost use Rattle.analysis.specs.Growth.{Grown, Settled, SetsTo};
 ghost use Rattle.analysis.specs.Numbers.{Found};
 ghost use Rattle.analysis.specs.Finding.{isUseless};
 
 // The set, with the symbols on the right of production k where its left side is in.
-fn reach_by(
-    rows: &[u8; 2048],
-    count: usize,
-    rights: &[u64; 128],
-    k: usize,
-    set: NonterminalSet,
-) -> NonterminalSet
-    requires { ⌜ Image (now rows) count × SetsTo (rightBy (now rows)) count (now rights) × (k < count) ⌝ }
-    ensures { λ r. ⌜ Grown (Within (ReachAt (now (rows .entry))) 0 count) (ReachAt (now (rows .entry)) k) (set .0) (r .0) ⌝ }
+fn reach_by(rows: &[u8; 2048], rights: &[u64; 128], k: usize, set: NonterminalSet) -> NonterminalSet
+    requires { ⌜ Imaged (now rows) k × ((n : ℕ) → members (getD (now rights) k 0) n ≡ rightBy (now rows) k n) ⌝ }
+    ensures { λ r. ⌜ ((count : ℕ) → k < count → Grown (Within (ReachAt (now (rows .entry))) 0 count) (ReachAt (now (rows .entry)) k) (set .0) (r .0)) ⌝ }
 {
-    if !set.has(rows[k * 16]) {
+    if !set.has(left_of(rows, k)) {
         return set;
     }
     let right = rights[k];
@@ -44,7 +39,7 @@ fn reach_round(
     let mut next = set;
     let mut k: usize = 0;
     while k < count {
-        next = reach_by(rows, count, rights, k, next);
+        next = reach_by(rows, rights, k, next);
         k += 1;
     }
     next
@@ -64,7 +59,7 @@ fn reach_round_back(
     let mut k = count;
     while 0 < k {
         k -= 1;
-        next = reach_by(rows, count, rights, k, next);
+        next = reach_by(rows, rights, k, next);
     }
     next
 }
@@ -108,8 +103,8 @@ pub fn useless(
         → Found (isUseless g) (nonterminalCount g) r) ⌝ }
 {
     right_sets(rows, count, rights);
-    let productive = closure(rows, count, rights, true);
+    let live = productive(rows, count, rights);
     let first = NonterminalSet::of_nonterminal(start);
     let reached = reach(rows, count, rights, first);
-    lowest_useless(reached, productive, nonterminals)
+    lowest_useless(reached, live, nonterminals)
 }

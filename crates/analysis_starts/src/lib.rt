@@ -1,6 +1,7 @@
 // FIRST-then-FOLLOW of each production.
 use analysis_first::begins;
 use nonterminal_set::NonterminalSet;
+use outline::left_of;
 use token_set::TokenSet;
 ghost use mathlib.Core.Path.{_≡_};
 ghost use lib.ListN.{length};
@@ -22,9 +23,9 @@ pub fn all_starts(
 {
     let mut k: usize = 0;
     while k < count {
-        let left = rows[k * 16] as usize;
+        let left = left_of(rows, k) as usize;
         let after = follow[left];
-        sets[k] = begins(rows, count, k, null, first, TokenSet(after)).0;
+        sets[k] = begins(rows, k, null, first, TokenSet(after)).0;
         k += 1;
     }
 }

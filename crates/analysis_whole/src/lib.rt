@@ -1,5 +1,5 @@
 // Refusals 11 and 12, and FIRST-then-FOLLOW of each production, on the image of a table's productions (outline `Rows`).
-use analysis::closing::closure;
+use analysis::closing::nullable;
 use analysis_first::fronts;
 use analysis_follow::starting;
 use analysis_reachable::useless;
@@ -36,7 +36,7 @@ pub fn analyse(
             index: useless_at,
         };
     }
-    let null = closure(rows, count, sets, false);
+    let null = nullable(rows, count, sets);
     let mut led = [0u64; 48];
     let mut first = [0u64; 48];
     fronts(rows, count, nonterminals, null, &mut led, &mut first);

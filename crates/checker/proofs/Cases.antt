@@ -78,7 +78,10 @@ stretch-span t p n o = go (check t)
     by s true = refl
     by s false = refl
 
-    go : (k : Checked) → stretchBy t (spanAs t p k) n o ≡ (elim k [ unusable m f ↦ record { part = []; number = m; offset = f } | usable s ↦ elim (ltb p (length (s .entries))) [ true ↦ record { part = cut t (entryOffset s p) (stretchEnd t s p); number = n; offset = o } | false ↦ record { part = []; number = 14; offset = 0 } ] ])
+    go :
+        (k : Checked)
+        → stretchBy t (spanAs t p k) n o
+        ≡ (elim k [ unusable m f ↦ record { part = []; number = m; offset = f } | usable s ↦ elim (ltb p (length (s .entries))) [ true ↦ record { part = cut t (entryOffset s p) (stretchEnd t s p); number = n; offset = o } | false ↦ record { part = []; number = 14; offset = 0 } ] ])
     go (usable s) = by s (ltb p (length (s .entries)))
     go (unusable m f) = refl
 

@@ -10,7 +10,7 @@ use lib.Dec.{T, eqb}
 use lib.ListN.{getD, length, take, drop}
 use Rattle.meaning.specs.Base.{all}
 use lib.IntN.{ℤ}
-use Rattle.meaning.specs.Grammar.{Production, Grammar, productionAt}
+use Rattle.meaning.specs.Grammar.{Production, productionAt}
 use Rattle.meaning.specs.Sets.{has, singleton}
 use Rattle.meaning.specs.Decide.{meet}
 use Rattle.meaning.specs.Differences.{constrained, matrixOf, closed, noneNegative, solvable}
@@ -38,22 +38,22 @@ stretch-slice {t} {offsets} {p} x from e = subst (λ z. Stretch z (productionAt 
 -- by intervals
 pub values-told :
     {t offsets lows highs ranks : List ℕ} {p q : ℕ} {r : Bool} → Placed t offsets p → Kept t lows highs ranks p → Placed t offsets q → Kept t lows highs ranks q
-    → (getD ranks p 0 ≡ 0 → ⊥) → (getD ranks q 0 ≡ 0 → ⊥) → getD ranks p 0 + getD ranks q 0 ≤ 2 → r ≡ leaveValues lows highs p q → r ≡ enterTogether (grammarIn t) (productionAt (grammarIn t) p) (productionAt (grammarIn t) q)
+    → (getD ranks p 0 ≡ 0 → ⊥) → (getD ranks q 0 ≡ 0 → ⊥) → getD ranks p 0 + getD ranks q 0 ≤ 2 → r ≡ leaveValues lows highs p q → r ≡ enterTogether (productionAt (grammarIn t) p) (productionAt (grammarIn t) q)
 unfolding raised lowered
 values-told {t} {p = p} {q = q} x kp y kq i j sum e =
     let a = kp .rank in
     let b = kq .rank in
-    e ∙ ranges-told (grammarIn t) (productionAt (grammarIn t) p) (productionAt (grammarIn t) q) (omega arith) (omega arith) (x .stretch .fits) (y .stretch .fits) (omega arith) (kp .low) (kq .low) (kp .high) (kq .high)
+    e ∙ ranges-told (productionAt (grammarIn t) p) (productionAt (grammarIn t) q) (omega arith) (omega arith) (x .stretch .fits) (y .stretch .fits) (omega arith) (kp .low) (kq .low) (kp .high) (kq .high)
 
 -- where none compares
 pub ranges-free :
-    (g : Grammar) (p q : Production) (first second : ℕ) → first ≡ afterAll rankBy p 0 → second ≡ afterAll rankBy q 0 → first + second ≤ 2
-    → (first ≡ 1 → second ≡ 1 → enterTogether g p q ≡ true) → true ≡ enterTogether g p q
-ranges-free g p q first second a b sum k = go (ℕ-discrete first 0) (ℕ-discrete second 0)
+    (p q : Production) (first second : ℕ) → first ≡ afterAll rankBy p 0 → second ≡ afterAll rankBy q 0 → first + second ≤ 2
+    → (first ≡ 1 → second ≡ 1 → enterTogether p q ≡ true) → true ≡ enterTogether p q
+ranges-free p q first second a b sum k = go (ℕ-discrete first 0) (ℕ-discrete second 0)
   where
-    go : Dec (first ≡ 0) → Dec (second ≡ 0) → true ≡ enterTogether g p q
-    go (yes i) d = later-free g p q (sym a ∙ i)
-    go (no i) (yes j) = earlier-free g p q (sym b ∙ j)
+    go : Dec (first ≡ 0) → Dec (second ≡ 0) → true ≡ enterTogether p q
+    go (yes i) d = later-free p q (sym a ∙ i)
+    go (no i) (yes j) = earlier-free p q (sym b ∙ j)
     go (no i) (no j) = sym (k (omega arith) (omega arith))
 
 -- a rank is at most 2
@@ -62,12 +62,12 @@ rank-small p e = omega (arith, rank-most (atEntry (p .conditions)) 0 (omega arit
 
 -- where one compares
 pub differences-told :
-    (g : Grammar) (p q : Production) {first second : ℕ} {r : Bool} → first ≡ afterAll rankBy p 0 → second ≡ afterAll rankBy q 0 → 2 < first + second
-    → r ≡ solvable 8 (atEntry (p .conditions) ++ atEntry (q .conditions)) → r ≡ enterTogether g p q
-differences-told g p q a b sum e =
+    (p q : Production) {first second : ℕ} {r : Bool} → first ≡ afterAll rankBy p 0 → second ≡ afterAll rankBy q 0 → 2 < first + second
+    → r ≡ solvable 8 (atEntry (p .conditions) ++ atEntry (q .conditions)) → r ≡ enterTogether p q
+differences-told p q a b sum e =
     let l = rank-small p a in
     let m = rank-small q b in
-    e ∙ compared-told g p q (omega arith) (omega arith) (omega arith)
+    e ∙ compared-told p q (omega arith) (omega arith) (omega arith)
 
 -- what the intervals that are kept tell of two productions
 module _

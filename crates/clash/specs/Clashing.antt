@@ -3,6 +3,7 @@ use Prim.Native.Nat.{ℕ, _+_, _≤_, _<_}
 use native.Mathlib.Decide.{ℕ-discrete}
 use native.Mathlib.Omega.{arith}
 use mathlib.Core.Path.{_≡_, refl, sym, ap, ap₂, _∙_, subst}
+use mathlib.Core.Logic.{⊎-elim}
 use mathlib.Core.Bool.{Bool, true, false, _&&_, _||_}
 use mathlib.Core.List.{List, _++_}
 use lib.Dec.{T, eqb, eqb-refl}
@@ -22,13 +23,14 @@ use Rattle.token_set.specs.SetBits.{setOf}
 use Rattle.outline.specs.Rows.{leftAt}
 use Rattle.outline.specs.Outline.{grammarIn, Starting, Productions}
 use Rattle.analysis.specs.Views.{members, sees}
-use Rattle.analysis.specs.Growth.{or-left, or-right, none-in}
+use Rattle.analysis.specs.Growth.{or-left, or-right, or-members}
+use Rattle.analysis.specs.Tables.{zeros-none}
 use Rattle.analysis.specs.Numbers.{Clear, clear-any, any-count, count-any}
 use Rattle.clash_conditions.specs.Entry.{rankBy, raiseBy, lowerBy, lowest, highest}
 use Rattle.clash_conditions.specs.Walk.{afterAll}
-use Rattle.clash_rivals.specs.Rivals.{startTogether, NextRival, start-tells}
+use Rattle.clash_rivals.specs.Rivals.{startTogether, NextRival, start-same, start-tells}
 use Rattle.clash.specs.Kept.{Own, Stored, stored-own, stored-other}
-use Rattle.clash.specs.Together.{enterTogether}
+use Rattle.clash.specs.Together.{enterTogether, later-free}
 use Rattle.clash.specs.Placing.{Placed, placed-at}
 
 -- what there are of the entry conditions of production p of a table
@@ -111,7 +113,7 @@ clashIn t p q = clash (grammarIn t) (productionAt (grammarIn t) p) (productionAt
 
 -- some values meet the entry conditions of both
 abbrev pub enterIn : List ℕ → ℕ → ℕ → Bool
-enterIn t p q = enterTogether (grammarIn t) (productionAt (grammarIn t) p) (productionAt (grammarIn t) q)
+enterIn t p q = enterTogether (productionAt (grammarIn t) p) (productionAt (grammarIn t) q)
 
 -- ---- two productions
 
@@ -139,7 +141,7 @@ module _ {t rows offsets sets : List ℕ} {count : ℕ} (x : Given t rows offset
   pub clash-apart : (r : Bool) → r ≡ startTogether rows sets p q → r ≡ false → clashIn t p q ≡ false
   clash-apart r e n = ap (λ b. b && entersWith g (pr p) (pr q)) (sym same-test ∙ (sym e ∙ n))
 
-  pub clash-met : (r : Bool) → r ≡ startTogether rows sets p q → r ≡ true → (s : Bool) → s ≡ enterTogether g (pr p) (pr q) → (c : Bool) → s ≡ c → clashIn t p q ≡ c
+  pub clash-met : (r : Bool) → r ≡ startTogether rows sets p q → r ≡ true → (s : Bool) → s ≡ enterTogether (pr p) (pr q) → (c : Bool) → s ≡ c → clashIn t p q ≡ c
   unfolding enterTogether startTogether
   clash-met r e n s h c k = ap (λ b. b && entersWith g (pr p) (pr q)) (sym same-test ∙ (sym e ∙ n)) ∙ (sym together ∙ (sym h ∙ k))
     where
@@ -149,7 +151,7 @@ module _ {t rows offsets sets : List ℕ} {count : ℕ} (x : Given t rows offset
       fits : T (all (entry (inh g (nonterminal (pr p .left)))) (entryConditions (pr p) ++ entryConditions (pr q)))
       fits = all-append (entry (inh g (nonterminal (pr p .left)))) (entryConditions (pr p)) (entryConditions (pr q)) (given-place x p l .fits) (subst (λ n. T (all (entry (inh g (nonterminal n))) (entryConditions (pr q)))) same (given-place x q m .fits))
 
-      together : enterTogether g (pr p) (pr q) ≡ entersWith g (pr p) (pr q)
+      together : enterTogether (pr p) (pr q) ≡ entersWith g (pr p) (pr q)
       together = ap (λ b. isEmpty (entryConditions (pr p)) || isEmpty (entryConditions (pr q)) || b) (satisfiable-eight (inh g (nonterminal (pr p .left))) (given-place x p l .few) (entryConditions (pr p) ++ entryConditions (pr q)) fits)
 
   -- what a clash tells of the rows and the sets
@@ -169,13 +171,19 @@ module _ (t : List ℕ) where
 pub record Seen (rows sets : List ℕ) (k : ℕ) (seen : List ℕ) : Type 0 where
   pub size : length seen ≡ 48
   pub has : (p : ℕ) → p < k → (u : ℕ) → T (members (getD sets p 0) u) → T (sees seen u (leftAt rows p))
+  pub only : (a u : ℕ) → T (sees seen u a) → (p : ℕ) × (p < k) × (leftAt rows p ≡ a) × T (members (getD sets p 0) u)
 
 module _ (rows sets : List ℕ) where
   pub seen-none : Seen rows sets 0 (replicate 48 0)
-  seen-none = record { size = refl; has = λ p l. absurd (omega arith) }
+  seen-none = record { size = refl; has = λ p l. absurd (omega arith); only = λ a u h. absurd (zeros-none 48 u a h) }
 
   pub seen-next : (k : ℕ) (seen : List ℕ) → leftAt rows k < 48 → Seen rows sets k seen → Seen rows sets (k + 1) (set seen (leftAt rows k) (bitOr (getD seen (leftAt rows k) 0) (getD sets k 0)))
-  seen-next k seen l s = record { size = length-set seen (leftAt rows k) (bitOr (getD seen (leftAt rows k) 0) (getD sets k 0)) ∙ s .size; has = λ p m u t. go p m u t (ℕ-discrete p k) (ℕ-discrete (leftAt rows p) (leftAt rows k)) }
+  seen-next k seen l s =
+      record {
+        size = length-set seen (leftAt rows k) (bitOr (getD seen (leftAt rows k) 0) (getD sets k 0)) ∙ s .size;
+        has = λ p m u t. go p m u t (ℕ-discrete p k) (ℕ-discrete (leftAt rows p) (leftAt rows k));
+        only = λ a u h. from a u h (ℕ-discrete a (leftAt rows k));
+      }
     where
       lt : leftAt rows k < length seen
       lt = rw (s .size) l
@@ -184,6 +192,15 @@ module _ (rows sets : List ℕ) where
       go p m u t (yes e) d = rw (e, getD-set-same seen (leftAt rows k) (bitOr (getD seen (leftAt rows k) 0) (getD sets k 0)) 0 lt) (or-right (getD seen (leftAt rows k) 0) (getD sets k 0) u (rw e at t))
       go p m u t (no e) (yes d) = rw (d, getD-set-same seen (leftAt rows k) (bitOr (getD seen (leftAt rows k) 0) (getD sets k 0)) 0 lt) (or-left (getD seen (leftAt rows k) 0) (getD sets k 0) u (rw d at (s .has p (omega arith) u t)))
       go p m u t (no e) (no d) = rw (getD-set-other seen (leftAt rows k) (leftAt rows p) (bitOr (getD seen (leftAt rows k) 0) (getD sets k 0)) 0 d) (s .has p (omega arith) u t)
+
+      earlier : (a u : ℕ) → T (sees seen u a) → (p : ℕ) × (p < k + 1) × (leftAt rows p ≡ a) × T (members (getD sets p 0) u)
+      earlier a u h = let w = s .only a u h in (w .0, omega (arith, w .1), w .2, w .3)
+
+      from : (a u : ℕ) → T (sees (set seen (leftAt rows k) (bitOr (getD seen (leftAt rows k) 0) (getD sets k 0))) u a) → Dec (a ≡ leftAt rows k) → (p : ℕ) × (p < k + 1) × (leftAt rows p ≡ a) × T (members (getD sets p 0) u)
+      from a u h (no d) = earlier a u (rw (getD-set-other seen (leftAt rows k) a (bitOr (getD seen (leftAt rows k) 0) (getD sets k 0)) 0 d) at h)
+      from a u h (yes d) =
+          ⊎-elim (λ o. earlier a u (rw d o)) (λ o. (k, omega arith, sym d, o))
+          (or-members (getD seen (leftAt rows k) 0) (getD sets k 0) u (rw (d, getD-set-same seen (leftAt rows k) (bitOr (getD seen (leftAt rows k) 0) (getD sets k 0)) 0 lt) at h))
 
 -- a set that meets that of an earlier production with its left side meets what that left side has had
 seen-met : (rows sets : List ℕ) (k j : ℕ) (seen : List ℕ) → Seen rows sets k seen → j < k → startTogether rows sets k j ≡ true → T (meet (setOf (getD seen (leftAt rows k) 0)) (setOf (getD sets k 0)))
@@ -198,6 +215,49 @@ pub unmet-clear :
     {t rows offsets sets : List ℕ} {count : ℕ} → Given t rows offsets sets count → (k : ℕ) (seen : List ℕ) → k < count → Seen rows sets k seen
     → meet (setOf (getD seen (leftAt rows k) 0)) (setOf (getD sets k 0)) ≡ false → Clear (clashIn t k) k
 unmet-clear {t} {rows} {offsets} {sets} x k seen l s e = record { clear = λ j h c. rw e at (seen-met rows sets k j seen s h (clash-tells x k j l (omega arith) c)) }
+
+-- no two productions before k start together
+pub record Apart (rows sets : List ℕ) (k : ℕ) : Type 0 where
+  pub apart : (p q : ℕ) → p < k → q < p → startTogether rows sets p q ≡ true → ⊥
+
+pub apart-none : (rows sets : List ℕ) → Apart rows sets 0
+apart-none rows sets = record { apart = λ p q l. absurd (omega arith) }
+
+-- production k, by what the productions with its left side have had
+module _ {rows sets : List ℕ} {k : ℕ} {seen : List ℕ} (s : Seen rows sets k seen) where
+  pub apart-next : Apart rows sets k → meet (setOf (getD seen (leftAt rows k) 0)) (setOf (getD sets k 0)) ≡ false → Apart rows sets (k + 1)
+  apart-next c n = record { apart = λ p q l h e. go p q l h e (ℕ-discrete p k) }
+    where
+      go : (p q : ℕ) → p < k + 1 → q < p → startTogether rows sets p q ≡ true → Dec (p ≡ k) → ⊥
+      go p q l h e (no d) = c .apart p q (omega arith) h e
+      go p q l h e (yes d) = subst T n (seen-met rows sets k q seen s (omega arith) (subst (λ m. startTogether rows sets m q ≡ true) d e))
+
+  pub crossed : meet (setOf (getD seen (leftAt rows k) 0)) (setOf (getD sets k 0)) ≡ true → (q : ℕ) × (q < k) × (startTogether rows sets k q ≡ true)
+  crossed e =
+      let w = meet-cases (setOf (getD seen (leftAt rows k) 0)) (setOf (getD sets k 0)) (true→T _ e) in
+      let v = s .only (leftAt rows k) (w .0) (w .1) in
+      (v .0, v .1, sym (start-same rows sets k (v .0) (sym (v .2)) true (sym (T→true _ (meet-at (setOf (getD sets k 0)) (setOf (getD sets (v .0) 0)) (w .0) (w .2) (v .3))))))
+
+-- r is the lowest production that starts together with an earlier one, or `count`
+pub record FirstCrossing (rows sets : List ℕ) (count r : ℕ) : Type 0 where
+  pub upto : r ≤ count
+  pub before : Apart rows sets r
+  pub here : r < count → (q : ℕ) × (q < r) × (startTogether rows sets r q ≡ true)
+
+-- no clash comes before it
+pub crossing-clear : {t rows offsets sets : List ℕ} {count r : ℕ} → Given t rows offsets sets count → FirstCrossing rows sets count r → Clear (clashes (grammarIn t)) r
+crossing-clear {t} {r = r} x f = record { clear = λ p l c. away p l (count-any (clashIn t p) 0 p c) }
+  where
+    away : (p : ℕ) → p < r → (q : ℕ) × (0 ≤ q) × (q < 0 + p) × T (clashIn t p q) → ⊥
+    away p l w = f .before .apart p (w .0) l (omega (arith, w .2)) (clash-tells x p (w .0) (omega (arith, f .upto)) (omega (arith, w .2, f .upto)) (w .3))
+
+-- without entry conditions it is one itself
+pub crossing-clashes :
+    {t rows offsets sets : List ℕ} {count r : ℕ} → Given t rows offsets sets count → FirstCrossing rows sets count r → r < count → afterAll rankBy (productionAt (grammarIn t) r) 0 ≡ 0
+    → T (clashes (grammarIn t) r)
+crossing-clashes {t} {r = r} x f l none =
+    let w = f .here l in
+    clashes-one t r (w .0) (w .1) (clash-met x r (w .0) l (omega (arith, w .1)) _ refl (w .2) true (later-free (productionAt (grammarIn t) r) (productionAt (grammarIn t) (w .0)) none) true refl)
 
 -- r is the first rival, if the set meets what its left side has had, or none
 pub record FirstRival (meets : Bool) (f : ℕ → Bool) (later r : ℕ) : Type 0 where
@@ -222,15 +282,6 @@ meeting-next {rows} {sets} {k} {met} {seen} s m x f = record { covers = λ p l q
         let v = and (meet (setOf (getD seen (leftAt rows k) 0)) (setOf (getD sets k 0))) (eqb (leftAt rows k) (leftAt rows k)) u (eqb-refl (leftAt rows k)) in
         subst (λ n. T (members (bitOr met x) (leftAt rows n))) (sym i) (or-right met x (leftAt rows k) (subst T (sym (f (leftAt rows k))) v))
     go p l q h e (no i) = or-left met x (leftAt rows p) (m .covers p (omega arith) q h e)
-
--- where there is none, nothing clashes
-pub meeting-clear : {t rows offsets sets : List ℕ} {count met : ℕ} → Given t rows offsets sets count → Meeting rows sets count met → met ≡ 0 → Clear (clashes (grammarIn t)) count
-meeting-clear {t} {rows} {count = count} x m e = record { clear = λ p l c. away p l (count-any (clashIn t p) 0 p c) }
-  where
-    away : (p : ℕ) → p < count → (q : ℕ) × (0 ≤ q) × (q < 0 + p) × T (clashIn t p q) → ⊥
-    away p l w =
-        let u = m .covers p l (w .0) (omega (arith, w .2)) (clash-tells x p (w .0) l (omega (arith, w .2)) (w .3)) in
-        subst T (ap (λ n. members n (leftAt rows p)) e ∙ none-in (leftAt rows p)) u
 
 -- of two productions that start together the entry conditions are kept
 pub both-kept :

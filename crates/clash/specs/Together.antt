@@ -11,7 +11,7 @@ use lib.Dec.{T, eqb, leb}
 use lib.ListN.{getD, length, set, length-set, getD-replicate}
 use lib.Seq.{getD-set-same, getD-set-other}
 use Rattle.meaning.specs.Base.{In, all, isEmpty}
-use Rattle.meaning.specs.Grammar.{Condition, range, atmost, Production, Grammar}
+use Rattle.meaning.specs.Grammar.{Condition, range, atmost, Production}
 use Rattle.meaning.specs.Differences.{constrained, matrixOf, closed, noneNegative, solvable}
 use Rattle.meaning.specs.Decide.{isRange, pairwise, satisfiableBy, satisfiable, entryConditions}
 use Rattle.theory_base.specs.Members.{both, all-append, all-in, in-left, in-right, in-append}
@@ -26,8 +26,8 @@ use Rattle.clash.specs.Intervals.{lowEnd, highEnd, low-append, high-appe
 use Rattle.clash_conditions.specs.Entry.{atEntry, entry-is, after, rankBy, raised, lowered, lowest, highest}
 
 -- 01: "unless both have entry conditions and no values of the inherited attributes satisfy both". (Attributes that no condition reads play no part, so they are taken as 8)
-unfoldable pub enterTogether : Grammar → Production → Production → Bool
-enterTogether g p q = isEmpty (entryConditions p) || isEmpty (entryConditions q) || satisfiable 8 (entryConditions p ++ entryConditions q)
+unfoldable pub enterTogether : Production → Production → Bool
+enterTogether p q = isEmpty (entryConditions p) || isEmpty (entryConditions q) || satisfiable 8 (entryConditions p ++ entryConditions q)
 
 -- ---- the ends after some conditions
 
@@ -213,21 +213,21 @@ module _ (cs ds : List (Condition ℕ)) (f : T (all (entry 8) cs)) (k : T (all (
 
 -- ---- the answers of the test, by what it finds of the later production p and the earlier one q
 
-module _ (g : Grammar) (p q : Production) where
+module _ (p q : Production) where
   abbrev ofP : List (Condition ℕ)
   ofP = atEntry (p .conditions)
 
   abbrev ofQ : List (Condition ℕ)
   ofQ = atEntry (q .conditions)
 
-  told : enterTogether g p q ≡ (isEmpty ofP || isEmpty ofQ || satisfiable 8 (ofP ++ ofQ))
+  told : enterTogether p q ≡ (isEmpty ofP || isEmpty ofQ || satisfiable 8 (ofP ++ ofQ))
   unfolding enterTogether
   told = ap₂ (λ cs ds. isEmpty cs || isEmpty ds || satisfiable 8 (cs ++ ds)) (entry-is p) (entry-is q)
 
-  pub later-free : after rankBy ofP 0 ≡ 0 → true ≡ enterTogether g p q
+  pub later-free : after rankBy ofP 0 ≡ 0 → true ≡ enterTogether p q
   later-free e = sym (told ∙ ap (λ x. x || isEmpty ofQ || satisfiable 8 (ofP ++ ofQ)) (rank-none ofP e))
 
-  pub earlier-free : after rankBy ofQ 0 ≡ 0 → true ≡ enterTogether g p q
+  pub earlier-free : after rankBy ofQ 0 ≡ 0 → true ≡ enterTogether p q
   earlier-free e = sym (told ∙ ap (λ x. isEmpty ofP || x || satisfiable 8 (ofP ++ ofQ)) (rank-none ofQ e) ∙ go (isEmpty ofP))
     where
       go : (c : Bool) → (c || true || satisfiable 8 (ofP ++ ofQ)) ≡ true
@@ -235,15 +235,15 @@ module _ (g : Grammar) (p q : Production) where
       go false = refl
 
   module _ (d : 1 ≤ after rankBy ofP 0) (e : 1 ≤ after rankBy ofQ 0) where
-    both-have : enterTogether g p q ≡ satisfiable 8 (ofP ++ ofQ)
+    both-have : enterTogether p q ≡ satisfiable 8 (ofP ++ ofQ)
     both-have = told ∙ ap₂ (λ x y. x || y || satisfiable 8 (ofP ++ ofQ)) (rank-some ofP d) (rank-some ofQ e)
 
     pub ranges-told :
         T (all (entry 8) ofP) → T (all (entry 8) ofQ) → after rankBy ofP 0 + after rankBy ofQ 0 ≤ 2 → {lows highs : List ℕ} {i j : ℕ}
-        → Own (raised ofP lowest) lows i → Own (raised ofQ lowest) lows j → Own (lowered ofP highest) highs i → Own (lowered ofQ highest) highs j → leaveValues lows highs i j ≡ enterTogether g p q
+        → Own (raised ofP lowest) lows i → Own (raised ofQ lowest) lows j → Own (lowered ofP highest) highs i → Own (lowered ofQ highest) highs j → leaveValues lows highs i j ≡ enterTogether p q
     ranges-told f k l lp lq hp hq =
         pairwise-ends ofP ofQ f k lp lq hp hq
         ∙ sym (both-have ∙ ap (λ b. satisfiableBy b 8 (ofP ++ ofQ)) (both-ranges ofP ofQ (omega arith) (omega arith)))
 
-    pub compared-told : 3 ≤ after rankBy ofP 0 + after rankBy ofQ 0 → solvable 8 (ofP ++ ofQ) ≡ enterTogether g p q
+    pub compared-told : 3 ≤ after rankBy ofP 0 + after rankBy ofQ 0 → solvable 8 (ofP ++ ofQ) ≡ enterTogether p q
     compared-told l = sym (both-have ∙ ap (λ b. satisfiableBy b 8 (ofP ++ ofQ)) (one-compared ofP ofQ l))

@@ -3,6 +3,12 @@
 ghost use mathlib.Core.Path.{_≡_};
 ghost use Prim.Native.Nat.{_<_};
 ghost use lib.ListN.{length};
+ghost use mathlib.Core.Bool.{not};
+ghost use lib.Dec.{eqb};
+ghost use Rattle.meaning.specs.Grammar.{productionAt};
+ghost use Rattle.outline.specs.Outline.{grammarIn};
+ghost use Rattle.clash_conditions.specs.Entry.{rankBy};
+ghost use Rattle.clash_conditions.specs.Walk.{afterAll};
 ghost use Rattle.clash.specs.Kept.{Stored};
 ghost use Rattle.clash.specs.Placing.{Placed};
 ghost use Rattle.clash.specs.Clashing.{KeepsIf};
@@ -17,6 +23,18 @@ fn store(ends: &mut [u32; 1024], p: usize, own: &[u32; 8])
         ends[8 * p + a] = own[a];
         a += 1;
     }
+}
+
+// Whether production p has entry conditions.
+pub fn has_entry(table: &[u8], offsets: &[u32; 128], p: usize) -> bool
+    requires { ⌜ (p < 128) × Placed (now table) (now offsets) p ⌝ }
+    ensures { λ r. ⌜ r ≡ not (eqb (afterAll rankBy (productionAt (grammarIn (now (table .entry))) p) 0) 0) ⌝ }
+{
+    let mut low = [0u32; 8];
+    let mut high = [4294967295u32; 8];
+    let from = offsets[p] as usize;
+    let rank = clash_conditions::entry::narrow_by(&table[from..], &mut low, &mut high);
+    rank != 0
 }
 
 // One pass over the fields of production p, if it is wanted.

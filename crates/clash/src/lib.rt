@@ -2,10 +2,12 @@
 pub mod kept;
 pub mod together;
 
+use crate::kept::has_entry;
 use crate::kept::keep;
 use crate::together::enters_together;
 use clash_rivals::next_rival;
 use nonterminal_set::NonterminalSet;
+use outline::left_of;
 use token_set::TokenSet;
 ghost use mathlib.Core.Path.{_≡_};
 ghost use mathlib.Core.Bool.{_&&_};
@@ -20,7 +22,7 @@ ghost use Rattle.analysis.specs.Views.{members};
 ghost use Rattle.analysis.specs.Numbers.{Found};
 ghost use Rattle.clash_rivals.specs.Rivals.{rival};
 ghost use Rattle.outline.specs.Outline.{grammarIn};
-ghost use Rattle.clash.specs.Clashing.{Given, Meeting, FirstRival};
+ghost use Rattle.clash.specs.Clashing.{Given, Meeting, FirstRival, FirstCrossing};
 
 // The first rival of `later` among the productions before it; `later` where its set meets nothing that they have.
 fn first_rival(
@@ -53,6 +55,26 @@ fn crossing(seen: TokenSet, set: TokenSet, left: u8) -> NonterminalSet
     NonterminalSet::EMPTY
 }
 
+// The lowest production whose set meets that of an earlier one with its left side; `count` where there is none.
+fn first_crossing(rows: &[u8; 2048], sets: &[u64; 128], count: usize) -> usize
+    requires { ⌜ Image (now rows) count ⌝ }
+    ensures { λ r. ⌜ FirstCrossing (now (rows .entry)) (now (sets .entry)) count r ⌝ }
+{
+    let mut seen = [0u64; 48];
+    let mut k: usize = 0;
+    while k < count {
+        let at = left_of(rows, k) as usize;
+        let had = seen[at];
+        let set = sets[k];
+        if TokenSet(had).meets(TokenSet(set)) {
+            return k;
+        }
+        seen[at] = TokenSet(had).union(TokenSet(set)).0;
+        k += 1;
+    }
+    k
+}
+
 // The left sides with productions whose sets meet.
 fn meeting(rows: &[u8; 2048], sets: &[u64; 128], count: usize) -> NonterminalSet
     requires { ⌜ Image (now rows) count ⌝ }
@@ -62,7 +84,7 @@ fn meeting(rows: &[u8; 2048], sets: &[u64; 128], count: usize) -> NonterminalSet
     let mut met = NonterminalSet::EMPTY;
     let mut k: usize = 0;
     while k < count {
-        let left = rows[k * 16];
+        let left = left_of(rows, k);
         let at = left as usize;
         let had = seen[at];
         let set = sets[k];
@@ -91,18 +113,10 @@ fn lowest_by_entry(
     let mut seen = [0u64; 48];
     let mut later: usize = 0;
     'pairs: while later < count {
-        let left = rows[later * 16];
+        let left = left_of(rows, later);
         let at = left as usize;
-        let wanted = met.has(left);
-        keep(
-            table,
-            offsets,
-            later,
-            wanted,
-            &mut lows,
-            &mut highs,
-            &mut ranks,
-        );
+        let on = met.has(left);
+        keep(table, offsets, later, on, &mut lows, &mut highs, &mut ranks);
         let had = seen[at];
         let mut earlier = first_rival(rows, sets, &lows, &highs, &ranks, later, TokenSet(had));
         while earlier < later {
@@ -119,7 +133,7 @@ fn lowest_by_entry(
 }
 
 // The lowest production that clashes with an earlier one; `count` where there is none.
-// Entry conditions are read only of nonterminals with productions whose sets meet.
+// Entry conditions are read only of nonterminals with productions whose sets meet; where the first such production has none, it clashes.
 pub fn lowest_clash(
     table: &[u8],
     rows: &[u8; 2048],
@@ -130,9 +144,13 @@ pub fn lowest_clash(
     requires { ⌜ Given (now table) (now rows) (now offsets) (now sets) count ⌝ }
     ensures { λ r. ⌜ Found (Decide.clashes (grammarIn (now (table .entry)))) count r ⌝ }
 {
-    let met = meeting(rows, sets, count);
-    if met.is_empty() {
+    let first = first_crossing(rows, sets, count);
+    if count <= first {
         return count;
     }
+    if !has_entry(table, offsets, first) {
+        return first;
+    }
+    let met = meeting(rows, sets, count);
     lowest_by_entry(table, rows, offsets, sets, count, met)
 }

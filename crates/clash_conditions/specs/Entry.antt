@@ -21,7 +21,7 @@ use Rattle.theory_base.specs.Members.{both}
 use Rattle.meaning.specs.Decide.{entryConditions}
 use Rattle.meaning.specs.Value.{added}
 use Rattle.theory_sets.specs.Intervals.{entry, entered, compared}
-use Rattle.theory_table.specs.Numbers.{four-joined, unsigned-small, signed-unsigned}
+use Rattle.theory_table.specs.Numbers.{joined, constant-back}
 use Rattle.clash_conditions.specs.BoundWords.{biased}
 
 -- ---- what they leave of intervals
@@ -117,7 +117,7 @@ pub record Left (d : List ℕ) : Type 0 where
   pub fits : T (all (entry 8) (atEntry conditions))
 
 -- the field at the front, and what is left after it
-pub record Turn (d : List ℕ) (cs : List (Condition Occurrence)) : Type 0 where
+pub record FrontField (d : List ℕ) (cs : List (Condition Occurrence)) : Type 0 where
   pub next : Left (drop (fieldSize d) d)
   pub inside : fieldSize d ≤ length d
   pub proper : entryHere d ≡ true → T (entry 8 (conditionHere d))
@@ -147,7 +147,7 @@ module _ (tag : ℕ) (b : List ℕ) {rs : List (Rule Occurrence)} {cs : List (Co
   front-inside = omega (arith, field-size tag b (bs ++ rest), length-append (field tag b) (bs ++ rest))
 
   -- a field that is no entry condition changes nothing
-  passed : entryHere front ≡ false → (ds : List (Condition Occurrence)) → atEntry ds ≡ atEntry cs → Turn front ds
+  passed : entryHere front ≡ false → (ds : List (Condition Occurrence)) → atEntry ds ≡ atEntry cs → FrontField front ds
   passed n ds e = record {
     next = after-it;
     inside = front-inside;
@@ -156,7 +156,7 @@ module _ (tag : ℕ) (b : List ℕ) {rs : List (Rule Occurrence)} {cs : List (Co
   }
 
   -- an entry condition
-  taken : (c : Condition ℕ) → entryHere front ≡ true → conditionHere front ≡ c → T (entry 8 c) → (ds : List (Condition Occurrence)) → atEntry ds ≡ c ∷ atEntry cs → Turn front ds
+  taken : (c : Condition ℕ) → entryHere front ≡ true → conditionHere front ≡ c → T (entry 8 c) → (ds : List (Condition Occurrence)) → atEntry ds ≡ c ∷ atEntry cs → FrontField front ds
   taken c t is k ds e = record {
     next = after-it;
     inside = front-inside;
@@ -165,10 +165,8 @@ module _ (tag : ℕ) (b : List ℕ) {rs : List (Rule Occurrence)} {cs : List (Co
   }
 
 -- a bound as it is read
-bound-back : (c : ℤ) → T (fourBytes c) → let n : ℕ = unsigned c in signed (((n / 16777216 % 256 * 256 + n / 65536 % 256) * 256 + n / 256 % 256) * 256 + n % 256) ≡ c
-bound-back c t =
-    let k = both (leZ lowestConstant c) (leZ c highestConstant) t in
-    ap signed (four-joined (unsigned c) (unsigned-small c k)) ∙ signed-unsigned c k
+bound-back : (c : ℤ) → T (fourBytes c) → let n : ℕ = unsigned c in signed (joined (n / 16777216 % 256) (n / 65536 % 256) (n / 256 % 256) (n % 256)) ≡ c
+bound-back c t = constant-back c (both (leZ lowestConstant c) (leZ c highestConstant) t)
 
 -- a comparison's constant as it is read
 offset-back : (o u : Occurrence) (c : Option ℤ) (rest : List ℕ) → T (fourBytes (added c)) → conditionHere (field 5 (conditionBytes (atmost o u c)) ++ rest) ≡ atmost (o .attribute) (u .attribute) c
@@ -192,14 +190,14 @@ here-atmost o u (some c) rest = max-zero (o .position) (u .position)
 
 -- a condition's field
 condition-turn : (c : Condition Occurrence) {rs : List (Rule Occurrence)} {cs : List (Condition Occurrence)} {bs : List ℕ} → RulesAndConditions rs cs bs → (rest : List ℕ) → (0 < length rest → byte rest 0 ≡ 3)
-    → T (all (entry 8) (atEntry (c ∷ cs))) → Turn (field 5 (conditionBytes c) ++ (bs ++ rest)) (c ∷ cs)
+    → T (all (entry 8) (atEntry (c ∷ cs))) → FrontField (field 5 (conditionBytes c) ++ (bs ++ rest)) (c ∷ cs)
 unfolding atEntry entryHere conditionHere
 condition-turn (range o l h) {rs} {cs} {bs} own rest over fits = go (eqb (o .position) 0) refl fits
   where
     back : T (fourBytes l) → T (fourBytes h) → conditionHere (field 5 (conditionBytes (range o l h)) ++ (bs ++ rest)) ≡ range (o .attribute) l h
     back x y = ap₂ (range (o .attribute)) (bound-back l x) (bound-back h y)
 
-    go : (b : Bool) → eqb (o .position) 0 ≡ b → T (all (entry 8) (map (mapCondition (λ z. z .attribute)) (consIf b (range o l h) (keep isEntry cs)))) → Turn (field 5 (conditionBytes (range o l h)) ++ (bs ++ rest)) (range o l h ∷ cs)
+    go : (b : Bool) → eqb (o .position) 0 ≡ b → T (all (entry 8) (map (mapCondition (λ z. z .attribute)) (consIf b (range o l h) (keep isEntry cs)))) → FrontField (field 5 (conditionBytes (range o l h)) ++ (bs ++ rest)) (range o l h ∷ cs)
     go true e f =
         let u = both (entry 8 (range (o .attribute) l h)) (all (entry 8) (atEntry cs)) f in
         let k = entered 8 (o .attribute) l h (u .0) in
@@ -207,7 +205,7 @@ condition-turn (range o l h) {rs} {cs} {bs} own rest over fits = go (eqb (o .pos
     go false e f = passed 5 (conditionBytes (range o l h)) own rest over f (ap (λ b. b && true) e) (range o l h ∷ cs) (ap (λ b. map (mapCondition (λ z. z .attribute)) (consIf b (range o l h) (keep isEntry cs))) e)
 condition-turn (atmost o v c) {rs} {cs} {bs} own rest over fits = go (isEntry (atmost o v c)) refl fits
   where
-    go : (b : Bool) → isEntry (atmost o v c) ≡ b → T (all (entry 8) (map (mapCondition (λ z. z .attribute)) (consIf b (atmost o v c) (keep isEntry cs)))) → Turn (field 5 (conditionBytes (atmost o v c)) ++ (bs ++ rest)) (atmost o v c ∷ cs)
+    go : (b : Bool) → isEntry (atmost o v c) ≡ b → T (all (entry 8) (map (mapCondition (λ z. z .attribute)) (consIf b (atmost o v c) (keep isEntry cs)))) → FrontField (field 5 (conditionBytes (atmost o v c)) ++ (bs ++ rest)) (atmost o v c ∷ cs)
     go true e f =
         let u = both (entry 8 (atmost (o .attribute) (v .attribute) c)) (all (entry 8) (atEntry cs)) f in
         let here = here-atmost o v c (bs ++ rest) ∙ e in
@@ -217,20 +215,20 @@ condition-turn (atmost o v c) {rs} {cs} {bs} own rest over fits = go (isEntry (a
 
 -- a rule's field
 rule-turn : (r : Rule Occurrence) {rs : List (Rule Occurrence)} {cs : List (Condition Occurrence)} {bs : List ℕ} → RulesAndConditions rs cs bs → (rest : List ℕ) → (0 < length rest → byte rest 0 ≡ 3)
-    → T (all (entry 8) (atEntry cs)) → Turn (field 4 (ruleBytes r) ++ (bs ++ rest)) cs
+    → T (all (entry 8) (atEntry cs)) → FrontField (field 4 (ruleBytes r) ++ (bs ++ rest)) cs
 unfolding entryHere
 rule-turn r {rs} {cs} own rest over fits = passed 4 (ruleBytes r) own rest over fits refl cs refl
 
 -- ---- a walk along the fields
 
 turn-of : {rs : List (Rule Occurrence)} {cs : List (Condition Occurrence)} {body : List ℕ} → RulesAndConditions rs cs body → (rest : List ℕ) → (0 < length rest → byte rest 0 ≡ 3) → T (all (entry 8) (atEntry cs))
-    → 0 < length (body ++ rest) → (byte (body ++ rest) 0 ≡ 3 → ⊥) → Turn (body ++ rest) cs
+    → 0 < length (body ++ rest) → (byte (body ++ rest) 0 ≡ 3 → ⊥) → FrontField (body ++ rest) cs
 turn-of nothing rest over fits l n = absurd (n (over l))
-turn-of (rule r {rs} {cs} {bs} own) rest over fits l n = subst (λ z. Turn z cs) (sym (fieldFirst 4 (ruleBytes r) bs rest)) (rule-turn r own rest over fits)
-turn-of (condition c {rs} {cs} {bs} own) rest over fits l n = subst (λ z. Turn z (c ∷ cs)) (sym (fieldFirst 5 (conditionBytes c) bs rest)) (condition-turn c own rest over fits)
+turn-of (rule r {rs} {cs} {bs} own) rest over fits l n = subst (λ z. FrontField z cs) (sym (fieldFirst 4 (ruleBytes r) bs rest)) (rule-turn r own rest over fits)
+turn-of (condition c {rs} {cs} {bs} own) rest over fits l n = subst (λ z. FrontField z (c ∷ cs)) (sym (fieldFirst 5 (conditionBytes c) bs rest)) (condition-turn c own rest over fits)
 
-pub left-turn : (d : List ℕ) (x : Left d) → 0 < length d → (byte d 0 ≡ 3 → ⊥) → Turn d (x .conditions)
-left-turn d x l n = subst (λ z. Turn z (x .conditions)) (sym (x .isHere)) (turn-of (x .own) (x .rest) (x .over) (x .fits) (subst (λ z. 0 < length z) (x .isHere) l) (λ e. n (ap (λ z. byte z 0) (x .isHere) ∙ e)))
+pub left-turn : (d : List ℕ) (x : Left d) → 0 < length d → (byte d 0 ≡ 3 → ⊥) → FrontField d (x .conditions)
+left-turn d x l n = subst (λ z. FrontField z (x .conditions)) (sym (x .isHere)) (turn-of (x .own) (x .rest) (x .over) (x .fits) (subst (λ z. 0 < length z) (x .isHere) l) (λ e. n (ap (λ z. byte z 0) (x .isHere) ∙ e)))
 
 -- nothing is left at the end and before a tag 3
 none-left : {rs : List (Rule Occurrence)} {cs : List (Condition Occurrence)} {body : List ℕ} → RulesAndConditions rs cs body → (rest : List ℕ) → (0 < length (body ++ rest) → byte (body ++ rest) 0 ≡ 3) → cs ≡ []

@@ -11,7 +11,7 @@ use Rattle.meaning.specs.Base.{consIf}
 use Rattle.meaning.specs.Grammar.{Condition, Production}
 use Rattle.meaning.specs.Table.{byte}
 use Rattle.theory_sets.specs.Intervals.{entry}
-use Rattle.clash_conditions.specs.Entry.{atEntry, after, fieldSize, entryHere, conditionHere, ifEntry, afterField, Stretch, Left, Turn, left-turn, left-none, stretch-left}
+use Rattle.clash_conditions.specs.Entry.{atEntry, after, fieldSize, entryHere, conditionHere, ifEntry, afterField, Stretch, Left, FrontField, left-turn, left-none, stretch-left}
 
 -- the state after all entry conditions of p
 abbrev pub afterAll : {S : Type 0} → (Condition ℕ → S → S) → Production → S → S
@@ -48,7 +48,7 @@ module _ {S : Type 0} {f : Condition ℕ → S → S} {d : List ℕ} {p : Produc
   going-over e = going-end (λ m. sym (ap (λ z. byte z 0) same) ∙ e)
 
   module _ (l : at < length d) (n : byte field 0 ≡ 3 → ⊥) where
-    turn : Turn (drop at d) (w .left .conditions)
+    turn : FrontField (drop at d) (w .left .conditions)
     turn = left-turn (drop at d) (w .left) (omega (arith, length-drop at d)) (λ e. n (ap (λ z. byte z 0) same ∙ e))
 
     pub going-proper : entryHere field ≡ true → T (entry 8 (conditionHere field))

@@ -9,7 +9,7 @@ use lib.IntN.{ℤ, pos, negsuc, natAbs, _+ℤ_}
 use lib.ListN.{getD, length, set, replicate}
 use lib.Seq.{getD-set-same, getD-set-other}
 use Rattle.meaning.specs.Differences.{at, closed, lesser}
-use Rattle.theory_differences.specs.Order.{natAbs-add}
+use Rattle.theory_base.specs.Absolute.{natAbs-add}
 use Rattle.meaning.specs.Grammar.{Condition}
 use Rattle.theory_differences.specs.Solving.{NoneNegative, least, least-same, least-keeps, changed, at-changed, off-changed, solution}
 use Rattle.theory_differences.specs.Closing.{Small}

@@ -6,7 +6,7 @@ use mathlib.Core.List.{List}
 use lib.IntN.{ℤ, pos, natAbs}
 use lib.ListN.{getD}
 use Rattle.meaning.specs.Grammar.{Condition}
-use Rattle.meaning.specs.CompareStatements.{Meets, NegativeCycle}
+use Rattle.meaning_statements.specs.CompareStatements.{Meets, NegativeCycle}
 use Rattle.theory_differences.specs.Solving.{solution}
 use Rattle.theory_differences.specs.Decided.{listed}
 

@@ -1,5 +1,5 @@
 -- Laws for the proofs of the functions: bits of signed locals, the filling of the matrix, and the loops of the elimination.
-use Prim.Native.Nat.{ℕ, zero, suc, _+_, _-_, _*_, _/_, _^_, _≤_, _<_}
+use Prim.Native.Nat.{ℕ, zero, suc, _+_, _-_, _*_, _/_, _≤_, _<_}
 use native.Mathlib.Omega.{arith}
 use native.Mathlib.Decide.{ℕ-discrete, decLt}
 use native.Mathlib.Numerals.{add-one}
@@ -8,7 +8,7 @@ use mathlib.Core.Bool.{Bool, true, false}
 use mathlib.Core.List.{List, []}
 use lib.Dec.{T}
 use Rattle.theory_base.specs.Members.{T→true}
-use lib.IntN.{ℤ, pos, negsuc, negℤ, natAbs, _+ℤ_}
+use lib.IntN.{ℤ, pos, natAbs, _+ℤ_}
 use lib.ListN.{getD, length, set}
 use lib.Seq.{getD-set-same, getD-set-other}
 use mir.Syntax.{w64}
@@ -16,7 +16,8 @@ use mir.Facts.{toZ-ofZ}
 use mir.Val.{SFits, toZ, ofZ}
 use lib.Signed.{ltZ, _≤ℤ_, _<ℤ_, ltZ-yes, ltZ-no, clashℤ}
 use Rattle.meaning.specs.Differences.{matrixOf, noneNegative, at, bound, closing, eliminated, lowered, put, relaxed, rowRelaxed, shorter}
-use Rattle.theory_differences.specs.Order.{lesser-keeps, natAbs-add}
+use Rattle.theory_differences.specs.Order.{lesser-keeps}
+use Rattle.theory_base.specs.Absolute.{natAbs-add}
 use Rattle.theory_differences.specs.Graph.{bound-there, bound-absent}
 use Rattle.theory_differences.specs.Solving.{NoneNegative}
 use Rattle.theory_differences.specs.Closing.{Row, row, Small, small-more, eliminated-small, room, room-most}
@@ -25,19 +26,6 @@ use Rattle.theory_differences.specs.Building.{fresh, is-fresh, none-negative, a
 use Rattle.clash_differences.specs.Tested.{Negative, Tested}
 
 -- ---- a signed local holds bits
-
-pub small-fits : (z : ℤ) → natAbs z < 2 ^ 63 → SFits w64 z
-small-fits (pos n) h = record { sfits = h }
-small-fits (negsuc n) h = record { sfits = omega arith }
-
-pub locals : (op : ℤ → ℤ → ℤ) (a b : ℤ) → SFits w64 a → SFits w64 b → op (toZ w64 (ofZ w64 a)) (toZ w64 (ofZ w64 b)) ≡ op a b
-locals op a b p q = rw (toZ-ofZ p, toZ-ofZ q)
-
-pub fits2 : (op : ℤ → ℤ → ℤ) (a b : ℤ) → SFits w64 a → SFits w64 b → SFits w64 (op a b) → SFits w64 (op (toZ w64 (ofZ w64 a)) (toZ w64 (ofZ w64 b)))
-fits2 op a b p q r = rw (locals op a b p q) r
-
-pub through2 : (op : ℤ → ℤ → ℤ) (a b : ℤ) → SFits w64 a → SFits w64 b → SFits w64 (op a b) → toZ w64 (ofZ w64 (op (toZ w64 (ofZ w64 a)) (toZ w64 (ofZ w64 b)))) ≡ op a b
-through2 op a b p q r = rw (locals op a b p q) (toZ-ofZ r)
 
 pub flag : (op : ℤ → ℤ → Bool) (z d : ℤ) → SFits w64 z → op z d ≡ op (toZ w64 (ofZ w64 z)) d
 flag op z d f = rw (toZ-ofZ f)
@@ -75,11 +63,6 @@ filled-matrix n l e f = (is-fresh n l e (λ t h. f t h .0), λ i j q r. f (i * 9
 
 pub lowered-small : (l : List ℤ) (a b : ℕ) (c : ℤ) → length l ≡ 81 → a < 9 → b < 9 → natAbs c ≤ limit → Small limit l → Small limit (lowered l a b c)
 lowered-small l a b c e p q h f = lowered-every (λ i j x. natAbs x ≤ limit) l a b c e p q h f
-
-pub natAbs-neg : (a : ℤ) → natAbs (negℤ a) ≡ natAbs a
-natAbs-neg (pos zero) = refl
-natAbs-neg (pos (suc n)) = refl
-natAbs-neg (negsuc n) = refl
 
 -- ---- the loops of the elimination
 

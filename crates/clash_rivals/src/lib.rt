@@ -1,5 +1,6 @@
 // Which earlier productions have to be compared with a later one: those with its left side and a set that meets its own, unless
 // the intervals that are kept of both keep them apart. The loop over them calls nothing else, so that a pair costs little.
+use outline::left_of;
 use token_set::TokenSet;
 ghost use mathlib.Core.Path.{_≡_};
 ghost use Prim.Native.Nat.{_<_, _≤_};
@@ -10,10 +11,12 @@ fn starts_together(rows: &[u8; 2048], sets: &[u64; 128], p: usize, q: usize) -> 
     requires { ⌜ (p < 128) × (q < 128) ⌝ }
     ensures { λ r. ⌜ r ≡ startTogether (now (rows .entry)) (now (sets .entry)) p q ⌝ }
 {
-    if rows[p * 16] != rows[q * 16] {
+    if left_of(rows, p) != left_of(rows, q) {
         return false;
     }
-    TokenSet(sets[p]).meets(TokenSet(sets[q]))
+    let own = sets[p];
+    let other = sets[q];
+    TokenSet(own).meets(TokenSet(other))
 }
 
 // Whether they start together and their intervals do not keep them apart: those tell only where both have ranges and no comparison.

@@ -5,8 +5,7 @@ ghost use Rattle.meaning.specs.PublicCalls.{opens, performs, feed, finish, stac
 ghost use Rattle.records.specs.Records.{stateIs};
 ghost use Rattle.run_lent.specs.Performing.{callIs};
 ghost use Rattle.engine.specs.Records.{recordIs, effectIs, leavesAs, calledFrom};
-ghost use Rattle.engine.specs.Beginning.{BegunAs};
-use prepare::Made;
+use prepare::Begun;
 use records::Answer;
 use records::Handed;
 use records::State;
@@ -33,29 +32,6 @@ pub fn hand_back(handed: Handed) -> Called
     }
 }
 
-// What a call begins with: it is turned back by 30 or by its table, or the table is accepted and its program written.
-pub enum Begun {
-    Turned(Answer),
-    Ready,
-}
-
-// 30 and the table's refusals, as a call answers them.
-pub fn begin(table: &[u8], program: &mut [u32]) -> Begun
-    ensures { λ r. ⌜ BegunAs (now (table .entry)) (now (program .entry)) (now (program .exit)) r ⌝ }
-{
-    match prepare::program_of(table, program) {
-        Made::Short => Begun::Turned(Answer::Refused {
-            number: 30,
-            tokens: 0,
-        }),
-        Made::Refused { number, offset } => Begun::Turned(Answer::TableRefused {
-            number,
-            offset: offset as u64,
-        }),
-        Made::Written(length) => Begun::Ready,
-    }
-}
-
 // A call on a run that is opened. Kinds and values are a feed's.
 fn perform(
     call: Call,
@@ -69,7 +45,7 @@ fn perform(
 ) -> Handed
     ensures { λ r. ⌜ leavesAs r (now (registers .exit)) (now (places .exit)) (now (program .exit)) ≡ performs programOf (now (table .entry)) (now (program .entry)) (stateIs state) (stacksOf (now (registers .entry)) (now (places .entry))) (callIs call (now (kinds .entry)) (now (values .entry))) ⌝ }
 {
-    match begin(table, program) {
+    match prepare::begin(table, program) {
         Begun::Turned(answer) => records::as_brought(state, answer),
         Begun::Ready => {
             run_lent::call_cells(call, registers, places, program, state, kinds, values)
@@ -87,7 +63,7 @@ impl Record {
     ) -> Called
         ensures { λ r. ⌜ effectIs r (now (registers .exit)) (now (places .exit)) (now (program .exit)) ≡ opens programOf (now (table .entry)) (now (program .entry)) (stacksOf (now (registers .entry)) (now (places .entry))) ⌝ }
     {
-        match begin(table, program) {
+        match prepare::begin(table, program) {
             Begun::Turned(answer) => hand_back(records::not_opened(answer)),
             Begun::Ready => hand_back(run_opening::open_cells(registers, places, program)),
         }

@@ -18,7 +18,8 @@ fn fed(
     kinds: &[u8],
     values: &[i32],
 ) -> Called
-    ensures { λ r. ⌜ effectIs r (now (registers .exit)) (now (places .exit)) (now (program .exit)) ≡ performs programOf (now (table .entry)) (now (program .entry)) (recordIs «record») (stacksOf (now (registers .entry)) (now (places .entry))) (Public.feed (now (kinds .entry)) (now (values .entry))) ⌝ }
+    ensures { λ r. ⌜ effectIs r (now (registers .exit)) (now (places .exit)) (now (program .exit))
+        ≡ performs programOf (now (table .entry)) (now (program .entry)) (recordIs «record») (stacksOf (now (registers .entry)) (now (places .entry))) (Public.feed (now (kinds .entry)) (now (values .entry))) ⌝ }
 {
     let mut held = record;
     let answer = in_place::feed_in_place(
@@ -48,7 +49,8 @@ pub fn feed(
     number: &mut u32,
     count: &mut u64,
 )
-    ensures { λ r. ⌜ PassedOn (now («record» .exit)) (now (number .exit)) (now (count .exit)) (now (registers .exit)) (now (places .exit)) (now (program .exit)) (performs programOf (now (table .entry)) (now (program .entry)) (broughtIn (now («record» .entry))) (stacksOf (now (registers .entry)) (now (places .entry))) (Public.feed (now (kinds .entry)) (now (values .entry)))) ⌝ }
+    ensures { λ r. ⌜ PassedOn (now («record» .exit)) (now (number .exit)) (now (count .exit)) (now (registers .exit)) (now (places .exit)) (now (program .exit))
+        (performs programOf (now (table .entry)) (now (program .entry)) (broughtIn (now («record» .entry))) (stacksOf (now (registers .entry)) (now (places .entry))) (Public.feed (now (kinds .entry)) (now (values .entry)))) ⌝ }
 {
     let brought = host_numbers::brought(record);
     let called = fed(brought, table, registers, places, program, kinds, values);

@@ -4,7 +4,7 @@ use mathlib.Core.Path.{_≡_, ap, _∙_}
 use mathlib.Core.List.{List}
 use lib.IntN.{ℤ}
 use Rattle.meaning.specs.PublicCalls.{stacksOf}
-use Rattle.meaning.specs.Inner.{InnerEffect}
+use Rattle.meaning_inner.specs.Inner.{InnerEffect}
 use Rattle.records.specs.Records.{answerIs}
 use Rattle.engine.specs.Records.{recordIs}
 use Rattle.inner.specs.declared.InnerCalled.{InnerCalled}

@@ -2,8 +2,8 @@
 ghost use mathlib.Core.Path.{_≡_};
 ghost use Rattle.meaning.specs.Program.{programOf};
 ghost use Rattle.meaning.specs.PublicCalls.{stacksOf, feed, finish};
-ghost use Rattle.meaning.specs.Inner as Inner;
-ghost use Rattle.meaning.specs.Inner.{giveUp, innerOpens, innerPerforms};
+ghost use Rattle.meaning_inner.specs.Inner as Inner;
+ghost use Rattle.meaning_inner.specs.Inner.{giveUp, innerOpens, innerPerforms};
 ghost use Rattle.host_numbers.specs.Lent.{broughtIn, answerValue};
 ghost use Rattle.host_inner.specs.Both.{NumbersPassed, BothPassedOn};
 use inner::InnerCalled;

@@ -9,7 +9,7 @@ use lib.IntN.{ℤ, pos}
 use borrow.Author.Tests.{eq-eqb, ne-eqb}
 use Rattle.meaning.specs.Calls.{Status, running, waiting, closed, Kind, outer, inner, Record, Answer, more, value, refused, tableRefused}
 use Rattle.meaning.specs.PublicCalls.{Effect}
-use Rattle.meaning.specs.Inner.{registerBase, placeBase, withStatus, withKind}
+use Rattle.meaning_inner.specs.Inner.{registerBase, placeBase, withStatus, withKind}
 use Rattle.meaning.specs.PublicCalls.{stacksOf}
 use Rattle.engine.specs.declared.Called.{Called}
 use Rattle.records.specs.Records.{answerIs}

@@ -1,6 +1,6 @@
 // A run's record and answer as the numbers that a host lends.
 ghost use mathlib.Core.Path.{_≡_};
-ghost use Rattle.meaning.specs.Inner.{registerBase, placeBase, withStatus, withKind};
+ghost use Rattle.meaning_inner.specs.Inner.{registerBase, placeBase, withStatus, withKind};
 ghost use Rattle.records.specs.Records.{statusIs, kindIs, stateIs, answerIs};
 ghost use Rattle.engine.specs.Records.{recordIs};
 ghost use Rattle.host_numbers.specs.Lent.{statusFrom, kindFrom, broughtIn, statusNumber, kindNumber, flagOf, numbersOf, answerNumber, answerCount, answerValue};

@@ -34,7 +34,8 @@ pub fn feed(
     number: &mut u32,
     count: &mut u64,
 )
-    ensures { λ r. ⌜ PassedOn (now («record» .exit)) (now (number .exit)) (now (count .exit)) (now (registers .exit)) (now (places .exit)) (now (program .exit)) (performs programOf (now (table .entry)) (now (program .entry)) (broughtIn (now («record» .entry))) (stacksOf (now (registers .entry)) (now (places .entry))) (feed (now (kinds .entry)) (now (values .entry)))) ⌝ }
+    ensures { λ r. ⌜ PassedOn (now («record» .exit)) (now (number .exit)) (now (count .exit)) (now (registers .exit)) (now (places .exit)) (now (program .exit))
+        (performs programOf (now (table .entry)) (now (program .entry)) (broughtIn (now («record» .entry))) (stacksOf (now (registers .entry)) (now (places .entry))) (feed (now (kinds .entry)) (now (values .entry)))) ⌝ }
 {
     let called = host_numbers::brought(record).feed(
         table,
@@ -58,7 +59,9 @@ pub fn finish(
     value: &mut i64,
     count: &mut u64,
 )
-    ensures { λ r. ⌜ PassedOn (now («record» .exit)) (now (number .exit)) (now (count .exit)) (now (registers .exit)) (now (places .exit)) (now (program .exit)) (performs programOf (now (table .entry)) (now (program .entry)) (broughtIn (now («record» .entry))) (stacksOf (now (registers .entry)) (now (places .entry))) finish) × (now (value .exit) ≡ answerValue (performs programOf (now (table .entry)) (now (program .entry)) (broughtIn (now («record» .entry))) (stacksOf (now (registers .entry)) (now (places .entry))) finish .answer)) ⌝ }
+    ensures { λ r. ⌜ PassedOn (now («record» .exit)) (now (number .exit)) (now (count .exit)) (now (registers .exit)) (now (places .exit)) (now (program .exit))
+        (performs programOf (now (table .entry)) (now (program .entry)) (broughtIn (now («record» .entry))) (stacksOf (now (registers .entry)) (now (places .entry))) finish)
+        × (now (value .exit) ≡ answerValue (performs programOf (now (table .entry)) (now (program .entry)) (broughtIn (now («record» .entry))) (stacksOf (now (registers .entry)) (now (places .entry))) finish .answer)) ⌝ }
 {
     let called = host_numbers::brought(record).finish(table, registers, places, program);
     let answer = called.answer;

@@ -1,12 +1,16 @@
 -- The answer of the call that writes a tree's sheet, as the numbers that a host lends.
 use Prim.Native.Nat.{ℕ}
-use mathlib.Core.Path.{_≡_, subst}
-use mathlib.Core.List.{List}
+use mathlib.Core.Path.{_≡_, sym, subst}
+use mathlib.Core.List.{List, []}
 use lib.IntN.{ℤ, pos}
 use Rattle.meaning_sheet.specs.SheetCalls.{SheetAnswer, sheeted, turnedBack, tableTurned, sheetEffect, Sheets}
 use Rattle.sheet.specs.Segments.{sheetIs}
 use Rattle.sheet.specs.declared.Answer as Answer
 use Rattle.sheet.specs.declared.Answer.the-variants.{Value, Refused, TableRefused}
+
+-- the answer without the sheet's bytes
+abbrev pub answerOf : Answer.Answer → SheetAnswer
+answerOf a = sheetIs a [] .answer
 
 -- 0, the value, the moves and the sheet's length; or a refusal's number, 0, what stands beside it, and 0
 abbrev pub lentAs : SheetAnswer → ℕ → ℤ → ℕ → ℕ → Type 0
@@ -20,12 +24,12 @@ pub record SheetLent (bs : List ℕ) (r p : ℕ) (ks : List ℕ) (vs : List ℤ)
   pub written : Sheets bs r p ks vs out (sheetEffect answer after)
   pub lent : lentAs answer number value count length
 
-module _ (bs : List ℕ) (r p : ℕ) (ks : List ℕ) (vs : List ℤ) (out after : List ℕ) (a : Answer.Answer) (w : Sheets bs r p ks vs out (sheetIs a after)) where
-  of : (z : Answer.Answer) → a ≡ z → Sheets bs r p ks vs out (sheetIs z after)
-  of z e = subst (λ x. Sheets bs r p ks vs out (sheetIs x after)) e w
+-- an answer by the numbers of each case
+pub lent-as : (r d : Answer.Answer) (number : ℕ) (value : ℤ) (count length : ℕ) → r ≡ d → lentAs (answerOf d) number value count length → lentAs (answerOf r) number value count length
+lent-as r d number value count length e = subst (λ z. lentAs (answerOf z) number value count length) (sym e)
 
-  -- the numbers of the answer at hand
-  pub lent-of : (z : Answer.Answer) → a ≡ z → (number : ℕ) (value : ℤ) (count length : ℕ) → lentAs (sheetIs z after .answer) number value count length → SheetLent bs r p ks vs out after number value count length
-  lent-of (Value v moves size) e number value count length l = record { answer = sheeted v moves size; written = of (Value v moves size) e; lent = l }
-  lent-of (Refused n tokens) e number value count length l = record { answer = turnedBack n tokens; written = of (Refused n tokens) e; lent = l }
-  lent-of (TableRefused n offset) e number value count length l = record { answer = tableTurned n offset; written = of (TableRefused n offset) e; lent = l }
+module _ (bs : List ℕ) (r p : ℕ) (ks : List ℕ) (vs : List ℤ) (out after : List ℕ) (number : ℕ) (value : ℤ) (count length : ℕ) where
+  pub sheet-lent : (a : Answer.Answer) → Sheets bs r p ks vs out (sheetIs a after) → lentAs (answerOf a) number value count length → SheetLent bs r p ks vs out after number value count length
+  sheet-lent (Value v moves size) w l = record { answer = sheeted v moves size; written = w; lent = l }
+  sheet-lent (Refused n tokens) w l = record { answer = turnedBack n tokens; written = w; lent = l }
+  sheet-lent (TableRefused n offset) w l = record { answer = tableTurned n offset; written = w; lent = l }

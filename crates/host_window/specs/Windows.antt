@@ -8,7 +8,7 @@ use borrow.Author.Tests.{ne-eqb}
 use lib.Dec.{eqb}
 use lib.IntN.{ℤ, pos}
 use Rattle.meaning.specs.Calls.{Answer, value, refused, tableRefused}
-use Rattle.meaning.specs.Window.{WindowAnswer, stands, empty, turnedBack, windowNumber, Outcome, outcome, bringsAnswer}
+use Rattle.meaning_window.specs.Window.{WindowAnswer, stands, empty, turnedBack, windowNumber, Outcome, outcome, bringsAnswer}
 use Rattle.host_numbers.specs.Lent.{answerNumber, answerCount, answerValue}
 
 -- ---- a finish's answer, from the numbers that the host's finish hands out

@@ -1,6 +1,6 @@
 // The window over the last values: an answer is four numbers, a finish's answer comes as the three that `segment_finish` hands out.
 ghost use mathlib.Core.Path.{_≡_};
-ghost use Rattle.meaning.specs.Window.{opensWindow, bringsAnswer};
+ghost use Rattle.meaning_window.specs.Window.{opensWindow, bringsAnswer};
 ghost use Rattle.records.specs.Records as Records;
 ghost use Rattle.window.specs.Answers as Answers;
 ghost use Rattle.host_window.specs.Windows.{finishedAs, NumbersOf, WindowPassedOn};

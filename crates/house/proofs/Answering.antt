@@ -8,7 +8,7 @@ use lib.Seq.{length-take-le, getD-take, ext-getD}
 use Rattle.meaning.specs.Table.{State, Entry, noEntry}
 use Rattle.meaning.specs.Layout.{Bytes}
 use Rattle.meaning.specs.PublicCalls.{usable, check}
-use Rattle.meaning.specs.House.{writing, houseOf}
+use Rattle.meaning_house.specs.House.{writing, houseOf}
 use Rattle.theory_base.specs.Members.{map-at}
 use Rattle.theory_table.specs.Reading.{table-reads}
 use Rattle.theory_order.specs.Planning.{Planned, copied, TablePlan, table-plan}

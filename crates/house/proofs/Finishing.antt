@@ -4,7 +4,7 @@ use native.Mathlib.Omega.{arith}
 use mathlib.Core.Path.{_≡_, ap₂, _∙_}
 use mathlib.Core.List.{List, _++_}
 use lib.ListN.{getD, take}
-use Rattle.meaning.specs.House.{writing}
+use Rattle.meaning_house.specs.House.{writing}
 use Rattle.theory_order.specs.Planning.{copied}
 use Rattle.house_plan.specs.Plans.{TablePlanned}
 use Rattle.house_write.specs.Answers.{houseIs}

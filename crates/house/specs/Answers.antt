@@ -3,7 +3,7 @@ use Prim.Native.Nat.{ℕ, _≤_, _<_}
 use mathlib.Core.Path.{_≡_}
 use mathlib.Core.List.{List, _++_}
 use lib.ListN.{length, getD, take}
-use Rattle.meaning.specs.House.{writing}
+use Rattle.meaning_house.specs.House.{writing}
 use Rattle.theory_order.specs.Planning.{Planned, copied}
 use Rattle.house_write.specs.declared.Written.{Written}
 use Rattle.house_write.specs.Answers.{houseIs}

@@ -2,7 +2,7 @@
 // they set, then by its conditions by their bytes, each once.
 ghost use mathlib.Core.Path.{_≡_};
 ghost use lib.ListN.{length};
-ghost use Rattle.meaning.specs.House.{houseOf};
+ghost use Rattle.meaning_house.specs.House.{houseOf};
 ghost use Rattle.house_write.specs.Answers.{houseIs};
 ghost use Rattle.house.specs.Answers.{PlanReady, Writes};
 use checker_grammar::Judged;

@@ -6,7 +6,7 @@ use mathlib.Core.List.{List, [], _++_}
 use lib.ListN.{length, take, drop, length-append}
 use lib.Seq.{paste, length-take-le, take-at, drop-append-add, drop-drop}
 use Rattle.meaning.specs.PublicCalls.{written}
-use Rattle.meaning.specs.House.{writing}
+use Rattle.meaning_house.specs.House.{writing}
 use Rattle.theory_order.specs.Planning.{copied}
 use Rattle.theory_order.specs.Proved.{writing-long, writing-short}
 use Rattle.house_copy.proofs.Writing.{written-more}

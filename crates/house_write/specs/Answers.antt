@@ -1,7 +1,7 @@
 -- 02's numbers for the writer's answers.
 use Prim.Native.Nat.{ℕ}
 use mathlib.Core.List.{List}
-use Rattle.meaning.specs.House.{HouseCalled, wrote, turnedBack}
+use Rattle.meaning_house.specs.House.{HouseCalled, wrote, turnedBack}
 use Rattle.house_write.specs.declared.Written.{Written}
 use Rattle.house_write.specs.declared.Written.the-variants.{Done, Short, Unusable}
 

@@ -3,7 +3,7 @@ ghost use mathlib.Core.Path.{_≡_};
 ghost use mathlib.Core.List.{_++_};
 ghost use Prim.Native.Nat.{_≤_};
 ghost use lib.ListN.{length, take};
-ghost use Rattle.meaning.specs.House.{writing};
+ghost use Rattle.meaning_house.specs.House.{writing};
 ghost use Rattle.theory_order.specs.Planning.{copied};
 ghost use Rattle.house_write.specs.Answers.{houseIs};
 

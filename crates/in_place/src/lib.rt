@@ -16,7 +16,8 @@ pub fn feed_in_place(
     kinds: &[u8],
     values: &[i32],
 ) -> Answer
-    ensures { λ r. ⌜ effectIs (record { «record» = now («record» .exit); answer = r }) (now (registers .exit)) (now (places .exit)) (now (program .exit)) ≡ performs programOf (now (table .entry)) (now (program .entry)) (recordIs (now («record» .entry))) (stacksOf (now (registers .entry)) (now (places .entry))) (feed (now (kinds .entry)) (now (values .entry))) ⌝ }
+    ensures { λ r. ⌜ effectIs (record { «record» = now («record» .exit); answer = r }) (now (registers .exit)) (now (places .exit)) (now (program .exit))
+        ≡ performs programOf (now (table .entry)) (now (program .entry)) (recordIs (now («record» .entry))) (stacksOf (now (registers .entry)) (now (places .entry))) (feed (now (kinds .entry)) (now (values .entry))) ⌝ }
 {
     let before = *record;
     let called = before.feed(table, registers, places, program, kinds, values);

@@ -3,7 +3,7 @@ use Prim.Native.Nat.{ℕ}
 use mathlib.Core.List.{List}
 use lib.IntN.{ℤ}
 use Rattle.meaning.specs.PublicCalls.{stacksOf}
-use Rattle.meaning.specs.Inner.{handedBack, InnerEffect, innerEffect}
+use Rattle.meaning_inner.specs.Inner.{handedBack, InnerEffect, innerEffect}
 use Rattle.records.specs.Records.{answerIs}
 use Rattle.engine.specs.Records.{recordIs}
 use Rattle.inner_records.specs.declared.InnerHanded.{InnerHanded}

@@ -2,16 +2,16 @@
 ghost use mathlib.Core.Path.{_≡_};
 ghost use Rattle.meaning.specs.Program.{programOf};
 ghost use Rattle.meaning.specs.PublicCalls.{stacksOf, feed, finish};
-ghost use Rattle.meaning.specs.Inner as Inner;
-ghost use Rattle.meaning.specs.Inner.{giveUp, innerOpens, innerPerforms};
+ghost use Rattle.meaning_inner.specs.Inner as Inner;
+ghost use Rattle.meaning_inner.specs.Inner.{giveUp, innerOpens, innerPerforms};
 ghost use Rattle.records.specs.Records.{stateIs};
 ghost use Rattle.engine.specs.Records.{recordIs};
 ghost use Rattle.inner_records.specs.Records.{callIs, innerLeaves};
 ghost use Rattle.inner.specs.Records.{innerEffectIs, innerCalledFrom};
-use engine::Begun;
 use engine::Record;
 use inner_records::Call;
 use inner_records::InnerHanded;
+use prepare::Begun;
 use records::Answer;
 use records::State;
 
@@ -72,9 +72,10 @@ fn perform(
     kinds: &[u8],
     values: &[i32],
 ) -> InnerHanded
-    ensures { λ r. ⌜ innerLeaves r (now (registers .exit)) (now (places .exit)) (now (program .exit)) ≡ innerPerforms programOf (now (table .entry)) (now (program .entry)) (stateIs outer) (stateIs inner) (stacksOf (now (registers .entry)) (now (places .entry))) (callIs call (now (kinds .entry)) (now (values .entry))) ⌝ }
+    ensures { λ r. ⌜ innerLeaves r (now (registers .exit)) (now (places .exit)) (now (program .exit))
+        ≡ innerPerforms programOf (now (table .entry)) (now (program .entry)) (stateIs outer) (stateIs inner) (stacksOf (now (registers .entry)) (now (places .entry))) (callIs call (now (kinds .entry)) (now (values .entry))) ⌝ }
 {
-    match engine::begin(table, program) {
+    match prepare::begin(table, program) {
         Begun::Turned(answer) => InnerHanded {
             outer,
             inner,
@@ -104,7 +105,8 @@ pub fn feed_inner(
     kinds: &[u8],
     values: &[i32],
 ) -> InnerCalled
-    ensures { λ r. ⌜ innerEffectIs r (now (registers .exit)) (now (places .exit)) (now (program .exit)) ≡ innerPerforms programOf (now (table .entry)) (now (program .entry)) (recordIs outer) (recordIs inner) (stacksOf (now (registers .entry)) (now (places .entry))) (Inner.engine (feed (now (kinds .entry)) (now (values .entry)))) ⌝ }
+    ensures { λ r. ⌜ innerEffectIs r (now (registers .exit)) (now (places .exit)) (now (program .exit))
+        ≡ innerPerforms programOf (now (table .entry)) (now (program .entry)) (recordIs outer) (recordIs inner) (stacksOf (now (registers .entry)) (now (places .entry))) (Inner.engine (feed (now (kinds .entry)) (now (values .entry)))) ⌝ }
 {
     let below = outer.state;
     let above = inner.state;

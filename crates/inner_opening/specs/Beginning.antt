@@ -13,13 +13,13 @@ use Rattle.meaning.specs.Program.{programOf}
 use Rattle.meaning.specs.Calls as Calls
 use Rattle.meaning.specs.Calls.{Record, Stacks, more, value, refused, tableRefused, closedRecord, asBrought}
 use Rattle.meaning.specs.PublicCalls.{Checked, usable, unusable, check, areaLength, written, Effect, effect}
-use Rattle.meaning.specs.Inner.{InnerCalled, handedBack, innerOpenOf, InnerEffect, innerEffect, byTable, whenOuterFits, innerOpens}
+use Rattle.meaning_inner.specs.Inner.{InnerCalled, handedBack, innerOpenOf, InnerEffect, innerEffect, byTable, whenOuterFits, innerOpens}
 use Rattle.prepare.specs.Making.{ProgramStands}
 use Rattle.records.specs.declared.Answer.{Answer}
 use Rattle.records.specs.Records.{answerIs}
-use Rattle.engine.specs.declared.Begun.{Begun}
-use Rattle.engine.specs.declared.Begun.the-variants.{Turned}
-use Rattle.engine.specs.Beginning.{TurnedBack, Case, BegunAs}
+use Rattle.prepare.specs.declared.Begun.{Begun}
+use Rattle.prepare.specs.declared.Begun.the-variants.{Turned}
+use Rattle.prepare.specs.Beginning.{TurnedBack, Case, BegunAs}
 use Rattle.run_lent.specs.Judging.{numberFor, judged-back, judged-on}
 
 -- a call with area and table: 30, the table's refusals, or what is made of the grammar and the words written

@@ -4,13 +4,13 @@ ghost use Rattle.meaning.specs.Grammar.{Grammar};
 ghost use Rattle.meaning.specs.Program.{programOf};
 ghost use Rattle.meaning.specs.Calls.{closedRecord};
 ghost use Rattle.meaning.specs.PublicCalls.{stacksOf};
-ghost use Rattle.meaning.specs.Inner.{whenOuterFits, innerOpens};
+ghost use Rattle.meaning_inner.specs.Inner.{whenOuterFits, innerOpens};
 ghost use Rattle.run_fit.specs.HasProgram.{HasProgram, Readable};
 ghost use Rattle.records.specs.Records.{stateIs};
 ghost use Rattle.inner_records.specs.Records.{innerLeaves};
 ghost use Rattle.inner_opening.specs.Beginning.{calledInside, openedInside};
-use engine::Begun;
 use inner_records::InnerHanded;
+use prepare::Begun;
 use records::Answer;
 use records::State;
 
@@ -24,7 +24,7 @@ fn open_inside(
 ) -> InnerHanded
     ensures { λ r. ⌜ innerLeaves r (now (registers .exit)) (now (places .exit)) (now (program .exit)) ≡ (let m = stacksOf (now (registers .entry)) (now (places .entry)) in calledInside (now (table .entry)) (now (program .entry)) (stateIs outer) closedRecord m (openedInside (stateIs outer) m)) ⌝ }
 {
-    match engine::begin(table, program) {
+    match prepare::begin(table, program) {
         Begun::Turned(answer) => inner_records::not_opened(outer, answer),
         Begun::Ready => inner_stretch::open_above(outer, registers, places, program),
     }
@@ -39,7 +39,8 @@ fn open_over(
     program: &mut [u32],
 ) -> InnerHanded
     requires { ⌜ Readable (now program) ⌝ }
-    ensures { λ r. ⌜ ((g : Grammar) → HasProgram g (now (program .entry)) → innerLeaves r (now (registers .exit)) (now (places .exit)) (now (program .exit)) ≡ (let m = stacksOf (now (registers .entry)) (now (places .entry)) in whenOuterFits g (stateIs outer) m (now (program .entry)) (calledInside (now (table .entry)) (now (program .entry)) (stateIs outer) closedRecord m (openedInside (stateIs outer) m)))) ⌝ }
+    ensures { λ r. ⌜ ((g : Grammar) → HasProgram g (now (program .entry)) → innerLeaves r (now (registers .exit)) (now (places .exit)) (now (program .exit))
+        ≡ (let m = stacksOf (now (registers .entry)) (now (places .entry)) in whenOuterFits g (stateIs outer) m (now (program .entry)) (calledInside (now (table .entry)) (now (program .entry)) (stateIs outer) closedRecord m (openedInside (stateIs outer) m)))) ⌝ }
 {
     let number = inner_judge::judge(registers, places, program, outer);
     if number != 0 {
@@ -59,7 +60,7 @@ pub fn open_outside(
 ) -> InnerHanded
     ensures { λ r. ⌜ innerLeaves r (now (registers .exit)) (now (places .exit)) (now (program .exit)) ≡ innerOpens programOf (now («outer_table» .entry)) (now («inner_table» .entry)) (now (program .entry)) (stateIs outer) (stacksOf (now (registers .entry)) (now (places .entry))) ⌝ }
 {
-    match engine::begin(outer_table, program) {
+    match prepare::begin(outer_table, program) {
         Begun::Turned(answer) => inner_records::not_opened(outer, answer),
         Begun::Ready => open_over(outer, inner_table, registers, places, program),
     }

@@ -6,8 +6,8 @@ use mathlib.Core.List.{List}
 use lib.IntN.{ℤ}
 use Rattle.meaning.specs.Calls as Calls
 use Rattle.meaning.specs.PublicCalls.{stacksOf, feed, finish}
-use Rattle.meaning.specs.Inner as Inner
-use Rattle.meaning.specs.Inner.{InnerCall, giveUp, handedBack, innerEffect, isClosed, isRunning, isWaiting, isOuter, beginsAt, belongs}
+use Rattle.meaning_inner.specs.Inner as Inner
+use Rattle.meaning_inner.specs.Inner.{InnerCall, giveUp, handedBack, innerEffect, isClosed, isRunning, isWaiting, isOuter, beginsAt, belongs}
 use Rattle.records.specs.declared.Status.the-variants.{Running, Waiting, Closed}
 use Rattle.records.specs.declared.Kind.the-variants as Kinds
 use Rattle.records.specs.declared.State.{State}

@@ -1,6 +1,6 @@
 // The states of an outer and an inner run.
 ghost use mathlib.Core.Path.{_≡_};
-ghost use Rattle.meaning.specs.Inner as Inner;
+ghost use Rattle.meaning_inner.specs.Inner as Inner;
 ghost use Rattle.records.specs.Records.{stateIs, answerIs};
 ghost use Rattle.inner_records.specs.Records.{apartNumber, notOpenedFrom, openedFrom, endedFrom, wentOnFrom, endsBy};
 use records::Answer;

@@ -13,13 +13,16 @@ use Rattle.meaning.specs.Value.{mark}
 use Rattle.meaning.specs.Machine.{opening}
 use Rattle.meaning.specs.Calls.{running, closed, Kind, inner, Record, Stacks, Called, lentOf, layAll, recordOf, closedRecord, asBrought, refused, more, isOpen, openOf}
 use Rattle.meaning.specs.PublicCalls.{stacksOf, callOf}
-use Rattle.meaning.specs.Inner.{above, paste, cleared, withStatus, withKind, alone, beginning, InnerCalled, handedBack, openedAbove, innerOpenOf, InnerCall, engineCall, onStretch, ends, afterInner, isClosed, belongs, innerOf}
+use Rattle.meaning_inner.specs.Inner.{above, paste, cleared, withStatus, withKind, alone, beginning, InnerCalled, handedBack, openedAbove, innerOpenOf, InnerCall, engineCall, onStretch, ends, afterInner, isClosed, belongs, innerOf}
 use Rattle.theory_inner.specs.Stretch.{paste-same}
 use Rattle.theory_inner.specs.Slices.{capped, above-capped, paste-capped, above-cells, paste-cells}
 use Rattle.theory_inner.specs.Calling.{belongs-is}
 use Rattle.records.specs.declared.Handed as Code
 use Rattle.records.specs.declared.State as Brought
 use Rattle.records.specs.Records.{stateIs, answerIs, handedIs}
+use Rattle.run_lent.specs.declared.Call as EngineCall
+use Rattle.run_lent.specs.declared.Call.the-variants as Engine
+use Rattle.run_lent.specs.Performing as Performing
 use Rattle.inner_records.specs.declared.InnerHanded as Handed
 use Rattle.inner_records.specs.declared.Call as CodeCall
 use Rattle.inner_records.specs.declared.Call.the-variants.{Feed, Finish, GiveUp}
@@ -101,9 +104,34 @@ module _ (g : Grammar) (o : Brought.State) (vs : List ℤ) (ps : List ℕ) (n k 
 
 -- ---- a later call
 
+abbrev pub givesUp : CodeCall.Call → Bool
+givesUp Feed = false
+givesUp Finish = false
+givesUp GiveUp = true
+
+-- the engine's own call
+abbrev pub engineCallFor : CodeCall.Call → EngineCall.Call
+engineCallFor Feed = Engine.Feed
+engineCallFor Finish = Engine.Finish
+engineCallFor GiveUp = Engine.Feed
+
+pub gave-up : (c : CodeCall.Call) → givesUp c ≡ true → c ≡ GiveUp
+gave-up Feed e = absurd (subst T (sym e) tt)
+gave-up Finish e = absurd (subst T (sym e) tt)
+gave-up GiveUp e = refl
+
+engine-call : (c : CodeCall.Call) → givesUp c ≡ false → (ks : List ℕ) (us : List ℤ) → Performing.callIs (engineCallFor c) ks us ≡ engineCall (callIs c ks us)
+engine-call Feed e ks us = refl
+engine-call Finish e ks us = refl
+engine-call GiveUp e ks us = absurd (subst T e tt)
+
 -- by the call that it is
 pub call-by : (g : Grammar) (r : Record) (m : Stacks) (ks : List ℕ) (us : List ℤ) (c d : CodeCall.Call) → c ≡ d → (k : Called) → k ≡ callOf g r m (engineCall (callIs d ks us)) → k ≡ callOf g r m (engineCall (callIs c ks us))
 call-by g r m ks us c d e k q = q ∙ ap (λ z. callOf g r m (engineCall (callIs z ks us))) (sym e)
+
+-- by the engine's own, where it does not give up
+pub call-by-engine : (g : Grammar) (r : Record) (m : Stacks) (ks : List ℕ) (us : List ℤ) (c : CodeCall.Call) → givesUp c ≡ false → (d : EngineCall.Call) → d ≡ engineCallFor c → (k : Called) → k ≡ callOf g r m (Performing.callIs d ks us) → k ≡ callOf g r m (engineCall (callIs c ks us))
+call-by-engine g r m ks us c n d e k q = q ∙ ap (callOf g r m) (ap (λ z. Performing.callIs z ks us) e ∙ engine-call c n ks us)
 
 -- on the stretch alone
 abbrev pub stretchAfter : Bool → Record → Record → Stacks → Called → InnerCalled

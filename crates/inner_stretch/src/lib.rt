@@ -4,12 +4,12 @@ ghost use mathlib.Core.Path.{_≡_};
 ghost use lib.ListN.{length};
 ghost use Rattle.meaning.specs.Grammar.{Grammar};
 ghost use Rattle.meaning.specs.PublicCalls.{stacksOf, callOf};
-ghost use Rattle.meaning.specs.Inner.{engineCall, innerOpenOf, innerOf};
+ghost use Rattle.meaning_inner.specs.Inner.{engineCall, innerOpenOf, innerOf};
 ghost use Rattle.theory_program.specs.Addresses.{Begins};
 ghost use Rattle.run_fit.specs.HasProgram.{HasProgram, Readable};
 ghost use Rattle.records.specs.Records.{stateIs, handedIs};
 ghost use Rattle.inner_records.specs.Records.{callIs, innerHandedIs};
-ghost use Rattle.inner_stretch.specs.Lending.{stretchCalled};
+ghost use Rattle.inner_stretch.specs.Lending.{givesUp, engineCallFor, stretchCalled};
 use inner_begin::beginning;
 use inner_records::Call;
 use inner_records::InnerHanded;
@@ -40,7 +40,28 @@ pub fn open_above(
     opened(outer, handed)
 }
 
-// The engine's call. Giving up is an empty feed.
+fn gives_up(call: Call) -> bool
+    ensures { λ r. ⌜ r ≡ givesUp call ⌝ }
+{
+    match call {
+        Call::Feed => false,
+        Call::Finish => false,
+        Call::GiveUp => true,
+    }
+}
+
+// The engine's own call. Giving up is a feed.
+fn engine_call(call: Call) -> run_lent::Call
+    ensures { λ r. ⌜ r ≡ engineCallFor call ⌝ }
+{
+    match call {
+        Call::Feed => run_lent::Call::Feed,
+        Call::Finish => run_lent::Call::Finish,
+        Call::GiveUp => run_lent::Call::Feed,
+    }
+}
+
+// The engine's call on the cells. Giving up is a feed of no tokens.
 fn call_cells(
     call: Call,
     registers: &mut [i64],
@@ -53,41 +74,26 @@ fn call_cells(
     requires { ⌜ Readable (now program) ⌝ }
     ensures { λ r. ⌜ ((g : Grammar) → HasProgram g (now (program .entry)) → handedIs r (now (registers .exit)) (now (places .exit)) ≡ callOf g (stateIs brought) (stacksOf (now (registers .entry)) (now (places .entry))) (engineCall (callIs call (now (kinds .entry)) (now (values .entry))))) ⌝ }
 {
-    match call {
-        Call::Feed => {
-            run_lent::call_cells(
-                run_lent::Call::Feed,
-                registers,
-                places,
-                program,
-                brought,
-                kinds,
-                values,
-            )
-        }
-        Call::Finish => {
-            run_lent::call_cells(
-                run_lent::Call::Finish,
-                registers,
-                places,
-                program,
-                brought,
-                kinds,
-                values,
-            )
-        }
-        Call::GiveUp => {
-            run_lent::call_cells(
-                run_lent::Call::Feed,
-                registers,
-                places,
-                program,
-                brought,
-                &kinds[..0],
-                &values[..0],
-            )
-        }
+    if gives_up(call) {
+        return run_lent::call_cells(
+            run_lent::Call::Feed,
+            registers,
+            places,
+            program,
+            brought,
+            &kinds[..0],
+            &values[..0],
+        );
     }
+    run_lent::call_cells(
+        engine_call(call),
+        registers,
+        places,
+        program,
+        brought,
+        kinds,
+        values,
+    )
 }
 
 // The call on the stretch alone. 02 (h): ending the inner run "clears its cells".
@@ -102,7 +108,8 @@ fn call_stretch(
     values: &[i32],
 ) -> InnerHanded
     requires { ⌜ Readable (now program) ⌝ }
-    ensures { λ r. ⌜ ((g : Grammar) → HasProgram g (now (program .entry)) → innerHandedIs r (now (registers .exit)) (now (places .exit)) ≡ stretchCalled g (stateIs outer) (stateIs inner) (stacksOf (now (registers .entry)) (now (places .entry))) (callIs call (now (kinds .entry)) (now (values .entry)))) ⌝ }
+    ensures { λ r. ⌜ ((g : Grammar) → HasProgram g (now (program .entry)) → innerHandedIs r (now (registers .exit)) (now (places .exit))
+        ≡ stretchCalled g (stateIs outer) (stateIs inner) (stacksOf (now (registers .entry)) (now (places .entry))) (callIs call (now (kinds .entry)) (now (values .entry)))) ⌝ }
 {
     let alone = inner.alone();
     let handed = call_cells(call, registers, places, program, alone, kinds, values);

@@ -1,5 +1,5 @@
 -- What the outline of an accepted table says of its productions, and what the call answers.
-use Prim.Native.Nat.{ℕ, _+_, _*_, _/_, _≤_, _<_}
+use Prim.Native.Nat.{ℕ, _+_, _/_, _≤_, _<_}
 use native.Mathlib.Omega.{arith}
 use mathlib.Core.Path.{_≡_, refl, sym, ap, _∙_, subst}
 use mathlib.Core.List.{List}
@@ -13,7 +13,7 @@ use Rattle.meaning.specs.Grammar.{Grammar, productionAt}
 use Rattle.meaning.specs.Table.{symbolOf}
 use Rattle.theory_base.specs.Members.{same-true, differ-false}
 use Rattle.outline.specs.declared.Sizes.{Sizes}
-use Rattle.outline.specs.Rows.{Rows, sizeAt, right-is, size-is, symbol-is}
+use Rattle.outline.specs.Rows.{Rows, rowStart, sizeAt, right-is, size-is, symbol-is}
 use Rattle.outline.specs.Outline.{grammarIn, Productions, Outline}
 use Rattle.checker.specs.Judging.{Accepts, Judges}
 use Rattle.checker.proofs.Cases.{accepted-case, refused-case}
@@ -24,7 +24,7 @@ use Rattle.theory_judge.specs.Marks.{leaves-many}
 use Rattle.theory_judge.specs.Whole.{none-many, settles-none}
 use Rattle.judge_parts.specs.Checked.{leavesIn}
 use Rattle.judge_sheet.specs.declared.Judgement.{Judgement}
-use Rattle.judge_sheet.specs.Judged.{judgementIs, SheetReady, SheetTold}
+use Rattle.judge_sheet.specs.Judged.{judgementIs, SheetReady, SheetSettled}
 
 -- ---- the book of an accepted table
 
@@ -34,16 +34,16 @@ module _ {t rows offsets : List ℕ} {count : ℕ} (x : Productions t rows offse
   r = x .rowsOf
 
   abbrev cut : List ℕ
-  cut = take (count * 16) rows
+  cut = take (rowStart count) rows
 
-  pub cut-long : length cut ≡ count * 16
-  cut-long = length-take-le (count * 16) rows (r .room)
+  pub cut-long : length cut ≡ rowStart count
+  cut-long = length-take-le (rowStart count) rows (r .room)
 
-  cut-byte : (i : ℕ) → i < count * 16 → getD cut i 0 ≡ getD rows i 0
-  cut-byte i l = getD-take (count * 16) rows i 0 l
+  cut-byte : (i : ℕ) → i < rowStart count → getD cut i 0 ≡ getD rows i 0
+  cut-byte i l = getD-take (rowStart count) rows i 0 l
 
   cut-size : (p : ℕ) → p < count → sizeAt cut p ≡ sizeAt rows p
-  cut-size p l = cut-byte (p * 16 + 1) (omega arith)
+  cut-size p l = cut-byte (rowStart p + 1) (omega arith)
 
   cut-rows : Rows cut count (grammarIn t)
   cut-rows = record {
@@ -52,10 +52,10 @@ module _ {t rows offsets : List ℕ} {count : ℕ} (x : Productions t rows offse
     counted = r .counted;
     room = omega (arith, cut-long);
     sizes = λ p l. omega (arith, cut-size p l, r .sizes p l);
-    left = λ p l. cut-byte (p * 16) (omega arith) ∙ r .left p l;
+    left = λ p l. cut-byte (rowStart p) (omega arith) ∙ r .left p l;
     right = λ p l.
         right-is cut count (omega (arith, cut-long)) p l (omega (arith, cut-size p l, r .sizes p l)) (productionAt (grammarIn t) p .right) (cut-size p l ∙ size-is r p l)
-        (λ k m. ap symbolOf (cut-byte (p * 16 + 2 + k) (omega (arith, size-is r p l, r .sizes p l))) ∙ symbol-is r p l k m);
+        (λ k m. ap symbolOf (cut-byte (rowStart p + 2 + k) (omega (arith, size-is r p l, r .sizes p l))) ∙ symbol-is r p l k m);
   }
 
   pub productions-cut : Productions t cut offsets (length cut / 16)
@@ -93,11 +93,11 @@ module _ (t inherited synthesized rows offsets sets : List ℕ) (q : Table.Judge
     answer-uneven f = if-even (turnedBack 38 0) (subst (λ b. SettlesIf b g ks vs sheet (turnedBack 38 0)) (sym (differ-false (length ks) (length vs) f)) refl)
 
     module _ (bytes : Bytes t) where
-      pub rows-fit : sizes .productions * 16 ≤ length rows
+      pub rows-fit : rowStart (sizes .productions) ≤ length rows
       rows-fit = b .productions .rowsOf .room
 
-      pub rows-cut : sizes .productions * 16 ≡ length (take (sizes .productions * 16) rows)
-      rows-cut = sym (cut-long (b .productions))
+      pub rows-cut : {long : ℕ} → long ≡ rowStart (sizes .productions) → long ≡ length (take long rows)
+      rows-cut e = subst (λ n. n ≡ length (take n rows)) (sym e) (sym (cut-long (b .productions)))
 
       module _ (even : length ks ≡ length vs) where
         settled : (a : JudgeAnswer) → Settles g (leavesIn g ks vs) sheet a → JudgedAs t ks vs sheet a
@@ -107,8 +107,8 @@ module _ (t inherited synthesized rows offsets sets : List ℕ) (q : Table.Judge
         answer-many l = settled (turnedBack 43 0) (settles-none g formed ks vs sheet (none-many g formed ks vs sheet (omega (arith, leaves-many g ks vs even))))
 
         module _ (few : length ks < 4294967296) (isBytes : Bytes sheet) where
-          pub answer-ready : SheetReady t (take (sizes .productions * 16) rows) inherited synthesized offsets ks vs sheet (sizes .start) (sizes .result)
-          answer-ready = record {
+          ready : SheetReady t (take (rowStart (sizes .productions)) rows) inherited synthesized offsets ks vs sheet (sizes .start) (sizes .result)
+          ready = record {
             book = record {
               isTable = bytes;
               productions = productions-cut (b .productions);
@@ -121,5 +121,10 @@ module _ (t inherited synthesized rows offsets sets : List ℕ) (q : Table.Judge
             isResult = b .numbers .result;
           }
 
-          pub answer-told : (r : Judgement) → SheetTold t (take (sizes .productions * 16) rows) inherited synthesized offsets ks vs sheet (sizes .start) (sizes .result) r → JudgedAs t ks vs sheet (judgementIs r)
-          answer-told r h = settled (judgementIs r) (h answer-ready)
+          -- where the rows are cut behind the last production's
+          module _ {long : ℕ} (cut : long ≡ rowStart (sizes .productions)) where
+            pub answer-ready : SheetReady t (take long rows) inherited synthesized offsets ks vs sheet (sizes .start) (sizes .result)
+            answer-ready = subst (λ n. SheetReady t (take n rows) inherited synthesized offsets ks vs sheet (sizes .start) (sizes .result)) (sym cut) ready
+
+            pub answer-settled : (r : Judgement) → SheetSettled t (take long rows) inherited synthesized offsets ks vs sheet (sizes .start) (sizes .result) r → JudgedAs t ks vs sheet (judgementIs r)
+            answer-settled r h = settled (judgementIs r) (h answer-ready)

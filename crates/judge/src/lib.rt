@@ -32,7 +32,7 @@ pub fn judge(table: &[u8], kinds: &[u8], values: &[i32], sheet: &[u8]) -> Judgem
             if COUNTED <= kinds.len() {
                 return Judgement::Wrong;
             }
-            let long = sizes.productions * 16;
+            let long = outline::row_start(sizes.productions);
             judge_sheet::judge_sheet(
                 table,
                 &rows[..long],

@@ -1,5 +1,5 @@
 -- What each way out of the reading of a record shows.
-use Prim.Native.Nat.{ℕ, _+_, _-_, _*_, _/_, _≤_, _<_}
+use Prim.Native.Nat.{ℕ, _+_, _-_, _*_, _≤_, _<_}
 use native.Mathlib.Omega.{arith}
 use mathlib.Core.Path.{_≡_, sym, ap, ap₂, _∙_, subst}
 use mathlib.Core.Bool.{Bool, true, false}
@@ -7,11 +7,12 @@ use mathlib.Core.List.{List}
 use lib.ListN.{length}
 use Rattle.meaning.specs.Base.{all}
 use Rattle.meaning.specs.Table.{byte}
+use Rattle.outline.specs.Rows.{rowCount, leftAt}
 use Rattle.meaning.specs.Value.{inRange}
 use Rattle.theory_base.specs.Members.{apart}
 use Rattle.value.specs.Constants.{wordAt}
 use Rattle.theory_judge.specs.Longs.{longs}
-use Rattle.judge_head.specs.Heads.{Heads, HeadIs, HeadTold}
+use Rattle.judge_head.specs.Heads.{Heads, HeadIs, HeadOrNone}
 use Rattle.judge_head.specs.declared.Head.{Head}
 use Rattle.judge_head.specs.declared.Head.the-variants.{Found, Unfit}
 
@@ -19,41 +20,41 @@ module _ (rows inherited synthesized sheet : List ℕ) (at from m i s : ℕ) (ei
   both : i + s ≡ byte inherited m + byte synthesized m
   both = ap₂ _+_ ei es
 
-  pub head-short : length sheet ≤ at → HeadTold rows inherited synthesized sheet at from m Unfit
-  unfolding HeadTold
+  pub head-short : length sheet ≤ at → HeadOrNone rows inherited synthesized sheet at from m Unfit
+  unfolding HeadOrNone
   head-short l h = omega (arith, h .inside)
 
-  pub head-cut : length sheet - at < 12 + 8 * (i + s) → HeadTold rows inherited synthesized sheet at from m Unfit
-  unfolding HeadTold
+  pub head-cut : length sheet - at < 12 + 8 * (i + s) → HeadOrNone rows inherited synthesized sheet at from m Unfit
+  unfolding HeadOrNone
   head-cut l h = omega (arith, h .inside, both)
 
   module _ (p : ℕ) (ep : p ≡ wordAt sheet at) where
-    pub head-unlisted : length rows / 16 ≤ p → HeadTold rows inherited synthesized sheet at from m Unfit
-    unfolding HeadTold
+    pub head-unlisted : rowCount rows ≤ p → HeadOrNone rows inherited synthesized sheet at from m Unfit
+    unfolding HeadOrNone
     head-unlisted l h = omega (arith, h .listed)
 
-    module _ (q : ℕ) (eq : q ≡ byte rows (p * 16)) where
-      pub head-other : (q ≡ m → ⊥) → HeadTold rows inherited synthesized sheet at from m Unfit
-      unfolding HeadTold
-      head-other f h = f (eq ∙ (ap (λ k. byte rows (k * 16)) ep ∙ h .left))
+    module _ (q : ℕ) (eq : q ≡ leftAt rows p) where
+      pub head-other : (q ≡ m → ⊥) → HeadOrNone rows inherited synthesized sheet at from m Unfit
+      unfolding HeadOrNone
+      head-other f h = f (eq ∙ (ap (leftAt rows) ep ∙ h .left))
 
       module _ (w : ℕ) (ew : w ≡ wordAt sheet (at + 4)) where
-        pub head-before : (w ≡ from → ⊥) → HeadTold rows inherited synthesized sheet at from m Unfit
-        unfolding HeadTold
+        pub head-before : (w ≡ from → ⊥) → HeadOrNone rows inherited synthesized sheet at from m Unfit
+        unfolding HeadOrNone
         head-before f h = f (ew ∙ h .before)
 
         module _ (a : Bool) (ea : a ≡ all inRange (longs sheet (at + 12) (i + s))) where
-          pub head-far : a ≡ false → HeadTold rows inherited synthesized sheet at from m Unfit
-          unfolding HeadTold
+          pub head-far : a ≡ false → HeadOrNone rows inherited synthesized sheet at from m Unfit
+          unfolding HeadOrNone
           head-far f h = apart (sym (h .ranges) ∙ (ap (λ n. all inRange (longs sheet (at + 12) n)) (sym both) ∙ (sym ea ∙ f)))
 
-          pub head-found : at < length sheet → 12 + 8 * (i + s) ≤ length sheet - at → p < length rows / 16 → q ≡ m → w ≡ from → a ≡ true → (c : ℕ) → c ≡ wordAt sheet (at + 8) → HeadTold rows inherited synthesized sheet at from m (Found p (at + 12 + 8 * (i + s)) c)
-          unfolding HeadTold
+          pub head-found : at < length sheet → 12 + 8 * (i + s) ≤ length sheet - at → p < rowCount rows → q ≡ m → w ≡ from → a ≡ true → (c : ℕ) → c ≡ wordAt sheet (at + 8) → HeadOrNone rows inherited synthesized sheet at from m (Found p (at + 12 + 8 * (i + s)) c)
+          unfolding HeadOrNone
           head-found l₀ l lp lq lw la c ec = record {
             heads = record {
               inside = omega (arith, both);
               listed = omega (arith, ep);
-              left = ap (λ k. byte rows (k * 16)) (sym ep) ∙ (sym eq ∙ lq);
+              left = ap (leftAt rows) (sym ep) ∙ (sym eq ∙ lq);
               before = sym ew ∙ lw;
               ranges = ap (λ n. all inRange (longs sheet (at + 12) n)) (sym both) ∙ (sym ea ∙ la);
             };
@@ -62,10 +63,10 @@ module _ (rows inherited synthesized sheet : List ℕ) (at from m i s : ℕ) (ei
             covers = ec;
           }
 
-pub head-is : (rows inherited synthesized sheet : List ℕ) (at from m : ℕ) (r : Head) → HeadTold rows inherited synthesized sheet at from m r → (p b c : ℕ) → r ≡ Found p b c → HeadIs rows inherited synthesized sheet at from m p b c
-unfolding HeadTold
-head-is rows inherited synthesized sheet at from m r t p b c e = subst (λ z. HeadTold rows inherited synthesized sheet at from m z) e t
+pub head-is : (rows inherited synthesized sheet : List ℕ) (at from m : ℕ) (r : Head) → HeadOrNone rows inherited synthesized sheet at from m r → (p b c : ℕ) → r ≡ Found p b c → HeadIs rows inherited synthesized sheet at from m p b c
+unfolding HeadOrNone
+head-is rows inherited synthesized sheet at from m r t p b c e = subst (λ z. HeadOrNone rows inherited synthesized sheet at from m z) e t
 
-pub head-none : (rows inherited synthesized sheet : List ℕ) (at from m : ℕ) (r : Head) → HeadTold rows inherited synthesized sheet at from m r → r ≡ Unfit → Heads rows inherited synthesized sheet at from m → ⊥
-unfolding HeadTold
-head-none rows inherited synthesized sheet at from m r t e = subst (λ z. HeadTold rows inherited synthesized sheet at from m z) e t
+pub head-none : (rows inherited synthesized sheet : List ℕ) (at from m : ℕ) (r : Head) → HeadOrNone rows inherited synthesized sheet at from m r → r ≡ Unfit → Heads rows inherited synthesized sheet at from m → ⊥
+unfolding HeadOrNone
+head-none rows inherited synthesized sheet at from m r t e = subst (λ z. HeadOrNone rows inherited synthesized sheet at from m z) e t

@@ -6,6 +6,7 @@ use mathlib.Core.List.{List}
 use lib.ListN.{length}
 use Rattle.meaning.specs.Base.{all}
 use Rattle.meaning.specs.Table.{byte}
+use Rattle.outline.specs.Rows.{HasRow, leftAt}
 use Rattle.meaning.specs.Value.{inRange}
 use Rattle.value.specs.Constants.{wordAt}
 use Rattle.theory_judge.specs.Longs.{longs}
@@ -15,8 +16,8 @@ use Rattle.judge_head.specs.declared.Head.the-variants.{Found, Unfit}
 -- the record at an offset is one of nonterminal m, with so many tokens before it and values in range
 pub record Heads (rows inherited synthesized sheet : List ℕ) (at from m : ℕ) : Type 0 where
   pub inside : at + 12 + 8 * (byte inherited m + byte synthesized m) ≤ length sheet
-  pub listed : wordAt sheet at * 16 + 16 ≤ length rows
-  pub left : byte rows (wordAt sheet at * 16) ≡ m
+  pub listed : HasRow rows (wordAt sheet at)
+  pub left : leftAt rows (wordAt sheet at) ≡ m
   pub before : wordAt sheet (at + 4) ≡ from
   pub ranges : all inRange (longs sheet (at + 12) (byte inherited m + byte synthesized m)) ≡ true
 
@@ -27,6 +28,6 @@ pub record HeadIs (rows inherited synthesized sheet : List ℕ) (at from m p beh
   pub next : behind ≡ at + 12 + 8 * (byte inherited m + byte synthesized m)
   pub covers : covered ≡ wordAt sheet (at + 8)
 
-unfoldable pub HeadTold : List ℕ → List ℕ → List ℕ → List ℕ → ℕ → ℕ → ℕ → Head → Type 0
-HeadTold rows inherited synthesized sheet at from m (Found p behind covered) = HeadIs rows inherited synthesized sheet at from m p behind covered
-HeadTold rows inherited synthesized sheet at from m Unfit = Heads rows inherited synthesized sheet at from m → ⊥
+unfoldable pub HeadOrNone : List ℕ → List ℕ → List ℕ → List ℕ → ℕ → ℕ → ℕ → Head → Type 0
+HeadOrNone rows inherited synthesized sheet at from m (Found p behind covered) = HeadIs rows inherited synthesized sheet at from m p behind covered
+HeadOrNone rows inherited synthesized sheet at from m Unfit = Heads rows inherited synthesized sheet at from m → ⊥

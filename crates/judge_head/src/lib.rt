@@ -1,7 +1,7 @@
 // A node's own record in a sheet.
 ghost use Prim.Native.Nat.{_+_, _≤_};
 ghost use Rattle.meaning.specs.Table.{byte};
-ghost use Rattle.judge_head.specs.Heads.{HeadTold};
+ghost use Rattle.judge_head.specs.Heads.{HeadOrNone};
 
 // What a node's own record says: its production, where the records of its children begin, and the tokens that it covers.
 pub enum Head {
@@ -24,7 +24,7 @@ pub fn heading(
     m: usize,
 ) -> Head
     requires { ⌜ byte (now inherited) m + byte (now synthesized) m ≤ 8 ⌝ }
-    ensures { λ r. ⌜ HeadTold (now (rows .entry)) (now (inherited .entry)) (now (synthesized .entry)) (now (sheet .entry)) at from m r ⌝ }
+    ensures { λ r. ⌜ HeadOrNone (now (rows .entry)) (now (inherited .entry)) (now (synthesized .entry)) (now (sheet .entry)) at from m r ⌝ }
 {
     let n = (value::byte_at(inherited, m) + value::byte_at(synthesized, m)) as usize;
     let length = sheet.len();
@@ -35,10 +35,10 @@ pub fn heading(
         return Head::Unfit;
     }
     let p = value::word_at(sheet, at) as usize;
-    if rows.len() / 16 <= p {
+    if outline::row_count(rows) <= p {
         return Head::Unfit;
     }
-    if value::byte_at(rows, p * 16) as usize != m {
+    if outline::left_of(rows, p) as usize != m {
         return Head::Unfit;
     }
     if value::word_at(sheet, at + 4) as usize != from {

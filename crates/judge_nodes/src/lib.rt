@@ -1,7 +1,7 @@
 // A sheet against a table and a segment: a node goes through its children, and each child is a node again.
 ghost use mathlib.Core.Path.{_≡_};
 ghost use lib.ListN.{length};
-ghost use Rattle.judge_parts.specs.Checked.{NodeReady, NodeTold, ChildrenReady, ChildrenTold};
+ghost use Rattle.judge_parts.specs.Checked.{NodeReady, NodeEnds, ChildrenReady, ChildrenEnds};
 use judge_head::Head;
 use judge_parts::Answer;
 
@@ -22,7 +22,7 @@ pub fn check_node(
     depth_left: usize,
 ) -> Answer
     requires { ⌜ NodeReady (now table) (now rows) (now inherited) (now synthesized) (now offsets) (now kinds) (now values) (now sheet) from symbol ⌝ }
-    ensures { λ r. ⌜ NodeTold (now (table .entry)) (now (rows .entry)) (now (inherited .entry)) (now (synthesized .entry)) (now (offsets .entry)) (now (kinds .entry)) (now (values .entry)) (now (sheet .entry)) at from symbol «depth_left» r ⌝ }
+    ensures { λ r. ⌜ NodeEnds (now (table .entry)) (now (rows .entry)) (now (inherited .entry)) (now (synthesized .entry)) (now (offsets .entry)) (now (kinds .entry)) (now (values .entry)) (now (sheet .entry)) at from symbol «depth_left» r ⌝ }
 {
     if symbol < 128 {
         return judge_parts::check_token(kinds, values, at, from, symbol);
@@ -86,15 +86,14 @@ pub fn check_children(
     marks: &mut [usize; 13],
 ) -> Answer
     requires { ⌜ ChildrenReady (now table) (now rows) (now inherited) (now synthesized) (now offsets) (now kinds) (now values) (now sheet) p from × (length (now marks) ≡ 13) ⌝ }
-    ensures { λ r. ⌜ ChildrenTold (now (table .entry)) (now (rows .entry)) (now (inherited .entry)) (now (synthesized .entry)) (now (offsets .entry)) (now (kinds .entry)) (now (values .entry)) (now (sheet .entry)) p at from «depth_left» (now (marks .entry)) (now (marks .exit)) r ⌝ }
+    ensures { λ r. ⌜ ChildrenEnds (now (table .entry)) (now (rows .entry)) (now (inherited .entry)) (now (synthesized .entry)) (now (offsets .entry)) (now (kinds .entry)) (now (values .entry)) (now (sheet .entry)) p at from «depth_left» (now (marks .entry)) (now (marks .exit)) r ⌝ }
 {
-    let first = p * 16;
-    let size = value::byte_at(rows, first + 1) as usize;
+    let size = outline::size_of(rows, p);
     let mut next = at;
     let mut end = from;
     let mut k: usize = 0;
     while k < size {
-        let symbol = rows[first + 2 + k];
+        let symbol = outline::symbol_of(rows, p, k);
         marks[k + 1] = judge_parts::mark_of(sheet.len(), symbol, next, end);
         match check_node(
             table,

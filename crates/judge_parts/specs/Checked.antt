@@ -1,5 +1,5 @@
 -- What the functions that go through a sheet ask, and what their answers mean.
-use Prim.Native.Nat.{ℕ, _/_, _≤_, _<_}
+use Prim.Native.Nat.{ℕ, _≤_, _<_}
 use mathlib.Core.Path.{_≡_}
 use mathlib.Core.List.{List}
 use lib.ListN.{length, getD}
@@ -10,6 +10,7 @@ use Rattle.meaning.specs.Layout.{Bytes}
 use Rattle.meaning.specs.Table.{symbolOf}
 use Rattle.meaning.specs.Calls.{tokensFrom}
 use Rattle.outline.specs.Outline.{grammarIn, CountsOf, Productions}
+use Rattle.outline.specs.Rows.{rowCount}
 use Rattle.program_words.specs.Fields.{fieldsFrom, stretchEnd, fieldsAt}
 use Rattle.theory_judge.specs.Described.{Described, DescribedAll}
 use Rattle.theory_judge.specs.Passing.{Only, None, Marked, Upto}
@@ -18,12 +19,12 @@ use Rattle.judge_parts.specs.declared.Answer.the-variants.{Fits, Wrong}
 
 -- the bytes of the rules and conditions of production p, where the rows hold all productions
 abbrev pub fieldsOf : List ℕ → List ℕ → List ℕ → ℕ → List ℕ
-fieldsOf table rows offsets p = fieldsAt table (fieldsFrom rows offsets p) (stretchEnd table offsets (length rows / 16) p)
+fieldsOf table rows offsets p = fieldsAt table (fieldsFrom rows offsets p) (stretchEnd table offsets (rowCount rows) p)
 
 -- the productions and counts of an accepted table, where the rows hold all productions and nothing else; kinds and values of equal number, and a sheet of bytes
 pub record Book (table rows inherited synthesized offsets ks : List ℕ) (vs : List ℤ) (sheet : List ℕ) : Type 0 where
   pub isTable : Bytes table
-  pub productions : Productions table rows offsets (length rows / 16)
+  pub productions : Productions table rows offsets (rowCount rows)
   pub counts : CountsOf inherited synthesized (grammarIn table)
   pub even : length ks ≡ length vs
   pub few : length ks < 4294967296
@@ -42,8 +43,8 @@ EndsOrNone P Wrong = None P
 
 -- ---- a token
 
-abbrev pub TokenTold : List ℕ → List ℤ → ℕ → ℕ → ℕ → Answer → Type 0
-TokenTold ks vs at from k r = (g : Grammar) (sheet : List ℕ) (d : ℕ) → length ks ≡ length vs → EndsOrNone (Described g (leavesIn g ks vs) sheet at from (terminal k) d) r
+abbrev pub TokenEnds : List ℕ → List ℤ → ℕ → ℕ → ℕ → Answer → Type 0
+TokenEnds ks vs at from k r = (g : Grammar) (sheet : List ℕ) (d : ℕ) → length ks ≡ length vs → EndsOrNone (Described g (leavesIn g ks vs) sheet at from (terminal k) d) r
 
 -- ---- a node, and the children of a production
 
@@ -52,8 +53,8 @@ pub record NodeReady (table rows inherited synthesized offsets ks : List ℕ) (v
   pub known : Known (grammarIn table) (symbolOf symbol)
   pub low : from ≤ length ks
 
-abbrev pub NodeTold : List ℕ → List ℕ → List ℕ → List ℕ → List ℕ → List ℕ → List ℤ → List ℕ → ℕ → ℕ → ℕ → ℕ → Answer → Type 0
-NodeTold table rows inherited synthesized offsets ks vs sheet at from symbol d r =
+abbrev pub NodeEnds : List ℕ → List ℕ → List ℕ → List ℕ → List ℕ → List ℕ → List ℤ → List ℕ → ℕ → ℕ → ℕ → ℕ → Answer → Type 0
+NodeEnds table rows inherited synthesized offsets ks vs sheet at from symbol d r =
     (x : NodeReady table rows inherited synthesized offsets ks vs sheet from symbol) → EndsOrNone (Described (grammarIn table) (leavesIn (grammarIn table) ks vs) sheet at from (symbolOf symbol) d) r
 
 pub record ChildrenReady (table rows inherited synthesized offsets ks : List ℕ) (vs : List ℤ) (sheet : List ℕ) (p from : ℕ) : Type 0 where
@@ -62,17 +63,17 @@ pub record ChildrenReady (table rows inherited synthesized offsets ks : List ℕ
   pub low : from ≤ length ks
 
 -- the marks of the children behind that of the node itself
-unfoldable pub MarkedTold : Grammar → List ℕ → List ℤ → List ℕ → ℕ → ℕ → ℕ → ℕ → List ℕ → List ℕ → Answer → Type 0
-MarkedTold g ks vs sheet p at from d old new (Fits n e) =
+unfoldable pub EndsAndMarks : Grammar → List ℕ → List ℤ → List ℕ → ℕ → ℕ → ℕ → ℕ → List ℕ → List ℕ → Answer → Type 0
+EndsAndMarks g ks vs sheet p at from d old new (Fits n e) =
     Only (DescribedAll g (leavesIn g ks vs) sheet at from (productionAt g p .right) d) n e × Marked g (leavesIn g ks vs) sheet vs at from (productionAt g p .right) d new × (getD new 0 0 ≡ getD old 0 0) × (length new ≡ 13)
-MarkedTold g ks vs sheet p at from d old new Wrong = None (DescribedAll g (leavesIn g ks vs) sheet at from (productionAt g p .right) d)
+EndsAndMarks g ks vs sheet p at from d old new Wrong = None (DescribedAll g (leavesIn g ks vs) sheet at from (productionAt g p .right) d)
 
-abbrev pub ChildrenTold : List ℕ → List ℕ → List ℕ → List ℕ → List ℕ → List ℕ → List ℤ → List ℕ → ℕ → ℕ → ℕ → ℕ → List ℕ → List ℕ → Answer → Type 0
-ChildrenTold table rows inherited synthesized offsets ks vs sheet p at from d old new r =
-    (x : ChildrenReady table rows inherited synthesized offsets ks vs sheet p from) → MarkedTold (grammarIn table) ks vs sheet p at from d old new r
+abbrev pub ChildrenEnds : List ℕ → List ℕ → List ℕ → List ℕ → List ℕ → List ℕ → List ℤ → List ℕ → ℕ → ℕ → ℕ → ℕ → List ℕ → List ℕ → Answer → Type 0
+ChildrenEnds table rows inherited synthesized offsets ks vs sheet p at from d old new r =
+    (x : ChildrenReady table rows inherited synthesized offsets ks vs sheet p from) → EndsAndMarks (grammarIn table) ks vs sheet p at from d old new r
 
 -- k symbols of production p are passed: the marks behind the first are theirs, and the first stays
-pub record Passed (table rows inherited synthesized offsets ks : List ℕ) (vs : List ℤ) (sheet : List ℕ) (p at from d : ℕ) (marks₀ : List ℕ) (k next end : ℕ) (marks : List ℕ) : Type 0 where
+pub record ChildrenPassed (table rows inherited synthesized offsets ks : List ℕ) (vs : List ℤ) (sheet : List ℕ) (p at from d : ℕ) (marks₀ : List ℕ) (k next end : ℕ) (marks : List ℕ) : Type 0 where
   pub long : length marks ≡ 13
   pub own : getD marks 0 0 ≡ getD marks₀ 0 0
   pub upto : (x : ChildrenReady table rows inherited synthesized offsets ks vs sheet p from) → Upto (grammarIn table) (leavesIn (grammarIn table) ks vs) sheet vs at from (productionAt (grammarIn table) p .right) d k next end marks

@@ -1,5 +1,5 @@
 -- What each way out of a node, of its children and of a token shows.
-use Prim.Native.Nat.{ℕ, suc, _+_, _-_, _*_, _/_, _≤_, _<_}
+use Prim.Native.Nat.{ℕ, suc, _+_, _-_, _*_, _≤_, _<_}
 use native.Mathlib.Omega.{arith}
 use mathlib.Core.Path.{_≡_, refl, sym, ap, ap₂, _∙_, subst}
 use mathlib.Core.Bool.{Bool, true, false}
@@ -15,9 +15,9 @@ use Rattle.meaning.specs.Value.{inRange}
 use Rattle.theory_base.specs.Members.{T→true, true→T, getD-in}
 use Rattle.theory_base.specs.WellFormed.{well-formed-at, counts-most}
 use Rattle.value.specs.Constants.{wordAt}
-use Rattle.program_block_words.specs.Walk.{Listed}
+use Rattle.program_block_words.specs.Fields.{Listed}
 use Rattle.outline.specs.Rows as R
-use Rattle.outline.specs.Rows.{Rows, sizeAt, byteAt, symbol-terminal, symbol-nonterminal}
+use Rattle.outline.specs.Rows.{Rows, HasRow, rowCount, sizeAt, byteAt, symbol-terminal, symbol-nonterminal}
 use Rattle.outline.specs.Outline.{grammarIn}
 use Rattle.program_words.specs.Fields.{fieldsFrom, stretchEnd, fields-place, fields-own}
 use Rattle.theory_judge.specs.Longs.{longs}
@@ -26,9 +26,9 @@ use Rattle.theory_judge.specs.Holding.{allTrue, listedTrue}
 use Rattle.theory_judge.specs.Marks.{readAt, markOf, leaf-at, leaves-many, leaf-in}
 use Rattle.theory_judge.specs.Passing as P
 use Rattle.theory_judge.specs.Passing.{Only, None, Marked}
-use Rattle.judge_parts.specs.Checked.{fieldsOf, Book, leavesIn, EndsOrNone, TokenTold, NodeReady, NodeTold, ChildrenReady, MarkedTold, ChildrenTold, Passed}
+use Rattle.judge_parts.specs.Checked.{fieldsOf, Book, leavesIn, EndsOrNone, TokenEnds, NodeReady, NodeEnds, ChildrenReady, EndsAndMarks, ChildrenEnds, ChildrenPassed}
 use Rattle.judge_head.proofs.Laws.{head-is, head-none}
-use Rattle.judge_head.specs.Heads.{Heads, HeadIs, HeadTold}
+use Rattle.judge_head.specs.Heads.{Heads, HeadIs, HeadOrNone}
 use Rattle.judge_parts.specs.declared.Answer.{Answer}
 use Rattle.judge_parts.specs.declared.Answer.the-variants.{Fits, Wrong}
 use Rattle.judge_head.specs.declared.Head.{Head}
@@ -36,21 +36,21 @@ use Rattle.judge_head.specs.declared.Head.the-variants.{Found, Unfit}
 
 -- ---- answers
 
-pub told-fits : {P : ℕ → ℕ → Type 0} (n e : ℕ) → Only P n e → EndsOrNone P (Fits n e)
+pub fits-by-ends : {P : ℕ → ℕ → Type 0} (n e : ℕ) → Only P n e → EndsOrNone P (Fits n e)
 unfolding EndsOrNone
-told-fits n e h = h
+fits-by-ends n e h = h
 
-pub told-wrong : {P : ℕ → ℕ → Type 0} → None P → EndsOrNone P Wrong
+pub wrong-by-none : {P : ℕ → ℕ → Type 0} → None P → EndsOrNone P Wrong
 unfolding EndsOrNone
-told-wrong h = h
+wrong-by-none h = h
 
-pub fits-told : {P : ℕ → ℕ → Type 0} (r : Answer) (n e : ℕ) → EndsOrNone P r → r ≡ Fits n e → Only P n e
+pub ends-of-fits : {P : ℕ → ℕ → Type 0} (r : Answer) (n e : ℕ) → EndsOrNone P r → r ≡ Fits n e → Only P n e
 unfolding EndsOrNone
-fits-told {P = P} r n e t q = subst (λ z. EndsOrNone P z) q t
+ends-of-fits {P = P} r n e t q = subst (λ z. EndsOrNone P z) q t
 
-pub wrong-told : (P : ℕ → ℕ → Type 0) (r : Answer) → EndsOrNone P r → r ≡ Wrong → None P
+pub none-of-wrong : (P : ℕ → ℕ → Type 0) (r : Answer) → EndsOrNone P r → r ≡ Wrong → None P
 unfolding EndsOrNone
-wrong-told P r t q = subst (λ z. EndsOrNone P z) q t
+none-of-wrong P r t q = subst (λ z. EndsOrNone P z) q t
 
 -- ---- symbols by their bytes
 
@@ -63,19 +63,19 @@ mark-high n b at from l = sym (ap (λ x. markOf n x at from) (symbol-nonterminal
 -- ---- a token
 
 module _ (ks : List ℕ) (vs : List ℤ) (at from k : ℕ) where
-  pub token-over : length ks ≤ from → TokenTold ks vs at from k Wrong
-  token-over l g sheet d e = told-wrong (P.token-over g (leavesIn g ks vs) sheet at from k d (omega (arith, leaves-many g ks vs e)))
+  pub token-over : length ks ≤ from → TokenEnds ks vs at from k Wrong
+  token-over l g sheet d e = wrong-by-none (P.token-over g (leavesIn g ks vs) sheet at from k d (omega (arith, leaves-many g ks vs e)))
 
   kind-is : (g : Grammar) → length ks ≡ length vs → from < length ks → getD (leavesIn g ks vs) from noLeaf .kind ≡ getD ks from 0
   kind-is g e l = ap (λ u. u .kind) (leaf-at g ks vs from (omega (arith, leaves-many g ks vs e)))
 
-  pub token-other : from < length ks → (getD ks from 0 ≡ k → ⊥) → TokenTold ks vs at from k Wrong
-  token-other l f g sheet d e = told-wrong (P.token-other g (leavesIn g ks vs) sheet at from k d (λ q. f (sym (kind-is g e l) ∙ q)))
+  pub token-other : from < length ks → (getD ks from 0 ≡ k → ⊥) → TokenEnds ks vs at from k Wrong
+  token-other l f g sheet d e = wrong-by-none (P.token-other g (leavesIn g ks vs) sheet at from k d (λ q. f (sym (kind-is g e l) ∙ q)))
 
-  pub token-fits : from < length ks → getD ks from 0 ≡ k → inRange (getD vs from (pos 0)) ≡ true → TokenTold ks vs at from k (Fits at (from + 1))
+  pub token-fits : from < length ks → getD ks from 0 ≡ k → inRange (getD vs from (pos 0)) ≡ true → TokenEnds ks vs at from k (Fits at (from + 1))
   token-fits l q i g sheet d e =
       let m : from < length (leavesIn g ks vs) = omega (arith, leaves-many g ks vs e) in
-      told-fits at (from + 1) (P.token-fits g (leavesIn g ks vs) sheet at from k d (leaf-in g ks vs from m i) m (kind-is g e l ∙ q))
+      fits-by-ends at (from + 1) (P.token-fits g (leavesIn g ks vs) sheet at from k d (leaf-in g ks vs from m i) m (kind-is g e l ∙ q))
 
 -- ---- a book
 
@@ -83,7 +83,7 @@ module _ {table rows inherited synthesized offsets ks : List ℕ} {vs : List ℤ
   abbrev g : Grammar
   g = grammarIn table
 
-  abbrev rowsOf : Rows rows (length rows / 16) g
+  abbrev rowsOf : Rows rows (rowCount rows) g
   rowsOf = b .productions .rowsOf
 
   many : length (leavesIn g ks vs) ≡ length ks
@@ -98,13 +98,13 @@ module _ {table rows inherited synthesized offsets ks : List ℕ} {vs : List ℤ
   pub counts-are : (n : ℕ) → n < nonterminalCount g → byte inherited n + byte synthesized n ≡ att g (nonterminal n)
   counts-are n l = ap₂ _+_ (b .counts .inherits n l) (b .counts .synthesizes n l)
 
-  pub row-at : (p : ℕ) → p < length (g .productions) → p < length rows / 16
+  pub row-at : (p : ℕ) → p < length (g .productions) → p < rowCount rows
   row-at p l = omega (arith, rowsOf .counted)
 
   pub attributes-few : (n : ℕ) → n < nonterminalCount g → byte inherited n + byte synthesized n ≤ 8
   attributes-few n l = omega (arith, counts-are n l, counts-most g (rowsOf .sound) n)
 
-  pub span-inside : (p : ℕ) → p < length (g .productions) → (fieldsFrom rows offsets p ≤ stretchEnd table offsets (length rows / 16) p) × (stretchEnd table offsets (length rows / 16) p ≤ length table)
+  pub span-inside : (p : ℕ) → p < length (g .productions) → (fieldsFrom rows offsets p ≤ stretchEnd table offsets (rowCount rows) p) × (stretchEnd table offsets (rowCount rows) p ≤ length table)
   span-inside p l = fields-place (b .productions) (b .isTable) p (row-at p l) _ _ refl refl
 
   -- the rules and conditions of a production, as its fields list them
@@ -143,7 +143,7 @@ module _ {table rows inherited synthesized offsets ks : List ℕ} {vs : List ℤ
   abbrev Here : ℕ → ℕ → Type 0
   Here = Described gr (leavesIn gr ks vs) sheet at from (symbolOf symbol) d
 
-  pub by-token : symbol < 128 → (r : Answer) → TokenTold ks vs at from symbol r → EndsOrNone Here r
+  pub by-token : symbol < 128 → (r : Answer) → TokenEnds ks vs at from symbol r → EndsOrNone Here r
   by-token l r t = subst (λ y. EndsOrNone (Described gr (leavesIn gr ks vs) sheet at from y d) r) (sym (symbol-terminal symbol l)) (t gr sheet d (x .book .even))
 
   module _ (big : 128 ≤ symbol) where
@@ -157,15 +157,15 @@ module _ {table rows inherited synthesized offsets ks : List ℕ} {vs : List ℤ
     low = omega (arith, many (x .book), x .low)
 
     none-here : None (Described gr (leavesIn gr ks vs) sheet at from (nonterminal m) d) → EndsOrNone Here Wrong
-    none-here h = told-wrong (subst (λ y. None (Described gr (leavesIn gr ks vs) sheet at from y d)) (sym (symbol-nonterminal symbol big)) h)
+    none-here h = wrong-by-none (subst (λ y. None (Described gr (leavesIn gr ks vs) sheet at from y d)) (sym (symbol-nonterminal symbol big)) h)
 
     pub flat : d ≡ 0 → EndsOrNone Here Wrong
     flat z = none-here (P.node-flat gr (x .book .productions .rowsOf .sound) ks vs (few (x .book)) sheet (x .book .isBytes) at from m d low z)
 
-    pub unfit : (r : Head) → HeadTold rows inherited synthesized sheet at from m r → r ≡ Unfit → EndsOrNone Here Wrong
+    pub unfit : (r : Head) → HeadOrNone rows inherited synthesized sheet at from m r → r ≡ Unfit → EndsOrNone Here Wrong
     unfit r t e = none-here (P.node-unfit gr (x .book .productions .rowsOf .sound) ks vs (few (x .book)) sheet (x .book .isBytes) at from m d low (λ h. head-none rows inherited synthesized sheet at from m r t e (heads-of (x .book) at from m known-m h)))
 
-    module _ (r : Head) (t : HeadTold rows inherited synthesized sheet at from m r) (p behind covered : ℕ) (found : r ≡ Found p behind covered) where
+    module _ (r : Head) (t : HeadOrNone rows inherited synthesized sheet at from m r) (p behind covered : ℕ) (found : r ≡ Found p behind covered) where
       pub is : HeadIs rows inherited synthesized sheet at from m p behind covered
       is = head-is rows inherited synthesized sheet at from m r t p behind covered found
 
@@ -178,14 +178,14 @@ module _ {table rows inherited synthesized offsets ks : List ℕ} {vs : List ℤ
       behind-is : behind ≡ at + 12 + 8 * att gr (nonterminal m)
       behind-is = is .next ∙ ap (λ n. at + 12 + 8 * n) (counts-are (x .book) m known-m)
 
-      module _ (old new : List ℕ) (a : Answer) (below : ChildrenTold table rows inherited synthesized offsets ks vs sheet p behind from (d - 1) old new a) where
+      module _ (old new : List ℕ) (a : Answer) (below : ChildrenEnds table rows inherited synthesized offsets ks vs sheet p behind from (d - 1) old new a) where
         -- the same with the record's own numbers
-        told : MarkedTold gr ks vs sheet (wordAt sheet at) (at + 12 + 8 * att gr (nonterminal m)) from (d - 1) old new a
-        told = subst (λ q. MarkedTold gr ks vs sheet q (at + 12 + 8 * att gr (nonterminal m)) from (d - 1) old new a) (is .production) (subst (λ q. MarkedTold gr ks vs sheet p q from (d - 1) old new a) behind-is (below ready))
+        told : EndsAndMarks gr ks vs sheet (wordAt sheet at) (at + 12 + 8 * att gr (nonterminal m)) from (d - 1) old new a
+        told = subst (λ q. EndsAndMarks gr ks vs sheet q (at + 12 + 8 * att gr (nonterminal m)) from (d - 1) old new a) (is .production) (subst (λ q. EndsAndMarks gr ks vs sheet p q from (d - 1) old new a) behind-is (below ready))
 
         pub wrong : a ≡ Wrong → EndsOrNone Here Wrong
-        unfolding MarkedTold
-        wrong e = none-here (P.node-wrong gr (x .book .productions .rowsOf .sound) ks vs (few (x .book)) sheet (x .book .isBytes) at from m d low (subst (λ z. MarkedTold gr ks vs sheet (wordAt sheet at) (at + 12 + 8 * att gr (nonterminal m)) from (d - 1) old new z) e told))
+        unfolding EndsAndMarks
+        wrong e = none-here (P.node-wrong gr (x .book .productions .rowsOf .sound) ks vs (few (x .book)) sheet (x .book .isBytes) at from m d low (subst (λ z. EndsAndMarks gr ks vs sheet (wordAt sheet at) (at + 12 + 8 * att gr (nonterminal m)) from (d - 1) old new z) e told))
 
         module _ (n e : ℕ) (fits : a ≡ Fits n e) where
           abbrev Got : Type 0
@@ -196,8 +196,8 @@ module _ {table rows inherited synthesized offsets ks : List ℕ} {vs : List ℤ
               × (length new ≡ 13)
 
           got : Got
-          unfolding MarkedTold
-          got = subst (λ z. MarkedTold gr ks vs sheet (wordAt sheet at) (at + 12 + 8 * att gr (nonterminal m)) from (d - 1) old new z) fits told
+          unfolding EndsAndMarks
+          got = subst (λ z. EndsAndMarks gr ks vs sheet (wordAt sheet at) (at + 12 + 8 * att gr (nonterminal m)) from (d - 1) old new z) fits told
 
           pub thirteen : length new ≡ 13
           thirteen = got .3
@@ -216,7 +216,10 @@ module _ {table rows inherited synthesized offsets ks : List ℕ} {vs : List ℤ
             unheld f = none-here (P.node-false gr (x .book .productions .rowsOf .sound) ks vs (few (x .book)) sheet (x .book .isBytes) at from m d low n e (got .0) here new (got .2 ∙ first) (got .1) (sym truth ∙ f))
 
             pub fitting : 0 < d → e - from ≡ covered → h ≡ true → EndsOrNone Here (Fits n e)
-            fitting deep c f = told-fits n e (subst (λ y. Only (Described gr (leavesIn gr ks vs) sheet at from y d) n e) (sym (symbol-nonterminal symbol big)) (P.node-fits gr (x .book .productions .rowsOf .sound) ks vs (few (x .book)) sheet (x .book .isBytes) at from m d low n e (got .0) here new (got .2 ∙ first) (got .1) deep (c ∙ is .covers) (sym truth ∙ f)))
+            fitting deep c f =
+                fits-by-ends n e
+                (subst (λ y. Only (Described gr (leavesIn gr ks vs) sheet at from y d) n e) (sym (symbol-nonterminal symbol big))
+                (P.node-fits gr (x .book .productions .rowsOf .sound) ks vs (few (x .book)) sheet (x .book .isBytes) at from m d low n e (got .0) here new (got .2 ∙ first) (got .1) deep (c ∙ is .covers) (sym truth ∙ f)))
 
 -- ---- children
 
@@ -227,21 +230,21 @@ module _ {table rows inherited synthesized offsets ks : List ℕ} {vs : List ℤ
   pub size-few : (x : ChildrenReady table rows inherited synthesized offsets ks vs sheet p from) → sizeAt rows p ≤ 12
   size-few x = omega (arith, size-is x, well-formed-at (grammarIn table) (x .book .productions .rowsOf .sound) p (x .listed) .short)
 
-  pub row-inside : (x : ChildrenReady table rows inherited synthesized offsets ks vs sheet p from) → p * 16 + 16 ≤ length rows
+  pub row-inside : (x : ChildrenReady table rows inherited synthesized offsets ks vs sheet p from) → HasRow rows p
   row-inside x = omega (arith, x .listed, x .book .productions .rowsOf .counted)
 
   pub row-few : (x : ChildrenReady table rows inherited synthesized offsets ks vs sheet p from) → p < 128
   row-few x = productions-few (x .book) p (x .listed)
 
 module _ {table rows inherited synthesized offsets ks : List ℕ} {vs : List ℤ} {sheet : List ℕ} {p at from d : ℕ} {marks₀ : List ℕ} where
-  pub passed-none : length marks₀ ≡ 13 → Passed table rows inherited synthesized offsets ks vs sheet p at from d marks₀ 0 at from marks₀
+  pub passed-none : length marks₀ ≡ 13 → ChildrenPassed table rows inherited synthesized offsets ks vs sheet p at from d marks₀ 0 at from marks₀
   passed-none l = record {
     long = l;
     own = refl;
     upto = λ x. P.upto-none (grammarIn table) (x .book .productions .rowsOf .sound) ks vs (few (x .book)) sheet at from (productionAt (grammarIn table) p .right) d (omega (arith, many (x .book), x .low)) marks₀;
   }
 
-  module _ {k next end : ℕ} {marks : List ℕ} (s : Passed table rows inherited synthesized offsets ks vs sheet p at from d marks₀ k next end marks) where
+  module _ {k next end : ℕ} {marks : List ℕ} (s : ChildrenPassed table rows inherited synthesized offsets ks vs sheet p at from d marks₀ k next end marks) where
     pub end-inside : (x : ChildrenReady table rows inherited synthesized offsets ks vs sheet p from) → end ≤ length ks
     end-inside x = omega (arith, s .upto x .inside, many (x .book))
 
@@ -259,19 +262,21 @@ module _ {table rows inherited synthesized offsets ks : List ℕ} {vs : List ℤ
         low = end-inside x;
       }
 
-      module _ (r : Answer) (t : NodeTold table rows inherited synthesized offsets ks vs sheet next end symbol d r) where
-        node-told : (x : ChildrenReady table rows inherited synthesized offsets ks vs sheet p from) → EndsOrNone (Described (grammarIn table) (leavesIn (grammarIn table) ks vs) sheet next end (getD (productionAt (grammarIn table) p .right) k (terminal 0)) d) r
-        node-told x = subst (λ y. EndsOrNone (Described (grammarIn table) (leavesIn (grammarIn table) ks vs) sheet next end y d) r) (at-hand x) (t (node-ready x))
+      module _ (r : Answer) (t : NodeEnds table rows inherited synthesized offsets ks vs sheet next end symbol d r) where
+        node-ends : (x : ChildrenReady table rows inherited synthesized offsets ks vs sheet p from) → EndsOrNone (Described (grammarIn table) (leavesIn (grammarIn table) ks vs) sheet next end (getD (productionAt (grammarIn table) p .right) k (terminal 0)) d) r
+        node-ends x = subst (λ y. EndsOrNone (Described (grammarIn table) (leavesIn (grammarIn table) ks vs) sheet next end y d) r) (at-hand x) (t (node-ready x))
 
-        pub passed-wrong : (new : List ℕ) → r ≡ Wrong → ChildrenTold table rows inherited synthesized offsets ks vs sheet p at from d marks₀ new Wrong
-        unfolding MarkedTold
-        passed-wrong new w x = P.upto-wrong (grammarIn table) (x .book .productions .rowsOf .sound) ks vs (few (x .book)) sheet at from (productionAt (grammarIn table) p .right) d k next end marks (s .upto x) (omega (arith, size-is x)) (wrong-told _ r (node-told x) w)
+        pub passed-wrong : (new : List ℕ) → r ≡ Wrong → ChildrenEnds table rows inherited synthesized offsets ks vs sheet p at from d marks₀ new Wrong
+        unfolding EndsAndMarks
+        passed-wrong new w x = P.upto-wrong (grammarIn table) (x .book .productions .rowsOf .sound) ks vs (few (x .book)) sheet at from (productionAt (grammarIn table) p .right) d k next end marks (s .upto x) (omega (arith, size-is x)) (none-of-wrong _ r (node-ends x) w)
 
-        pub passed-more : (n₁ e₁ : ℕ) → r ≡ Fits n₁ e₁ → k + 1 < 13 → (mark : ℕ) → mark ≡ markOf (length sheet) (symbolOf symbol) next end → Passed table rows inherited synthesized offsets ks vs sheet p at from d marks₀ (k + 1) n₁ e₁ (set marks (k + 1) mark)
+        pub passed-more : (n₁ e₁ : ℕ) → r ≡ Fits n₁ e₁ → k + 1 < 13 → (mark : ℕ) → mark ≡ markOf (length sheet) (symbolOf symbol) next end → ChildrenPassed table rows inherited synthesized offsets ks vs sheet p at from d marks₀ (k + 1) n₁ e₁ (set marks (k + 1) mark)
         passed-more n₁ e₁ w short mark em = record {
           long = length-set marks (k + 1) mark ∙ s .long;
           own = getD-set-other marks (k + 1) 0 mark 0 (λ q. omega arith) ∙ s .own;
-          upto = λ x. P.upto-more (grammarIn table) (x .book .productions .rowsOf .sound) ks vs (few (x .book)) sheet at from (productionAt (grammarIn table) p .right) d k next end marks (s .upto x) (omega (arith, size-is x)) n₁ e₁ (fits-told r n₁ e₁ (node-told x) w) (set marks (k + 1) mark) (λ i j. getD-set-other marks (k + 1) (suc i) mark 0 (λ q. omega arith)) (new-mark x);
+          upto = λ x.
+              P.upto-more (grammarIn table) (x .book .productions .rowsOf .sound) ks vs (few (x .book)) sheet at from (productionAt (grammarIn table) p .right) d k next end marks (s .upto x) (omega (arith, size-is x))
+              n₁ e₁ (ends-of-fits r n₁ e₁ (node-ends x) w) (set marks (k + 1) mark) (λ i j. getD-set-other marks (k + 1) (suc i) mark 0 (λ q. omega arith)) (new-mark x);
         }
           where
             new-mark : (x : ChildrenReady table rows inherited synthesized offsets ks vs sheet p from) → getD (set marks (k + 1) mark) (suc k) 0 ≡ markOf (length sheet) (getD (productionAt (grammarIn table) p .right) k (terminal 0)) next end
@@ -279,8 +284,8 @@ module _ {table rows inherited synthesized offsets ks : List ℕ} {vs : List ℤ
                 let one : suc k ≡ k + 1 = omega arith in
                 ap (λ i. getD (set marks (k + 1) mark) i 0) one ∙ (getD-set-same marks (k + 1) mark 0 (omega (arith, s .long)) ∙ (em ∙ ap (λ y. markOf (length sheet) y next end) (at-hand x)))
 
-    pub passed-end : sizeAt rows p ≡ k → ChildrenTold table rows inherited synthesized offsets ks vs sheet p at from d marks₀ marks (Fits next end)
-    unfolding MarkedTold
+    pub passed-end : sizeAt rows p ≡ k → ChildrenEnds table rows inherited synthesized offsets ks vs sheet p at from d marks₀ marks (Fits next end)
+    unfolding EndsAndMarks
     passed-end l x =
         let e : k ≡ length (productionAt (grammarIn table) p .right) = sym l ∙ size-is x in (
           P.upto-end (grammarIn table) (x .book .productions .rowsOf .sound) ks vs (few (x .book)) sheet at from (productionAt (grammarIn table) p .right) d k next end marks (s .upto x) (omega arith),

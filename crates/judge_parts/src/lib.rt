@@ -1,13 +1,14 @@
 // What a node of a sheet is judged by: the token of a terminal, the marks of its symbols, whether its rules and conditions hold.
-ghost use Prim.Native.Nat.{_+_, _/_, _<_, _≤_};
+ghost use Prim.Native.Nat.{_+_, _<_, _≤_};
 ghost use mathlib.Core.Path.{_≡_};
 ghost use lib.ListN.{length};
 ghost use Rattle.meaning.specs.Table.{symbolOf};
+ghost use Rattle.outline.specs.Rows.{HasRow, rowCount};
 ghost use Rattle.program_words.specs.Fields.{fieldsFrom, stretchEnd};
-ghost use Rattle.program_block_words.specs.Walk.{Listed};
+ghost use Rattle.program_block_words.specs.Fields.{Listed};
 ghost use Rattle.theory_judge.specs.Marks.{readAt, markOf};
 ghost use Rattle.theory_judge.specs.Holding.{listedTrue};
-ghost use Rattle.judge_parts.specs.Checked.{fieldsOf, TokenTold};
+ghost use Rattle.judge_parts.specs.Checked.{fieldsOf, TokenEnds};
 
 // Where the sheet goes on after a tree, and where the tokens do.
 pub enum Answer {
@@ -25,18 +26,19 @@ pub fn holds(
     marks: &[usize],
     p: usize,
 ) -> bool
-    requires { ⌜ (p < 128) × (fieldsFrom (now rows) (now offsets) p ≤ stretchEnd (now table) (now offsets) (length (now rows) / 16) p) × (stretchEnd (now table) (now offsets) (length (now rows) / 16) p ≤ length (now table)) × Listed (fieldsOf (now table) (now rows) (now offsets) p) ⌝ }
+    requires { ⌜ (p < 128) × (fieldsFrom (now rows) (now offsets) p ≤ stretchEnd (now table) (now offsets) (rowCount (now rows)) p) × (stretchEnd (now table) (now offsets) (rowCount (now rows)) p ≤ length (now table))
+        × Listed (fieldsOf (now table) (now rows) (now offsets) p) × HasRow (now rows) p ⌝ }
     ensures { λ r. ⌜ ((x : Listed (fieldsOf (now (table .entry)) (now (rows .entry)) (now (offsets .entry)) p)) → r ≡ listedTrue (readAt (now (sheet .entry)) (now (values .entry)) (now (marks .entry))) x) ⌝ }
 {
     let from = program_fields::fields_from(rows, offsets, p);
-    let to = program_fields::stretch_end(table, offsets, rows.len() / 16, p);
+    let to = program_fields::stretch_end(table, offsets, outline::row_count(rows), p);
     let fields = &table[from..to];
     judge_values::fields_hold(fields, sheet, values, marks)
 }
 
 // Whether the token at `from` is of this kind. A token has no record. Its value is in range, as every one of 32 bits is.
 pub fn check_token(kinds: &[u8], values: &[i32], at: usize, from: usize, symbol: u8) -> Answer
-    ensures { λ r. ⌜ TokenTold (now (kinds .entry)) (now (values .entry)) at from symbol r ⌝ }
+    ensures { λ r. ⌜ TokenEnds (now (kinds .entry)) (now (values .entry)) at from symbol r ⌝ }
 {
     if kinds.len() <= from {
         return Answer::Wrong;

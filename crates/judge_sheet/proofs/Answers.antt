@@ -16,8 +16,8 @@ use Rattle.theory_judge.specs.Described.{Described}
 use Rattle.theory_judge.specs.Whole.{none-wrong, none-longer, none-tokens, settles-worth, settles-none}
 use Rattle.outline.specs.Rows.{symbol-nonterminal}
 use Rattle.outline.specs.Outline.{grammarIn}
-use Rattle.judge_parts.specs.Checked.{leavesIn, EndsOrNone, NodeReady, NodeTold}
-use Rattle.judge_parts.specs.Laws.{fits-told, wrong-told}
+use Rattle.judge_parts.specs.Checked.{leavesIn, EndsOrNone, NodeReady, NodeEnds}
+use Rattle.judge_parts.specs.Laws.{ends-of-fits, none-of-wrong}
 use Rattle.judge_parts.specs.declared.Answer as Answer
 use Rattle.judge_parts.specs.declared.Answer.the-variants.{Fits, Wrong}
 use Rattle.judge_sheet.specs.Judged.{SheetReady}
@@ -44,16 +44,16 @@ module _ {table rows inherited synthesized offsets ks : List ℕ} {vs : List ℤ
   few-leaves : length (leavesIn g ks vs) < 4294967296
   few-leaves = omega (arith, leaves-many g ks vs (y .book .even), y .book .few)
 
-  module _ (r : Answer.Answer) (t : NodeTold table rows inherited synthesized offsets ks vs sheet 0 0 (128 + start) 1023 r) where
+  module _ (r : Answer.Answer) (t : NodeEnds table rows inherited synthesized offsets ks vs sheet 0 0 (128 + start) 1023 r) where
     told : EndsOrNone (Described g (leavesIn g ks vs) sheet 0 0 (nonterminal (g .start)) 1023) r
     told = subst (λ z. EndsOrNone (Described g (leavesIn g ks vs) sheet 0 0 z 1023) r) start-is (t root-ready)
 
     pub sheet-wrong : r ≡ Wrong → Settles g (leavesIn g ks vs) sheet (turnedBack 43 0)
-    sheet-wrong w = settles-none g (y .book .productions .rowsOf .sound) ks vs sheet (none-wrong g (y .book .productions .rowsOf .sound) ks vs sheet (wrong-told _ r told w))
+    sheet-wrong w = settles-none g (y .book .productions .rowsOf .sound) ks vs sheet (none-wrong g (y .book .productions .rowsOf .sound) ks vs sheet (none-of-wrong _ r told w))
 
     module _ (n e : ℕ) (f : r ≡ Fits n e) where
       only : Only (Described g (leavesIn g ks vs) sheet 0 0 (nonterminal (g .start)) 1023) n e
-      only = fits-told r n e told f
+      only = ends-of-fits r n e told f
 
       pub sheet-longer : (n ≡ length sheet → ⊥) → Settles g (leavesIn g ks vs) sheet (turnedBack 43 0)
       sheet-longer k = settles-none g (y .book .productions .rowsOf .sound) ks vs sheet (none-longer g (y .book .productions .rowsOf .sound) ks vs sheet n e only k)

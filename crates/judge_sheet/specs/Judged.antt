@@ -1,11 +1,12 @@
 -- 02's numbers for the answers of the check of a sheet, and what it asks and promises of a table that is accepted.
-use Prim.Native.Nat.{ℕ}
+use Prim.Native.Nat.{ℕ, _+_}
 use mathlib.Core.Path.{_≡_}
 use mathlib.Core.List.{List}
 use lib.IntN.{ℤ}
 use Rattle.meaning_judge.specs.Judge.{JudgeAnswer, worth, turnedBack, Settles}
 use Rattle.outline.specs.Outline.{grammarIn}
-use Rattle.judge_parts.specs.Checked.{Book, leavesIn}
+use Rattle.judge_parts.specs.Checked.{Book, leavesIn, NodeEnds}
+use Rattle.judge_parts.specs.declared.Answer as Answer
 use Rattle.judge_sheet.specs.declared.Judgement.{Judgement}
 use Rattle.judge_sheet.specs.declared.Judgement.the-variants.{Value, Uneven, Wrong, Unusable}
 
@@ -21,6 +22,12 @@ pub record SheetReady (table rows inherited synthesized offsets ks : List ℕ) (
   pub isStart : start ≡ grammarIn table .start
   pub isResult : result ≡ grammarIn table .result
 
-abbrev pub SheetTold : List ℕ → List ℕ → List ℕ → List ℕ → List ℕ → List ℕ → List ℤ → List ℕ → ℕ → ℕ → Judgement → Type 0
-SheetTold table rows inherited synthesized offsets ks vs sheet start result r =
+abbrev pub SheetSettled : List ℕ → List ℕ → List ℕ → List ℕ → List ℕ → List ℕ → List ℤ → List ℕ → ℕ → ℕ → Judgement → Type 0
+SheetSettled table rows inherited synthesized offsets ks vs sheet start result r =
     (x : SheetReady table rows inherited synthesized offsets ks vs sheet start result) → Settles (grammarIn table) (leavesIn (grammarIn table) ks vs) sheet (judgementIs r)
+
+-- what the answer for the root comes to, under any table
+abbrev pub RootSettled : List ℕ → List ℤ → List ℕ → ℕ → Answer.Answer → Judgement → Type 0
+RootSettled ks vs sheet result a r =
+    (table rows inherited synthesized offsets : List ℕ) (start : ℕ) (x : SheetReady table rows inherited synthesized offsets ks vs sheet start result)
+    → NodeEnds table rows inherited synthesized offsets ks vs sheet 0 0 (128 + start) 1023 a → Settles (grammarIn table) (leavesIn (grammarIn table) ks vs) sheet (judgementIs r)

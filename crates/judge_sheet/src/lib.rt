@@ -1,5 +1,6 @@
 // A sheet under an accepted table: it describes a tree of the start symbol over all tokens, and nothing is after it.
-ghost use Rattle.judge_sheet.specs.Judged.{SheetReady, SheetTold};
+ghost use Prim.Native.Nat.{_<_};
+ghost use Rattle.judge_sheet.specs.Judged.{RootSettled, SheetReady, SheetSettled};
 use judge_parts::Answer;
 use limits::DEPTH;
 
@@ -9,6 +10,31 @@ pub enum Judgement {
     Uneven,
     Wrong,
     Unusable { number: u32, offset: u32 },
+}
+
+// By the answer for the root: its tree is over all tokens, and nothing is after it.
+fn judge_root(
+    answer: Answer,
+    kinds: &[u8],
+    values: &[i32],
+    sheet: &[u8],
+    result: usize,
+) -> Judgement
+    requires { ⌜ result < 256 ⌝ }
+    ensures { λ r. ⌜ RootSettled (now (kinds .entry)) (now (values .entry)) (now (sheet .entry)) result answer r ⌝ }
+{
+    match answer {
+        Answer::Wrong => Judgement::Wrong,
+        Answer::Fits { next, end } => {
+            if next != sheet.len() {
+                return Judgement::Wrong;
+            }
+            if end != kinds.len() {
+                return Judgement::Wrong;
+            }
+            Judgement::Value(judge_marks::read_mark(sheet, values, 0, result))
+        }
+    }
 }
 
 // A sheet by the outline of an accepted table: it describes a tree of the start symbol over all tokens, and nothing is after it.
@@ -25,10 +51,10 @@ pub fn judge_sheet(
     result: usize,
 ) -> Judgement
     requires { ⌜ SheetReady (now table) (now rows) (now inherited) (now synthesized) (now offsets) (now kinds) (now values) (now sheet) start result ⌝ }
-    ensures { λ r. ⌜ SheetTold (now (table .entry)) (now (rows .entry)) (now (inherited .entry)) (now (synthesized .entry)) (now (offsets .entry)) (now (kinds .entry)) (now (values .entry)) (now (sheet .entry)) start result r ⌝ }
+    ensures { λ r. ⌜ SheetSettled (now (table .entry)) (now (rows .entry)) (now (inherited .entry)) (now (synthesized .entry)) (now (offsets .entry)) (now (kinds .entry)) (now (values .entry)) (now (sheet .entry)) start result r ⌝ }
 {
     let symbol = (128 + start) as u8;
-    match judge_nodes::check_node(
+    let answer = judge_nodes::check_node(
         table,
         rows,
         inherited,
@@ -41,16 +67,6 @@ pub fn judge_sheet(
         0,
         symbol,
         DEPTH,
-    ) {
-        Answer::Wrong => Judgement::Wrong,
-        Answer::Fits { next, end } => {
-            if next != sheet.len() {
-                return Judgement::Wrong;
-            }
-            if end != kinds.len() {
-                return Judgement::Wrong;
-            }
-            Judgement::Value(judge_marks::read_mark(sheet, values, 0, result))
-        }
-    }
+    );
+    judge_root(answer, kinds, values, sheet, result)
 }

@@ -3,7 +3,7 @@ ghost use mathlib.Core.Path.{_≡_};
 ghost use mathlib.Core.Bool.{true};
 ghost use Rattle.meaning.specs.Value.{inRange};
 ghost use Rattle.meaning.specs.Table.{constantAt};
-ghost use Rattle.program_block_words.specs.Walk.{Listed};
+ghost use Rattle.program_block_words.specs.Fields.{Listed};
 ghost use Rattle.theory_judge.specs.Marks.{readAt};
 ghost use Rattle.theory_judge.specs.Holding.{firstHere, secondHere, ruleHere, addedHere, conditionHere, fieldTrue, listedTrue};
 

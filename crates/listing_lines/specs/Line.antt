@@ -1,12 +1,13 @@
 -- One line of the listing each, and its parts by the numbers that the program's words hold.
-use Prim.Native.Nat.{ℕ, zero, suc, _/_, _%_}
-use mathlib.Core.Path.{_≡_, refl, sym, ap, ap₂}
+use Prim.Native.Nat.{ℕ, zero, suc}
+use mathlib.Core.Path.{_≡_, refl, sym, ap, ap₂, _∙_}
 use lib.Dec.{eqb}
 use borrow.Author.Tests.{eq-eqb, ne-eqb}
 use mathlib.Core.List.{[], _∷_, _++_}
 use Rattle.meaning.specs.Grammar.{Rule, Condition}
 use Rattle.meaning.specs.Table.{signed}
 use Rattle.meaning.specs.Listing.{Text, number, word, line, action, functionText, conditionText}
+use Rattle.theory_program.specs.Parts.{conditionKind, conditionFirst, conditionSecond}
 use Rattle.theory_program.specs.Unpacked.{functionFrom, conditionOfKind, conditionFrom}
 use Rattle.listing_bytes.specs.Decimal.{decimal, integral}
 
@@ -48,14 +49,24 @@ no-function (suc (suc (suc (suc (suc (suc (suc zero))))))) a b c h1 h2 h3 h4 h5 
 no-function (suc (suc (suc (suc (suc (suc (suc (suc zero)))))))) a b c h1 h2 h3 h4 h5 h6 h7 h8 = absurd (h8 refl)
 no-function (suc (suc (suc (suc (suc (suc (suc (suc (suc f))))))))) a b c h1 h2 h3 h4 h5 h6 h7 h8 = refl
 
-pub is-range : (w l h : ℕ) → w / 128 % 16 ≡ 0 → ((word (114 ∷ 97 ∷ 110 ∷ 103 ∷ 101 ∷ []) ++ word (decimal (w % 128))) ++ word (integral l)) ++ word (integral h) ≡ conditionAs w l h
-unfolding conditionAs decimal integral
-is-range w l h e = sym (ap (λ b. conditionText (conditionOfKind b (eqb (w / 128 % 16) 1) (w % 128) (w / 2048 % 128) (signed l) (signed h))) (eq-eqb (w / 128 % 16) 0 e))
+-- a condition by its kind and the selectors a and b of its word
+module _ (w l h a : ℕ) (first : a ≡ conditionFirst w) where
+  pub is-range : conditionKind w ≡ 0 → ((word (114 ∷ 97 ∷ 110 ∷ 103 ∷ 101 ∷ []) ++ word (decimal a)) ++ word (integral l)) ++ word (integral h) ≡ conditionAs w l h
+  unfolding conditionAs decimal integral
+  is-range e =
+      ap (λ k. ((word (114 ∷ 97 ∷ 110 ∷ 103 ∷ 101 ∷ []) ++ word (decimal k)) ++ word (integral l)) ++ word (integral h)) first
+      ∙ (sym (ap (λ b. conditionText (conditionOfKind b (eqb (conditionKind w) 1) (conditionFirst w) (conditionSecond w) (signed l) (signed h))) (eq-eqb (conditionKind w) 0 e)))
 
-pub is-atmost : (w l h : ℕ) → w / 128 % 16 ≡ 1 → (word (97 ∷ 116 ∷ 109 ∷ 111 ∷ 115 ∷ 116 ∷ []) ++ word (decimal (w % 128))) ++ word (decimal (w / 2048 % 128)) ≡ conditionAs w l h
-unfolding conditionAs decimal
-is-atmost w l h e = sym (ap (λ k. conditionText (conditionOfKind (eqb k 0) (eqb k 1) (w % 128) (w / 2048 % 128) (signed l) (signed h))) e)
+  module _ (b : ℕ) (second : b ≡ conditionSecond w) where
+    pub is-atmost : conditionKind w ≡ 1 → (word (97 ∷ 116 ∷ 109 ∷ 111 ∷ 115 ∷ 116 ∷ []) ++ word (decimal a)) ++ word (decimal b) ≡ conditionAs w l h
+    unfolding conditionAs decimal
+    is-atmost e =
+        ap₂ (λ j k. (word (97 ∷ 116 ∷ 109 ∷ 111 ∷ 115 ∷ 116 ∷ []) ++ word (decimal j)) ++ word (decimal k)) first second
+        ∙ (sym (ap (λ k. conditionText (conditionOfKind (eqb k 0) (eqb k 1) (conditionFirst w) (conditionSecond w) (signed l) (signed h))) e))
 
-pub is-atmost-plus : (w l h : ℕ) → (w / 128 % 16 ≡ 0 → ⊥) → (w / 128 % 16 ≡ 1 → ⊥) → ((word (97 ∷ 116 ∷ 109 ∷ 111 ∷ 115 ∷ 116 ∷ []) ++ word (decimal (w % 128))) ++ word (decimal (w / 2048 % 128))) ++ word (integral l) ≡ conditionAs w l h
-unfolding conditionAs decimal integral
-is-atmost-plus w l h n m = sym (ap₂ (λ b k. conditionText (conditionOfKind b k (w % 128) (w / 2048 % 128) (signed l) (signed h))) (ne-eqb (w / 128 % 16) 0 n) (ne-eqb (w / 128 % 16) 1 m))
+    pub is-atmost-plus : (conditionKind w ≡ 0 → ⊥) → (conditionKind w ≡ 1 → ⊥)
+        → ((word (97 ∷ 116 ∷ 109 ∷ 111 ∷ 115 ∷ 116 ∷ []) ++ word (decimal a)) ++ word (decimal b)) ++ word (integral l) ≡ conditionAs w l h
+    unfolding conditionAs decimal integral
+    is-atmost-plus n m =
+        let kinds = ap₂ (λ x k. conditionText (conditionOfKind x k (conditionFirst w) (conditionSecond w) (signed l) (signed h))) (ne-eqb (conditionKind w) 0 n) (ne-eqb (conditionKind w) 1 m) in
+        ap₂ (λ j k. ((word (97 ∷ 116 ∷ 109 ∷ 111 ∷ 115 ∷ 116 ∷ []) ++ word (decimal j)) ++ word (decimal k)) ++ word (integral l)) first second ∙ sym kinds

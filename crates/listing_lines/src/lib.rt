@@ -66,12 +66,15 @@ fn condition(out: &mut [u8], at: usize, w: u32, low: u32, high: u32) -> usize
     requires { ⌜ at + 41 ≤ length (now out) ⌝ }
     ensures { λ r. ⌜ Wrote (now (out .entry)) at (conditionAs w low high) (now (out .exit)) r × (r ≤ at + 41) ⌝ }
 {
-    if w / 128 % 16 == 0 {
-        let p = number_and_constant(out, at, b" range", w % 128, low);
+    let kind = program_parts::condition_kind(w);
+    let first = program_parts::condition_first(w);
+    if kind == 0 {
+        let p = number_and_constant(out, at, b" range", first, low);
         return spaced_integer(out, p, high);
     }
-    let p = two_numbers(out, at, b" atmost", w % 128, w / 2048 % 128);
-    if w / 128 % 16 == 1 {
+    let second = program_parts::condition_second(w);
+    let p = two_numbers(out, at, b" atmost", first, second);
+    if kind == 1 {
         return p;
     }
     spaced_integer(out, p, low)
@@ -106,8 +109,11 @@ pub fn rule_line(out: &mut [u8], production: u32, position: u32, w: u32, constan
     ensures { λ r. ⌜ Wrote (now (out .entry)) 0 (ruleLine production position (ruleFrom w constant)) (now (out .exit)) r × (r ≤ 64) ⌝ }
 {
     let p = prefix(out, production, b'E', position);
-    let q = spaced_number(out, p, w % 128);
-    let s = function(out, q, w / 128 % 16, w / 2048 % 128, w / 262144, constant);
+    let q = spaced_number(out, p, program_parts::rule_target(w));
+    let f = program_parts::rule_function(w);
+    let a = program_parts::rule_first(w);
+    let b = program_parts::rule_second(w);
+    let s = function(out, q, f, a, b, constant);
     put(out, s, b'\n')
 }
 

@@ -73,25 +73,25 @@ removeHere ws c = removeLine (c .production) (wordAt ws (c .at) / 8)
 
 -- ---- the lines still to come
 
-pub data Step : Type 0 where
-  stop : Step
-  skip : Cursor → Step
-  emit : Text → Cursor → Step
+pub data NextLine : Type 0 where
+  stop : NextLine
+  skip : Cursor → NextLine
+  emit : Text → Cursor → NextLine
 
-abbrev pub pickStep : Bool → Step → Step → Step
+abbrev pub pickStep : Bool → NextLine → NextLine → NextLine
 pickStep true s t = s
 pickStep false s t = t
 
-abbrev pub itemStep : List ℕ → Cursor → Step
+abbrev pub itemStep : List ℕ → Cursor → NextLine
 itemStep ws c = pickStep (c .rules) (emit (ruleHere ws c) (behindRule c)) (emit (conditionHere ws c) (behindCondition c))
 
-abbrev pub headStep : List ℕ → Cursor → Step
+abbrev pub headStep : List ℕ → Cursor → NextLine
 headStep ws c = pickStep (eqb (wordAt ws (c .at) % 8) 0) (emit (addHere ws c) (behindAdd c)) (emit (removeHere ws c) (startOf ws (c .production + 1)))
 
-unfoldable pub stepOf : List ℕ → Cursor → Step
+unfoldable pub stepOf : List ℕ → Cursor → NextLine
 stepOf ws c = pickStep (skipsOf ws c) (skip (skipped ws c)) (pickStep (insideOf ws c) (pickStep (ltb 0 (c .left)) (itemStep ws c) (headStep ws c)) stop)
 
-abbrev pub followed : Step → (Cursor → List Text) → List Text
+abbrev pub followed : NextLine → (Cursor → List Text) → List Text
 followed stop h = []
 followed (skip d) h = h d
 followed (emit t d) h = t ∷ h d

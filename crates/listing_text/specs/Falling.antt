@@ -6,15 +6,15 @@ use mathlib.Core.Bool.{Bool, true, false}
 use mathlib.Core.List.{List, _∷_}
 use lib.Dec.{eqb, ltb}
 use Rattle.listing_text.specs.declared.Cursor.{Cursor}
-use Rattle.listing_text.specs.Cursors.{wordAt, insideOf, skipsOf, skipped, Step, stop, skip, emit, pickStep, itemStep, headStep, stepOf, followed, linesWithin, ahead, linesLeft}
+use Rattle.listing_text.specs.Cursors.{wordAt, insideOf, skipsOf, skipped, NextLine, stop, skip, emit, pickStep, itemStep, headStep, stepOf, followed, linesWithin, ahead, linesLeft}
 use Rattle.listing_text.specs.Tests.{inside-facts, skips-facts, skipped-on}
 
-abbrev pub Onward : List ℕ → Cursor → Step → Type 0
+abbrev pub Onward : List ℕ → Cursor → NextLine → Type 0
 Onward ws c stop = Unit {0}
 Onward ws c (skip d) = ahead ws d < ahead ws c
 Onward ws c (emit t d) = ahead ws d < ahead ws c
 
-onward-pick : (ws : List ℕ) (c : Cursor) (b : Bool) (s t : Step) → (b ≡ true → Onward ws c s) → (b ≡ false → Onward ws c t) → Onward ws c (pickStep b s t)
+onward-pick : (ws : List ℕ) (c : Cursor) (b : Bool) (s t : NextLine) → (b ≡ true → Onward ws c s) → (b ≡ false → Onward ws c t) → Onward ws c (pickStep b s t)
 onward-pick ws c true s t h k = h refl
 onward-pick ws c false s t h k = k refl
 
@@ -41,7 +41,7 @@ enough zero k ws c l m = absurd (omega arith)
 enough (suc f) zero ws c l m = absurd (omega arith)
 enough (suc f) (suc k) ws c l m = go (stepOf ws c) (onward ws c) (λ d h. enough f k ws d (omega arith) (omega arith))
   where
-    go : (s : Step) → Onward ws c s → ((d : Cursor) → ahead ws d < ahead ws c → linesWithin f ws d ≡ linesWithin k ws d) → followed s (λ d. linesWithin f ws d) ≡ followed s (λ d. linesWithin k ws d)
+    go : (s : NextLine) → Onward ws c s → ((d : Cursor) → ahead ws d < ahead ws c → linesWithin f ws d ≡ linesWithin k ws d) → followed s (λ d. linesWithin f ws d) ≡ followed s (λ d. linesWithin k ws d)
     go stop o h = refl
     go (skip d) o h = h d o
     go (emit t d) o h = ap (λ ls. t ∷ ls) (h d o)
@@ -50,7 +50,7 @@ pub lines-step : (ws : List ℕ) (c : Cursor) → linesLeft ws c ≡ followed (s
 unfolding linesLeft
 lines-step ws c = go (stepOf ws c) (onward ws c)
   where
-    go : (s : Step) → Onward ws c s → followed s (λ d. linesWithin (ahead ws c) ws d) ≡ followed s (λ d. linesWithin (suc (ahead ws d)) ws d)
+    go : (s : NextLine) → Onward ws c s → followed s (λ d. linesWithin (ahead ws c) ws d) ≡ followed s (λ d. linesWithin (suc (ahead ws d)) ws d)
     go stop o = refl
     go (skip d) o = enough (ahead ws c) (suc (ahead ws d)) ws d o (omega arith)
     go (emit t d) o = ap (λ ls. t ∷ ls) (enough (ahead ws c) (suc (ahead ws d)) ws d o (omega arith))

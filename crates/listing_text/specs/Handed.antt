@@ -15,7 +15,7 @@ use Rattle.theory_program.specs.Addresses.{Begins}
 use Rattle.listing_bytes.specs.Written.{Wrote, wrote-first}
 use Rattle.listing_text.specs.declared.Cursor.{Cursor}
 use Rattle.listing_text.specs.declared.Line.{Line}
-use Rattle.listing_text.specs.Cursors.{wordAt, startOf, insideOf, skipsOf, skipped, ruleHere, behindRule, conditionHere, behindCondition, addHere, behindAdd, removeHere, Step, stop, skip, emit, pickStep, itemStep, headStep, stepOf, followed, linesLeft}
+use Rattle.listing_text.specs.Cursors.{wordAt, startOf, insideOf, skipsOf, skipped, ruleHere, behindRule, conditionHere, behindCondition, addHere, behindAdd, removeHere, NextLine, stop, skip, emit, pickStep, itemStep, headStep, stepOf, followed, linesLeft}
 use Rattle.listing_text.specs.Falling.{lines-step}
 
 -- the text t was written from the first byte on, and the cursor moved to d
@@ -39,14 +39,14 @@ BeforeAll ws c = (g : Grammar) → WellFormed g → Begins g ws → linesLeft ws
 
 -- ---- steps
 
-pick-yes : (b : Bool) (s t : Step) → b ≡ true → pickStep b s t ≡ s
+pick-yes : (b : Bool) (s t : NextLine) → b ≡ true → pickStep b s t ≡ s
 pick-yes b s t e = ap (λ x. pickStep x s t) e
 
-pick-no : (b : Bool) (s t : Step) → b ≡ false → pickStep b s t ≡ t
+pick-no : (b : Bool) (s t : NextLine) → b ≡ false → pickStep b s t ≡ t
 pick-no b s t e = ap (λ x. pickStep x s t) e
 
 module _ (ws : List ℕ) (c : Cursor) where
-  abbrev more : Step
+  abbrev more : NextLine
   more = pickStep (ltb 0 (c .left)) (itemStep ws c) (headStep ws c)
 
   step-skip : skipsOf ws c ≡ true → stepOf ws c ≡ skip (skipped ws c)
@@ -88,7 +88,7 @@ module _ (ws : List ℕ) (c : Cursor) where
 
 -- the lines left at c are asked for, and a step at d, where as many are left, answers
 module _ (ws : List ℕ) (c d : Cursor) (same : linesLeft ws d ≡ linesLeft ws c) where
-  after-step : (s : Step) → stepOf ws d ≡ s → linesLeft ws c ≡ followed s (λ e. linesLeft ws e)
+  after-step : (s : NextLine) → stepOf ws d ≡ s → linesLeft ws c ≡ followed s (λ e. linesLeft ws e)
   after-step s e = sym same ∙ (lines-step ws d ∙ ap (λ k. followed k (λ f. linesLeft ws f)) e)
 
   pub told-stop : (m : List ℕ) (r : Line) → stepOf ws d ≡ stop → r .over ≡ true → FirstLineOrOver ws (linesLeft ws c) m m r

@@ -21,7 +21,7 @@ use Rattle.listing_lines.specs.Line.{ruleLine, conditionLine}
 use Rattle.listing_text.specs.declared.Cursor.{Cursor}
 use Rattle.listing_text.specs.Lines.{positionAt, rulesOf, conditionsOf, codeLines}
 use Rattle.listing_text.specs.Pending.{Items, rules, conditions, symbols, later, Inside, Pending, none, some}
-use Rattle.listing_text.specs.Cursors.{wordAt, startOf, insideOf, silent, skipsOf, skipped, ruleHere, behindRule, conditionHere, behindCondition, addHere, behindAdd, removeHere, Step, stop, skip, emit, pickStep, itemStep, headStep, stepOf, followed, ahead, linesLeft}
+use Rattle.listing_text.specs.Cursors.{wordAt, startOf, insideOf, silent, skipsOf, skipped, ruleHere, behindRule, conditionHere, behindCondition, addHere, behindAdd, removeHere, NextLine, stop, skip, emit, pickStep, itemStep, headStep, stepOf, followed, ahead, linesLeft}
 use Rattle.listing_text.specs.Tests.{skips-facts, is-loud}
 use Rattle.listing_text.specs.Falling.{Onward, onward, lines-step}
 use Rattle.listing_text.specs.Heads.{AtHead, head-of, on-add, on-remove, on-silent}
@@ -137,12 +137,12 @@ module _ {g : Grammar} {ws : List ℕ} (w : WellFormed g) (b : Begins g ws) (c :
 
 -- ---- all lines
 
-abbrev Follows : Grammar → List ℕ → List Text → Step → Type 0
+abbrev Follows : Grammar → List ℕ → List Text → NextLine → Type 0
 Follows g ws ls stop = ls ≡ []
 Follows g ws ls (skip d) = Pending g ws d ls
 Follows g ws ls (emit t d) = First g ws ls t d
 
-follows-pick : (g : Grammar) (ws : List ℕ) (ls : List Text) (b : Bool) (s t : Step) → (b ≡ true → Follows g ws ls s) → (b ≡ false → Follows g ws ls t) → Follows g ws ls (pickStep b s t)
+follows-pick : (g : Grammar) (ws : List ℕ) (ls : List Text) (b : Bool) (s t : NextLine) → (b ≡ true → Follows g ws ls s) → (b ≡ false → Follows g ws ls t) → Follows g ws ls (pickStep b s t)
 follows-pick g ws ls true s t h k = h refl
 follows-pick g ws ls false s t h k = k refl
 
@@ -177,7 +177,7 @@ module _ {g : Grammar} {ws : List ℕ} (w : WellFormed g) (b : Begins g ws) wher
   lines-pending zero c ls l p = absurd (omega arith)
   lines-pending (suc f) c ls l p = lines-step ws c ∙ go (stepOf ws c) (onward ws c) (follows c ls p) (λ d ks m q. lines-pending f d ks (omega arith) q)
     where
-      go : (s : Step) → Onward ws c s → Follows g ws ls s → ((d : Cursor) (ks : List Text) → ahead ws d < ahead ws c → Pending g ws d ks → linesLeft ws d ≡ ks) → followed s (λ d. linesLeft ws d) ≡ ls
+      go : (s : NextLine) → Onward ws c s → Follows g ws ls s → ((d : Cursor) (ks : List Text) → ahead ws d < ahead ws c → Pending g ws d ks → linesLeft ws d ≡ ks) → followed s (λ d. linesLeft ws d) ≡ ls
       go stop o q h = sym q
       go (skip d) o q h = h d ls o q
       go (emit t d) o q h = ap (λ ks. t ∷ ks) (h d (q .rest) o (q .pending)) ∙ sym (q .lines)

@@ -11,13 +11,6 @@ use limits::AREA;
 // 01: "right-side length (0 to 12)".
 const SYMBOLS: u32 = limits::SYMBOLS as u32;
 
-// The numbers of operations that the listing tells apart.
-const ADD: u32 = operations::ADD as u32;
-
-const EVALUATE: u32 = operations::EVALUATE as u32;
-
-const TEST: u32 = operations::TEST as u32;
-
 // Where the listing stands.
 pub struct Cursor {
     // whose lines come next
@@ -64,8 +57,11 @@ fn record_word(program: &[u32], production: u32, k: usize) -> u32
     requires { ⌜ k < 8 ⌝ }
     ensures { λ r. ⌜ r ≡ recordWord (now (program .entry)) production k ⌝ }
 {
-    let records = wide(word(program, 2));
-    word(program, records + 8 * wide(production) + k)
+    let records = wide(word(program, program_parts::RECORDS));
+    word(
+        program,
+        records + program_parts::RECORD_WORDS * wide(production) + k,
+    )
 }
 
 // ---- cursors
@@ -74,9 +70,9 @@ fn record_word(program: &[u32], production: u32, k: usize) -> u32
 fn start(program: &[u32], production: u32) -> Cursor
     ensures { λ r. ⌜ r ≡ startOf (now (program .entry)) production ⌝ }
 {
-    let body = wide(record_word(program, production, 4));
-    let symbols = wide(record_word(program, production, 7));
-    let tests = record_word(program, production, 5);
+    let body = wide(record_word(program, production, program_parts::BODY));
+    let symbols = wide(record_word(program, production, program_parts::SYMBOLS));
+    let tests = record_word(program, production, program_parts::TESTS);
     Cursor {
         production: production,
         passed: 0,
@@ -85,6 +81,11 @@ fn start(program: &[u32], production: u32) -> Cursor
         at: body + symbols,
     }
 }
+
+// What the items at hand are; where none are left, it says conditions.
+const RULES: bool = true;
+
+const CONDITIONS: bool = false;
 
 // On in the same production.
 fn go_on(c: Cursor, passed: u32, rules: bool, left: u32, at: usize) -> Cursor
@@ -103,7 +104,7 @@ fn go_on(c: Cursor, passed: u32, rules: bool, left: u32, at: usize) -> Cursor
 fn is_inside(program: &[u32], c: Cursor) -> bool
     ensures { λ r. ⌜ (r ≡ insideOf (now (program .entry)) c) × (r ≡ true → c .production < 4294967295) ⌝ }
 {
-    if word(program, 6) <= c.production {
+    if word(program, program_parts::PRODUCTIONS) <= c.production {
         return false;
     }
     if AREA <= c.at {
@@ -122,11 +123,11 @@ fn is_silent(program: &[u32], c: Cursor) -> bool
     if !is_inside(program, c) {
         return false;
     }
-    let operation = word(program, c.at) % 8;
-    if operation == ADD {
+    let operation = program_parts::operation(wide(word(program, c.at)));
+    if operation == operations::ADD {
         return false;
     }
-    operation <= TEST
+    operation <= operations::TEST
 }
 
 // Behind that instruction: at its items, or past its symbol.
@@ -134,14 +135,16 @@ fn pass(program: &[u32], c: Cursor) -> Cursor
     requires { ⌜ (c .at < 16384) × (c .passed ≤ 12) ⌝ }
     ensures { λ r. ⌜ r ≡ skipped (now (program .entry)) c ⌝ }
 {
-    let w = word(program, c.at);
-    if w % 8 == EVALUATE {
-        return go_on(c, c.passed, true, w / 8, c.at + 1);
+    let head = wide(word(program, c.at));
+    let operation = program_parts::operation(head);
+    let items = program_parts::operand(head) as u32;
+    if operation == operations::EVALUATE {
+        return go_on(c, c.passed, RULES, items, c.at + 1);
     }
-    if w % 8 == TEST {
-        return go_on(c, c.passed, false, w / 8, c.at + 1);
+    if operation == operations::TEST {
+        return go_on(c, c.passed, CONDITIONS, items, c.at + 1);
     }
-    go_on(c, c.passed + 1, false, 0, c.at + 1)
+    go_on(c, c.passed + 1, CONDITIONS, 0, c.at + 1)
 }
 
 // To the next instruction or item that has a line.
@@ -162,7 +165,7 @@ fn position(program: &[u32], c: Cursor) -> u32
     ensures { λ r. ⌜ r ≡ positionOf (now (program .entry)) c ⌝ }
 {
     let passed = c.passed;
-    if passed < record_word(program, c.production, 7) {
+    if passed < record_word(program, c.production, program_parts::SYMBOLS) {
         return passed + 1;
     }
     0
@@ -176,7 +179,13 @@ fn rule(program: &[u32], c: Cursor, out: &mut [u8]) -> Line
     let w = word(program, c.at);
     let constant = word(program, c.at + 1);
     let length = listing_lines::rule_line(out, c.production, k, w, constant);
-    let next = go_on(c, c.passed, true, c.left - 1, c.at + 2);
+    let next = go_on(
+        c,
+        c.passed,
+        RULES,
+        c.left - 1,
+        c.at + program_parts::RULE_WORDS,
+    );
     Line {
         over: false,
         length: length,
@@ -192,7 +201,13 @@ fn condition(program: &[u32], c: Cursor, out: &mut [u8]) -> Line
     let low = word(program, c.at + 1);
     let high = word(program, c.at + 2);
     let length = listing_lines::condition_line(out, c.production, c.passed, w, low, high);
-    let next = go_on(c, c.passed, false, c.left - 1, c.at + 3);
+    let next = go_on(
+        c,
+        c.passed,
+        CONDITIONS,
+        c.left - 1,
+        c.at + program_parts::CONDITION_WORDS,
+    );
     Line {
         over: false,
         length: length,
@@ -205,7 +220,7 @@ fn add(c: Cursor, registers: u32, out: &mut [u8]) -> Line
     ensures { λ r. ⌜ Emits (now (out .entry)) (now (out .exit)) r (addLine (c .production) (c .passed + 1) registers) (behindAdd c) ⌝ }
 {
     let length = listing_lines::add_line(out, c.production, c.passed + 1, registers);
-    let next = go_on(c, c.passed, false, 0, c.at + 1);
+    let next = go_on(c, c.passed, CONDITIONS, 0, c.at + 1);
     Line {
         over: false,
         length: length,
@@ -255,9 +270,10 @@ pub fn next_line(program: &[u32], cursor: Cursor, out: &mut [u8]) -> Line
         }
         return condition(program, c, out);
     }
-    let w = word(program, c.at);
-    if w % 8 == ADD {
-        return add(c, w / 8, out);
+    let head = wide(word(program, c.at));
+    let registers = program_parts::operand(head) as u32;
+    if program_parts::operation(head) == operations::ADD {
+        return add(c, registers, out);
     }
-    remove(program, c.production, w / 8, out)
+    remove(program, c.production, registers, out)
 }

@@ -14,20 +14,12 @@ pub mod ValueRows
 pub mod SchemeRows
 pub mod WalkRows
 pub mod PartRows
--- ---- calls, refusals, listings, statements
+-- ---- calls, refusals, listings
 pub mod NegativeRows
 pub mod CallRows
 pub mod RefusalRows
 pub mod ListingRows
 pub mod PublicRows
-pub mod StatementRows
 -- ---- tokens that carry a value: 02 (e)
 pub mod TagRows
 pub mod TokenRows
-pub mod TokenStatementRows
--- ---- the inner run: 02 (h)
-pub mod InnerRows
-pub mod InnerStatementRows
--- ---- house order and the window: 02 (a), (k)
-pub mod HouseRows
-pub mod WindowRows

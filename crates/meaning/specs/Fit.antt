@@ -1,4 +1,6 @@
--- 34, declaratively. 01: "Stacks fit when the record's numbers are inside their limits, the bottom place is the whole segment's, each other place's left side is the symbol the place below waits at, the top place waits or is 32,769, registers are as many and marked as the picture says, values are in range and the rest is cleared." (`stacksFit` in Calls is the test of it.)
+-- 34, declaratively. 01: "Stacks fit when the record's numbers are inside their limits, the bottom place is the whole segment's, each other place's
+-- left side is the symbol the place below waits at, the top place waits or is 32,769, registers are as many and marked as the picture says, values
+-- are in range and the rest is cleared." (`stacksFit` in Calls is the test of it.)
 use Prim.Native.Nat.{ℕ, suc, _≤_, _<_}
 use mathlib.Core.Path.{_≡_}
 use mathlib.Core.Logic.{_⊎_}

@@ -1,4 +1,6 @@
--- How a grammar is laid out in a table's bytes, as a relation: rules and conditions of a production come in any order, so a grammar has several tables. 01: "fields: one-byte tag, two-byte length, body. Numbers are unsigned and big-endian; constants and bounds are four-byte two's complement. Every other number in a body is one byte, so an occurrence is two."
+-- How a grammar is laid out in a table's bytes, as a relation: rules and conditions of a production come in any order, so a grammar has several
+-- tables. 01: "fields: one-byte tag, two-byte length, body. Numbers are unsigned and big-endian; constants and bounds are four-byte two's complement.
+-- Every other number in a body is one byte, so an occurrence is two."
 use Prim.Native.Nat.{ℕ, _+_, _-_, _/_, _%_, _<_}
 use mathlib.Core.Path.{_≡_}
 use mathlib.Core.List.{List, [], _∷_, _++_, map}

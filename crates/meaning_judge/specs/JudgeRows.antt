@@ -31,7 +31,19 @@ oneSheet =
 
 pub one-tree : TreeOf words oneWord oneTree
 one-tree = record {
-  evaluated = (record { listed = lit< tt; symbol = refl; size = refl; ranges = tt; rules = (refl, (refl, tt)); conditions = tt }, ((record { listed = lit< tt; symbol = refl; size = refl; ranges = tt; rules = (refl, (refl, tt)); conditions = tt }, ((refl, tt), ((record { listed = lit< tt; symbol = refl; size = refl; ranges = tt; rules = (refl, tt); conditions = tt }, tt), tt))), tt));
+  evaluated = (
+    record { listed = lit< tt; symbol = refl; size = refl; ranges = tt; rules = (refl, (refl, tt)); conditions = tt },
+    (
+      (
+        record { listed = lit< tt; symbol = refl; size = refl; ranges = tt; rules = (refl, (refl, tt)); conditions = tt },
+        (
+          (refl, tt),
+          ((record { listed = lit< tt; symbol = refl; size = refl; ranges = tt; rules = (refl, tt); conditions = tt }, tt), tt),
+        ),
+      ),
+      tt,
+    ),
+  );
   read = refl;
 }
 

@@ -12,8 +12,8 @@ use Rattle.meaning.specs.Walk.{walk}
 use Rattle.meaning.specs.Drawn.{WalkFits}
 use Rattle.meaning.specs.Calls.{Stacks, Answer, value, refused, lentOf, tokensFrom}
 use Rattle.meaning.specs.PublicCalls.{feed, areaLength, opens, performs}
-use Rattle.meaning.specs.CallStatements.{Lendable}
-use Rattle.meaning.specs.Statements.{fedAndFinished}
+use Rattle.meaning_statements.specs.CallStatements.{Lendable}
+use Rattle.meaning_statements.specs.Statements.{fedAndFinished}
 use Rattle.meaning_sheet.specs.Sheet.{sheetOf, SheetBytes}
 use Rattle.meaning_sheet.specs.SheetCalls.{unlessRefused}
 use Rattle.meaning_judge.specs.Judge.{Describes, JudgeAnswer, worth, turnedBack, JudgedAs}

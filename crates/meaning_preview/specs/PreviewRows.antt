@@ -12,8 +12,7 @@ use Rattle.meaning.specs.PublicCalls.{Effect}
 use Rattle.meaning.specs.Examples.Words.{words}
 use Rattle.meaning.specs.Examples.TokenRows.{lengths}
 use Rattle.meaning.specs.Examples.TableRows.{bytes}
-use Rattle.meaning.specs.Examples.CallRows.{m, state, stacks, used, called, thenFeed}
-use Rattle.meaning.specs.Examples.InnerRows.{record-of}
+use Rattle.meaning.specs.Examples.CallRows.{m, state, record-of, stacks, used, called, thenFeed}
 use Rattle.meaning_preview.specs.Preview.{isShort, tidied, whenCopied, tried, previewOf, previews, noRefusal, mayFollow, tokens, turned, mayEffect, mayOf, mays}
 
 -- ---- the scratch

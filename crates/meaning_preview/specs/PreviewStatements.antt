@@ -15,7 +15,7 @@ use Rattle.meaning.specs.Judgement.{Accepted, Judged, rejected}
 use Rattle.meaning.specs.Calls.{waiting, closed, outer, Record, isOpen, Stacks, Answer, refused, tableRefused, lentOf}
 use Rattle.meaning.specs.Fit.{Fit}
 use Rattle.meaning.specs.PublicCalls.{feed, areaLength, written, performs}
-use Rattle.meaning.specs.CallStatements.{Met}
+use Rattle.meaning_statements.specs.CallStatements.{Met}
 use Rattle.meaning_preview.specs.Preview.{isShort, previews, noRefusal, tokens, turned, mayEffect, mays}
 
 -- ==== turned back before any token is tried

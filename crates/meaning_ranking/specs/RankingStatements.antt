@@ -15,7 +15,7 @@ use Rattle.meaning.specs.Value as Value
 use Rattle.meaning.specs.Judgement.{Accepted}
 use Rattle.meaning.specs.Tree.{Tree, TreeOf, valueOf}
 use Rattle.meaning.specs.Drawn.{WalkFits}
-use Rattle.meaning.specs.Order.{Shuffled}
+use Rattle.meaning_house.specs.Order.{Shuffled}
 use Rattle.meaning.specs.Calls as Calls
 use Rattle.meaning.specs.Calls.{Stacks, Answer, lentOf, tokensFrom}
 use Rattle.meaning.specs.PublicCalls.{areaLength}

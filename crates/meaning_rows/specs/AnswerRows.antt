@@ -7,9 +7,9 @@ use lib.IntN.{pos}
 use Rattle.meaning.specs.Base.{keep, countFrom}
 use Rattle.meaning.specs.Calls.{Answer, more, value, refused, tableRefused}
 use Rattle.meaning.specs.PublicCalls.{feed, finish}
-use Rattle.meaning.specs.Inner.{engine, giveUp}
-use Rattle.meaning.specs.CallStatements.{openingAnswer, callAnswer}
-use Rattle.meaning.specs.InnerStatements.{innerOpeningAnswer, innerCallAnswer}
+use Rattle.meaning_inner.specs.Inner.{engine, giveUp}
+use Rattle.meaning_statements.specs.CallStatements.{openingAnswer, callAnswer}
+use Rattle.meaning_statements.specs.InnerStatements.{innerOpeningAnswer, innerCallAnswer}
 
 -- the numbers below 41 that are answered
 abbrev numbers : (ℕ → Answer) → (Answer → Bool) → List ℕ

@@ -13,7 +13,7 @@ use Rattle.meaning.specs.Layout.{field, conditionBytes}
 use Rattle.meaning.specs.Judgement.{accepted, rejected}
 use Rattle.meaning.specs.Differences.{lesser, bound, closed, solvable}
 use Rattle.meaning.specs.Decide.{satisfiable}
-use Rattle.meaning.specs.CompareStatements.{Satisfiable, NegativeCycle, highEdge, lowEdge, atmostEdge, step, join}
+use Rattle.meaning_statements.specs.CompareStatements.{Satisfiable, NegativeCycle, highEdge, lowEdge, atmostEdge, step, join}
 use Rattle.meaning.specs.Table.{conditionOf}
 use Rattle.meaning.specs.Machine.{Settled, stopped, failed, opening, feedAll, finishAll}
 use Rattle.meaning.specs.Program.{conditionWords}
@@ -22,7 +22,7 @@ use Rattle.meaning.specs.Examples.ListingRows.{codes}
 use Rattle.meaning.specs.Examples.Words.{occ, rule, lent, plain}
 use Rattle.meaning.specs.Examples.Samples.{handDown, handUp, inFirst}
 use Rattle.meaning.specs.Examples.SetRows.{low-high, entries}
-use Rattle.meaning.specs.Examples.CompareRows.{far}
+use Rattle.meaning_statements.specs.CompareStatementRows.{far}
 
 -- ---- as bytes
 

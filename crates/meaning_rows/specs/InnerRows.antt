@@ -10,13 +10,14 @@ use Rattle.meaning.specs.Grammar.{Grammar}
 use Rattle.meaning.specs.Calls.{running, waiting, closed, outer, inner, Stacks, Answer, more, value, refused, tableRefused, openOf, feedOf}
 use Rattle.meaning.specs.PublicCalls.{feed, finish, areaLength, written, performs}
 use Rattle.meaning.specs.PublicCalls as PublicCalls
-use Rattle.meaning.specs.Inner.{above, paste, InnerCalled, InnerCall, engine, giveUp, innerOf, innerOpens, innerPerforms}
+use Rattle.meaning_inner.specs.Inner.{above, paste, InnerCalled, InnerCall, engine, giveUp, innerOf, innerOpens, innerPerforms}
 use Rattle.meaning.specs.Examples.Words.{words}
 use Rattle.meaning.specs.Examples.Samples.{small}
 use Rattle.meaning.specs.Examples.TokenRows.{lengths}
 use Rattle.meaning.specs.Examples.TableRows.{bytes}
-use Rattle.meaning.specs.Examples.CallRows.{m, stacks, used, feedKinds, thenFeed, thenFinish}
-use Rattle.meaning.specs.Examples.InnerRows.{record-of, at-outer, at-inner, called, over, stopped, feedOnly, opened-inner, then, left, back, brings, ordinary}
+use Rattle.meaning.specs.Examples.CallRows.{m, record-of, stacks, used, feedKinds, thenFeed, thenFinish}
+use Rattle.meaning.specs.Examples.RefusalRows.{ordinary}
+use Rattle.meaning_inner.specs.InnerRows.{at-outer, at-inner, called, over, stopped, feedOnly, opened-inner, then, left, back, brings}
 
 outer-run : thenFeed words (0 ∷ 1 ∷ []) (openOf words (used 16 9)) ≡ record { answer = more 11; state = at-outer running; stacks = stopped }
 outer-run = refl

@@ -12,15 +12,14 @@ use Rattle.meaning.specs.Grammar.{Token}
 use Rattle.meaning.specs.Judgement.{Accepted, Judged, rejected}
 use Rattle.meaning.specs.Calls.{running, waiting, closed, outer, inner, Record, Stacks, refused, tableRefused, closedRecord}
 use Rattle.meaning.specs.PublicCalls.{feed, finish, written}
-use Rattle.meaning.specs.Inner.{registerBase, placeBase, giveUp}
-use Rattle.meaning.specs.CallStatements.{Met, Case, isWaiting, isInner, whichCase}
-use Rattle.meaning.specs.InnerStatements.{bothBack, outerClosed, isThird, badInner, openingEffect, Belongs, eitherClosed, apart, innerCallEffect, Kept, InsideHistory, begins, passes, feeds, finishes}
+use Rattle.meaning_inner.specs.Inner.{registerBase, placeBase, giveUp}
+use Rattle.meaning_statements.specs.CallStatements.{Met, Case, isWaiting, isInner, whichCase}
+use Rattle.meaning_statements.specs.InnerStatements.{bothBack, outerClosed, isThird, badInner, openingEffect, Belongs, eitherClosed, apart, innerCallEffect, Kept, InsideHistory, begins, passes, feeds, finishes}
 use Rattle.meaning.specs.Examples.Words.{words}
 use Rattle.meaning.specs.Examples.TableRows.{bytes}
 use Rattle.meaning.specs.Examples.Samples.{small}
-use Rattle.meaning.specs.Examples.CallRows.{m, stacks}
-use Rattle.meaning.specs.Examples.InnerRows.{record-of}
-use Rattle.meaning.specs.Examples.InnerStatementRows.{program, area, long, theOuter, theInner, over, stopped, two, stateNumber}
+use Rattle.meaning.specs.Examples.CallRows.{m, record-of, stacks}
+use Rattle.meaning_statements.specs.InnerStatementRows.{program, area, long, theOuter, theInner, over, stopped, two, stateNumber}
 
 -- ---- a list of inner calls: opened, an empty feed, a word, a short area, the end
 

@@ -1,4 +1,4 @@
--- More examples, computed from the definitions of meaning: the rows that no must-fail edit of meaning needs. Each edit is tried on meaning alone, so that these are not checked again for it.
+-- More examples, computed from the definitions of meaning, meaning_inner and meaning_window, and of the statements: the rows that no must-fail edit needs. Each edit is tried on its own crate alone, so that these are not checked again for it.
 -- ---- the table
 -- The table of the grammar of words and tags, read; then fields, headers, counts and productions: refusals 1 to 6 and 8 where they stand, both sides of each limit, and their order
 pub mod TableRows

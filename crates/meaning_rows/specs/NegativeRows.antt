@@ -14,8 +14,8 @@ use Rattle.meaning.specs.Machine.{Config}
 use Rattle.meaning.specs.Tree.{Tree, leaf, node, noTrees, treeAnd, values, child}
 use Rattle.meaning.specs.Part.{fresh, added, valued, left, closing, Ancestor, config, childrenOf, Handed, Results, Tested, Stands, Good, PartOf}
 use Rattle.meaning.specs.Selectors.{partAt, Found}
-use Rattle.meaning.specs.CallStatements.{Handles}
-use Rattle.meaning.specs.Statements.{Returned}
+use Rattle.meaning_statements.specs.CallStatements.{Handles}
+use Rattle.meaning_statements.specs.Statements.{Returned}
 use Rattle.meaning.specs.Examples.Words.{occ, rule, bare}
 use Rattle.meaning.specs.Examples.SchemeRows.{wide, wide1}
 use Rattle.meaning.specs.Examples.WalkRows.{wideTree}

@@ -16,14 +16,14 @@ use Rattle.meaning.specs.Walk.{Act}
 use Rattle.meaning.specs.Calls.{Record, Stacks, Answer, more, value, refused, tableRefused, configOf, result}
 use Rattle.meaning.specs.Fit.{Fit, segment}
 use Rattle.meaning.specs.PublicCalls.{Call, feed, finish, Effect, performs}
-use Rattle.meaning.specs.Inner.{isClosed, InnerCall, engine, giveUp}
-use Rattle.meaning.specs.InnerLists.{Step, innerRun}
-use Rattle.meaning.specs.CallStatements.{handedBack, Refuses, tooMany, notToken, atToken, atEnd, between, MovesTo, CallsMoveOf}
-use Rattle.meaning.specs.Statements.{History, opened, countsForNothing, innerEnded, fed, finished}
+use Rattle.meaning_inner.specs.Inner.{isClosed, InnerCall, engine, giveUp}
+use Rattle.meaning_inner.specs.InnerLists.{CallWithTable, innerRun}
+use Rattle.meaning_statements.specs.CallStatements.{handedBack, Refuses, tooMany, notToken, atToken, atEnd, between, MovesTo, CallsMoveOf}
+use Rattle.meaning_statements.specs.Statements.{History, opened, countsForNothing, innerEnded, fed, finished}
 use Rattle.meaning.specs.Examples.Words.{words, plain}
 use Rattle.meaning.specs.Examples.TableRows.{bytes}
 use Rattle.meaning.specs.Examples.CallRows.{m, state, stacks, used}
-use Rattle.meaning.specs.Examples.StatementRows.{program, area, long, feedKinds, stuck, fresh, Answered, lent, not-by}
+use Rattle.meaning_statements.specs.StatementRows.{program, area, long, feedKinds, stuck, fresh, Answered, lent, not-by}
 
 -- ---- a list of calls: word open close in two pieces
 
@@ -52,7 +52,7 @@ unfolding bytes
 uneven-turned-back = countsForNothing bytes area (feed (1 ∷ []) []) one-word refl refl
 
 -- 02 (h): inner runs on the 3 registers and 2 places that are left: one given up after an empty feed; one that its finish ends, by 32
-abbrev insideCall : InnerCall → Step InnerCall
+abbrev insideCall : InnerCall → CallWithTable InnerCall
 insideCall c = record { table = bytes; area = area; call = c }
 
 inner-given-up : Listed (0 ∷ []) (state true 1 7 5 3) (stacks (m ∷ m ∷ pos 0 ∷ m ∷ pos 0 ∷ m ∷ m ∷ m ∷ []) (32768 ∷ 0 ∷ 257 ∷ 0 ∷ 0 ∷ []))

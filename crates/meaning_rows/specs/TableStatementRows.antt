@@ -12,7 +12,7 @@ use Rattle.meaning.specs.Grammar.{Grammar, Symbol, Production, Occurrence, Func
 use Rattle.meaning.specs.Layout as Layout
 use Rattle.meaning.specs.Layout.{field, ruleBytes, conditionBytes, RulesAndConditions, nothing, condition, production}
 use Rattle.meaning.specs.Scheme.{Instruction, add, evaluate, expect, test, remove}
-use Rattle.meaning.specs.TableStatements.{StretchIn, SameProduction}
+use Rattle.meaning_statements.specs.TableStatements.{StretchIn, SameProduction}
 use Rattle.meaning.specs.Examples.Samples.{small, sToA, handDown, handUp, aToToken, aIsZero}
 use Rattle.meaning.specs.Examples.Words.{words, occ, rule, p0, p1, p3}
 

@@ -7,9 +7,9 @@ use mathlib.Core.List.{[], _∷_}
 use lib.IntN.{ℤ, pos, negsuc}
 use lib.Dec.{lit<}
 use Rattle.meaning.specs.PublicCalls.{feed}
-use Rattle.meaning.specs.CallStatements.{Lendable, Even, tokensOf}
-use Rattle.meaning.specs.MarkedToken.{kinds}
-use Rattle.meaning.specs.TokenStatements.{SameWhereCarried}
+use Rattle.meaning_statements.specs.CallStatements.{Lendable, Even, tokensOf}
+use Rattle.meaning_statements.specs.MarkedToken.{kinds}
+use Rattle.meaning_statements.specs.TokenStatements.{SameWhereCarried}
 use Rattle.meaning.specs.Examples.TokenRows.{lengths}
 
 -- ---- the lists of a feed

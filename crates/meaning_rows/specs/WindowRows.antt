@@ -4,8 +4,8 @@ use mathlib.Core.Bool.{true, false}
 use mathlib.Core.List.{[], _∷_, map}
 use lib.IntN.{pos, negsuc}
 use Rattle.meaning.specs.Calls.{more, value, refused, tableRefused}
-use Rattle.meaning.specs.Window.{stands, empty, turnedBack, zeros, largest, outcome, opensWindow, bringsValue, bringsRefusal, wellKept}
-use Rattle.meaning.specs.WindowStatements.{opening, later, entered, enteredBy, outside, answerIn}
+use Rattle.meaning_window.specs.Window.{stands, empty, turnedBack, zeros, largest, outcome, opensWindow, bringsValue, bringsRefusal, wellKept}
+use Rattle.meaning_window.specs.WindowStatements.{opening, later, entered, enteredBy, outside, answerIn}
 
 -- a size that is none
 none : opensWindow 0 (zeros 10) ≡ outcome turnedBack (zeros 10)

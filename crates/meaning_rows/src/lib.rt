@@ -1,1 +1,1 @@
-// More computed rows of the definitions in meaning; no code.
+// More computed rows of the definitions and statements; no code.

@@ -1,1 +1,1 @@
-// 02 (h): the inner run is a run alone, and the outer run is kept; no code.
+// 02 (i): tree sheets: the definitions; no code.

@@ -2,6 +2,7 @@
 use token_set::word;
 ghost use mathlib.Core.Path.{_≡_};
 ghost use lib.Bits.{bitOr};
+ghost use Prim.Native.Nat.{_<_};
 ghost use lib.Dec.{eqb};
 ghost use Rattle.meaning.specs.Sets.{_∪_, emptySet, has, singleton, endNumber};
 ghost use Rattle.token_set.specs.SetBits.{setOf};
@@ -26,10 +27,12 @@ impl NonterminalSet {
         NonterminalSet(self.0 | other.0)
     }
 
+    // Whether a number that has a bit is in.
     pub fn has(self, n: u8) -> bool
+        requires { ⌜ n < 64 ⌝ }
         ensures { λ r. ⌜ r ≡ has (setOf (self .0)) n ⌝ }
     {
-        word::has(self.0, n)
+        (self.0 >> n) & 1 == 1
     }
 
     pub fn is_empty(self) -> bool

@@ -2,3 +2,5 @@
 pub mod Rows
 -- The outline of a table that is read whole: what the lent arrays, and the numbers beside them, say of its grammar
 pub mod Outline
+-- How many attributes a symbol has, by its byte and the counts of the nonterminals
+pub mod Counts

@@ -1,21 +1,34 @@
 -- The image of a table's productions: 16 bytes for each. Byte 0 is the left nonterminal, byte 1 the length of the right side,
 -- from byte 2 on its symbols as the table has them: a terminal is its number, a nonterminal 128 plus its number.
-use Prim.Native.Nat.{ℕ, suc, _+_, _-_, _*_, _≤_, _<_}
+use Prim.Native.Nat.{ℕ, suc, _+_, _-_, _*_, _/_, _≤_, _<_}
 use native.Mathlib.Numerals.{add-one}
 use native.Mathlib.Omega.{arith}
 use native.Mathlib.Decide.{decLt}
 use mathlib.Core.Path.{_≡_, sym, ap, ap₂, _∙_}
-use mathlib.Core.Bool.{Bool, true, false}
 use mathlib.Core.List.{List, [], _∷_, map}
-use borrow.Author.Tests.{lt-ltb, le-ltb}
 use lib.Dec.{T, ltb, ltb→lt}
 use lib.ListN.{length, take, drop, getD, length-take, length-drop, length-map, List·getD-map, drop-of-length-le}
 use lib.Seq.{drop-cons, getD-take, getD-drop, ext-getD}
 use Rattle.meaning.specs.Grammar.{Symbol, terminal, nonterminal, Grammar, symbolAt, productionAt, nonterminalCount}
-use Rattle.meaning.specs.Table.{symbolOf}
+use Rattle.meaning.specs.Table.{byte, symbolOf}
 use Rattle.meaning.specs.Rules.{WellFormed}
+pub use Rattle.theory_table.specs.Numbers.{symbol-terminal, symbol-nonterminal}
 use Rattle.theory_sets.specs.Tests.{all-at}
 use Rattle.theory_sets.specs.Productions.{known, symbols, lefts}
+
+-- where row p begins; row p + 1 begins where it ends
+abbrev pub rowStart : ℕ → ℕ
+rowStart p = p * 16
+
+abbrev pub rowCount : List ℕ → ℕ
+rowCount rows = length rows / 16
+
+-- row p lies in the image whole
+abbrev pub HasRow : List ℕ → ℕ → Type 0
+HasRow rows p = rowStart (p + 1) ≤ length rows
+
+abbrev pub rowAt : List ℕ → ℕ → List ℕ
+rowAt rows p = take 16 (drop (rowStart p) rows)
 
 abbrev pub leftAt : List ℕ → ℕ → ℕ
 leftAt rows p = getD rows (p * 16) 0
@@ -28,6 +41,16 @@ byteAt rows p i = getD rows (p * 16 + 2 + i) 0
 
 unfoldable pub rightAt : List ℕ → ℕ → List Symbol
 rightAt rows p = map symbolOf (take (sizeAt rows p) (drop (p * 16 + 2) rows))
+
+-- of a row that is lent alone
+abbrev pub leftIn : List ℕ → ℕ
+leftIn row = byte row 0
+
+abbrev pub sizeIn : List ℕ → ℕ
+sizeIn row = byte row 1
+
+abbrev pub symbolIn : List ℕ → ℕ → ℕ
+symbolIn row k = byte row (k + 2)
 
 -- the numbers of an image that the code relies on
 pub record Image (rows : List ℕ) (count : ℕ) : Type 0 where
@@ -47,14 +70,12 @@ pub record Rows (rows : List ℕ) (count : ℕ) (g : Grammar) : Type 0 where
   pub left : (p : ℕ) → p < count → leftAt rows p ≡ productionAt g p .left
   pub right : (p : ℕ) → p < count → rightAt rows p ≡ productionAt g p .right
 
-symbol-by : (b : Bool) (n : ℕ) → ltb n 128 ≡ b → symbolOf n ≡ elim b [ true ↦ terminal n | false ↦ nonterminal (n - 128) ]
-symbol-by b n e = rw (sym e)
+-- what is to be shown where the code reads the row of production p, and symbol i of its right side
+pub row-inside : {rows : List ℕ} {count : ℕ} → Image rows count → (p : ℕ) → p < count → HasRow rows p
+row-inside image p lt = omega (arith, image .room)
 
-pub symbol-terminal : (n : ℕ) → n < 128 → symbolOf n ≡ terminal n
-symbol-terminal n h = symbol-by true n (lt-ltb n 128 h)
-
-pub symbol-nonterminal : (n : ℕ) → 128 ≤ n → symbolOf n ≡ nonterminal (n - 128)
-symbol-nonterminal n h = symbol-by false n (le-ltb n 128 h)
+pub symbol-inside : {rows : List ℕ} {count : ℕ} → Image rows count → (p i : ℕ) → p < count → i < sizeAt rows p → HasRow rows p × (i < 14)
+symbol-inside image p i lt h = (row-inside image p lt, omega (arith, image .sizes p lt))
 
 module _ (rows : List ℕ) (count : ℕ) (room : count * 16 ≤ length rows) (p : ℕ) (lt : p < count) (short : sizeAt rows p ≤ 12) where
   part-length : length (take (sizeAt rows p) (drop (p * 16 + 2) rows)) ≡ sizeAt rows p

@@ -2,8 +2,10 @@
 ghost use mathlib.Core.Path.{_≡_};
 ghost use Rattle.meaning.specs.PublicCalls.{made, madeOf};
 ghost use Rattle.prepare.specs.Making.{madeIs, MadeAs};
+ghost use Rattle.prepare.specs.Beginning.{BegunAs};
 use checker_grammar::Judged;
 use limits::AREA;
+use records::Answer;
 
 // The area is too short (30), the table is refused, or its program is written, with its length.
 pub enum Made {
@@ -47,5 +49,28 @@ pub fn program_of(table: &[u8], program: &mut [u32]) -> Made
             );
             Made::Written(length)
         }
+    }
+}
+
+// What a call begins with: it is turned back by 30 or by its table, or the table is accepted and its program written.
+pub enum Begun {
+    Turned(Answer),
+    Ready,
+}
+
+// 30 and the table's refusals, as a call answers them.
+pub fn begin(table: &[u8], program: &mut [u32]) -> Begun
+    ensures { λ r. ⌜ BegunAs (now (table .entry)) (now (program .entry)) (now (program .exit)) r ⌝ }
+{
+    match program_of(table, program) {
+        Made::Short => Begun::Turned(Answer::Refused {
+            number: 30,
+            tokens: 0,
+        }),
+        Made::Refused { number, offset } => Begun::Turned(Answer::TableRefused {
+            number,
+            offset: offset as u64,
+        }),
+        Made::Written(length) => Begun::Ready,
     }
 }

@@ -17,9 +17,9 @@ use Rattle.meaning_preview.specs.Preview.{MayEffect, mayEffect, turned, mayOf, 
 use Rattle.prepare.specs.Making.{ProgramStands}
 use Rattle.records.specs.declared.Answer.{Answer}
 use Rattle.records.specs.Records.{answerIs}
-use Rattle.engine.specs.declared.Begun.{Begun}
-use Rattle.engine.specs.declared.Begun.the-variants.{Turned}
-use Rattle.engine.specs.Beginning.{TurnedBack, Case, BegunAs}
+use Rattle.prepare.specs.declared.Begun.{Begun}
+use Rattle.prepare.specs.declared.Begun.the-variants.{Turned}
+use Rattle.prepare.specs.Beginning.{TurnedBack, Case, BegunAs}
 
 abbrev movesIn : Calls.Answer → ℕ
 movesIn (more n) = n

@@ -11,9 +11,9 @@ ghost use Rattle.engine.specs.Records.{recordIs, effectIs};
 ghost use Rattle.preview_lent.specs.Answering.{LentAlike};
 ghost use Rattle.preview.specs.May.{mayEffectIs};
 ghost use Rattle.preview.specs.Answering.{SetAnswered};
-use engine::Begun;
 use engine::Called;
 use engine::Record;
+use prepare::Begun;
 use records::Answer;
 use records::State;
 use token_set::TokenSet;
@@ -36,10 +36,11 @@ pub fn preview(
     kind: u8,
     value: i32,
 ) -> Called
-    ensures { λ r. ⌜ effectIs r (now («scratch_registers» .exit)) (now («scratch_places» .exit)) (now (program .exit)) ≡ previews programOf (now (table .entry)) (now (program .entry)) (recordIs «record») (stacksOf (now (registers .entry)) (now (places .entry))) (stacksOf (now («scratch_registers» .entry)) (now («scratch_places» .entry))) kind value ⌝ }
+    ensures { λ r. ⌜ effectIs r (now («scratch_registers» .exit)) (now («scratch_places» .exit)) (now (program .exit))
+        ≡ previews programOf (now (table .entry)) (now (program .entry)) (recordIs «record») (stacksOf (now (registers .entry)) (now (places .entry))) (stacksOf (now («scratch_registers» .entry)) (now («scratch_places» .entry))) kind value ⌝ }
 {
     let state = record.state;
-    match engine::begin(table, program) {
+    match prepare::begin(table, program) {
         Begun::Turned(answer) => Called { record, answer },
         Begun::Ready => engine::hand_back(preview_cells::preview_cells(
             registers,
@@ -65,7 +66,8 @@ fn may_lent(
     value: i32,
 ) -> TokenSet
     requires { ⌜ Judged (now program) (now registers) (now places) (stateIs brought) × LentAlike (now registers) (now places) (now «scratch_registers») (now «scratch_places») ⌝ }
-    ensures { λ r. ⌜ ((g : Grammar) → HasProgram g (now (program .entry)) → SetAnswered g (stateIs brought) (now (registers .entry)) (now (places .entry)) (now («scratch_registers» .entry)) (now («scratch_places» .entry)) value (r .0) (now («scratch_registers» .exit)) (now («scratch_places» .exit))) ⌝ }
+    ensures { λ r. ⌜ ((g : Grammar) → HasProgram g (now (program .entry))
+        → SetAnswered g (stateIs brought) (now (registers .entry)) (now (places .entry)) (now («scratch_registers» .entry)) (now («scratch_places» .entry)) value (r .0) (now («scratch_registers» .exit)) (now («scratch_places» .exit))) ⌝ }
 {
     run_cells::clear_registers(scratch_registers);
     run_cells::clear_places(scratch_places);
@@ -92,7 +94,8 @@ fn may_cells(
     value: i32,
 ) -> May
     requires { ⌜ Readable (now program) ⌝ }
-    ensures { λ r. ⌜ ((g : Grammar) → HasProgram g (now (program .entry)) → mayEffectIs r (now («scratch_registers» .exit)) (now («scratch_places» .exit)) (now (program .entry)) ≡ mayOf g (stateIs brought) (stacksOf (now (registers .entry)) (now (places .entry))) (stacksOf (now («scratch_registers» .entry)) (now («scratch_places» .entry))) value (now (program .entry))) ⌝ }
+    ensures { λ r. ⌜ ((g : Grammar) → HasProgram g (now (program .entry)) → mayEffectIs r (now («scratch_registers» .exit)) (now («scratch_places» .exit)) (now (program .entry))
+        ≡ mayOf g (stateIs brought) (stacksOf (now (registers .entry)) (now (places .entry))) (stacksOf (now («scratch_registers» .entry)) (now («scratch_places» .entry))) value (now (program .entry))) ⌝ }
 {
     let number = preview_judge::judge(
         registers,
@@ -129,10 +132,11 @@ pub fn may_follow(
     program: &mut [u32],
     value: i32,
 ) -> May
-    ensures { λ r. ⌜ mayEffectIs r (now («scratch_registers» .exit)) (now («scratch_places» .exit)) (now (program .exit)) ≡ mays programOf (now (table .entry)) (now (program .entry)) (recordIs «record») (stacksOf (now (registers .entry)) (now (places .entry))) (stacksOf (now («scratch_registers» .entry)) (now («scratch_places» .entry))) value ⌝ }
+    ensures { λ r. ⌜ mayEffectIs r (now («scratch_registers» .exit)) (now («scratch_places» .exit)) (now (program .exit))
+        ≡ mays programOf (now (table .entry)) (now (program .entry)) (recordIs «record») (stacksOf (now (registers .entry)) (now (places .entry))) (stacksOf (now («scratch_registers» .entry)) (now («scratch_places» .entry))) value ⌝ }
 {
     let state = record.state;
-    match engine::begin(table, program) {
+    match prepare::begin(table, program) {
         Begun::Turned(answer) => May::Turned(answer),
         Begun::Ready => may_cells(
             registers,

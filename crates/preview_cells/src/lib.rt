@@ -20,7 +20,8 @@ pub fn preview_cells(
     value: i32,
 ) -> Handed
     requires { ⌜ Readable (now program) ⌝ }
-    ensures { λ r. ⌜ ((g : Grammar) → HasProgram g (now (program .entry)) → handedIs r (now («scratch_registers» .exit)) (now («scratch_places» .exit)) ≡ previewOf g (stateIs brought) (stacksOf (now (registers .entry)) (now (places .entry))) (stacksOf (now («scratch_registers» .entry)) (now («scratch_places» .entry))) kind value) ⌝ }
+    ensures { λ r. ⌜ ((g : Grammar) → HasProgram g (now (program .entry)) → handedIs r (now («scratch_registers» .exit)) (now («scratch_places» .exit))
+        ≡ previewOf g (stateIs brought) (stacksOf (now (registers .entry)) (now (places .entry))) (stacksOf (now («scratch_registers» .entry)) (now («scratch_places» .entry))) kind value) ⌝ }
 {
     let number = preview_judge::judge(
         registers,

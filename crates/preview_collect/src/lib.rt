@@ -32,7 +32,7 @@ pub fn collect(
     requires { ⌜ Running (now program) (now registers) (now places) run × Cleared (now registers) (now places) (now «scratch_registers») (now «scratch_places») ⌝ }
     ensures { λ r. ⌜ Collected (now (program .entry)) value (now (registers .entry)) (now (places .entry)) run (r .0) × Cleared (now (registers .entry)) (now (places .entry)) (now («scratch_registers» .exit)) (now («scratch_places» .exit)) ⌝ }
 {
-    let terminals = run_moves::word_at(program, 3);
+    let terminals = run_moves::word_at(program, program_parts::TERMINALS);
     let mut set = TokenSet::EMPTY;
     let mut token = 0u8;
     while (token as usize) < terminals {

@@ -8,12 +8,14 @@ pub fn expected(program: &[u32], at: usize, token: usize) -> bool
     ensures { λ r. ⌜ r ≡ expectedAt (now (program .entry)) at token ⌝ }
 {
     let word = run_moves::word_at(program, at);
-    let operation = word % 8;
+    let operation = program_parts::operation(word);
     if operation == operations::READ {
-        return word / 8 == token;
+        return program_parts::operand(word) == token;
     }
     if operation == operations::PREDICT {
-        return run_moves::word_at(program, 9 + 64 * (word / 8) + token) != 0;
+        let row = program_parts::DIRECTORY
+            + program_parts::DIRECTORY_WORDS * program_parts::operand(word);
+        return run_moves::word_at(program, row + token) != 0;
     }
     operation != operations::NOTHING
 }

@@ -23,7 +23,8 @@ pub fn preview_lent(
     value: i32,
 ) -> Handed
     requires { ⌜ Judged (now program) (now registers) (now places) (stateIs brought) × LentAlike (now registers) (now places) (now «scratch_registers») (now «scratch_places») ⌝ }
-    ensures { λ r. ⌜ ((g : Grammar) → HasProgram g (now (program .entry)) → handedIs r (now («scratch_registers» .exit)) (now («scratch_places» .exit)) ≡ tried g (stateIs brought) (stacksOf (now (registers .entry)) (now (places .entry))) (stacksOf (now («scratch_registers» .entry)) (now («scratch_places» .entry))) kind value) ⌝ }
+    ensures { λ r. ⌜ ((g : Grammar) → HasProgram g (now (program .entry)) → handedIs r (now («scratch_registers» .exit)) (now («scratch_places» .exit))
+        ≡ tried g (stateIs brought) (stacksOf (now (registers .entry)) (now (places .entry))) (stacksOf (now («scratch_registers» .entry)) (now («scratch_places» .entry))) kind value) ⌝ }
 {
     run_cells::clear_registers(scratch_registers);
     run_cells::clear_places(scratch_places);

@@ -73,9 +73,12 @@ pub record Wrote (old new : List ℕ) (a next : ℕ) (ws : List ℕ) : Type 0 wh
 pub wrote-none : (area : List ℕ) (a : ℕ) → Wrote area area a a []
 wrote-none area a = record { memory = sym (patch-none area a); address = omega arith }
 
-pub wrote-one : (area : List ℕ) (a w : ℕ) → Wrote area (set area a w) a (a + 1) (w ∷ [])
+pub wrote-last : (area : List ℕ) (a w : ℕ) {next : ℕ} → next ≡ a + 1 → Wrote area (set area a w) a next (w ∷ [])
 unfolding patch
-wrote-one area a w = record { memory = refl; address = refl }
+wrote-last area a w e = record { memory = refl; address = e }
+
+pub wrote-one : (area : List ℕ) (a w : ℕ) → Wrote area (set area a w) a (a + 1) (w ∷ [])
+wrote-one area a w = wrote-last area a w refl
 
 pub wrote-as : {old new : List ℕ} {a next : ℕ} {xs ys : List ℕ} → xs ≡ ys → Wrote old new a next xs → Wrote old new a next ys
 wrote-as e w = rw e at w
@@ -86,6 +89,10 @@ wrote-then {old} {mid} {new} {a} {b} {c} {xs} {ys} v w =
       memory = w .memory ∙ (ap (λ m. patch m b ys) (v .memory) ∙ (ap (λ d. patch (patch old a xs) d ys) (v .address) ∙ sym (patch-append old a xs ys)));
       address = omega (arith, v .address, w .address, length-append xs ys);
     }
+
+-- one word after the other: each at the address behind the one before, and the last
+pub wrote-cons : {old new : List ℕ} {a b next w : ℕ} {ws : List ℕ} → b ≡ a + 1 → Wrote (set old a w) new b next ws → Wrote old new a next (w ∷ ws)
+wrote-cons {old} {new} {a} {b} {next} {w} e v = wrote-then (wrote-last old a w e) v
 
 -- the words behind are written first
 pub wrote-ahead : {old mid new : List ℕ} {a b c : ℕ} {xs ys : List ℕ} → Wrote old mid b c ys → Wrote mid new a b xs → Wrote old new a c (xs ++ ys)

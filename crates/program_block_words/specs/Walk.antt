@@ -1,31 +1,21 @@
--- The fields of a production's rules and conditions, walked one after the other.
+-- The words and numbers of a production's rules and conditions, by a walk along their fields.
 use Prim.Native.Nat.{ℕ, _+_, _*_, _≤_, _<_}
 use native.Mathlib.Omega.{arith}
-use mathlib.Core.Path.{_≡_, refl, sym, ap, ap₂, _∙_, subst}
-use mathlib.Core.Logic.{inl, inr}
+use mathlib.Core.Path.{_≡_, refl, sym, ap, ap₂, _∙_}
 use mathlib.Core.Bool.{Bool, true, false}
 use mathlib.Core.List.{List, [], _∷_, _++_, map}
-use mathlib.Core.Option.{none, some}
-use lib.ListN.{length, drop, length-append, length-drop}
-use lib.Seq.{drop-append-seam, drop-drop}
+use lib.ListN.{length, drop, length-append}
 use lib.Dec.{eqb}
 use borrow.Author.Tests.{ne-eqb}
-use Rattle.meaning.specs.Base.{In, keep, consIf}
-use Rattle.meaning.specs.Grammar.{Occurrence, Function, const, copy, binary, addc, quot, Rule, Condition, range, atmost, conditionPosition, mapRule, mapCondition}
+use Rattle.meaning.specs.Base.{keep, consIf}
+use Rattle.meaning.specs.Grammar.{Occurrence, Rule, Condition, conditionPosition, mapRule, mapCondition}
 use Rattle.meaning.specs.Rules.{Constant, Proper}
 use Rattle.meaning.specs.Layout.{field, ruleBytes, conditionBytes, RulesAndConditions, nothing, rule, condition}
 use Rattle.meaning.specs.Program.{concat, ruleWords, conditionWords}
 use Rattle.meaning.specs.Table.{byte}
 use Rattle.theory_program.specs.Proper.{keep-few}
+use Rattle.program_block_words.specs.Fields.{Listed, Behind, field-at, none-left}
 use Rattle.program_block_words.specs.Items.{selectorOf, rule-item, condition-item, condition-place, chooseWords, placeOf, itemOf, itemHere, Whole, rule-whole, condition-whole}
-
--- the rules and conditions that a list of bytes holds
-pub record Listed (d : List ℕ) : Type 0 where
-  pub rules : List (Rule Occurrence)
-  pub conditions : List (Condition Occurrence)
-  pub own : RulesAndConditions rules conditions d
-  pub constants : (r : Rule Occurrence) → In r rules → Constant (r .function)
-  pub proper : (c : Condition Occurrence) → In c conditions → Proper c
 
 -- ---- the rules (true) or conditions (false) of position k: their words, and how many they are
 
@@ -63,33 +53,13 @@ countHere rules k d = one (eqb (placeOf rules d) k)
 abbrev pub fieldCount : {d : List ℕ} → Listed d → ℕ
 fieldCount x = length (x .rules) + length (x .conditions)
 
--- where the next field begins
-abbrev pub fieldSize : List ℕ → ℕ
-fieldSize d = 3 + byte d 2
-
-pub record Step (d : List ℕ) (x : Listed d) : Type 0 where
-  pub next : Listed (drop (fieldSize d) d)
-  pub inside : fieldSize d ≤ length d
+-- what a walk learns of the first field d, of the rules and conditions before it is passed, and of those behind it
+pub record Here (d : List ℕ) (rs : List (Rule Occurrence)) (cs : List (Condition Occurrence)) (rs′ : List (Rule Occurrence)) (cs′ : List (Condition Occurrence)) : Type 0 where
   pub long : 8 ≤ length d
   pub whole : (rules : Bool) → placeOf rules d < 255 → Whole rules d
-  pub fewer : fieldCount x ≡ fieldCount next + 1
-  pub words : (rules : Bool) (top : ℕ) (below : List ℕ) (k : ℕ) → k < 255 → itemWords rules top below k x ≡ itemHere rules top below k d ++ itemWords rules top below k next
-  pub counts : (rules : Bool) (k : ℕ) → k < 255 → itemCount rules k x ≡ countHere rules k d + itemCount rules k next
-
-rule-size : (r : Rule Occurrence) → fieldSize (field 4 (ruleBytes r)) ≡ length (field 4 (ruleBytes r))
-rule-size r = go (r .target) (r .function)
-  where
-    go : (o : Occurrence) (f : Function Occurrence) → fieldSize (field 4 (ruleBytes (record { target = o; function = f }))) ≡ length (field 4 (ruleBytes (record { target = o; function = f })))
-    go o (const c) = refl
-    go o (copy a) = refl
-    go o (binary f a b) = refl
-    go o (addc a c) = refl
-    go o (quot a c) = refl
-
-condition-size : (c : Condition Occurrence) → fieldSize (field 5 (conditionBytes c)) ≡ length (field 5 (conditionBytes c))
-condition-size (range o l h) = refl
-condition-size (atmost o u none) = refl
-condition-size (atmost o u (some c)) = refl
+  pub fewer : length rs + length cs ≡ length rs′ + length cs′ + 1
+  pub words : (rules : Bool) (top : ℕ) (below : List ℕ) (k : ℕ) → k < 255 → wordsOf rules top below k rs cs ≡ itemHere rules top below k d ++ wordsOf rules top below k rs′ cs′
+  pub counts : (rules : Bool) (k : ℕ) → k < 255 → itemsAt rules k rs cs ≡ countHere rules k d + itemsAt rules k rs′ cs′
 
 module _ {A B : Type 0} (f : B → List ℕ) (h : A → B) where
   concat-if : (b : Bool) (x : A) (xs : List A) → concat (map f (map h (consIf b x xs))) ≡ chooseWords b (f (h x)) [] ++ concat (map f (map h xs))
@@ -107,20 +77,18 @@ other-words k ws rest l = rw (ne-eqb 255 k (λ e. omega arith))
 other-count : (k n : ℕ) → k < 255 → n ≡ one (eqb 255 k) + n
 other-count k n l = rw (ne-eqb 255 k (λ e. omega arith)) (omega arith)
 
-step-of : {rs : List (Rule Occurrence)} {cs : List (Condition Occurrence)} {d : List ℕ} (own : RulesAndConditions rs cs d) (constants : (r : Rule Occurrence) → In r rs → Constant (r .function)) (proper : (c : Condition Occurrence) → In c cs → Proper c) → 0 < length d → Step d (record { rules = rs; conditions = cs; own = own; constants = constants; proper = proper })
+rule-here : (r : Rule Occurrence) (rs : List (Rule Occurrence)) (cs : List (Condition Occurrence)) (bs : List ℕ) → Constant (r .function) → Here (field 4 (ruleBytes r) ++ bs) (r ∷ rs) cs rs cs
 unfolding wordsOf itemsAt placeOf itemOf itemHere
-step-of nothing constants proper l = absurd (omega arith)
-step-of (rule r {rs} {cs} {bs} own) constants proper l =
+rule-here r rs cs bs constant =
     let d : List ℕ = field 4 (ruleBytes r) ++ bs in
-    let behind : drop (fieldSize d) d ≡ bs = ap (λ n. drop n d) (rule-size r) ∙ drop-append-seam (field 4 (ruleBytes r)) bs in
     record {
-      next = record { rules = rs; conditions = cs; own = subst (λ z. RulesAndConditions rs cs z) (sym behind) own; constants = λ q i. constants q (inr i); proper = proper };
-      inside = omega (arith, rule-size r, length-append (field 4 (ruleBytes r)) bs);
       long = rule-whole r bs .target;
       whole = λ b m. elim b as (λ y. placeOf y d < 255 → Whole y d) [ true ↦ λ n. rule-whole r bs | false ↦ λ n. absurd (omega arith) ] m;
       fewer = omega arith;
       words = λ b top below k m. elim b as (λ y. wordsOf y top below k (r ∷ rs) cs ≡ itemHere y top below k d ++ wordsOf y top below k rs cs) [
-        | true ↦ concat-if ruleWords (mapRule (selectorOf top below)) (eqb (r .target .position) k) r (rulesAt k rs) ∙ ap (λ z. chooseWords (eqb (r .target .position) k) z [] ++ wordsOf true top below k rs cs) (sym (rule-item top below r bs (constants r (inl refl))))
+        | true ↦
+            concat-if ruleWords (mapRule (selectorOf top below)) (eqb (r .target .position) k) r (rulesAt k rs)
+            ∙ ap (λ z. chooseWords (eqb (r .target .position) k) z [] ++ wordsOf true top below k rs cs) (sym (rule-item top below r bs constant))
         | false ↦ other-words k (itemOf false top below d) (wordsOf false top below k rs cs) m
       ];
       counts = λ b k m. elim b as (λ y. itemsAt y k (r ∷ rs) cs ≡ countHere y k d + itemsAt y k rs cs) [
@@ -128,13 +96,13 @@ step-of (rule r {rs} {cs} {bs} own) constants proper l =
         | false ↦ other-count k (itemsAt false k rs cs) m
       ];
     }
-step-of (condition c {rs} {cs} {bs} own) constants proper l =
+
+condition-here : (c : Condition Occurrence) (rs : List (Rule Occurrence)) (cs : List (Condition Occurrence)) (bs : List ℕ) → Proper c → Here (field 5 (conditionBytes c) ++ bs) rs (c ∷ cs) rs cs
+unfolding wordsOf itemsAt placeOf itemOf itemHere
+condition-here c rs cs bs proper =
     let d : List ℕ = field 5 (conditionBytes c) ++ bs in
-    let behind : drop (fieldSize d) d ≡ bs = ap (λ n. drop n d) (condition-size c) ∙ drop-append-seam (field 5 (conditionBytes c)) bs in
     let place : placeOf false d ≡ conditionPosition c = condition-place c bs in
     record {
-      next = record { rules = rs; conditions = cs; own = subst (λ z. RulesAndConditions rs cs z) (sym behind) own; constants = constants; proper = λ q i. proper q (inr i) };
-      inside = omega (arith, condition-size c, length-append (field 5 (conditionBytes c)) bs);
       long = condition-whole c bs .first;
       whole = λ b m. elim b as (λ y. placeOf y d < 255 → Whole y d) [ true ↦ λ n. absurd (omega arith) | false ↦ λ n. condition-whole c bs ] m;
       fewer = omega arith;
@@ -142,7 +110,7 @@ step-of (condition c {rs} {cs} {bs} own) constants proper l =
         | true ↦ other-words k (itemOf true top below d) (wordsOf true top below k rs cs) m
         | false ↦
             concat-if conditionWords (mapCondition (selectorOf top below)) (eqb (conditionPosition c) k) c (testsAt k cs)
-            ∙ ap₂ (λ z v. chooseWords (eqb z k) v [] ++ wordsOf false top below k rs cs) (sym place) (sym (condition-item top below c bs (proper c (inl refl))))
+            ∙ ap₂ (λ z v. chooseWords (eqb z k) v [] ++ wordsOf false top below k rs cs) (sym place) (sym (condition-item top below c bs proper))
       ];
       counts = λ b k m. elim b as (λ y. itemsAt y k rs (c ∷ cs) ≡ countHere y k d + itemsAt y k rs cs) [
         | true ↦ other-count k (itemsAt true k rs cs) m
@@ -150,41 +118,8 @@ step-of (condition c {rs} {cs} {bs} own) constants proper l =
       ];
     }
 
-pub listed-step : (d : List ℕ) (x : Listed d) → 0 < length d → Step d x
-listed-step d x l = step-of (x .own) (x .constants) (x .proper) l
-
--- ---- a walk along the fields
-
-pub record Turn (fields : List ℕ) (at next : ℕ) (x : Listed (drop at fields)) : Type 0 where
-  pub later : Listed (drop next fields)
-  pub inside : next ≤ length fields
-  pub long : 8 ≤ length (drop at fields)
-  pub whole : (rules : Bool) → placeOf rules (drop at fields) < 255 → Whole rules (drop at fields)
-  pub fewer : fieldCount x ≡ fieldCount later + 1
-  pub words : (rules : Bool) (top : ℕ) (below : List ℕ) (k : ℕ) → k < 255 → itemWords rules top below k x ≡ itemHere rules top below k (drop at fields) ++ itemWords rules top below k later
-  pub counts : (rules : Bool) (k : ℕ) → k < 255 → itemCount rules k x ≡ countHere rules k (drop at fields) + itemCount rules k later
-
-pub listed-turn : (fields : List ℕ) (at size : ℕ) → at < length fields → size ≡ byte (drop at fields) 2 → (x : Listed (drop at fields)) → Turn fields at (at + 3 + size) x
-listed-turn fields at size l e x =
-    let d : List ℕ = drop at fields in
-    let s = listed-step d x (omega (arith, length-drop at fields)) in
-    let same : at + fieldSize d ≡ at + 3 + size = omega (arith, e) in
-    let there : drop (fieldSize d) d ≡ drop (at + 3 + size) fields = drop-drop (fieldSize d) at fields ∙ ap (λ n. drop n fields) same in
-    record {
-      later = record { rules = s .next .rules; conditions = s .next .conditions; own = subst (λ z. RulesAndConditions (s .next .rules) (s .next .conditions) z) there (s .next .own); constants = s .next .constants; proper = s .next .proper };
-      inside = omega (arith, s .inside, length-drop at fields, e);
-      long = s .long;
-      whole = s .whole;
-      fewer = s .fewer;
-      words = s .words;
-      counts = s .counts;
-    }
-
--- no field is left
-none-left : {rs : List (Rule Occurrence)} {cs : List (Condition Occurrence)} {d : List ℕ} → RulesAndConditions rs cs d → length d ≡ 0 → (rs ≡ []) × (cs ≡ [])
-none-left nothing l = (refl, refl)
-none-left (rule r {rs} {cs} {bs} own) l = absurd (omega (arith, length-append (field 4 (ruleBytes r)) bs))
-none-left (condition c {rs} {cs} {bs} own) l = absurd (omega (arith, length-append (field 5 (conditionBytes c)) bs))
+pub listed-at : (fields : List ℕ) (at size : ℕ) → at < length fields → size ≡ byte (drop at fields) 2 → (x : Listed (drop at fields)) → Behind Here fields at (at + 3 + size) x
+listed-at = field-at (record { ofRule = rule-here; ofCondition = condition-here })
 
 pub listed-none : (d : List ℕ) (x : Listed d) → length d ≡ 0 → (rules : Bool) (top : ℕ) (below : List ℕ) (k : ℕ) → (itemWords rules top below k x ≡ []) × (itemCount rules k x ≡ 0)
 unfolding wordsOf itemsAt

@@ -7,7 +7,10 @@ ghost use Rattle.meaning.specs.Scheme.{synBetween};
 ghost use Rattle.program_block_words.specs.Patch.{Wrote};
 ghost use Rattle.program_body_words.specs.SchemeWords.{endWords};
 ghost use Rattle.program_body_words.specs.Given.{rightOf, Prepared, EndFits, BodyFits, BodyWrote};
-use program_body_counts::count_at;
+use outline::count_of;
+use program_blocks::RULES;
+use program_blocks::write_block;
+use program_blocks::write_entry_tests;
 use program_body_counts::number_at;
 use program_body_levels::find_levels;
 use program_body_symbols::write_symbols;
@@ -18,11 +21,11 @@ fn whole_sum(row: &[u8], inherited: &[u8], levels: &[u32]) -> u32
     requires { ⌜ ((fs : List ℕ) × ((ss : List ℕ) × ((ms : List ℕ) × ((ls : List ℕ) × Prepared (now row) fs (now inherited) ss ms ls (now levels))))) ⌝ }
     ensures { λ r. ⌜ ((fs ss ms ls : List ℕ) (x : Prepared (now (row .entry)) fs (now (inherited .entry)) ss ms ls (now (levels .entry))) → r ≡ synBetween (x .given .grammar) (x .given .production) 0 (length (rightOf (x .given)))) ⌝ }
 {
-    let size = value::byte_at(row, 1) as usize;
+    let size = outline::row_size(row) as usize;
     if size == 0 {
         return 0;
     }
-    let own = count_at(inherited, value::byte_at(row, size + 1));
+    let own = count_of(inherited, outline::row_symbol(row, size - 1) as usize) as u32;
     number_at(levels, size) - own
 }
 
@@ -33,29 +36,19 @@ fn write_end(
     row: &[u8],
     fields: &[u8],
     inherited: &[u8],
-    synthesized: &[u8],
     marks: &[u32],
     links: &[u32],
     levels: &[u32],
     area: &mut [u32],
     address: usize,
 ) -> usize
-    requires { ⌜ EndFits (now row) (now fields) (now inherited) (now synthesized) (now marks) (now links) (now levels) (now area) address ⌝ }
-    ensures { λ r. ⌜ ((x : EndFits (now (row .entry)) (now (fields .entry)) (now (inherited .entry)) (now (synthesized .entry)) (now (marks .entry)) (now (links .entry)) (now (levels .entry)) (now (area .entry)) address) → Wrote (now (area .entry)) (now (area .exit)) address r (endWords (x .prepared .given .grammar) (x .prepared .given .production))) ⌝ }
+    requires { ⌜ EndFits (now row) (now fields) (now inherited) (now marks) (now links) (now levels) (now area) address ⌝ }
+    ensures { λ r. ⌜ ((x : EndFits (now (row .entry)) (now (fields .entry)) (now (inherited .entry)) (now (marks .entry)) (now (links .entry)) (now (levels .entry)) (now (area .entry)) address)
+        → Wrote (now (area .entry)) (now (area .exit)) address r (endWords (x .prepared .given .grammar) (x .prepared .given .production))) ⌝ }
 {
     let sum = whole_sum(row, inherited, levels);
-    let own = value::byte_at(inherited, value::byte_at(row, 0) as usize);
-    let remove = program_blocks::write_block(
-        fields,
-        marks,
-        links,
-        true,
-        0,
-        sum,
-        levels,
-        area,
-        address,
-    );
+    let own = value::byte_at(inherited, outline::row_left(row) as usize);
+    let remove = write_block(fields, marks, links, RULES, 0, sum, levels, area, address);
     area[remove] = REMOVE + 8 * (own + sum);
     remove + 1
 }
@@ -77,21 +70,8 @@ pub fn write_body(
     ensures { λ r. ⌜ ((x : BodyFits (now (row .entry)) (now (fields .entry)) (now (inherited .entry)) (now (synthesized .entry)) (carrying .0) (now (marks .entry)) (now (links .entry)) (now (area .entry)) address wait) → BodyWrote x (now (area .exit)) r) ⌝ }
 {
     let levels = find_levels(row, inherited, synthesized, carrying, area, wait);
-    let size = value::byte_at(row, 1) as usize;
-    let tests = number_at(marks, 1);
-    let entry = address + size;
-    let last = number_at(marks, 33);
-    let first = program_blocks::write_items(
-        fields,
-        links,
-        false,
-        tests,
-        last,
-        0,
-        &levels,
-        area,
-        entry,
-    );
+    let entry = address + outline::row_size(row) as usize;
+    let first = write_entry_tests(fields, marks, links, &levels, area, entry);
     let end = write_symbols(
         row,
         fields,
@@ -104,15 +84,5 @@ pub fn write_body(
         first,
         address,
     );
-    write_end(
-        row,
-        fields,
-        inherited,
-        synthesized,
-        marks,
-        links,
-        &levels,
-        area,
-        end,
-    )
+    write_end(row, fields, inherited, marks, links, &levels, area, end)
 }

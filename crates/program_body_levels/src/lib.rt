@@ -5,9 +5,9 @@ ghost use mathlib.Core.List.{List};
 ghost use lib.ListN.{length};
 ghost use Rattle.program_body_words.specs.Given.{Given, Carried};
 ghost use Rattle.program_body_words.specs.Waits.{LeveledAndWaiting};
+use outline::count_of;
+use outline::synthesized_of;
 use program_body_counts::clear;
-use program_body_counts::count_at;
-use program_body_counts::synthesized_at;
 use token_set::TokenSet;
 
 // What one place waits at: the left side, the registers passed, those of the symbol that stand marked, those it inherits, its byte,
@@ -32,16 +32,16 @@ pub fn find_levels(
     ensures { λ r. ⌜ (length r ≡ 13) × ((fs : List ℕ) (x : Given (now (row .entry)) fs (now (inherited .entry)) (now (synthesized .entry))) → Carried (carrying .0) (x .grammar) → LeveledAndWaiting x r (now (area .entry)) (now (area .exit)) wait) ⌝ }
 {
     let mut levels = [0u32; 13];
-    let left = value::byte_at(row, 0);
-    let size = value::byte_at(row, 1) as usize;
+    let left = outline::row_left(row);
+    let size = outline::row_size(row) as usize;
     let mut sum = 0u32;
     let mut k: usize = 0;
     while k < size {
-        let symbol = value::byte_at(row, k + 2);
-        let marked = count_at(synthesized, symbol);
-        let own = count_at(inherited, symbol);
+        let symbol = outline::row_symbol(row, k);
+        let marked = count_of(synthesized, symbol as usize) as u32;
+        let own = count_of(inherited, symbol as usize) as u32;
         area[wait + k] = wait_word(left, sum, marked, own, symbol);
-        sum = sum + synthesized_at(carrying, synthesized, symbol);
+        sum = sum + synthesized_of(carrying, synthesized, symbol as usize) as u32;
         levels[k + 1] = sum + own;
         k += 1;
     }

@@ -5,7 +5,10 @@ ghost use lib.ListN.{length};
 ghost use Rattle.program_block_words.specs.Patch.{Wrote};
 ghost use Rattle.program_body_words.specs.SchemeWords.{addWords, addSize};
 ghost use Rattle.program_body_words.specs.Given.{headOf, SymbolFits, SymbolWrote, SymbolsFit, SymbolsWrote};
-use program_body_counts::count_at;
+use outline::count_of;
+use program_blocks::CONDITIONS;
+use program_blocks::RULES;
+use program_blocks::write_block;
 use program_body_counts::number_at;
 
 const READ: u32 = operations::READ as u32;
@@ -52,34 +55,26 @@ fn write_symbol(
     requires { ⌜ SymbolFits (now row) (now fields) (now inherited) (now synthesized) (now marks) (now links) (now levels) k (now area) address expects ⌝ }
     ensures { λ r. ⌜ ((x : SymbolFits (now (row .entry)) (now (fields .entry)) (now (inherited .entry)) (now (synthesized .entry)) (now (marks .entry)) (now (links .entry)) (now (levels .entry)) k (now (area .entry)) address expects) → SymbolWrote x (now (area .exit)) r) ⌝ }
 {
-    let symbol = value::byte_at(row, k + 2);
-    let own = count_at(inherited, symbol);
-    let all = own + count_at(synthesized, symbol);
+    let symbol = outline::row_symbol(row, k);
+    let own = count_of(inherited, symbol as usize) as u32;
+    let all = own + count_of(synthesized, symbol as usize) as u32;
     let top = number_at(levels, k + 1);
-    let evaluate = write_add(all, area, address);
-    let expect = program_blocks::write_block(
-        fields,
-        marks,
-        links,
-        true,
-        k + 1,
-        top,
-        levels,
-        area,
-        evaluate,
-    );
+    let from = write_add(all, area, address);
+    let expect = write_block(fields, marks, links, RULES, k + 1, top, levels, area, from);
     area[expects + k] = expect as u32;
     area[expect] = head_of(symbol);
-    program_blocks::write_block(
+    let rest = top - own;
+    let test = expect + 1;
+    write_block(
         fields,
         marks,
         links,
-        false,
+        CONDITIONS,
         k + 1,
-        top - own,
+        rest,
         levels,
         area,
-        expect + 1,
+        test,
     )
 }
 
@@ -99,7 +94,7 @@ pub fn write_symbols(
     requires { ⌜ SymbolsFit (now row) (now fields) (now inherited) (now synthesized) (now marks) (now links) (now levels) (now area) address expects ⌝ }
     ensures { λ r. ⌜ ((x : SymbolsFit (now (row .entry)) (now (fields .entry)) (now (inherited .entry)) (now (synthesized .entry)) (now (marks .entry)) (now (links .entry)) (now (levels .entry)) (now (area .entry)) address expects) → SymbolsWrote x (now (area .exit)) r) ⌝ }
 {
-    let size = value::byte_at(row, 1) as usize;
+    let size = outline::row_size(row) as usize;
     let mut k: usize = 0;
     let mut to = address;
     while k < size {

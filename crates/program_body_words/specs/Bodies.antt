@@ -31,9 +31,16 @@ module _ {row fields inherited synthesized marks links area : List ℕ} {carryin
   pub wait-inside : wait + 12 ≤ length area
   wait-inside = omega (arith, x .apart, x .room, x .long)
 
-  module _ (levels : List ℕ) {m0 : List ℕ} {n t : ℕ}
+  -- how many entry tests there are, and the last node of their chain
+  abbrev tests : ℕ
+  tests = getD marks 1 0
+
+  abbrev lastTest : ℕ
+  lastTest = getD marks 33 0
+
+  module _ (levels : List ℕ) {m0 : List ℕ} {n : ℕ}
       (ew : (y : Given row fields inherited synthesized) → Carried carrying (y .grammar) → LeveledAndWaiting y levels area m0 wait)
-      (en : n ≡ byte row 1) (et : t ≡ getD marks 1 0) where
+      (en : n ≡ byte row 1) where
     el : Leveled g p levels
     el = ew (x .given) (x .carried) .leveled
 
@@ -46,10 +53,10 @@ module _ {row fields inherited synthesized marks links area : List ℕ} {carryin
     long : 16384 ≤ length m0
     long = omega (arith, x .long, wrote-length waited)
 
-    count-is : t ≡ itemCount false 0 (listedOf (x .given))
-    count-is = et ∙ x .found .counts false 0 (omega arith)
+    count-is : tests ≡ itemCount false 0 (listedOf (x .given))
+    count-is = x .found .counts false 0 (omega arith)
 
-    tests-is : length (entryTests g p) ≡ t
+    tests-is : length (entryTests g p) ≡ tests
     tests-is = tests-count g p 0 ∙ sym count-is
 
     expects-count : (b : ℕ) → length (restExpects g p 0 b) ≡ length (p .right)
@@ -59,49 +66,48 @@ module _ {row fields inherited synthesized marks links area : List ℕ} {carryin
     pub entry-small : a + n ≤ 16384
     entry-small = omega (arith, x .room, body-size g p, en, x .given .size)
 
-    module _ {l : ℕ} (last-is : l ≡ getD marks 33 0) where
-      pub items-fit : ItemsFit fields links false t l m0 (a + n)
-      items-fit = record {
-        chain = rw (et, last-is) (x .found .chains false 0 (omega arith));
-        few = omega (arith, count-is, count-few fields (listedOf (x .given)) false 0, x .given .short);
-        room = omega (arith, x .room, long, body-size g p, en, x .given .size, tests-is);
-      }
+    pub items-fit : ItemsFit fields links false tests lastTest m0 (a + n)
+    items-fit = record {
+      chain = x .found .chains false 0 (omega arith);
+      few = omega (arith, count-is, count-few fields (listedOf (x .given)) false 0, x .given .short);
+      room = omega (arith, x .room, long, body-size g p, en, x .given .size, tests-is);
+    }
 
-      module _ {m1 : List ℕ} {first : ℕ} (f1 : Wrote m0 m1 (a + n) first (chainWords false 0 levels fields links t l)) where
-        chain-is : chainWords false 0 levels fields links t l ≡ itemWords false 0 levels 0 (listedOf (x .given))
-        chain-is = rw (et, last-is) (sym (x .found .words false 0 levels 0 (omega arith)))
+    module _ {m1 : List ℕ} {first : ℕ} (f1 : Wrote m0 m1 (a + n) first (chainWords false 0 levels fields links tests lastTest)) where
+      chain-is : chainWords false 0 levels fields links tests lastTest ≡ itemWords false 0 levels 0 (listedOf (x .given))
+      chain-is = sym (x .found .words false 0 levels 0 (omega arith))
 
-        w1 : Wrote m0 m1 (a + n) first (entryWords g p)
-        w1 = wrote-as (chain-is ∙ (ap (λ z. wordsOf false z levels 0 (p .rules) (p .conditions)) (sym (syn-none g p 0)) ∙ tests-words g p (x .given .ofGrammar) levels el 0 (omega arith))) f1
+      w1 : Wrote m0 m1 (a + n) first (entryWords g p)
+      w1 = wrote-as (chain-is ∙ (ap (λ z. wordsOf false z levels 0 (p .rules) (p .conditions)) (sym (syn-none g p 0)) ∙ tests-words g p (x .given .ofGrammar) levels el 0 (omega arith))) f1
 
-        first-is : first ≡ a + schemeOffset g p
-        first-is = omega (arith, w1 .address, en, x .given .size)
+      first-is : first ≡ a + schemeOffset g p
+      first-is = omega (arith, w1 .address, en, x .given .size)
 
-        first-at : first ≡ a + length (p .right) + 3 * length (entryTests g p)
-        first-at = omega (arith, first-is, conditions-length (entryTests g p))
+      first-at : first ≡ a + length (p .right) + 3 * length (entryTests g p)
+      first-at = omega (arith, first-is, conditions-length (entryTests g p))
 
-        -- the addresses of the expects, which come with the symbols, and the entry tests behind them
-        w2 : Wrote m0 (patch m1 a (restExpects g p 0 first)) a first (restExpects g p 0 (a + schemeOffset g p) ++ entryWords g p)
-        w2 =
-            let e : a + n ≡ a + length (restExpects g p 0 first) = omega (arith, expects-count first, en, x .given .size) in
-            wrote-as (ap (λ z. restExpects g p 0 z ++ entryWords g p) first-is) (wrote-ahead w1 (record { memory = refl; address = e }))
+      -- the addresses of the expects, which come with the symbols, and the entry tests behind them
+      w2 : Wrote m0 (patch m1 a (restExpects g p 0 first)) a first (restExpects g p 0 (a + schemeOffset g p) ++ entryWords g p)
+      w2 =
+          let e : a + n ≡ a + length (restExpects g p 0 first) = omega (arith, expects-count first, en, x .given .size) in
+          wrote-as (ap (λ z. restExpects g p 0 z ++ entryWords g p) first-is) (wrote-ahead w1 (record { memory = refl; address = e }))
 
-        pub symbols-fit : SymbolsFit row fields inherited synthesized marks links levels m1 first a
-        unfolding prepared
-        symbols-fit = record { prepared = prepared; room = omega (arith, x .room, body-size g p, first-at); long = omega (arith, long, wrote-length w1); apart = omega (arith, expects-count first, first-at) }
+      pub symbols-fit : SymbolsFit row fields inherited synthesized marks links levels m1 first a
+      unfolding prepared
+      symbols-fit = record { prepared = prepared; room = omega (arith, x .room, body-size g p, first-at); long = omega (arith, long, wrote-length w1); apart = omega (arith, expects-count first, first-at) }
 
-        module _ {m3 : List ℕ} {end : ℕ} (f3 : (y : SymbolsFit row fields inherited synthesized marks links levels m1 first a) → SymbolsWrote y m3 end) where
-          w3 : Wrote m0 m3 a end ((restExpects g p 0 (a + schemeOffset g p) ++ entryWords g p) ++ restWords g p 0)
-          unfolding symbols-fit prepared
-          w3 = wrote-then w2 (f3 symbols-fit)
+      module _ {m3 : List ℕ} {end : ℕ} (f3 : (y : SymbolsFit row fields inherited synthesized marks links levels m1 first a) → SymbolsWrote y m3 end) where
+        w3 : Wrote m0 m3 a end ((restExpects g p 0 (a + schemeOffset g p) ++ entryWords g p) ++ restWords g p 0)
+        unfolding symbols-fit prepared
+        w3 = wrote-then w2 (f3 symbols-fit)
 
-          pub end-fit : EndFits row fields inherited synthesized marks links levels m3 end
-          unfolding prepared symbols-fit
-          end-fit = record { prepared = prepared; room = omega (arith, x .room, body-size g p, first-at, f3 symbols-fit .address); long = omega (arith, long, wrote-length w3) }
+        pub end-fit : EndFits row fields inherited marks links levels m3 end
+        unfolding prepared symbols-fit
+        end-fit = record { synthesized = synthesized; prepared = prepared; room = omega (arith, x .room, body-size g p, first-at, f3 symbols-fit .address); long = omega (arith, long, wrote-length w3) }
 
-          pub body-written : {new : List ℕ} {last : ℕ} → ((y : EndFits row fields inherited synthesized marks links levels m3 end) → Wrote m3 new end last (endWords (y .prepared .given .grammar) (y .prepared .given .production))) → Wrote (patch area wait (waitRow g p)) new a last (bodyWords g a p)
-          unfolding end-fit prepared
-          body-written {new} {last} f4 = subst (λ z. Wrote z new a last (bodyWords g a p)) (waited .memory) (wrote-as (simp append-assoc (sym (body-words g p a))) (wrote-then w3 (f4 end-fit)))
+        pub body-written : {new : List ℕ} {last : ℕ} → ((y : EndFits row fields inherited marks links levels m3 end) → Wrote m3 new end last (endWords (y .prepared .given .grammar) (y .prepared .given .production))) → Wrote (patch area wait (waitRow g p)) new a last (bodyWords g a p)
+        unfolding end-fit prepared
+        body-written {new} {last} f4 = subst (λ z. Wrote z new a last (bodyWords g a p)) (waited .memory) (wrote-as (simp append-assoc (sym (body-words g p a))) (wrote-then w3 (f4 end-fit)))
 
-          pub body-size-kept : {new : List ℕ} {last : ℕ} → ((y : EndFits row fields inherited synthesized marks links levels m3 end) → Wrote m3 new end last (endWords (y .prepared .given .grammar) (y .prepared .given .production))) → length new ≡ length area
-          body-size-kept f4 = wrote-length (body-written f4) ∙ patch-length area wait (waitRow g p)
+        pub body-size-kept : {new : List ℕ} {last : ℕ} → ((y : EndFits row fields inherited marks links levels m3 end) → Wrote m3 new end last (endWords (y .prepared .given .grammar) (y .prepared .given .production))) → length new ≡ length area
+        body-size-kept f4 = wrote-length (body-written f4) ∙ patch-length area wait (waitRow g p)

@@ -17,9 +17,11 @@ use Rattle.meaning.specs.Table.{byte, symbolOf}
 use Rattle.theory_base.specs.Members.{getD-in}
 use Rattle.theory_program.specs.Code.{conditions-length}
 use Rattle.token_set.specs.SetBits.{setOf}
+use Rattle.outline.specs.Rows.{leftIn, sizeIn, symbolIn}
 use Rattle.outline.specs.Outline.{CountsOf}
+use Rattle.outline.specs.Counts.{countAt, synthesizedAt}
 use Rattle.program_block_words.specs.Patch.{patch, Wrote}
-use Rattle.program_block_words.specs.Walk.{Listed}
+use Rattle.program_block_words.specs.Fields.{Listed}
 use Rattle.program_block_words.specs.Chains.{Found}
 use Rattle.program_body_words.specs.Levels.{Leveled}
 use Rattle.program_body_words.specs.SchemeWords.{symbolWords, aheadSize, scheme-symbol, expects-symbol, endScheme, endWords, scheme-end, expects-end}
@@ -29,9 +31,9 @@ pub record Given (row fields inherited synthesized : List ℕ) : Type 0 where
   pub production : Production
   pub wellFormed : WellFormed grammar
   pub ofGrammar : WellFormedProduction grammar production
-  pub left : byte row 0 ≡ production .left
-  pub size : byte row 1 ≡ length (production .right)
-  pub symbols : (k : ℕ) → k < length (production .right) → symbolOf (byte row (k + 2)) ≡ symbolAt production (suc k)
+  pub left : leftIn row ≡ production .left
+  pub size : sizeIn row ≡ length (production .right)
+  pub symbols : (k : ℕ) → k < length (production .right) → symbolOf (symbolIn row k) ≡ symbolAt production (suc k)
   pub counts : CountsOf inherited synthesized grammar
   pub own : RulesAndConditions (production .rules) (production .conditions) fields
   pub short : length fields ≤ 32768
@@ -43,14 +45,6 @@ abbrev pub listedOf : {row fields inherited synthesized : List ℕ} → Given ro
 listedOf x = record { rules = x .production .rules; conditions = x .production .conditions; own = x .own; constants = x .ofGrammar .constants; proper = x .ofGrammar .proper }
 
 -- ---- symbols by their bytes
-
--- a count of a symbol by its byte, 0 for a terminal
-unfoldable pub countAt : List ℕ → ℕ → ℕ
-countAt counts b = cond (ltb b 128) 0 (byte counts (b - 128))
-
--- a symbol's synthesized count, where a word holds the terminals that have one
-unfoldable pub synthesizedAt : ℕ → List ℕ → ℕ → ℕ
-synthesizedAt carrying counts b = cond (ltb b 128) (attributeIf (has (setOf carrying) b)) (byte counts (b - 128))
 
 -- a word holds the terminals of a grammar that have an attribute
 abbrev pub Carried : ℕ → Grammar → Type 0
@@ -162,7 +156,8 @@ abbrev pub SymbolsWrote : {row fields inherited synthesized marks links levels a
 SymbolsWrote {area = area} {a = a} {e = e} x new next =
     Wrote (patch area e (restExpects (x .prepared .given .grammar) (x .prepared .given .production) 0 a)) new a next (restWords (x .prepared .given .grammar) (x .prepared .given .production) 0)
 
-pub record EndFits (row fields inherited synthesized marks links levels area : List ℕ) (a : ℕ) : Type 0 where
+pub record EndFits (row fields inherited marks links levels area : List ℕ) (a : ℕ) : Type 0 where
+  pub synthesized : List ℕ
   pub prepared : Prepared row fields inherited synthesized marks links levels
   pub room : a + length (endWords (prepared .given .grammar) (prepared .given .production)) ≤ 16384
   pub long : 16384 ≤ length area

@@ -6,33 +6,13 @@ use mathlib.Core.Bool.{Bool}
 use mathlib.Core.List.{List, [], _∷_}
 use lib.ListN.{length, set, getD, List·getD-eq-default}
 use borrow.Author.Tests.{lt-ltb, le-ltb, eq-eqb, ne-eqb}
-use Rattle.meaning.specs.Grammar.{attributeIf}
-use Rattle.meaning.specs.Sets.{has}
-use Rattle.meaning.specs.Table.{byte}
-use Rattle.token_set.specs.SetBits.{setOf}
 use Rattle.program_block_words.specs.Items.{itemSize}
 use Rattle.program_block_words.specs.Patch.{patch, Wrote, wrote-none, wrote-one, patch-swap}
 use Rattle.program_body_words.specs.SchemeWords.{addWords, addSize, blockSize}
-use Rattle.program_body_words.specs.Given.{countAt, synthesizedAt, headOf}
+use Rattle.program_body_words.specs.Given.{headOf}
 
 pub past-end : (l : List ℕ) (i : ℕ) → length l ≤ i → 0 ≡ getD l i 0
 past-end l i h = sym (List·getD-eq-default l 0 {n = i} h)
-
-pub count-terminal : (counts : List ℕ) (b : ℕ) → b < 128 → 0 ≡ countAt counts b
-unfolding countAt
-count-terminal counts b l = rw (lt-ltb b 128 l)
-
-pub count-nonterminal : (counts : List ℕ) (b r : ℕ) → 128 ≤ b → r ≡ byte counts (b - 128) → r ≡ countAt counts b
-unfolding countAt
-count-nonterminal counts b r l e = rw (le-ltb b 128 l) e
-
-pub synthesized-nonterminal : (carrying : ℕ) (counts : List ℕ) (b r : ℕ) → 128 ≤ b → r ≡ countAt counts b → r ≡ synthesizedAt carrying counts b
-unfolding countAt synthesizedAt
-synthesized-nonterminal carrying counts b r l e = rw (le-ltb b 128 l) (rw (le-ltb b 128 l) at e)
-
-pub synthesized-terminal : (carrying : ℕ) (counts : List ℕ) (b : ℕ) {c d : Bool} → b < 128 → c ≡ has (setOf carrying) b → c ≡ d → attributeIf d ≡ synthesizedAt carrying counts b
-unfolding synthesizedAt
-synthesized-terminal carrying counts b l e q = rw (lt-ltb b 128 l) (ap attributeIf (sym q ∙ e))
 
 pub head-terminal : (b : ℕ) → b < 128 → 2 + 8 * b ≡ headOf b
 unfolding headOf

@@ -11,7 +11,8 @@ use Rattle.meaning.specs.Scheme.{synBetween}
 use Rattle.meaning.specs.Table.{byte}
 use Rattle.theory_base.specs.Selectors.{syn-none, syn-more}
 use Rattle.program_body_words.specs.Levels.{level, Leveled}
-use Rattle.program_body_words.specs.Given.{Given, rightOf, countAt, synthesizedAt, Carried, inherited-at, synthesized-at}
+use Rattle.outline.specs.Counts.{countAt, synthesizedAt}
+use Rattle.program_body_words.specs.Given.{Given, rightOf, Carried, inherited-at, synthesized-at}
 
 module _ {row fields inherited synthesized : List ℕ} (x : Given row fields inherited synthesized) (carrying : ℕ) (carried : Carried carrying (x .grammar)) where
   -- the levels of the first k positions are found

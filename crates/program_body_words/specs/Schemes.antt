@@ -15,7 +15,8 @@ use Rattle.program_block_words.specs.Chains.{BlockFits}
 use Rattle.program_block_words.specs.Walk.{itemCount, wordsOf, blockWords, block}
 use Rattle.program_body_words.specs.Levels.{synthesized-words}
 use Rattle.program_body_words.specs.SchemeWords.{blockSize, evaluateWords, evaluate-length, endWords}
-use Rattle.program_body_words.specs.Given.{Given, rightOf, listedOf, countAt, inherited-at, left-inherited, Prepared, wordsAt, aheadAt, SymbolFits, SymbolWrote, SymbolsFit, SymbolsWrote, restWords, words-turn, words-end, EndFits, restExpects, expects-turn, expects-over}
+use Rattle.outline.specs.Counts.{countAt}
+use Rattle.program_body_words.specs.Given.{Given, rightOf, listedOf, inherited-at, left-inherited, Prepared, wordsAt, aheadAt, SymbolFits, SymbolWrote, SymbolsFit, SymbolsWrote, restWords, words-turn, words-end, EndFits, restExpects, expects-turn, expects-over}
 use Rattle.program_body_words.specs.Laws.{patch-beside}
 use Rattle.program_body_words.specs.Symbols.{synthesized-count, block-fits}
 
@@ -134,8 +135,8 @@ module _ {row fields inherited synthesized marks links levels : List ℕ} (x : P
     pub sum-some : top - own ≡ synBetween g p 0 (length (p .right))
     sum-some = let e : top - own ≡ synBetween g p 0 (suc (n - 1)) = omega (arith, own-is, top-is) in e ∙ ap (synBetween g p 0) (last ∙ size-is)
 
-module _ {row fields inherited synthesized marks links levels area : List ℕ} {a : ℕ} (x : EndFits row fields inherited synthesized marks links levels area a) where
-  abbrev given : Given row fields inherited synthesized
+module _ {row fields inherited marks links levels area : List ℕ} {a : ℕ} (x : EndFits row fields inherited marks links levels area a) where
+  abbrev given : Given row fields inherited (x .synthesized)
   given = x .prepared .given
 
   abbrev gr : Grammar
@@ -148,7 +149,7 @@ module _ {row fields inherited synthesized marks links levels area : List ℕ} {
   unfolding endWords
   end-size = length-append (evaluateWords (synthesizedRules gr pr)) ((5 + 8 * removed gr pr) ∷ []) ∙ omega (arith, evaluate-length (synthesizedRules gr pr))
 
-  module _ {sum own l : ℕ} (f : (y : Prepared row fields inherited synthesized marks links levels) → sum ≡ synBetween (y .given .grammar) (y .given .production) 0 (length (rightOf (y .given)))) (el : l ≡ byte row 0) (eo : own ≡ byte inherited l) where
+  module _ {sum own l : ℕ} (f : (y : Prepared row fields inherited (x .synthesized) marks links levels) → sum ≡ synBetween (y .given .grammar) (y .given .production) 0 (length (rightOf (y .given)))) (el : l ≡ byte row 0) (eo : own ≡ byte inherited l) where
     pub sum-small : sum ≤ 96
     sum-small = omega (arith, f (x .prepared), syn-most gr (given .wellFormed) pr (given .ofGrammar .short) 0 (length (pr .right)))
 

@@ -12,10 +12,12 @@ use Rattle.meaning.specs.Table.{byte}
 use Rattle.theory_program.specs.Proper.{added-most, syn-most}
 use Rattle.program_block_words.specs.Patch.{Wrote, wrote-as, wrote-one, wrote-then, wrote-length}
 use Rattle.program_block_words.specs.Chains.{Found, BlockFits}
-use Rattle.program_block_words.specs.Walk.{Listed, itemsAt, wordsOf, itemCount, blockWords, block, count-few}
+use Rattle.program_block_words.specs.Fields.{Listed}
+use Rattle.program_block_words.specs.Walk.{itemsAt, wordsOf, itemCount, blockWords, block, count-few}
 use Rattle.program_body_words.specs.Levels.{level, inherited-words, tests-words}
 use Rattle.program_body_words.specs.SchemeWords.{addWords, addSize, blockSize, add-length, aheadSize, symbolWords, symbol-length, evaluateWords, evaluate-length, testWords}
-use Rattle.program_body_words.specs.Given.{Given, listedOf, countAt, headOf, inherited-at, marked-at, head-at, SymbolFits, wordsAt, aheadAt}
+use Rattle.outline.specs.Counts.{countAt}
+use Rattle.program_body_words.specs.Given.{Given, listedOf, headOf, inherited-at, marked-at, head-at, SymbolFits, wordsAt, aheadAt}
 use Rattle.program_body_words.specs.Laws.{size-some, set-beside}
 
 -- ---- how many
@@ -35,7 +37,8 @@ module _ (g : Grammar) (p : Production) where
 
 -- ---- a block finds room
 
-abbrev pub block-fits : {fields links marks : List ℕ} (x : Listed fields) (found : Found fields links marks x) (short : length fields ≤ 32768) (rules : Bool) (k : ℕ) {area : List ℕ} {a : ℕ} → k < 13 → a + blockSize rules (itemCount rules k x) ≤ length area → BlockFits fields links marks rules k area a
+abbrev pub block-fits : {fields links marks : List ℕ} (x : Listed fields) (found : Found fields links marks x) (short : length fields ≤ 32768) (rules : Bool) (k : ℕ) {area : List ℕ} {a : ℕ}
+    → k < 13 → a + blockSize rules (itemCount rules k x) ≤ length area → BlockFits fields links marks rules k area a
 block-fits {fields} x found short rules k h l = record { listed = x; found = found; here = h; few = omega (arith, count-few fields x rules k); room = λ some. omega (arith, size-some rules (itemCount rules k x) (omega arith)) }
 
 module _ {row fields inherited synthesized marks links levels : List ℕ} {k : ℕ} {area : List ℕ} {a e : ℕ} (x : SymbolFits row fields inherited synthesized marks links levels k area a e) where

@@ -9,7 +9,8 @@ use Rattle.meaning.specs.Layout.{symbolByte}
 use Rattle.meaning.specs.Program.{waitWord, waitRow}
 use Rattle.meaning.specs.Table.{byte}
 use Rattle.program_block_words.specs.Patch.{patch, Wrote, wrote-one, wrote-then, Onward, onward-start, onward-as, onward-then, onward-end}
-use Rattle.program_body_words.specs.Given.{Given, rightOf, countAt, synthesizedAt, Carried, inherited-at, marked-at, synthesized-at}
+use Rattle.outline.specs.Counts.{countAt, synthesizedAt}
+use Rattle.program_body_words.specs.Given.{Given, rightOf, Carried, inherited-at, marked-at, synthesized-at}
 use Rattle.program_body_words.specs.Waits.{waitsLeft, waits-turn, waits-end, byte-is}
 
 -- ---- a range of zeros

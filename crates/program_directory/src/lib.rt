@@ -5,6 +5,8 @@ ghost use lib.ListN.{length, getD};
 ghost use Rattle.program_block_words.specs.Patch.{Wrote};
 ghost use Rattle.program_words.specs.Directory.{Alternatives, Marked};
 ghost use Rattle.meaning.specs.Program.{directory};
+use program_parts::DIRECTORY;
+use program_parts::DIRECTORY_WORDS;
 use token_set::TokenSet;
 
 // The set whose word stands at an index; none past the end.
@@ -44,12 +46,17 @@ pub fn write_directory(
     requires { ⌜ Alternatives (now rows) (now sets) nonterminals count × (16384 ≤ length (now area)) ⌝ }
     ensures { λ r. ⌜ ((x : Alternatives (now (rows .entry)) (now (sets .entry)) nonterminals count) → Wrote (now (area .entry)) (now (area .exit)) 9 r (directory (x .grammar))) ⌝ }
 {
-    let end = 9 + 64 * nonterminals;
-    program_body_counts::clear(area, 9, end);
+    let end = DIRECTORY + DIRECTORY_WORDS * nonterminals;
+    program_body_counts::clear(area, DIRECTORY, end);
     let mut p = count;
     while 0 < p {
-        let left = value::byte_at(rows, (p - 1) * 16) as usize;
-        mark(set_at(sets, p - 1), p as u32, area, 9 + 64 * left);
+        let left = outline::left_of(rows, p - 1) as usize;
+        mark(
+            set_at(sets, p - 1),
+            p as u32,
+            area,
+            DIRECTORY + DIRECTORY_WORDS * left,
+        );
         p -= 1;
     }
     end

@@ -22,7 +22,7 @@ fn write_each(
     ensures { λ r. ⌜ AllWrote (grammarIn (now (table .entry))) (now (area .entry)) (now (area .exit)) r ⌝ }
 {
     let count = sizes.productions;
-    let mut at = 9 + 64 * sizes.nonterminals;
+    let mut at = program_parts::DIRECTORY + program_parts::DIRECTORY_WORDS * sizes.nonterminals;
     let mut body = at + 20 * count;
     let nexts = program_records::find_nexts(rows, count);
     let mut p: usize = 0;
@@ -42,7 +42,7 @@ fn write_each(
             at,
             body,
         );
-        at = at + 8;
+        at = at + program_parts::RECORD_WORDS;
         p += 1;
     }
     body

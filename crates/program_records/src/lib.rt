@@ -2,13 +2,15 @@
 ghost use mathlib.Core.Path.{_≡_};
 ghost use lib.ListN.{length};
 ghost use Rattle.program_block_words.specs.Patch.{Wrote};
-ghost use Prim.Native.Nat.{_<_};
+ghost use Prim.Native.Nat.{_≤_, _<_};
 ghost use Rattle.meaning.specs.Grammar.{Grammar};
 ghost use Rattle.outline.specs.Rows.{Rows};
 ghost use Rattle.outline.specs.Outline.{grammarIn};
-ghost use Rattle.program_words.specs.Records.{NextOf, Nexts, recordAt};
+ghost use Rattle.program_words.specs.Records.{Nexts, recordAt};
+ghost use Rattle.program_words.specs.Waits.{waitFrom};
 ghost use Rattle.program_words.specs.Built.{LinksFit, RecordFits, ProductionFits, ProductionWrote};
 use outline::Sizes;
+use program_fields::fields_of;
 
 // For each production the number plus 1 of the next one with the same left side, or 0: the last production first, with the first
 // one so far of each nonterminal.
@@ -21,7 +23,7 @@ pub fn find_nexts(rows: &[u8], count: usize) -> [u8; 128]
     let mut p = count;
     while 0 < p {
         p -= 1;
-        let left = value::byte_at(rows, p * 16) as usize;
+        let left = outline::left_of(rows, p) as usize;
         nexts[p] = firsts[left];
         firsts[left] = (p + 1) as u8;
     }
@@ -32,7 +34,6 @@ pub fn find_nexts(rows: &[u8], count: usize) -> [u8; 128]
 fn write_record(
     rows: &[u8],
     sets: &[u64],
-    count: usize,
     p: usize,
     body: usize,
     entries: u32,
@@ -40,17 +41,28 @@ fn write_record(
     area: &mut [u32],
     at: usize,
 ) -> usize
-    requires { ⌜ RecordFits (now rows) (now sets) count p body entries (now area) at × NextOf (now rows) count p next ⌝ }
-    ensures { λ r. ⌜ ((x : RecordFits (now (rows .entry)) (now (sets .entry)) count p body entries (now (area .entry)) at) → Wrote (now (area .entry)) (now (area .exit)) at r (recordAt (x .grammar) p body)) ⌝ }
+    requires { ⌜ RecordFits (now rows) (now sets) p body entries next (now area) at ⌝ }
+    ensures { λ r. ⌜ ((x : RecordFits (now (rows .entry)) (now (sets .entry)) p body entries next (now (area .entry)) at) → Wrote (now (area .entry)) (now (area .exit)) at r (recordAt (x .grammar) p body)) ⌝ }
 {
-    let left = value::byte_at(rows, p * 16);
-    let size = value::byte_at(rows, p * 16 + 1);
+    let left = outline::left_of(rows, p) as u32;
+    let size = outline::size_of(rows, p) as u32;
     let set = program_directory::set_at(sets, p);
     let low = (set.0 % 4294967296) as u32;
     let high = (set.0 / 4294967296) as u32;
     let from = body as u32;
     let half = program_segment::put_four(area, at, left, next, low, high);
     program_segment::put_four(area, half, from, entries, from + size + 3 * entries, size)
+}
+
+// The address of what the places of production p wait at, behind the segment's code, the directory and the records.
+fn wait_at(sizes: Sizes, p: usize) -> usize
+    requires { ⌜ (sizes .nonterminals ≤ 48) × (sizes .productions ≤ 128) × (p < 128) ⌝ }
+    ensures { λ r. ⌜ r ≡ waitFrom (sizes .nonterminals) (sizes .productions) p ⌝ }
+{
+    program_parts::DIRECTORY
+        + program_parts::DIRECTORY_WORDS * sizes.nonterminals
+        + program_parts::RECORD_WORDS * sizes.productions
+        + program_parts::WAIT_WORDS * p
 }
 
 // The record and the body of production p, and what its places wait at; answers the address behind the body. The chains of
@@ -74,19 +86,12 @@ pub fn write_production(
     ensures { λ r. ⌜ (length (now (links .exit)) ≡ length (now (links .entry)))
         × ProductionWrote (grammarIn (now (table .entry))) p (now (area .entry)) (now (area .exit)) at body r ⌝ }
 {
-    let count = sizes.productions;
-    let from = program_fields::fields_from(rows, offsets, p);
-    let to = program_fields::stretch_end(table, offsets, count, p);
-    let fields = &table[from..to];
-    let first = p * 16;
-    let last = p * 16 + 16;
-    let row = &rows[first..last];
+    let fields = fields_of(table, rows, offsets, sizes.productions, p);
+    let row = outline::row_of(rows, p);
     let mut marks = [0u32; 64];
     program_chains::find_items(fields, links, &mut marks);
-    let entries = marks[1];
-    let wait = 9 + 64 * sizes.nonterminals + 8 * count + 12 * p;
     let next = value::byte_at(nexts, p);
-    write_record(rows, sets, count, p, body, entries, next, area, at);
+    write_record(rows, sets, p, body, marks[1], next, area, at);
     program_bodies::write_body(
         row,
         fields,
@@ -97,6 +102,6 @@ pub fn write_production(
         links,
         area,
         body,
-        wait,
+        wait_at(sizes, p),
     )
 }

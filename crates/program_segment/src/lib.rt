@@ -29,7 +29,8 @@ pub fn write_segment(synthesized: &[u8], sizes: Sizes, area: &mut [u32]) -> usiz
     ensures { λ r. ⌜ ((table inherited rows offsets : List ℕ) → Outline table sizes inherited (now (synthesized .entry)) rows offsets → Wrote (now (area .entry)) (now (area .exit)) 0 r (segmentWords (grammarIn table))) ⌝ }
 {
     let start = sizes.start as u32;
-    let records = (9 + 64 * sizes.nonterminals) as u32;
+    let records = (program_parts::DIRECTORY
+        + program_parts::DIRECTORY_WORDS * sizes.nonterminals) as u32;
     let terminals = sizes.terminals as u32;
     let registers = value::byte_at(synthesized, sizes.start);
     let result = sizes.result as u32;

@@ -11,7 +11,7 @@ use Rattle.program_block_words.specs.Patch.{patch, Wrote}
 use Rattle.outline.specs.declared.Sizes.{Sizes}
 use Rattle.outline.specs.Rows.{Rows}
 use Rattle.outline.specs.Outline.{grammarIn, Starting, Outline, Outlined}
-use Rattle.program_words.specs.Records.{recordAt, bodyAt}
+use Rattle.program_words.specs.Records.{NextOf, recordAt, bodyAt}
 use Rattle.program_words.specs.Waits.{waitAt}
 
 module _ {table : List ℕ} {sizes : Sizes} {inherited synthesized rows offsets : List ℕ} (x : Outline table sizes inherited synthesized rows offsets) where
@@ -25,13 +25,15 @@ module _ {table : List ℕ} {sizes : Sizes} {inherited synthesized rows offsets 
 abbrev pub LinksFit : ℕ → ℕ → Type 0
 LinksFit bytes nodes = (nodes ≤ 1023) × ((n : ℕ) → n ≤ 616 → 8 * n ≤ bytes → n ≤ nodes)
 
-pub record RecordFits (rows sets : List ℕ) (count p body entries : ℕ) (area : List ℕ) (at : ℕ) : Type 0 where
+pub record RecordFits (rows sets : List ℕ) (p body entries next : ℕ) (area : List ℕ) (at : ℕ) : Type 0 where
+  pub count : ℕ
   pub grammar : Grammar
   pub rowsOf : Rows rows count grammar
   pub starting : Starting grammar count sets
   pub here : p < count
-  pub tests : entries ≡ length (entryTests (grammar) (productionAt (grammar) p))
-  pub behind : body + schemeOffset (grammar) (productionAt (grammar) p) ≤ 16384
+  pub tests : entries ≡ length (entryTests grammar (productionAt grammar p))
+  pub following : NextOf rows count p next
+  pub behind : body + schemeOffset grammar (productionAt grammar p) ≤ 16384
   pub room : at + 8 ≤ length area
   pub low : at ≤ 16384
 

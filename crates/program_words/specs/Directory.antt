@@ -143,7 +143,10 @@ module _ (g : Grammar) (old : List ℕ) (room : 9 + 64 * nonterminalCount g ≤ 
   pub filled-start : (p : ℕ) → length (g .productions) ≤ p → Filled g old (patch old 9 (zeros (64 * nonterminalCount g))) p
   filled-start p l = record {
     size = patch-length old 9 (zeros (64 * nonterminalCount g));
-    words = λ n u m h. ap (λ i. getD (patch old 9 (zeros (64 * nonterminalCount g))) i 0) (place n u) ∙ (patch-inside old 9 (zeros (64 * nonterminalCount g)) (64 * n + u) (omega (arith, wide)) (omega (arith, wide)) ∙ (getD-replicate (64 * nonterminalCount g) (64 * n + u) nought 0 (omega arith) ∙ sym (ap (firstOf (startsOf g n u) p) (drop-of-length-le (g .productions) {i = p} l))));
+    words = λ n u m h.
+        ap (λ i. getD (patch old 9 (zeros (64 * nonterminalCount g))) i 0) (place n u)
+        ∙ (patch-inside old 9 (zeros (64 * nonterminalCount g)) (64 * n + u) (omega (arith, wide)) (omega (arith, wide))
+        ∙ (getD-replicate (64 * nonterminalCount g) (64 * n + u) nought 0 (omega arith) ∙ sym (ap (firstOf (startsOf g n u) p) (drop-of-length-le (g .productions) {i = p} l))));
     outside = go;
   }
     where
@@ -174,11 +177,14 @@ module _ (g : Grammar) (old : List ℕ) (room : 9 + 64 * nonterminalCount g ≤ 
             let d : 9 + (64 * n + u) ≡ i = omega arith in
             let m : n < nonterminalCount g = omega arith in
             let left : getD area i 0 ≡ directoryWord g n u = ap (λ j. getD area j 0) (sym e) ∙ f .words n u m (omega arith) in
-            let right : getD (patch old 9 (directory g)) i 0 ≡ directoryWord g n u = ap (λ j. getD (patch old 9 (directory g)) j 0) (sym d) ∙ (patch-inside old 9 (directory g) (64 * n + u) (omega (arith, directory-length g)) (omega (arith, directory-length g)) ∙ (row-at (directoryWord g) 64 0 (nonterminalCount g) n u m (omega arith) ∙ ap (λ j. directoryWord g j u) (from-none n))) in
+            let inside = patch-inside old 9 (directory g) (64 * n + u) (omega (arith, directory-length g)) (omega (arith, directory-length g)) in
+            let word = row-at (directoryWord g) 64 0 (nonterminalCount g) n u m (omega arith) ∙ ap (λ j. directoryWord g j u) (from-none n) in
+            let right : getD (patch old 9 (directory g)) i 0 ≡ directoryWord g n u = ap (λ j. getD (patch old 9 (directory g)) j 0) (sym d) ∙ (inside ∙ word) in
             left ∙ sym right
 
 -- one production more
-pub filled-turn : {rows sets : List ℕ} {nonterminals count : ℕ} (x : Alternatives rows sets nonterminals count) {old area new : List ℕ} (p b : ℕ) → p < count → b ≡ leftAt rows p → Filled (x .grammar) old area (p + 1) → Marked area new (9 + 64 * b) (getD sets p 0) (p + 1) 64 → Filled (x .grammar) old new p
+pub filled-turn : {rows sets : List ℕ} {nonterminals count : ℕ} (x : Alternatives rows sets nonterminals count) {old area new : List ℕ} (p b : ℕ)
+    → p < count → b ≡ leftAt rows p → Filled (x .grammar) old area (p + 1) → Marked area new (9 + 64 * b) (getD sets p 0) (p + 1) 64 → Filled (x .grammar) old new p
 filled-turn {rows} {sets} {nonterminals} {count} x {old} {area} {new} p b l eb f m = record { size = m .size ∙ f .size; words = λ n u k h. go n u k h (ℕ-discrete n b); outside = λ i k. m .outside i (beyond i k) ∙ f .outside i k }
   where
     g : Grammar

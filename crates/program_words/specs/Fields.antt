@@ -1,5 +1,5 @@
 -- The fields of one production: its row, where its rules and conditions stand in the table, and what the outline says of both.
-use Prim.Native.Nat.{ℕ, suc, _+_, _-_, _*_, _≤_, _<_}
+use Prim.Native.Nat.{ℕ, suc, _+_, _-_, _≤_, _<_}
 use native.Mathlib.Omega.{arith}
 use native.Mathlib.Decide.{decLt}
 use mathlib.Core.Path.{_≡_, refl, sym, ap, _∙_, subst}
@@ -19,13 +19,9 @@ use Rattle.theory_table.specs.Places.{read-places}
 use Rattle.theory_table.specs.ReadLaidOut.{read-stretch}
 use Rattle.theory_table.specs.Reading.{table-reads}
 use Rattle.theory_table.specs.Stretches.{StretchAt}
-use Rattle.outline.specs.Rows.{sizeAt, size-is, symbol-is}
+use Rattle.outline.specs.Rows.{rowStart, rowAt, sizeAt, size-is, symbol-is}
 use Rattle.outline.specs.Outline.{stateIn, grammarIn, CountsOf, Productions, entries-are}
 use Rattle.program_body_words.specs.Given.{Given}
-
--- its row
-abbrev pub rowAt : List ℕ → ℕ → List ℕ
-rowAt rows p = take (p * 16 + 16 - p * 16) (drop (p * 16) rows)
 
 -- where its stretch of the table ends
 unfoldable pub stretchEnd : List ℕ → List ℕ → ℕ → ℕ → ℕ
@@ -97,8 +93,8 @@ module _ {table rows offsets : List ℕ} {count : ℕ} (x : Productions table ro
     pub fields-own : RulesAndConditions (pr .rules) (pr .conditions) (fieldsAt table from to)
     fields-own = subst (λ q. RulesAndConditions (q .rules) (q .conditions) (fieldsAt table from to)) (sym is-production) (subst (λ z. RulesAndConditions (productionOf e .rules) (productionOf e .conditions) z) (sym fields-are) (stretch .own))
 
-    pub row-byte : (i j : ℕ) → j ≡ p * 16 + i → i < 16 → byte (rowAt rows p) i ≡ getD rows j 0
-    row-byte i j q m = getD-take (p * 16 + 16 - p * 16) (drop (p * 16) rows) i 0 (omega arith) ∙ (getD-drop (p * 16) rows i 0 ∙ ap (λ k. getD rows k 0) (sym q))
+    pub row-byte : (i j : ℕ) → j ≡ rowStart p + i → i < 16 → byte (rowAt rows p) i ≡ getD rows j 0
+    row-byte i j q m = getD-take 16 (drop (rowStart p) rows) i 0 m ∙ (getD-drop (rowStart p) rows i 0 ∙ ap (λ k. getD rows k 0) (sym q))
 
     unfoldable pub given-at : {inherited synthesized : List ℕ} → CountsOf inherited synthesized (grammarIn table) → Given (rowAt rows p) (fieldsAt table from to) inherited synthesized
     given-at counts = record {
@@ -106,9 +102,9 @@ module _ {table rows offsets : List ℕ} {count : ℕ} (x : Productions table ro
       production = pr;
       wellFormed = x .rowsOf .sound;
       ofGrammar = fits;
-      left = row-byte 0 (p * 16) (omega arith) (omega arith) ∙ x .rowsOf .left p l;
-      size = row-byte 1 (p * 16 + 1) (omega arith) (omega arith) ∙ size-is (x .rowsOf) p l;
-      symbols = λ k m. ap symbolOf (row-byte (k + 2) (p * 16 + 2 + k) (omega arith) (omega (arith, fits .short))) ∙ symbol-is (x .rowsOf) p l k m;
+      left = row-byte 0 (rowStart p) (omega arith) (omega arith) ∙ x .rowsOf .left p l;
+      size = row-byte 1 (rowStart p + 1) (omega arith) (omega arith) ∙ size-is (x .rowsOf) p l;
+      symbols = λ k m. ap symbolOf (row-byte (k + 2) (rowStart p + 2 + k) (omega arith) (omega (arith, fits .short))) ∙ symbol-is (x .rowsOf) p l k m;
       counts = counts;
       own = fields-own;
       short = omega (arith, ap length fields-are, ef, et, fields-place .1, to-is, table-reads table (stateIn table) (x .isRead) .0);

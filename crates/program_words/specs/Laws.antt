@@ -1,5 +1,5 @@
 -- What the builder's functions write, by the definitions of specs/.
-use Prim.Native.Nat.{ℕ, suc, _+_, _*_, _/_, _%_, _^_, _≤_, _<_}
+use Prim.Native.Nat.{ℕ, _+_, _*_, _/_, _%_, _^_, _≤_, _<_}
 use native.Mathlib.Nat.{div-one}
 use native.Mathlib.Decide.{decLt}
 use native.Mathlib.Omega.{arith}
@@ -14,7 +14,7 @@ use Rattle.meaning.specs.Sets.{has}
 use Rattle.meaning.specs.Program.{setBits, carriers, segmentWords}
 use Rattle.meaning.specs.Table.{byte}
 use Rattle.theory_program.specs.Proper.{att-most}
-use Rattle.program_block_words.specs.Patch.{patch, Wrote, wrote-one, wrote-as, wrote-then}
+use Rattle.program_block_words.specs.Patch.{Wrote, wrote-one, wrote-last, wrote-cons, wrote-as, wrote-then}
 use Rattle.token_set.specs.SetBits.{bit, has-bit}
 use Rattle.outline.specs.declared.Sizes.{Sizes}
 use Rattle.outline.specs.Outline.{grammarIn, NumbersOf, Outline}
@@ -25,12 +25,11 @@ use Rattle.program_words.specs.Directory.{Marked, marked-start, marked-s
 use Rattle.program_words.specs.Records.{two-words}
 
 pub four-written : (area : List ℕ) (at a b c d : ℕ) → Wrote area (set (set (set (set area at a) (at + 1) b) (at + 2) c) (at + 3) d) at (at + 4) (a ∷ b ∷ c ∷ d ∷ [])
-unfolding patch
 four-written area at a b c d =
-    let one : at + 1 ≡ suc at = omega arith in
-    let two : at + 2 ≡ suc (suc at) = omega arith in
-    let three : at + 3 ≡ suc (suc (suc at)) = omega arith in
-    rw (one, two, three) (record { memory = refl; address = refl })
+    wrote-cons refl
+    (wrote-cons (omega arith)
+    (wrote-cons (omega arith)
+    (wrote-last (set (set (set area at a) (at + 1) b) (at + 2) c) (at + 3) d (omega arith))))
 
 pub end-next : (table offsets : List ℕ) (count p r : ℕ) → p + 1 < count → r ≡ getD offsets (p + 1) 0 → r ≡ stretchEnd table offsets count p
 unfolding stretchEnd

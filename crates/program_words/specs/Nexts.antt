@@ -9,7 +9,7 @@ use lib.Seq.{getD-set-same, getD-set-other}
 use Rattle.meaning.specs.Grammar.{Grammar}
 use Rattle.meaning.specs.Program.{firstOf}
 use Rattle.outline.specs.Rows.{Rows, leftAt}
-use Rattle.program_words.specs.Records.{sameLeft, NextOf, Nexts, next-found, next-passed, next-none}
+use Rattle.program_words.specs.Records.{sameLeft, Nexts, next-found, next-passed, next-none}
 
 -- those of the productions from i on, and the first production from i on of each nonterminal
 pub record NextsGo (rows : List ℕ) (count i : ℕ) (nexts firsts : List ℕ) : Type 0 where
@@ -62,7 +62,3 @@ module _ {rows : List ℕ} {count : ℕ} where
             ∙ (o .first g x n l
             ∙ (ap (λ z. firstOf (sameLeft n) z (drop z (g .productions))) again
             ∙ sym (next-passed x n (p - 1) (omega arith) b e (λ q. h (sym q)))))
-
--- a production's own next, by its left side
-pub next-by-left : {rows : List ℕ} {count next left : ℕ} (p : ℕ) → left ≡ leftAt rows p → NextOf rows count p next → (g : Grammar) → Rows rows count g → next ≡ firstOf (sameLeft left) (p + 1) (drop (p + 1) (g .productions))
-next-by-left p e f g x = f g x ∙ ap (λ z. firstOf (sameLeft z) (p + 1) (drop (p + 1) (g .productions))) (sym e)

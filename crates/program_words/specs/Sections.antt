@@ -25,13 +25,13 @@ use Rattle.program_body_words.specs.Laws.{patch-beside}
 use Rattle.program_body_words.specs.Symbols.{tests-count}
 use Rattle.table.specs.CarriedSet.{carried-count}
 use Rattle.outline.specs.declared.Sizes.{Sizes}
-use Rattle.outline.specs.Rows.{Rows, leftAt, sizeAt, size-is, image-of}
+use Rattle.outline.specs.Rows.{Rows, HasRow, rowAt, leftAt, sizeAt, size-is, image-of}
 use Rattle.outline.specs.Outline.{grammarIn, Productions, Outlined}
 use Rattle.program_words.specs.Most.{rules-most, conditions-most, fields-long}
-use Rattle.program_words.specs.Fields.{rowAt, stretchEnd, fieldsFrom, fieldsAt, fields-place, given-at}
+use Rattle.program_words.specs.Fields.{stretchEnd, fieldsFrom, fieldsAt, fields-place, given-at}
 use Rattle.program_words.specs.Directory.{Alternatives, start-bit, zeros, Marked, Filled, filled-start, filled-turn, filled-end}
-use Rattle.program_words.specs.Records.{two-words, sameLeft, Growing, growing-start, growing-as, growing-turn, growing-end, restRecords, restBodies, recordAt, bodyAt, records-turn, bodies-turn, records-end, bodies-end}
-use Rattle.program_words.specs.Waits.{waitAt, restWaits, waits-turn, waits-end}
+use Rattle.program_words.specs.Records.{two-words, sameLeft, NextOf, Growing, growing-start, growing-as, growing-turn, growing-end, restRecords, restBodies, recordAt, bodyAt, records-turn, bodies-turn, records-end, bodies-end}
+use Rattle.program_words.specs.Waits.{waitFrom, waitAt, restWaits, waits-turn, waits-end}
 use Rattle.program_words.specs.Built.{well-formed, count-is, LinksFit, RecordFits, ProductionFits, ProductionWrote, ProductionsWrote}
 
 -- ---- the directory
@@ -81,7 +81,7 @@ module _ {rows sets : List ℕ} {nonterminals count : ℕ} {old : List ℕ} (lon
 abbrev recordBy : ℕ → ℕ → ℕ → ℕ → ℕ → ℕ → ℕ → ℕ → List ℕ
 recordBy left next low high body tests scheme size = left ∷ next ∷ low ∷ high ∷ body ∷ tests ∷ scheme ∷ size ∷ []
 
-module _ {rows sets : List ℕ} {count p body entries : ℕ} {area : List ℕ} {at : ℕ} (x : RecordFits rows sets count p body entries area at) where
+module _ {rows sets : List ℕ} {p body entries next : ℕ} {area : List ℕ} {at : ℕ} (x : RecordFits rows sets p body entries next area at) where
   abbrev g : Grammar
   g = x .grammar
 
@@ -94,22 +94,24 @@ module _ {rows sets : List ℕ} {count p body entries : ℕ} {area : List ℕ} {
   pub scheme-small : (size : ℕ) → size ≡ sizeAt rows p → body + size + 3 * entries ≤ 16384
   scheme-small size e = omega (arith, e, right-long, x .tests, x .behind, conditions-length (entryTests g pr))
 
-  pub record-written : {mid new : List ℕ} {half end : ℕ} {left size set next : ℕ} → left ≡ leftAt rows p → size ≡ sizeAt rows p → set ≡ getD sets p 0 → set < 18446744073709551616
-      → ((y : Grammar) → Rows rows count y → next ≡ firstOf (sameLeft left) (p + 1) (drop (p + 1) (y .productions)))
+  pub record-written : {mid new : List ℕ} {half end : ℕ} {left size set : ℕ} → left ≡ leftAt rows p → size ≡ sizeAt rows p → set ≡ getD sets p 0 → set < 18446744073709551616
       → Wrote area mid at half (left ∷ next ∷ set % 4294967296 ∷ set / 4294967296 ∷ []) → Wrote mid new half end (body ∷ entries ∷ (body + size + 3 * entries) ∷ size ∷ []) → Wrote area new at end (recordAt g p body)
-  record-written {left = left} {size = size} {set = set} {next = next} el es ew small en v w = wrote-as same (wrote-then v w)
+  record-written {left = left} {size = size} {set = set} el es ew small v w = wrote-as same (wrote-then v w)
     where
+      row-left : leftAt rows p ≡ pr .left
+      row-left = x .rowsOf .left p (x .here)
+
       left-is : left ≡ pr .left
-      left-is = el ∙ x .rowsOf .left p (x .here)
+      left-is = el ∙ row-left
 
       more : p + 1 ≡ suc p
       more = omega arith
 
       next-is : next ≡ firstOf (sameLeft (pr .left)) (suc p) (drop (suc p) (g .productions))
-      next-is = en g (x .rowsOf) ∙ ap₂ (λ y z. firstOf (sameLeft y) z (drop z (g .productions))) left-is more
+      next-is = x .following g (x .rowsOf) ∙ ap₂ (λ y z. firstOf (sameLeft y) z (drop z (g .productions))) row-left more
 
       halves : (set % 4294967296 ≡ setBits (starts g pr) 0 1 32) × (set / 4294967296 ≡ setBits (starts g pr) 32 1 32)
-      halves = two-words (starts g pr) set small (λ u l. subst (λ z. _≡_ {A = Bool} (eqb (z / 2 ^ u % 2) 1) (has (starts g pr) u)) (sym ew) (start-bit g count sets (x .starting) p u (x .here) l))
+      halves = two-words (starts g pr) set small (λ u l. subst (λ z. _≡_ {A = Bool} (eqb (z / 2 ^ u % 2) 1) (has (starts g pr) u)) (sym ew) (start-bit g (x .count) sets (x .starting) p u (x .here) l))
 
       size-here : size ≡ length (pr .right)
       size-here = es ∙ right-long
@@ -139,49 +141,106 @@ module _ {table : List ℕ} {sizes : Sizes} {inherited synthesized rows offsets 
   abbrev listed : Productions table rows offsets (sizes .productions)
   listed = x .outlined .outline .productions
 
-  pub row-inside : p * 16 + 16 ≤ length rows
+  pub row-inside : HasRow rows p
   row-inside = omega (arith, listed .rowsOf .room, x .here)
 
-  module _ {from to : ℕ} (ef : from ≡ fieldsFrom rows offsets p) (et : to ≡ stretchEnd table offsets (sizes .productions) p) where
-    pub place : (from ≤ to) × (to ≤ length table)
-    place = fields-place listed bytes p (x .here) from to ef et
+  -- where its rules and conditions begin and end, and their bytes
+  abbrev from : ℕ
+  from = fieldsFrom rows offsets p
 
-    abbrev here : Given (rowAt rows p) (fieldsAt table from to) inherited synthesized
-    here = given-at listed bytes p (x .here) from to ef et (x .outlined .outline .counts)
+  abbrev to : ℕ
+  to = stretchEnd table offsets (sizes .productions) p
 
-    pub fields-listing : {nodes : ℕ} → LinksFit (length table) nodes → Listing (fieldsAt table from to) nodes
-    unfolding given-at
-    fields-listing e =
-        let w = well-formed (x .outlined .outline) in
-        let i = production-in gr w p (omega (arith, x .here, count-is (x .outlined .outline))) in
-        record { listed = listedOf here; short = here .short; few = e .1 _ (omega (arith, rules-most gr w pd i, conditions-most gr w pd i)) (omega (arith, fields-long (here .own), length-take (to - from) (drop from table), length-drop from table)); room = e .0 }
+  abbrev own : List ℕ
+  own = fieldsAt table from to
 
-    module _ (marks links : List ℕ) {nodes : ℕ} (e : LinksFit (length table) nodes) (f : (y : Listing (fieldsAt table from to) nodes) → Found (fieldsAt table from to) links marks (y .listed)) where
+  pub place : (from ≤ to) × (to ≤ length table)
+  place = fields-place listed bytes p (x .here) from to refl refl
+
+  abbrev here : Given (rowAt rows p) own inherited synthesized
+  here = given-at listed bytes p (x .here) from to refl refl (x .outlined .outline .counts)
+
+  own-listing : {nodes : ℕ} → LinksFit (length table) nodes → Listing own nodes
+  unfolding given-at
+  own-listing e =
+      let w = well-formed (x .outlined .outline) in
+      let i = production-in gr w p (omega (arith, x .here, count-is (x .outlined .outline))) in
+      record {
+        listed = listedOf here;
+        short = here .short;
+        few = e .1 _ (omega (arith, rules-most gr w pd i, conditions-most gr w pd i)) (omega (arith, fields-long (here .own), length-take (to - from) (drop from table), length-drop from table));
+        room = e .0;
+      }
+
+  module _ {fields : List ℕ} (is : fields ≡ own) {nodes : ℕ} (e : LinksFit (length table) nodes) where
+    pub fields-listing : Listing fields nodes
+    fields-listing = subst (λ z. Listing z nodes) (sym is) (own-listing e)
+
+    -- the record
+    module _ (marks links : List ℕ) (f : (y : Listing fields nodes) → Found fields links marks (y .listed)) {next : ℕ} (n : NextOf rows (sizes .productions) p next) where
+      found : Found own links marks (listedOf here)
+      unfolding given-at own-listing
+      found = subst (λ z. (y : Listing z nodes) → Found z links marks (y .listed)) is f (own-listing e)
+
       entries-are : getD marks 1 0 ≡ length (entryTests gr pd)
-      unfolding given-at fields-listing
-      entries-are = f (fields-listing e) .counts false 0 (omega arith) ∙ sym (tests-count gr pd 0)
+      unfolding given-at
+      entries-are = found .counts false 0 (omega arith) ∙ sym (tests-count gr pd 0)
 
-      pub record-fits : RecordFits rows sets (sizes .productions) p body (getD marks 1 0) area at
-      record-fits = record { grammar = gr; rowsOf = listed .rowsOf; starting = x .outlined .starting; here = x .here; tests = entries-are; behind = omega (arith, x .behind); room = omega (arith, x .low, x .long, x .behind); low = omega (arith, x .low, x .behind) }
+      abbrev RecordFit : Type 0
+      RecordFit = RecordFits rows sets p body (getD marks 1 0) next area at
 
-      module _ {mid : List ℕ} {next : ℕ} (w : (y : RecordFits rows sets (sizes .productions) p body (getD marks 1 0) area at) → Wrote area mid at next (recordAt (y .grammar) p body)) where
+      pub record-fits : RecordFit
+      record-fits = record {
+        count = sizes .productions;
+        grammar = gr;
+        rowsOf = listed .rowsOf;
+        starting = x .outlined .starting;
+        here = x .here;
+        tests = entries-are;
+        following = n;
+        behind = omega (arith, x .behind);
+        room = omega (arith, x .low, x .long, x .behind);
+        low = omega (arith, x .low, x .behind);
+      }
+
+      -- then the body
+      module _ {mid : List ℕ} {end wait : ℕ} (w : (y : RecordFit) → Wrote area mid at end (recordAt (y .grammar) p body)) (ew : wait ≡ waitFrom (sizes .nonterminals) (sizes .productions) p) where
         recorded : Wrote area mid at (at + 8) (recordAt gr p body)
         unfolding record-fits
         recorded = let v = w record-fits in record { memory = v .memory; address = refl }
 
-        abbrev wait : ℕ
-        wait = 9 + 64 * sizes .nonterminals + 8 * sizes .productions + 12 * p
-
         wait-is : wait ≡ waitAt gr p
-        wait-is = omega (arith, x .outlined .outline .numbers .nonterminals, count-is (x .outlined .outline))
+        wait-is = omega (arith, ew, x .outlined .outline .numbers .nonterminals, count-is (x .outlined .outline))
 
-        pub body-fits : BodyFits (rowAt rows p) (fieldsAt table from to) inherited synthesized (sizes .carrying .0) marks links mid body wait
-        unfolding given-at fields-listing
-        body-fits = record { given = here; carried = carried-count (sizes .carrying .0) gr (x .outlined .outline .numbers .carrying); found = f (fields-listing e); room = x .behind; long = omega (arith, x .long, wrote-length recorded); apart = omega (arith, wait-is, x .apart) }
+        abbrev BodyFit : List ℕ → Type 0
+        BodyFit bs = BodyFits (rowAt rows p) bs inherited synthesized (sizes .carrying .0) marks links mid body wait
 
-        pub production-written : {new : List ℕ} {end : ℕ} → ((y : BodyFits (rowAt rows p) (fieldsAt table from to) inherited synthesized (sizes .carrying .0) marks links mid body wait) → BodyWrote y new end) → ProductionWrote gr p area new at body end
-        unfolding body-fits given-at
-        production-written {new} {end} v = record { between = mid; recorded = recorded; bodied = subst (λ z. Wrote (patch mid z (waitRow gr pd)) new body end (bodyAt gr p body)) wait-is (v body-fits) }
+        own-fits : BodyFit own
+        unfolding given-at
+        own-fits = record {
+          given = here;
+          carried = carried-count (sizes .carrying .0) gr (x .outlined .outline .numbers .carrying);
+          found = found;
+          room = x .behind;
+          long = omega (arith, x .long, wrote-length recorded);
+          apart = omega (arith, wait-is, x .apart);
+        }
+
+        pub body-fits : BodyFit fields
+        body-fits = subst BodyFit (sym is) own-fits
+
+        row-written : {new : List ℕ} {after : ℕ} → ((y : BodyFit fields) → BodyWrote y new after) → ProductionWrote gr p area new at body after
+        unfolding own-fits given-at
+        row-written {new} {after} v =
+            let u = subst (λ z. (y : BodyFit z) → BodyWrote y new after) is v in
+            record { between = mid; recorded = recorded; bodied = subst (λ z. Wrote (patch mid z (waitRow gr pd)) new body after (bodyAt gr p body)) wait-is (u own-fits) }
+
+        -- the row as it is lent
+        abbrev BodyOf : List ℕ → ℕ → List ℕ → Type 0
+        BodyOf new after z = (y : BodyFits z fields inherited synthesized (sizes .carrying .0) marks links mid body wait) → BodyWrote y new after
+
+        pub production-written : {row : List ℕ} → row ≡ rowAt rows p → {new : List ℕ} {after : ℕ} → BodyOf new after row → ProductionWrote gr p area new at body after
+        production-written same {new} {after} v = row-written (subst (BodyOf new after) same v)
 
 -- ---- all productions
 

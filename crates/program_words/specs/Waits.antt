@@ -14,6 +14,10 @@ use Rattle.theory_base.specs.WellFormed.{listed-at}
 abbrev pub waitAt : Grammar → ℕ → ℕ
 waitAt g p = waitsAddress g + 12 * p
 
+-- the same by how many nonterminals and productions there are
+abbrev pub waitFrom : ℕ → ℕ → ℕ → ℕ
+waitFrom nonterminals productions p = 9 + 64 * nonterminals + 8 * productions + 12 * p
+
 -- those of the productions from p on
 unfoldable pub restWaits : Grammar → ℕ → List ℕ
 restWaits g p = concat (map (waitRow g) (drop p (g .productions)))

@@ -45,7 +45,8 @@ pub fn rank(
     values: &[i32],
     lengths: &[u32],
 ) -> Ranked
-    ensures { λ r. ⌜ rankIs r (now (list .exit)) (now (registers .exit)) (now (places .exit)) (now (program .exit)) ≡ rankOf programOf (now (table .entry)) (now (program .entry)) (now (lengths .entry)) (now (kinds .entry)) (now (values .entry)) (now (list .entry)) (stacksOf (now (registers .entry)) (now (places .entry))) ⌝ }
+    ensures { λ r. ⌜ rankIs r (now (list .exit)) (now (registers .exit)) (now (places .exit)) (now (program .exit))
+        ≡ rankOf programOf (now (table .entry)) (now (program .entry)) (now (lengths .entry)) (now (kinds .entry)) (now (values .entry)) (now (list .entry)) (stacksOf (now (registers .entry)) (now (places .entry))) ⌝ }
 {
     if rank_suits::in_order(lengths, kinds, list) {
         return match prepare::program_of(table, program) {

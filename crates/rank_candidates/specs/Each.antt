@@ -116,7 +116,7 @@ module _ (ws lengths ks : List ℕ) (us l₀ vs₀ : List ℤ) (ps₀ : List ℕ
             let c : drop n (drop at ks) ≡ drop (at + n) ks = drop-drop n at ks in
             let e : drop n (drop at us) ≡ drop (at + n) us = drop-drop n at us in
             ap (λ ns. evaluations g i ns (drop at ks) (drop at us) (stacksOf vs ps)) (first-left ∙ ap (λ j. j ∷ drop (suc i) lengths) (sym q))
-            ∙ (ap (λ o. record { entries = entryOf i (o .answer) ∷ evaluations g (suc i) (drop (suc i) lengths) (drop n (drop at ks)) (drop n (drop at us)) (o .stacks) .entries; stacks = evaluations g (suc i) (drop (suc i) lengths) (drop n (drop at ks)) (drop n (drop at us)) (o .stacks) .stacks }) (sym z)
+            ∙ (ap (λ o. let rest = evaluations g (suc i) (drop (suc i) lengths) (drop n (drop at ks)) (drop n (drop at us)) (o .stacks) in record { entries = entryOf i (o .answer) ∷ rest .entries; stacks = rest .stacks }) (sym z)
             ∙ ap₂ (λ v w. after (entryOf i (answerIs (r .answer)) ∷ []) (evaluations g (suc i) (drop (suc i) lengths) v w (stacksOf vs′ ps′))) c e)
 
         in-limits : (o : Calls.Answer) → T (answerRanged o) → Value.inRange (value (entryOf i o)) ≡ true
@@ -136,7 +136,8 @@ module _ (ws lengths ks : List ℕ) (us l₀ vs₀ : List ℤ) (ps₀ : List ℕ
               rest = λ g s.
                   k .rest g s
                   ∙ (ap (after (k .entries)) (one-more g s)
-                  ∙ (ap (λ z. record { entries = z; stacks = evaluations g (suc i) (drop (suc i) lengths) (drop (at + n) ks) (drop (at + n) us) (stacksOf vs′ ps′) .stacks }) (sym (append-assoc (k .entries) (f ∷ []) (evaluations g (suc i) (drop (suc i) lengths) (drop (at + n) ks) (drop (at + n) us) (stacksOf vs′ ps′) .entries)))
+                  ∙ (ap (λ z. record { entries = z; stacks = evaluations g (suc i) (drop (suc i) lengths) (drop (at + n) ks) (drop (at + n) us) (stacksOf vs′ ps′) .stacks })
+                  (sym (append-assoc (k .entries) (f ∷ []) (evaluations g (suc i) (drop (suc i) lengths) (drop (at + n) ks) (drop (at + n) us) (stacksOf vs′ ps′) .entries)))
                   ∙ ap (λ z. after (k .entries ++ (f ∷ [])) (evaluations g z (drop z lengths) (drop (at + n) ks) (drop (at + n) us) (stacksOf vs′ ps′))) j));
               left = ap (λ z. at + n + total (drop z lengths)) (sym j) ∙ (ap (λ z. at + z + total (drop (suc i) lengths)) q ∙ next-left);
               few = omega arith;

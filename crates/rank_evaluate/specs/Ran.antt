@@ -94,7 +94,8 @@ module _ {ws : List ℕ} {vs : List ℤ} {ps : List ℕ} (b : Readable ws) (o : 
     -- a token is refused
     pub failed-ran : (run : Run) (j : ℕ) (r : Handed) → x ≡ Failed run j → r ≡ fedFrom (Failed run j) → Ran ws ks us vs ps vs₁ ps₁ r
     failed-ran run j r q d =
-        let at : (g : Grammar) (s : HasProgram g ws) → Settles g ws (lentOf (stacksOf vs ps)) (feedAll g (lentOf (stacksOf vs ps)) (leaves g (tokensFrom ks us)) (opening g)) vs₁ ps₁ (Failed run j) = λ g s. subst (Settles g ws (lentOf (stacksOf vs ps)) (feedAll g (lentOf (stacksOf vs ps)) (leaves g (tokensFrom ks us)) (opening g)) vs₁ ps₁) q (settled g s) in
+        let at : (g : Grammar) (s : HasProgram g ws) → Settles g ws (lentOf (stacksOf vs ps)) (feedAll g (lentOf (stacksOf vs ps)) (leaves g (tokensFrom ks us)) (opening g)) vs₁ ps₁ (Failed run j) =
+        λ g s. subst (Settles g ws (lentOf (stacksOf vs ps)) (feedAll g (lentOf (stacksOf vs ps)) (leaves g (tokensFrom ks us)) (opening g)) vs₁ ps₁) q (settled g s) in
         record {
           through = λ g s.
               let z = at g s in
@@ -119,11 +120,13 @@ module _ {ws : List ℕ} {vs : List ℤ} {ps : List ℕ} (b : Readable ws) (o : 
         pub next-ending : Ending ws vs₂ y
         next-ending = let z = stopped-at (b .grammar) (b .shown) in ended-by (b .grammar) ws vs ps (o .few) (o .little) (z .0) (z .2 .fewMoves) (b .shown .begins) vs₂ ps₂ y (finish-settled (b .grammar) (b .shown))
 
-        heights : (w : Ended.Ended) → Settles (b .grammar) ws (lentOf (stacksOf vs ps)) (finishAll (b .grammar) (lentOf (stacksOf vs ps)) (stopped-at (b .grammar) (b .shown) .0)) vs₂ ps₂ w → Clean vs₂ ps₂ (finishedFrom (getD ws 5 0) vs₂ w .state .registers) (finishedFrom (getD ws 5 0) vs₂ w .state .places)
+        heights : (w : Ended.Ended) → Settles (b .grammar) ws (lentOf (stacksOf vs ps)) (finishAll (b .grammar) (lentOf (stacksOf vs ps)) (stopped-at (b .grammar) (b .shown) .0)) vs₂ ps₂ w
+            → Clean vs₂ ps₂ (finishedFrom (getD ws 5 0) vs₂ w .state .registers) (finishedFrom (getD ws 5 0) vs₂ w .state .places)
         heights (Stopped run) z = held-clean (z .2)
         heights (Failed run j) z = held-clean (z .2)
 
-        ends-ranged : (w : Ended.Ended) → Settles (b .grammar) ws (lentOf (stacksOf vs ps)) (finishAll (b .grammar) (lentOf (stacksOf vs ps)) (stopped-at (b .grammar) (b .shown) .0)) vs₂ ps₂ w → T (answerRanged (afterFinish (b .grammar) (stacksOf vs ps) (finishAll (b .grammar) (lentOf (stacksOf vs ps)) (stopped-at (b .grammar) (b .shown) .0)) .answer))
+        ends-ranged : (w : Ended.Ended) → Settles (b .grammar) ws (lentOf (stacksOf vs ps)) (finishAll (b .grammar) (lentOf (stacksOf vs ps)) (stopped-at (b .grammar) (b .shown) .0)) vs₂ ps₂ w
+            → T (answerRanged (afterFinish (b .grammar) (stacksOf vs ps) (finishAll (b .grammar) (lentOf (stacksOf vs ps)) (stopped-at (b .grammar) (b .shown) .0)) .answer))
         ends-ranged (Stopped run) z =
             let c = stopped-at (b .grammar) (b .shown) in
             subst (λ o. T (answerRanged (afterFinish (b .grammar) (stacksOf vs ps) o .answer))) (sym (z .1)) (result-ranged (b .grammar) (b .shown .formed) (z .0) (z .2 .shaped) (is-finished (b .grammar) ws vs ps (o .few) (o .little) (c .0) (c .2 .fewMoves) (z .0) (z .1)))

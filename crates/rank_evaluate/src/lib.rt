@@ -27,7 +27,7 @@ fn run_through(
     let run = Run {
         tokens: 0,
         moves: 0,
-        registers: run_moves::word_at(program, 4),
+        registers: run_moves::word_at(program, program_parts::REGISTERS),
         places: 1,
         at: 0,
     };
@@ -53,7 +53,7 @@ fn on_lent(
     requires { ⌜ (length (now registers) ≤ 4096) × (length (now places) ≤ 1024) × Readable (now program) × (length (now kinds) ≡ length (now values)) × Clean (now registers) (now places) a b ⌝ }
     ensures { λ r. ⌜ CandidateAs (now (program .entry)) (now (kinds .entry)) (now (values .entry)) (now (registers .entry)) (now (places .entry)) (now (registers .exit)) (now (places .exit)) r ⌝ }
 {
-    if registers.len() < run_moves::word_at(program, 4) {
+    if registers.len() < run_moves::word_at(program, program_parts::REGISTERS) {
         return rank_open::unopened(31, a, b);
     }
     if places.len() == 0 {

@@ -4,7 +4,7 @@ use mathlib.Core.Path.{_≡_, sym, ap, _∙_}
 use mathlib.Core.Bool.{Bool, false, _&&_}
 use lib.Dec.{eqb}
 use borrow.Author.Tests.{eq-eqb, ne-eqb}
-use Rattle.meaning.specs.Inner.{beginsAt}
+use Rattle.meaning_inner.specs.Inner.{beginsAt}
 use Rattle.meaning.specs.Calls as Calls
 use Rattle.meaning.specs.Calls.{Gate, admitted, turnedBack, gate}
 use Rattle.records.specs.declared.Status.{Status}

@@ -1,7 +1,7 @@
 // A run's state and a call's answer, as one call hands them to the next. Above this crate a state is made by these functions and asked by them, so that a new status or kind is a matter of this crate.
 ghost use mathlib.Core.Path.{_≡_};
 ghost use Rattle.meaning.specs.Calls as Calls;
-ghost use Rattle.meaning.specs.Inner.{isClosed, isRunning, isWaiting, isOuter, beginsAt};
+ghost use Rattle.meaning_inner.specs.Inner.{isClosed, isRunning, isWaiting, isOuter, beginsAt};
 ghost use Rattle.records.specs.Records.{statusIs, kindIs, stateIs};
 ghost use Rattle.records.specs.declared.Status.the-variants.{Running, Waiting, Closed};
 ghost use Rattle.records.specs.declared.Kind.the-variants.{Inner, Outer};

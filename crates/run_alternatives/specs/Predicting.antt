@@ -1,14 +1,11 @@
 -- Predict: the search along the directory and the next-words by the words of the program, and the push of the production found.
-use Prim.Native.Nat.{ℕ, zero, suc, _+_, _-_, _*_, _/_, _%_, _^_, _≤_, _<_}
+use Prim.Native.Nat.{ℕ, zero, suc, _+_, _-_, _*_, _≤_, _<_}
 use native.Mathlib.Omega.{arith}
 use mathlib.Core.Path.{_≡_, refl, sym, ap, ap₂, _∙_, subst₂}
-use mathlib.Core.Logic.{_↔_}
 use mathlib.Core.Bool.{Bool, true, false, _&&_}
 use mathlib.Core.List.{List}
 use lib.ListN.{length, getD}
-use lib.Dec.{T, eqb}
 use lib.IntN.{ℤ}
-use borrow.Author.Tests.{eq-eqb, ne-eqb}
 use Rattle.meaning.specs.Base.{In, all}
 use Rattle.meaning.specs.Grammar.{Grammar, Condition, productionAt}
 use Rattle.meaning.specs.Value.{holds}
@@ -17,6 +14,7 @@ use Rattle.meaning.specs.Rules.{WellFormed, Reads}
 use Rattle.meaning.specs.Sets.{has, starts}
 use Rattle.meaning.specs.Machine.{next, entered, readRegister}
 use Rattle.theory_program.specs.WordsStand.{stands-within}
+use Rattle.theory_program.specs.Parts.{inSet}
 use Rattle.theory_program.specs.Code.{conditions-length}
 use Rattle.theory_program.specs.Addresses.{Begins, recordAddress, schemeAddress, entryAddress, record-at, entry-at, entry-before}
 use Rattle.theory_program.specs.Proper.{ProperCondition, production-in, entry-proper}
@@ -39,7 +37,7 @@ entersAt ws rs r = all (holds (readRegister rs)) (entryConditions ws r)
 
 -- bit u of the two words of the set
 abbrev pub holdsAt : List ℕ → ℕ → ℕ → Bool
-holdsAt ws r u = eqb (getD ws (r + 2 + u / 32) 0 / 2 ^ (u % 32) % 2) 1
+holdsAt ws r u = inSet ws (r + 2) u
 
 -- the words of a record can be read, and its entry tests can be tested on rs
 pub record Entry (ws : List ℕ) (rs : List ℤ) (r : ℕ) : Type 0 where
@@ -82,11 +80,7 @@ module _ {g : Grammar} {ws : List ℕ} (b : Begins g ws) (w : WellFormed g) (rs 
 
   -- what is tested of a word is whether the set holds it
   pub holds-here : (u : ℕ) → u < 64 → holdsAt ws (recordOf ws (suc q)) u ≡ has (starts g (productionAt g q)) u
-  holds-here u m = ap (λ a. eqb (getD ws (a + 2 + u / 32) 0 / 2 ^ (u % 32) % 2) 1) at-record ∙ same (getD ws (recordAddress g q + 2 + u / 32) 0 / 2 ^ (u % 32) % 2) (has (starts g (productionAt g q)) u) (set-word b w q l u m)
-    where
-      same : (x : ℕ) (y : Bool) → (x ≡ 1) ↔ T y → eqb x 1 ≡ y
-      same x true h = eq-eqb x 1 (h .1 tt)
-      same x false h = ne-eqb x 1 (λ e. h .0 e)
+  holds-here u m = ap (λ a. inSet ws (a + 2) u) at-record ∙ set-word b w q l u m
 
 -- ---- the search
 

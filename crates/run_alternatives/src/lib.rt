@@ -14,7 +14,7 @@ pub fn record_of(program: &[u32], p: usize) -> usize
     requires { ⌜ (2 < length (now program)) × (1 ≤ p) × (p ≤ 128) ⌝ }
     ensures { λ r. ⌜ r ≡ recordOf (now (program .entry)) p ⌝ }
 {
-    run_moves::word_at(program, 2) + 8 * (p - 1)
+    run_moves::word_at(program, program_parts::RECORDS) + program_parts::RECORD_WORDS * (p - 1)
 }
 
 // Whether the set of a production holds what comes next.
@@ -22,7 +22,7 @@ fn holds(program: &[u32], row: usize, look: usize) -> bool
     requires { ⌜ (row + 8 ≤ length (now program)) × (look < 64) ⌝ }
     ensures { λ r. ⌜ r ≡ holdsAt (now (program .entry)) row look ⌝ }
 {
-    (run_moves::word_at(program, row + 2 + look / 32) >> (look % 32)) % 2 == 1
+    program_parts::in_set(program, row + program_parts::STARTS, look)
 }
 
 // Whether the entry conditions of a production hold.
@@ -30,9 +30,15 @@ fn enters(registers: &[i64], height: usize, program: &[u32], row: usize) -> bool
     requires { ⌜ (height ≤ length (now registers)) × Entry (now program) (stack height (now registers)) row ⌝ }
     ensures { λ r. ⌜ r ≡ entersAt (now (program .entry)) (stack height (now (registers .entry))) row ⌝ }
 {
-    let count = run_moves::word_at(program, row + 5);
-    let scheme = run_moves::word_at(program, row + 6);
-    run_register_rules::test(registers, height, program, scheme - 3 * count, count)
+    let count = run_moves::word_at(program, row + program_parts::TESTS);
+    let scheme = run_moves::word_at(program, row + program_parts::SCHEME);
+    run_register_rules::test(
+        registers,
+        height,
+        program,
+        scheme - program_parts::CONDITION_WORDS * count,
+        count,
+    )
 }
 
 // Whether the set of the production at `row` holds what comes next and its entry conditions hold.
@@ -57,7 +63,7 @@ fn later(registers: &[i64], height: usize, program: &[u32], look: usize, from: u
         if passes(registers, height, program, row, look) {
             return p;
         }
-        p = run_moves::word_at(program, row + 1);
+        p = run_moves::word_at(program, row + program_parts::NEXT);
     }
     0
 }
@@ -76,6 +82,6 @@ pub fn find(registers: &[i64], height: usize, program: &[u32], look: usize, firs
         height,
         program,
         look,
-        run_moves::word_at(program, row + 1),
+        run_moves::word_at(program, row + program_parts::NEXT),
     )
 }

@@ -1,13 +1,14 @@
--- Rows: 01's grammar of words and tags, stopped after word open.
-use Prim.Native.Nat.{ℕ, _/_, _%_}
+-- Examples: 01's grammar of words and tags, stopped after word open.
+use Prim.Native.Nat.{ℕ}
 use mathlib.Core.Path.{_≡_, refl}
 use mathlib.Core.Bool.{true, false}
 use mathlib.Core.List.{List, [], _∷_, _++_}
 use lib.IntN.{ℤ, pos}
 use Rattle.meaning.specs.Value.{mark}
 use Rattle.meaning.specs.Examples.Words.{words}
-use Rattle.meaning.specs.Calls.{stacksFit}
-use Rattle.run_fit_past.specs.Passing.{kind, fitsFrom}
+use Rattle.meaning.specs.Calls.{stacksFit, valued, marked}
+use Rattle.theory_program.specs.Parts.{waitSymbol}
+use Rattle.run_fit_past.specs.Passing.{fitsFrom}
 use Rattle.run_fit.specs.Upward.{placesAbove, cellsAbove, standsFit}
 use Rattle.meaning.specs.Program.{programOf}
 use Rattle.run_fit.specs.HasProgram.{waitAt, wordOn, cellsIn}
@@ -56,7 +57,7 @@ on-start : wordOn word 128 ≡ false
 unfolding waitAt
 on-start = refl
 
-waits-again : word / 2097152 % 256 ≡ 129
+waits-again : waitSymbol word ≡ 129
 unfolding waitAt
 waits-again = refl
 
@@ -64,7 +65,7 @@ no-symbol-left : waitAt (programOf words) 258 ≡ 0
 unfolding waitAt
 no-symbol-left = refl
 
-cells : cellsIn word ≡ kind true ∷ kind false ∷ []
+cells : cellsIn word ≡ marked ∷ valued ∷ []
 unfolding waitAt
 cells = refl
 

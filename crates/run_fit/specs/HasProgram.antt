@@ -11,6 +11,7 @@ use Rattle.meaning.specs.Grammar.{terminal, nonterminal, Grammar, productionAt,
 use Rattle.meaning.specs.Rules.{WellFormed}
 use Rattle.meaning.specs.Table.{symbolOf}
 use Rattle.meaning.specs.Calls.{Cell, valued, marked, awaited}
+use Rattle.theory_table.specs.Numbers.{symbol-terminal, symbol-nonterminal}
 use Rattle.theory_base.specs.Members.{true→T, both}
 use Rattle.theory_base.specs.WellFormed.{well-formed-at}
 use Rattle.theory_program.specs.WordsStand.{stands-within}
@@ -71,11 +72,8 @@ module _ (ws : List ℕ) (p : ℕ) where
 
 -- ---- symbols by their bytes
 
-symbol-by : (b : Bool) (n : ℕ) → ltb n 128 ≡ b → symbolOf n ≡ elim b [ true ↦ terminal n | false ↦ nonterminal (n - 128) ]
-symbol-by b n e = ap (λ t. elim t [ true ↦ terminal n | false ↦ nonterminal (n - 128) ]) e
-
 pub symbol-high : (n : ℕ) → symbolOf (128 + n) ≡ nonterminal n
-symbol-high n = symbol-by false (128 + n) (le-ltb (128 + n) 128 (omega arith)) ∙ ap nonterminal (omega arith)
+symbol-high n = symbol-nonterminal (128 + n) (omega arith) ∙ ap nonterminal (omega arith)
 
 -- the symbol with byte x is nonterminal n
 named : (n x : ℕ) → isNonterminal n (symbolOf x) ≡ eqb (128 + n) x
@@ -86,8 +84,8 @@ named n x = by (ltb x 128) refl
     high false e l = ne-eqb (x - 128) n (λ d. eqb-false (128 + n) x e (omega arith))
 
     by : (b : Bool) → ltb x 128 ≡ b → isNonterminal n (symbolOf x) ≡ eqb (128 + n) x
-    by true e = rw (symbol-by true x e) (sym (ne-eqb (128 + n) x (λ d. omega (arith, ltb-true x 128 e))))
-    by false e = rw (symbol-by false x e) (high (eqb (128 + n) x) refl (ltb-false x 128 e))
+    by true e = rw (symbol-terminal x (ltb-true x 128 e)) (sym (ne-eqb (128 + n) x (λ d. omega (arith, ltb-true x 128 e))))
+    by false e = rw (symbol-nonterminal x (ltb-false x 128 e)) (high (eqb (128 + n) x) refl (ltb-false x 128 e))
 
 -- ---- of a grammar
 

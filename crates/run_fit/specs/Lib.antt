@@ -4,5 +4,5 @@ pub mod Upward
 pub mod HasProgram
 -- 34 looks at the lent cells alone
 pub mod Cut
--- Rows: 01's grammar of words and tags, stopped after word open
+-- Examples: 01's grammar of words and tags, stopped after word open
 pub mod Examples

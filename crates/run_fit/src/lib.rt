@@ -1,5 +1,5 @@
 // 34: whether the stacks fit, in any record and any lent cells. Registers are taken from the bottom up, as the places tell them.
-ghost use Prim.Native.Nat.{_+_, _-_, _/_, _%_, _≤_};
+ghost use Prim.Native.Nat.{_+_, _-_, _≤_};
 ghost use mathlib.Core.Path.{_≡_};
 ghost use mathlib.Core.Bool.{_&&_};
 ghost use mathlib.Core.List.{_++_};
@@ -7,6 +7,7 @@ ghost use lib.ListN.{length, drop, replicate};
 ghost use lib.Dec.{eqb};
 ghost use Rattle.meaning.specs.Grammar.{Grammar, nonterminal};
 ghost use Rattle.meaning.specs.Calls.{stacksFit};
+ghost use Rattle.theory_program.specs.Parts.{waitLeft, waitSymbol};
 ghost use Rattle.run_fit_past.specs.Passing.{fitsFrom};
 ghost use Rattle.run_fit.specs.Upward.{placesAbove, cellsAbove, standsFit};
 ghost use Rattle.run_fit.specs.HasProgram.{HasProgram, Readable, RowsAt, waitAt};
@@ -23,41 +24,45 @@ const NO_PLACE: usize = 4294967296;
 // ---- what the program says of a place
 
 // The rows of words that say what places wait at, one for each production, and where they begin.
-struct Rows {
+struct WaitSection {
     count: usize,
     begin: usize,
 }
 
-fn read_rows(program: &[u32]) -> Rows
+fn read_rows(program: &[u32]) -> WaitSection
     requires { ⌜ Readable (now program) ⌝ }
     ensures { λ r. ⌜ RowsAt (now (program .entry)) (r .count) (r .begin) ⌝ }
 {
-    let count = run_moves::word_at(program, 6);
-    let begin = run_moves::word_at(program, 2) + 8 * count;
-    Rows { count, begin }
+    let count = run_moves::word_at(program, program_parts::PRODUCTIONS);
+    let begin = run_moves::word_at(program, program_parts::RECORDS)
+        + program_parts::RECORD_WORDS * count;
+    WaitSection { count, begin }
 }
 
 // The word that says what a place waits at; 0 where it has no production, or no symbol left.
-fn wait_word(program: &[u32], rows: Rows, place: usize) -> usize
+fn wait_word(program: &[u32], rows: WaitSection, place: usize) -> usize
     requires { ⌜ Readable (now program) × RowsAt (now program) (rows .count) (rows .begin) ⌝ }
     ensures { λ r. ⌜ r ≡ waitAt (now (program .entry)) place ⌝ }
 {
-    let production = place / 256;
+    let production = program_parts::production(place);
     if rows.count <= production {
         return 0;
     }
-    let passed = place % 256;
-    if 12 <= passed {
+    let passed = program_parts::passed(place);
+    if program_parts::WAIT_WORDS <= passed {
         return 0;
     }
-    run_moves::word_at(program, rows.begin + 12 * production + passed)
+    run_moves::word_at(
+        program,
+        rows.begin + program_parts::WAIT_WORDS * production + passed,
+    )
 }
 
 // Whether the left side of a place with word `next` is the symbol that one with word `word` waits at. 0, the word of a place that does not wait, waits at no nonterminal.
 fn stands_on(next: usize, word: usize) -> bool
-    ensures { λ r. ⌜ r ≡ eqb (128 + next % 64) (word / 2097152 % 256) ⌝ }
+    ensures { λ r. ⌜ r ≡ eqb (128 + waitLeft next) (waitSymbol word) ⌝ }
 {
-    128 + next % 64 == word / 2097152 % 256
+    128 + program_parts::wait_left(next) == program_parts::wait_symbol(word)
 }
 
 // ---- places
@@ -82,7 +87,9 @@ fn stand_above(registers: &[i64], at: usize, places: &[u32], program: &[u32]) ->
     ensures { λ r. ⌜ ((g : Grammar) → HasProgram g (now (program .entry)) → r ≡ placesAbove g (nonterminal (g .start)) (drop 1 (now (places .entry))) && fitsFrom (now (registers .entry)) at (cellsAbove g (drop 1 (now (places .entry))))) ⌝ }
 {
     let rows = read_rows(program);
-    let mut word = (128 + run_moves::word_at(program, 0) / 8) * 2097152;
+    let mut word = (128
+        + program_parts::operand(run_moves::word_at(program, program_parts::EXPECT)))
+        * program_parts::WAIT_SYMBOL;
     let mut below = NO_PLACE;
     let mut reached = at;
     let mut i = 1;
@@ -112,7 +119,8 @@ fn stand_above(registers: &[i64], at: usize, places: &[u32], program: &[u32]) ->
     if word == 0 {
         return false;
     }
-    run_fit_past::past(registers, reached, word / 131072 % 16, false) == registers.len()
+    run_fit_past::past_valued(registers, reached, program_parts::wait_inherited(word))
+        == registers.len()
 }
 
 // ---- the whole test
@@ -126,17 +134,17 @@ fn stand(registers: &[i64], places: &[u32], program: &[u32]) -> bool
         return false;
     }
     let bottom = places[0];
-    let count = run_moves::word_at(program, 4);
+    let count = run_moves::word_at(program, program_parts::REGISTERS);
     if bottom == LEFT {
         if places.len() != 1 {
             return false;
         }
-        return run_fit_past::past(registers, 0, count, false) == registers.len();
+        return run_fit_past::past_valued(registers, 0, count) == registers.len();
     }
     if bottom != SEGMENT {
         return false;
     }
-    let at = run_fit_past::past(registers, 0, count, true);
+    let at = run_fit_past::past_marked(registers, 0, count);
     stand_above(registers, at, places, program)
 }
 

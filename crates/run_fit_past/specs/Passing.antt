@@ -1,5 +1,5 @@
 -- Registers passed from the bottom up, a stretch at a time.
-use Prim.Native.Nat.{ℕ, zero, suc, _+_, _-_, _/_, _%_, _≤_, _<_}
+use Prim.Native.Nat.{ℕ, zero, suc, _+_, _-_, _≤_, _<_}
 use native.Mathlib.Numerals.{add-one}
 use native.Mathlib.Omega.{arith}
 use mathlib.Core.Path.{_≡_, refl, sym, ap, _∙_}
@@ -11,6 +11,7 @@ use lib.Seq.{drop-drop}
 use lib.Dec.{eqb, leb}
 use lib.IntN.{ℤ}
 use Rattle.meaning.specs.Base.{all}
+use Rattle.theory_program.specs.Parts.{waitPassed, waitMarked, waitInherited}
 use Rattle.meaning.specs.Calls.{Cell, valued, marked, cellFits, cellsFit}
 
 -- ---- stretches of cells of one kind
@@ -32,11 +33,6 @@ fit-short cs ds vs l = unfit (cs ++ ds) vs (λ e. omega (arith, length-append cs
 -- the registers from `at` on are those of the cells; past the end none are
 unfoldable pub fitsFrom : List ℤ → ℕ → List Cell → Bool
 fitsFrom vs at cs = leb at (length vs) && cellsFit cs (drop at vs)
-
--- the kind of a cell by whether it is marked
-abbrev pub kind : Bool → Cell
-kind true = marked
-kind false = valued
 
 -- cells cs, from `at` on, are passed at r; past the end where they do not fit
 pub record Passes (vs : List ℤ) (cs : List Cell) (at r : ℕ) : Type 0 where
@@ -106,7 +102,7 @@ both-length a b = omega (arith, length-append (replicate a valued) (replicate b 
 
 -- the registers from those that a symbol waited at inherits, by the word v of the place that waits, up to the marked ones of the place above, by its word w
 abbrev pub cellsBetween : ℕ → ℕ → List Cell
-cellsBetween v w = valuedThenMarked (v / 131072 % 16 + w / 64 % 128) (w / 8192 % 16)
+cellsBetween v w = valuedThenMarked (waitInherited v + waitPassed w) (waitMarked w)
 
 -- the same cells several times over
 unfoldable pub repeated : ℕ → List Cell → List Cell

@@ -1,31 +1,37 @@
 // Where the registers end that a place tells, from the bottom up.
-ghost use Prim.Native.Nat.{_+_, _/_, _%_, _≤_};
-ghost use mathlib.Core.Path.{_≡_};
+ghost use Prim.Native.Nat.{_+_, _≤_};
 ghost use lib.ListN.{length, replicate};
-ghost use Rattle.meaning.specs.Base.{all};
-ghost use Rattle.meaning.specs.Calls.{cellFits};
-ghost use Rattle.run_fit_past.specs.Passing.{kind, Passes, valuedThenMarked, repeated, cellsBetween};
+ghost use Rattle.meaning.specs.Calls.{valued, marked};
+ghost use Rattle.run_fit_past.specs.Passing.{Passes, valuedThenMarked, repeated, cellsBetween};
+use program_parts::wait_inherited;
+use program_parts::wait_marked;
+use program_parts::wait_passed;
 
-// Whether all cells are marked, or all have values.
-fn all_fit(cells: &[i64], marked: bool) -> bool
-    ensures { λ r. ⌜ r ≡ all (cellFits (kind marked)) (now (cells .entry)) ⌝ }
-{
-    if marked {
-        return run_fit_cells::few_marked(cells);
-    }
-    run_fit_cells::all_valued(cells)
-}
-
-// Where `count` registers of a kind end that stand from `at` on; past the end of the registers where they do not stand.
-pub fn past(registers: &[i64], at: usize, count: usize, marked: bool) -> usize
+// Where `count` registers with values end that stand from `at` on; past the end of the registers where they do not stand.
+pub fn past_valued(registers: &[i64], at: usize, count: usize) -> usize
     requires { ⌜ (at ≤ length (now registers) + 1) × (count ≤ 4096) ⌝ }
-    ensures { λ r. ⌜ Passes (now (registers .entry)) (replicate count (kind marked)) at r ⌝ }
+    ensures { λ r. ⌜ Passes (now (registers .entry)) (replicate count valued) at r ⌝ }
 {
     let end = at + count;
     if registers.len() < end {
         return registers.len() + 1;
     }
-    if all_fit(&registers[at..end], marked) {
+    if run_fit_cells::all_valued(&registers[at..end]) {
+        return end;
+    }
+    registers.len() + 1
+}
+
+// Where `count` registers that are marked end that stand from `at` on; past the end of the registers where they do not stand.
+pub fn past_marked(registers: &[i64], at: usize, count: usize) -> usize
+    requires { ⌜ (at ≤ length (now registers) + 1) × (count ≤ 4096) ⌝ }
+    ensures { λ r. ⌜ Passes (now (registers .entry)) (replicate count marked) at r ⌝ }
+{
+    let end = at + count;
+    if registers.len() < end {
+        return registers.len() + 1;
+    }
+    if run_fit_cells::few_marked(&registers[at..end]) {
         return end;
     }
     registers.len() + 1
@@ -58,8 +64,8 @@ pub fn past_place(registers: &[i64], at: usize, word: usize, next: usize) -> usi
     past_both(
         registers,
         at,
-        word / 131072 % 16 + next / 64 % 128,
-        next / 8192 % 16,
+        wait_inherited(word) + wait_passed(next),
+        wait_marked(next),
     )
 }
 
@@ -68,8 +74,8 @@ pub fn past_alike(registers: &[i64], at: usize, word: usize, times: usize) -> us
     requires { ⌜ at ≤ length (now registers) + 1 ⌝ }
     ensures { λ r. ⌜ Passes (now (registers .entry)) (repeated times (cellsBetween word word)) at r ⌝ }
 {
-    let valued = word / 131072 % 16 + word / 64 % 128;
-    let marked = word / 8192 % 16;
+    let valued = wait_inherited(word) + wait_passed(word);
+    let marked = wait_marked(word);
     let mut reached = at;
     let mut k = 0;
     while k < times {

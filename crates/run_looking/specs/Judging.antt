@@ -1,5 +1,5 @@
 -- How what comes next is judged before its moves, which operations look at it, and the value that a token brings.
-use Prim.Native.Nat.{ℕ, _+_, _/_, _%_, _^_, _≤_, _<_}
+use Prim.Native.Nat.{ℕ, _≤_, _<_}
 use native.Mathlib.Omega.{arith}
 use mathlib.Core.Path.{_≡_, refl, sym, ap, ap₂, _∙_}
 use mathlib.Core.Bool.{Bool, true, false, _||_}
@@ -9,6 +9,7 @@ use lib.Dec.{eqb, ltb, leb}
 use lib.IntN.{ℤ}
 use borrow.Author.Tests.{lt-ltb, le-ltb, le-leb, lt-leb, ltb-true, ltb-false, leb-false}
 use Rattle.meaning.specs.Value.{mark}
+use Rattle.theory_program.specs.Parts.{inSet}
 
 -- ---- what comes next, judged before its moves
 
@@ -52,7 +53,7 @@ looks k = eqb k 2 || (eqb k 3 || eqb k 6)
 
 -- the program's bit of terminal u
 abbrev pub carriesAt : List ℕ → ℕ → Bool
-carriesAt ws u = eqb (getD ws (7 + u / 32) 0 / 2 ^ (u % 32) % 2) 1
+carriesAt ws u = inSet ws 7 u
 
 abbrev pub valueIf : Bool → ℤ → ℤ
 valueIf true v = v

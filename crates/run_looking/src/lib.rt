@@ -38,7 +38,7 @@ pub fn carried(program: &[u32], kind: usize, value: i32) -> i64
     requires { ⌜ (8 < length (now program)) × (kind < 64) ⌝ }
     ensures { λ r. ⌜ r ≡ valueAt (now (program .entry)) kind value ⌝ }
 {
-    if (run_moves::word_at(program, 7 + kind / 32) >> (kind % 32)) % 2 == 1 {
+    if program_parts::in_set(program, program_parts::CARRIERS, kind) {
         return value as i64;
     }
     value::MARK

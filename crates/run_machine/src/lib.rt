@@ -74,7 +74,7 @@ pub fn feed(
     requires { ⌜ Running (now program) (now registers) (now places) run × (length (now kinds) ≡ length (now values)) ⌝ }
     ensures { λ r. ⌜ Feeds (now (program .entry)) (now (kinds .entry)) (now (values .entry)) (now (registers .entry)) (now (places .entry)) run (now (registers .exit)) (now (places .exit)) r ⌝ }
 {
-    let terminals = run_moves::word_at(program, 3);
+    let terminals = run_moves::word_at(program, program_parts::TERMINALS);
     take_all(
         registers,
         places,

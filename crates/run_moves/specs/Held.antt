@@ -15,7 +15,7 @@ use Rattle.meaning.specs.Rules.{WellFormed}
 use Rattle.meaning.specs.Machine.{Frame, Config, Lent, Coming, Outcome, moved, blocked, next, nextOf, move, placeOf, movesLimit, tokensLimit}
 use Rattle.meaning.specs.Part.{frame, config}
 use Rattle.meaning.specs.Program.{schemeWords}
-use Rattle.meaning.specs.CallStatements.{Handles}
+use Rattle.meaning_statements.specs.CallStatements.{Handles}
 use Rattle.theory_answers.specs.Shape.{Due, adds, hands, waits, tests, closes, removes, ends}
 use Rattle.theory_answers.specs.ShapeMoves.{IsAhead, ShapedAt}
 use Rattle.theory_answers.specs.Handling.{handles}

@@ -9,7 +9,7 @@ use lib.Dec.{eqb, eqb→eq}
 use lib.IntN.{ℤ}
 use borrow.Author.Tests.{lt-ltb, le-ltb, eq-eqb}
 use Rattle.theory_base.specs.Members.{apart}
-use Rattle.meaning.specs.Base.{all}
+use Rattle.meaning.specs.Base.{In, all}
 use Rattle.meaning.specs.Grammar.{Grammar, Symbol, Rule, Condition, productionAt, whole}
 use Rattle.meaning.specs.Value.{mark, holds}
 use Rattle.meaning.specs.Scheme.{Instruction, add, evaluate, expect, test, remove}
@@ -20,13 +20,14 @@ use Rattle.theory_answers.specs.ShapeMoves.{IsAhead, shape-move}
 use Rattle.theory_program.specs.Code.{code-head, code-evaluate, code-test, rules-length, conditions-length}
 use Rattle.theory_program.specs.WordsStand.{stands-within}
 use Rattle.run_registers.specs.Stack.{stack, stack-laid}
-use Rattle.run_registers.specs.Laid.{laid-write, laid-add}
+use Rattle.run_registers.specs.Laid.{laid-stack, laid-write, laid-add}
 use Rattle.run_registers.specs.Moves.{test-ready, test-done, evaluate-ready, evaluate-done}
-use Rattle.run_registers.specs.Read.{rulesFrom, conditionsFrom, Tests, Evaluates, valuesFit, afterRules, Evaluated}
+use Rattle.run_registers.specs.Read.{rulesFrom, rules-read, conditionsFrom, Tests, Evaluates, valuesFit, afterRules, Evaluated}
 use Rattle.run_moves.specs.declared.Run.{Run}
 use Rattle.run_moves.specs.declared.Step.the-variants.{Moved, Blocked}
 use Rattle.run_moves.specs.Laid.{LaidIn, laid-size, laid-read}
 use Rattle.run_moves.specs.Ahead.{Ahead, ahead-code, ahead-next, ahead-over, place-same, place-tested, place-passed, place-pending, pending-word, no-pending-word}
+use Rattle.run_moves.specs.Marked.{fresh}
 use Rattle.run_moves.specs.Held.{Held, Made, afterMove, Hand, hand-add, hand-test, hand-evaluate, hand-proper, bounds, next-is}
 
 -- ---- places
@@ -112,8 +113,13 @@ module _ {g : Grammar} {ws : List ℕ} {lent : Lent} {m : List ℤ} {ps : List �
       let t = h .tokens in
       let z = h .registers .height in
       let size = laid-size (h .registers) in
-      let e : next g lent look c ≡ moved (after x (replicate n mark ++ c .registers) (c .tokens)) = next-is h look x limit ∙ ap (λ b. cond b (blocked 31) (step c (frame (x .production) (x .rest) ∷ x .below) (replicate n mark ++ c .registers))) (le-ltb (lent .maxRegisters) (length (c .registers) + n) (omega arith)) in
-      (after x (replicate n mark ++ c .registers) (c .tokens), e, onward-held look ok x m ps (run .at + 1) (run .registers + n) (run .tokens) (c .tokens) (replicate n mark ++ c .registers) limit e refl t (omega arith) (laid-add (h .registers) n (omega arith)) (rw (← (place-same g (x .production) (add n) (x .rest) refl refl (x .ahead .ordered))) (top-laid x)))
+      let e : next g lent look c ≡ moved (after x (replicate n mark ++ c .registers) (c .tokens)) = next-is h look x limit
+      ∙ ap (λ b. cond b (blocked 31) (step c (frame (x .production) (x .rest) ∷ x .below) (replicate n mark ++ c .registers))) (le-ltb (lent .maxRegisters) (length (c .registers) + n) (omega arith)) in (
+        after x (replicate n mark ++ c .registers) (c .tokens),
+        e,
+        onward-held look ok x m ps (run .at + 1) (run .registers + n) (run .tokens) (c .tokens) (replicate n mark ++ c .registers) limit e refl t (omega arith)
+            (laid-add (h .registers) n (omega arith)) (rw (← (place-same g (x .production) (add n) (x .rest) refl refl (x .ahead .ordered))) (top-laid x)),
+      )
 
   pub blocked-add : (look : Coming) → run .moves < movesLimit → getD ws (run .at) 0 % 8 ≡ 0 → length m < run .registers + getD ws (run .at) 0 / 8 → Made g ws lent (next g lent look c) m ps m ps (Blocked 31)
   blocked-add look limit o fits =
@@ -136,9 +142,9 @@ module _ {g : Grammar} {ws : List ℕ} {lent : Lent} {m : List ℤ} {ps : List �
     pub rules : List (Rule ℕ)
     pub hand : Hand g ws (run .at) c (evaluate rules)
     pub count : operandHere ≡ length rules
-    pub few : operandHere ≤ 8
     pub inside : run .at + 1 + 2 * operandHere ≤ length ws
     pub ready : Evaluates ws (run .at + 1) operandHere (stack (run .registers) m)
+    pub marked : (q : Rule ℕ) → In q rulesHere → readRegister (stack (run .registers) m) (q .target) ≡ mark
     pub done : {b : Bool} {m′ : List ℤ} → Evaluated rulesHere (run .registers) m b m′ → (b ≡ valuesFit rules (c .registers)) × LaidIn mark (lent .maxRegisters) m′ (run .registers) (afterRules b rules (c .registers))
 
   pub rules-here : getD ws (run .at) 0 % 8 ≡ 1 → Rules
@@ -150,9 +156,9 @@ module _ {g : Grammar} {ws : List ℕ} {lent : Lent} {m : List ℤ} {ps : List �
         rules = r .0;
         hand = r .1;
         count = r .2;
-        few = omega (arith, r .2, p .1);
         inside = omega (arith, stands-within (k .words), rules-length (r .0), r .2);
         ready = rw (r .2) (evaluate-ready (h .registers) (r .0) k (p .2) (r .1 .handled));
+        marked = rw (r .2, rules-read (r .0) k (p .2), laid-stack (h .registers)) (fresh g (h .wellFormed) c (h .shaped) (r .1 .production) (evaluate (r .0)) (r .1 .rest) (r .1 .below) (r .1 .frames));
         done = λ {b} {m′} v. evaluate-done (h .registers) (r .0) k (p .2) (subst (λ n. Evaluated (rulesFrom ws (run .at + 1) n) (run .registers) m b m′) (r .2) v);
       }
 
@@ -163,8 +169,12 @@ module _ {g : Grammar} {ws : List ℕ} {lent : Lent} {m : List ℤ} {ps : List �
       let x = r .hand in
       let rs : List ℤ = writeAll (r .rules) (c .registers) (c .registers) in
       let d = r .done v in
-      let e : next g lent look c ≡ moved (after x rs (c .tokens)) = next-is h look x limit ∙ ap (λ b. cond b (step c (frame (x .production) (x .rest) ∷ x .below) rs) (blocked 23)) (sym (d .0)) in
-      (after x rs (c .tokens), e, onward-held look ok x m′ ps (run .at + 1 + 2 * operandHere) (run .registers) (run .tokens) (c .tokens) rs limit e (omega (arith, r .count, rules-length (r .rules))) (h .tokens) (omega arith) (d .1) (rw (← (place-same g (x .production) (evaluate (r .rules)) (x .rest) refl refl (x .ahead .ordered))) (top-laid x)))
+      let e : next g lent look c ≡ moved (after x rs (c .tokens)) = next-is h look x limit ∙ ap (λ b. cond b (step c (frame (x .production) (x .rest) ∷ x .below) rs) (blocked 23)) (sym (d .0)) in (
+        after x rs (c .tokens),
+        e,
+        onward-held look ok x m′ ps (run .at + 1 + 2 * operandHere) (run .registers) (run .tokens) (c .tokens) rs limit e (omega (arith, r .count, rules-length (r .rules))) (h .tokens) (omega arith) (d .1)
+            (rw (← (place-same g (x .production) (evaluate (r .rules)) (x .rest) refl refl (x .ahead .ordered))) (top-laid x)),
+      )
 
   pub blocked-evaluate : (look : Coming) → run .moves < movesLimit → getD ws (run .at) 0 % 8 ≡ 1 → (m′ : List ℤ) → Evaluated rulesHere (run .registers) m false m′ → Made g ws lent (next g lent look c) m ps m′ ps (Blocked 23)
   blocked-evaluate look limit o m′ v =
@@ -219,8 +229,12 @@ module _ {g : Grammar} {ws : List ℕ} {lent : Lent} {m : List ℤ} {ps : List �
   made-test look ok limit o v =
       let r = conditions-here o in
       let x = r .hand in
-      let e : next g lent look c ≡ moved (after x (c .registers) (c .tokens)) = next-is h look x limit ∙ ap (λ b. cond b (step c (frame (x .production) (x .rest) ∷ x .below) (c .registers)) (blocked 22)) (sym (v ∙ r .done)) in
-      (after x (c .registers) (c .tokens), e, onward-held look ok x m (countIf true (run .places) ps) (run .at + 1 + 3 * operandHere) (run .registers) (run .tokens) (c .tokens) (c .registers) limit e (omega (arith, r .count, conditions-length (r .conditions))) (h .tokens) (omega arith) (h .registers) (counted (placeOf g (frame (x .production) (x .rest))) (place-tested g (x .production) (r .conditions) (x .rest) (x .ahead .ordered) (omega (arith, x .ahead .few))) (top-laid x)))
+      let e : next g lent look c ≡ moved (after x (c .registers) (c .tokens)) = next-is h look x limit ∙ ap (λ b. cond b (step c (frame (x .production) (x .rest) ∷ x .below) (c .registers)) (blocked 22)) (sym (v ∙ r .done)) in (
+        after x (c .registers) (c .tokens),
+        e,
+        onward-held look ok x m (countIf true (run .places) ps) (run .at + 1 + 3 * operandHere) (run .registers) (run .tokens) (c .tokens) (c .registers) limit e
+            (omega (arith, r .count, conditions-length (r .conditions))) (h .tokens) (omega arith) (h .registers) (counted (placeOf g (frame (x .production) (x .rest))) (place-tested g (x .production) (r .conditions) (x .rest) (x .ahead .ordered) (omega (arith, x .ahead .few))) (top-laid x)),
+      )
 
   pub blocked-test : (look : Coming) → run .moves < movesLimit → getD ws (run .at) 0 % 8 ≡ 4 → false ≡ all (holds (readRegister (stack (run .registers) m))) conditionsHere → Made g ws lent (next g lent look c) m ps m ps (Blocked 22)
   blocked-test look limit o v =

@@ -91,7 +91,8 @@ module _ {g : Grammar} {ws : List ℕ} {lent : Lent} {m : List ℤ} {ps : List �
   tokenHere = getD ws (run .at) 0 / 8
 
   -- the token expected is read, and leaves its values, if there is room for them
-  reads : (lent′ : Lent) (u : Leaf) (x : Hand g ws (run .at) c (expect (terminal tokenHere))) → run .moves < movesLimit → tokenHere ≡ u .kind → length (c .registers) + length (u .values) ≤ lent′ .maxRegisters → next g lent′ (comes u) c ≡ moved (after h x (u .values ++ c .registers) (suc (c .tokens)))
+  reads : (lent′ : Lent) (u : Leaf) (x : Hand g ws (run .at) c (expect (terminal tokenHere))) → run .moves < movesLimit → tokenHere ≡ u .kind → length (c .registers) + length (u .values) ≤ lent′ .maxRegisters
+      → next g lent′ (comes u) c ≡ moved (after h x (u .values ++ c .registers) (suc (c .tokens)))
   reads lent′ u x limit e room =
       let d = after h x (u .values ++ c .registers) (suc (c .tokens)) in
       next-in h lent′ (comes u) x limit
@@ -126,8 +127,12 @@ module _ {g : Grammar} {ws : List ℕ} {lent : Lent} {m : List ℤ} {ps : List �
       let t : Leaf = record { kind = u; values = vs } in
       let is : next g lent (comingOf u v) c ≡ moved d = ap (λ a. next g lent a c) (expected-is u v o e ∙ ap (λ z. comes (record { kind = u; values = z })) q) ∙ reads lent t x limit e room in
       let few : 1 + expects (x .rest) ≤ length (productionAt g (x .production) .right) = omega (arith, x .ahead .few) in
-      let k = h .tokens in
-      (d, is, onward-held h (comingOf u v) ok x m′ ps′ (run .at + 1) r (run .tokens + 1) (suc (c .tokens)) (vs ++ c .registers) limit is refl (omega arith) (omega arith) l (passed-laid (x .production) (terminal tokenHere) (x .rest) (read-over x limit) (ahead-next (x .production) (expect (terminal tokenHere)) (x .rest) (x .ahead)) few (top-laid h x)))
+      let k = h .tokens in (
+        d,
+        is,
+        onward-held h (comingOf u v) ok x m′ ps′ (run .at + 1) r (run .tokens + 1) (suc (c .tokens)) (vs ++ c .registers) limit is refl (omega arith) (omega arith) l
+            (passed-laid (x .production) (terminal tokenHere) (x .rest) (read-over x limit) (ahead-next (x .production) (expect (terminal tokenHere)) (x .rest) (x .ahead)) few (top-laid h x)),
+      )
 
   pub made-read : (u : ℕ) (v : ℤ) → IsAhead g (comingOf u v) → run .moves < movesLimit → getD ws (run .at) 0 % 8 ≡ 2 → tokenHere ≡ u → isMark v ≡ true
       → Made g ws lent (next g lent (comingOf u v) c) m ps m (passed ws (run .at + 1) (run .places) ps) (Moved (record { tokens = run .tokens + 1; moves = run .moves + 1; registers = run .registers; places = run .places; at = run .at + 1 }))
@@ -287,7 +292,8 @@ module _ {g : Grammar} {ws : List ℕ} {lent : Lent} {m : List ℤ} {ps : List �
       let f : frame (s .production) (s .rest) ∷ s .below ≡ frame (x .production) (remove removedHere ∷ x .rest) ∷ x .below = s .isFrames ∙ x .frames in
       let listed : eqb (s .production) whole ≡ false = removes-listed (s .due) (ap (λ fs. firstOperation (topFrame fs .rest)) f) in
       let y : Parent g (x .below) = subst (Parent g) (ap (drop 1) f) (parent g (h .wellFormed) (s .stands) listed) in
-      let l : LaidIn 0 (lent .maxPlaces) ps (run .places) (placeOf g (frame (x .production) (remove removedHere ∷ x .rest)) ∷ map (placeOf g) (frame (y .production) (expect (y .symbol) ∷ y .rest) ∷ y .below)) = subst (λ fs. LaidIn 0 (lent .maxPlaces) ps (run .places) (placeOf g (frame (x .production) (remove removedHere ∷ x .rest)) ∷ map (placeOf g) fs)) (y .frames) (top-laid h x) in
+      let l : LaidIn 0 (lent .maxPlaces) ps (run .places) (placeOf g (frame (x .production) (remove removedHere ∷ x .rest)) ∷ map (placeOf g) (frame (y .production) (expect (y .symbol) ∷ y .rest) ∷ y .below)) = subst
+      (λ fs. LaidIn 0 (lent .maxPlaces) ps (run .places) (placeOf g (frame (x .production) (remove removedHere ∷ x .rest)) ∷ map (placeOf g) fs)) (y .frames) (top-laid h x) in
       let k = l .height in
       record {
         hand = x;

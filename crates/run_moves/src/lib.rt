@@ -1,5 +1,5 @@
 // The moves of 01 on lent stacks but for the predict, by the program's words.
-ghost use Prim.Native.Nat.{_+_, _-_, _/_, _%_, _≤_, _<_};
+ghost use Prim.Native.Nat.{_+_, _-_, _≤_, _<_};
 ghost use mathlib.Core.Path.{_≡_};
 ghost use mathlib.Core.Bool.{true};
 ghost use lib.ListN.{length, getD};
@@ -77,7 +77,7 @@ pub fn pass(places: &mut [u32], height: usize, program: &[u32], at: usize)
     requires { ⌜ ((1 ≤ height) × (height ≤ length (now places)) × (getD (now places) (height - 1) 0 < 65536)) × (at < length (now program)) ⌝ }
     ensures { λ r. ⌜ now (places .exit) ≡ passed (now (program .entry)) at height (now (places .entry)) ⌝ }
 {
-    if word_at(program, at) % 8 == 4 {
+    if program_parts::operation(word_at(program, at)) == operations::TEST {
         return;
     }
     count(places, height);
@@ -88,10 +88,12 @@ pub fn resume(program: &[u32], place: usize) -> usize
     requires { ⌜ Resumes (now program) place ⌝ }
     ensures { λ r. ⌜ ((g : Grammar) → Begins g (now (program .entry)) → WellFormed g → Waiting g place → r ≡ placeAddress g place) ⌝ }
 {
-    let production = place / 256;
+    let production = program_parts::production(place);
     if production == WHOLE {
-        return place % 256;
+        return program_parts::passed(place);
     }
-    let body = word_at(program, word_at(program, 2) + 8 * production + 4);
-    word_at(program, body + place % 256)
+    let record = word_at(program, program_parts::RECORDS)
+        + program_parts::RECORD_WORDS * production;
+    let body = word_at(program, record + program_parts::BODY);
+    word_at(program, body + program_parts::passed(place))
 }

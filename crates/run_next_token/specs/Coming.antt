@@ -1,16 +1,15 @@
 -- What comes next, one after the other: tokens that are fed, or the end; as a grammar sees them and as the code brings them.
-use Prim.Native.Nat.{ℕ, zero, suc, _+_, _/_, _%_, _^_, _≤_, _<_}
+use Prim.Native.Nat.{ℕ, zero, suc, _≤_, _<_}
 use native.Mathlib.Omega.{arith}
 use mathlib.Core.Path.{_≡_, refl, ap, _∙_, subst}
 use mathlib.Core.Bool.{Bool, true, false, not}
 use mathlib.Core.List.{List, [], _∷_}
 use lib.ListN.{length, getD, drop}
-use lib.Dec.{T, eqb, eqb→eq, ltb, le→leb}
+use lib.Dec.{T, eqb, ltb, le→leb}
 use lib.IntN.{ℤ, pos, negsuc}
 use lib.Signed.{leZ}
 use mir.Syntax.{w32}
 use mir.Val.{SFits}
-use borrow.Author.Tests.{eq-eqb}
 use Rattle.meaning.specs.Base.{any}
 use Rattle.meaning.specs.Grammar.{Grammar, Token, carried, leafOf}
 use Rattle.meaning.specs.Rules.{fourBytes}
@@ -18,7 +17,6 @@ use Rattle.meaning.specs.Calls.{isMark, tokensFrom}
 use Rattle.meaning.specs.Machine.{Config, Lent, Coming, comes, ends, Settled, stopped, failed, advanceFrom}
 use Rattle.theory_base.specs.Members.{true→T, and}
 use Rattle.theory_base.specs.Feeds.{leaf-of}
-use Rattle.theory_sets.specs.Widths.{both-true}
 use Rattle.theory_answers.specs.FitTest.{mark-is}
 use Rattle.theory_answers.specs.ShapeMoves.{IsAhead}
 use Rattle.theory_program.specs.Addresses.{Begins}
@@ -50,10 +48,7 @@ not-mark v h = go (isMark v) refl
 
 module _ {g : Grammar} {ws : List ℕ} (b : Begins g ws) (u : ℕ) (v : ℤ) (small : u < 64) (four : T (fourBytes v)) where
   carries-is : carriesAt ws u ≡ any (eqb u) (g .carrying)
-  carries-is =
-      let n : ℕ = getD ws (7 + u / 32) 0 / 2 ^ (u % 32) % 2 in
-      let h = carrier-word b u small in
-      both-true (carriesAt ws u) (any (eqb u) (g .carrying)) (λ t. h .0 (eqb→eq n 1 t)) (λ t. true→T (carriesAt ws u) (eq-eqb n 1 (h .1 t)))
+  carries-is = carrier-word b u small
 
   abbrev seen : Bool → Bool → Coming
   seen true c = ends

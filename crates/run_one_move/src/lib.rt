@@ -18,7 +18,7 @@ pub fn one(
     requires { ⌜ ReadyForMove (now program) (now registers) (now places) run (getD (now program) (run .at) 0 % 8) × (getD (now program) (run .at) 0 % 8 ≤ 5) × (look < 64) ⌝ }
     ensures { λ r. ⌜ Answers (now (program .entry)) (now (registers .entry)) (now (places .entry)) run (comingOf look value) (now (registers .exit)) (now (places .exit)) r ⌝ }
 {
-    match run_moves::word_at(program, run.at) % 8 {
+    match program_parts::operation(run_moves::word_at(program, run.at)) {
         operations::ADD => run_rules::add(registers, program, run),
         operations::EVALUATE => run_rules::evaluate(registers, program, run),
         operations::READ => run_read::read(registers, places, program, run, look, value),

@@ -18,7 +18,7 @@ fn open_lent(registers: &mut [i64], places: &mut [u32], program: &[u32]) -> Hand
     requires { ⌜ (length (now registers) ≤ 4096) × (length (now places) ≤ 1024) × (4 < length (now program)) ⌝ }
     ensures { λ r. ⌜ ((g : Grammar) → Begins g (now (program .entry)) → handedIs r (now (registers .exit)) (now (places .exit)) ≡ openOf g (stacksOf (now (registers .entry)) (now (places .entry)))) ⌝ }
 {
-    let count = run_moves::word_at(program, 4);
+    let count = run_moves::word_at(program, program_parts::REGISTERS);
     if registers.len() < count {
         return not_opened(Answer::Refused {
             number: 31,

@@ -18,8 +18,11 @@ pub fn predict(
     requires { ⌜ ReadyForMove (now program) (now registers) (now places) run 3 × (look < 64) ⌝ }
     ensures { λ r. ⌜ ((ahead : Coming) → asLook ahead ≡ lookOf look → Answers (now (program .entry)) (now (registers .entry)) (now (places .entry)) run ahead (now (registers .entry)) (now (places .exit)) r) ⌝ }
 {
-    let n = run_moves::word_at(program, run.at) / 8;
-    let first = run_moves::word_at(program, 9 + 64 * n + look);
+    let n = program_parts::operand(run_moves::word_at(program, run.at));
+    let first = run_moves::word_at(
+        program,
+        program_parts::DIRECTORY + program_parts::DIRECTORY_WORDS * n + look,
+    );
     if first == 0 {
         return Step::Blocked(run_moves::unexpected(look));
     }
@@ -34,7 +37,10 @@ pub fn predict(
     places[height] = (256 * (p - 1)) as u32;
     let mut next = run_moves::counted(
         run,
-        run_moves::word_at(program, run_alternatives::record_of(program, p) + 6),
+        run_moves::word_at(
+            program,
+            run_alternatives::record_of(program, p) + program_parts::SCHEME,
+        ),
     );
     next.places = height + 1;
     Step::Moved(next)

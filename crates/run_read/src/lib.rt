@@ -44,7 +44,7 @@ pub fn read(
     requires { ⌜ ReadyForMove (now program) (now registers) (now places) run 2 ⌝ }
     ensures { λ r. ⌜ Answers (now (program .entry)) (now (registers .entry)) (now (places .entry)) run (comingOf look value) (now (registers .exit)) (now (places .exit)) r ⌝ }
 {
-    if run_moves::word_at(program, run.at) / 8 != look {
+    if program_parts::operand(run_moves::word_at(program, run.at)) != look {
         return Step::Blocked(run_moves::unexpected(look));
     }
     if !value::is_mark(value) {

@@ -1,18 +1,23 @@
 // Conditions tested and rules evaluated on the register stack, by the program's words.
-ghost use Prim.Native.Nat.{_≤_};
+ghost use Prim.Native.Nat.{_≤_, _<_};
 ghost use mathlib.Core.Path.{_≡_};
 ghost use mathlib.Core.Bool.{true};
-ghost use lib.ListN.{length, take};
+ghost use mathlib.Core.List.{List};
+ghost use lib.IntN.{ℤ};
+ghost use lib.ListN.{length, getD};
 ghost use Rattle.meaning.specs.Base.{all};
 ghost use Rattle.meaning.specs.Machine.{readRegister};
 ghost use Rattle.meaning.specs.Rules.{Reads};
 ghost use Rattle.meaning.specs.Table.{signed};
-ghost use Rattle.meaning.specs.Value.{apply, holds, inRange};
+ghost use Rattle.meaning.specs.Calls.{lay};
+ghost use Rattle.meaning.specs.Value.{apply, holds, inRange, mark};
 ghost use Rattle.value.specs.Ranged.{ranged};
 ghost use Rattle.theory_program.specs.Unpacked.{ruleFrom, conditionFrom};
 ghost use Rattle.run_registers.specs.Stack.{stack};
-ghost use Rattle.run_registers.specs.Read.{Valued, Tests, conditionsFrom, rulesFrom, Evaluates, Computed, Evaluated};
+ghost use Rattle.run_registers.specs.Read.{Valued, Tests, conditionsFrom, rulesFrom, Evaluates, Evaluated};
 ghost use Rattle.run_registers.specs.Operand.{Fetched, operandOf, Applies};
+ghost use Rattle.run_register_rules.specs.Common.{common};
+ghost use Rattle.run_register_rules.specs.Remarked.{remarked, TargetsMarked};
 
 // ---- test
 
@@ -21,12 +26,13 @@ fn condition(registers: &[i64], height: usize, word: u32, low: u32, high: u32) -
     requires { ⌜ (height ≤ length (now registers)) × Reads (Valued (stack height (now registers))) (conditionFrom word low high) ⌝ }
     ensures { λ r. ⌜ r ≡ holds (readRegister (stack height (now (registers .entry)))) (conditionFrom word low high) ⌝ }
 {
-    let a = run_registers::read(registers, height, word % 128);
-    if word / 128 % 16 == 0 {
+    let a = run_registers::read(registers, height, program_parts::condition_first(word));
+    let kind = program_parts::condition_kind(word);
+    if kind == 0 {
         return value::in_bounds(a, value::constant(low), value::constant(high));
     }
-    let b = run_registers::read(registers, height, word / 2048 % 128);
-    if word / 128 % 16 == 1 {
+    let b = run_registers::read(registers, height, program_parts::condition_second(word));
+    if kind == 1 {
         return value::at_most(a, b);
     }
     value::at_most_plus(a, b, value::constant(low))
@@ -45,7 +51,7 @@ pub fn test(registers: &[i64], height: usize, program: &[u32], at: usize, count:
         let high = program[p + 2];
         if condition(registers, height, word, low, high) {
             i += 1;
-            p += 3;
+            p += program_parts::CONDITION_WORDS;
         } else {
             return false;
         }
@@ -71,67 +77,56 @@ fn result(registers: &[i64], height: usize, word: u32, constant: u32) -> i64
     requires { ⌜ (height ≤ length (now registers)) × Applies (stack height (now registers)) word constant ⌝ }
     ensures { λ r. ⌜ r ≡ ranged (apply (readRegister (stack height (now (registers .entry)))) (ruleFrom word constant .function)) ⌝ }
 {
-    let a = operand(registers, height, word / 2048 % 128, constant);
-    let b = operand(registers, height, word / 262144, constant);
-    value_functions::compute(word / 128 % 16, a, b)
+    let a = operand(registers, height, program_parts::rule_first(word), constant);
+    let b = operand(
+        registers,
+        height,
+        program_parts::rule_second(word),
+        constant,
+    );
+    value_functions::compute(program_parts::rule_function(word), a, b)
 }
 
-// The values of `count` rules, whose words stand from `at` on, into `values`; false at the first one out of range.
-fn compute_all(
-    registers: &[i64],
-    height: usize,
-    program: &[u32],
-    at: usize,
-    count: usize,
-    values: &mut [i64],
-) -> bool
-    requires { ⌜ (height ≤ length (now registers)) × (count ≤ length (now values)) × Evaluates (now program) at count (stack height (now registers)) ⌝ }
-    ensures { λ r. ⌜ Computed (rulesFrom (now (program .entry)) at count) (stack height (now (registers .entry))) r (take count (now (values .exit))) ⌝ }
+// Whether the function of the rule at `at` is a common one: a constant, a copy, a sum, or a sum with a constant.
+pub fn is_common(program: &[u32], at: usize) -> bool
+    requires { ⌜ at < length (now program) ⌝ }
+    ensures { λ r. ⌜ r ≡ common (getD (now (program .entry)) at 0) ⌝ }
 {
-    let mut i = 0;
-    let mut p = at;
-    while i < count {
-        let word = program[p];
-        let constant = program[p + 1];
-        let v = result(registers, height, word, constant);
-        if value::is_mark(v) {
-            return false;
-        }
-        values[i] = v;
-        i += 1;
-        p += 2;
+    let function = program_parts::rule_function(program[at]);
+    if function < 3 {
+        return true;
     }
-    true
+    function == 7
 }
 
-// The value of a rule, as `result` has it; the functions met most often go straight to their operands.
+// The value of a rule of a common function, as `result` has it.
 fn direct(registers: &[i64], height: usize, word: u32, constant: u32) -> i64
-    requires { ⌜ (height ≤ length (now registers)) × Applies (stack height (now registers)) word constant ⌝ }
+    requires { ⌜ (height ≤ length (now registers)) × Applies (stack height (now registers)) word constant × (common word ≡ true) ⌝ }
     ensures { λ r. ⌜ r ≡ ranged (apply (readRegister (stack height (now (registers .entry)))) (ruleFrom word constant .function)) ⌝ }
 {
-    match word / 128 % 16 {
-        0 => value::constant(constant),
-        1 => run_registers::read(registers, height, word / 2048 % 128),
-        2 => value_functions::sum(
-            run_registers::read(registers, height, word / 2048 % 128),
-            run_registers::read(registers, height, word / 262144),
-        ),
-        7 => value_functions::sum(
-            run_registers::read(registers, height, word / 2048 % 128),
-            value::constant(constant),
-        ),
-        _ => result(registers, height, word, constant),
+    let function = program_parts::rule_function(word);
+    if function == 0 {
+        return value::constant(constant);
     }
+    let a = run_registers::read(registers, height, program_parts::rule_first(word));
+    if function == 1 {
+        return a;
+    }
+    if function == 2 {
+        let b = run_registers::read(registers, height, program_parts::rule_second(word));
+        return value_functions::sum(a, b);
+    }
+    value_functions::sum(a, value::constant(constant))
 }
 
-// Evaluates one rule, whose words stand at `at`: its value is written at once.
+// Evaluates one rule of a common function, whose words stand at `at`: its value is written at once.
 pub fn evaluate_one(registers: &mut [i64], height: usize, program: &[u32], at: usize) -> bool
-    requires { ⌜ (height ≤ length (now registers)) × Evaluates (now program) at 1 (stack height (now registers)) ⌝ }
+    requires { ⌜ (height ≤ length (now registers)) × Evaluates (now program) at 1 (stack height (now registers)) × (common (getD (now program) at 0) ≡ true) ⌝ }
     ensures { λ r. ⌜ Evaluated (rulesFrom (now (program .entry)) at 1) height (now (registers .entry)) r (now (registers .exit)) ⌝ }
 {
     let word = program[at];
     let constant = program[at + 1];
-    let below = (word % 128) as usize;
+    let below = program_parts::rule_target(word) as usize;
     let v = direct(registers, height, word, constant);
     if value::is_mark(v) {
         return false;
@@ -140,7 +135,23 @@ pub fn evaluate_one(registers: &mut [i64], height: usize, program: &[u32], at: u
     true
 }
 
-// Evaluates `count` rules, whose words stand from `at` on. 01: "all or none".
+// Marks the targets of `count` rules, whose words stand from `at` on, again.
+fn mark_again(registers: &mut [i64], height: usize, program: &[u32], at: usize, count: usize)
+    requires { ⌜ (height ≤ length (now registers)) × ((rs : List ℤ) × (length rs ≡ height) × Evaluates (now program) at count rs) ⌝ }
+    ensures { λ r. ⌜ now (registers .exit) ≡ lay height mark (remarked (rulesFrom (now (program .entry)) at count) (stack height (now (registers .entry)))) (now (registers .entry)) ⌝ }
+{
+    let mut i = 0;
+    let mut p = at;
+    while i < count {
+        let word = program[p];
+        let below = program_parts::rule_target(word) as usize;
+        registers[height - below] = value::MARK;
+        i += 1;
+        p += program_parts::RULE_WORDS;
+    }
+}
+
+// Evaluates `count` rules, whose words stand from `at` on. 01: "all or none". A value is written at once: targets stand marked, so no rule reads one.
 pub fn evaluate(
     registers: &mut [i64],
     height: usize,
@@ -148,13 +159,23 @@ pub fn evaluate(
     at: usize,
     count: usize,
 ) -> bool
-    requires { ⌜ (height ≤ length (now registers)) × (count ≤ 8) × Evaluates (now program) at count (stack height (now registers)) ⌝ }
+    requires { ⌜ (height ≤ length (now registers)) × Evaluates (now program) at count (stack height (now registers)) × TargetsMarked (rulesFrom (now program) at count) (stack height (now registers)) ⌝ }
     ensures { λ r. ⌜ Evaluated (rulesFrom (now (program .entry)) at count) height (now (registers .entry)) r (now (registers .exit)) ⌝ }
 {
-    let mut values = [0i64; 8];
-    if compute_all(registers, height, program, at, count, &mut values) {
-        run_registers::write_all(registers, height, program, at, count, &values);
-        return true;
+    let mut i = 0;
+    let mut p = at;
+    while i < count {
+        let word = program[p];
+        let constant = program[p + 1];
+        let below = program_parts::rule_target(word) as usize;
+        let v = result(registers, height, word, constant);
+        if value::is_mark(v) {
+            mark_again(registers, height, program, at, count);
+            return false;
+        }
+        registers[height - below] = v;
+        i += 1;
+        p += program_parts::RULE_WORDS;
     }
-    false
+    true
 }

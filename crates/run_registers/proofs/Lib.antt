@@ -2,5 +2,3 @@
 pub mod Bits
 -- The loops, a turn at a time
 pub mod Loops
--- The two loops of an evaluation, a turn at a time: the values are computed, then written
-pub mod Evaluating

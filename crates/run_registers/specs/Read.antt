@@ -4,7 +4,7 @@ use native.Mathlib.Omega.{arith}
 use mathlib.Core.Path.{_≡_, refl, sym, ap₂, subst}
 use mathlib.Core.Logic.{inl, inr}
 use mathlib.Core.Bool.{Bool, true, false}
-use mathlib.Core.List.{List, [], _∷_, map}
+use mathlib.Core.List.{List, [], _∷_}
 use lib.ListN.{length, getD}
 use lib.Dec.{T}
 use lib.IntN.{ℤ}
@@ -92,11 +92,6 @@ valuesFit rules rs = all (λ r. inRange (ruleValue rs r)) rules
 abbrev pub afterRules : Bool → List (Rule ℕ) → List ℤ → List ℤ
 afterRules true rules rs = writeAll rules rs rs
 afterRules false rules rs = rs
-
--- the answer, and the values where it is yes
-pub record Computed (rules : List (Rule ℕ)) (rs : List ℤ) (r : Bool) (vs : List ℤ) : Type 0 where
-  pub answer : r ≡ valuesFit rules rs
-  pub values : r ≡ true → vs ≡ map (ruleValue rs) rules
 
 -- from memory m, whose first h cells are the stack, to m′
 pub record Evaluated (rules : List (Rule ℕ)) (h : ℕ) (m : List ℤ) (r : Bool) (m′ : List ℤ) : Type 0 where

@@ -11,10 +11,13 @@ pub fn test(registers: &[i64], places: &mut [u32], program: &[u32], run: Run) ->
     requires { ⌜ ReadyForMove (now program) (now registers) (now places) run 4 ⌝ }
     ensures { λ r. ⌜ ((ahead : Machine.Coming) → Answers (now (program .entry)) (now (registers .entry)) (now (places .entry)) run ahead (now (registers .entry)) (now (places .exit)) r) ⌝ }
 {
-    let n = run_moves::word_at(program, run.at) / 8;
+    let n = program_parts::operand(run_moves::word_at(program, run.at));
     if run_register_rules::test(registers, run.registers, program, run.at + 1, n) {
         run_moves::count(places, run.places);
-        return Step::Moved(run_moves::counted(run, run.at + 1 + 3 * n));
+        return Step::Moved(run_moves::counted(
+            run,
+            run.at + 1 + program_parts::CONDITION_WORDS * n,
+        ));
     }
     Step::Blocked(22)
 }
@@ -26,7 +29,7 @@ pub fn remove(registers: &mut [i64], places: &mut [u32], program: &[u32], run: R
     requires { ⌜ ReadyForMove (now program) (now registers) (now places) run 5 ⌝ }
     ensures { λ r. ⌜ ((ahead : Machine.Coming) → Answers (now (program .entry)) (now (registers .entry)) (now (places .entry)) run ahead (now (registers .exit)) (now (places .exit)) r) ⌝ }
 {
-    let n = run_moves::word_at(program, run.at) / 8;
+    let n = program_parts::operand(run_moves::word_at(program, run.at));
     run_registers::remove(registers, run.registers, n);
     let height = run.places - 1;
     let waiting = run_moves::word_at(places, height - 1);

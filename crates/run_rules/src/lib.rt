@@ -1,9 +1,12 @@
 // The moves that add registers and evaluate rules into them.
-ghost use Prim.Native.Nat.{ℕ, _/_};
+ghost use Prim.Native.Nat.{ℕ, _+_};
 ghost use mathlib.Core.Path.{_≡_};
+ghost use mathlib.Core.Bool.{true};
 ghost use mathlib.Core.List.{List};
 ghost use lib.ListN.{getD};
 ghost use Rattle.meaning.specs.Machine as Machine;
+ghost use Rattle.theory_program.specs.Parts.{headOperand};
+ghost use Rattle.run_register_rules.specs.Common.{common};
 ghost use Rattle.run_moves.specs.Held.{ReadyForMove, Answers};
 use run_moves::Run;
 use run_moves::Step;
@@ -15,7 +18,7 @@ pub fn add(registers: &[i64], program: &[u32], run: Run) -> Step
     requires { ⌜ ((ps : List ℕ) × ReadyForMove (now program) (now registers) ps run 0) ⌝ }
     ensures { λ r. ⌜ ((ps : List ℕ) (ahead : Machine.Coming) → Answers (now (program .entry)) (now (registers .entry)) ps run ahead (now (registers .entry)) ps r) ⌝ }
 {
-    let n = run_moves::word_at(program, run.at) / 8;
+    let n = program_parts::operand(run_moves::word_at(program, run.at));
     if registers.len() - run.registers < n {
         return Step::Blocked(31);
     }
@@ -26,13 +29,16 @@ pub fn add(registers: &[i64], program: &[u32], run: Run) -> Step
 
 // ---- evaluate
 
-// One rule alone: where the next instruction stands does not wait for the head word.
+// The words of an evaluate of one rule.
+const SINGLE_WORDS: usize = 1 + program_parts::RULE_WORDS;
+
+// One rule alone, of a common function: where the next instruction stands does not wait for the head word.
 fn evaluate_single(registers: &mut [i64], program: &[u32], run: Run) -> Step
-    requires { ⌜ ((ps : List ℕ) × ReadyForMove (now program) (now registers) ps run 1) × (getD (now program) (run .at) 0 / 8 ≡ 1) ⌝ }
+    requires { ⌜ ((ps : List ℕ) × ReadyForMove (now program) (now registers) ps run 1) × (headOperand (getD (now program) (run .at) 0) ≡ 1) × (common (getD (now program) (run .at + 1) 0) ≡ true) ⌝ }
     ensures { λ r. ⌜ ((ps : List ℕ) (ahead : Machine.Coming) → Answers (now (program .entry)) (now (registers .entry)) ps run ahead (now (registers .exit)) ps r) ⌝ }
 {
     if run_register_rules::evaluate_one(registers, run.registers, program, run.at + 1) {
-        return Step::Moved(run_moves::counted(run, run.at + 3));
+        return Step::Moved(run_moves::counted(run, run.at + SINGLE_WORDS));
     }
     Step::Blocked(23)
 }
@@ -42,12 +48,14 @@ pub fn evaluate(registers: &mut [i64], program: &[u32], run: Run) -> Step
     requires { ⌜ ((ps : List ℕ) × ReadyForMove (now program) (now registers) ps run 1) ⌝ }
     ensures { λ r. ⌜ ((ps : List ℕ) (ahead : Machine.Coming) → Answers (now (program .entry)) (now (registers .entry)) ps run ahead (now (registers .exit)) ps r) ⌝ }
 {
-    let n = run_moves::word_at(program, run.at) / 8;
+    let n = program_parts::operand(run_moves::word_at(program, run.at));
     if n == 1 {
-        return evaluate_single(registers, program, run);
+        if run_register_rules::is_common(program, run.at + 1) {
+            return evaluate_single(registers, program, run);
+        }
     }
     if run_register_rules::evaluate(registers, run.registers, program, run.at + 1, n) {
-        return Step::Moved(run_moves::counted(run, run.at + 1 + 2 * n));
+        return Step::Moved(run_moves::counted(run, run.at + 1 + program_parts::RULE_WORDS * n));
     }
     Step::Blocked(23)
 }

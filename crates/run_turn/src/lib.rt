@@ -10,6 +10,7 @@ use limits::MOVES_LIMIT;
 use run_looking::Limits;
 use run_moves::Run;
 use run_moves::Step;
+use run_next_token::read_next;
 
 // The predict for the token at hand.
 fn predict_next(
@@ -44,25 +45,27 @@ pub fn turn(
     requires { ⌜ Fed (limits .bound) (now program) (now registers) (now places) run (now kinds) (now values) × (limits .from ≤ run .tokens) ⌝ }
     ensures { λ r. ⌜ Turned (limits .bound) (limits .most) (now (program .entry)) (now (kinds .entry)) (now (values .entry)) (run .tokens - limits .from) (now (registers .entry)) (now (places .entry)) run (now (registers .exit)) (now (places .exit)) r ⌝ }
 {
-    let operation = run_moves::word_at(program, run.at) % 8;
+    let operation = program_parts::operation(run_moves::word_at(program, run.at));
     if run.moves == MOVES_LIMIT {
         return run_next_token::at_limit(operation, run, kinds, limits);
     }
-    match operation {
-        operations::ADD => run_rules::add(registers, program, run),
-        operations::EVALUATE => run_rules::evaluate(registers, program, run),
-        operations::READ => run_next_token::read_next(
-            registers,
-            places,
-            program,
-            run,
-            kinds,
-            values,
-            limits,
-        ),
-        operations::PREDICT => predict_next(registers, places, program, run, kinds, limits),
-        operations::TEST => run_remove::test(registers, places, program, run),
-        operations::REMOVE => run_remove::remove(registers, places, program, run),
-        _ => run_next_token::nothing_next(run, kinds, limits),
+    if operation < operations::READ {
+        if operation == operations::ADD {
+            return run_rules::add(registers, program, run);
+        }
+        return run_rules::evaluate(registers, program, run);
     }
+    if operation < operations::TEST {
+        if operation == operations::READ {
+            return read_next(registers, places, program, run, kinds, values, limits);
+        }
+        return predict_next(registers, places, program, run, kinds, limits);
+    }
+    if operation == operations::TEST {
+        return run_remove::test(registers, places, program, run);
+    }
+    if operation == operations::REMOVE {
+        return run_remove::remove(registers, places, program, run);
+    }
+    run_next_token::nothing_next(run, kinds, limits)
 }

@@ -1,7 +1,7 @@
 -- The call from a table's bytes: the table's refusal, or what is done under its grammar.
 use Prim.Native.Nat.{ℕ, _+_, _≤_, _<_}
 use native.Mathlib.Omega.{arith}
-use mathlib.Core.Path.{_≡_, refl, sym, ap, _∙_, subst}
+use mathlib.Core.Path.{_≡_, refl, sym, subst}
 use mathlib.Core.List.{List}
 use lib.ListN.{length, getD, take}
 use lib.Seq.{length-take-le}
@@ -11,13 +11,11 @@ use native.Mathlib.Decide.{decLt}
 use Rattle.meaning.specs.Base.{all}
 use Rattle.meaning.specs.Rules.{fourBytes}
 use Rattle.theory_base.specs.Members.{at-all}
-use Rattle.meaning.specs.Table.{State, Read, wellFormed, malformed, readTable, grammarOf}
-use Rattle.meaning.specs.Judgement.{Verdict, accepted, rejected, Accepted}
-use Rattle.meaning.specs.Decide.{judge, verdictOf}
-use Rattle.meaning.specs.PublicCalls.{Checked, usable, unusable, check, checkedAs, areaLength}
+use Rattle.meaning.specs.Table.{grammarOf}
+use Rattle.meaning.specs.Judgement.{accepted}
+use Rattle.meaning.specs.PublicCalls.{usable, areaLength}
 use Rattle.meaning_sheet.specs.SheetCalls.{Sheets, WhenChecked}
-use Rattle.theory_sets.specs.Accepted.{verdict→accepted}
-use Rattle.theory_answers.specs.Called.{checks}
+use Rattle.theory_answers.specs.Called.{usable-accepted}
 use Rattle.theory_complete.specs.CompleteUnique.{only}
 use Rattle.run_fit.specs.HasProgram.{Readable}
 use Rattle.prepare.specs.declared.Made as Made
@@ -56,26 +54,6 @@ pub walks-as : (ws ks : List ℕ) (vs : List ℤ) (a b a′ b′ : ℕ) (before 
 walks-as ws ks vs a b a′ b′ before after r e f w = subst (λ x. SegmentDone ws ks vs a′ x before after r) f (subst (λ x. SegmentDone ws ks vs x b before after r) e w)
 
 -- ---- an accepted table
-
-usable-is : (s u : State) → _≡_ {A = Checked} (usable s) (usable u) → s ≡ u
-usable-is s u e = cc
-
-check-verdict : (t : List ℕ) (s : State) → check t ≡ usable s → verdictOf t ≡ accepted
-check-verdict t s h = go (readTable t) h
-  where
-    by : (u : State) (v : Verdict) → checkedAs u v ≡ usable s → v ≡ accepted
-    by u accepted h = refl
-    by u (rejected n o) h = absurd (let z : _≡_ {A = ℕ} 0 1 = cc in omega arith)
-
-    go : (x : Read) → elim x as (λ z. Checked) [ malformed n o ↦ unusable n o | wellFormed u ↦ checkedAs u (judge u) ] ≡ usable s → elim x as (λ z. Verdict) [ malformed n o ↦ rejected n o | wellFormed u ↦ judge u ] ≡ accepted
-    go (malformed n o) h = absurd (let z : _≡_ {A = ℕ} 0 1 = cc in omega arith)
-    go (wellFormed u) h = by u (judge u) h
-
-usable-accepted : (t : List ℕ) (s : State) → check t ≡ usable s → Accepted t (grammarOf s)
-usable-accepted t s h =
-    let a = verdict→accepted t (check-verdict t s h) in
-    let same : a .1 .state ≡ s = usable-is (a .1 .state) s (sym (checks t (a .0) (a .1)) ∙ h) in
-    subst (Accepted t) (sym (a .1 .isGrammar) ∙ ap grammarOf same) (a .1)
 
 -- ---- by what was made of the table
 

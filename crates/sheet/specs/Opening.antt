@@ -63,4 +63,5 @@ module _ (g : Grammar) (ws : List ℕ) (b : Begins g ws) (f : WellFormed g) (vs 
         let back : configOf g (recordOf true (opening g)) (stacksOf vs′ ps′) ≡ opening g = ap (configOf g (recordOf true (opening g))) (sym laid) ∙ read-back g true (opening g) m stop within in
         let top : 32768 ≡ getD ps′ 0 0 = ap (λ x. getD (x .places) 0 0) laid in
         let h = held-start b f vs′ ps′ (recordOf true (opening g)) fit (omega (arith, d)) (omega (arith, e)) 0 (ap (placeAddress g) top) in
-        subst (λ n. Held g ws (lentOf m) vs′ ps′ (firstRun n) (opening g)) start-size (subst (λ c. Held g ws (lentOf m) vs′ ps′ (firstRun (length (opening g .registers))) c) back (subst (λ l. Held g ws l vs′ ps′ (firstRun (length (opening g .registers))) (configOf g (recordOf true (opening g)) (stacksOf vs′ ps′))) lent h))
+        subst (λ n. Held g ws (lentOf m) vs′ ps′ (firstRun n) (opening g)) start-size
+        (subst (λ c. Held g ws (lentOf m) vs′ ps′ (firstRun (length (opening g .registers))) c) back (subst (λ l. Held g ws l vs′ ps′ (firstRun (length (opening g .registers))) (configOf g (recordOf true (opening g)) (stacksOf vs′ ps′))) lent h))

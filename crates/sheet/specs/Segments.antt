@@ -202,7 +202,7 @@ module _ (ws ks : List ℕ) (vs m : List ℤ) (ps sheet₀ : List ℕ) (few : le
       first-held : (g : Grammar) → Begins g ws → WellFormed g → Held g ws lentHere m′ ps′ (firstRun (getD ws 4 0)) (opening g)
       first-held g b f = subst (λ l. Held g ws l m′ ps′ (firstRun (getD ws 4 0)) (opening g)) lent-is (opened-held g ws b f m ps few little r p m′ ps′ d e (o g b))
 
-      pub first-at : Readable ws → NodeAt ws ks vs m′ ps′ (firstRun (getD ws 4 0)) 0 1023
+      pub first-at : Readable ws → NodeAt ws ks vs m′ ps′ (firstRun (getD ws 4 0)) 0
       first-at w =
           let g = w .grammar in
           let b = w .shown .begins in
@@ -210,7 +210,6 @@ module _ (ws ks : List ℕ) (vs m : List ℤ) (ps sheet₀ : List ℕ) (few : le
           record {
             walking = record { even = even; four = four; grammar = g; lent = lentHere; config = opening g; node = segment-node; below = []; held = first-held g b f; stand = opening-stands g f (tokensAs g ks vs) };
             three = first-three (first-held g b f);
-            depth = omega (arith, little, e);
             room = omega arith;
             few = omega (arith, few, d);
           }
@@ -296,8 +295,9 @@ module _ (ws ks : List ℕ) (vs : List ℤ) (n k : ℕ) (sheet₀ : List ℕ) (e
     pub under-short : length sheet₀ < size → Under ws ks vs n k sheet₀ sheet₀ (Refused 41 0)
     under-short l g b f only =
         let x = w g b f in
+        let u = sheetOf (x .0) in
         by-run g sheet₀ (Refused 41 0) (value v moves) (runs g f ∙ x .2)
-        (x .0, x .1, sym (ap (λ z. elim z as (λ q. SheetEffect) [ true ↦ sheetEffect (turnedBack 41 0) sheet₀ | false ↦ sheetEffect (sheeted v moves (length (sheetOf (x .0)))) (sheetOf (x .0) ++ drop (length (sheetOf (x .0))) sheet₀) ]) (lt-ltb (length sheet₀) (length (sheetOf (x .0))) (omega (arith, l, x .3)))))
+        (x .0, x .1, sym (ap (λ z. elim z as (λ q. SheetEffect) [ true ↦ sheetEffect (turnedBack 41 0) sheet₀ | false ↦ sheetEffect (sheeted v moves (length u)) (u ++ drop (length u) sheet₀) ]) (lt-ltb (length sheet₀) (length u) (omega (arith, l, x .3)))))
 
     pub under-written : size ≤ length sheet₀ → (sheet : List ℕ) (r : Answer.Answer) → Walks sheet₀ sheet r → Under ws ks vs n k sheet₀ sheet r
     under-written l sheet r y g b f only = go r (y g b f)
@@ -314,5 +314,7 @@ module _ (ws ks : List ℕ) (vs : List ℤ) (n k : ℕ) (sheet₀ : List ℕ) (e
             let same : length (sheetOf (x .0)) ≡ length (sheetOf u) = ap (λ t. length (sheetOf t)) (only (x .0) u (x .1) (z .1)) in
             let fits : length (sheetOf u) ≤ length sheet₀ = omega (arith, l, x .3, same) in
             let out : sheet ≡ sheetOf u ++ drop (length (sheetOf u)) sheet₀ = z .4 ∙ overlay-all (sheetOf u) sheet₀ fits in
+            let b₂ = sheetOf u in
+            let n₂ = length b₂ in
             by-run g sheet (Value v₂ moves₂ size₂) (value v₂ moves₂) (runs g f ∙ z .2)
-            (u, z .1, (λ i. sheetEffect (sheeted v₂ moves₂ (z .3 i)) (out i)) ∙ sym (ap (λ q. elim q as (λ y. SheetEffect) [ true ↦ sheetEffect (turnedBack 41 0) sheet₀ | false ↦ sheetEffect (sheeted v₂ moves₂ (length (sheetOf u))) (sheetOf u ++ drop (length (sheetOf u)) sheet₀) ]) (le-ltb (length sheet₀) (length (sheetOf u)) fits)))
+            (u, z .1, (λ i. sheetEffect (sheeted v₂ moves₂ (z .3 i)) (out i)) ∙ sym (ap (λ q. elim q as (λ y. SheetEffect) [ true ↦ sheetEffect (turnedBack 41 0) sheet₀ | false ↦ sheetEffect (sheeted v₂ moves₂ n₂) (b₂ ++ drop n₂ sheet₀) ]) (le-ltb (length sheet₀) n₂ fits)))

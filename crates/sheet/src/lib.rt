@@ -8,8 +8,8 @@ ghost use lib.Dec.{T};
 ghost use Rattle.meaning_sheet.specs.SheetCalls.{Sheets};
 ghost use Rattle.run_fit.specs.HasProgram.{Readable};
 ghost use Rattle.sheet_steps.specs.Numbers.{low, runIn};
+ghost use Rattle.sheet.specs.Starting.{Lacking};
 ghost use Rattle.sheet.specs.Segments.{Opens, Cells, Ends, Ended, SegmentDone, Under, sheetIs};
-use limits::DEPTH;
 use limits::PLACES;
 use limits::REGISTERS;
 use limits::TOKENS_BEFORE;
@@ -41,7 +41,7 @@ fn ended(registers: &[i64], program: &[u32], kinds: &[u8], run: Run, end: usize)
             tokens: run.tokens,
         };
     }
-    if run_moves::word_at(program, 3) <= kinds[n] as usize {
+    if run_moves::word_at(program, program_parts::TERMINALS) <= kinds[n] as usize {
         return Answer::Refused {
             number: 20,
             tokens: run.tokens,
@@ -72,6 +72,19 @@ fn over(registers: &[i64], program: &[u32], kinds: &[u8], numbers: &[u64; 8]) ->
     ended(&registers[..n], program, kinds, run, end)
 }
 
+// 31 or 32 of an opening with so many registers and places, of which the start symbol's results need `count`; 0 where they suffice.
+fn lacking(count: usize, n: usize, k: usize) -> u32
+    ensures { λ r. ⌜ Lacking count n k r ⌝ }
+{
+    if n < count {
+        return 31;
+    }
+    if k == 0 {
+        return 32;
+    }
+    0
+}
+
 // A segment from its opening to its end, with so many registers and places: the start symbol's node.
 fn segment(
     registers: &mut [i64; 4096],
@@ -86,18 +99,10 @@ fn segment(
     requires { ⌜ Readable (now program) × Cells (now registers) (now places) n k × (length (now kinds) ≡ length (now values)) × T (all fourBytes (now values)) ⌝ }
     ensures { λ r. ⌜ SegmentDone (now (program .entry)) (now (kinds .entry)) (now (values .entry)) n k (now (sheet .entry)) (now (sheet .exit)) r ⌝ }
 {
-    let count = run_moves::word_at(program, 4);
-    if n < count {
-        return Answer::Refused {
-            number: 31,
-            tokens: 0,
-        };
-    }
-    if k == 0 {
-        return Answer::Refused {
-            number: 32,
-            tokens: 0,
-        };
+    let count = run_moves::word_at(program, program_parts::REGISTERS);
+    let number = lacking(count, n, k);
+    if number != 0 {
+        return Answer::Refused { number, tokens: 0 };
     }
     open(registers, places, program, n, k);
     let mut numbers = [0u64; 8];
@@ -113,7 +118,6 @@ fn segment(
         values,
         sheet,
         &mut numbers,
-        DEPTH,
     ) {
         return over(registers, program, kinds, &numbers);
     }

@@ -252,7 +252,8 @@ module _ {ws : List ℕ} {m₀ : List ℤ} {ps₀ : List ℕ} {run₀ : Run} (lo
         never false = refl
 
     -- by what is let through, and the move that was tried
-    stepped : {o : Open} {bs : List Ancestor} (tokens : List Leaf) (l : Coming) (m : List ℤ) (ps : List ℕ) (e : Ended.Ended) → T (all (isLeafOf g) tokens) → Stand g tokens o bs c → Fair g c (comingTo c tokens) → lookAt (comingTo c tokens) ≡ l → Tried g ws lent l c m ps e → SteppedAs g ws lent tokens c m ps e
+    stepped : {o : Open} {bs : List Ancestor} (tokens : List Leaf) (l : Coming) (m : List ℤ) (ps : List ℕ) (e : Ended.Ended) → T (all (isLeafOf g) tokens)
+        → Stand g tokens o bs c → Fair g c (comingTo c tokens) → lookAt (comingTo c tokens) ≡ l → Tried g ws lent l c m ps e → SteppedAs g ws lent tokens c m ps e
     stepped tokens l m ps (Stopped run) known s fair z t =
         let a = at-look in
         let n : next g lent (lookAt (comingTo c tokens)) c ≡ moved (t .0) = ap (λ k. next g lent k c) z ∙ t .1 in
@@ -277,7 +278,8 @@ module _ {ws : List ℕ} {m₀ : List ℤ} {ps₀ : List ℕ} {run₀ : Run} (lo
       pub step-20 : (run₀ .tokens) < tokensLimit → getD ws 3 0 ≤ getD ks (run₀ .tokens) 0 → Steps ws ks vs m₀ ps₀ run₀ m₀ ps₀ (Failed run₀ 20)
       step-20 l k g lent c o bs even four h s = record { to = c; held = h; fails = look-20 g lent (comingTo c (tokensAs g ks vs)) c (look-waits h) (leafHere ks vs g (run₀ .tokens)) _ (there h even) (omega (arith, l, h .tokens)) (omega (arith, k, segment-words (h .begins) .terminals)) }
 
-      pub step-token : (m : List ℤ) (ps : List ℕ) (e : Ended.Ended) → (run₀ .tokens) < tokensLimit → getD ks (run₀ .tokens) 0 < getD ws 3 0 → Tries ws m₀ ps₀ run₀ (comingOf (getD ks (run₀ .tokens) 0) (valueAt ws (getD ks (run₀ .tokens) 0) (getD vs (run₀ .tokens) (pos 0)))) m ps e → Steps ws ks vs m₀ ps₀ run₀ m ps e
+      pub step-token : (m : List ℤ) (ps : List ℕ) (e : Ended.Ended) → (run₀ .tokens) < tokensLimit → getD ks (run₀ .tokens) 0 < getD ws 3 0
+          → Tries ws m₀ ps₀ run₀ (comingOf (getD ks (run₀ .tokens) 0) (valueAt ws (getD ks (run₀ .tokens) 0) (getD vs (run₀ .tokens) (pos 0)))) m ps e → Steps ws ks vs m₀ ps₀ run₀ m ps e
       step-token m ps e l k a g lent c o bs even four h s =
           let u = getD ks (run₀ .tokens) 0 in
           let v = getD vs (run₀ .tokens) (pos 0) in

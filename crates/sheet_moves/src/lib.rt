@@ -55,7 +55,7 @@ pub fn settle(registers: &mut [i64], places: &mut [u32], program: &[u32], run: R
 {
     let mut state = run;
     loop {
-        if inside(run_moves::word_at(program, state.at) % 8) {
+        if inside(program_parts::operation(run_moves::word_at(program, state.at))) {
             match made(registers, places, program, state, END, value::MARK) {
                 Ended::Stopped(next) => {
                     state = next;
@@ -90,7 +90,7 @@ pub fn step(
         return Ended::Failed(run, 35);
     }
     let kind = kinds[n] as usize;
-    if run_moves::word_at(program, 3) <= kind {
+    if run_moves::word_at(program, program_parts::TERMINALS) <= kind {
         return Ended::Failed(run, 20);
     }
     let held = run_looking::carried(program, kind, values[n]);

@@ -24,15 +24,17 @@ pub fn attributes(places: &[u32], program: &[u32], run: Run) -> Counts
     if place == SEGMENT {
         return Counts {
             inherited: 0,
-            total: run_moves::word_at(program, 4),
+            total: run_moves::word_at(program, program_parts::REGISTERS),
         };
     }
-    let waits = run_moves::word_at(program, 2) + 8 * run_moves::word_at(program, 6);
-    let word = run_moves::word_at(program, waits + 12 * (place / 256) + place % 256);
-    let inherited = word / 131072 % 16;
+    let waits = run_moves::word_at(program, program_parts::RECORDS)
+        + program_parts::RECORD_WORDS * run_moves::word_at(program, program_parts::PRODUCTIONS);
+    let row = waits + program_parts::WAIT_WORDS * program_parts::production(place);
+    let word = run_moves::word_at(program, row + program_parts::passed(place));
+    let inherited = program_parts::wait_inherited(word);
     Counts {
         inherited,
-        total: inherited + word / 8192 % 16,
+        total: inherited + program_parts::wait_marked(word),
     }
 }
 
@@ -50,8 +52,8 @@ pub fn write_record(
     ensures { λ r. ⌜ Records (now (program .entry)) (now (registers .entry)) (now (places .entry)) run at before (now (sheet .entry)) (now (sheet .exit)) ⌝ }
 {
     let sizes = attributes(places, program, run);
-    let production = run_moves::word_at(places, run.places - 1) / 256;
-    let above = run_moves::word_at(program, run.at) / 8 - sizes.inherited;
+    let production = program_parts::production(run_moves::word_at(places, run.places - 1));
+    let above = program_parts::operand(run_moves::word_at(program, run.at)) - sizes.inherited;
     sheet_bytes::put_four(sheet, at, production as u64);
     sheet_bytes::put_four(sheet, at + 4, before);
     sheet_bytes::put_four(sheet, at + 8, run.tokens - before);

@@ -70,24 +70,26 @@ ListedAs g ws lent tokens c o bs k sheet₀ m ps sheet₁ (Failed run j) = Refus
 
 -- whatever configuration is held at entry that shows a node in progress
 abbrev pub NodeDone : List ℕ → List ℕ → List ℤ → List ℤ → List ℕ → Run → ℕ → List ℕ → List ℤ → List ℕ → List ℕ → Walked → Type 0
-NodeDone ws ks vs m₀ ps₀ run₀ k sheet₀ m ps sheet₁ w = (g : Grammar) (lent : Lent) (c : Config) (o : Open) (bs : List Ancestor) → length ks ≡ length vs → T (all fourBytes vs) → Held g ws lent m₀ ps₀ run₀ c → Stand g (tokensAs g ks vs) o bs c → NodedAs g ws lent (tokensAs g ks vs) c o bs k sheet₀ m ps sheet₁ w
+NodeDone ws ks vs m₀ ps₀ run₀ k sheet₀ m ps sheet₁ w =
+    (g : Grammar) (lent : Lent) (c : Config) (o : Open) (bs : List Ancestor) → length ks ≡ length vs → T (all fourBytes vs) → Held g ws lent m₀ ps₀ run₀ c → Stand g (tokensAs g ks vs) o bs c → NodedAs g ws lent (tokensAs g ks vs) c o bs k sheet₀ m ps sheet₁ w
 
 abbrev pub ListDone : List ℕ → List ℕ → List ℤ → List ℤ → List ℕ → Run → ℕ → List ℕ → List ℤ → List ℕ → List ℕ → Walked → Type 0
-ListDone ws ks vs m₀ ps₀ run₀ k sheet₀ m ps sheet₁ w = (g : Grammar) (lent : Lent) (c : Config) (o : Open) (bs : List Ancestor) → length ks ≡ length vs → T (all fourBytes vs) → Held g ws lent m₀ ps₀ run₀ c → Stand g (tokensAs g ks vs) o bs c → ListedAs g ws lent (tokensAs g ks vs) c o bs k sheet₀ m ps sheet₁ w
+ListDone ws ks vs m₀ ps₀ run₀ k sheet₀ m ps sheet₁ w =
+    (g : Grammar) (lent : Lent) (c : Config) (o : Open) (bs : List Ancestor) → length ks ≡ length vs → T (all fourBytes vs) → Held g ws lent m₀ ps₀ run₀ c → Stand g (tokensAs g ks vs) o bs c → ListedAs g ws lent (tokensAs g ks vs) c o bs k sheet₀ m ps sheet₁ w
 
 -- ---- what the code relies on
 
-pub record ListAt (ws ks : List ℕ) (vs m : List ℤ) (ps : List ℕ) (run : Run) (k depthLeft symbolsLeft : ℕ) : Type 0 where
+-- a node in progress, with room for a record; so many symbols of its right side are left at most
+pub record ListAt (ws ks : List ℕ) (vs m : List ℤ) (ps : List ℕ) (run : Run) (k symbolsLeft : ℕ) : Type 0 where
   pub walking : Walking ws ks vs m ps run
   pub symbols : length (productionAt (walking .grammar) (walking .node .production) .right) ≤ length (walking .node .children) + symbolsLeft
-  pub depth : length ps ≤ run .places + depthLeft
   pub room : k ≤ 76 * run .moves
   pub few : length m ≤ 4096
 
-pub record NodeAt (ws ks : List ℕ) (vs m : List ℤ) (ps : List ℕ) (run : Run) (k depthLeft : ℕ) : Type 0 where
+-- which waits at a nonterminal
+pub record NodeAt (ws ks : List ℕ) (vs m : List ℤ) (ps : List ℕ) (run : Run) (k : ℕ) : Type 0 where
   pub walking : Walking ws ks vs m ps run
   pub three : getD ws (run .at) 0 % 8 ≡ 3
-  pub depth : length ps ≤ run .places + depthLeft
   pub room : k ≤ 76 * run .moves
   pub few : length m ≤ 4096
 
@@ -137,32 +139,38 @@ same-places : {g : Grammar} {ws : List ℕ} {lent : Lent} {tokens : List Leaf} {
     → Held g ws lent m ps run c → Stand g tokens o bs c → Held g ws lent m′ ps′ run′ d → Stand g tokens o′ bs d → run′ .places ≡ run .places
 same-places {g} {c = c} {d = d} h s h′ s′ = omega (arith, h .places .height, h′ .places .height, length-map (c .frames) (placeOf g), length-map (d .frames) (placeOf g), stand-frames s, stand-frames s′)
 
-module _ {ws ks : List ℕ} {vs m₀ : List ℤ} {ps₀ : List ℕ} {run₀ : Run} {k depth symbols : ℕ} (q : ListAt ws ks vs m₀ ps₀ run₀ k depth symbols) where
+module _ {ws ks : List ℕ} {vs m₀ : List ℤ} {ps₀ : List ℕ} {run₀ : Run} {k symbols : ℕ} (q : ListAt ws ks vs m₀ ps₀ run₀ k symbols) where
   abbrev w₀ : Walking ws ks vs m₀ ps₀ run₀
   w₀ = q .walking
 
   abbrev g : Grammar
   g = w₀ .grammar
 
-  pub list-node-at : getD ws (run₀ .at) 0 % 8 ≡ 3 → NodeAt ws ks vs m₀ ps₀ run₀ k depth
-  list-node-at three = record { walking = w₀; three = three; depth = q .depth; room = q .room; few = q .few }
+  pub list-node-at : getD ws (run₀ .at) 0 % 8 ≡ 3 → NodeAt ws ks vs m₀ ps₀ run₀ k
+  list-node-at three = record { walking = w₀; three = three; room = q .room; few = q .few }
 
   pub list-symbols : isLook (getD ws (run₀ .at) 0 % 8) → 1 ≤ symbols
   list-symbols look =
       let x = at-look look (w₀ .held) in
       omega (arith, q .symbols, symbol-left g (w₀ .held .wellFormed) (w₀ .lent) (tokensAs g ks vs) (leaves-of g ks vs (w₀ .four)) (w₀ .config) (w₀ .stand) (x .0) (x .1 .frames) (x .2) (x .3))
 
-  pub list-more-at : (sheet₀ : List ℕ) (m₂ : List ℤ) (ps₂ sheet₂ : List ℕ) (run₂ : Run) (e₂ : ℕ)
-      → isLook (getD ws (run₀ .at) 0 % 8) → NodeDone ws ks vs m₀ ps₀ run₀ k sheet₀ m₂ ps₂ sheet₂ (Left run₂ e₂) → length m₂ ≡ length m₀ → length ps₂ ≡ length ps₀ → ListAt ws ks vs m₂ ps₂ run₂ e₂ depth (symbols - 1)
-  list-more-at sheet₀ m₂ ps₂ sheet₂ run₂ e₂ look n e f =
-      let x = n g (w₀ .lent) (w₀ .config) (w₀ .node) (w₀ .below) (w₀ .even) (w₀ .four) (w₀ .held) (w₀ .stand) in
-      record {
-        walking = record { even = w₀ .even; four = w₀ .four; grammar = g; lent = w₀ .lent; config = x .to; node = withChild (w₀ .node) (x .tree); below = w₀ .below; held = x .held; stand = x .stand };
-        symbols = omega (arith, q .symbols, list-symbols look);
-        depth = omega (arith, q .depth, f, same-places (w₀ .held) (w₀ .stand) (x .held) (x .stand));
-        room = omega (arith, x .room, q .room, w₀ .held .moves, x .held .moves);
-        few = omega (arith, q .few, e);
-      }
+  module _ (sheet₀ : List ℕ) (m₂ : List ℤ) (ps₂ sheet₂ : List ℕ) (run₂ : Run) (e₂ : ℕ) (n : NodeDone ws ks vs m₀ ps₀ run₀ k sheet₀ m₂ ps₂ sheet₂ (Left run₂ e₂)) where
+    noded : Noded g ws (w₀ .lent) (tokensAs g ks vs) (w₀ .config) (w₀ .node) (w₀ .below) k sheet₀ m₂ ps₂ sheet₂ run₂ e₂
+    noded = n g (w₀ .lent) (w₀ .config) (w₀ .node) (w₀ .below) (w₀ .even) (w₀ .four) (w₀ .held) (w₀ .stand)
+
+    pub list-more-at : isLook (getD ws (run₀ .at) 0 % 8) → length m₂ ≡ length m₀ → ListAt ws ks vs m₂ ps₂ run₂ e₂ (symbols - 1)
+    list-more-at look e =
+        let x = noded in
+        record {
+          walking = record { even = w₀ .even; four = w₀ .four; grammar = g; lent = w₀ .lent; config = x .to; node = withChild (w₀ .node) (x .tree); below = w₀ .below; held = x .held; stand = x .stand };
+          symbols = omega (arith, q .symbols, list-symbols look);
+          room = omega (arith, x .room, q .room, w₀ .held .moves, x .held .moves);
+          few = omega (arith, q .few, e);
+        }
+
+    -- the places that wait are as many as before
+    pub list-places : run₂ .places ≡ run₀ .places
+    list-places = let x = noded in same-places (w₀ .held) (w₀ .stand) (x .held) (x .stand)
 
 -- what is at hand after the moves inside a node is a child, if it is neither a remove nor the end
 pub only-read : (k : ℕ) → isInside k ≡ false → k < 5 → (k ≡ 3 → ⊥) → k ≡ 2
@@ -345,7 +353,7 @@ five-of {g} {ws} {run = run} {c = c} {o = o} h s l = go (at-hand h)
 
 module _ {ws : List ℕ} (ks : List ℕ) (vs : List ℤ) {m₀ : List ℤ} {ps₀ : List ℕ} {run₀ : Run} (k : ℕ) (m₁ : List ℤ) (ps₁ : List ℕ) (run₁ : Run) (e₁ : ℕ) (a : Opens ws ks vs m₀ ps₀ run₀ k m₁ ps₁ (Left run₁ e₁)) where
   -- what its calls rely on
-  module _ {depth : ℕ} (q : NodeAt ws ks vs m₀ ps₀ run₀ k depth) where
+  module _ (q : NodeAt ws ks vs m₀ ps₀ run₀ k) where
     abbrev w : Walking ws ks vs m₀ ps₀ run₀
     w = q .walking
 
@@ -358,17 +366,14 @@ module _ {ws : List ℕ} (ks : List ℕ) (vs : List ℤ) {m₀ : List ℤ} {ps�
     pub opened-inside : run₁ .at < length ws
     opened-inside = bounds (x₁ .held) .inside
 
-    entered-places : run₁ .places ≡ suc (run₀ .places)
-    entered-places = omega (arith, w .held .places .height, x₁ .held .places .height, length-map (w .config .frames) (placeOf (w .grammar)), length-map (x₁ .to .frames) (placeOf (w .grammar)), stand-frames (w .stand), stand-frames (x₁ .stand))
+    -- one place more waits, and it is one of those lent
+    pub entered-places : (run₁ .places ≡ suc (run₀ .places)) × (run₁ .places ≤ length ps₁)
+    entered-places = (omega (arith, w .held .places .height, x₁ .held .places .height, length-map (w .config .frames) (placeOf (w .grammar)), length-map (x₁ .to .frames) (placeOf (w .grammar)), stand-frames (w .stand), stand-frames (x₁ .stand)), bounds (x₁ .held) .places)
 
-    pub depth-left : length ps₁ ≡ length ps₀ → 1 ≤ depth
-    depth-left e = omega (arith, q .depth, e, entered-places, bounds (x₁ .held) .places)
-
-    pub node-list-at : length m₁ ≡ length m₀ → length ps₁ ≡ length ps₀ → ListAt ws ks vs m₁ ps₁ run₁ e₁ (depth - 1) 12
-    node-list-at e f = record {
+    pub node-list-at : length m₁ ≡ length m₀ → ListAt ws ks vs m₁ ps₁ run₁ e₁ 12
+    node-list-at e = record {
       walking = record { even = w .even; four = w .four; grammar = w .grammar; lent = w .lent; config = x₁ .to; node = nodeOf (x₁ .production) (x₁ .inherited) []; below = waitingAt (w .node) (x₁ .symbol) (x₁ .ahead) ∷ w .below; held = x₁ .held; stand = x₁ .stand };
       symbols = omega (arith, well-formed-at (w .grammar) (x₁ .held .wellFormed) (x₁ .production) (x₁ .stand .good .stands .0) .short);
-      depth = omega (arith, q .depth, depth-left f, entered-places, f);
       room = omega (arith, q .room, opened .1, att-most (w .grammar) (x₁ .held .wellFormed) (nonterminal (productionAt (w .grammar) (x₁ .production) .left)), w .held .moves, x₁ .held .moves, x₁ .moves);
       few = omega (arith, q .few, e);
     }

@@ -39,7 +39,8 @@ LeftAs g ws lent tokens c o b bs run₀ k before end sheet₀ m ps sheet (W.Left
 LeftAs g ws lent tokens c o b bs run₀ k before end sheet₀ m ps sheet (W.Failed run j) = Refused g ws lent tokens c m ps run j
 
 abbrev pub Leaves : List ℕ → List ℤ → List ℕ → Run → ℕ → ℕ → ℕ → List ℕ → List ℤ → List ℕ → List ℕ → Walked → Type 0
-Leaves ws m₀ ps₀ run₀ k before end sheet₀ m ps sheet w = (g : Grammar) (lent : Lent) (tokens : List Leaf) (c : Config) (o : Open) (b : Ancestor) (bs : List Ancestor) → T (all (isLeafOf g) tokens) → Held g ws lent m₀ ps₀ run₀ c → Stand g tokens o (b ∷ bs) c → LeftAs g ws lent tokens c o b bs run₀ k before end sheet₀ m ps sheet w
+Leaves ws m₀ ps₀ run₀ k before end sheet₀ m ps sheet w =
+    (g : Grammar) (lent : Lent) (tokens : List Leaf) (c : Config) (o : Open) (b : Ancestor) (bs : List Ancestor) → T (all (isLeafOf g) tokens) → Held g ws lent m₀ ps₀ run₀ c → Stand g tokens o (b ∷ bs) c → LeftAs g ws lent tokens c o b bs run₀ k before end sheet₀ m ps sheet w
 
 module _ {ws : List ℕ} {m₀ : List ℤ} {ps₀ : List ℕ} {run₀ : Run} (five : getD ws (run₀ .at) 0 % 8 ≡ 5) (k before : ℕ) (sheet₀ sheet : List ℕ) where
   pub left-fails : (m : List ℤ) (ps : List ℕ) (run : Run) (j : ℕ) → Tries ws m₀ ps₀ run₀ ends m ps (Failed run j) → (end : ℕ) → Leaves ws m₀ ps₀ run₀ k before end sheet₀ m ps sheet (W.Failed run j)

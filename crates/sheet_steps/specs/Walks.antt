@@ -16,7 +16,8 @@ use Rattle.sheet_record.specs.Counting.{leftOf, Counted}
 use Rattle.sheet_record.specs.Recording.{Inner}
 use Rattle.sheet_steps.specs.Numbers.{Walked, Left, runIn, walkedIn, walkedAs, Rests, Small, low, Fits, Kept, AnswerWritten, kept-fits, kept-on, kept-low, fits-low, low-written, long-written, run-apart, kept-apart}
 use Rattle.sheet_steps.specs.Leaving.{Leaves}
-use Rattle.sheet_steps.specs.Cycle.{NodeAt, NodeDone, ListAt, ListDone, Passes, Opens, opens-counted, enters-inner, none-listed, list-more, list-more-at, rests-look, opened-inside, depth-left, node-list-at, leaving-inner, leaving-five, leaving-tokens, node-list-fails, node-left}
+use Rattle.sheet_steps.specs.Cycle.{NodeAt, NodeDone, ListAt, ListDone, Passes, Opens, opens-counted, enters-inner, none-listed, list-more}
+use Rattle.sheet_steps.specs.Cycle.{list-more-at, list-places, rests-look, opened-inside, entered-places, node-list-at, leaving-inner, leaving-five, leaving-tokens, node-list-fails, node-left}
 
 -- the operation at hand
 abbrev pub handIn : List ℕ → List ℕ → ℕ
@@ -27,7 +28,7 @@ pub record PassAt (ws ks : List ℕ) (vs m : List ℤ) (ps s : List ℕ) : Type 
   pub look : isLook (handIn ws s)
   pub fits : Fits m ps s
 
-pub record Passed (ws ks : List ℕ) (vs m₀ : List ℤ) (ps₀ s₀ : List ℕ) (m : List ℤ) (ps : List ℕ) (r : Bool) (s : List ℕ) : Type 0 where
+pub record PassOut (ws ks : List ℕ) (vs m₀ : List ℤ) (ps₀ s₀ : List ℕ) (m : List ℤ) (ps : List ℕ) (r : Bool) (s : List ℕ) : Type 0 where
   pub passes : Passes ws ks vs (low 6 s₀ m₀) (low 7 s₀ ps₀) (runIn s₀) (getD s₀ 5 0) (low 6 s m) (low 7 s ps) (walkedIn r s)
   pub rests : Rests ws (walkedIn r s)
   pub kept : Kept m₀ ps₀ s₀ m ps s
@@ -59,8 +60,8 @@ pub record LeftBy (ws : List ℕ) (m₀ : List ℤ) (ps₀ s₀ : List ℕ) (at 
   pub kept : Kept m₀ ps₀ s₀ m ps s
   pub small : Small r s
 
-pub record NodeIn (ws ks : List ℕ) (vs m : List ℤ) (ps s : List ℕ) (depth : ℕ) : Type 0 where
-  pub ready : NodeAt ws ks vs (low 6 s m) (low 7 s ps) (runIn s) (getD s 5 0) depth
+pub record NodeIn (ws ks : List ℕ) (vs m : List ℤ) (ps s : List ℕ) : Type 0 where
+  pub ready : NodeAt ws ks vs (low 6 s m) (low 7 s ps) (runIn s) (getD s 5 0)
   pub fits : Fits m ps s
 
 pub record NodeOut (ws ks : List ℕ) (vs m₀ : List ℤ) (ps₀ s₀ sheet₀ : List ℕ) (m : List ℤ) (ps sheet : List ℕ) (r : Bool) (s : List ℕ) : Type 0 where
@@ -69,10 +70,14 @@ pub record NodeOut (ws ks : List ℕ) (vs m₀ : List ℤ) (ps₀ s₀ sheet₀ 
   pub kept : Kept m₀ ps₀ s₀ m ps s
   pub small : Small r s
 
-pub record ListIn (ws ks : List ℕ) (vs m : List ℤ) (ps s : List ℕ) (depth symbols : ℕ) : Type 0 where
-  pub ready : ListAt ws ks vs (low 6 s m) (low 7 s ps) (runIn s) (getD s 5 0) depth symbols
+pub record ListIn (ws ks : List ℕ) (vs m : List ℤ) (ps s : List ℕ) (symbols : ℕ) : Type 0 where
+  pub ready : ListAt ws ks vs (low 6 s m) (low 7 s ps) (runIn s) (getD s 5 0) symbols
   pub look : isLook (handIn ws s)
   pub fits : Fits m ps s
+
+-- the depth that is left: the places that are lent and do not wait
+abbrev pub depthLeft : List ℕ → ℕ
+depthLeft s = getD s 7 0 - getD s 3 0
 
 pub record ListOut (ws ks : List ℕ) (vs m₀ : List ℤ) (ps₀ s₀ sheet₀ : List ℕ) (m : List ℤ) (ps sheet : List ℕ) (r : Bool) (s : List ℕ) : Type 0 where
   pub done : ListDone ws ks vs (low 6 s₀ m₀) (low 7 s₀ ps₀) (runIn s₀) (getD s₀ 5 0) sheet₀ (low 6 s m) (low 7 s ps) sheet (walkedIn r s)
@@ -97,7 +102,7 @@ module _ {m₀ : List ℤ} {ps₀ s₀ : List ℕ} (f : Fits m₀ ps₀ s₀) (m
       let b : ps₁ ≡ low 7 s ps = sym (ap (λ n. take n ps) (t .places) ∙ low-written (getD s₀ 7 0) ps₁ ps₀ (e ∙ fits-low f .1)) in
       subst (λ w. P (low 6 s m) (low 7 s ps) w) (sym (t .walked)) (subst (λ y. P (low 6 s m) y (walkedAs ended (getD s₀ 5 0))) b (subst (λ x. P x ps₁ (walkedAs ended (getD s₀ 5 0))) a p))
 
-  pub pass-whole : (ws ks : List ℕ) (vs : List ℤ) → Passes ws ks vs (low 6 s₀ m₀) (low 7 s₀ ps₀) (runIn s₀) (getD s₀ 5 0) m₁ ps₁ (walkedAs ended (getD s₀ 5 0)) → Rests ws (walkedAs ended (getD s₀ 5 0)) → Passed ws ks vs m₀ ps₀ s₀ m ps r s
+  pub pass-whole : (ws ks : List ℕ) (vs : List ℤ) → Passes ws ks vs (low 6 s₀ m₀) (low 7 s₀ ps₀) (runIn s₀) (getD s₀ 5 0) m₁ ps₁ (walkedAs ended (getD s₀ 5 0)) → Rests ws (walkedAs ended (getD s₀ 5 0)) → PassOut ws ks vs m₀ ps₀ s₀ m ps r s
   pass-whole ws ks vs p q = record { passes = told-low (Passes ws ks vs (low 6 s₀ m₀) (low 7 s₀ ps₀) (runIn s₀) (getD s₀ 5 0)) p; rests = told-low (λ x y w. Rests ws w) q; kept = told-kept; small = t .small }
 
   pub left-whole : (ws : List ℕ) (at before : ℕ) (sheet₀ sheet : List ℕ) → Leaves ws (low 6 s₀ m₀) (low 7 s₀ ps₀) (runIn s₀) at before (getD s₀ 5 0) sheet₀ m₁ ps₁ sheet (walkedAs ended (getD s₀ 5 0)) → Rests ws (walkedAs ended (getD s₀ 5 0)) → LeftBy ws m₀ ps₀ s₀ at before sheet₀ m ps sheet r s
@@ -106,18 +111,18 @@ module _ {m₀ : List ℤ} {ps₀ s₀ : List ℕ} (f : Fits m₀ ps₀ s₀) (m
 -- ---- a node is entered
 
 module _ {ws ks : List ℕ} {vs m₀ : List ℤ} {ps₀ s₀ : List ℕ} (three : handIn ws s₀ ≡ 3) {m : List ℤ} {ps s : List ℕ} where
-  pub enter-fails : Passed ws ks vs m₀ ps₀ s₀ m ps false s → Opened ws ks vs m₀ ps₀ s₀ m ps false s
+  pub enter-fails : PassOut ws ks vs m₀ ps₀ s₀ m ps false s → Opened ws ks vs m₀ ps₀ s₀ m ps false s
   enter-fails p = record { opens = p .passes .1 three; rests = tt; kept = p .kept; small = p .small }
 
   -- the room of a record is small, and nothing was written yet
-  pub enter-few : Walking ws ks vs (low 6 s₀ m₀) (low 7 s₀ ps₀) (runIn s₀) → Passed ws ks vs m₀ ps₀ s₀ m ps true s → (r : Counts) → Counted ws (low 7 s ps) (runIn s) r → (r .total ≤ 8) × (getD s 5 0 ≡ getD s₀ 5 0)
+  pub enter-few : Walking ws ks vs (low 6 s₀ m₀) (low 7 s₀ ps₀) (runIn s₀) → PassOut ws ks vs m₀ ps₀ s₀ m ps true s → (r : Counts) → Counted ws (low 7 s ps) (runIn s) r → (r .total ≤ 8) × (getD s 5 0 ≡ getD s₀ 5 0)
   enter-few w p r k =
       let x = p .passes .1 three in
       let i = enters-inner ks vs (getD s₀ 5 0) (low 6 s m) (low 7 s ps) (runIn s) (getD s 5 0) x w in
       let most : r .total ≤ 8 = omega (arith, k (i .grammar) (i .lent) (i .tokens) (low 6 s m) (i .config) (i .node) (i .parent) (i .below) (i .held) (i .stand) .1, att-most (i .grammar) (i .held .wellFormed) (leftOf (i .grammar) (i .node))) in
       (most, x (w .grammar) (w .lent) (w .config) (w .node) (w .below) (w .even) (w .four) (w .held) (w .stand) .1)
 
-  pub enter-opens : Passed ws ks vs m₀ ps₀ s₀ m ps true s → (r : Counts) → Counted ws (low 7 s ps) (runIn s) r → Opened ws ks vs m₀ ps₀ s₀ m ps true (set s 5 (getD s 5 0 + (12 + 8 * r .total)))
+  pub enter-opens : PassOut ws ks vs m₀ ps₀ s₀ m ps true s → (r : Counts) → Counted ws (low 7 s ps) (runIn s) r → Opened ws ks vs m₀ ps₀ s₀ m ps true (set s 5 (getD s 5 0 + (12 + 8 * r .total)))
   enter-opens p r k =
       let v = getD s 5 0 + (12 + 8 * r .total) in
       let s₁ = set s 5 v in
@@ -141,7 +146,7 @@ pub kept-same : {m : List ℤ} {ps s : List ℕ} → Fits m ps s → Kept m ps s
 kept-same f = record { eight = f .eight; registers = refl; places = refl; long = refl; longPlaces = refl }
 
 -- a token as a child: nothing is written
-pub pass-out : {ws ks : List ℕ} {vs m₀ : List ℤ} {ps₀ s₀ : List ℕ} (sheet₀ : List ℕ) {m : List ℤ} {ps : List ℕ} {r : Bool} {s : List ℕ} → handIn ws s₀ ≡ 2 → Passed ws ks vs m₀ ps₀ s₀ m ps r s → NodeOut ws ks vs m₀ ps₀ s₀ sheet₀ m ps sheet₀ r s
+pub pass-out : {ws ks : List ℕ} {vs m₀ : List ℤ} {ps₀ s₀ : List ℕ} (sheet₀ : List ℕ) {m : List ℤ} {ps : List ℕ} {r : Bool} {s : List ℕ} → handIn ws s₀ ≡ 2 → PassOut ws ks vs m₀ ps₀ s₀ m ps r s → NodeOut ws ks vs m₀ ps₀ s₀ sheet₀ m ps sheet₀ r s
 pass-out sheet₀ two p = record { done = p .passes .0 two sheet₀; rests = p .rests; kept = p .kept; small = p .small }
 
 -- the same cells, sheet, answer and numbers
@@ -154,7 +159,7 @@ node-out-as {ws} {ks} {vs} {m₀} {ps₀} {s₀} {sheet₀} {m} {m′} {ps} {ps�
     (subst (λ z. NodeOut ws ks vs m₀ ps₀ s₀ sheet₀ m′ z sheet r s) (sym b)
     (subst (λ z. NodeOut ws ks vs m₀ ps₀ s₀ sheet₀ z ps sheet r s) (sym a) x))))
 
-module _ {ws ks : List ℕ} {vs m₀ : List ℤ} {ps₀ s₀ : List ℕ} {depth symbols : ℕ} (q : ListIn ws ks vs m₀ ps₀ s₀ depth symbols) {sheet₀ : List ℕ} {m : List ℤ} {ps sheet s : List ℕ} (n : NodeOut ws ks vs m₀ ps₀ s₀ sheet₀ m ps sheet true s) where
+module _ {ws ks : List ℕ} {vs m₀ : List ℤ} {ps₀ s₀ : List ℕ} {symbols : ℕ} (q : ListIn ws ks vs m₀ ps₀ s₀ symbols) {sheet₀ : List ℕ} {m : List ℤ} {ps sheet s : List ℕ} (n : NodeOut ws ks vs m₀ ps₀ s₀ sheet₀ m ps sheet true s) where
   pub child-inside : getD s 4 0 < length ws
   child-inside =
       let w = q .ready .walking in
@@ -163,10 +168,13 @@ module _ {ws ks : List ℕ} {vs m₀ : List ℤ} {ps₀ s₀ : List ℕ} {depth 
   pub child-over : 5 ≤ handIn ws s → ListOut ws ks vs m₀ ps₀ s₀ sheet₀ m ps sheet true s
   child-over l = record { done = list-more ks vs (getD s₀ 5 0) sheet₀ (low 6 s m) (low 7 s ps) sheet (runIn s) (getD s 5 0) (n .done) (low 6 s m) (low 7 s ps) sheet (walkedIn true s) (none-listed ks vs (low 6 s m) (low 7 s ps) (runIn s) (getD s 5 0) sheet l); kept = n .kept; small = tt }
 
-  pub child-more-in : handIn ws s < 5 → ListIn ws ks vs m ps s depth (symbols - 1)
-  child-more-in l =
-      let e = kept-low (q .fits) (n .kept) in
-      record { ready = list-more-at (q .ready) sheet₀ (low 6 s m) (low 7 s ps) sheet (runIn s) (getD s 5 0) (q .look) (n .done) (e .0) (e .1); look = rests-look (handIn ws s) (n .rests) l; fits = kept-fits (q .fits) (n .kept) }
+  pub child-more-in : handIn ws s < 5 → ListIn ws ks vs m ps s (symbols - 1)
+  child-more-in l = record { ready = list-more-at (q .ready) sheet₀ (low 6 s m) (low 7 s ps) sheet (runIn s) (getD s 5 0) (n .done) (q .look) (kept-low (q .fits) (n .kept) .0); look = rests-look (handIn ws s) (n .rests) l; fits = kept-fits (q .fits) (n .kept) }
+
+  pub child-depth : depthLeft s ≡ depthLeft s₀
+  child-depth =
+      let same = list-places (q .ready) sheet₀ (low 6 s m) (low 7 s ps) sheet (runIn s) (getD s 5 0) (n .done) in
+      omega (arith, same, n .kept .places)
 
   pub child-more : {m′ : List ℤ} {ps′ sheet′ : List ℕ} {r : Bool} {s′ : List ℕ} → ListOut ws ks vs m ps s sheet m′ ps′ sheet′ r s′ → ListOut ws ks vs m₀ ps₀ s₀ sheet₀ m′ ps′ sheet′ r s′
   child-more {m′} {ps′} {sheet′} {r} {s′} l = record { done = list-more ks vs (getD s₀ 5 0) sheet₀ (low 6 s m) (low 7 s ps) sheet (runIn s) (getD s 5 0) (n .done) (low 6 s′ m′) (low 7 s′ ps′) sheet′ (walkedIn r s′) (l .done); kept = kept-on (n .kept) (l .kept); small = l .small }
@@ -176,26 +184,27 @@ child-fails n = record { done = n .done; kept = n .kept; small = n .small }
 
 -- ---- a node: it is entered, its children are passed, it is left
 
-pub node-enter : {ws ks : List ℕ} {vs m₀ : List ℤ} {ps₀ s₀ : List ℕ} {depth : ℕ} → NodeIn ws ks vs m₀ ps₀ s₀ depth → EnterAt ws ks vs m₀ ps₀ s₀
+pub node-enter : {ws ks : List ℕ} {vs m₀ : List ℤ} {ps₀ s₀ : List ℕ} → NodeIn ws ks vs m₀ ps₀ s₀ → EnterAt ws ks vs m₀ ps₀ s₀
 node-enter q = record { walking = q .ready .walking; three = q .ready .three; room = omega (arith, q .ready .room, bounds (q .ready .walking .held) .moves); fits = q .fits }
 
 pub enter-out : {ws ks : List ℕ} {vs m₀ : List ℤ} {ps₀ s₀ : List ℕ} (sheet₀ : List ℕ) {m : List ℤ} {ps s : List ℕ} → Opened ws ks vs m₀ ps₀ s₀ m ps false s → NodeOut ws ks vs m₀ ps₀ s₀ sheet₀ m ps sheet₀ false s
 enter-out sheet₀ o = record { done = o .opens; rests = tt; kept = o .kept; small = o .small }
 
-module _ {ws ks : List ℕ} {vs m₀ : List ℤ} {ps₀ s₀ : List ℕ} {depth : ℕ} (q : NodeIn ws ks vs m₀ ps₀ s₀ depth) {m₁ : List ℤ} {ps₁ s₁ : List ℕ} (o : Opened ws ks vs m₀ ps₀ s₀ m₁ ps₁ true s₁) where
+module _ {ws ks : List ℕ} {vs m₀ : List ℤ} {ps₀ s₀ : List ℕ} (q : NodeIn ws ks vs m₀ ps₀ s₀) {m₁ : List ℤ} {ps₁ s₁ : List ℕ} (o : Opened ws ks vs m₀ ps₀ s₀ m₁ ps₁ true s₁) where
   abbrev k : ℕ
   k = getD s₀ 5 0
 
   pub open-inside : getD s₁ 4 0 < length ws
   open-inside = opened-inside ks vs k (low 6 s₁ m₁) (low 7 s₁ ps₁) (runIn s₁) (getD s₁ 5 0) (o .opens) (q .ready)
 
-  pub open-depth : 1 ≤ depth
-  open-depth = depth-left ks vs k (low 6 s₁ m₁) (low 7 s₁ ps₁) (runIn s₁) (getD s₁ 5 0) (o .opens) (q .ready) (kept-low (q .fits) (o .kept) .1)
+  pub open-depth : depthLeft s₀ ≡ depthLeft s₁ + 1
+  open-depth =
+      let e = entered-places ks vs k (low 6 s₁ m₁) (low 7 s₁ ps₁) (runIn s₁) (getD s₁ 5 0) (o .opens) (q .ready) in
+      let f = fits-low (kept-fits (q .fits) (o .kept)) .1 in
+      omega (arith, e .0, e .1, f, o .kept .places)
 
-  pub open-list : handIn ws s₁ < 5 → ListIn ws ks vs m₁ ps₁ s₁ (depth - 1) 12
-  open-list l =
-      let e = kept-low (q .fits) (o .kept) in
-      record { ready = node-list-at ks vs k (low 6 s₁ m₁) (low 7 s₁ ps₁) (runIn s₁) (getD s₁ 5 0) (o .opens) (q .ready) (e .0) (e .1); look = rests-look (handIn ws s₁) (o .rests) l; fits = kept-fits (q .fits) (o .kept) }
+  pub open-list : handIn ws s₁ < 5 → ListIn ws ks vs m₁ ps₁ s₁ 12
+  open-list l = record { ready = node-list-at ks vs k (low 6 s₁ m₁) (low 7 s₁ ps₁) (runIn s₁) (getD s₁ 5 0) (o .opens) (q .ready) (kept-low (q .fits) (o .kept) .0); look = rests-look (handIn ws s₁) (o .rests) l; fits = kept-fits (q .fits) (o .kept) }
 
   -- no child at all
   pub open-none : (sheet₀ : List ℕ) → 5 ≤ handIn ws s₁ → ListOut ws ks vs m₁ ps₁ s₁ sheet₀ m₁ ps₁ sheet₀ true s₁

@@ -7,7 +7,7 @@ ghost use Rattle.sheet_record.specs.Recording.{Inner};
 ghost use Rattle.sheet_steps.specs.Numbers.{runIn, stored, AnswerWritten, walkedAs, Rests};
 ghost use Rattle.sheet_steps.specs.Leaving.{Leaves};
 ghost use Rattle.sheet_steps.specs.Cycle.{Passes};
-ghost use Rattle.sheet_steps.specs.Walks.{PassAt, Passed, EnterAt, Opened, LeaveAt, LeftBy};
+ghost use Rattle.sheet_steps.specs.Walks.{PassAt, PassOut, EnterAt, Opened, LeaveAt, LeftBy};
 use run_machine::Ended;
 use run_moves::Run;
 
@@ -61,7 +61,7 @@ pub fn operation(program: &[u32], numbers: &[u64; 8]) -> usize
     ensures { λ r. ⌜ r ≡ getD (now (program .entry)) (getD (now (numbers .entry)) 4 0) 0 % 8 ⌝ }
 {
     let here = numbers[4] as usize;
-    run_moves::word_at(program, here) % 8
+    program_parts::operation(run_moves::word_at(program, here))
 }
 
 // ---- the moves
@@ -114,7 +114,7 @@ pub fn advance(
     numbers: &mut [u64; 8],
 ) -> bool
     requires { ⌜ PassAt (now program) (now kinds) (now values) (now registers) (now places) (now numbers) ⌝ }
-    ensures { λ r. ⌜ Passed (now (program .entry)) (now (kinds .entry)) (now (values .entry)) (now (registers .entry)) (now (places .entry)) (now (numbers .entry)) (now (registers .exit)) (now (places .exit)) r (now (numbers .exit)) ⌝ }
+    ensures { λ r. ⌜ PassOut (now (program .entry)) (now (kinds .entry)) (now (values .entry)) (now (registers .entry)) (now (places .entry)) (now (numbers .entry)) (now (registers .exit)) (now (places .exit)) r (now (numbers .exit)) ⌝ }
 {
     let n = numbers[6] as usize;
     let k = numbers[7] as usize;

@@ -1,5 +1,6 @@
 // The recursive evaluator: a node goes through its children, and each child is a node again. It makes the machine's own moves on stacks of its own and writes a record for each node that it leaves.
 // The run's numbers are in lent cells, and the moves in functions that both evaluators call: so the frames of the two that call each other are small (docs/SHEETS.md).
+// The depth left, which is how many of the lent places do not wait yet, and the symbols left of a right side fall together.
 ghost use Rattle.sheet_steps.specs.Walks.{NodeIn, NodeOut, ListIn, ListOut};
 use limits::SYMBOLS;
 
@@ -12,9 +13,8 @@ pub fn node(
     values: &[i32],
     sheet: &mut [u8],
     numbers: &mut [u64; 8],
-    depth_left: usize,
 ) -> bool
-    requires { ⌜ NodeIn (now program) (now kinds) (now values) (now registers) (now places) (now numbers) «depth_left» ⌝ }
+    requires { ⌜ NodeIn (now program) (now kinds) (now values) (now registers) (now places) (now numbers) ⌝ }
     ensures { λ r. ⌜ NodeOut (now (program .entry)) (now (kinds .entry)) (now (values .entry)) (now (registers .entry)) (now (places .entry)) (now (numbers .entry)) (now (sheet .entry)) (now (registers .exit)) (now (places .exit)) (now (sheet .exit)) r (now (numbers .exit)) ⌝ }
 {
     let before = numbers[0];
@@ -31,7 +31,6 @@ pub fn node(
             values,
             sheet,
             numbers,
-            depth_left - 1,
             SYMBOLS,
         ) {
             return sheet_steps::leave(registers, places, program, sheet, numbers, at, before);
@@ -49,23 +48,13 @@ fn children(
     values: &[i32],
     sheet: &mut [u8],
     numbers: &mut [u64; 8],
-    depth_left: usize,
     symbols_left: usize,
 ) -> bool
-    requires { ⌜ ListIn (now program) (now kinds) (now values) (now registers) (now places) (now numbers) «depth_left» «symbols_left» ⌝ }
+    requires { ⌜ ListIn (now program) (now kinds) (now values) (now registers) (now places) (now numbers) «symbols_left» ⌝ }
     ensures { λ r. ⌜ ListOut (now (program .entry)) (now (kinds .entry)) (now (values .entry)) (now (registers .entry)) (now (places .entry)) (now (numbers .entry)) (now (sheet .entry)) (now (registers .exit)) (now (places .exit)) (now (sheet .exit)) r (now (numbers .exit)) ⌝ }
 {
     let passed = if sheet_steps::operation(program, numbers) == 3 {
-        node(
-            registers,
-            places,
-            program,
-            kinds,
-            values,
-            sheet,
-            numbers,
-            depth_left,
-        )
+        node(registers, places, program, kinds, values, sheet, numbers)
     } else {
         sheet_steps::advance(registers, places, program, kinds, values, numbers)
     };
@@ -81,7 +70,6 @@ fn children(
             values,
             sheet,
             numbers,
-            depth_left,
             symbols_left - 1,
         );
     }

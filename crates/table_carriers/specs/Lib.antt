@@ -1,2 +1,2 @@
--- The tag 6 fields as they are read: the terminals that they name, the word that holds these, and the counts of symbols
+-- The tag 6 fields as they are read: the terminals that they name, and the word that holds these
 pub mod Named

@@ -1,14 +1,11 @@
--- The tag 6 fields as they are read: the terminals that they name, the word that holds these, and the counts of symbols.
-use Prim.Native.Nat.{ℕ, _+_, _-_, _≤_, _<_}
+-- The tag 6 fields as they are read: the terminals that they name, and the word that holds these.
+use Prim.Native.Nat.{ℕ, _+_, _≤_, _<_}
 use mathlib.Core.Path.{_≡_}
 use mathlib.Core.List.{List, [], _∷_, reverse}
-use lib.ListN.{getD, length}
-use Rattle.meaning.specs.Grammar.{Counts, attributeIf}
+use lib.ListN.{length}
+use Rattle.meaning.specs.Grammar.{Counts}
 use Rattle.meaning.specs.Table.{byte, Header}
-use Rattle.meaning.specs.Sets.{has}
-use Rattle.token_set.specs.SetBits.{setOf}
 use Rattle.outline.specs.Outline.{Carries}
-use Rattle.table_fields.specs.Demand.{ifBelow}
 use Rattle.table_fields.specs.Reads.{stateOf}
 use Rattle.table_fields.specs.Field.{rest, judged}
 use Rattle.table_fields.specs.Judge.{leastAfter}
@@ -35,11 +32,3 @@ pub record CarriersRead (t : List ℕ) (from terminals : ℕ) (r : Carried) : Ty
   pub held : Carries (r .carrying .0) (reverse list)
   pub inside : r .at ≤ length t
   pub other : r .number ≡ 0 → NoCarrier t (r .at)
-
--- a symbol's count by its byte, 0 for a terminal
-unfoldable pub inheritedCount : List ℕ → ℕ → ℕ
-inheritedCount counts n = ifBelow n 128 0 (getD counts (n - 128) 0)
-
--- a symbol's synthesized count by its byte. 02 (e): "names a terminal with one synthesized attribute"; another terminal has none
-unfoldable pub synthesizedOf : ℕ → List ℕ → ℕ → ℕ
-synthesizedOf carrying counts n = ifBelow n 128 (attributeIf (has (setOf carrying) n)) (getD counts (n - 128) 0)

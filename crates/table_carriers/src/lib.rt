@@ -1,10 +1,10 @@
-// The tag 6 fields: the terminals that carry a value, and the counts of symbols.
+// The tag 6 fields: the terminals that carry a value.
 ghost use mathlib.Core.Path.{_≡_};
 ghost use mathlib.Core.Bool.{true, false};
 ghost use Prim.Native.Nat.{_+_, _<_, _≤_};
 ghost use lib.ListN.{length};
 ghost use Rattle.meaning.specs.Table.{byte};
-ghost use Rattle.table_carriers.specs.Named.{CarrierJudged, CarriersRead, NoCarrier, inheritedCount, synthesizedOf};
+ghost use Rattle.table_carriers.specs.Named.{CarrierJudged, CarriersRead, NoCarrier};
 use token_set::TokenSet;
 
 // The end of the tag 6 fields (number 0) and the set of the terminals that they name, or the field that is refused.
@@ -66,33 +66,4 @@ pub fn read_carriers(table: &[u8], from: usize, terminals: usize) -> Carried
         at,
         carrying,
     }
-}
-
-// A symbol's count by its byte, 0 for a terminal.
-pub fn count_of(counts: &[u8; 48], symbol: usize) -> u8
-    requires { ⌜ length (now counts) ≡ 48 ⌝ }
-    ensures { λ r. ⌜ r ≡ inheritedCount (now (counts .entry)) symbol ⌝ }
-{
-    if symbol < 128 {
-        return 0;
-    }
-    let n = symbol - 128;
-    if 48 <= n {
-        return 0;
-    }
-    counts[n]
-}
-
-// A symbol's synthesized count by its byte: 1 for a terminal that carries a value, 0 for another.
-pub fn synthesized_of(carrying: TokenSet, counts: &[u8; 48], symbol: usize) -> u8
-    requires { ⌜ length (now counts) ≡ 48 ⌝ }
-    ensures { λ r. ⌜ r ≡ synthesizedOf (carrying .0) (now (counts .entry)) symbol ⌝ }
-{
-    if 128 <= symbol {
-        return count_of(counts, symbol);
-    }
-    if carrying.has(symbol as u8) {
-        return 1;
-    }
-    0
 }

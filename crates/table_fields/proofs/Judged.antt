@@ -114,13 +114,13 @@ module _ (h : Header) (cs : List Counts) (os ws : List ℕ) (es : List Entry) (r
   abbrev before : State
   before = stateOf h cs os ws es r c
 
-  symbol-by : (x : Bool) (n : ℕ) → Table.symbolKnown before (elim x [ true ↦ terminal n | false ↦ nonterminal (n - 128) ]) ≡ cond x (ltb n (h .terminals)) (ltb (n - 128) (h .nonterminals))
-  symbol-by true n = refl
-  symbol-by false n = refl
+  known-by : (x : Bool) (n : ℕ) → Table.symbolKnown before (elim x [ true ↦ terminal n | false ↦ nonterminal (n - 128) ]) ≡ cond x (ltb n (h .terminals)) (ltb (n - 128) (h .nonterminals))
+  known-by true n = refl
+  known-by false n = refl
 
   pub symbol-same : (n : ℕ) → Table.symbolKnown before (symbolOf n) ≡ symbolKnown (h .terminals) (h .nonterminals) n
   unfolding symbolKnown ifBelow
-  symbol-same n = symbol-by (ltb n 128) n
+  symbol-same n = known-by (ltb n 128) n
 
   all-same : (ns : List ℕ) → all (λ n. Table.symbolKnown before (symbolOf n)) ns ≡ all (symbolKnown (h .terminals) (h .nonterminals)) ns
   all-same [] = refl

@@ -1,15 +1,15 @@
 -- Reading from an offset on, one field at a time.
-use Prim.Native.Nat.{ℕ, zero, suc, _+_, _-_, _*_, _≤_, _<_}
+use Prim.Native.Nat.{ℕ, suc, _+_, _-_, _*_, _≤_, _<_}
 use mathlib.Core.Path.{_≡_, refl, sym, _∙_, ap, ap₂}
 use mathlib.Core.Bool.{Bool, true, false, _&&_, not, true≢false}
-use mathlib.Core.List.{List, [], _∷_}
+use mathlib.Core.List.{List}
 use native.Mathlib.Omega.{arith}
-use native.Mathlib.Nat.{not-suc-le-zero}
 use lib.Dec.{eqb, leb}
 use lib.ListN.{length, getD, take, drop, length-drop, drop-of-length-le}
 use lib.Seq.{drop-cons, getD-drop, getD-take, drop-drop, length-take-le}
 use borrow.Author.Tests.{le-leb, lt-leb, leb-true, eqb-true, eq-eqb, ne-eqb}
 use Rattle.meaning.specs.Table.{byte, State, Field, Read, malformed, readAll, readTable, atEnd, lastComplete, current, judgeField, readField, kindOf, nothingRead}
+use Rattle.theory_table.specs.Reading.{read-enough}
 use Rattle.table_fields.specs.Field.{lengthAt, bodyAt, Whole, Short, rest, judged}
 use Rattle.table_fields.proofs.Cases.{nonzero, and-false}
 
@@ -28,17 +28,6 @@ stepped missing whole first number o after = elim missing [ true ↦ malformed 8
 module _ (s : State) (o x : ℕ) (bs : List ℕ) where
   abbrev nextState : State
   nextState = readField s o (kindOf x) (take (sizeIn bs) (drop 2 bs))
-
--- any two numbers above the bytes left give the same
-pub enough : (n m : ℕ) (s : State) (o : ℕ) (bs : List ℕ) → length bs < n → length bs < m → readAll n s o bs ≡ readAll m s o bs
-unfolding stepped
-enough zero m s o bs h k = absurd (not-suc-le-zero h)
-enough (suc n) zero s o bs h k = absurd (not-suc-le-zero k)
-enough (suc n) (suc m) s o [] h k = refl
-enough (suc n) (suc m) s o (x ∷ bs) h k =
-    ap
-    (λ r. stepped (eqb x 3 && not (lastComplete s)) (wholeIn bs) (current s .offset) (judgeField s (fieldOf o x (take (sizeIn bs) (drop 2 bs)))) o r)
-    (enough n m (nextState s o x bs) (o + 3 + sizeIn bs) (drop (2 + sizeIn bs) bs) (omega (arith, length-drop (2 + sizeIn bs) bs)) (omega (arith, length-drop (2 + sizeIn bs) bs)))
 
 pub rest-table : (t : List ℕ) → length t ≤ 32768 → readTable t ≡ rest t nothingRead 0
 unfolding rest
@@ -131,7 +120,7 @@ module _ (t : List ℕ) (s : State) (at : ℕ) (inside : at < length t) where
     same-after =
         ap₂ (λ b i. readAll (length t - at) (readField s at (kindOf (byte t at)) b) i (drop (2 + sizeIn tail) tail)) same-body (omega (arith, size-in, w .told))
         ∙ ap (λ l. readAll (length t - at) (readField s at (kindOf (byte t at)) (bodyAt t at size)) (at + 3 + size) l) (next-in ∙ ap (λ i. drop (at + 3 + i) t) (sym (w .told)))
-        ∙ enough (length t - at) (suc (length t - (at + 3 + size))) _ (at + 3 + size) (drop (at + 3 + size) t) (omega (arith, w .inside, length-drop (at + 3 + size) t)) (omega (arith, w .inside, length-drop (at + 3 + size) t))
+        ∙ read-enough (length t - at) (suc (length t - (at + 3 + size))) _ (at + 3 + size) (drop (at + 3 + size) t) (omega (arith, w .inside, length-drop (at + 3 + size) t)) (omega (arith, w .inside, length-drop (at + 3 + size) t))
 
   pub rest-short : Calm → Short t at → rest t s at ≡ malformed 2 at
   rest-short p q = first-step ∙ stepped-short _ _ _ _ _ _ p (not-whole q)

@@ -20,7 +20,7 @@ use Rattle.table_rule_fields.proofs.RuleJudged.{rule-judged}
 use Rattle.table_rule_conditions.proofs.ConditionJudged.{condition-judged}
 use Rattle.table_rule_note.proofs.Noting.{notes-fine}
 use Rattle.table_items.specs.declared.Items.{Items}
-use Rattle.table_items.specs.Progress.{Over, Setting, settingOf, Around, stateIn, UseTaken, Walked, UsesRead, Next, endOf}
+use Rattle.table_items.specs.Progress.{Over, Setting, settingOf, Around, stateIn, ItemTaken, Walked, Walking, ItemsRead, ItemRead, refusedAfter, Next, endOf}
 use Rattle.table_counts.proofs.Steps.{endBy}
 use Rattle.table_fields.proofs.Cases.{lt-or-le, nonzero}
 
@@ -38,7 +38,7 @@ module _ (t : List ℕ) (at size r c width : ℕ) (inh syn note : List ℕ) (ins
   abbrev g : ℕ → Setting
   g o = settingOf t o width inh syn
 
-  pub use-cut : Short t at → UseTaken t at size r c width inh syn note note 2
+  pub use-cut : Short t at → ItemTaken t at size r c width inh syn note note 2
   use-cut h =
       record {
         read = λ o a rs cds nt. step-short t (stateIn (g o) a rs cds r c) at inside (calm-other (stateIn (g o) a rs cds r c) (byte t at) other) _ h;
@@ -62,7 +62,7 @@ module _ (t : List ℕ) (at size r c width : ℕ) (inh syn note : List ℕ) (ins
     any-stage : (o : ℕ) (a : Around (g o)) (rs : List (Rule Occurrence)) (cds : List (Condition Occurrence)) → stage (stateIn (g o) a rs cds r c) ≡ atAny
     any-stage o a rs cds = stage-any (a .header) (a .counts) (a .offsets) (a .named) (entryOf o (a .left) (a .right) rs cds) (a .others) r c (a .all)
 
-    pub use-other : (byte t at ≡ 4 → ⊥) → (byte t at ≡ 5 → ⊥) → UseTaken t at size r c width inh syn note note 3
+    pub use-other : (byte t at ≡ 4 → ⊥) → (byte t at ≡ 5 → ⊥) → ItemTaken t at size r c width inh syn note note 3
     use-other n m =
         record {
           read = λ o a rs cds nt.
@@ -84,7 +84,7 @@ module _ (t : List ℕ) (at size r c width : ℕ) (inh syn note : List ℕ) (ins
       pub use-rule :
           (note′ : List ℕ) → byte t at ≡ 4 → number ≡ ruleFault r width inh syn note part
           → ((rs : List (Rule Occurrence)) → Notes note rs → Notes note′ (rulesAfter number part rs)) → ((number ≡ 0 → ⊥) → note′ ≡ note)
-          → UseTaken t at size r c width inh syn note note′ number
+          → ItemTaken t at size r c width inh syn note note′ number
       use-rule note′ tag e noted stays =
           let q : number ≡ ruleFault r width inh syn note b = e ∙ ap (ruleFault r width inh syn note) is-part in
           record {
@@ -103,7 +103,7 @@ module _ (t : List ℕ) (at size r c width : ℕ) (inh syn note : List ℕ) (ins
             kinds = λ z n. absurd (n tag);
           }
 
-      pub use-condition : byte t at ≡ 5 → number ≡ conditionFault c width inh syn part → UseTaken t at size r c width inh syn note note number
+      pub use-condition : byte t at ≡ 5 → number ≡ conditionFault c width inh syn part → ItemTaken t at size r c width inh syn note note number
       use-condition tag e =
           let q : number ≡ conditionFault c width inh syn b = e ∙ ap (conditionFault c width inh syn) is-part in
           record {
@@ -120,16 +120,6 @@ module _ (t : List ℕ) (at size r c width : ℕ) (inh syn note : List ℕ) (ins
 
 -- ---- the loop over the fields
 
--- past fields from an offset to another, wherever the production's fields start
-pub record Walking (t : List ℕ) (from offset width : ℕ) (inh syn : List ℕ) (r₀ c₀ : ℕ) (note₀ note : List ℕ) (at r c : ℕ) : Type 0 where
-  pub after : from ≤ at
-  pub inside : at ≤ length t
-  pub rules : r ≤ at
-  pub conditions : c ≤ at
-  pub walked :
-      (start p q : ℕ) → Walked (settingOf t offset width inh syn) start p q note₀ from r₀ c₀
-      → Walked (settingOf t offset width inh syn) start p q note at r c
-
 module _ (t : List ℕ) (from offset width : ℕ) (inh syn : List ℕ) (r₀ c₀ : ℕ) (note₀ : List ℕ) where
   abbrev s : Setting
   s = settingOf t offset width inh syn
@@ -145,10 +135,10 @@ module _ (t : List ℕ) (from offset width : ℕ) (inh syn : List ℕ) (r₀ c�
       }
 
   module _ (note : List ℕ) (at r c : ℕ) (w : Walking t from offset width inh syn r₀ c₀ note₀ note at r c) where
-    module _ (size : ℕ) (note′ : List ℕ) (number : ℕ) (j : UseTaken t at size r c width inh syn note note′ number) where
+    module _ (size : ℕ) (note′ : List ℕ) (number : ℕ) (j : ItemTaken t at size r c width inh syn note note′ number) where
       pub walk-refused :
           (number ≡ 0 → ⊥) → (start p q : ℕ) → Walked s start p q note₀ from r₀ c₀
-          → UsesRead s start p q (record { number = number; at = at; rules = r; conditions = c })
+          → ItemsRead s start p q (refusedAfter (record { number = 0; at = at; rules = r; conditions = c }) number)
       walk-refused n start p q h a =
           let m = w .walked start p q h a in (
             m .0,
@@ -177,39 +167,46 @@ module _ (t : List ℕ) (from offset width : ℕ) (inh syn : List ℕ) (r₀ c�
             → Notes note′ (current (readField (stateIn s a rs cds r c) at (kindOf tag) b′) .rules)
         notes-on a rs cds nt tag e = subst (λ (x : ℕ). Notes note′ (current (readField (stateIn s a rs cds r c) at (kindOf x) b′) .rules)) e (j .notes offset a rs cds nt fine)
 
-        pub walk-rule : byte t at ≡ 4 → Walking t from offset width inh syn r₀ c₀ note₀ note′ next (r + 1) c
-        walk-rule tag =
-            let one : suc r ≡ r + 1 = omega arith in
+        -- a rule or condition more
+        walk-item :
+            (r′ c′ : ℕ) → r′ ≤ suc r → c′ ≤ suc c
+            → ((a : Around s) (rs : List (Rule Occurrence)) (cds : List (Condition Occurrence)) → Notes note rs
+            → (rs′ : List (Rule Occurrence)) × (cds′ : List (Condition Occurrence)) × Notes note′ rs′ × (rest t (stateIn s a rs cds r c) at ≡ rest t (stateIn s a rs′ cds′ r′ c′) next))
+            → Walking t from offset width inh syn r₀ c₀ note₀ note′ next r′ c′
+        walk-item r′ c′ k l f =
             record {
               after = omega (arith, w .after);
               inside = j .whole fine .inside;
               rules = omega (arith, w .rules);
               conditions = omega (arith, w .conditions);
               walked = λ start p q h a.
-                  let m = w .walked start p q h a in (
-                    ruleOf b′ ∷ m .0,
-                    m .1,
-                    notes-on a (m .0) (m .1) (m .2) 4 tag,
-                    m .3 ∙ onward a (m .0) (m .1) (m .2) 4 tag ∙ ap (λ (n : ℕ). rest t (stateIn s a (ruleOf b′ ∷ m .0) (m .1) n c) next) one,
-                  );
+                  let m = w .walked start p q h a in
+                  let n = f a (m .0) (m .1) (m .2) in
+                  (n .0, n .1, n .2, m .3 ∙ n .3);
             }
+
+        pub walk-rule : byte t at ≡ 4 → Walking t from offset width inh syn r₀ c₀ note₀ note′ next (r + 1) c
+        walk-rule tag =
+            let one : suc r ≡ r + 1 = omega arith in
+            walk-item (r + 1) c (omega arith) (omega arith)
+            (λ a rs cds nt. (
+              ruleOf b′ ∷ rs,
+              cds,
+              notes-on a rs cds nt 4 tag,
+              onward a rs cds nt 4 tag ∙ ap (λ (n : ℕ). rest t (stateIn s a (ruleOf b′ ∷ rs) cds n c) next) one,
+            ))
 
         pub walk-condition : (byte t at ≡ 4 → ⊥) → Walking t from offset width inh syn r₀ c₀ note₀ note′ next r (c + 1)
         walk-condition n =
             let one : suc c ≡ c + 1 = omega arith in
-            record {
-              after = omega (arith, w .after);
-              inside = j .whole fine .inside;
-              rules = omega (arith, w .rules);
-              conditions = omega (arith, w .conditions);
-              walked = λ start p q h a.
-                  let m = w .walked start p q h a in (
-                    m .0,
-                    conditionOf b′ ∷ m .1,
-                    notes-on a (m .0) (m .1) (m .2) 5 (j .kinds fine n),
-                    m .3 ∙ onward a (m .0) (m .1) (m .2) 5 (j .kinds fine n) ∙ ap (λ (k : ℕ). rest t (stateIn s a (m .0) (conditionOf b′ ∷ m .1) r k) next) one,
-                  );
-            }
+            let tag = j .kinds fine n in
+            walk-item r (c + 1) (omega arith) (omega arith)
+            (λ a rs cds nt. (
+              rs,
+              conditionOf b′ ∷ cds,
+              notes-on a rs cds nt 5 tag,
+              onward a rs cds nt 5 tag ∙ ap (λ (k : ℕ). rest t (stateIn s a rs (conditionOf b′ ∷ cds) r k) next) one,
+            ))
 
     -- ---- the production is over
 
@@ -232,7 +229,7 @@ module _ (t : List ℕ) (from offset width : ℕ) (inh syn : List ℕ) (r₀ c�
               ∙ ap (λ x. elim x [ true ↦ wellFormed (stateIn s a rs cds r c) | false ↦ malformed 8 offset ]) e
 
       pub record Ended (u : Items) : Type 0 where
-        pub read : (start p q : ℕ) → Walked s start p q note₀ from r₀ c₀ → UsesRead s start p q u
+        pub read : (start p q : ℕ) → Walked s start p q note₀ from r₀ c₀ → ItemsRead s start p q u
         pub next : u .number ≡ 0 → Next t from u
         pub inside : u .at ≤ length t
 
@@ -260,3 +257,55 @@ module _ (t : List ℕ) (from offset width : ℕ) (inh syn : List ℕ) (r₀ c�
 
       pub walk-over : (u : Items) → u ≡ endOf gap offset at r c → offset ≤ length t → Ended u
       walk-over u q l = subst Ended (sym q) (walk-end gap refl l)
+
+-- ---- one field more
+
+pub walk-then :
+    (t : List ℕ) (from offset width : ℕ) (inh syn : List ℕ) (r₀ c₀ : ℕ) (note₀ note note′ : List ℕ) (at r c at′ r′ c′ : ℕ)
+    → Walking t from offset width inh syn r₀ c₀ note₀ note at r c → Walking t at offset width inh syn r c note note′ at′ r′ c′
+    → Walking t from offset width inh syn r₀ c₀ note₀ note′ at′ r′ c′
+walk-then t from offset width inh syn r₀ c₀ note₀ note note′ at r c at′ r′ c′ w v =
+    record {
+      after = omega (arith, w .after, v .after);
+      inside = v .inside;
+      rules = v .rules;
+      conditions = v .conditions;
+      walked = λ start p q h. v .walked start p q (w .walked start p q h);
+    }
+
+module _ (t : List ℕ) (done : Items) (size width : ℕ) (inh syn note note′ : List ℕ) (number : ℕ)
+    (inside : done .at < length t) (rules : done .rules ≤ done .at) (conditions : done .conditions ≤ done .at)
+    (j : ItemTaken t (done .at) size (done .rules) (done .conditions) width inh syn note note′ number) where
+  start-here : (offset : ℕ) → Walking t (done .at) offset width inh syn (done .rules) (done .conditions) note note (done .at) (done .rules) (done .conditions)
+  start-here offset = walk-start t (done .at) offset width inh syn (done .rules) (done .conditions) note (omega arith) rules conditions
+
+  pub item-refused : (number ≡ 0 → ⊥) → ItemRead t done width inh syn note note′ (refusedAfter done number)
+  item-refused n =
+      record {
+        refused = λ m offset. walk-refused t _ offset width inh syn _ _ note note _ _ _ (start-here offset) size note′ number j n;
+        onward = λ z. absurd (n z);
+        further = λ z. absurd (n z);
+        inside = omega arith;
+      }
+
+  module _ (fine : number ≡ 0) where
+    further : done .at < done .at + 3 + size
+    further = omega arith
+
+    pub item-rule : byte t (done .at) ≡ 4 → ItemRead t done width inh syn note note′ (record { number = 0; at = done .at + 3 + size; rules = done .rules + 1; conditions = done .conditions })
+    item-rule tag =
+        record {
+          refused = λ m. absurd (m refl);
+          onward = λ z offset. walk-rule t _ offset width inh syn _ _ note note _ _ _ (start-here offset) size note′ number j fine tag;
+          further = λ z. further;
+          inside = j .whole fine .inside;
+        }
+
+    pub item-condition : (byte t (done .at) ≡ 4 → ⊥) → ItemRead t done width inh syn note note′ (record { number = 0; at = done .at + 3 + size; rules = done .rules; conditions = done .conditions + 1 })
+    item-condition n =
+        record {
+          refused = λ m. absurd (m refl);
+          onward = λ z offset. walk-condition t _ offset width inh syn _ _ note note _ _ _ (start-here offset) size note′ number j fine n;
+          further = λ z. further;
+          inside = j .whole fine .inside;
+        }

@@ -51,7 +51,7 @@ fieldRead g a rs cds r c at size = readField (stateIn g a rs cds r c) at (kindOf
 
 -- a rule or condition taken, after r rules and c conditions of the table: its number, and the note before and after.
 -- 02: "after each rule field the notes hold exactly the occurrences that its production's rules have set so far"
-pub record UseTaken (t : List ℕ) (at size r c width : ℕ) (inh syn note note′ : List ℕ) (number : ℕ) : Type 0 where
+pub record ItemTaken (t : List ℕ) (at size r c width : ℕ) (inh syn note note′ : List ℕ) (number : ℕ) : Type 0 where
   pub read :
       (o : ℕ) (a : Around (settingOf t o width inh syn)) (rs : List (Rule Occurrence)) (cds : List (Condition Occurrence)) → Notes note rs
       → rest t (stateIn (settingOf t o width inh syn) a rs cds r c) at
@@ -70,17 +70,38 @@ Walked g from r₀ c₀ note at r c =
     → (rs : List (Rule Occurrence)) × (cds : List (Condition Occurrence)) × Notes note rs
     × (rest (g .table) (stateIn g a [] [] r₀ c₀) from ≡ rest (g .table) (stateIn g a rs cds r c) at)
 
+-- past fields from an offset to another, wherever the production's fields start
+pub record Walking (t : List ℕ) (from offset width : ℕ) (inh syn : List ℕ) (r₀ c₀ : ℕ) (note₀ note : List ℕ) (at r c : ℕ) : Type 0 where
+  pub after : from ≤ at
+  pub inside : at ≤ length t
+  pub rules : r ≤ at
+  pub conditions : c ≤ at
+  pub walked :
+      (start p q : ℕ) → Walked (settingOf t offset width inh syn) start p q note₀ from r₀ c₀
+      → Walked (settingOf t offset width inh syn) start p q note at r c
+
 -- all rules and conditions of the production read, or a refusal
-abbrev pub UsesRead : Setting → ℕ → ℕ → ℕ → Items → Type 0
-UsesRead g from r₀ c₀ u =
+abbrev pub ItemsRead : Setting → ℕ → ℕ → ℕ → Items → Type 0
+ItemsRead g from r₀ c₀ u =
     (a : Around g)
     → (rs : List (Rule Occurrence)) × (cds : List (Condition Occurrence))
     × (rest (g .table) (stateIn g a [] [] r₀ c₀) from ≡ judged (u .number) (u .at) (rest (g .table) (stateIn g a rs cds (u .rules) (u .conditions)) (u .at)))
     × (u .number ≡ 0 → lastComplete (stateIn g a rs cds (u .rules) (u .conditions)) ≡ true)
 
 -- the same from one of its fields on, with the note of those before, wherever they start
-abbrev pub UsesReadFrom : Setting → List ℕ → ℕ → ℕ → ℕ → Items → Type 0
-UsesReadFrom g note from r c u = (start r₀ c₀ : ℕ) → Walked g start r₀ c₀ note from r c → UsesRead g start r₀ c₀ u
+abbrev pub ItemsReadFrom : Setting → List ℕ → ℕ → ℕ → ℕ → Items → Type 0
+ItemsReadFrom g note from r c u = (start r₀ c₀ : ℕ) → Walked g start r₀ c₀ note from r c → ItemsRead g start r₀ c₀ u
+
+-- the field behind what was read before: one more read, or a refusal of it; the note before and after
+pub record ItemRead (t : List ℕ) (done : Items) (width : ℕ) (inh syn note note′ : List ℕ) (u : Items) : Type 0 where
+  pub refused : (u .number ≡ 0 → ⊥) → (offset : ℕ) → ItemsReadFrom (settingOf t offset width inh syn) note (done .at) (done .rules) (done .conditions) u
+  pub onward : u .number ≡ 0 → (offset : ℕ) → Walking t (done .at) offset width inh syn (done .rules) (done .conditions) note note′ (u .at) (u .rules) (u .conditions)
+  pub further : u .number ≡ 0 → done .at < u .at
+  pub inside : u .at ≤ length t
+
+-- a refusal of the field behind what was read before
+abbrev pub refusedAfter : Items → ℕ → Items
+refusedAfter done number = record { number = number; at = done .at; rules = done .rules; conditions = done .conditions }
 
 -- where the next production starts
 pub record Next (t : List ℕ) (from : ℕ) (u : Items) : Type 0 where

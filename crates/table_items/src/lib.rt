@@ -5,9 +5,11 @@ ghost use Prim.Native.Nat.{_+_, _<_, _≤_};
 ghost use lib.ListN.{length};
 ghost use Rattle.meaning.specs.Table.{byte};
 ghost use Rattle.table_rules.specs.Rule.{Small};
-ghost use Rattle.table_items.specs.Progress.{Sized, Over, settingOf, UseTaken, UsesReadFrom, Next, endOf};
+ghost use Rattle.table_items.specs.Progress.{Sized, Over, settingOf, ItemTaken, ItemsReadFrom, ItemRead, refusedAfter, Next, endOf};
+use table_rule_conditions::condition_fault;
+use table_rule_fields::take_rule;
 
-// The end of a production's rules and conditions (number 0), or the field that is refused.
+// Where the rules and conditions of a table that were read end, and how many they are (number 0); or the field that is refused.
 pub struct Items {
     pub number: u8,
     pub at: usize,
@@ -16,7 +18,7 @@ pub struct Items {
 }
 
 // Whether the table is over or a tag byte 3 follows.
-pub fn is_over(table: &[u8], at: usize) -> bool
+fn is_over(table: &[u8], at: usize) -> bool
     requires { ⌜ at ≤ length (now table) ⌝ }
     ensures over { λ r. ⌜ (r ≡ true → Over (now (table .entry)) at) ⌝ }
     ensures more { λ r. ⌜ (r ≡ false → (at < length (now (table .entry))) × (byte (now (table .entry)) at ≡ 3 → ⊥)) ⌝ }
@@ -27,53 +29,101 @@ pub fn is_over(table: &[u8], at: usize) -> bool
     table_fields::wide(table[at]) == 3
 }
 
-// Takes a rule or condition after r rules and c conditions of the table: the number of its refusal, or 0; what a rule sets is noted.
+// Takes the rule or condition behind what was read before: the number of its refusal, or 0; what a rule sets is noted.
 pub fn take_item(
     table: &[u8],
-    at: usize,
+    done: Items,
     size: usize,
-    r: usize,
-    c: usize,
     width: usize,
     inh: &[u8; 13],
     syn: &[u8; 13],
     note: &mut [u8; 13],
 ) -> u8
-    requires { ⌜ (at < length (now table)) × (byte (now table) at ≡ 3 → ⊥) × Sized (now table) at size × Small width (now inh) (now syn) ⌝ }
-    ensures { λ q. ⌜ UseTaken (now (table .entry)) at size r c width (now (inh .entry)) (now (syn .entry)) (now (note .entry)) (now (note .exit)) q ⌝ }
+    requires { ⌜ (done .at < length (now table)) × (byte (now table) (done .at) ≡ 3 → ⊥) × Sized (now table) (done .at) size × Small width (now inh) (now syn) ⌝ }
+    ensures { λ q. ⌜ ItemTaken (now (table .entry)) (done .at) size (done .rules) (done .conditions) width (now (inh .entry)) (now (syn .entry)) (now (note .entry)) (now (note .exit)) q ⌝ }
 {
     if 65535 < size {
         return 2;
     }
+    let at = done.at;
     let tag = table_fields::wide(table[at]);
     let from = at + 3;
     let end = from + size;
     if tag == 4 {
-        return table_rule_fields::take_rule(r, width, inh, syn, note, &table[from..end]);
+        return take_rule(done.rules, width, inh, syn, note, &table[from..end]);
     }
     if tag == 5 {
-        return table_rule_conditions::condition_fault(c, width, inh, syn, &table[from..end]);
+        return condition_fault(done.conditions, width, inh, syn, &table[from..end]);
     }
     3
 }
 
+// What was read before, with the number of the refusal of the field behind it.
+pub fn refused_after(done: Items, number: u8) -> Items
+    ensures { λ u. ⌜ u ≡ refusedAfter done number ⌝ }
+{
+    Items {
+        number,
+        at: done.at,
+        rules: done.rules,
+        conditions: done.conditions,
+    }
+}
+
+// The rule or condition behind what was read before, which is now read too, or refused.
+fn read_item(
+    table: &[u8],
+    done: Items,
+    width: usize,
+    inh: &[u8; 13],
+    syn: &[u8; 13],
+    note: &mut [u8; 13],
+) -> Items
+    requires { ⌜ (done .at < length (now table)) × (byte (now table) (done .at) ≡ 3 → ⊥) × Small width (now inh) (now syn) × (done .rules ≤ done .at) × (done .conditions ≤ done .at) ⌝ }
+    ensures { λ u. ⌜ ItemRead (now (table .entry)) done width (now (inh .entry)) (now (syn .entry)) (now (note .entry)) (now (note .exit)) u ⌝ }
+{
+    let at = done.at;
+    let size = table_fields::size_at(table, at);
+    let number = take_item(table, done, size, width, inh, syn, note);
+    if number != 0 {
+        return refused_after(done, number);
+    }
+    let next = at + 3 + size;
+    if table_fields::wide(table[at]) == 4 {
+        let rules = done.rules + 1;
+        return Items {
+            number: 0,
+            at: next,
+            rules,
+            conditions: done.conditions,
+        };
+    }
+    let conditions = done.conditions + 1;
+    Items {
+        number: 0,
+        at: next,
+        rules: done.rules,
+        conditions,
+    }
+}
+
 // The end of a production: 8 at its offset where it has a gap.
-pub fn finish(gap: bool, offset: usize, at: usize, r: usize, c: usize) -> Items
-    ensures { λ u. ⌜ u ≡ endOf gap offset at r c ⌝ }
+fn finish(gap: bool, offset: usize, done: Items) -> Items
+    ensures { λ u. ⌜ u ≡ endOf gap offset (done .at) (done .rules) (done .conditions) ⌝ }
 {
     if gap {
         return Items {
             number: 8,
             at: offset,
-            rules: r,
-            conditions: c,
+            rules: done.rules,
+            conditions: done.conditions,
         };
     }
     Items {
         number: 0,
-        at,
-        rules: r,
-        conditions: c,
+        at: done.at,
+        rules: done.rules,
+        conditions: done.conditions,
     }
 }
 
@@ -81,44 +131,27 @@ pub fn finish(gap: bool, offset: usize, at: usize, r: usize, c: usize) -> Items
 // those before.
 pub fn read_items(
     table: &[u8],
-    from: usize,
+    before: Items,
     offset: usize,
     width: usize,
     inh: &[u8; 13],
     syn: &[u8; 13],
     note: &mut [u8; 13],
-    rules: usize,
-    conditions: usize,
 ) -> Items
-    requires { ⌜ Small width (now inh) (now syn) × (from ≤ length (now table)) × (offset ≤ length (now table)) × (rules ≤ from) × (conditions ≤ from) ⌝ }
-    ensures read { λ u. ⌜ UsesReadFrom (settingOf (now (table .entry)) offset width (now (inh .entry)) (now (syn .entry))) (now (note .entry)) from rules conditions u ⌝ }
-    ensures next { λ u. ⌜ (u .number ≡ 0 → Next (now (table .entry)) from u) ⌝ }
+    requires { ⌜ Small width (now inh) (now syn) × (before .at ≤ length (now table)) × (offset ≤ length (now table)) × (before .rules ≤ before .at) × (before .conditions ≤ before .at) ⌝ }
+    ensures read { λ u. ⌜ ItemsReadFrom (settingOf (now (table .entry)) offset width (now (inh .entry)) (now (syn .entry))) (now (note .entry)) (before .at) (before .rules) (before .conditions) u ⌝ }
+    ensures next { λ u. ⌜ (u .number ≡ 0 → Next (now (table .entry)) (before .at) u) ⌝ }
     ensures inside { λ u. ⌜ u .at ≤ length (now (table .entry)) ⌝ }
 {
-    let mut at = from;
-    let mut r = rules;
-    let mut c = conditions;
+    let mut done = before;
     loop {
-        if is_over(table, at) {
+        if is_over(table, done.at) {
             let gap = table_rule_note::has_gap(width, inh, syn, note);
-            return finish(gap, offset, at, r, c);
+            return finish(gap, offset, done);
         }
-        let size = table_fields::size_at(table, at);
-        let number = take_item(table, at, size, r, c, width, inh, syn, note);
-        if number != 0 {
-            return Items {
-                number,
-                at,
-                rules: r,
-                conditions: c,
-            };
+        done = read_item(table, done, width, inh, syn, note);
+        if done.number != 0 {
+            return done;
         }
-        if table_fields::wide(table[at]) == 4 {
-            r += 1;
-            at = at + 3 + size;
-            continue;
-        }
-        c += 1;
-        at = at + 3 + size;
     }
 }

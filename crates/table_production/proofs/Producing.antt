@@ -19,7 +19,6 @@ use Rattle.table_fields.specs.Demand.{ifBelow}
 use Rattle.table_fields.specs.Field.{Whole, Short, rest, bodyAt}
 use Rattle.table_fields.specs.Judge.{productionFault, symbolKnown}
 use Rattle.table_fields.specs.Reads.{stateOf, entryOf}
-use Rattle.table_fields.proofs.Demands.{below-yes, below-no}
 use Rattle.table_fields.proofs.Rest.{step-short, step-field, calm-complete, body-length, body-byte, fieldOf}
 use Rattle.table_fields.proofs.Judged.{production-judged, first-not}
 use Rattle.table_fields.proofs.Fine.{ProductionFine, production-fine}
@@ -30,9 +29,9 @@ use Rattle.table_items.specs.declared.Items.{Items}
 use Rattle.table_counts.specs.Counted.{SmallCounts, countsUpTo}
 use Rattle.outline.specs.Outline.{Carries}
 use Rattle.table.specs.Laid.{Numbered}
-use Rattle.table_carriers.specs.Named.{inheritedCount, synthesizedOf}
+use Rattle.outline.specs.Counts.{countAt, synthesizedAt, count-terminal, count-nonterminal, synthesized-terminal, synthesized-nonterminal}
 use Rattle.table_rows.specs.RowWritten.{symbolByte, Written}
-use Rattle.table_items.specs.Progress.{settingOf, Around, Walked, UsesRead, UsesReadFrom, Next}
+use Rattle.table_items.specs.Progress.{settingOf, Around, Walked, ItemsRead, ItemsReadFrom, Next}
 use Rattle.table_occurrences.specs.OccurrenceBits.{Settled, NoteOf}
 use Rattle.table_sound_items.specs.Sound.{done, BodySound, BodyTaken}
 use Rattle.table_production.specs.Productions.{widthIn, bodyIn, leftIn, rightIn, ProductionKnown, ProductionJudged, SmallBody, CountsAgree, BodyRead}
@@ -170,19 +169,17 @@ module _ (inh syn : List ℕ) where
     cs = countsUpTo inh syn n
 
     pub record SymbolCounts (x : Symbol) (k : ℕ) : Type 0 where
-      pub first : inheritedCount inh k ≡ countsIn (reverse cs) (reverse ws) x .inherited
-      pub second : synthesizedOf carrying syn k ≡ countsIn (reverse cs) (reverse ws) x .synthesized
+      pub first : countAt inh k ≡ countsIn (reverse cs) (reverse ws) x .inherited
+      pub second : synthesizedAt carrying syn k ≡ countsIn (reverse cs) (reverse ws) x .synthesized
 
     of-terminal : Carries carrying (reverse ws) → (k : ℕ) → k < 128 → SymbolCounts (terminal k) k
-    unfolding inheritedCount synthesizedOf
-    of-terminal held k l = record { first = sym (below-yes k 128 _ _ l refl); second = sym (below-yes k 128 _ _ l (ap attributeIf (sym (held .each k)))) }
+    of-terminal held k l = record { first = sym (count-terminal inh k l); second = sym (synthesized-terminal carrying syn k l refl (held .each k)) }
 
     of-nonterminal : (k : ℕ) → 128 ≤ k → k - 128 < n → SymbolCounts (nonterminal (k - 128)) k
-    unfolding inheritedCount synthesizedOf
     of-nonterminal k l h =
         record {
-          first = sym (below-no k 128 _ _ l (ap (λ x. x .inherited) (counts-at n (k - 128) h)));
-          second = sym (below-no k 128 _ _ l (ap (λ x. x .synthesized) (counts-at n (k - 128) h)));
+          first = sym (count-nonterminal inh k _ l (ap (λ x. x .inherited) (counts-at n (k - 128) h)));
+          second = sym (synthesized-nonterminal carrying syn k _ l (count-nonterminal syn k _ l (ap (λ x. x .synthesized) (counts-at n (k - 128) h))));
         }
 
     of-symbol : Carries carrying (reverse ws) → (terminals k : ℕ) → symbolKnown terminals n k ≡ true → SymbolCounts (symbolOf k) k
@@ -195,20 +192,17 @@ module _ (inh syn : List ℕ) where
             of-nonterminal k (ltb-false k 128 q)
             (ltb-true (k - 128) n (sym (ap (λ (b : Bool). cond b (ltb k terminals) (ltb (k - 128) n)) q) ∙ e))
 
-    small-count : SmallCounts inh syn n → (k : ℕ) → (128 ≤ k → k - 128 < n) → inheritedCount inh k + synthesizedOf carrying syn k ≤ 8
-    unfolding inheritedCount synthesizedOf
+    small-count : SmallCounts inh syn n → (k : ℕ) → (128 ≤ k → k - 128 < n) → countAt inh k + synthesizedAt carrying syn k ≤ 8
     small-count small k h = ⊎-elim low high (lt-or-le k 128)
       where
-        own : ℕ
-        own = attributeIf (has (setOf carrying) k)
+        low : k < 128 → countAt inh k + synthesizedAt carrying syn k ≤ 8
+        low l = omega (arith, count-terminal inh k l, synthesized-terminal carrying syn k l refl refl, one-most (has (setOf carrying) k))
 
-        low : k < 128 → inheritedCount inh k + synthesizedOf carrying syn k ≤ 8
-        low l =
-            omega (arith, below-yes {A = ℕ} k 128 0 (getD inh (k - 128) 0) l refl, below-yes {A = ℕ} k 128 own (getD syn (k - 128) 0) l refl, one-most (has (setOf carrying) k))
-
-        high : 128 ≤ k → inheritedCount inh k + synthesizedOf carrying syn k ≤ 8
+        high : 128 ≤ k → countAt inh k + synthesizedAt carrying syn k ≤ 8
         high l =
-            omega (arith, below-no {A = ℕ} k 128 0 (getD inh (k - 128) 0) l refl, below-no {A = ℕ} k 128 own (getD syn (k - 128) 0) l refl, small (k - 128) (h l))
+            let first = count-nonterminal inh k _ l refl in
+            let second = synthesized-nonterminal carrying syn k _ l (count-nonterminal syn k _ l refl) in
+            omega (arith, first, second, small (k - 128) (h l))
 
 -- the nonterminals among known symbols
 known-below : (terminals n k : ℕ) → symbolKnown terminals n k ≡ true → 128 ≤ k → k - 128 < n
@@ -240,7 +234,7 @@ module _ (t : List ℕ) (at p terminals nonterminals carrying : ℕ) (inh syn : 
   pub counts-agree : (ws : List ℕ) → Carries carrying (reverse ws) → CountsAgree t at carrying inh syn (countsUpTo inh syn nonterminals) ws
   counts-agree ws held = record { inherits = λ k l. each-position ws held k l .first; synthesizes = λ k l. each-position ws held k l .second }
 
-  small-position : SmallCounts inh syn nonterminals → (k : ℕ) → k ≤ widthIn t at → inheritedCount inh (symbolByte (bodyIn t at) k) + synthesizedOf carrying syn (symbolByte (bodyIn t at) k) ≤ 8
+  small-position : SmallCounts inh syn nonterminals → (k : ℕ) → k ≤ widthIn t at → countAt inh (symbolByte (bodyIn t at) k) + synthesizedAt carrying syn (symbolByte (bodyIn t at) k) ≤ 8
   small-position small zero l = small-count inh syn carrying [] nonterminals small (128 + byte (bodyIn t at) 0) (λ h. omega (arith, left-byte, known .left))
   small-position small (suc k) l =
       small-count inh syn carrying [] nonterminals small (byte (bodyIn t at) (k + 2)) (known-below terminals nonterminals (byte (bodyIn t at) (k + 2)) (known .symbols k (omega arith)))
@@ -250,7 +244,8 @@ module _ (t : List ℕ) (at p terminals nonterminals carrying : ℕ) (inh syn : 
 
 -- ---- the lists of counts that the code makes of the body
 
-module _ (t : List ℕ) (at w carrying : ℕ) (inherited synthesized inh syn part : List ℕ) (is-width : w ≡ widthIn t at) (is-body : part ≡ bodyIn t at) (long : at + 5 + widthIn t at ≤ length t) (p : Written (inheritedCount inherited) part inh) (q : Written (synthesizedOf carrying synthesized) part syn) where
+module _ (t : List ℕ) (at w carrying : ℕ) (inherited synthesized inh syn part : List ℕ) (is-width : w ≡ widthIn t at) (is-body : part ≡ bodyIn t at)
+    (long : at + 5 + widthIn t at ≤ length t) (p : Written (countAt inherited) part inh) (q : Written (synthesizedAt carrying synthesized) part syn) where
   body-long : length (bodyIn t at) ≡ 2 + widthIn t at
   body-long = body-length t at (2 + widthIn t at) (omega arith)
 
@@ -259,12 +254,12 @@ module _ (t : List ℕ) (at w carrying : ℕ) (inherited synthesized inh syn par
 
   pub body-small : SmallBody t at carrying inherited synthesized → Small w inh syn
   body-small small =
-      (omega (arith, small .0), λ k l. omega (arith, small .1 k (omega arith), at-place (inheritedCount inherited) inh p k l, at-place (synthesizedOf carrying synthesized) syn q k l))
+      (omega (arith, small .0), λ k l. omega (arith, small .1 k (omega arith), at-place (countAt inherited) inh p k l, at-place (synthesizedAt carrying synthesized) syn q k l))
 
   right-long : length (rightIn t at) ≡ w
   right-long = length-map (drop 2 (bodyIn t at)) symbolOf ∙ length-drop 2 (bodyIn t at) ∙ omega (arith, body-long)
 
-  pub body-read : (r₀ c₀ : ℕ) (u : Items) → UsesRead (settingOf t at w inh syn) (at + 5 + w) r₀ c₀ u → BodyRead t at carrying inherited synthesized r₀ c₀ u
+  pub body-read : (r₀ c₀ : ℕ) (u : Items) → ItemsRead (settingOf t at w inh syn) (at + 5 + w) r₀ c₀ u → BodyRead t at carrying inherited synthesized r₀ c₀ u
   body-read r₀ c₀ u f h cs os ws es all agree =
       let a : Around (settingOf t at w inh syn) =
       record {
@@ -278,8 +273,8 @@ module _ (t : List ℕ) (at w carrying : ℕ) (inherited synthesized inh syn par
         all = all;
         placed = record {
           wide = sym right-long;
-          inherits = λ k l. at-place (inheritedCount inherited) inh p k l ∙ agree .inherits k (omega arith);
-          synthesizes = λ k l. at-place (synthesizedOf carrying synthesized) syn q k l ∙ agree .synthesizes k (omega arith);
+          inherits = λ k l. at-place (countAt inherited) inh p k l ∙ agree .inherits k (omega arith);
+          synthesizes = λ k l. at-place (synthesizedAt carrying synthesized) syn q k l ∙ agree .synthesizes k (omega arith);
         };
       }
       in
@@ -303,20 +298,20 @@ pub sound-body :
     (t : List ℕ) (at carrying : ℕ) (inherited synthesized : List ℕ) (r₀ c₀ end r c : ℕ) → at + 5 + widthIn t at ≤ length t → SmallBody t at carrying inherited synthesized
     → BodySound t at carrying inherited synthesized r₀ c₀ end r c → BodyRead t at carrying inherited synthesized r₀ c₀ (done end r c)
 sound-body t at carrying inherited synthesized r₀ c₀ end r c long small b =
-    let p = placed-by (inheritedCount inherited) (bodyIn t at) in
-    let q = placed-by (synthesizedOf carrying synthesized) (bodyIn t at) in
+    let p = placed-by (countAt inherited) (bodyIn t at) in
+    let q = placed-by (synthesizedAt carrying synthesized) (bodyIn t at) in
     body-read t at (widthIn t at) carrying inherited synthesized _ _ (bodyIn t at) refl refl long p q r₀ c₀ (done end r c)
     (b .read _ _ p q (body-small t at (widthIn t at) carrying inherited synthesized _ _ (bodyIn t at) refl refl long p q small))
 
 -- the same of fields taken up to one of them: what is read from there on, by a note that the words tell
 pub taken-body :
     (t : List ℕ) (at w carrying : ℕ) (inherited synthesized inh syn part : List ℕ) → w ≡ widthIn t at → part ≡ bodyIn t at → at + 5 + widthIn t at ≤ length t
-    → Written (inheritedCount inherited) part inh → Written (synthesizedOf carrying synthesized) part syn → SmallBody t at carrying inherited synthesized
-    → (words made : List ℕ) (end r c : ℕ) (u : Items) → NoteOf w inh syn words made → UsesReadFrom (settingOf t at w inh syn) made end r c u
+    → Written (countAt inherited) part inh → Written (synthesizedAt carrying synthesized) part syn → SmallBody t at carrying inherited synthesized
+    → (words made : List ℕ) (end r c : ℕ) (u : Items) → NoteOf w inh syn words made → ItemsReadFrom (settingOf t at w inh syn) made end r c u
     → (r₀ c₀ : ℕ) → BodyTaken t at carrying inherited synthesized r₀ c₀ words end r c → BodyRead t at carrying inherited synthesized r₀ c₀ u
 taken-body t at w carrying inherited synthesized inh syn part is-width is-body long p q small words made end r c u of f r₀ c₀ b =
-    let p′ = subst (λ x. Written (inheritedCount inherited) x inh) is-body p in
-    let q′ = subst (λ x. Written (synthesizedOf carrying synthesized) x syn) is-body q in
+    let p′ = subst (λ x. Written (countAt inherited) x inh) is-body p in
+    let q′ = subst (λ x. Written (synthesizedAt carrying synthesized) x syn) is-body q in
     let few = subst (λ (x : ℕ). Small x inh syn) is-width (body-small t at w carrying inherited synthesized inh syn part is-width is-body long p q small) in
     let words-by = subst (λ (x : ℕ). Settled x inh syn (b .note) words) (sym is-width) (b .settled inh syn p′ q′ few) in
     let walked = subst (λ (x : ℕ). Walked (settingOf t at x inh syn) (at + 5 + x) r₀ c₀ (b .note) end r c) (sym is-width) (b .walked inh syn p′ q′ few) in

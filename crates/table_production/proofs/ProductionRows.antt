@@ -1,5 +1,5 @@
 -- Productions, one after the other, and their rows.
-use Prim.Native.Nat.{ℕ, _+_, _*_, _≤_, _<_}
+use Prim.Native.Nat.{ℕ, _+_, _≤_, _<_}
 use mathlib.Core.Path.{_≡_, refl, sym, _∙_, ap, subst}
 use mathlib.Core.Bool.{true, false}
 use mathlib.Core.List.{List, [], _∷_, reverse}
@@ -8,6 +8,7 @@ use lib.ListN.{length, getD, drop, set, length-set, length-map, length-drop}
 use lib.Seq.{getD-set-same, getD-set-other}
 use Rattle.meaning.specs.Grammar.{Counts, Symbol, terminal}
 use Rattle.meaning.specs.Table.{byte, State, Entry, noEntry, wellFormed, malformed, stage, atAny, atFirst, lastComplete, symbolOf, current}
+use Rattle.outline.specs.Rows.{rowStart}
 use Rattle.table_fields.specs.Field.{rest}
 use Rattle.table_fields.specs.Reads.{stateOf, entryOf}
 use Rattle.table_fields.proofs.Rest.{rest-end, judged-fine, judged-refused, body-byte}
@@ -27,13 +28,13 @@ use Rattle.table_production.proofs.Producing.{counts-agree, right-symbo
 
 -- ---- rows that stay
 
-module _ (rows rows′ offsets : List ℕ) (n o : ℕ) (same : (i : ℕ) → i < n * 16 → getD rows′ i 0 ≡ getD rows i 0) where
+module _ (rows rows′ offsets : List ℕ) (n o : ℕ) (same : (i : ℕ) → i < rowStart n → getD rows′ i 0 ≡ getD rows i 0) where
   row-kept : (p : ℕ) (e : Entry) → p < n → RowOf rows offsets p e → RowOf rows′ (set offsets n o) p e
   row-kept p e l r =
       record {
-        left = same (p * 16) (omega arith) ∙ r .left;
-        size = same (p * 16 + 1) (omega arith) ∙ r .size;
-        symbols = λ k h. ap symbolOf (same (p * 16 + 2 + k) (omega (arith, r .short))) ∙ r .symbols k h;
+        left = same (rowStart p) (omega arith) ∙ r .left;
+        size = same (rowStart p + 1) (omega arith) ∙ r .size;
+        symbols = λ k h. ap symbolOf (same (rowStart p + 2 + k) (omega (arith, r .short))) ∙ r .symbols k h;
         short = r .short;
         offset = getD-set-other offsets n p o 0 (λ q. omega arith) ∙ r .offset;
       }
@@ -72,7 +73,7 @@ module _ (t : List ℕ) (at p terminals nonterminals carrying : ℕ) (inherited 
     body-long : length (bodyIn t at) ≡ 2 + widthIn t at
     body-long = long-in t at p terminals nonterminals carrying inherited synthesized known
 
-    row-byte : (k : ℕ) → k < 2 + widthIn t at → getD rows (p * 16 + k) 0 ≡ byte (bodyIn t at) k
+    row-byte : (k : ℕ) → k < 2 + widthIn t at → getD rows (rowStart p + k) 0 ≡ byte (bodyIn t at) k
     row-byte k l = copied .row k (omega (arith, ap length is-part, body-long)) ∙ ap (λ (x : List ℕ). byte x k) is-part
 
     right-long : length (rightIn t at) ≡ widthIn t at
@@ -84,10 +85,10 @@ module _ (t : List ℕ) (at p terminals nonterminals carrying : ℕ) (inherited 
     row-is : (e : Entry) → e .offset ≡ at → e .left ≡ leftIn t at → e .right ≡ rightIn t at → RowOf rows (set offsets₀ p at) p e
     row-is e o l x =
         record {
-          left = ap (λ (i : ℕ). getD rows i 0) {x = p * 16} {y = p * 16 + 0} (omega arith) ∙ row-byte 0 (omega arith) ∙ left-byte t at p terminals nonterminals carrying inherited synthesized known ∙ sym l;
+          left = ap (λ (i : ℕ). getD rows i 0) {x = rowStart p} {y = rowStart p + 0} (omega arith) ∙ row-byte 0 (omega arith) ∙ left-byte t at p terminals nonterminals carrying inherited synthesized known ∙ sym l;
           size = row-byte 1 (omega arith) ∙ width-byte ∙ sym (ap length x ∙ right-long);
           symbols = λ k h.
-              ap symbolOf (ap (λ (i : ℕ). getD rows i 0) {x = p * 16 + 2 + k} {y = p * 16 + (k + 2)} (omega arith) ∙ row-byte (k + 2) (omega (arith, ap length x, right-long)))
+              ap symbolOf (ap (λ (i : ℕ). getD rows i 0) {x = rowStart p + 2 + k} {y = rowStart p + (k + 2)} (omega arith) ∙ row-byte (k + 2) (omega (arith, ap length x, right-long)))
               ∙ sym (right-symbol t at p terminals nonterminals carrying inherited synthesized known k) ∙ sym (ap (λ (xs : List Symbol). getD xs k (terminal 0)) x);
           short = omega (arith, ap length x, right-long, known .short);
           offset = getD-set-same offsets₀ p at 0 (omega (arith, known .few)) ∙ sym o;

@@ -14,7 +14,8 @@ use Rattle.outline.specs.declared.Sizes.{Sizes}
 use Rattle.outline.specs.Outline.{Carries}
 use Rattle.table_items.specs.declared.Items.{Items}
 use Rattle.table_counts.specs.Counted.{SmallCounts, countsUpTo}
-use Rattle.table_carriers.specs.Named.{inheritedCount, synthesizedOf, NoCarrier}
+use Rattle.outline.specs.Counts.{countAt, synthesizedAt}
+use Rattle.table_carriers.specs.Named.{NoCarrier}
 use Rattle.table_rows.specs.RowWritten.{symbolByte}
 use Rattle.table.specs.Laid.{Laid}
 use Rattle.table_items.specs.Progress.{Next}
@@ -53,12 +54,12 @@ pub record ProductionJudged (t : List ℕ) (at p terminals nonterminals number :
 abbrev pub SmallBody : List ℕ → ℕ → ℕ → List ℕ → List ℕ → Type 0
 SmallBody t at carrying inherited synthesized =
     (widthIn t at ≤ 12)
-    × ((k : ℕ) → k ≤ widthIn t at → inheritedCount inherited (symbolByte (bodyIn t at) k) + synthesizedOf carrying synthesized (symbolByte (bodyIn t at) k) ≤ 8)
+    × ((k : ℕ) → k ≤ widthIn t at → countAt inherited (symbolByte (bodyIn t at) k) + synthesizedAt carrying synthesized (symbolByte (bodyIn t at) k) ≤ 8)
 
 -- and those of the counts and terminals read, latest first
 pub record CountsAgree (t : List ℕ) (at carrying : ℕ) (inherited synthesized : List ℕ) (cs : List Counts) (ws : List ℕ) : Type 0 where
-  pub inherits : (k : ℕ) → k ≤ widthIn t at → inheritedCount inherited (symbolByte (bodyIn t at) k) ≡ countsIn (reverse cs) (reverse ws) (symbolIn (leftIn t at) (rightIn t at) k) .inherited
-  pub synthesizes : (k : ℕ) → k ≤ widthIn t at → synthesizedOf carrying synthesized (symbolByte (bodyIn t at) k) ≡ countsIn (reverse cs) (reverse ws) (symbolIn (leftIn t at) (rightIn t at) k) .synthesized
+  pub inherits : (k : ℕ) → k ≤ widthIn t at → countAt inherited (symbolByte (bodyIn t at) k) ≡ countsIn (reverse cs) (reverse ws) (symbolIn (leftIn t at) (rightIn t at) k) .inherited
+  pub synthesizes : (k : ℕ) → k ≤ widthIn t at → synthesizedAt carrying synthesized (symbolByte (bodyIn t at) k) ≡ countsIn (reverse cs) (reverse ws) (symbolIn (leftIn t at) (rightIn t at) k) .synthesized
 
 -- the rules and conditions of the production at an offset read, or a refusal
 abbrev pub BodyRead : List ℕ → ℕ → ℕ → List ℕ → List ℕ → ℕ → ℕ → Items → Type 0

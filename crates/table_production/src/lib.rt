@@ -9,7 +9,10 @@ ghost use Rattle.table_sound_items.specs.Sound.{BodyTaken};
 ghost use Rattle.table_production.specs.Productions.{widthIn, ProductionJudged, SmallBody, BodyRead, ProductionRead};
 use outline::Sizes;
 use table_items::Items;
-use table_sound_items::Sound;
+use table_items::read_items;
+use table_items::refused_after;
+use table_rows::place_counts;
+use table_sound_items::all_settled;
 use token_set::TokenSet;
 
 // The number of the refusal of the field of production p, or 0.
@@ -38,11 +41,11 @@ fn judge_body(
     inherited: &[u8; 48],
     synthesized: &[u8; 48],
     settled: &[u16; 13],
-    s: Sound,
+    sound: Items,
 ) -> Items
-    requires { ⌜ (at + 5 + widthIn (now table) at ≤ s .at) × SmallBody (now table) at (carrying .0) (now inherited) (now synthesized)
-        × (length (now inherited) ≡ 48) × (length (now synthesized) ≡ 48) × (s .at ≤ length (now table)) × (s .rules ≤ s .at) × (s .conditions ≤ s .at) ⌝ }
-    ensures read { λ u. ⌜ ((p q : ℕ) → BodyTaken (now (table .entry)) at (carrying .0) (now (inherited .entry)) (now (synthesized .entry)) p q (now (settled .entry)) (s .at) (s .rules) (s .conditions)
+    requires { ⌜ (at + 5 + widthIn (now table) at ≤ sound .at) × SmallBody (now table) at (carrying .0) (now inherited) (now synthesized)
+        × (length (now inherited) ≡ 48) × (length (now synthesized) ≡ 48) × (sound .at ≤ length (now table)) × (sound .rules ≤ sound .at) × (sound .conditions ≤ sound .at) ⌝ }
+    ensures read { λ u. ⌜ ((p q : ℕ) → BodyTaken (now (table .entry)) at (carrying .0) (now (inherited .entry)) (now (synthesized .entry)) p q (now (settled .entry)) (sound .at) (sound .rules) (sound .conditions)
         → BodyRead (now (table .entry)) at (carrying .0) (now (inherited .entry)) (now (synthesized .entry)) p q u) ⌝ }
     ensures next { λ u. ⌜ (u .number ≡ 0 → Next (now (table .entry)) (at + 5) u) ⌝ }
     ensures inside { λ u. ⌜ u .at ≤ length (now (table .entry)) ⌝ }
@@ -50,46 +53,30 @@ fn judge_body(
     let width = table_fields::wide(table[at + 4]);
     let from = at + 3;
     let end = at + 5 + width;
+    let body = &table[from..end];
     let mut inh = [0u8; 13];
     let mut syn = [0u8; 13];
-    table_rows::place_counts(
-        &table[from..end],
-        carrying,
-        inherited,
-        synthesized,
-        &mut inh,
-        &mut syn,
-    );
+    place_counts(body, carrying, inherited, synthesized, &mut inh, &mut syn);
     let mut note = table_occurrences::note_of(width, &inh, &syn, settled);
-    table_items::read_items(
-        table,
-        s.at,
-        at,
-        width,
-        &inh,
-        &syn,
-        &mut note,
-        s.rules,
-        s.conditions,
-    )
+    read_items(table, sound, at, width, &inh, &syn, &mut note)
 }
 
-// The rules and conditions of the production at an offset. Mostly they are sound and complete; else they are judged one by one from the first
-// on that is not, or at their end.
+// The rules and conditions of the production at an offset, which is where those of the productions before it end. Mostly they are sound and
+// complete; else they are judged one by one from the first on that is not, or at their end.
 fn read_body(
     table: &[u8],
-    at: usize,
+    before: Items,
     carrying: TokenSet,
     inherited: &[u8; 48],
     synthesized: &[u8; 48],
-    rules: usize,
-    conditions: usize,
 ) -> Items
-    requires { ⌜ (at + 5 + widthIn (now table) at ≤ length (now table)) × SmallBody (now table) at (carrying .0) (now inherited) (now synthesized) × (length (now inherited) ≡ 48) × (length (now synthesized) ≡ 48) × (rules ≤ at) × (conditions ≤ at) ⌝ }
-    ensures read { λ u. ⌜ BodyRead (now (table .entry)) at (carrying .0) (now (inherited .entry)) (now (synthesized .entry)) rules conditions u ⌝ }
-    ensures next { λ u. ⌜ (u .number ≡ 0 → Next (now (table .entry)) (at + 5) u) ⌝ }
+    requires { ⌜ (before .at + 5 + widthIn (now table) (before .at) ≤ length (now table)) × SmallBody (now table) (before .at) (carrying .0) (now inherited) (now synthesized)
+        × (length (now inherited) ≡ 48) × (length (now synthesized) ≡ 48) × (before .rules ≤ before .at) × (before .conditions ≤ before .at) ⌝ }
+    ensures read { λ u. ⌜ BodyRead (now (table .entry)) (before .at) (carrying .0) (now (inherited .entry)) (now (synthesized .entry)) (before .rules) (before .conditions) u ⌝ }
+    ensures next { λ u. ⌜ (u .number ≡ 0 → Next (now (table .entry)) (before .at + 5) u) ⌝ }
     ensures inside { λ u. ⌜ u .at ≤ length (now (table .entry)) ⌝ }
 {
+    let at = before.at;
     let mut settled = [65535u16; 13];
     let s = table_sound_items::read_sound(
         table,
@@ -98,60 +85,46 @@ fn read_body(
         inherited,
         synthesized,
         &mut settled,
-        rules,
-        conditions,
+        before.rules,
+        before.conditions,
     );
-    if !s.sound {
-        return judge_body(table, at, carrying, inherited, synthesized, &settled, s);
-    }
-    if !table_sound_items::all_settled(&settled, table_fields::wide(table[at + 4])) {
-        return judge_body(table, at, carrying, inherited, synthesized, &settled, s);
-    }
-    Items {
+    let sound = Items {
         number: 0,
         at: s.at,
         rules: s.rules,
         conditions: s.conditions,
+    };
+    if s.sound && all_settled(&settled, table_fields::wide(table[at + 4])) {
+        return sound;
     }
+    judge_body(table, at, carrying, inherited, synthesized, &settled, sound)
 }
 
-// Production p, with its row, its offset, its rules and conditions.
+// Production p, with its row, its offset, its rules and conditions, from where those of the productions before it end.
 pub fn read_production(
     table: &[u8],
-    at: usize,
+    before: Items,
     p: usize,
     sizes: Sizes,
     inherited: &[u8; 48],
     synthesized: &[u8; 48],
     rows: &mut [u8; 2048],
     offsets: &mut [u32; 128],
-    rules: usize,
-    conditions: usize,
 ) -> Items
-    requires { ⌜ (at < length (now table)) × (length (now table) ≤ 32768) × (0 < p → byte (now table) at ≡ 3) × (byte (now table) at ≡ 6 → ⊥) × SmallCounts (now inherited) (now synthesized) (sizes .nonterminals)
-        × (length (now inherited) ≡ 48) × (length (now synthesized) ≡ 48) × (length (now rows) ≡ 2048) × (length (now offsets) ≡ 128) × (rules ≤ at) × (conditions ≤ at) ⌝ }
-    ensures { λ u. ⌜ ProductionRead (now (table .entry)) at p (sizes .terminals) (sizes .nonterminals) (sizes .carrying .0) (now (inherited .entry)) (now (synthesized .entry)) (now (rows .entry)) (now (offsets .entry)) rules conditions (now (rows .exit)) (now (offsets .exit)) u ⌝ }
+    requires { ⌜ (before .at < length (now table)) × (length (now table) ≤ 32768) × (0 < p → byte (now table) (before .at) ≡ 3) × (byte (now table) (before .at) ≡ 6 → ⊥)
+        × SmallCounts (now inherited) (now synthesized) (sizes .nonterminals) × (length (now inherited) ≡ 48) × (length (now synthesized) ≡ 48)
+        × (length (now rows) ≡ 2048) × (length (now offsets) ≡ 128) × (before .rules ≤ before .at) × (before .conditions ≤ before .at) ⌝ }
+    ensures { λ u. ⌜ ProductionRead (now (table .entry)) (before .at) p (sizes .terminals) (sizes .nonterminals) (sizes .carrying .0) (now (inherited .entry)) (now (synthesized .entry))
+        (now (rows .entry)) (now (offsets .entry)) (before .rules) (before .conditions) (now (rows .exit)) (now (offsets .exit)) u ⌝ }
 {
+    let at = before.at;
     let number = production_number(table, at, p, sizes.terminals, sizes.nonterminals);
     if number != 0 {
-        return Items {
-            number,
-            at,
-            rules,
-            conditions,
-        };
+        return refused_after(before, number);
     }
     let from = at + 3;
     let end = at + 5 + table_fields::wide(table[at + 4]);
     table_rows::copy_row(rows, p, &table[from..end]);
     offsets[p] = at as u32;
-    read_body(
-        table,
-        at,
-        sizes.carrying,
-        inherited,
-        synthesized,
-        rules,
-        conditions,
-    )
+    read_body(table, before, sizes.carrying, inherited, synthesized)
 }

@@ -1,5 +1,5 @@
 -- What is read once the last production is over is the outline of the table.
-use Prim.Native.Nat.{ℕ, _*_, _≤_, _<_}
+use Prim.Native.Nat.{ℕ, _≤_, _<_}
 use native.Mathlib.Omega.{arith}
 use mathlib.Core.Path.{_≡_, sym, ap, _∙_, subst}
 use mathlib.Core.List.{List, reverse}
@@ -10,7 +10,7 @@ use Rattle.meaning.specs.Table.{State, Entry, noEntry, wellFormed, readTable, p
 use Rattle.theory_table.specs.Places.{read-places}
 use Rattle.theory_table.specs.ReadWellFormed.{read-well-formed}
 use Rattle.outline.specs.declared.Sizes.{Sizes}
-use Rattle.outline.specs.Rows.{Rows, sizeAt, rightAt, right-is}
+use Rattle.outline.specs.Rows.{Rows, sizeAt, rightAt, right-is, rowStart}
 use Rattle.outline.specs.Outline.{grammarIn, stateIn, state-read, grammar-read, Carries, Outline}
 use Rattle.table_fields.specs.Reads.{stateOf}
 use Rattle.table_counts.specs.Counted.{headerIn, countsUpTo, offsetsUpTo}
@@ -53,7 +53,7 @@ module _ (t : List ℕ) (from : ℕ) (sizes : Sizes) (inherited synthesized rows
       many : length (g .productions) ≡ p
       many = omega (arith, length-map (reverse (f .entries)) productionOf, length-reverse (f .entries), f .count)
 
-      room : p * 16 ≤ length rows
+      room : rowStart p ≤ length rows
       room = omega (arith, w .few, w .kept)
 
       short : (i : ℕ) → i < p → sizeAt rows i ≤ 12

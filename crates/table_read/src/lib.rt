@@ -1,15 +1,27 @@
 // The reader of a table: refusals 1 to 10, or an outline of what was read.
 ghost use mathlib.Core.Path.{_≡_};
-ghost use Prim.Native.Nat.{_+_, _*_};
+ghost use Prim.Native.Nat.{_+_, _*_, _≤_};
 ghost use lib.ListN.{length};
-ghost use Rattle.meaning.specs.Table.{readTable};
+ghost use Rattle.meaning.specs.Table.{byte, readTable};
 ghost use Rattle.table_fields.specs.Field.{rest};
 ghost use Rattle.table_counts.specs.Counted.{counted};
+ghost use Rattle.table.specs.declared.Reading.the-variants.{Malformed};
 ghost use Rattle.table.specs.Answer.{Answers, AnswersFrom};
 ghost use Rattle.table_production.specs.Productions.{HeaderRead, Begun};
 use outline::Sizes;
 use table::Reading;
+use table_items::Items;
+use table_production::read_production;
 use token_set::TokenSet;
+
+// A refusal, with its number and its offset.
+fn refused(number: u8, at: usize) -> Reading
+    requires { ⌜ at ≤ 32768 ⌝ }
+    ensures { λ r. ⌜ r ≡ Malformed number at ⌝ }
+{
+    let offset = at as u32;
+    Reading::Malformed { number, offset }
+}
 
 // All productions, from an offset on.
 fn read_productions(
@@ -24,48 +36,26 @@ fn read_productions(
     requires { ⌜ Begun (now table) from sizes (now inherited) (now synthesized) × (length (now rows) ≡ 2048) × (length (now offsets) ≡ 128) ⌝ }
     ensures { λ r. ⌜ AnswersFrom (now (table .entry)) from sizes r (now (inherited .entry)) (now (synthesized .entry)) (now (rows .exit)) (now (offsets .exit)) ⌝ }
 {
-    let mut at = from;
+    let mut done = Items {
+        number: 0,
+        at: from,
+        rules: 0,
+        conditions: 0,
+    };
     let mut p: usize = 0;
-    let mut rules: usize = 0;
-    let mut conditions: usize = 0;
-    while at < table.len() {
-        let u = table_production::read_production(
-            table,
-            at,
-            p,
-            sizes,
-            inherited,
-            synthesized,
-            rows,
-            offsets,
-            rules,
-            conditions,
-        );
-        if u.number != 0 {
-            let offset = u.at as u32;
-            return Reading::Malformed {
-                number: u.number,
-                offset,
-            };
+    while done.at < table.len() {
+        done = read_production(table, done, p, sizes, inherited, synthesized, rows, offsets);
+        if done.number != 0 {
+            return refused(done.number, done.at);
         }
         p += 1;
-        at = u.at;
-        rules = u.rules;
-        conditions = u.conditions;
     }
     if p == 0 {
-        let offset = at as u32;
-        return Reading::Malformed { number: 3, offset };
+        return refused(3, done.at);
     }
-    let carrying = sizes.carrying;
-    Reading::WellFormed(Sizes {
-        terminals: sizes.terminals,
-        nonterminals: sizes.nonterminals,
-        start: sizes.start,
-        result: sizes.result,
-        productions: p,
-        carrying,
-    })
+    let mut counted = sizes;
+    counted.productions = p;
+    Reading::WellFormed(counted)
 }
 
 // The tag 6 fields and the productions, from the last tag 2 field on.
@@ -83,11 +73,7 @@ fn read_after_counts(
     let from = 7 + 5 * sizes.nonterminals;
     let c = table_carriers::read_carriers(table, from, sizes.terminals);
     if c.number != 0 {
-        let offset = c.at as u32;
-        return Reading::Malformed {
-            number: c.number,
-            offset,
-        };
+        return refused(c.number, c.at);
     }
     let carrying = c.carrying;
     let known = Sizes {
@@ -99,6 +85,25 @@ fn read_after_counts(
         carrying,
     };
     read_productions(table, c.at, known, inherited, synthesized, rows, offsets)
+}
+
+// The numbers of the header, whose field is good; those of the productions and of the terminals with a value are not known yet.
+fn header_sizes(table: &[u8]) -> Sizes
+    requires { ⌜ 7 ≤ length (now table) ⌝ }
+    ensures { λ r. ⌜ (r .terminals ≡ byte (now (table .entry)) 3) × (r .nonterminals ≡ byte (now (table .entry)) 4) × (r .start ≡ byte (now (table .entry)) 5) × (r .result ≡ byte (now (table .entry)) 6) ⌝ }
+{
+    let terminals = table_fields::wide(table[3]);
+    let nonterminals = table_fields::wide(table[4]);
+    let start = table_fields::wide(table[5]);
+    let result = table_fields::wide(table[6]);
+    Sizes {
+        terminals,
+        nonterminals,
+        start,
+        result,
+        productions: 0,
+        carrying: TokenSet::EMPTY,
+    }
 }
 
 // Reads a table. The lent arrays hold the outline of a table that is well formed: the counts of each nonterminal, a row of
@@ -115,41 +120,23 @@ pub fn read_table(
     ensures { λ r. ⌜ Answers r (now (inherited .exit)) (now (synthesized .exit)) (now (rows .exit)) (now (offsets .exit)) (readTable (now (table .entry))) ⌝ }
 {
     if 32768 < table.len() {
-        return Reading::Malformed {
-            number: 1,
-            offset: 0,
-        };
+        return refused(1, 0);
     }
     let number = table_counts::header_number(table);
     if number != 0 {
-        return Reading::Malformed { number, offset: 0 };
+        return refused(number, 0);
     }
-    let terminals = table_fields::wide(table[3]);
-    let nonterminals = table_fields::wide(table[4]);
-    let start = table_fields::wide(table[5]);
-    let result = table_fields::wide(table[6]);
+    let sizes = header_sizes(table);
     let counted = table_counts::read_counts(
         table,
-        nonterminals,
-        start,
-        result,
+        sizes.nonterminals,
+        sizes.start,
+        sizes.result,
         inherited,
         synthesized,
     );
     if counted.number != 0 {
-        let offset = counted.offset as u32;
-        return Reading::Malformed {
-            number: counted.number,
-            offset,
-        };
+        return refused(counted.number, counted.offset);
     }
-    let sizes = Sizes {
-        terminals,
-        nonterminals,
-        start,
-        result,
-        productions: 0,
-        carrying: TokenSet::EMPTY,
-    };
     read_after_counts(table, sizes, inherited, synthesized, rows, offsets)
 }

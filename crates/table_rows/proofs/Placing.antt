@@ -1,5 +1,5 @@
 -- Loops that write counts and rows.
-use Prim.Native.Nat.{ℕ, zero, suc, _+_, _*_, _≤_, _<_}
+use Prim.Native.Nat.{ℕ, zero, suc, _+_, _≤_, _<_}
 use mathlib.Core.Path.{_≡_, refl, sym, _∙_, ap}
 use mathlib.Core.List.{List}
 use mathlib.Core.Logic.{⊎-elim}
@@ -8,6 +8,7 @@ use native.Mathlib.Nat.{not-suc-le-zero}
 use lib.ListN.{length, getD, set, length-set}
 use lib.Seq.{getD-set-same, getD-set-other}
 use Rattle.meaning.specs.Table.{byte}
+use Rattle.outline.specs.Rows.{rowStart}
 use Rattle.table_rows.specs.RowWritten.{symbolByte, Copied}
 use Rattle.table_fields.proofs.Cases.{lt-or-le}
 
@@ -49,21 +50,21 @@ pub copying-start : (rows : List ℕ) (p : ℕ) (b : List ℕ) → length rows �
 copying-start rows p b l = record { before = λ i h. refl; row = λ j h. absurd (not-suc-le-zero h); kept = l }
 
 pub copying-more :
-    (rows₀ : List ℕ) (p : ℕ) (b rows : List ℕ) (k : ℕ) → Copied rows₀ p b rows k → p * 16 + k < 2048
-    → Copied rows₀ p b (set rows (p * 16 + k) (byte b k)) (k + 1)
+    (rows₀ : List ℕ) (p : ℕ) (b rows : List ℕ) (k : ℕ) → Copied rows₀ p b rows k → rowStart p + k < 2048
+    → Copied rows₀ p b (set rows (rowStart p + k) (byte b k)) (k + 1)
 copying-more rows₀ p b rows k c room =
     record {
-      before = λ i h. getD-set-other rows (p * 16 + k) i (byte b k) 0 (λ q. omega arith) ∙ c .before i h;
+      before = λ i h. getD-set-other rows (rowStart p + k) i (byte b k) 0 (λ q. omega arith) ∙ c .before i h;
       row = row;
-      kept = length-set rows (p * 16 + k) (byte b k) ∙ c .kept;
+      kept = length-set rows (rowStart p + k) (byte b k) ∙ c .kept;
     }
   where
-    row : (j : ℕ) → j < k + 1 → getD (set rows (p * 16 + k) (byte b k)) (p * 16 + j) 0 ≡ byte b j
+    row : (j : ℕ) → j < k + 1 → getD (set rows (rowStart p + k) (byte b k)) (rowStart p + j) 0 ≡ byte b j
     row j h =
         ⊎-elim
-        (λ l. getD-set-other rows (p * 16 + k) (p * 16 + j) (byte b k) 0 (λ q. omega arith) ∙ c .row j l)
+        (λ l. getD-set-other rows (rowStart p + k) (rowStart p + j) (byte b k) 0 (λ q. omega arith) ∙ c .row j l)
         (λ l.
         let q : j ≡ k = omega arith in
-        ap (λ (i : ℕ). getD (set rows (p * 16 + k) (byte b k)) (p * 16 + i) 0) q
-        ∙ getD-set-same rows (p * 16 + k) (byte b k) 0 (omega (arith, c .kept)) ∙ ap (byte b) (sym q))
+        ap (λ (i : ℕ). getD (set rows (rowStart p + k) (byte b k)) (rowStart p + i) 0) q
+        ∙ getD-set-same rows (rowStart p + k) (byte b k) 0 (omega (arith, c .kept)) ∙ ap (byte b) (sym q))
         (lt-or-le j k)

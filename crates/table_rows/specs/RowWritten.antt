@@ -1,9 +1,10 @@
 -- What is written of a production: the counts at its positions, and its row.
-use Prim.Native.Nat.{ℕ, zero, suc, _+_, _*_, _<_}
+use Prim.Native.Nat.{ℕ, zero, suc, _+_, _<_}
 use mathlib.Core.Path.{_≡_}
 use mathlib.Core.List.{List}
 use lib.ListN.{getD, length}
 use Rattle.meaning.specs.Table.{byte}
+use Rattle.outline.specs.Rows.{rowStart}
 
 -- the byte of the symbol at a position of a production, by its body
 abbrev pub symbolByte : List ℕ → ℕ → ℕ
@@ -16,6 +17,6 @@ pub record Written (f : ℕ → ℕ) (b places : List ℕ) : Type 0 where
 
 -- k bytes of a production's body are copied to its row, and the rows before stay
 pub record Copied (rows₀ : List ℕ) (p : ℕ) (b rows : List ℕ) (k : ℕ) : Type 0 where
-  pub before : (i : ℕ) → i < p * 16 → getD rows i 0 ≡ getD rows₀ i 0
-  pub row : (j : ℕ) → j < k → getD rows (p * 16 + j) 0 ≡ byte b j
+  pub before : (i : ℕ) → i < rowStart p → getD rows i 0 ≡ getD rows₀ i 0
+  pub row : (j : ℕ) → j < k → getD rows (rowStart p + j) 0 ≡ byte b j
   pub kept : length rows ≡ 2048

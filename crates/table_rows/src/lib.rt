@@ -2,7 +2,7 @@
 ghost use mathlib.Core.Path.{_≡_};
 ghost use Prim.Native.Nat.{_+_, _<_, _≤_};
 ghost use lib.ListN.{length};
-ghost use Rattle.table_carriers.specs.Named.{inheritedCount, synthesizedOf};
+ghost use Rattle.outline.specs.Counts.{countAt, synthesizedAt};
 ghost use Rattle.table_rows.specs.RowWritten.{Written, Copied};
 use token_set::TokenSet;
 
@@ -16,17 +16,17 @@ pub fn place_counts(
     syn: &mut [u8; 13],
 )
     requires { ⌜ (2 ≤ length (now body)) × (length (now body) ≤ 14) × (length (now inherited) ≡ 48) × (length (now synthesized) ≡ 48) × (length (now inh) ≡ 13) × (length (now syn) ≡ 13) ⌝ }
-    ensures inherits { λ r. ⌜ Written (inheritedCount (now (inherited .entry))) (now (body .entry)) (now (inh .exit)) ⌝ }
-    ensures synthesizes { λ r. ⌜ Written (synthesizedOf (carrying .0) (now (synthesized .entry))) (now (body .entry)) (now (syn .exit)) ⌝ }
+    ensures inherits { λ r. ⌜ Written (countAt (now (inherited .entry))) (now (body .entry)) (now (inh .exit)) ⌝ }
+    ensures synthesizes { λ r. ⌜ Written (synthesizedAt (carrying .0) (now (synthesized .entry))) (now (body .entry)) (now (syn .exit)) ⌝ }
 {
     let left = 128 + table_fields::wide(body[0]);
-    inh[0] = table_carriers::count_of(inherited, left);
-    syn[0] = table_carriers::synthesized_of(carrying, synthesized, left);
+    inh[0] = outline::count_of(inherited, left);
+    syn[0] = outline::synthesized_of(carrying, synthesized, left);
     let mut k: usize = 1;
     while k + 1 < body.len() {
         let symbol = table_fields::wide(body[k + 1]);
-        inh[k] = table_carriers::count_of(inherited, symbol);
-        syn[k] = table_carriers::synthesized_of(carrying, synthesized, symbol);
+        inh[k] = outline::count_of(inherited, symbol);
+        syn[k] = outline::synthesized_of(carrying, synthesized, symbol);
         k += 1;
     }
 }
@@ -36,9 +36,10 @@ pub fn copy_row(rows: &mut [u8; 2048], p: usize, body: &[u8])
     requires { ⌜ (p < 128) × (length (now body) ≤ 14) × (length (now rows) ≡ 2048) ⌝ }
     ensures { λ r. ⌜ Copied (now (rows .entry)) p (now (body .entry)) (now (rows .exit)) (length (now (body .entry))) ⌝ }
 {
+    let start = outline::row_start(p);
     let mut k: usize = 0;
     while k < body.len() {
-        rows[p * 16 + k] = body[k];
+        rows[start + k] = body[k];
         k += 1;
     }
 }

@@ -116,7 +116,8 @@ place-same : (x : Bool) (m t : ℕ) → eqb t 0 ≡ false → cond x (ltb m t) t
 place-same true m t e = refl
 place-same false m t e = sym (lt-ltb 0 t (let n = eqb-false t 0 e in omega arith))
 
-module _ (h : Header) (cs : List Counts) (os ws : List ℕ) (es : List Entry) (r c o l : ℕ) (xs : List Symbol) (rs : List (Rule Occurrence)) (cds : List (Condition Occurrence)) (width : ℕ) (inh syn note : List ℕ) (pl : Placed cs ws l xs width inh syn) (small : Small width inh syn) (nt : Notes note rs) (b : List ℕ) where
+module _ (h : Header) (cs : List Counts) (os ws : List ℕ) (es : List Entry) (r c o l : ℕ) (xs : List Symbol) (rs : List (Rule Occurrence)) (cds : List (Condition Occurrence))
+    (width : ℕ) (inh syn note : List ℕ) (pl : Placed cs ws l xs width inh syn) (small : Small width inh syn) (nt : Notes note rs) (b : List ℕ) where
   abbrev e : Entry
   e = entry h cs os ws es r c o l xs rs cds
 
@@ -159,7 +160,8 @@ module _ (h : Header) (cs : List Counts) (os ws : List ℕ) (es : List Entry) (r
 
   uses-judged :
       f ≤ 8
-      → lowestOf ((K (occurrenceAt b 0) && all K (operands (functionOf b)), 5) ∷ (true, 6) ∷ (not (I (occurrenceAt b 0)) && all I (operands (functionOf b)), 7) ∷ (not (hasRule e (occurrenceAt b 0)), 8) ∷ (eqb (byte b 0) 0 || all (λ x. ltb (x .position) (byte b 0)) (operands (functionOf b)), 9) ∷ (true, 10) ∷ [])
+      → lowestOf ((K (occurrenceAt b 0) && all K (operands (functionOf b)), 5) ∷ (true, 6) ∷ (not (I (occurrenceAt b 0)) && all I (operands (functionOf b)), 7)
+      ∷ (not (hasRule e (occurrenceAt b 0)), 8) ∷ (eqb (byte b 0) 0 || all (λ x. ltb (x .position) (byte b 0)) (operands (functionOf b)), 9) ∷ (true, 10) ∷ [])
       ≡ ruleUses width inh syn note b (operandCount f)
   unfolding ruleUses ruleOrder operandPlace lacks below ifEqual ifBelow
   uses-judged u =

@@ -1,9 +1,10 @@
 -- A rule that nothing is wrong with: its target an output without a rule, its operands inputs below it.
-use Prim.Native.Nat.{ℕ, zero, suc, _+_, _-_, _*_, _/_, _%_, _^_, _≤_, _<_}
+use Prim.Native.Nat.{ℕ, _+_, _-_, _*_, _≤_, _<_}
 use mathlib.Core.Path.{_≡_, refl, sym, _∙_, ap, ap₂}
-use mathlib.Core.Bool.{Bool, false}
+use mathlib.Core.Bool.{Bool, true, false, cond}
 use mathlib.Core.List.{List}
 use native.Mathlib.Omega.{arith}
+use lib.Dec.{eqb, ltb}
 use lib.ListN.{getD}
 use Rattle.meaning.specs.Table.{byte}
 use Rattle.table_fields.specs.Demand.{ifEqual, ifBelow, differs}
@@ -12,23 +13,21 @@ use Rattle.table_rules.specs.Rule.{Small, bit, classAt, classIn, lengthOf, oper
 use Rattle.table_rules.proofs.Laws.{ap3, else-second, class-inside, class-first, class-last}
 use Rattle.table_fields.proofs.Cases.{nonzero}
 
--- ---- numbers by the function, as digits of 16
+-- ---- numbers by the function
 
-abbrev Digits : ℕ → Type 0
-Digits f = (41195894615 / 2 ^ (4 * f) % 16 ≡ lengthOf f) × (4599194128 / 2 ^ (4 * f) % 16 ≡ operandCount f) × (3 + 2 * operandCount f ≤ 41195894615 / 2 ^ (4 * f) % 16)
-
-pub digits : (f : ℕ) → f ≤ 8 → Digits f
+-- a rule's body has room for its operands
+operands-inside : (f : ℕ) → 3 + 2 * operandCount f ≤ lengthOf f
 unfolding lengthOf operandCount ifEqual ifBelow
-digits zero l = (refl, refl, omega arith)
-digits (suc zero) l = (refl, refl, omega arith)
-digits (suc (suc zero)) l = (refl, refl, omega arith)
-digits (suc (suc (suc zero))) l = (refl, refl, omega arith)
-digits (suc (suc (suc (suc zero)))) l = (refl, refl, omega arith)
-digits (suc (suc (suc (suc (suc zero))))) l = (refl, refl, omega arith)
-digits (suc (suc (suc (suc (suc (suc zero)))))) l = (refl, refl, omega arith)
-digits (suc (suc (suc (suc (suc (suc (suc zero))))))) l = (refl, refl, omega arith)
-digits (suc (suc (suc (suc (suc (suc (suc (suc zero)))))))) l = (refl, refl, omega arith)
-digits (suc (suc (suc (suc (suc (suc (suc (suc (suc f))))))))) l = absurd (omega arith)
+operands-inside f = by (eqb f 0) (eqb f 1) (ltb f 7)
+  where
+    by : (x y z : Bool) → 3 + 2 * cond x 0 (cond y 1 (cond z 2 1)) ≤ cond x 7 (cond y 5 (cond z 7 9))
+    by true y z = omega arith
+    by false true z = omega arith
+    by false false true = omega arith
+    by false false false = omega arith
+
+pub length-is : (f r : ℕ) → r ≡ lengthOf f → (r ≡ lengthOf f) × (3 + 2 * operandCount f ≤ r)
+length-is f r e = (e, omega (arith, e, operands-inside f))
 
 -- ---- classes
 

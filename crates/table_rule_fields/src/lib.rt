@@ -9,20 +9,36 @@ ghost use Rattle.meaning.specs.Table.{byte};
 ghost use Rattle.table_rules.specs.Rule.{Small, classAt, classIn, lengthOf, operandCount, OperandsFit, divisorFits, ruleUses, ruleFault};
 ghost use Rattle.table_rules.specs.Note.{Notes, rulesAfter};
 
-// The length of a rule's body by its function: a digit of 16 for each, the lowest for 0.
-pub fn length_of(f: usize) -> usize
-    requires { ⌜ f ≤ 8 ⌝ }
+// The length of a rule's body by its function.
+fn length_of(f: usize) -> usize
     ensures { λ r. ⌜ (r ≡ lengthOf f) × (3 + 2 * operandCount f ≤ r) ⌝ }
 {
-    (0x9_9777_7757usize >> (4 * f)) % 16
+    if f == 0 {
+        return 7;
+    }
+    if f == 1 {
+        return 5;
+    }
+    if f < 7 {
+        return 7;
+    }
+    9
 }
 
-// How many operands a function has, in the same way.
-pub fn operand_count(f: usize) -> usize
-    requires { ⌜ f ≤ 8 ⌝ }
+// How many operands a function has.
+fn operand_count(f: usize) -> usize
     ensures { λ r. ⌜ r ≡ operandCount f ⌝ }
 {
-    (0x1_1222_2210usize >> (4 * f)) % 16
+    if f == 0 {
+        return 0;
+    }
+    if f == 1 {
+        return 1;
+    }
+    if f < 7 {
+        return 2;
+    }
+    1
 }
 
 pub fn divisor_fits(f: usize, body: &[u8]) -> bool

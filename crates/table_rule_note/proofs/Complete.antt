@@ -67,7 +67,8 @@ all-mapped f g (x ∷ l) = ap (λ y. f (g x) && y) (all-mapped f g l)
 
 -- ---- every output of a production is noted
 
-module _ (h : Header) (cs : List Counts) (os ws : List ℕ) (es : List Entry) (r c o l : ℕ) (xs : List Symbol) (rs : List (Rule Occurrence)) (cds : List (Condition Occurrence)) (width : ℕ) (inh syn note : List ℕ) (pl : Placed cs ws l xs width inh syn) (small : Small width inh syn) (nt : Notes note rs) where
+module _ (h : Header) (cs : List Counts) (os ws : List ℕ) (es : List Entry) (r c o l : ℕ) (xs : List Symbol) (rs : List (Rule Occurrence)) (cds : List (Condition Occurrence))
+    (width : ℕ) (inh syn note : List ℕ) (pl : Placed cs ws l xs width inh syn) (small : Small width inh syn) (nt : Notes note rs) where
   abbrev e : Entry
   e = entry h cs os ws es r c o l xs rs cds
 

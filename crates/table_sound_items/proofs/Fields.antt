@@ -11,7 +11,7 @@ use Rattle.table_fields.specs.Field.{Whole, lengthAt, bodyAt}
 use Rattle.table_fields.proofs.Rest.{body-length, body-byte}
 use Rattle.table_fields.proofs.Demands.{holds-met, equal-met, differs-met, atMost-met, below-met, equal-yes, equal-no, below-yes, below-no}
 use Rattle.table_rules.specs.Rule.{classIn, inOrder, fourAt, lengthOf, operandCount, divisorFits, ruleUses, ruleFault, rangeFault, atMostFault, conditionFault}
-use Rattle.table_rule_fields.proofs.Sound.{digits}
+use Rattle.table_rule_fields.proofs.Sound.{length-is}
 
 -- ---- a field and its body
 
@@ -38,7 +38,7 @@ length-seven f n l = go (ℕ-discrete f 0)
     go (no m) = equal-no _ _ _ _ m (equal-no _ _ _ _ n (below-yes _ _ _ _ l refl))
 
 pub operands-inside : (f : ℕ) → f ≤ 8 → 3 + 2 * operandCount f ≤ lengthOf f
-operands-inside f l = let d = digits f l in omega (arith, d .0, d .2)
+operands-inside f l = length-is f (lengthOf f) refl .1
 
 pub rule-none :
     (r width : ℕ) (inh syn note b : List ℕ) (f : ℕ) → f ≡ byte b 2 → r < 1024 → byte b 2 ≤ 8 → 5 ≤ length b → length b ≡ lengthOf (byte b 2)
@@ -67,10 +67,10 @@ module _ (c width : ℕ) (inh syn b : List ℕ) (few : c < 512) where
       (holds-met _ _ _ o refl)))))))
 
   pub comparison-none :
-      (kind : ℕ) → 1 ≤ kind → kind ≤ 2 → byte b 0 ≡ kind → length b ≡ 4 * kind + 1 → 1 ≡ classIn width inh syn b 1 → 1 ≡ classIn width inh syn b 3
+      1 ≤ byte b 0 → byte b 0 ≤ 2 → length b ≡ 4 * byte b 0 + 1 → 1 ≡ classIn width inh syn b 1 → 1 ≡ classIn width inh syn b 3
       → 0 ≡ conditionFault c width inh syn b
   unfolding conditionFault atMostFault
-  comparison-none kind l m e n x y =
+  comparison-none l m n x y =
       atMost-met _ _ _ _ (omega arith)
       (below-met _ _ _ _ few
       (atMost-met _ _ _ _ (omega arith)

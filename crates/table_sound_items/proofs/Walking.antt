@@ -17,9 +17,9 @@ use Rattle.table_rule_note.proofs.Noting.{notes-begin, notes-taken}
 use Rattle.table_rule_note.proofs.Gaps.{gaps-answered}
 use Rattle.table_rule_fields.proofs.Sound.{output-left, output-right}
 use Rattle.table_rows.specs.RowWritten.{symbolByte, Written}
-use Rattle.table_carriers.specs.Named.{inheritedCount, synthesizedOf}
-use Rattle.table_items.specs.Progress.{settingOf, Walked}
-use Rattle.table_items.proofs.Walking.{Walking, use-rule, use-condition, walk-start, walk-rule, walk-condition, walk-over}
+use Rattle.outline.specs.Counts.{countAt, synthesizedAt}
+use Rattle.table_items.specs.Progress.{settingOf, Walked, Walking}
+use Rattle.table_items.proofs.Walking.{use-rule, use-condition, walk-start, walk-rule, walk-condition, walk-over}
 use Rattle.table_occurrences.specs.OccurrenceBits.{inputWord, otherWord, Filled, Inputs, Settled, notedBy}
 use Rattle.table_occurrences.proofs.Ranges.{full}
 use Rattle.table_occurrences.proofs.Laws.{inputs-placed, settled-placed}
@@ -150,18 +150,18 @@ module _ (t : List ℕ) (at carrying : ℕ) (inherited synthesized : List ℕ) (
   body = bodyAt t at (2 + width)
 
   abbrev inputsBy : List ℕ → ℕ → ℕ
-  inputsBy part k = inputWord k (inheritedCount inherited (symbolByte part k)) (synthesizedOf carrying synthesized (symbolByte part k))
+  inputsBy part k = inputWord k (countAt inherited (symbolByte part k)) (synthesizedAt carrying synthesized (symbolByte part k))
 
   abbrev othersBy : List ℕ → ℕ → ℕ
-  othersBy part k = otherWord k (inheritedCount inherited (symbolByte part k)) (synthesizedOf carrying synthesized (symbolByte part k))
+  othersBy part k = otherWord k (countAt inherited (symbolByte part k)) (synthesizedAt carrying synthesized (symbolByte part k))
 
   module _ (part : List ℕ) (e : part ≡ body) (long : length part ≡ width + 2) (fi : Filled (inputsBy part) width 0 inputs) (fo : Filled (othersBy part) width 65535 words₀) where
-    module _ (inh syn : List ℕ) (wi : Written (inheritedCount inherited) body inh) (ws : Written (synthesizedOf carrying synthesized) body syn) (small : Small width inh syn) where
-      first-at : (k : ℕ) → k ≤ width → getD inh k 0 ≡ inheritedCount inherited (symbolByte part k)
-      first-at k m = subst (λ x. Written (inheritedCount inherited) x inh) (sym e) wi .each k (omega arith)
+    module _ (inh syn : List ℕ) (wi : Written (countAt inherited) body inh) (ws : Written (synthesizedAt carrying synthesized) body syn) (small : Small width inh syn) where
+      first-at : (k : ℕ) → k ≤ width → getD inh k 0 ≡ countAt inherited (symbolByte part k)
+      first-at k m = subst (λ x. Written (countAt inherited) x inh) (sym e) wi .each k (omega arith)
 
-      second-at : (k : ℕ) → k ≤ width → getD syn k 0 ≡ synthesizedOf carrying synthesized (symbolByte part k)
-      second-at k m = subst (λ x. Written (synthesizedOf carrying synthesized) x syn) (sym e) ws .each k (omega arith)
+      second-at : (k : ℕ) → k ≤ width → getD syn k 0 ≡ synthesizedAt carrying synthesized (symbolByte part k)
+      second-at k m = subst (λ x. Written (synthesizedAt carrying synthesized) x syn) (sym e) ws .each k (omega arith)
 
       inputs-here : Inputs width inh syn inputs
       inputs-here = inputs-placed width inh syn small _ _ first-at second-at inputs fi

@@ -7,9 +7,9 @@ use Rattle.meaning.specs.Table.{byte}
 use Rattle.table_fields.specs.Field.{Whole, bodyAt}
 use Rattle.table_rules.specs.Rule.{Small, ruleFault, conditionFault}
 use Rattle.table_rows.specs.RowWritten.{symbolByte, Written}
-use Rattle.table_carriers.specs.Named.{inheritedCount, synthesizedOf}
+use Rattle.outline.specs.Counts.{countAt, synthesizedAt}
 use Rattle.table_items.specs.declared.Items.{Items}
-use Rattle.table_items.specs.Progress.{settingOf, Walked, UsesRead, Next}
+use Rattle.table_items.specs.Progress.{settingOf, Walked, ItemsRead, Next}
 use Rattle.table_occurrences.specs.OccurrenceBits.{Inputs, Settled, notedBy}
 
 -- a rule after any that are fewer than the most: nothing applies, and its target is settled
@@ -62,20 +62,20 @@ done at r c = record { number = 0; at = at; rules = r; conditions = c }
 -- a production's rules and conditions read, by lists of the counts at its positions
 pub record BodySound (t : List ℕ) (at carrying : ℕ) (inherited synthesized : List ℕ) (r₀ c₀ : ℕ) (end r c : ℕ) : Type 0 where
   pub read :
-      (inh syn : List ℕ) → Written (inheritedCount inherited) (bodyAt t at (2 + byte t (at + 4))) inh → Written (synthesizedOf carrying synthesized) (bodyAt t at (2 + byte t (at + 4))) syn
+      (inh syn : List ℕ) → Written (countAt inherited) (bodyAt t at (2 + byte t (at + 4))) inh → Written (synthesizedAt carrying synthesized) (bodyAt t at (2 + byte t (at + 4))) syn
       → Small (byte t (at + 4)) inh syn
-      → UsesRead (settingOf t at (byte t (at + 4)) inh syn) (at + 5 + byte t (at + 4)) r₀ c₀ (done end r c)
+      → ItemsRead (settingOf t at (byte t (at + 4)) inh syn) (at + 5 + byte t (at + 4)) r₀ c₀ (done end r c)
   pub next : Next t (at + 5 + byte t (at + 4)) (done end r c)
 
 -- its fields taken up to one of them: a note of their rules, by which the words are settled
 pub record BodyTaken (t : List ℕ) (at carrying : ℕ) (inherited synthesized : List ℕ) (r₀ c₀ : ℕ) (words : List ℕ) (end r c : ℕ) : Type 0 where
   pub note : List ℕ
   pub walked :
-      (inh syn : List ℕ) → Written (inheritedCount inherited) (bodyAt t at (2 + byte t (at + 4))) inh → Written (synthesizedOf carrying synthesized) (bodyAt t at (2 + byte t (at + 4))) syn
+      (inh syn : List ℕ) → Written (countAt inherited) (bodyAt t at (2 + byte t (at + 4))) inh → Written (synthesizedAt carrying synthesized) (bodyAt t at (2 + byte t (at + 4))) syn
       → Small (byte t (at + 4)) inh syn
       → Walked (settingOf t at (byte t (at + 4)) inh syn) (at + 5 + byte t (at + 4)) r₀ c₀ note end r c
   pub settled :
-      (inh syn : List ℕ) → Written (inheritedCount inherited) (bodyAt t at (2 + byte t (at + 4))) inh → Written (synthesizedOf carrying synthesized) (bodyAt t at (2 + byte t (at + 4))) syn
+      (inh syn : List ℕ) → Written (countAt inherited) (bodyAt t at (2 + byte t (at + 4))) inh → Written (synthesizedAt carrying synthesized) (bodyAt t at (2 + byte t (at + 4))) syn
       → Small (byte t (at + 4)) inh syn
       → Settled (byte t (at + 4)) inh syn note words
   pub after : at + 5 + byte t (at + 4) ≤ end
@@ -86,4 +86,4 @@ pub record BodyTaken (t : List ℕ) (at carrying : ℕ) (inherited synthesized :
 -- the counts at the positions of a production are at most 8 together
 abbrev pub SmallPlaces : List ℕ → ℕ → ℕ → List ℕ → List ℕ → Type 0
 SmallPlaces t at carrying inherited synthesized =
-    (k : ℕ) → k ≤ byte t (at + 4) → inheritedCount inherited (symbolByte (bodyAt t at (2 + byte t (at + 4))) k) + synthesizedOf carrying synthesized (symbolByte (bodyAt t at (2 + byte t (at + 4))) k) ≤ 8
+    (k : ℕ) → k ≤ byte t (at + 4) → countAt inherited (symbolByte (bodyAt t at (2 + byte t (at + 4))) k) + synthesizedAt carrying synthesized (symbolByte (bodyAt t at (2 + byte t (at + 4))) k) ≤ 8

@@ -73,7 +73,7 @@ fn is_rule(inputs: &[u16; 13], settled: &mut [u16; 13], body: &[u8]) -> bool
     if !table_rule_fields::divisor_fits(f, body) {
         return false;
     }
-    table_occurrences::settle(inputs, settled, body, f)
+    table_occurrence_rules::settle(inputs, settled, body, f)
 }
 
 // The offset behind the rule at an offset, after r rules of the table, which is then settled; 0 where something may be wrong with it, and the
@@ -115,21 +115,21 @@ fn is_range(inputs: &[u16; 13], body: &[u8]) -> bool
     requires { ⌜ (length (now body) ≡ 11) × (byte (now body) 0 ≡ 0) ⌝ }
     ensures { λ r. ⌜ (r ≡ true → ConditionSound (now (inputs .entry)) (now (body .entry))) ⌝ }
 {
-    if !table_occurrences::is_input(inputs, 13, body, 1) {
+    if !table_occurrence_rules::is_input(inputs, 13, body, 1) {
         return false;
     }
     table_rule_conditions::in_order(table_rules::four_at(body, 3), table_rules::four_at(body, 7))
 }
 
 // The same of a comparison, of kind 1 or 2.
-fn is_comparison(inputs: &[u16; 13], body: &[u8], kind: usize) -> bool
-    requires { ⌜ (1 ≤ kind) × (kind ≤ 2) × (byte (now body) 0 ≡ kind) × (length (now body) ≡ 4 * kind + 1) ⌝ }
+fn is_comparison(inputs: &[u16; 13], body: &[u8]) -> bool
+    requires { ⌜ (1 ≤ byte (now body) 0) × (byte (now body) 0 ≤ 2) × (length (now body) ≡ 4 * byte (now body) 0 + 1) ⌝ }
     ensures { λ r. ⌜ (r ≡ true → ConditionSound (now (inputs .entry)) (now (body .entry))) ⌝ }
 {
-    if !table_occurrences::is_input(inputs, 13, body, 1) {
+    if !table_occurrence_rules::is_input(inputs, 13, body, 1) {
         return false;
     }
-    table_occurrences::is_input(inputs, 13, body, 3)
+    table_occurrence_rules::is_input(inputs, 13, body, 3)
 }
 
 // The offset behind the condition at an offset, after c conditions of the table; 0 where something may be wrong with it.
@@ -163,7 +163,7 @@ fn past_condition(table: &[u8], at: usize, c: usize, inputs: &[u16; 13]) -> usiz
         return 0;
     }
     let end = from + size;
-    if !is_comparison(inputs, &table[from..end], kind) {
+    if !is_comparison(inputs, &table[from..end]) {
         return 0;
     }
     end
@@ -250,7 +250,7 @@ pub fn read_sound(
     let from = at + 3;
     let end = at + 5 + width;
     let mut inputs = [0u16; 13];
-    table_occurrences::place_words(
+    table_occurrence_words::place_words(
         &table[from..end],
         carrying,
         inherited,

@@ -21,7 +21,7 @@ use Rattle.meaning.specs.Calls.{Status, running, waiting, closed, Kind, outer, 
 use Rattle.meaning.specs.Calls.{Record, Stacks, Called, Answer, closedRecord, more, refused, tableRefused, lentOf, recordOf, layAll, configOf, stacksFit, asBrought, openOf, afterFeed, afterFinish, whenFit, whenEven, tokensFrom}
 use Rattle.meaning.specs.Fit.{Fit}
 use Rattle.meaning.specs.PublicCalls.{Checked, usable, unusable, checkedAs, check, Call, feed, finish, callOf, areaLength, written, Effect, effect, opens, performs}
-use Rattle.meaning.specs.CallStatements.{isTableNumber, openingAnswer, engineAnswer, isForty, callAnswer, AlwaysAnswers, Lendable, Even, Met, UnevenLists, MovesTo, CallsMove, EmptyFeed, LimitsOnly, HandlesAlways}
+use Rattle.meaning_statements.specs.CallStatements.{isTableNumber, openingAnswer, engineAnswer, isForty, callAnswer, AlwaysAnswers, Lendable, Even, Met, UnevenLists, MovesTo, CallsMove, EmptyFeed, LimitsOnly, HandlesAlways}
 use Rattle.theory_base.specs.Members.{T→true, same-true, differ-false}
 use Rattle.theory_base.specs.Feeds.{leaves-of}
 use Rattle.theory_table.specs.ReadWellFormed.{read-well-formed}

@@ -1,25 +1,46 @@
 -- A call that brings an accepted table and a long enough area is the call under the table's grammar.
 use Prim.Native.Nat.{ℕ, _≤_}
 use native.Mathlib.Omega.{arith}
-use mathlib.Core.Path.{_≡_, refl, ap, _∙_}
+use mathlib.Core.Path.{_≡_, refl, sym, ap, subst, _∙_}
 use mathlib.Core.Bool.{Bool, true, false}
 use mathlib.Core.List.{List}
 use lib.ListN.{length}
 use lib.Dec.{ltb, ltb→lt, nltb→le}
 use Rattle.meaning.specs.Grammar.{Grammar}
-use Rattle.meaning.specs.Table.{Read, wellFormed, malformed, readTable, grammarOf}
-use Rattle.meaning.specs.Judgement.{Verdict, accepted, Accepted}
-use Rattle.meaning.specs.Decide.{judge}
+use Rattle.meaning.specs.Table.{State, Read, wellFormed, malformed, readTable, grammarOf}
+use Rattle.meaning.specs.Judgement.{Verdict, accepted, rejected, Accepted}
+use Rattle.meaning.specs.Decide.{judge, verdictOf}
 use Rattle.meaning.specs.Calls.{Record, Stacks, Called, more, refused, tableRefused, closedRecord, asBrought, openOf}
 use Rattle.meaning.specs.PublicCalls.{Checked, usable, unusable, checkedAs, check, areaLength, written, Effect, effect, called, opens}
-use Rattle.theory_sets.specs.Accepted.{accepted→verdict}
+use Rattle.theory_sets.specs.Accepted.{accepted→verdict, verdict→accepted}
 
 pub checks : (bs : List ℕ) (g : Grammar) (a : Accepted bs g) → check bs ≡ usable (a .state)
 checks bs g a = go (readTable bs) (a .isRead) (accepted→verdict bs g a)
   where
-    go : (x : Read) → x ≡ wellFormed (a .state) → elim x as (λ z. Verdict) [ malformed n o ↦ Rattle.meaning.specs.Judgement.rejected n o | wellFormed s ↦ judge s ] ≡ accepted → elim x as (λ z. Checked) [ malformed n o ↦ unusable n o | wellFormed s ↦ checkedAs s (judge s) ] ≡ usable (a .state)
+    go : (x : Read) → x ≡ wellFormed (a .state) → elim x as (λ z. Verdict) [ malformed n o ↦ rejected n o | wellFormed s ↦ judge s ] ≡ accepted → elim x as (λ z. Checked) [ malformed n o ↦ unusable n o | wellFormed s ↦ checkedAs s (judge s) ] ≡ usable (a .state)
     go (malformed n o) e v = let z : _≡_ {A = ℕ} 0 1 = cc in absurd (omega arith)
     go (wellFormed s) e v = ap (checkedAs s) v ∙ ap usable (cc)
+
+usable-is : (s u : State) → _≡_ {A = Checked} (usable s) (usable u) → s ≡ u
+usable-is s u e = cc
+
+check-verdict : (t : List ℕ) (s : State) → check t ≡ usable s → verdictOf t ≡ accepted
+check-verdict t s h = go (readTable t) h
+  where
+    by : (u : State) (v : Verdict) → checkedAs u v ≡ usable s → v ≡ accepted
+    by u accepted h = refl
+    by u (rejected n o) h = absurd (let z : _≡_ {A = ℕ} 0 1 = cc in omega arith)
+
+    go : (x : Read) → elim x as (λ z. Checked) [ malformed n o ↦ unusable n o | wellFormed u ↦ checkedAs u (judge u) ] ≡ usable s → elim x as (λ z. Verdict) [ malformed n o ↦ rejected n o | wellFormed u ↦ judge u ] ≡ accepted
+    go (malformed n o) h = absurd (let z : _≡_ {A = ℕ} 0 1 = cc in omega arith)
+    go (wellFormed u) h = by u (judge u) h
+
+-- whose table can be used has an accepted one
+pub usable-accepted : (t : List ℕ) (s : State) → check t ≡ usable s → Accepted t (grammarOf s)
+usable-accepted t s h =
+    let a = verdict→accepted t (check-verdict t s h) in
+    let same : a .1 .state ≡ s = usable-is (a .1 .state) s (sym (checks t (a .0) (a .1)) ∙ h) in
+    subst (Accepted t) (sym (a .1 .isGrammar) ∙ ap grammarOf same) (a .1)
 
 -- an area that is long enough
 pub long-enough : (area : List ℕ) → areaLength ≤ length area → ltb (length area) areaLength ≡ false

@@ -21,7 +21,7 @@ use Rattle.meaning.specs.Walk.{Act, actBy, Makes, nothing, andThen}
 use Rattle.meaning.specs.Part.{frame}
 use Rattle.meaning.specs.Calls.{Stacks, Answer, more, value, refused, tableRefused, lentOf, recordOf, layAll, configOf, tokensFrom}
 use Rattle.meaning.specs.PublicCalls.{Call, feed, finish, Effect, performs}
-use Rattle.meaning.specs.CallStatements.{Lendable, callAnswer, tokensOf, staysOpen, Unseen, Refuses, tooMany, notToken, atToken, atEnd, between, Says, MovesTo, MovesOnce}
+use Rattle.meaning_statements.specs.CallStatements.{Lendable, callAnswer, tokensOf, staysOpen, Unseen, Refuses, tooMany, notToken, atToken, atEnd, between, Says, MovesTo, MovesOnce}
 use Rattle.theory_base.specs.Members.{both, and, all-append, in-keep, in-right}
 use Rattle.theory_base.specs.Feeds.{leaf-of, leaves-of}
 use Rattle.theory_base.specs.Steps.{at-hand, moved-is, not-moved, Result}

@@ -15,7 +15,7 @@ use Rattle.meaning.specs.Value.{inRange, mark}
 use Rattle.meaning.specs.Machine.{movesLimit, tokensLimit}
 use Rattle.meaning.specs.Calls.{Record, Stacks, lentOf, Cell, valued, marked, isMark, cellFits, cellsFit, synCells, waitingCells, isListed, placeWaits, awaited, placesFit, placeCells, stackFits, stacksFit}
 use Rattle.meaning.specs.Fit.{Values, WaitsAt, segment, inside, Left, Fit}
-use Rattle.meaning.specs.CallStatements.{FitExactly}
+use Rattle.meaning_statements.specs.CallStatements.{FitExactly}
 use Rattle.theory_base.specs.Members.{and, both, or-left, or-right, or-cases, at-all}
 use Rattle.theory_sets.specs.Tests.{all-at}
 

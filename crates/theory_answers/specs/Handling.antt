@@ -14,7 +14,7 @@ use Rattle.meaning.specs.Rules.{Operands, Reads, OutputAt, WellFormed}
 use Rattle.meaning.specs.Machine.{Frame, Config, readRegister}
 use Rattle.meaning.specs.Part.{marks, frame}
 use Rattle.meaning.specs.Fit.{Values}
-use Rattle.meaning.specs.CallStatements.{Valued, Handles}
+use Rattle.meaning_statements.specs.CallStatements.{Valued, Handles}
 use Rattle.theory_base.specs.Members.{all-append, in-keep, map-in}
 use Rattle.theory_base.specs.Values.{operands-available, drop-head, drop-over}
 use Rattle.theory_base.specs.WellFormed.{Available, Evaluable, evaluable-at}

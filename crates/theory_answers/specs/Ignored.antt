@@ -12,8 +12,8 @@ use Rattle.meaning.specs.Grammar.{Grammar, Leaf, carried, leaves}
 use Rattle.meaning.specs.Machine.{feedAll}
 use Rattle.meaning.specs.Calls.{lentOf, configOf, afterFeed, whenEven, tokensFrom}
 use Rattle.meaning.specs.PublicCalls.{feed, written, effect, performs}
-use Rattle.meaning.specs.CallStatements.{Case, short, badTable, isClosed, isWaiting, isInner, unfit, uneven, met}
-use Rattle.meaning.specs.TokenStatements.{SameWhereCarried, IgnoredValues}
+use Rattle.meaning_statements.specs.CallStatements.{Case, short, badTable, isClosed, isWaiting, isInner, unfit, uneven, met}
+use Rattle.meaning_statements.specs.TokenStatements.{SameWhereCarried, IgnoredValues}
 use Rattle.theory_base.specs.Members.{any-in}
 use Rattle.theory_answers.specs.Answers.{made, performs-met, uneven-lists}
 use Rattle.theory_answers.specs.TurnedBack.{short-area, bad-table, bad-state, all-cases}

@@ -17,7 +17,7 @@ use Rattle.meaning.specs.Part.{config}
 use Rattle.meaning.specs.Calls.{Gate, admitted, turnedBack, gate, Record, Stacks, Called, more, refused, tableRefused, closedRecord, asBrought, lentOf, lay, layAll, frameOf, configOf, recordOf, stacksFit, afterFeed, afterFinish, whenFit, whenEven, tokensFrom, openOf}
 use Rattle.meaning.specs.Fit.{WaitsAt, Left, Fit}
 use Rattle.meaning.specs.PublicCalls.{Checked, usable, unusable, check, Call, feed, finish, callOf, areaLength, written, Effect, effect, opens}
-use Rattle.meaning.specs.CallStatements.{lentPart, pastLent, onLent, NeverRead, NeverWritten}
+use Rattle.meaning_statements.specs.CallStatements.{lentPart, pastLent, onLent, NeverRead, NeverWritten}
 use Rattle.theory_base.specs.Members.{T→true, no-elements}
 use Rattle.theory_answers.specs.FitTest.{fit-exactly}
 use Rattle.theory_answers.specs.Memory.{Within}

@@ -14,7 +14,7 @@ use Rattle.meaning.specs.Machine.{Frame, Config, Lent, Coming, comes, ends, Out
 use Rattle.meaning.specs.Tree.{isLeafOf}
 use Rattle.meaning.specs.Walk.{Act, actBy, Makes, nothing, andThen}
 use Rattle.meaning.specs.PublicCalls.{feed, finish}
-use Rattle.meaning.specs.CallStatements.{Follows, Unseen, Refuses, tooMany, notToken, atToken, atEnd, between}
+use Rattle.meaning_statements.specs.CallStatements.{Follows, Unseen, Refuses, tooMany, notToken, atToken, atEnd, between}
 use Rattle.theory_base.specs.Members.{T→true, both}
 use Rattle.theory_base.specs.Steps.{at-hand}
 use Rattle.theory_answers.specs.ShapeMoves.{IsAhead}
@@ -99,21 +99,21 @@ unfinished c w = go (c .frames) w
     go (f ∷ fs) w = rests (f .production) (f .rest) w
 
 -- what one move leaves of the tokens to come, whatever comes behind
-record Passed (l : Coming) (n : ℕ) (us : List Leaf) (c d : Config) : Type 0 where
+record MoveLeaves (l : Coming) (n : ℕ) (us : List Leaf) (c d : Config) : Type 0 where
   pub left : List Leaf
   pub coming : ToCome l n left (d .tokens)
   pub rest : (ws : List Leaf) → unread c d (us ++ ws) ≡ left ++ ws
 
 module _ (g : Grammar) (lent : Lent) where
-  passed : (l : Coming) (n : ℕ) (us : List Leaf) (c d : Config) → ToCome l n us (c .tokens) → waits (c .frames) && isDone l n c ≡ false → next g lent l c ≡ moved d → Passed l n us c d
+  passed : (l : Coming) (n : ℕ) (us : List Leaf) (c d : Config) → ToCome l n us (c .tokens) → waits (c .frames) && isDone l n c ≡ false → next g lent l c ≡ moved d → MoveLeaves l n us c d
   passed ends n us c d s w h = go (counts g lent ends c d h .tokens)
     where
-      go : (d .tokens ≡ c .tokens) ⊎ ((t : Leaf) × (ends ≡ comes t) × (d .tokens ≡ suc (c .tokens))) → Passed ends n us c d
+      go : (d .tokens ≡ c .tokens) ⊎ ((t : Leaf) × (ends ≡ comes t) × (d .tokens ≡ suc (c .tokens))) → MoveLeaves ends n us c d
       go (inl e) = record { left = us; coming = (s .0, e ∙ s .1); rest = λ ws. unread-none c d (us ++ ws) e }
       go (inr v) = over-token (v .0) (v .1)
   passed (comes t) n us c d (inl s) w h = go (counts g lent (comes t) c d h .tokens)
     where
-      go : (d .tokens ≡ c .tokens) ⊎ ((u : Leaf) × (comes t ≡ comes u) × (d .tokens ≡ suc (c .tokens))) → Passed (comes t) n us c d
+      go : (d .tokens ≡ c .tokens) ⊎ ((u : Leaf) × (comes t ≡ comes u) × (d .tokens ≡ suc (c .tokens))) → MoveLeaves (comes t) n us c d
       go (inl e) = record { left = us; coming = inl (s .0, e ∙ s .1); rest = λ ws. unread-none c d (us ++ ws) e }
       go (inr v) = record { left = []; coming = inr (refl, omega (arith, v .2, s .1)); rest = λ ws. unread-one c d t (us ++ ws) ws (ap (λ x. x ++ ws) (s .0)) (v .2) }
   passed (comes t) n us c d (inr s) w h =

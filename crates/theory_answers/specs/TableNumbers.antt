@@ -14,7 +14,7 @@ use Rattle.meaning.specs.Table.{leftToRight, boundsRight, lowestOf, judgeField,
 use Rattle.meaning.specs.Judgement.{Verdict, accepted, rejected, countsOffset, entryOffset}
 use Rattle.meaning.specs.Decide.{judge, firstWhere, reachable, productive, isLeftRecursive, clashes}
 use Rattle.meaning.specs.PublicCalls.{Checked, usable, unusable, checkedAs, check}
-use Rattle.meaning.specs.CallStatements.{isTableNumber}
+use Rattle.meaning_statements.specs.CallStatements.{isTableNumber}
 use Rattle.theory_base.specs.Members.{both}
 
 abbrev Numbered : Read → Type 0

@@ -15,7 +15,7 @@ use Rattle.meaning.specs.Machine.{opening}
 use Rattle.meaning.specs.Calls.{Status, running, waiting, closed, Kind, outer, inner, Gate, admitted, turnedBack, gate, isOpen, Record, Stacks, Called, more, refused, closedRecord, layAll, recordOf, asBrought, lentOf, stacksFit, openOf}
 use Rattle.meaning.specs.Fit.{Fit}
 use Rattle.meaning.specs.PublicCalls.{Checked, usable, unusable, checkedAs, check, Call, feed, finish, callOf, areaLength, written, effect, called, performs}
-use Rattle.meaning.specs.CallStatements.{handedBack, ShortArea, BadTable, BadState, Opening, Even, Met, Case, short, badTable, isClosed, isWaiting, isInner, unfit, uneven, met, whichCase, AllCases}
+use Rattle.meaning_statements.specs.CallStatements.{handedBack, ShortArea, BadTable, BadState, Opening, Even, Met, Case, short, badTable, isClosed, isWaiting, isInner, unfit, uneven, met, whichCase, AllCases}
 use Rattle.theory_sets.specs.Accepted.{judged-is, verdict→accepted}
 use Rattle.theory_answers.specs.Called.{checks, called-is, long-enough}
 use Rattle.theory_base.specs.Members.{T→true}
@@ -67,7 +67,7 @@ unfit-no g r m f = go (stacksFit g r m) refl
     go false e = refl
 
 -- a record of the wrong kind
-inner-gate : (s : Status) (k : Kind) → (s ≡ closed → ⊥) → (k ≡ outer → ⊥) → gate 34 s k ≡ turnedBack 34
+pub inner-gate : (s : Status) (k : Kind) → (s ≡ closed → ⊥) → (k ≡ outer → ⊥) → gate 34 s k ≡ turnedBack 34
 inner-gate running outer e f = absurd (f refl)
 inner-gate running (inner a b) e f = refl
 inner-gate waiting outer e f = absurd (f refl)

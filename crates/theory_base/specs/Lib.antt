@@ -1,5 +1,7 @@
 -- Truth values as facts; members of lists, and what keep, all, any, map, reverse and counting say of them
 pub mod Members
+-- The size of a whole number, of its negation, of a sum and of a difference
+pub mod Absolute
 -- The laws of `Value.quotient` and `Value.floored`, which are sealed
 pub mod Quotients
 -- What follows from the rules of 01 for each node in progress: its production is a listed one or the whole segment's

@@ -8,7 +8,7 @@ use lib.Dec.{T, leb, ltb, le→leb, leb→le, lt→ltb, ltb→lt, leb·zero, leb
 use lib.IntN.{ℤ, pos, negsuc, negℤ, natAbs, sucℤ, _+ℤ_, _-ℤ_, _*ℤ_, +ℤ-sucℤ, +ℤ-idr, +ℤ-assoc, -ℤ-+ℤ-cancel, sucℤ-*ℤ, *ℤ-comm}
 use lib.Signed.{leZ, ltZ, mag}
 use Rattle.meaning.specs.Value.{inRange, lowest, highest, floored, quotient, nearest}
-use Rattle.meaning.specs.ValueStatements.{NearestExactly, QuotientInRange}
+use Rattle.meaning_statements.specs.ValueStatements.{NearestExactly, QuotientInRange}
 use Rattle.theory_base.specs.Members.{both, and}
 
 -- ---- the greatest whole number at most n / d

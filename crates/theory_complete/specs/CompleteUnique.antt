@@ -11,7 +11,7 @@ use Rattle.meaning.specs.Tree.{Tree, TreeOf, valueOf}
 use Rattle.meaning.specs.Walk.{walk}
 use Rattle.meaning.specs.Judgement.{Accepted}
 use Rattle.meaning.specs.Drawn.{WalkFits, drawnRecord, drawnStacks}
-use Rattle.meaning.specs.Statements.{OnlyTree}
+use Rattle.meaning_statements.specs.Statements.{OnlyTree}
 use Rattle.theory_base.specs.CallsUnder.{CallsUnder}
 use Rattle.theory_sets.specs.Accepted.{Sane, accepted-sane}
 use Rattle.theory_complete.specs.PredictsOfWalk.{Foreseen}

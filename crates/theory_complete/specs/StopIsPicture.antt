@@ -24,7 +24,8 @@ use Rattle.theory_base.specs.WellFormed.{not-whole}
 use Rattle.theory_complete.specs.NodeInProgressGood.{under, firsts}
 use Rattle.theory_complete.specs.Run.{Steps, done, _then_, restart, fitting, steps-of, _on_}
 use Rattle.theory_complete.specs.PredictsOfWalk.{Foreseen, Foreseens, foresee-left}
-use Rattle.theory_complete.specs.SubtreeComplete.{afterward, progress, during, expecting, toChild, afterChild, atChild, pastChild, TreeExpected, Readies, node-ready, child-ready, rest-ready, node-enters, child-enters, child-leaves, dropF-within, dropF-child, node-registers, node-evaluated, walks}
+use Rattle.theory_complete.specs.SubtreeComplete.{afterward, progress, during, expecting, toChild, afterChild, atChild, pastChild, TreeExpected, Readies}
+use Rattle.theory_complete.specs.SubtreeComplete.{node-ready, child-ready, rest-ready, node-enters, child-enters, child-leaves, dropF-within, dropF-child, node-registers, node-evaluated, walks}
 
 -- ---- the place of a frame that waits at a symbol
 
@@ -160,7 +161,8 @@ module _ (g : Grammar) (formed : WellFormed g) (lent : Lent) (late j : ℕ) (res
       (record { frames = frame p (expect (symbolAt pr (suc k)) ∷ afterward g pr k) ∷ gs; run = restart stream refl done; rests = refl; places = refl })
 
   mutual
-    pub stops : (t : Tree) (us : List Leaf) (b : ℕ) (x : Symbol) (q : ℕ) (is : List Instruction) (fs : List Frame) (rs : List ℤ) (n m : ℕ) → Foreseen g us t → TreeExpected fitting g lent t x fs rs m → Cut (yield t ++ us) b → isOpened j b ≡ true → isLeft j b t ≡ false → StopsIn us t b x q is fs rs n m
+    pub stops : (t : Tree) (us : List Leaf) (b : ℕ) (x : Symbol) (q : ℕ) (is : List Instruction) (fs : List Frame) (rs : List ℤ) (n m : ℕ)
+        → Foreseen g us t → TreeExpected fitting g lent t x fs rs m → Cut (yield t ++ us) b → isOpened j b ≡ true → isLeft j b t ≡ false → StopsIn us t b x q is fs rs n m
     stops (leaf t) us b x q is fs rs n m o r c h l = absurd (apart (sym h ∙ l))
     stops (node p vs f) us b x q is fs rs n m o r c h l = node-stops us p vs f b x q is fs rs n m o r c h (stops-among f us b p vs f 0 x q is fs rs n (suc m) (o .1) (node-ready fitting g formed lent 0 p vs f x fs rs m r) c (below-opened b h) (unleft b f h l))
 

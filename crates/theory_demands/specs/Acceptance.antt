@@ -4,7 +4,7 @@ use Rattle.meaning.specs.Grammar.{Grammar}
 use Rattle.meaning.specs.Table.{State, grammarOf}
 use Rattle.meaning.specs.Judgement.{Accepted, accepted, JudgedGrammar, meets, AllUseful, NoneRecursive, NoneClash}
 use Rattle.meaning.specs.Decide.{verdictOf}
-use Rattle.meaning.specs.Statements.{Meets, AcceptedExactly, JudgedOnce}
+use Rattle.meaning_statements.specs.Statements.{Meets, AcceptedExactly, JudgedOnce}
 use Rattle.theory_table.specs.Exactly.{well-formed-exactly}
 use Rattle.theory_sets.specs.Accepted.{judged-is}
 

@@ -12,7 +12,7 @@ use Rattle.meaning.specs.Judgement.{Accepted}
 use Rattle.meaning.specs.Tree.{isLeafOf}
 use Rattle.meaning.specs.Calls.{Record, Stacks, closedRecord, openOf, tokensFrom}
 use Rattle.meaning.specs.PublicCalls.{Call, feed, finish, callOf, areaLength, written, effect, opens, performs}
-use Rattle.meaning.specs.Statements.{History, opened, countsForNothing, innerEnded, fed, finished}
+use Rattle.meaning_statements.specs.Statements.{History, opened, countsForNothing, innerEnded, fed, finished}
 use Rattle.theory_base.specs.Members.{all-append}
 use Rattle.theory_answers.specs.Called.{called-is, opened-long}
 use Rattle.theory_inner.specs.Proved.{outer-kept}

@@ -21,8 +21,8 @@ use Rattle.meaning.specs.Calls.{isOpen, Record, Stacks, lentOf, recordOf, layAl
 use Rattle.meaning.specs.Drawn.{drawnRecord, drawnStacks, drawnMoves}
 use Rattle.meaning.specs.Part.{frame}
 use Rattle.meaning.specs.Selectors.{SelectorsFind}
-use Rattle.meaning.specs.Statements.{History, PartWalked, Returned, PictureAlways, WalkAlways}
-use Rattle.meaning.specs.Claim.{Passed, MayCome, Pictured, EveryListOfCalls}
+use Rattle.meaning_statements.specs.Statements.{History, PartWalked, Returned, PictureAlways, WalkAlways}
+use Rattle.meaning_statements.specs.Claim.{Passed, MayCome, Pictured, EveryListOfCalls}
 use Rattle.theory_base.specs.Members.{no-elements, all-append}
 use Rattle.theory_base.specs.Feeds.{feedLeaves, leaves-append, leaves-length}
 use Rattle.theory_base.specs.CallsUnder as Under

@@ -9,8 +9,8 @@ use Rattle.meaning.specs.Grammar.{Grammar, Token, leaves}
 use Rattle.meaning.specs.Judgement.{Accepted}
 use Rattle.meaning.specs.Calls.{isOpen, Record, Stacks, Answer}
 use Rattle.meaning.specs.PublicCalls.{Call, feed, finish, areaLength, Effect, performs}
-use Rattle.meaning.specs.CallStatements.{handedBack, Lendable, Even, tokensOf, Met, Case, short, badTable, isClosed, isWaiting, isInner, unfit, uneven, met}
-use Rattle.meaning.specs.Statements.{History, opened, countsForNothing, innerEnded, fed, finished, ends, GoesOn}
+use Rattle.meaning_statements.specs.CallStatements.{handedBack, Lendable, Even, tokensOf, Met, Case, short, badTable, isClosed, isWaiting, isInner, unfit, uneven, met}
+use Rattle.meaning_statements.specs.Statements.{History, opened, countsForNothing, innerEnded, fed, finished, ends, GoesOn}
 use Rattle.theory_table.specs.AcceptedTable.{accepted-well-formed}
 use Rattle.theory_answers.specs.Answers.{uneven-lists}
 use Rattle.theory_answers.specs.TurnedBack.{short-area, bad-table, bad-state, all-cases}

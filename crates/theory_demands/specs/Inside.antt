@@ -11,11 +11,11 @@ use Rattle.meaning.specs.Tree.{Tree, TreeOf, valueOf}
 use Rattle.meaning.specs.Walk.{walk}
 use Rattle.meaning.specs.Calls.{Record, Stacks, lentOf, isOpen}
 use Rattle.meaning.specs.PublicCalls.{Call, finish, areaLength, performs}
-use Rattle.meaning.specs.Inner.{above, withKind, beginning}
+use Rattle.meaning_inner.specs.Inner.{above, withKind, beginning}
 use Rattle.meaning.specs.Drawn.{WalkFits, drawnRecord, drawnStacks}
-use Rattle.meaning.specs.Statements.{History, finished}
-use Rattle.meaning.specs.InnerLists.{Alone, Both, Step}
-use Rattle.meaning.specs.InnerStatements.{AsAlone, InsideHistory, InsidePicture, InsideFinish, InsideValue}
+use Rattle.meaning_statements.specs.Statements.{History, finished}
+use Rattle.meaning_inner.specs.InnerLists.{Alone, Both, CallWithTable}
+use Rattle.meaning_statements.specs.InnerStatements.{AsAlone, InsideHistory, InsidePicture, InsideFinish, InsideValue}
 use Rattle.theory_inner.specs.Stretch.{above-registers, above-places}
 use Rattle.theory_inner.specs.Lists.{inside-alone}
 use Rattle.theory_demands.specs.Pictures.{picture-always, value-always}
@@ -52,7 +52,7 @@ inside-picture program outerTable bs g r m ts us b t accepts h k f = shown-insid
 pub inside-finish : InsideFinish
 inside-finish program outerTable bs area g r m ts b t accepts l h k f =
     let w = beside program outerTable bs g r m ts b accepts h in
-    let s : Step Call = record { table = bs; area = area; call = finish } in
+    let s : CallWithTable Call = record { table = bs; area = area; call = finish } in
     let k′ : TreeOf g (leaves g (ts ++ [])) t = subst (λ z. TreeOf g (leaves g z) t) (sym (append-nil ts)) k in
     let d = drawn-end program outerTable bs g r m ts b accepts h area l t k f in
     let v = value-always program bs area g (above (beginning r) m) ts (w .0 .state) (w .0 .stacks) accepts l (w .1) (valueOf g t) (length (walk g t)) .1 (t, k, f, refl, refl) in
@@ -61,6 +61,6 @@ inside-finish program outerTable bs area g r m ts b t accepts l h k f =
 pub inside-value : InsideValue
 inside-value program outerTable bs area g r m ts b accepts l h v n =
     let w = beside program outerTable bs g r m ts b accepts h in
-    let s : Step Call = record { table = bs; area = area; call = finish } in
+    let s : CallWithTable Call = record { table = bs; area = area; call = finish } in
     let e = value-always program bs area g (above (beginning r) m) ts (w .0 .state) (w .0 .stacks) accepts l (w .1) v n in
     ((λ x. e .0 (sym (w .2 .answers s) ∙ x)), (λ x. w .2 .answers s ∙ e .1 x))

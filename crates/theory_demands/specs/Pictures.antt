@@ -13,7 +13,7 @@ use Rattle.meaning.specs.Walk.{walk}
 use Rattle.meaning.specs.Calls.{closed, gate, Record, Stacks, value, lentOf, finishOf}
 use Rattle.meaning.specs.PublicCalls.{finish}
 use Rattle.meaning.specs.Drawn.{WalkFits, drawnRecord, drawnStacks}
-use Rattle.meaning.specs.Statements.{History, OnlyTree, PictureAlways, ValueAlways}
+use Rattle.meaning_statements.specs.Statements.{History, OnlyTree, PictureAlways, ValueAlways}
 use Rattle.theory_base.specs.Feeds.{leaves-append, leaves-length}
 use Rattle.theory_table.specs.AcceptedTable.{accepted-well-formed}
 use Rattle.theory_answers.specs.TurnedBack.{by-gate}

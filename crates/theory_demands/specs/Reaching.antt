@@ -11,7 +11,7 @@ use Rattle.meaning.specs.Grammar.{Grammar, Leaf, leaves}
 use Rattle.meaning.specs.Machine.{Config, Lent, opening, lookAt}
 use Rattle.meaning.specs.Walk.{Act, actBy, Makes, nothing, andThen}
 use Rattle.meaning.specs.Calls.{isOpen, lentOf, recordOf}
-use Rattle.meaning.specs.Statements.{Reached, ReachedAlways}
+use Rattle.meaning_statements.specs.Statements.{Reached, ReachedAlways}
 use Rattle.theory_table.specs.AcceptedTable.{accepted-well-formed}
 use Rattle.theory_answers.specs.Memory.{record-open}
 use Rattle.theory_answers.specs.Bounds.{counts}

@@ -14,7 +14,7 @@ use Rattle.meaning.specs.Table.{State, Entry, Read, noEntry, wellFormed, malfor
 use Rattle.meaning.specs.Judgement.{Verdict, Accepted, Judged, rejected, entryOffset}
 use Rattle.meaning.specs.Decide.{judge}
 use Rattle.meaning.specs.PublicCalls.{Checked, usable, unusable, checkedAs, Stretch, cut, stretchEnd, stretchOf}
-use Rattle.meaning.specs.TableStatements.{StretchIn, stretch, StretchExactly}
+use Rattle.meaning_statements.specs.TableStatements.{StretchIn, stretch, StretchExactly}
 use Rattle.theory_table.specs.Stretches.{Stretches, nothing, stretch as stretched, first-offset, stretched-productions}
 use Rattle.theory_table.specs.Places.{productionsAt}
 use Rattle.theory_table.specs.ReadLaidOut.{read-stretches, read-front, read-length}

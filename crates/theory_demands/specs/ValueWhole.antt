@@ -15,8 +15,8 @@ use Rattle.meaning.specs.Walk.{walk}
 use Rattle.meaning.specs.Drawn.{WalkFits}
 use Rattle.meaning.specs.Calls.{closed, isOpen, Stacks, more, value, closedRecord, lentOf, tokensFrom}
 use Rattle.meaning.specs.PublicCalls.{feed, finish, areaLength, Effect, opens, performs}
-use Rattle.meaning.specs.CallStatements.{Lendable, Even}
-use Rattle.meaning.specs.Statements.{opened, fed, fedAndFinished, ValueWhole}
+use Rattle.meaning_statements.specs.CallStatements.{Lendable, Even}
+use Rattle.meaning_statements.specs.Statements.{opened, fed, fedAndFinished, ValueWhole}
 use Rattle.theory_base.specs.Walks.{room}
 use Rattle.theory_answers.specs.TurnedBack.{opening-is, bad-state}
 use Rattle.theory_demands.specs.Pictures.{value-always}

@@ -18,7 +18,7 @@ use Rattle.meaning.specs.Tree.{Tree, TreeOf, isLeafOf}
 use Rattle.meaning.specs.Walk.{Act, predicts, reads, performs, walk, walkTo, Makes}
 use Rattle.meaning.specs.Calls.{isOpen, lentOf, layAll, recordOf}
 use Rattle.meaning.specs.Drawn.{drawnMoves, drawnRecord}
-use Rattle.meaning.specs.Statements.{WalkAlways}
+use Rattle.meaning_statements.specs.Statements.{WalkAlways}
 use Rattle.theory_base.specs.Members.{no-elements}
 use Rattle.theory_table.specs.AcceptedTable.{accepted-well-formed}
 use Rattle.theory_answers.specs.Memory.{record-open}

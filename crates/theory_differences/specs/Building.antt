@@ -18,7 +18,7 @@ use Rattle.meaning.specs.Value.{added, holds}
 use Rattle.meaning.specs.Differences.{bound, at, put, lesser, lowered, constrained, matrixOf, closed, noneNegative, solvable}
 use Rattle.theory_base.specs.Members.{in-from, from-in, all-in, in-all}
 use Rattle.theory_differences.specs.Order.{lesser-first, lesser-second, lesser-keeps, ≤-is, ≤-trans}
-use Rattle.meaning.specs.CompareStatements.{valueIn, Satisfiable, Edge, highestEdge, lowestEdge, highEdge, lowEdge, atmostEdge, Walk, step, join, NegativeCycle}
+use Rattle.meaning_statements.specs.CompareStatements.{valueIn, Satisfiable, Edge, highestEdge, lowestEdge, highEdge, lowEdge, atmostEdge, Walk, step, join, NegativeCycle}
 use Rattle.theory_differences.specs.Graph.{Node, Known, AllKnown, no-negative-cycle}
 use Rattle.theory_differences.specs.Closing.{put-same, put-column, put-row, Every}
 use Rattle.theory_differences.specs.Solving.{NoneNegative}

@@ -9,7 +9,8 @@ use lib.ListN.{length, length-set}
 use lib.Seq.{getD-set-same, getD-set-other}
 use lib.Signed.{_≤ℤ_, ≤ℤ-refl}
 use Rattle.meaning.specs.Differences.{at, put, lesser, shorter, rowRelaxed, relaxed, eliminated, closing, closed}
-use Rattle.theory_differences.specs.Order.{lesser-first, lesser-second, lesser-keeps, natAbs-add, ≤-is, ≤-trans}
+use Rattle.theory_differences.specs.Order.{lesser-first, lesser-second, lesser-keeps, ≤-is, ≤-trans}
+use Rattle.theory_base.specs.Absolute.{natAbs-add}
 use Rattle.theory_differences.specs.Solving.{Eliminated}
 
 -- ---- one entry

@@ -16,7 +16,7 @@ use Rattle.meaning.specs.Value.{inRange, lowest, highest, added, holds}
 use Rattle.meaning.specs.Differences.{bound, at, closing, closed}
 use Rattle.theory_base.specs.Members.{and, in-all, at-all}
 use Rattle.theory_differences.specs.Order.{≤-is, ≤-trans, plus-left, to-below, only-zero, decided}
-use Rattle.meaning.specs.CompareStatements.{valueIn, Meets, Satisfiable, Edge, highestEdge, lowestEdge, highEdge, lowEdge, atmostEdge, Walk, join, NegativeCycle}
+use Rattle.meaning_statements.specs.CompareStatements.{valueIn, Meets, Satisfiable, Edge, highestEdge, lowestEdge, highEdge, lowEdge, atmostEdge, Walk, join, NegativeCycle}
 use Rattle.theory_differences.specs.Graph.{Node, Known, AllKnown, bound-there, bound-absent, no-negative-cycle, Keeps}
 use Rattle.theory_differences.specs.Solving.{NoneNegative, solution, solution-zero, solution-keeps}
 use Rattle.theory_differences.specs.Closing.{closing-every, closing-lower, closing-eliminated, Every, Small}

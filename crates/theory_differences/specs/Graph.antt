@@ -14,7 +14,7 @@ use Rattle.meaning.specs.Base.{all, In}
 use Rattle.meaning.specs.Grammar.{Condition, range, atmost}
 use Rattle.meaning.specs.Value.{inRange, lowest, highest, added, holds}
 use Rattle.meaning.specs.Differences.{bound}
-use Rattle.meaning.specs.CompareStatements.{valueIn, Satisfiable, Edge, highestEdge, lowestEdge, highEdge, lowEdge, atmostEdge, Walk, step, join, NegativeCycle}
+use Rattle.meaning_statements.specs.CompareStatements.{valueIn, Satisfiable, Edge, highestEdge, lowestEdge, highEdge, lowEdge, atmostEdge, Walk, step, join, NegativeCycle}
 use Rattle.theory_base.specs.Members.{both, all-in}
 use Rattle.theory_differences.specs.Order.{≤-is, ≤-trans, through, cycle-not-negative, from-below}
 

@@ -1,11 +1,11 @@
 -- The order of the whole numbers and its laws for sums and minima.
-use Prim.Native.Nat.{ℕ, zero, suc, _+_, _≤_}
+use Prim.Native.Nat.{zero, suc}
 use native.Mathlib.Omega.{arith}
 use mathlib.Core.Path.{_≡_, sym, ap, _∙_}
 use mathlib.Core.Logic.{_⊎_, inl, inr}
 use mathlib.Core.Bool.{Bool, true, false, not, cond}
 use lib.Dec.{T, ltb, leb→le, le→leb, ltb→lt}
-use lib.IntN.{ℤ, pos, negsuc, negℤ, natAbs, sucℤ, predℤ, _+ℤ_, +ℤ-sucℤ, +ℤ-predℤ, +ℤ-idl, +ℤ-idr, +ℤ-assoc, +ℤ-comm, +ℤ-invl, +ℤ-invr}
+use lib.IntN.{ℤ, pos, negsuc, negℤ, sucℤ, predℤ, _+ℤ_, +ℤ-sucℤ, +ℤ-predℤ, +ℤ-idl, +ℤ-idr, +ℤ-assoc, +ℤ-comm, +ℤ-invl, +ℤ-invr}
 use lib.Signed.{leZ, ltZ, _≤ℤ_, _<ℤ_, ltZ-yes, ltZ-no, ≤ℤ-refl}
 use Rattle.meaning.specs.Differences.{lesser}
 
@@ -120,18 +120,6 @@ lesser-keeps P a b p q = go (ltZ b a)
     go : (c : Bool) → P (cond c b a)
     go true = q
     go false = p
-
--- ---- sizes
-
-natAbs-cond : (t : Bool) (x y : ℤ) (n : ℕ) → natAbs x ≤ n → natAbs y ≤ n → natAbs (cond t x y) ≤ n
-natAbs-cond true x y n p q = p
-natAbs-cond false x y n p q = q
-
-pub natAbs-add : (a b : ℤ) → natAbs (a +ℤ b) ≤ natAbs a + natAbs b
-natAbs-add (pos a) (pos b) = omega arith
-natAbs-add (pos a) (negsuc b) = natAbs-cond (ltb a (suc b)) _ _ _ (omega arith) (omega arith)
-natAbs-add (negsuc a) (pos b) = natAbs-cond (ltb b (suc a)) _ _ _ (omega arith) (omega arith)
-natAbs-add (negsuc a) (negsuc b) = omega arith
 
 -- ---- a decision
 

@@ -12,7 +12,7 @@ use Rattle.meaning.specs.Base.{In, all}
 use Rattle.meaning.specs.Rules.{fourBytes, WellFormed}
 use Rattle.meaning.specs.Grammar.{Grammar}
 use Rattle.meaning.specs.Table.{State, grammarOf}
-use Rattle.meaning.specs.Order.{Shuffled, through}
+use Rattle.meaning_house.specs.Order.{Shuffled, through}
 use Rattle.meaning.specs.Calls as Calls
 use Rattle.meaning.specs.Calls.{Stacks, Answer}
 use Rattle.meaning.specs.PublicCalls.{Checked, usable, unusable, check, areaLength, written}

@@ -20,7 +20,7 @@ use Rattle.meaning.specs.Drawn.{WalkFits}
 use Rattle.meaning.specs.Calls as Calls
 use Rattle.meaning.specs.Calls.{Stacks, Answer, Called, lentOf, layAll, recordOf, closedRecord, asBrought, refused, tokensFrom, afterFeed, openOf, feedOf, finishOf}
 use Rattle.meaning.specs.PublicCalls.{feed, finish, areaLength, opens, performs}
-use Rattle.meaning.specs.Statements.{fedAndFinished}
+use Rattle.meaning_statements.specs.Statements.{fedAndFinished}
 use Rattle.meaning_ranking.specs.Ranking.{Entry, entry, number}
 use Rattle.meaning_ranking.specs.RankCall.{fedOn, finishedOn, evaluated, entryOf}
 use Rattle.meaning_ranking.specs.RankingStatements.{numbered, isRefusal, candidateAnswer}

@@ -10,10 +10,10 @@ use Rattle.meaning.specs.Rules.{WellFormed}
 use Rattle.meaning.specs.Judgement.{rejected, Judged}
 use Rattle.meaning.specs.Calls.{waiting, Record, isOpen, Stacks, Called, Answer, refused, tableRefused}
 use Rattle.meaning.specs.PublicCalls.{unusable, Call, feed, finish, callOf, Effect, performs}
-use Rattle.meaning.specs.Inner.{above, withStatus, alone, InnerCall, engine, giveUp, engineCall, ends, afterInner, innerOpens, innerPerforms}
-use Rattle.meaning.specs.CallStatements.{engineAnswer, handedBack, Case, short, badTable, isClosed, isWaiting, isInner, unfit, uneven, met}
-use Rattle.meaning.specs.InnerStatements as Stated
-use Rattle.meaning.specs.InnerStatements.{innerOpeningAnswer, innerCallAnswer, InnerAlwaysAnswers, OpeningCase, openingEffect, InnerCase, stretchCall, calledBy, innerCallEffect, WaitingTurnsBack}
+use Rattle.meaning_inner.specs.Inner.{above, withStatus, alone, InnerCall, engine, giveUp, engineCall, ends, afterInner, innerOpens, innerPerforms}
+use Rattle.meaning_statements.specs.CallStatements.{engineAnswer, handedBack, Case, short, badTable, isClosed, isWaiting, isInner, unfit, uneven, met}
+use Rattle.meaning_statements.specs.InnerStatements as Stated
+use Rattle.meaning_statements.specs.InnerStatements.{innerOpeningAnswer, innerCallAnswer, InnerAlwaysAnswers, OpeningCase, openingEffect, InnerCase, stretchCall, calledBy, innerCallEffect, WaitingTurnsBack}
 use Rattle.theory_sets.specs.Accepted.{judged-is}
 use Rattle.theory_table.specs.AcceptedTable.{accepted-well-formed}
 use Rattle.theory_answers.specs.TableNumbers.{CheckedRight, check-number}

@@ -11,8 +11,8 @@ use Rattle.meaning.specs.Judgement.{Verdict, accepted, rejected, Accepted}
 use Rattle.meaning.specs.Decide.{verdictOf}
 use Rattle.meaning.specs.Calls.{Status, running, waiting, closed, Kind, outer, inner, Record, Stacks, refused}
 use Rattle.meaning.specs.PublicCalls.{Checked, usable, unusable, check, callOf, areaLength, written, Effect}
-use Rattle.meaning.specs.Inner.{above, alone, InnerCalled, handedBack, InnerCall, engineCall, onStretch, ends, afterInner, isClosed, isRunning, isWaiting, isOuter, beginsAt, belongs, innerOf, InnerEffect, innerEffect, byTable, innerPerforms}
-use Rattle.meaning.specs.InnerStatements.{Belongs, InnerCase, tooShort, badTable, eitherClosed, apart, byEngine, stretchCall, calledBy, innerCallEffect, whichInner, InnerCalls}
+use Rattle.meaning_inner.specs.Inner.{above, alone, InnerCalled, handedBack, InnerCall, engineCall, onStretch, ends, afterInner, isClosed, isRunning, isWaiting, isOuter, beginsAt, belongs, innerOf, InnerEffect, innerEffect, byTable, innerPerforms}
+use Rattle.meaning_statements.specs.InnerStatements.{Belongs, InnerCase, tooShort, badTable, eitherClosed, apart, byEngine, stretchCall, calledBy, innerCallEffect, whichInner, InnerCalls}
 use Rattle.theory_base.specs.Members.{T→true, both}
 use Rattle.theory_sets.specs.Accepted.{judged-is, verdict→accepted}
 use Rattle.theory_answers.specs.Called.{checks, called-is, long-enough}

@@ -13,9 +13,9 @@ use Rattle.meaning.specs.Judgement.{Verdict, accepted, rejected, Judged, Accept
 use Rattle.meaning.specs.Decide.{verdictOf}
 use Rattle.meaning.specs.Calls.{Status, running, waiting, closed, Kind, outer, inner, Gate, admitted, turnedBack, gate, isOpen, Record, Stacks, Called, refused, tableRefused, closedRecord, lentOf, stacksFit, openOf}
 use Rattle.meaning.specs.PublicCalls.{Checked, usable, unusable, check, areaLength, written}
-use Rattle.meaning.specs.Inner.{handedBack, openedAbove, innerOpenOf, InnerEffect, innerEffect, byTable, whenOuterFits, innerOpens}
-use Rattle.meaning.specs.CallStatements.{Met}
-use Rattle.meaning.specs.InnerStatements.{bothBack, leftOver, OpeningCase, short, badOuter, outerClosed, isThird, unfit, badInner, noRegister, noPlace, isOpened, openingEffect, whichOpening, InnerOpenings}
+use Rattle.meaning_inner.specs.Inner.{handedBack, openedAbove, innerOpenOf, InnerEffect, innerEffect, byTable, whenOuterFits, innerOpens}
+use Rattle.meaning_statements.specs.CallStatements.{Met}
+use Rattle.meaning_statements.specs.InnerStatements.{bothBack, leftOver, OpeningCase, short, badOuter, outerClosed, isThird, unfit, badInner, noRegister, noPlace, isOpened, openingEffect, whichOpening, InnerOpenings}
 use Rattle.theory_base.specs.Members.{T→true}
 use Rattle.theory_sets.specs.Accepted.{judged-is, verdict→accepted}
 use Rattle.theory_answers.specs.Called.{checks, long-enough}

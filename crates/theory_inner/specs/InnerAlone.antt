@@ -11,8 +11,8 @@ use Rattle.meaning.specs.Table.{grammarOf}
 use Rattle.meaning.specs.Value.{mark}
 use Rattle.meaning.specs.Calls.{waiting, closed, Kind, inner, Record, Stacks, Called, Answer, more, value, refused, tableRefused, asBrought}
 use Rattle.meaning.specs.PublicCalls.{Checked, usable, unusable, check, Call, feed, finish, callOf, areaLength, written, Effect, effect, performs}
-use Rattle.meaning.specs.Inner.{above, paste, cleared, withStatus, withKind, InnerCalled, handedBack, InnerCall, engine, giveUp, engineCall, onStretch, ends, afterInner, innerOf, InnerEffect, innerEffect, innerPerforms}
-use Rattle.meaning.specs.InnerLists.{Alone, Both, bothOf}
+use Rattle.meaning_inner.specs.Inner.{above, paste, cleared, withStatus, withKind, InnerCalled, handedBack, InnerCall, engine, giveUp, engineCall, onStretch, ends, afterInner, innerOf, InnerEffect, innerEffect, innerPerforms}
+use Rattle.meaning_inner.specs.InnerLists.{Alone, Both, bothOf}
 use Rattle.theory_base.specs.Members.{T→true}
 use Rattle.theory_answers.specs.Answers.{checked-formed}
 use Rattle.theory_inner.specs.Stretch.{Fills, above-registers, above-places, paste-above, paste-again, paste-same}

@@ -13,10 +13,10 @@ use Rattle.meaning.specs.Machine.{Lent, Config, opening, placeOf}
 use Rattle.meaning.specs.Calls.{waiting, inner, Record, Stacks, Answer, more, refused, tableRefused, lentOf, layAll, recordOf}
 use Rattle.meaning.specs.Fit.{Fit}
 use Rattle.meaning.specs.PublicCalls.{Effect, opens}
-use Rattle.meaning.specs.Inner.{above, paste, cleared, withStatus, withKind, InnerEffect, innerOpens}
-use Rattle.meaning.specs.InnerLists.{Alone, Both, bothOf, openedAlone}
-use Rattle.meaning.specs.CallStatements.{Met}
-use Rattle.meaning.specs.InnerStatements.{leftOver, OpeningCase, short, badOuter, outerClosed, isThird, unfit, badInner, noRegister, noPlace, isOpened, openingEffect}
+use Rattle.meaning_inner.specs.Inner.{above, paste, cleared, withStatus, withKind, InnerEffect, innerOpens}
+use Rattle.meaning_inner.specs.InnerLists.{Alone, Both, bothOf, openedAlone}
+use Rattle.meaning_statements.specs.CallStatements.{Met}
+use Rattle.meaning_statements.specs.InnerStatements.{leftOver, OpeningCase, short, badOuter, outerClosed, isThird, unfit, badInner, noRegister, noPlace, isOpened, openingEffect}
 use Rattle.theory_answers.specs.Memory.{open-is, all-clear}
 use Rattle.theory_answers.specs.TurnedBack.{opening-is}
 use Rattle.theory_inner.specs.Stretch.{above-registers, above-places}

@@ -7,10 +7,10 @@ use lib.ListN.{length}
 use Rattle.meaning.specs.Grammar.{Grammar, Token}
 use Rattle.meaning.specs.Calls.{inner, Record, Stacks, lentOf, isOpen}
 use Rattle.meaning.specs.PublicCalls.{Call, feed, finish, Effect, performs}
-use Rattle.meaning.specs.Inner.{above, cleared, alone, beginning, engine}
-use Rattle.meaning.specs.Statements.{opened, fed, finished, History}
-use Rattle.meaning.specs.InnerLists.{Alone, Both, bothOf, openedAlone, performsInside}
-use Rattle.meaning.specs.InnerStatements.{AsAlone, InsideHistory, begins, passes, feeds, finishes, InsideAlone}
+use Rattle.meaning_inner.specs.Inner.{above, cleared, alone, beginning, engine}
+use Rattle.meaning_statements.specs.Statements.{opened, fed, finished, History}
+use Rattle.meaning_inner.specs.InnerLists.{Alone, Both, bothOf, openedAlone, performsInside}
+use Rattle.meaning_statements.specs.InnerStatements.{AsAlone, InsideHistory, begins, passes, feeds, finishes, InsideAlone}
 use Rattle.theory_inner.specs.OpenRunKept.{open-record}
 use Rattle.theory_inner.specs.InnerAlone.{BesideAlone, stands, ended, closing-engine, step}
 use Rattle.theory_inner.specs.InnerOpened.{open-outer, begun}

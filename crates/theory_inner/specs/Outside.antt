@@ -12,10 +12,10 @@ use Rattle.meaning.specs.Value.{mark}
 use Rattle.meaning.specs.Machine.{Lent, opening}
 use Rattle.meaning.specs.Calls.{running, closed, Kind, outer, inner, Record, Stacks, refused, tableRefused, lentOf, layAll}
 use Rattle.meaning.specs.PublicCalls.{callOf, areaLength, written, Effect, performs}
-use Rattle.meaning.specs.Inner.{registerBase, placeBase, above, below, paste, cleared, withStatus, withKind, alone, beginning, InnerCall, engineCall, ends, afterInner, InnerEffect, innerEffect, innerOpens, innerPerforms}
-use Rattle.meaning.specs.CallStatements.{pastLent}
-use Rattle.meaning.specs.InnerStatements.{bothBack, leftOver, OpeningCase, short, badOuter, outerClosed, isThird, unfit, badInner, noRegister, noPlace, isOpened, openingEffect}
-use Rattle.meaning.specs.InnerStatements.{Belongs, InnerCase, tooShort, badTable, eitherClosed, apart, byEngine, stretchCall, calledBy, innerCallEffect, onlyAbove, InnerNeverWritten, InnerNeverRead}
+use Rattle.meaning_inner.specs.Inner.{registerBase, placeBase, above, below, paste, cleared, withStatus, withKind, alone, beginning, InnerCall, engineCall, ends, afterInner, InnerEffect, innerEffect, innerOpens, innerPerforms}
+use Rattle.meaning_statements.specs.CallStatements.{pastLent}
+use Rattle.meaning_statements.specs.InnerStatements.{bothBack, leftOver, OpeningCase, short, badOuter, outerClosed, isThird, unfit, badInner, noRegister, noPlace, isOpened, openingEffect}
+use Rattle.meaning_statements.specs.InnerStatements.{Belongs, InnerCase, tooShort, badTable, eitherClosed, apart, byEngine, stretchCall, calledBy, innerCallEffect, onlyAbove, InnerNeverWritten, InnerNeverRead}
 use Rattle.theory_table.specs.AcceptedTable.{accepted-well-formed}
 use Rattle.theory_answers.specs.Called.{called-is}
 use Rattle.theory_inner.specs.Stretch.{Fills, pasted-size, paste-lent, paste-above, paste-below, past-registers, past-places, above-registers, above-places}

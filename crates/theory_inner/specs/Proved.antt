@@ -8,9 +8,9 @@ use lib.Dec.{T}
 use Rattle.meaning.specs.Grammar.{Grammar}
 use Rattle.meaning.specs.Calls.{inner, Record, Stacks, more, lentOf, isOpen}
 use Rattle.meaning.specs.PublicCalls.{Call, Effect, performs}
-use Rattle.meaning.specs.Inner.{above, cleared, withKind, alone, beginning, InnerCall, engine, engineCall, innerOpens}
-use Rattle.meaning.specs.InnerLists.{Alone, Both, bothOf, openedAlone, Step, performsAlone, performsInside, aloneAfter, aloneAnswers, insideAfter, insideAnswers, inside}
-use Rattle.meaning.specs.InnerStatements.{AsAlone, InnerAlone, Kept, OuterKept}
+use Rattle.meaning_inner.specs.Inner.{above, cleared, withKind, alone, beginning, InnerCall, engine, engineCall, innerOpens}
+use Rattle.meaning_inner.specs.InnerLists.{Alone, Both, bothOf, openedAlone, CallWithTable, performsAlone, performsInside, aloneAfter, aloneAnswers, insideAfter, insideAnswers, inside}
+use Rattle.meaning_statements.specs.InnerStatements.{AsAlone, InnerAlone, Kept, OuterKept}
 use Rattle.theory_inner.specs.Stretch.{above-registers, above-places, paste-above, paste-below, past-registers, past-places}
 use Rattle.theory_inner.specs.OpenRunKept.{open-record}
 use Rattle.theory_inner.specs.InnerAlone.{BesideAlone, stands, ended, closing, closing-engine, step}
@@ -30,7 +30,7 @@ module _ (program : Grammar → List ℕ) (t n rh ph : ℕ) (m : Stacks) where
   same-cells (stands u v h p part f) z = paste-above (inner rh ph) m part f
   same-cells (ended u v h p part) z = never z
 
-  same-before : {b : Both} {a : Alone} → BesideAlone t n rh ph m b a → isOpen (a .state) ≡ true → (s : Step Call) → performs program (s .table) (s .area) (alone (b .innerState)) (above (b .innerState .kind) (b .stacks)) (s .call) ≡ performsAlone program a s
+  same-before : {b : Both} {a : Alone} → BesideAlone t n rh ph m b a → isOpen (a .state) ≡ true → (s : CallWithTable Call) → performs program (s .table) (s .area) (alone (b .innerState)) (above (b .innerState .kind) (b .stacks)) (s .call) ≡ performsAlone program a s
   same-before (stands u v h p part f) z s = ap (λ q. performs program (s .table) (s .area) (open-record u v h p) q (s .call)) (paste-above (inner rh ph) m part f)
   same-before (ended u v h p part) z s = never z
 
@@ -50,7 +50,7 @@ module _ (program : Grammar → List ℕ) (t n rh ph : ℕ) (m : Stacks) where
   -- ---- lists of calls
 
   module _ (isClear : cleared (above (inner rh ph) m) ≡ above (inner rh ph) m) where
-    list-alone : (ss : List (Step Call)) (b : Both) (a : Alone) → BesideAlone t n rh ph m b a
+    list-alone : (ss : List (CallWithTable Call)) (b : Both) (a : Alone) → BesideAlone t n rh ph m b a
         → (insideAnswers program b (map inside ss) ≡ aloneAnswers program a ss) × AsAlone program (inner rh ph) (insideAfter program b (map inside ss)) (aloneAfter program a ss)
     list-alone [] b a st = (refl, as-alone isClear b a st)
     list-alone (s ∷ ss) b a st =
@@ -61,7 +61,7 @@ module _ (program : Grammar → List ℕ) (t n rh ph : ℕ) (m : Stacks) where
         let rest = list-alone ss now (record { state = e .state; stacks = e .stacks }) st′ in
         (ap₂ (λ x xs. x ∷ xs) (w .0) (rest .0), rest .1)
 
-    list-kept : (ss : List (Step InnerCall)) (b : Both) (a : Alone) → BesideAlone t n rh ph m b a → Kept (open-record t n rh ph) m (insideAfter program b ss)
+    list-kept : (ss : List (CallWithTable InnerCall)) (b : Both) (a : Alone) → BesideAlone t n rh ph m b a → Kept (open-record t n rh ph) m (insideAfter program b ss)
     list-kept [] b a st = kept st
     list-kept (s ∷ ss) b a st =
         let w = step t n rh ph m isClear program (s .table) (s .area) (s .call) b a st in
@@ -77,7 +77,7 @@ inner-alone program outerTable innerTable area r m m₀ h = subst Says (sym (ope
     Says r =
         innerOpens program outerTable innerTable area r m .answer ≡ more 0
         → length (m₀ .registers) ≡ lentOf m .maxRegisters - r .registerHeight → length (m₀ .places) ≡ lentOf m .maxPlaces - r .placeHeight
-        → (ss : List (Step Call))
+        → (ss : List (CallWithTable Call))
         → (insideAnswers program (bothOf (innerOpens program outerTable innerTable area r m)) (map inside ss) ≡ aloneAnswers program (openedAlone program innerTable area m₀) ss)
         × AsAlone program (beginning r) (insideAfter program (bothOf (innerOpens program outerTable innerTable area r m)) (map inside ss)) (aloneAfter program (openedAlone program innerTable area m₀) ss)
 
@@ -90,7 +90,7 @@ pub outer-kept : OuterKept
 outer-kept program outerTable innerTable area r m h = subst Says (sym (open-outer program outerTable innerTable area r m h)) at h
   where
     Says : Record → Type 0
-    Says r = innerOpens program outerTable innerTable area r m .answer ≡ more 0 → (ss : List (Step InnerCall)) → Kept r m (insideAfter program (bothOf (innerOpens program outerTable innerTable area r m)) ss)
+    Says r = innerOpens program outerTable innerTable area r m .answer ≡ more 0 → (ss : List (CallWithTable InnerCall)) → Kept r m (insideAfter program (bothOf (innerOpens program outerTable innerTable area r m)) ss)
 
     at : Says (open-record (r .tokens) (r .moves) (r .registerHeight) (r .placeHeight))
     at h ss =

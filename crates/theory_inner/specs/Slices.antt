@@ -8,7 +8,7 @@ use lib.ListN.{length, take, drop, length-take, drop-of-length-le}
 use lib.Seq.{take-all, take-take, take-add, drop-at, length-take-le}
 use Rattle.meaning.specs.Machine.{Lent}
 use Rattle.meaning.specs.Calls.{Kind, outer, inner, Stacks, lentOf}
-use Rattle.meaning.specs.Inner.{above, below, paste}
+use Rattle.meaning_inner.specs.Inner.{above, below, paste}
 
 -- ---- one slice: n cells are lent, the stretch begins at b
 

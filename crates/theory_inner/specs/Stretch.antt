@@ -7,7 +7,7 @@ use lib.ListN.{length, take, drop, length-append, length-drop, length-take, take
 use lib.Seq.{take-at, drop-at}
 use Rattle.meaning.specs.Machine.{Lent}
 use Rattle.meaning.specs.Calls.{Kind, Stacks, lentOf}
-use Rattle.meaning.specs.Inner.{registerBase, placeBase, above, below, paste}
+use Rattle.meaning_inner.specs.Inner.{registerBase, placeBase, above, below, paste}
 
 -- ---- one list: n cells are lent, the stretch begins at b
 

@@ -18,7 +18,7 @@ use Rattle.meaning.specs.Table.{byte}
 use Rattle.meaning.specs.Value.{inRange, lowest}
 use Rattle.meaning_sheet.specs.Sheet.{complement, eightBytes, valueBytes}
 use Rattle.theory_base.specs.Members.{both}
-use Rattle.theory_table.specs.Numbers.{joined, four-joined, small}
+use Rattle.theory_table.specs.Numbers.{joined, four-joined, joined-four, small}
 use Rattle.value.specs.Constants.{wordAt}
 
 -- ---- a list from a place on
@@ -37,15 +37,6 @@ byte-here : (b : List ℕ) (i : ℕ) (r : List ℕ) → drop i b ≡ r → byte 
 byte-here b i r e = ap (byte b) (omega arith) ∙ byte-behind b i 0 r e
 
 -- ---- four bytes
-
-joined-four : (x y z w : ℕ) → x < 256 → y < 256 → z < 256 → w < 256 → fourBytes (joined x y z w) ≡ x ∷ y ∷ z ∷ w ∷ []
-joined-four x y z w a b c d =
-    let n : ℕ = joined x y z w in
-    let e₁ : n / 16777216 % 256 ≡ x = omega arith in
-    let e₂ : n / 65536 % 256 ≡ y = omega arith in
-    let e₃ : n / 256 % 256 ≡ z = omega arith in
-    let e₄ : n % 256 ≡ w = omega arith in
-    rw (e₁, e₂, e₃, e₄)
 
 -- a longer number is read without what four bytes do not hold
 four-rest : (n : ℕ) → joined (n / 16777216 % 256) (n / 65536 % 256) (n / 256 % 256) (n % 256) ≡ n % 4294967296

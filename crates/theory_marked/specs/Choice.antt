@@ -13,7 +13,7 @@ use Rattle.theory_sets.specs.Accepted.{Sane}
 use Rattle.theory_sets.specs.Derivations.{Yields, nothing, same, expand, yields→derives, derives→yields, joined, before}
 use Rattle.theory_sets.specs.Looks.{Starts→possible}
 use Rattle.theory_sets.specs.StartSets.{starts-is}
-use Rattle.meaning.specs.MarkedToken.{Unconditional, OneStart}
+use Rattle.meaning_statements.specs.MarkedToken.{Unconditional, OneStart}
 use Rattle.theory_marked.specs.Remaining.{lookOf}
 
 -- ---- the first symbol of what derives a token string

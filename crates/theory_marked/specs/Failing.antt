@@ -13,7 +13,7 @@ use Rattle.meaning.specs.Machine.{Config, Lent, Coming, comes, ends, asLook, Ou
 use Rattle.theory_base.specs.Members.{T→true}
 use Rattle.theory_answers.specs.Bounds.{counts, look-free, Blocks, atLimit, notExpected, conditionFalse, outOfRange, noRegister, noPlace, blocks}
 use Rattle.theory_sets.specs.Accepted.{Sane}
-use Rattle.meaning.specs.MarkedToken.{OneStart}
+use Rattle.meaning_statements.specs.MarkedToken.{OneStart}
 use Rattle.theory_marked.specs.Following.{Following, follow-move}
 use Rattle.theory_marked.specs.Unblocked.{only-over}
 

@@ -12,7 +12,7 @@ use Rattle.meaning.specs.Sets.{has, starts, lookNumber}
 use Rattle.meaning.specs.Walk.{Act, Makes, nothing, andThen}
 use Rattle.theory_sets.specs.Accepted.{Sane}
 use Rattle.theory_sets.specs.Derivations.{joined, beside}
-use Rattle.meaning.specs.MarkedToken.{OneStart, TokenString}
+use Rattle.meaning_statements.specs.MarkedToken.{OneStart, TokenString}
 use Rattle.theory_marked.specs.Remaining.{kindsOf, lookOf, look-kinds, kinds-drop, remaining, Passes, stays, reads, predicts, passes}
 use Rattle.theory_marked.specs.Framed.{Framed, opening-framed, framed-move}
 use Rattle.theory_marked.specs.Choice.{Taken, taken, read, taken-starts, only}

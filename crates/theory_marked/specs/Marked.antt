@@ -22,14 +22,14 @@ use Rattle.theory_sets.specs.Accepted.{Sane, accepted-sane}
 use Rattle.theory_sound.specs.CallSound.{feed-is, finish-is}
 use Rattle.theory_sound.specs.Histories.{OpenRun, Run, runs}
 use Rattle.theory_demands.specs.ByGrammar.{performs-is, by-grammar}
-use Rattle.meaning.specs.MarkedToken.{kinds, TokenString, Begins, OneStart, MarkedToken, MarkedByStart, MarkedBegins}
+use Rattle.meaning_statements.specs.MarkedToken.{kinds, TokenString, Begins, OneStart, MarkedToken, MarkedByStart, MarkedBegins}
 use Rattle.theory_marked.specs.Remaining.{kindsOf}
 use Rattle.theory_marked.specs.Prefixes.{Ahead, opening-ahead, ahead-makes, begins}
 use Rattle.theory_marked.specs.Choice.{unconditional-starts}
 use Rattle.theory_marked.specs.Following.{Following, opening-follows, follow-makes}
 use Rattle.theory_marked.specs.Failing.{FailedAt, failed-at, by-moves, count-kept, never}
 use Rattle.meaning.specs.Judgement.{Accepted}
-use Rattle.meaning.specs.Statements.{History}
+use Rattle.meaning_statements.specs.Statements.{History}
 use Rattle.meaning.specs.Calls as Calls
 
 -- ---- tokens of given kinds

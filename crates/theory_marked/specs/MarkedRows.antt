@@ -19,9 +19,9 @@ use Rattle.meaning.specs.Decide.{meet}
 use Rattle.meaning.specs.Judgement.{accepted, Accepted}
 use Rattle.meaning.specs.Calls.{isOpen, Stacks, Called, more, refused, openOf}
 use Rattle.meaning.specs.PublicCalls.{Call, feed, finish, callOf, areaLength, written, Effect, effect, opens, performs}
-use Rattle.meaning.specs.CallStatements.{Lendable, Even, tokensOf}
-use Rattle.meaning.specs.Statements.{History, opened, fed}
-use Rattle.meaning.specs.MarkedToken.{TokenString, Begins, FirstImpossible, Unfinished, Unconditional, OneStart, MarkedWhere}
+use Rattle.meaning_statements.specs.CallStatements.{Lendable, Even, tokensOf}
+use Rattle.meaning_statements.specs.Statements.{History, opened, fed}
+use Rattle.meaning_statements.specs.MarkedToken.{TokenString, Begins, FirstImpossible, Unfinished, Unconditional, OneStart, MarkedWhere}
 use Rattle.theory_base.specs.Members.{in-from, all-in}
 use Rattle.theory_sets.specs.Accepted.{Sane, judged-is, accepted-sane}
 use Rattle.theory_sets.specs.Clashes.{meet-at}

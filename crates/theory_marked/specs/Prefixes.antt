@@ -19,7 +19,7 @@ use Rattle.theory_sets.specs.Looks.{derived-known}
 use Rattle.theory_sets.specs.Productions.{known}
 use Rattle.theory_sets.specs.Tests.{all-right}
 use Rattle.theory_sound.specs.KeptByCalls.{Kept, Along, kept-on}
-use Rattle.meaning.specs.MarkedToken.{Begins}
+use Rattle.meaning_statements.specs.MarkedToken.{Begins}
 use Rattle.theory_marked.specs.Remaining.{kindsOf, remaining, Passes, stays, reads, predicts, passes}
 
 -- ---- what is derived begins a token string

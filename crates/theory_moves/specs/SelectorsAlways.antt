@@ -13,7 +13,7 @@ use Rattle.meaning.specs.Judgement.{Accepted}
 use Rattle.meaning.specs.Machine.{Config, Lent, opening}
 use Rattle.meaning.specs.Tree.{Tree, TreeOf, isLeafOf}
 use Rattle.meaning.specs.Walk.{Act, Makes}
-use Rattle.meaning.specs.Statements.{SelectorsAlways, ReturnsAlways}
+use Rattle.meaning_statements.specs.Statements.{SelectorsAlways, ReturnsAlways}
 use Rattle.theory_sets.specs.Accepted.{accepted-sane}
 use Rattle.theory_sound.specs.RunsShowPart.{Shows}
 use Rattle.theory_sound.specs.ShowsInstruction.{selectors-find}

@@ -11,7 +11,7 @@ use Rattle.meaning.specs.Grammar.{Symbol, terminal, nonterminal, Occurrence, Ru
 use Rattle.meaning.specs.Rules.{WellFormed}
 use Rattle.theory_base.specs.Members.{apart, getD-in, true→T}
 use Rattle.theory_base.specs.WellFormed.{Evaluable, evaluable, evaluable-whole}
-use Rattle.meaning.specs.Order.{SameProduction, SameEach, SameButOrder}
+use Rattle.meaning_house.specs.Order.{SameProduction, SameEach, SameButOrder}
 use Rattle.theory_order.specs.Shuffles.{shuffled-refl, shuffled-sym, members-refl, members-sym}
 
 -- ---- one production

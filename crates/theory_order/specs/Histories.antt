@@ -8,9 +8,9 @@ use Rattle.meaning.specs.Layout.{Bytes}
 use Rattle.meaning.specs.Judgement.{Accepted}
 use Rattle.meaning.specs.Calls.{Record, Stacks}
 use Rattle.meaning.specs.PublicCalls.{feed, finish}
-use Rattle.meaning.specs.CallStatements.{tokensOf}
-use Rattle.meaning.specs.Statements.{History, opened, countsForNothing, innerEnded, fed, finished}
-use Rattle.meaning.specs.Order.{SameButOrder, houseGrammar, houseBytes}
+use Rattle.meaning_statements.specs.CallStatements.{tokensOf}
+use Rattle.meaning_statements.specs.Statements.{History, opened, countsForNothing, innerEnded, fed, finished}
+use Rattle.meaning_house.specs.Order.{SameButOrder, houseGrammar, houseBytes}
 use Rattle.theory_order.specs.Proved.{calls-same, house-accepted}
 
 module _ (program : Grammar → List ℕ) (bs cs : List ℕ) (g h : Grammar) (b : Bytes bs) (x : Accepted bs g) (y : Accepted cs h) (s : SameButOrder g h) where

@@ -12,7 +12,7 @@ use Rattle.meaning.specs.Layout as Layout
 use Rattle.meaning.specs.Layout.{field, headerBytes, countsFields, carryingFields, productionBytes, ruleBytes, conditionBytes, RulesAndConditions, rule, condition, Productions, production, LaidOut}
 use Rattle.meaning.specs.Table.{conditionOf}
 use Rattle.theory_table.specs.Numbers.{condition-read}
-use Rattle.meaning.specs.Order.{Shuffled, SameMembers, SameProduction, SameEach, SameButOrder, arranged, ruleKey, houseProduction, houseGrammar, conditionFields, ruleFields, productionFields, tableBytes, houseBytes}
+use Rattle.meaning_house.specs.Order.{Shuffled, SameMembers, SameProduction, SameEach, SameButOrder, arranged, ruleKey, houseProduction, houseGrammar, conditionFields, ruleFields, productionFields, tableBytes, houseBytes}
 use Rattle.theory_order.specs.Shuffles.{Apart, apart-one, apart-shuffled, shuffled-in, shuffled-sym}
 use Rattle.theory_order.specs.SameSchemes.{distinct-apart}
 use Rattle.theory_order.specs.SameVerdict.{FewConditions}

@@ -8,7 +8,7 @@ use Rattle.meaning.specs.Grammar.{Occurrence, Rule, Condition, Production, Gram
 use Rattle.meaning.specs.Layout as Layout
 use Rattle.meaning.specs.Layout.{field, headerBytes, countsFields, carryingFields, productionBytes, ruleBytes, conditionBytes, RulesAndConditions, rule, condition, Productions, production, LaidOut, Bytes}
 use Rattle.theory_base.specs.Members.{in-append, in-left, in-right}
-use Rattle.meaning.specs.Order.{arranged, ruleKey, houseProduction, conditionFields, ruleFields, productionFields, houseBytes}
+use Rattle.meaning_house.specs.Order.{arranged, ruleKey, houseProduction, conditionFields, ruleFields, productionFields, houseBytes}
 use Rattle.theory_order.specs.Arranging.{arranged-in}
 
 -- a field's bytes are among those of a production's rules and conditions

@@ -10,7 +10,7 @@ use lib.Dec.{eqb}
 use Rattle.meaning.specs.Grammar.{Occurrence, Rule, Condition, Production, Counts, Grammar}
 use Rattle.meaning.specs.Layout as Layout
 use Rattle.meaning.specs.Layout.{field, headerBytes, countsBytes, countsFields, carryingFields, productionBytes, ruleBytes, conditionBytes, RulesAndConditions, rule, condition, Productions, production, LaidOut}
-use Rattle.meaning.specs.Order.{arranged, ruleKey, houseProduction, conditionFields, ruleFields, productionFields, houseBytes}
+use Rattle.meaning_house.specs.Order.{arranged, ruleKey, houseProduction, conditionFields, ruleFields, productionFields, houseBytes}
 use Rattle.theory_order.specs.Gathering.{arranged-map}
 
 -- ---- the definition on fields

@@ -13,7 +13,7 @@ use Rattle.meaning.specs.Rules.{WellFormedProduction}
 use Rattle.meaning.specs.Layout.{field, headerBytes, countsFields, carryingFields, productionBytes, conditionBytes, Bytes}
 use Rattle.meaning.specs.Table.{State, Entry, noEntry, wellFormed, readTable, grammarOf, productionOf}
 use Rattle.meaning.specs.PublicCalls.{joined}
-use Rattle.meaning.specs.Order.{arranged, ruleKey, houseProduction, conditionFields, ruleFields, productionFields, houseBytes}
+use Rattle.meaning_house.specs.Order.{arranged, ruleKey, houseProduction, conditionFields, ruleFields, productionFields, houseBytes}
 use Rattle.theory_base.specs.Members.{in-map, map-at}
 use Rattle.theory_table.specs.Places.{productionsAt}
 use Rattle.theory_table.specs.Stretches.{StretchAt, first-offset}

@@ -18,14 +18,14 @@ use Rattle.meaning.specs.Decide.{verdictOf, judge}
 use Rattle.theory_base.specs.Members.{T→true}
 use Rattle.theory_answers.specs.Called.{checks, called-is}
 use Rattle.theory_demands.specs.Acceptance.{accepted-exactly}
-use Rattle.meaning.specs.Order.{SameProduction, SameEach, SameButOrder, through, houseGrammar, houseBytes}
+use Rattle.meaning_house.specs.Order.{SameProduction, SameEach, SameButOrder, through, houseGrammar, houseBytes}
 use Rattle.theory_order.specs.SameCalls.{open-same, call-same}
 use Rattle.theory_order.specs.SameInner.{outer-same, inner-same, later-same}
 use Rattle.theory_order.specs.SameVerdict.{same-but-sym, FewConditions, accepts-same}
 use Rattle.theory_order.specs.House.{house-same, bytes-alike, bytes-twice, house-laid-out, house-short, house-few}
 use Rattle.theory_order.specs.HouseBytes.{house-bytes}
-use Rattle.meaning.specs.House.{wrote, turnedBack, HouseCalled, writing, houseOf}
-use Rattle.meaning.specs.HouseStatements.{HouseWrites, HouseTurnsBack, HouseAccepted, HouseAlike, HouseAlikeCalls, HouseTwice, SameButProgram, HouseKeeps, HouseKeepsInner}
+use Rattle.meaning_house.specs.House.{wrote, turnedBack, HouseCalled, writing, houseOf}
+use Rattle.meaning_house.specs.HouseStatements.{HouseWrites, HouseTurnsBack, HouseAccepted, HouseAlike, HouseAlikeCalls, HouseTwice, SameButProgram, HouseKeeps, HouseKeepsInner}
 
 -- ---- the same but for order is an equivalence
 

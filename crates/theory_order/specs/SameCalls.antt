@@ -7,7 +7,7 @@ use Rattle.meaning.specs.Rules.{WellFormed}
 use Rattle.meaning.specs.Machine.{Coming, Config, Lent, next}
 use Rattle.meaning.specs.Calls.{Record, Stacks, configOf, openOf}
 use Rattle.meaning.specs.PublicCalls.{Call, callOf}
-use Rattle.meaning.specs.Order.{SameEach, SameButOrder}
+use Rattle.meaning_house.specs.Order.{SameEach, SameButOrder}
 use Rattle.theory_order.specs.Each.{regrouped, regrouped-is, same-at}
 use Rattle.theory_order.specs.SameSets.{alternatives-same}
 use Rattle.theory_order.specs.SameSchemes.{scheme-same, entered-same}

@@ -10,7 +10,7 @@ use Rattle.meaning.specs.Base.{all}
 use Rattle.meaning.specs.Grammar.{Symbol, terminal, nonterminal, Production, Grammar, productionAt, inh, syn, whole, isNonterminal}
 use Rattle.meaning.specs.Machine.{movesLimit, tokensLimit}
 use Rattle.meaning.specs.Calls.{Record, Stacks, lentOf, Cell, valued, marked, isMark, cellsFit, synCells, waitingCells, awaited, placesFit, placeCells, stackFits, stacksFit}
-use Rattle.meaning.specs.Order.{SameEach}
+use Rattle.meaning_house.specs.Order.{SameEach}
 use Rattle.theory_order.specs.Each.{regrouped, marked-redone, each-length, same-at}
 
 module _ (g : Grammar) (qs : List Production) (s : SameEach (g .productions) qs) where

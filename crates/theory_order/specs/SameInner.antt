@@ -11,9 +11,9 @@ use Rattle.meaning.specs.Table.{grammarOf}
 use Rattle.meaning.specs.Judgement.{Accepted}
 use Rattle.meaning.specs.Calls.{Gate, admitted, turnedBack, gate, isOpen, Record, Stacks, Called, refused, tableRefused, closedRecord, stacksFit}
 use Rattle.meaning.specs.PublicCalls.{Checked, usable, unusable, check, areaLength, written}
-use Rattle.meaning.specs.Inner.{above, alone, beginning, InnerCalled, handedBack, openedAbove, innerOpenOf, InnerCall, engineCall, ends, afterInner, isClosed, belongs, innerOf, InnerEffect, innerEffect, byTable, whenOuterFits, innerOpens, innerPerforms}
-use Rattle.meaning.specs.Order.{SameButOrder}
-use Rattle.meaning.specs.HouseStatements.{SameBothButProgram}
+use Rattle.meaning_inner.specs.Inner.{above, alone, beginning, InnerCalled, handedBack, openedAbove, innerOpenOf, InnerCall, engineCall, ends, afterInner, isClosed, belongs, innerOf, InnerEffect, innerEffect, byTable, whenOuterFits, innerOpens, innerPerforms}
+use Rattle.meaning_house.specs.Order.{SameButOrder}
+use Rattle.meaning_house.specs.HouseStatements.{SameBothButProgram}
 use Rattle.theory_inner.specs.Cases.{by-accepted}
 use Rattle.theory_order.specs.SameCalls.{matched, open-same, call-same}
 

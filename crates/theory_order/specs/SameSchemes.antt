@@ -18,7 +18,7 @@ use Rattle.meaning.specs.Machine.{readRegister, writeAll, schemeAt, entered}
 use Rattle.theory_base.specs.WellFormed.{Evaluable}
 use Rattle.theory_base.specs.Selectors.{target-of-inherited, target-of-synthesized}
 use Rattle.theory_base.specs.Present.{in-for}
-use Rattle.meaning.specs.Order.{Shuffled, neither, kept, swapped, through, SameMembers, SameProduction, SameEach}
+use Rattle.meaning_house.specs.Order.{Shuffled, neither, kept, swapped, through, SameMembers, SameProduction, SameEach}
 use Rattle.theory_order.specs.Shuffles.{Apart, apart-shuffled, apart-keep, apart-map, all-shuffled, empty-shuffled, keep-shuffled, map-shuffled, all-members, empty-members, keep-members, map-members}
 use Rattle.theory_order.specs.Alike.{SameEffect, Alike, adds, evaluates, awaits, tests, removes, AlikeAll, ended, followed}
 use Rattle.theory_order.specs.Each.{redone, redone-is, regrouped, marked-redone, same-at, ready-at}

@@ -9,7 +9,7 @@ use Rattle.meaning.specs.Base.{countFrom, keep}
 use Rattle.meaning.specs.Grammar.{Symbol, Production, Grammar, productionAt, nonterminalCount, Look}
 use Rattle.meaning.specs.Sets.{TokenSet, rounds, emptySet, singleton, endNumber, onlyIf, unions, _∪_, has, lookNumber, productionsOf, emptyString, nullable, firstString, first, followIn, follow, starts}
 use Rattle.meaning.specs.Machine.{isOf, alternatives}
-use Rattle.meaning.specs.Order.{SameProduction, SameEach}
+use Rattle.meaning_house.specs.Order.{SameProduction, SameEach}
 use Rattle.theory_order.specs.Each.{regrouped, each-length, any-each, map-each, keep-each, same-at}
 
 abbrev numbers : Grammar → List ℕ

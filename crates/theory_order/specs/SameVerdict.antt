@@ -13,7 +13,7 @@ use Rattle.meaning.specs.Value.{holds, inRange}
 use Rattle.meaning.specs.Rules.{WellFormed, WellFormedProduction, Known, Input, InputAt, Output, OutputAt, Operand, Operands, Reads}
 use Rattle.meaning.specs.Derivation.{Listed, Derives, itself, step, startForm, Reachable, Productive, LeftRecursive, Follow, Starts, entryConditional, entryValue, Enters, Clash}
 use Rattle.meaning.specs.Judgement.{AllUseful, NoneRecursive, NoneClash}
-use Rattle.meaning.specs.Order.{SameProduction, SameEach, SameButOrder, SameMembers}
+use Rattle.meaning_house.specs.Order.{SameProduction, SameEach, SameButOrder, SameMembers}
 use Rattle.theory_order.specs.Shuffles.{shuffled-in, shuffled-sym, length-shuffled, apart-shuffled, all-members, empty-members, keep-members}
 use Rattle.theory_order.specs.Each.{redone, redone-is, regrouped, regrouped-is, each-sym, each-length, each-in, map-each, same-at}
 use Rattle.theory_order.specs.SameSchemes.{distinct-apart, apart-distinct}

@@ -9,10 +9,10 @@ use lib.IntN.{ℤ}
 use Rattle.meaning.specs.Grammar.{Grammar}
 use Rattle.meaning.specs.Table.{grammarOf}
 use Rattle.meaning.specs.Judgement.{rejected, Accepted}
-use Rattle.meaning.specs.Calls.{Status, running, waiting, closed, Kind, outer, inner, Gate, admitted, turnedBack, gate, isOpen, Record, Stacks, Called, Answer, refused, tableRefused, asBrought, stacksFit}
+use Rattle.meaning.specs.Calls.{inner, Gate, admitted, turnedBack, gate, isOpen, Record, Stacks, Called, Answer, refused, tableRefused, asBrought, stacksFit}
 use Rattle.meaning.specs.Fit.{Fit}
 use Rattle.meaning.specs.PublicCalls.{Checked, usable, unusable, check, areaLength, written, effect, called}
-use Rattle.meaning.specs.CallStatements.{Met, Case, short, badTable, isClosed, isWaiting, isInner, unfit, uneven, met}
+use Rattle.meaning_statements.specs.CallStatements.{Met, Case, short, badTable, isClosed, isWaiting, isInner, unfit, uneven, met}
 use Rattle.meaning.specs.PublicCalls.{finish}
 use Rattle.meaning_preview.specs.Preview.{isShort, tidied, whenCopied, tried, previewOf, previews, turned, MayEffect, mayEffect, mayFollow, mayOf, mays, tokens}
 use Rattle.meaning_preview.specs.PreviewStatements as Statements
@@ -22,15 +22,7 @@ use Rattle.theory_sets.specs.Accepted.{judged-is}
 use Rattle.theory_answers.specs.Called.{checks, called-is, long-enough}
 use Rattle.theory_answers.specs.FitTest.{fit-exactly}
 use Rattle.theory_answers.specs.Memory.{open-is}
-use Rattle.theory_answers.specs.TurnedBack.{is-below, refuses, unfit-no, all-cases}
-
--- a record of the wrong kind
-inner-gate : (s : Status) (k : Kind) → (s ≡ closed → ⊥) → (k ≡ outer → ⊥) → gate 34 s k ≡ turnedBack 34
-inner-gate running outer e f = absurd (f refl)
-inner-gate running (inner a b) e f = refl
-inner-gate waiting outer e f = absurd (f refl)
-inner-gate waiting (inner a b) e f = refl
-inner-gate closed k e f = absurd (e refl)
+use Rattle.theory_answers.specs.TurnedBack.{is-below, refuses, unfit-no, inner-gate, all-cases}
 
 -- ---- 33, 40, 34 and 39
 

@@ -11,7 +11,7 @@ use Rattle.meaning.specs.Sets.{has, endNumber}
 use Rattle.meaning.specs.Machine.{Settled, stopped, failed, advanceFrom, comes, tokensLimit}
 use Rattle.meaning.specs.Calls.{Record, Stacks, Called, lentOf, configOf, afterFeed, feedOf, refused, asBrought}
 use Rattle.meaning.specs.PublicCalls.{feed, written, Effect, effect, performs}
-use Rattle.meaning.specs.CallStatements.{Met}
+use Rattle.meaning_statements.specs.CallStatements.{Met}
 use Rattle.meaning_preview.specs.Preview.{isShort, tidied, tried, previewOf, previews, noRefusal, mayFollow, MayEffect, mayEffect, tokens, turned, mays}
 use Rattle.meaning_preview.specs.PreviewStatements as Statements
 use Rattle.meaning_preview.specs.PreviewStatements.{PreviewTurnedBack, PreviewIsFeed, MayExactly, MaySet, PreviewCases}

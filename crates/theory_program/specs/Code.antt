@@ -1,5 +1,5 @@
 -- Instructions, rules and conditions as words that stand in a list: what the first word says, and where the others stand.
-use Prim.Native.Nat.{ℕ, zero, suc, _+_, _*_, _/_, _%_, _≤_, _<_}
+use Prim.Native.Nat.{ℕ, zero, suc, _+_, _*_, _≤_, _<_}
 use native.Mathlib.Omega.{arith}
 use mathlib.Core.Path.{_≡_, refl, ap, _∙_}
 use mathlib.Core.Logic.{inl, inr}
@@ -12,6 +12,7 @@ use Rattle.meaning.specs.Scheme.{Instruction, add, evaluate, expect, test, remo
 use Rattle.meaning.specs.Machine.{expects}
 use Rattle.meaning.specs.Calls.{fromExpect}
 use Rattle.meaning.specs.Program.{concat, functionWords, ruleWords, conditionWords, instructionWords, schemeWords, expectsAt}
+use Rattle.theory_program.specs.Parts.{headOperation, headOperand}
 use Rattle.theory_program.specs.WordsStand.{WordsStand, stands-at, stands-left, stands-right, stands-tail, stands-word, stands-head}
 
 pub record RulesAt (ws : List ℕ) (a : ℕ) (rs : List (Rule ℕ)) : Type 0 where
@@ -112,7 +113,7 @@ low-operation (test cs) = omega arith
 low-operation (remove n) = omega arith
 
 -- the word at hand, taken apart
-pub code-head : {ws : List ℕ} {a : ℕ} {i : Instruction} {is : List Instruction} → CodeAt ws a (i ∷ is) → (getD ws a 0 % 8 ≡ operation i) × (getD ws a 0 / 8 ≡ operand i)
+pub code-head : {ws : List ℕ} {a : ℕ} {i : Instruction} {is : List Instruction} → CodeAt ws a (i ∷ is) → (headOperation (getD ws a 0) ≡ operation i) × (headOperand (getD ws a 0) ≡ operand i)
 code-head {ws} {a} {i} {is} s =
     let e : getD ws a 0 ≡ operation i + 8 * operand i = ap (λ b. getD ws b 0) (omega arith) ∙ (stands-word (stands-left (instructionWords i) (schemeWords is) (s .words)) 0 (some-word i) ∙ head-word i) in
     let l = low-operation i in

@@ -1,5 +1,7 @@
 -- Words that stand in a list from an address on
 pub mod WordsStand
+-- The parts of the program's words, by / and %: the one account of how a word is taken apart
+pub mod Parts
 -- Instructions, rules and conditions as words that stand in a list: what the first word says, and where the others stand
 pub mod Code
 -- Where everything stands in a list that begins with the program: the words on the whole segment, the directory, the records, what places wait at, the bodies
@@ -20,7 +22,7 @@ pub mod Records
 pub mod Resuming
 -- How long the program of a well-formed grammar gets
 pub mod Sizes
--- The word that says what a place waits at, taken apart by / and %
+-- The word that says what a place waits at, taken apart
 pub mod Waits
 -- Every word of a well-formed grammar's program is a 32-bit number
 pub mod SmallWords

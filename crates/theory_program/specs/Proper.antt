@@ -9,7 +9,8 @@ use mathlib.Core.List.{List, [], _∷_, map}
 use lib.ListN.{length, take, drop, length-map, length-take, length-drop}
 use lib.Dec.{T, eqb, ltb, ltb→lt, eqb·suc-zero}
 use Rattle.meaning.specs.Base.{In, keep, consIf, total, isEmpty, any}
-use Rattle.meaning.specs.Grammar.{Symbol, terminal, nonterminal, Occurrence, Function, const, copy, binary, addc, quot, Rule, Condition, range, atmost, Production, Grammar, syn, att, symbolAt, productionAt, wholeProduction, conditionPosition, addedFor, attributeIf, mapFunction, mapCondition, mapRule, conditionsAt}
+use Rattle.meaning.specs.Grammar.{Symbol, terminal, nonterminal, Occurrence, Function, const, copy, binary, addc, quot, Rule, Condition, range, atmost, Production, Grammar}
+use Rattle.meaning.specs.Grammar.{syn, att, symbolAt, productionAt, wholeProduction, conditionPosition, addedFor, attributeIf, mapFunction, mapCondition, mapRule, conditionsAt}
 use Rattle.meaning.specs.Rules.{Operands, Reads, Input, InputAt, Output, OutputAt, Operand, Known, InFourBytes, Constant, Proper, WellFormedProduction, WellFormed}
 use Rattle.meaning.specs.Selectors.{occurrence}
 use Rattle.meaning.specs.Scheme.{Instruction, add, evaluate, expect, test, remove, synBetween, selectInherited, selectAfter, rulesFor, entryTests, testsAfter, inheritedRules, synthesizedRules, removed, symbolScheme, symbolsScheme, scheme}

@@ -2,12 +2,11 @@
 use Prim.Native.Nat.{ℕ, _+_, _*_, _/_, _%_, _^_, _<_}
 use native.Mathlib.Omega.{arith}
 use native.Mathlib.Decide.{decLt}
-use mathlib.Core.Path.{_≡_, sym, ap, _∙_, subst}
-use mathlib.Core.Logic.{_↔_}
+use mathlib.Core.Path.{_≡_, ap, _∙_}
 use mathlib.Core.Bool.{false}
 use mathlib.Core.List.{List}
 use lib.ListN.{length, getD}
-use lib.Dec.{T, eqb}
+use lib.Dec.{eqb}
 use Rattle.meaning.specs.Base.{any, countFrom}
 use Rattle.meaning.specs.Grammar.{Grammar, nonterminal, syn, productionAt}
 use Rattle.meaning.specs.Rules.{WellFormed}
@@ -16,6 +15,7 @@ use Rattle.meaning.specs.Sets.{TokenSet, has, starts}
 use Rattle.meaning.specs.Program.{setBits, carriers, recordsAddress}
 use Rattle.theory_base.specs.Members.{map-at}
 use Rattle.theory_sets.specs.Verdicts.{counted}
+use Rattle.theory_program.specs.Parts.{inSet}
 use Rattle.theory_program.specs.WordsStand.{stands-word}
 use Rattle.theory_program.specs.Addresses.{Begins, recordAddress, bodyAddress, schemeAddress, segment-at, record-at}
 use Rattle.theory_program.specs.SetWords.{set-bit}
@@ -63,17 +63,14 @@ nothing-more a = omega arith
 
 -- a set in two words from address a on: a place is in it where its bit is set in the word that has it
 module _ (ws : List ℕ) (a : ℕ) (s : TokenSet) (low : getD ws a 0 ≡ setBits s 0 1 32) (high : getD ws (a + 1) 0 ≡ setBits s 32 1 32) where
-  pub words-set : (u : ℕ) → u < 64 → (getD ws (a + u / 32) 0 / 2 ^ (u % 32) % 2 ≡ 1) ↔ T (has s u)
+  pub words-set : (u : ℕ) → u < 64 → inSet ws a u ≡ has s u
   words-set u m = go (decLt u 32)
     where
       -- in the word d behind the first, whose places begin at k
-      at : (d k : ℕ) → u / 32 ≡ d → k + u % 32 ≡ u → getD ws (a + d) 0 ≡ setBits s k 1 32 → (getD ws (a + u / 32) 0 / 2 ^ (u % 32) % 2 ≡ 1) ↔ T (has s u)
-      at d k e q h =
-          let t = set-bit s k 32 (u % 32) (below u) in
-          let f = ap (λ n. getD ws (a + n) 0 / 2 ^ (u % 32) % 2) e ∙ ap (λ n. n / 2 ^ (u % 32) % 2) h in
-          ((λ x. subst (λ n. T (has s n)) q (t .0 (sym f ∙ x))), (λ x. f ∙ t .1 (subst (λ n. T (has s n)) (sym q) x)))
+      at : (d k : ℕ) → u / 32 ≡ d → k + u % 32 ≡ u → getD ws (a + d) 0 ≡ setBits s k 1 32 → inSet ws a u ≡ has s u
+      at d k e q h = ap (λ n. eqb (n / 2 ^ (u % 32) % 2) 1) (ap (λ n. getD ws (a + n) 0) e ∙ h) ∙ (set-bit s k 32 (u % 32) (below u) ∙ ap (has s) q)
 
-      go : Dec (u < 32) → (getD ws (a + u / 32) 0 / 2 ^ (u % 32) % 2 ≡ 1) ↔ T (has s u)
+      go : Dec (u < 32) → inSet ws a u ≡ has s u
       go (yes y) = let h = in-first u y in at 0 0 (h .0) (h .1) (ap (λ z. getD ws z 0) (nothing-more a) ∙ low)
       go (no y) = let h = in-second u y m in at 1 32 (h .0) (h .1) high
 
@@ -81,12 +78,8 @@ module _ (ws : List ℕ) (a : ℕ) (s : TokenSet) (low : getD ws a 0 ≡ setBits
 carriers-at : (g : Grammar) (t : ℕ) → t < 64 → has (carriers g) t ≡ any (eqb t) (g .carrying)
 carriers-at g t l = map-at (λ u. any (eqb u) (g .carrying)) (countFrom 0 64) t 0 false l ∙ ap (λ u. any (eqb u) (g .carrying)) (counted 64 t l)
 
-pub carrier-word : {g : Grammar} {ws : List ℕ} → Begins g ws → (t : ℕ) → t < 64 → (getD ws (7 + t / 32) 0 / 2 ^ (t % 32) % 2 ≡ 1) ↔ T (any (eqb t) (g .carrying))
-carrier-word {g} {ws} b t l =
-    let s = segment-words b in
-    let h = words-set ws 7 (carriers g) (s .carriersLow) (s .carriersHigh) t l in
-    let e = carriers-at g t l in
-    ((λ x. subst T e (h .0 x)), (λ x. h .1 (subst T (sym e) x)))
+pub carrier-word : {g : Grammar} {ws : List ℕ} → Begins g ws → (t : ℕ) → t < 64 → inSet ws 7 t ≡ any (eqb t) (g .carrying)
+carrier-word {g} {ws} b t l = let s = segment-words b in words-set ws 7 (carriers g) (s .carriersLow) (s .carriersHigh) t l ∙ carriers-at g t l
 
 -- the 8 words of production p's record
 pub record RecordAt (g : Grammar) (ws : List ℕ) (p : ℕ) : Type 0 where
@@ -115,5 +108,5 @@ module _ {g : Grammar} {ws : List ℕ} (b : Begins g ws) (w : WellFormed g) (p :
       }
 
   -- what comes next is in the set where its bit is set in the word that has it
-  pub set-word : (u : ℕ) → u < 64 → (getD ws (recordAddress g p + 2 + u / 32) 0 / 2 ^ (u % 32) % 2 ≡ 1) ↔ T (has (starts g (productionAt g p)) u)
+  pub set-word : (u : ℕ) → u < 64 → inSet ws (recordAddress g p + 2) u ≡ has (starts g (productionAt g p)) u
   set-word u m = words-set ws (recordAddress g p + 2) (starts g (productionAt g p)) (record-words .low) (ap (λ a. getD ws a 0) (omega arith) ∙ record-words .high) u m

@@ -1,5 +1,5 @@
 -- A place, and the code from which its production goes on.
-use Prim.Native.Nat.{ℕ, zero, suc, _/_, _%_, _<_}
+use Prim.Native.Nat.{ℕ, zero, suc, _<_}
 use native.Mathlib.Omega.{arith}
 use mathlib.Core.Path.{_≡_, sym, ap, subst}
 use mathlib.Core.Logic.{_⊎_, inl, inr}
@@ -7,7 +7,7 @@ use mathlib.Core.List.{List, [], _∷_}
 use mathlib.Core.Bool.{cond}
 use lib.ListN.{length}
 use lib.Dec.{T, eqb, ltb, ltb→lt, eqb→eq}
-use Rattle.meaning.specs.Grammar.{Grammar, productionAt, whole}
+use Rattle.meaning.specs.Grammar.{Grammar, productionAt, whole, placeProduction, placePassed}
 use Rattle.meaning.specs.Rules.{WellFormed}
 use Rattle.meaning.specs.Scheme.{Instruction, add, evaluate, expect, test, remove}
 use Rattle.meaning.specs.Machine.{schemeAt}
@@ -21,7 +21,7 @@ use Rattle.theory_base.specs.Frames.{scheme-listed}
 
 -- where the code of a place begins: the whole segment's stands in words 0 and 1
 abbrev pub placeAddress : Grammar → ℕ → ℕ
-placeAddress g q = cond (eqb (q / 256) whole) (q % 256) (expectAddress g (q / 256) (q % 256))
+placeAddress g q = cond (eqb (placeProduction q) whole) (placePassed q) (expectAddress g (placeProduction q) (placePassed q))
 
 listed-cases : (g : Grammar) (p : ℕ) → T (isListed g p) → (p < length (g .productions)) ⊎ (p ≡ whole)
 listed-cases g p t = go (or-cases (ltb p (length (g .productions))) (eqb p whole) t)
@@ -45,9 +45,9 @@ module _ {g : Grammar} {ws : List ℕ} (b : Begins g ws) (w : WellFormed g) wher
 
   pub place-code : (q : ℕ) → T (placeWaits g q) → CodeAt ws (placeAddress g q) (frameOf g q .rest)
   place-code q t =
-      let right = length (productionAt g (q / 256) .right) in
-      let h = both (isListed g (q / 256)) (ltb (q % 256) right) t in
-      code-waits (q / 256) (q % 256) (listed-cases g (q / 256) (h .0)) (ltb→lt (q % 256) right (h .1))
+      let right = length (productionAt g (placeProduction q) .right) in
+      let h = both (isListed g (placeProduction q)) (ltb (placePassed q) right) t in
+      code-waits (placeProduction q) (placePassed q) (listed-cases g (placeProduction q) (h .0)) (ltb→lt (placePassed q) right (h .1))
 
 -- ---- what the instructions hold
 
@@ -71,5 +71,5 @@ listed-proper g w p t = go (listed-cases g p t)
     go (inl l) = subst (AllProper g) (sym (scheme-listed g w p l)) (scheme-proper g w (productionAt g p) (production-in g w p l))
     go (inr e) = subst (λ r. AllProper g (schemeAt g r)) (sym e) start
 
-pub place-proper : (g : Grammar) → WellFormed g → (q : ℕ) → T (isListed g (q / 256)) → AllProper g (frameOf g q .rest)
-place-proper g w q t = proper-from g (schemeAt g (q / 256)) (q % 256) (listed-proper g w (q / 256) t)
+pub place-proper : (g : Grammar) → WellFormed g → (q : ℕ) → T (isListed g (placeProduction q)) → AllProper g (frameOf g q .rest)
+place-proper g w q t = proper-from g (schemeAt g (placeProduction q)) (placePassed q) (listed-proper g w (placeProduction q) t)

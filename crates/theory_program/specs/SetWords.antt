@@ -1,10 +1,9 @@
 -- A token set as two words: bit u of the first is token u, bit u of the second is token 32 + u.
 use Prim.Native.Nat.{ℕ, zero, suc, _+_, _*_, _/_, _%_, _^_, _≤_, _<_}
 use native.Mathlib.Omega.{arith}
-use mathlib.Core.Path.{_≡_, sym, ap, _∙_}
-use mathlib.Core.Logic.{_↔_}
+use mathlib.Core.Path.{_≡_, refl, sym, ap, _∙_}
 use mathlib.Core.Bool.{Bool, true, false, cond}
-use lib.Dec.{T}
+use lib.Dec.{eqb}
 use lib.Pow.{shr-shr, pow-add}
 use Rattle.meaning.specs.Sets.{TokenSet, has}
 use Rattle.meaning.specs.Program.{setBits}
@@ -57,13 +56,13 @@ bit-is s k (suc n) (suc u) l =
     ap (λ y. y / 2 ^ suc u % 2) (bits-step s k n)
     ∙ (ap (λ y. y % 2) down ∙ (bit-is s (suc k) n u (omega arith) ∙ ap (λ m. cond (has s m) 1 0) (omega arith)))
 
-one-is : (b : Bool) (n : ℕ) → n ≡ cond b 1 0 → (n ≡ 1) ↔ T b
-one-is true n e = ((λ h. tt), (λ t. e))
-one-is false n e = ((λ h. absurd (omega arith)), (λ t. absurd t))
+one-is : (b : Bool) → eqb (cond b 1 0) 1 ≡ b
+one-is true = refl
+one-is false = refl
 
 -- 32 places from k on: k is 0 for the first word and 32 for the second
-pub set-bit : (s : TokenSet) (k n u : ℕ) → u < n → (setBits s k 1 n / 2 ^ u % 2 ≡ 1) ↔ T (has s (k + u))
-set-bit s k n u l = one-is (has s (k + u)) (setBits s k 1 n / 2 ^ u % 2) (bit-is s k n u l)
+pub set-bit : (s : TokenSet) (k n u : ℕ) → u < n → eqb (setBits s k 1 n / 2 ^ u % 2) 1 ≡ has s (k + u)
+set-bit s k n u l = ap (λ m. eqb m 1) (bit-is s k n u l) ∙ one-is (has s (k + u))
 
 -- ---- both words as one number
 

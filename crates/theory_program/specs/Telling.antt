@@ -1,5 +1,5 @@
 -- What the program says: two well-formed grammars with the same words have the same right sides with their counts, translation scheme, sets and entry tests.
-use Prim.Native.Nat.{ℕ, suc, _+_, _-_, _*_, _/_, _%_, _^_, _<_}
+use Prim.Native.Nat.{ℕ, suc, _+_, _-_, _*_, _<_}
 use native.Mathlib.Omega.{arith}
 use mathlib.Core.Path.{_≡_, refl, sym, ap, ap₂, _∙_, subst}
 use mathlib.Core.Logic.{inl, inr}
@@ -7,15 +7,16 @@ use mathlib.Core.Bool.{Bool, true, false, not}
 use mathlib.Core.List.{List, [], _∷_}
 use lib.ListN.{length, getD}
 use lib.Seq.{ext-getD}
-use lib.Dec.{T, eqb, ltb}
-use Rattle.meaning.specs.Base.{any, In, consIf, isEmpty}
+use lib.Dec.{ltb}
+use Rattle.meaning.specs.Base.{In, consIf, isEmpty}
 use Rattle.meaning.specs.Grammar.{Symbol, terminal, nonterminal, Rule, Condition, Production, Grammar, inh, markedFor, addedFor, symbolAt, productionAt}
 use Rattle.meaning.specs.Rules.{WellFormed}
 use Rattle.meaning.specs.Sets.{has, starts}
 use Rattle.meaning.specs.Scheme.{Instruction, add, evaluate, expect, test, remove, scheme, symbolsScheme, entryTests, inheritedRules, synthesizedRules, testsAfter, removed}
 use Rattle.meaning.specs.Program.{instructionWords, recordsAddress, programOf}
-use Rattle.meaning.specs.TableStatements.{SameProduction, SameScheme}
+use Rattle.meaning_statements.specs.TableStatements.{SameProduction, SameScheme}
 use Rattle.theory_base.specs.Members.{in-at}
+use Rattle.theory_program.specs.Parts.{inSet}
 use Rattle.theory_program.specs.WordsStand.{WordsStand, stands-whole}
 use Rattle.theory_program.specs.Code.{RulesAt, ConditionsAt, CodeAt, rule-first, condition-first, operation, operand, code-head, code-next, code-evaluate, code-test, is-add, is-evaluate, is-terminal, is-nonterminal, is-test, is-remove}
 use Rattle.theory_program.specs.Unpacked.{rule-at, condition-at}
@@ -103,12 +104,6 @@ scheme-ended g p = symbols-ended g p 1 (p .right) (ended-if (not (isEmpty (synth
 
 -- ---- one program, two grammars
 
-same-truth : (a b : Bool) → (T a → T b) → (T b → T a) → a ≡ b
-same-truth true true f k = refl
-same-truth true false f k = absurd (f tt)
-same-truth false true f k = absurd (k tt)
-same-truth false false f k = refl
-
 module _ {g h : Grammar} {ws : List ℕ} (b : Begins g ws) (c : Begins h ws) (w : WellFormed g) (v : WellFormed h) where
   same-records : recordsAddress g ≡ recordsAddress h
   same-records = sym (segment-words b .records) ∙ segment-words c .records
@@ -145,10 +140,7 @@ module _ {g h : Grammar} {ws : List ℕ} (b : Begins g ws) (c : Begins h ws) (w 
 
     same-set : (u : ℕ) → u < 64 → has (starts g inG) u ≡ has (starts h inH) u
     same-set u m =
-        let e = ap (λ a. getD ws (a + 8 * p + 2 + u / 32) 0 / 2 ^ (u % 32) % 2) same-records in
-        let x = set-word b w p l u m in
-        let y = set-word c v p listed u m in
-        same-truth (has (starts g inG) u) (has (starts h inH) u) (λ t. y .0 (sym e ∙ x .1 t)) (λ t. x .0 (e ∙ y .1 t))
+        sym (set-word b w p l u m) ∙ (ap (λ a. inSet ws (a + 8 * p + 2) u) same-records ∙ set-word c v p listed u m)
 
     -- what a place of the production waits at is in one word
     module _ (e : length (inG .right) ≡ length (inH .right)) (k : ℕ) (m : k < length (inG .right)) where
@@ -186,7 +178,7 @@ module _ {g h : Grammar} {ws : List ℕ} (b : Begins g ws) (c : Begins h ws) (w 
       record {
         terminals = sym (s .terminals) ∙ t .terminals;
         nonterminals = omega (arith, same-records);
-        carrying = λ u l. let x = carrier-word b u l in let y = carrier-word c u l in same-truth (any (eqb u) (g .carrying)) (any (eqb u) (h .carrying)) (λ k. y .0 (x .1 k)) (λ k. x .0 (y .1 k));
+        carrying = λ u l. sym (carrier-word b u l) ∙ carrier-word c u l;
         start = omega (arith, s .expected, t .expected);
         result = sym (s .result) ∙ t .result;
         startRegisters = sym (s .registers) ∙ t .registers;

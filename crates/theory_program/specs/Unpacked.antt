@@ -1,5 +1,5 @@
 -- Words taken apart: a rule's two words and a condition's three give the rule and the condition back.
-use Prim.Native.Nat.{ℕ, _+_, _/_, _%_, _<_}
+use Prim.Native.Nat.{ℕ, _+_, _<_}
 use native.Mathlib.Omega.{arith}
 use mathlib.Core.Path.{_≡_, refl, ap₂, _∙_}
 use mathlib.Core.Bool.{Bool, true, false}
@@ -13,16 +13,17 @@ use Rattle.meaning.specs.Layout.{unsigned}
 use Rattle.meaning.specs.Table.{signed}
 use Rattle.meaning.specs.Program.{packed, ruleWords, conditionWords}
 use Rattle.theory_table.specs.Numbers.{signed-unsigned, divisor-in}
+use Rattle.theory_program.specs.Parts.{ruleTarget, ruleFunction, ruleFirst, ruleSecond, conditionKind, conditionFirst, conditionSecond}
 use Rattle.theory_program.specs.Code.{RulesAt, ConditionsAt, rule-first, condition-first}
 use Rattle.theory_program.specs.Proper.{ProperRule, ProperCondition}
 
 -- ---- four numbers in one word
 
 pub record Parts (w t f a b : ℕ) : Type 0 where
-  pub first : w % 128 ≡ t
-  pub function : w / 128 % 16 ≡ f
-  pub second : w / 2048 % 128 ≡ a
-  pub third : w / 262144 ≡ b
+  pub first : ruleTarget w ≡ t
+  pub function : ruleFunction w ≡ f
+  pub second : ruleFirst w ≡ a
+  pub third : ruleSecond w ≡ b
 
 pub unpacked : (t f a b : ℕ) → t < 128 → f < 16 → a < 128 → Parts (packed t f a b) t f a b
 unpacked t f a b l m n = record { first = omega arith; function = omega arith; second = omega arith; third = omega arith }
@@ -34,7 +35,7 @@ abbrev pub functionFrom : ℕ → ℕ → ℕ → ℤ → Function ℕ
 functionFrom k a b c = getD (functionsOf a b c c) k (const c)
 
 abbrev pub ruleFrom : ℕ → ℕ → Rule ℕ
-ruleFrom w c = record { target = w % 128; function = functionFrom (w / 128 % 16) (w / 2048 % 128) (w / 262144) (signed c) }
+ruleFrom w c = record { target = ruleTarget w; function = functionFrom (ruleFunction w) (ruleFirst w) (ruleSecond w) (signed c) }
 
 -- from the parts of the word: the numbers t, f, a and b name the rule, whatever is not read being 0
 rule-named : (t f a b : ℕ) (c : ℕ) (z : ℤ) → t < 128 → f < 16 → a < 128 → signed c ≡ z → ruleFrom (packed t f a b) c ≡ record { target = t; function = functionFrom f a b z }
@@ -70,7 +71,7 @@ conditionOfKind true k a b l h = range a l h
 conditionOfKind false k a b l h = atmost a b (offsetOfKind k l)
 
 abbrev pub conditionFrom : ℕ → ℕ → ℕ → Condition ℕ
-conditionFrom w l h = conditionOfKind (eqb (w / 128 % 16) 0) (eqb (w / 128 % 16) 1) (w % 128) (w / 2048 % 128) (signed l) (signed h)
+conditionFrom w l h = conditionOfKind (eqb (conditionKind w) 0) (eqb (conditionKind w) 1) (conditionFirst w) (conditionSecond w) (signed l) (signed h)
 
 condition-back : (c : Condition ℕ) → ProperCondition c → conditionFrom (getD (conditionWords c) 0 0) (getD (conditionWords c) 1 0) (getD (conditionWords c) 2 0) ≡ c
 condition-back (range a l h) p =

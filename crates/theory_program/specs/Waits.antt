@@ -1,5 +1,5 @@
--- The word that says what a place waits at, taken apart by / and %.
-use Prim.Native.Nat.{ℕ, zero, suc, _+_, _-_, _*_, _/_, _%_, _≤_, _<_}
+-- The word that says what a place waits at, taken apart.
+use Prim.Native.Nat.{ℕ, zero, suc, _+_, _-_, _*_, _≤_, _<_}
 use native.Mathlib.Omega.{arith}
 use mathlib.Core.Path.{_≡_, sym, ap, _∙_, subst}
 use mathlib.Core.List.{List, [], _∷_, _++_, map}
@@ -14,6 +14,7 @@ use Rattle.meaning.specs.Program.{waitWord, waitsFrom, waitRow}
 use Rattle.theory_base.specs.Members.{getD-in}
 use Rattle.theory_base.specs.WellFormed.{well-formed-at}
 use Rattle.theory_table.specs.Numbers.{known-back}
+use Rattle.theory_program.specs.Parts.{waitLeft, waitPassed, waitMarked, waitInherited, waitSymbol}
 use Rattle.theory_program.specs.Addresses.{Begins, waitAddress, waits-from-length, wait-at}
 use Rattle.theory_program.specs.Proper.{att-most, added-most, total-most}
 
@@ -23,19 +24,19 @@ module _ (l n m i b : ℕ) where
   abbrev joined : ℕ
   joined = l + 64 * n + 8192 * m + 131072 * i + 2097152 * b + 536870912
 
-  first-part : l < 64 → joined % 64 ≡ l
+  first-part : l < 64 → waitLeft joined ≡ l
   first-part h = omega arith
 
-  second-part : l < 64 → n < 128 → joined / 64 % 128 ≡ n
+  second-part : l < 64 → n < 128 → waitPassed joined ≡ n
   second-part h j = omega arith
 
-  third-part : l < 64 → n < 128 → m < 16 → joined / 8192 % 16 ≡ m
+  third-part : l < 64 → n < 128 → m < 16 → waitMarked joined ≡ m
   third-part h j k = omega arith
 
-  fourth-part : l < 64 → n < 128 → m < 16 → i < 16 → joined / 131072 % 16 ≡ i
+  fourth-part : l < 64 → n < 128 → m < 16 → i < 16 → waitInherited joined ≡ i
   fourth-part h j k o = omega arith
 
-  fifth-part : l < 64 → n < 128 → m < 16 → i < 16 → b < 256 → joined / 2097152 % 256 ≡ b
+  fifth-part : l < 64 → n < 128 → m < 16 → i < 16 → b < 256 → waitSymbol joined ≡ b
   fifth-part h j k o q = omega arith
 
 -- ---- the words of a production
@@ -76,12 +77,12 @@ module _ (g : Grammar) (w : WellFormed g) where
 -- v is the word of a place with k symbols of p passed that has a symbol to wait at
 pub record Waits (g : Grammar) (p : Production) (k v : ℕ) : Type 0 where
   pub some : 0 < v
-  pub left : v % 64 ≡ p .left
-  pub passed : v / 64 % 128 ≡ registersPassed g p k
-  pub marked : v / 8192 % 16 ≡ markedFor g (symbolAt p (suc k))
-  pub inherited : v / 131072 % 16 ≡ inh g (symbolAt p (suc k))
-  pub byte : v / 2097152 % 256 ≡ symbolByte (symbolAt p (suc k))
-  pub symbol : symbolOf (v / 2097152 % 256) ≡ symbolAt p (suc k)
+  pub left : waitLeft v ≡ p .left
+  pub passed : waitPassed v ≡ registersPassed g p k
+  pub marked : waitMarked v ≡ markedFor g (symbolAt p (suc k))
+  pub inherited : waitInherited v ≡ inh g (symbolAt p (suc k))
+  pub byte : waitSymbol v ≡ symbolByte (symbolAt p (suc k))
+  pub symbol : symbolOf (waitSymbol v) ≡ symbolAt p (suc k)
 
 word-waits : (g : Grammar) → WellFormed g → (p : Production) → WellFormedProduction g p → (k : ℕ) → k < length (p .right) → Waits g p k (waitWord g (p .left) (registersPassed g p k) (symbolAt p (suc k)))
 word-waits g w p f k h =

@@ -9,7 +9,7 @@ use lib.ListN.{length, getD}
 use lib.IntN.{ℤ, pos, _+ℤ_, +ℤ-assoc, +ℤ-comm}
 use lib.Signed.{ltZ}
 use Rattle.meaning.specs.Base.{In}
-use Rattle.meaning.specs.Order.{Shuffled, neither, kept, swapped, through}
+use Rattle.meaning_house.specs.Order.{Shuffled, neither, kept, swapped, through}
 use Rattle.meaning_ranking.specs.RankingStatements.{Front}
 use Rattle.meaning_ranking.specs.Ranking.{Entry, number, value, valued, ahead, stands, before, Ranks, worth, totalOf, valuedOf}
 use Rattle.theory_ranking.specs.Entries.{Distinct, Ranged}

@@ -9,7 +9,7 @@ use Rattle.meaning.specs.Value.{holds}
 use Rattle.meaning.specs.Rules.{WellFormed}
 use Rattle.meaning.specs.Derivation.{entryConditional}
 use Rattle.meaning.specs.Decide.{satisfiable, clash, entryConditions}
-use Rattle.meaning.specs.CompareStatements.{valueIn, Satisfiable, NegativeCycle, Alternatives, attributes, ofBoth, ClashExactly, ValuesOrCycle, RangesAgree}
+use Rattle.meaning_statements.specs.CompareStatements.{valueIn, Satisfiable, NegativeCycle, Alternatives, attributes, ofBoth, ClashExactly, ValuesOrCycle, RangesAgree}
 use Rattle.theory_base.specs.Members.{both, all-append}
 use Rattle.theory_differences.specs.Graph.{AllKnown, no-negative-cycle}
 use Rattle.theory_differences.specs.Building as Building

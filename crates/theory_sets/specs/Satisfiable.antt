@@ -15,7 +15,7 @@ use Rattle.meaning.specs.Value.{inRange, holds}
 use Rattle.meaning.specs.Differences.{solvable}
 use Rattle.meaning.specs.Decide.{isRange, pairwise, satisfiableBy, satisfiable}
 use Rattle.theory_base.specs.Members.{all-in, at-all, both}
-use Rattle.meaning.specs.CompareStatements.{valueIn}
+use Rattle.meaning_statements.specs.CompareStatements.{valueIn}
 use Rattle.theory_differences.specs.Graph.{AllKnown}
 use Rattle.theory_differences.specs.Building.{solvable-values, values-solvable}
 use Rattle.theory_sets.specs.Intervals.{among, among-is, entry, compared, entry-wider, entry-known, common, holding}

@@ -89,7 +89,7 @@ module _ {g : Grammar} {tokens : List Leaf} where
 
 -- ---- one move
 
-pub record Step (g : Grammar) (tokens : List Leaf) (l : Coming) (o : Open) (bs : List Ancestor) (c d : Config) : Type 0 where
+pub record PartGrown (g : Grammar) (tokens : List Leaf) (l : Coming) (o : Open) (bs : List Ancestor) (c d : Config) : Type 0 where
   pub part : Part
   pub grown : Grown l o bs part
   pub good : Good g part
@@ -104,7 +104,7 @@ module _ (g : Grammar) (f : WellFormed g) (lent : Lent) (tokens : List Leaf) (kn
   abbrev ahead : Coming
   ahead = lookAt (drop (c .tokens) tokens)
 
-  pub stand-step : next g lent ahead c ≡ moved d → Step g tokens ahead o bs c d
+  pub stand-step : next g lent ahead c ≡ moved d → PartGrown g tokens ahead o bs c d
   unfolding shows
   stand-step h = go (v .reading)
     where
@@ -114,12 +114,12 @@ module _ (g : Grammar) (f : WellFormed g) (lent : Lent) (tokens : List Leaf) (kn
       v : Moved g ahead o bs (c .tokens) (c .moves) d
       v = moves-to g f lent ahead (is-ahead g (drop (c .tokens) tokens) (all-drop g (c .tokens) tokens known)) q c d (shows s) h
 
-      made : length (yieldPart (v .part)) ≡ d .tokens → tokens ≡ yieldPart (v .part) ++ drop (d .tokens) tokens → c .tokens ≤ d .tokens → Step g tokens ahead o bs c d
+      made : length (yieldPart (v .part)) ≡ d .tokens → tokens ≡ yieldPart (v .part) ++ drop (d .tokens) tokens → c .tokens ≤ d .tokens → PartGrown g tokens ahead o bs c d
       made n z l =
           let k : c .tokens + (d .tokens - c .tokens) ≡ d .tokens = omega arith in
           record { part = v .part; grown = v .grown; good = v .good; frames = v .frames; registers = v .registers; moves = v .counts; count = n; split = z; rest = drop-drop (d .tokens - c .tokens) (c .tokens) tokens ∙ ap (λ j. drop j tokens) k }
 
-      go : ((c .tokens ≡ d .tokens) × (q ≡ yieldPart (v .part))) ⊎ ((t : Leaf) × (ahead ≡ comes t) × (suc (c .tokens) ≡ d .tokens) × (q ++ (t ∷ []) ≡ yieldPart (v .part))) → Step g tokens ahead o bs c d
+      go : ((c .tokens ≡ d .tokens) × (q ≡ yieldPart (v .part))) ⊎ ((t : Leaf) × (ahead ≡ comes t) × (suc (c .tokens) ≡ d .tokens) × (q ++ (t ∷ []) ≡ yieldPart (v .part))) → PartGrown g tokens ahead o bs c d
       go (inl r) = made (ap length (sym (r .1)) ∙ (s .count ∙ r .0)) (s .split ∙ (ap (λ z. z ++ drop (c .tokens) tokens) (r .1) ∙ ap (λ n. yieldPart (v .part) ++ drop n tokens) (r .0))) (omega (arith, r .0))
       go (inr r) =
           let t : Leaf = r .0 in
@@ -153,7 +153,7 @@ gone (reads t xs) h = absurd (omega arith)
 gone (predicts l p vs ys x xs) h = absurd (omega arith)
 gone (removes l ss) h = (ss, refl)
 
-module _ {g : Grammar} {tokens : List Leaf} {l : Coming} {o : Open} {bs : List Ancestor} {c d : Config} (s : Stand g tokens o bs c) (v : Step g tokens l o bs c d) where
+module _ {g : Grammar} {tokens : List Leaf} {l : Coming} {o : Open} {bs : List Ancestor} {c d : Config} (s : Stand g tokens o bs c) (v : PartGrown g tokens l o bs c d) where
   abbrev deep : length (d .frames) ≡ suc (length (v .part .below))
   deep = frames-are g (v .part) (d .frames) (v .frames)
 
@@ -174,7 +174,7 @@ module _ {g : Grammar} {tokens : List Leaf} {l : Coming} {o : Open} {bs : List A
       let r = entered (v .grown) (omega (arith, stand-frames s, deep)) in
       (r .0, r .1, r .2, r .3, step-stands (v .part .point) (r .4))
 
-module _ {g : Grammar} {tokens : List Leaf} {l : Coming} {o : Open} {b : Ancestor} {bs : List Ancestor} {c d : Config} (s : Stand g tokens o (b ∷ bs) c) (v : Step g tokens l o (b ∷ bs) c d) where
+module _ {g : Grammar} {tokens : List Leaf} {l : Coming} {o : Open} {b : Ancestor} {bs : List Ancestor} {c d : Config} (s : Stand g tokens o (b ∷ bs) c) (v : PartGrown g tokens l o (b ∷ bs) c d) where
   -- the parent, with the node closed on these results
   abbrev closed : List ℤ → Open
   closed ss = withChild (b .node) (treeOf (o .production) (o .inherited ++ ss) (o .children))

@@ -24,7 +24,7 @@ use Rattle.theory_base.specs.Steps.{move-of, Result, result}
 use Rattle.theory_answers.specs.Bounds.{look-free, length-parent}
 use Rattle.theory_sound.specs.MovesKeepPart.{nodeOf, partOf, withChild, waitingAt}
 use Rattle.theory_sound.specs.Return.{under, left-on}
-use Rattle.theory_sheet.specs.Whole.{Turn, goes, fails, done, asTurn, turn, turnIf, tokenIf, endIf, judged, runFrom, Failing, run-fails, run-goes, run-done}
+use Rattle.theory_sheet.specs.Whole.{WhatNext, goes, fails, done, asNext, turn, turnIf, tokenIf, endIf, judged, runFrom, Failing, run-fails, run-goes, run-done}
 use Rattle.theory_sheet.specs.NodeInProgress.{Stand, stand-step, stand-ready, stays, read, predicted, removed-node}
 
 -- the moves inside a node that need no next token
@@ -46,8 +46,8 @@ rest g lent tokens c = runFrom g lent (comingTo c tokens) c
 -- ---- a move that needs no next token
 
 module _ (g : Grammar) (lent : Lent) (us : List Leaf) (c : Config) (w : waits (c .frames) ≡ false) (l : Coming) where
-  idle-turn : (o : Outcome) → next g lent l c ≡ o → turn g lent us c ≡ asTurn o
-  idle-turn o h = ap (λ b. turnIf b (asTurn (next g lent (lookAt us) c)) (judged g c us (asTurn (next g lent (lookAt us) c)))) w ∙ ap asTurn (look-free g lent (lookAt us) l c w ∙ h)
+  idle-turn : (o : Outcome) → next g lent l c ≡ o → turn g lent us c ≡ asNext o
+  idle-turn o h = ap (λ b. turnIf b (asNext (next g lent (lookAt us) c)) (judged g c us (asNext (next g lent (lookAt us) c)))) w ∙ ap asNext (look-free g lent (lookAt us) l c w ∙ h)
 
   pub idle-stuck : (k : ℕ) → next g lent l c ≡ blocked k → Failing g lent us c c k
   idle-stuck k h = run-fails g lent us c k (idle-turn (blocked k) h)
@@ -63,37 +63,37 @@ Fair g c [] = isFinished c ≡ false
 Fair g c (u ∷ us) = (c .tokens < tokensLimit) × (u .kind < g .terminals)
 
 module _ (g : Grammar) (lent : Lent) (us : List Leaf) (c : Config) (w : waits (c .frames) ≡ true) where
-  look-turn : turn g lent us c ≡ judged g c us (asTurn (next g lent (lookAt us) c))
-  look-turn = ap (λ b. turnIf b (asTurn (next g lent (lookAt us) c)) (judged g c us (asTurn (next g lent (lookAt us) c)))) w
+  look-turn : turn g lent us c ≡ judged g c us (asNext (next g lent (lookAt us) c))
+  look-turn = ap (λ b. turnIf b (asNext (next g lent (lookAt us) c)) (judged g c us (asNext (next g lent (lookAt us) c)))) w
 
-  fair-turn : Fair g c us → turn g lent us c ≡ asTurn (next g lent (lookAt us) c)
-  fair-turn f = look-turn ∙ go us f (asTurn (next g lent (lookAt us) c))
+  fair-turn : Fair g c us → turn g lent us c ≡ asNext (next g lent (lookAt us) c)
+  fair-turn f = look-turn ∙ go us f (asNext (next g lent (lookAt us) c))
     where
-      go : (us : List Leaf) → Fair g c us → (t : Turn) → judged g c us t ≡ t
+      go : (us : List Leaf) → Fair g c us → (t : WhatNext) → judged g c us t ≡ t
       go [] f t = ap (λ b. endIf b t) f
       go (u ∷ us) f t = ap₂ (λ a b. tokenIf a b t) (lt-leb tokensLimit (c .tokens) (f .0)) (lt-ltb (u .kind) (g .terminals) (f .1))
 
   pub look-stuck : Fair g c us → (k : ℕ) → next g lent (lookAt us) c ≡ blocked k → Failing g lent us c c k
-  look-stuck f k h = run-fails g lent us c k (fair-turn f ∙ ap asTurn h)
+  look-stuck f k h = run-fails g lent us c k (fair-turn f ∙ ap asNext h)
 
   pub look-goes : Fair g c us → (d : Config) → next g lent (lookAt us) c ≡ moved d → runFrom g lent us c ≡ runFrom g lent (unread c d us) d
-  look-goes f d h = run-goes g lent us c d (fair-turn f ∙ ap asTurn h) h
+  look-goes f d h = run-goes g lent us c d (fair-turn f ∙ ap asNext h) h
 
   -- 01: "35 a token after 65,535", then 20
   pub look-35 : (u : Leaf) (vs : List Leaf) → us ≡ u ∷ vs → tokensLimit ≤ c .tokens → Failing g lent us c c 35
   look-35 u vs e l =
       run-fails g lent us c 35
-      (look-turn ∙ (ap (λ z. judged g c z (asTurn (next g lent (lookAt us) c))) e ∙ ap (λ b. tokenIf b (ltb (u .kind) (g .terminals)) (asTurn (next g lent (lookAt us) c))) (le-leb tokensLimit (c .tokens) l)))
+      (look-turn ∙ (ap (λ z. judged g c z (asNext (next g lent (lookAt us) c))) e ∙ ap (λ b. tokenIf b (ltb (u .kind) (g .terminals)) (asNext (next g lent (lookAt us) c))) (le-leb tokensLimit (c .tokens) l)))
 
   pub look-20 : (u : Leaf) (vs : List Leaf) → us ≡ u ∷ vs → c .tokens < tokensLimit → g .terminals ≤ u .kind → Failing g lent us c c 20
   look-20 u vs e l k =
       run-fails g lent us c 20
-      (look-turn ∙ (ap (λ z. judged g c z (asTurn (next g lent (lookAt us) c))) e ∙ ap₂ (λ a b. tokenIf a b (asTurn (next g lent (lookAt us) c))) (lt-leb tokensLimit (c .tokens) l) (le-ltb (u .kind) (g .terminals) k)))
+      (look-turn ∙ (ap (λ z. judged g c z (asNext (next g lent (lookAt us) c))) e ∙ ap₂ (λ a b. tokenIf a b (asNext (next g lent (lookAt us) c))) (lt-leb tokensLimit (c .tokens) l) (le-ltb (u .kind) (g .terminals) k)))
 
   pub look-over : us ≡ [] → isFinished c ≡ true → runFrom g lent us c ≡ stopped c
   look-over e f =
       run-done g lent us c
-      (look-turn ∙ (ap (λ z. judged g c z (asTurn (next g lent (lookAt us) c))) e ∙ ap (λ b. endIf b (asTurn (next g lent (lookAt us) c))) f))
+      (look-turn ∙ (ap (λ z. judged g c z (asNext (next g lent (lookAt us) c))) e ∙ ap (λ b. endIf b (asNext (next g lent (lookAt us) c))) f))
 
 -- ---- the node in progress
 

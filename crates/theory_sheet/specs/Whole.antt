@@ -15,47 +15,47 @@ use Rattle.theory_base.specs.Steps.{at-hand, advance-stopped, advance-failed, a
 use Rattle.theory_answers.specs.Bounds.{counts, look-free, no-read}
 
 -- what a configuration with tokens to come does next: the segment is over, a refusal, or what a move leads to
-pub data Turn : Type 0 where
-  done : Turn
-  fails : ℕ → Turn
-  goes : Config → Turn
+pub data WhatNext : Type 0 where
+  done : WhatNext
+  fails : ℕ → WhatNext
+  goes : Config → WhatNext
 
-abbrev pub asTurn : Outcome → Turn
-asTurn (moved d) = goes d
-asTurn (blocked k) = fails k
+abbrev pub asNext : Outcome → WhatNext
+asNext (moved d) = goes d
+asNext (blocked k) = fails k
 
-abbrev pub byTurn : Config → Turn → (Config → Settled) → Settled
-byTurn c done f = stopped c
-byTurn c (fails k) f = failed c k
-byTurn c (goes d) f = f d
+abbrev pub byNext : Config → WhatNext → (Config → Settled) → Settled
+byNext c done f = stopped c
+byNext c (fails k) f = failed c k
+byNext c (goes d) f = f d
 
 -- the start symbol left at the end
-abbrev pub endIf : Bool → Turn → Turn
+abbrev pub endIf : Bool → WhatNext → WhatNext
 endIf true t = done
 endIf false t = t
 
 -- 01: "35 a token after 65,535", "20 token not below T, judged before its moves"
-abbrev pub tokenIf : Bool → Bool → Turn → Turn
+abbrev pub tokenIf : Bool → Bool → WhatNext → WhatNext
 tokenIf true b t = fails 35
 tokenIf false true t = t
 tokenIf false false t = fails 20
 
-abbrev pub judged : Grammar → Config → List Leaf → Turn → Turn
+abbrev pub judged : Grammar → Config → List Leaf → WhatNext → WhatNext
 judged g c [] t = endIf (isFinished c) t
 judged g c (u ∷ us) t = tokenIf (leb tokensLimit (c .tokens)) (ltb (u .kind) (g .terminals)) t
 
 -- by whether the move at hand needs what comes next
-abbrev pub turnIf : Bool → Turn → Turn → Turn
+abbrev pub turnIf : Bool → WhatNext → WhatNext → WhatNext
 turnIf false a b = a
 turnIf true a b = b
 
-abbrev pub turn : Grammar → Lent → List Leaf → Config → Turn
-turn g lent us c = turnIf (waits (c .frames)) (asTurn (next g lent (lookAt us) c)) (judged g c us (asTurn (next g lent (lookAt us) c)))
+abbrev pub turn : Grammar → Lent → List Leaf → Config → WhatNext
+turn g lent us c = turnIf (waits (c .frames)) (asNext (next g lent (lookAt us) c)) (judged g c us (asNext (next g lent (lookAt us) c)))
 
 -- one turn after the other; `left` is how many moves the limit still allows
 abbrev pub run : ℕ → Grammar → Lent → List Leaf → Config → Settled
-run zero g lent us c = byTurn c (turn g lent us c) (λ d. failed c 35)
-run (suc left) g lent us c = byTurn c (turn g lent us c) (λ d. run left g lent (unread c d us) d)
+run zero g lent us c = byNext c (turn g lent us c) (λ d. failed c 35)
+run (suc left) g lent us c = byNext c (turn g lent us c) (λ d. run left g lent (unread c d us) d)
 
 unfoldable pub runFrom : Grammar → Lent → List Leaf → Config → Settled
 runFrom g lent us c = run (movesLimit - c .moves) g lent us c
@@ -82,22 +82,22 @@ module _ (g : Grammar) (lent : Lent) (us : List Leaf) (c : Config) where
   run-fails k e = record { isFailed = go (movesLimit - c .moves) }
     where
       go : (left : ℕ) → run left g lent us c ≡ failed c k
-      go zero = ap (λ z. byTurn c z (λ d. failed c 35)) e
-      go (suc left) = ap (λ z. byTurn c z (λ d. run left g lent (unread c d us) d)) e
+      go zero = ap (λ z. byNext c z (λ d. failed c 35)) e
+      go (suc left) = ap (λ z. byNext c z (λ d. run left g lent (unread c d us) d)) e
 
   pub run-done : turn g lent us c ≡ done → runFrom g lent us c ≡ stopped c
   unfolding runFrom
   run-done e = go (movesLimit - c .moves)
     where
       go : (left : ℕ) → run left g lent us c ≡ stopped c
-      go zero = ap (λ z. byTurn c z (λ d. failed c 35)) e
-      go (suc left) = ap (λ z. byTurn c z (λ d. run left g lent (unread c d us) d)) e
+      go zero = ap (λ z. byNext c z (λ d. failed c 35)) e
+      go (suc left) = ap (λ z. byNext c z (λ d. run left g lent (unread c d us) d)) e
 
   pub run-goes : (d : Config) → turn g lent us c ≡ goes d → next g lent (lookAt us) c ≡ moved d → runFrom g lent us c ≡ runFrom g lent (unread c d us) d
   unfolding runFrom
   run-goes d e h =
       let left : movesLimit - c .moves ≡ suc (movesLimit - d .moves) = omega (arith, at-hand g lent (lookAt us) c d h .limit, counts g lent (lookAt us) c d h .moves) in
-      ap (λ n. run n g lent us c) left ∙ ap (λ z. byTurn c z (λ x. run (movesLimit - d .moves) g lent (unread c x us) x)) e
+      ap (λ n. run n g lent us c) left ∙ ap (λ z. byNext c z (λ x. run (movesLimit - d .moves) g lent (unread c x us) x)) e
 
 -- ---- the same as a feed of all tokens and a finish
 
@@ -127,7 +127,7 @@ module _ (g : Grammar) (lent : Lent) where
   at-end : (n : ℕ) (left : ℕ) (c : Config) → run left g lent [] c ≡ advance left g lent ends n c
   at-end n zero c = go (waits (c .frames)) (isFinished c) (next g lent ends c)
     where
-      go : (w f : Bool) (o : Outcome) → byTurn c (turnIf w (asTurn o) (endIf f (asTurn o))) (λ d. failed c 35) ≡ round (w && f) o c (λ d. failed c 35)
+      go : (w f : Bool) (o : Outcome) → byNext c (turnIf w (asNext o) (endIf f (asNext o))) (λ d. failed c 35) ≡ round (w && f) o c (λ d. failed c 35)
       go true true o = refl
       go true false (moved d) = refl
       go true false (blocked k) = refl
@@ -136,7 +136,7 @@ module _ (g : Grammar) (lent : Lent) where
   at-end n (suc left) c = go (waits (c .frames)) (isFinished c) (next g lent ends c) (λ d. at-end n left d)
     where
       go : (w f : Bool) (o : Outcome) → ((d : Config) → run left g lent [] d ≡ advance left g lent ends n d)
-          → byTurn c (turnIf w (asTurn o) (endIf f (asTurn o))) (λ d. run left g lent (unread c d []) d) ≡ round (w && f) o c (λ d. advance left g lent ends n d)
+          → byNext c (turnIf w (asNext o) (endIf f (asNext o))) (λ d. run left g lent (unread c d []) d) ≡ round (w && f) o c (λ d. advance left g lent ends n d)
       go true true o ih = refl
       go true false (moved d) ih = ap (λ us. run left g lent us d) (unread-none (d .tokens - c .tokens)) ∙ ih d
       go true false (blocked k) ih = refl
@@ -165,13 +165,13 @@ module _ (g : Grammar) (lent : Lent) where
     -- a move that reads no token, where vs are still to come
     module _ (vs : List Leaf) (c : Config) (w : waits (c .frames) && isDone (comes u) n c ≡ false) where
       stuck : (left k : ℕ) → turn g lent vs c ≡ fails k → next g lent (comes u) c ≡ blocked k → Then vs left c
-      stuck zero k t h = ap (λ z. byTurn c z (λ d. failed c 35)) t ∙ sym (ap (λ s. andThen s (fedFinished g lent us)) (advance-failed g lent (comes u) n 0 c k w h))
-      stuck (suc left) k t h = ap (λ z. byTurn c z (λ d. run left g lent (unread c d vs) d)) t ∙ sym (ap (λ s. andThen s (fedFinished g lent us)) (advance-failed g lent (comes u) n (suc left) c k w h))
+      stuck zero k t h = ap (λ z. byNext c z (λ d. failed c 35)) t ∙ sym (ap (λ s. andThen s (fedFinished g lent us)) (advance-failed g lent (comes u) n 0 c k w h))
+      stuck (suc left) k t h = ap (λ z. byNext c z (λ d. run left g lent (unread c d vs) d)) t ∙ sym (ap (λ s. andThen s (fedFinished g lent us)) (advance-failed g lent (comes u) n (suc left) c k w h))
 
       onward : (ws : List Leaf) (left : ℕ) (d : Config) → left + c .moves ≡ movesLimit → turn g lent vs c ≡ goes d → next g lent (comes u) c ≡ moved d → unread c d vs ≡ ws → Before ws (d .tokens) left → Then vs left c
       onward ws zero d m t h q ih = absurd (omega (arith, at-hand g lent (comes u) c d h .limit))
       onward ws (suc left) d m t h q ih =
-          ap (λ z. byTurn c z (λ d. run left g lent (unread c d vs) d)) t
+          ap (λ z. byNext c z (λ d. run left g lent (unread c d vs) d)) t
           ∙ (ap (λ zs. run left g lent zs d) q
           ∙ (ih d (omega (arith, counts g lent (comes u) c d h .moves)) refl
           ∙ sym (ap (λ s. andThen s (fedFinished g lent us)) (advance-moved g lent (comes u) n left c d w h))))
@@ -181,12 +181,12 @@ module _ (g : Grammar) (lent : Lent) where
     past-by left c m e ih = by (waits (c .frames)) refl
       where
         on : waits (c .frames) ≡ false → (o : Outcome) → next g lent (comes u) c ≡ o → Then us left c
-        on x o h = go o h (ap (λ b. turnIf b (asTurn (next g lent (lookAt us) c)) (judged g c us (asTurn (next g lent (lookAt us) c)))) x ∙ ap asTurn (look-free g lent (lookAt us) (comes u) c x ∙ h))
+        on x o h = go o h (ap (λ b. turnIf b (asNext (next g lent (lookAt us) c)) (judged g c us (asNext (next g lent (lookAt us) c)))) x ∙ ap asNext (look-free g lent (lookAt us) (comes u) c x ∙ h))
           where
             idle : waits (c .frames) && isDone (comes u) n c ≡ false
             idle = ap (λ b. b && isDone (comes u) n c) x
 
-            go : (o : Outcome) → next g lent (comes u) c ≡ o → turn g lent us c ≡ asTurn o → Then us left c
+            go : (o : Outcome) → next g lent (comes u) c ≡ o → turn g lent us c ≡ asNext o → Then us left c
             go (blocked k) h t = stuck us c idle left k t h
             go (moved d) h t =
                 let same : d .tokens ≡ c .tokens = no-read g lent (comes u) c d x h in
@@ -207,14 +207,14 @@ module _ (g : Grammar) (lent : Lent) where
         unread-yet : waits (c .frames) && isDone (comes u) n c ≡ false
         unread-yet = ap (λ b. waits (c .frames) && b) (le-ltb n (c .tokens) (omega arith)) ∙ and-false (waits (c .frames))
 
-        turns : (o : Outcome) → next g lent (comes u) c ≡ o → turn g lent (u ∷ us) c ≡ asTurn o
-        turns o h = by (waits (c .frames)) ∙ ap asTurn h
+        turns : (o : Outcome) → next g lent (comes u) c ≡ o → turn g lent (u ∷ us) c ≡ asNext o
+        turns o h = by (waits (c .frames)) ∙ ap asNext h
           where
-            let-through : (t : Turn) → tokenIf (leb tokensLimit (c .tokens)) (ltb (u .kind) (g .terminals)) t ≡ t
+            let-through : (t : WhatNext) → tokenIf (leb tokensLimit (c .tokens)) (ltb (u .kind) (g .terminals)) t ≡ t
             let-through t = ap₂ (λ a b. tokenIf a b t) (subst (λ k. leb tokensLimit k ≡ false) (sym e) few) known
 
-            by : (b : Bool) → turnIf b (asTurn (next g lent (comes u) c)) (judged g c (u ∷ us) (asTurn (next g lent (comes u) c))) ≡ asTurn (next g lent (comes u) c)
-            by true = let-through (asTurn (next g lent (comes u) c))
+            by : (b : Bool) → turnIf b (asNext (next g lent (comes u) c)) (judged g c (u ∷ us) (asNext (next g lent (comes u) c))) ≡ asNext (next g lent (comes u) c)
+            by true = let-through (asNext (next g lent (comes u) c))
             by false = refl
 
         moves-on : (d : Config) → next g lent (comes u) c ≡ moved d → (d .tokens ≡ c .tokens) ⊎ ((t : Leaf) × (comes u ≡ comes t) × (d .tokens ≡ suc (c .tokens))) → Then (u ∷ us) left c
@@ -247,10 +247,10 @@ module _ (g : Grammar) (lent : Lent) where
   run-whole [] c w m = at-end (c .tokens) (movesLimit - c .moves) c
   run-whole (u ∷ us) c w m = go (leb tokensLimit (c .tokens)) refl (ltb (u .kind) (g .terminals)) refl (λ d x l. run-whole us d x l)
     where
-      judges : (a : Bool) → leb tokensLimit (c .tokens) ≡ a → (b : Bool) → ltb (u .kind) (g .terminals) ≡ b → turn g lent (u ∷ us) c ≡ tokenIf a b (asTurn (next g lent (comes u) c))
+      judges : (a : Bool) → leb tokensLimit (c .tokens) ≡ a → (b : Bool) → ltb (u .kind) (g .terminals) ≡ b → turn g lent (u ∷ us) c ≡ tokenIf a b (asNext (next g lent (comes u) c))
       judges a x b y =
-          ap (λ z. turnIf z (asTurn (next g lent (comes u) c)) (judged g c (u ∷ us) (asTurn (next g lent (comes u) c)))) (T→true (waits (c .frames)) w)
-          ∙ ap₂ (λ p q. tokenIf p q (asTurn (next g lent (comes u) c))) x y
+          ap (λ z. turnIf z (asNext (next g lent (comes u) c)) (judged g c (u ∷ us) (asNext (next g lent (comes u) c)))) (T→true (waits (c .frames)) w)
+          ∙ ap₂ (λ p q. tokenIf p q (asNext (next g lent (comes u) c))) x y
 
       go : (a : Bool) → leb tokensLimit (c .tokens) ≡ a → (b : Bool) → ltb (u .kind) (g .terminals) ≡ b → ((d : Config) → T (waits (d .frames)) → d .moves ≤ movesLimit → runFrom g lent us d ≡ fedFinished g lent us d)
           → runFrom g lent (u ∷ us) c ≡ feedBy u us c a b

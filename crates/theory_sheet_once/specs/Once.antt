@@ -1,42 +1,17 @@
 -- 02 (i): a sheet's call has only one effect, since a segment has only one tree.
-use Prim.Native.Nat.{ℕ}
-use native.Mathlib.Omega.{arith}
-use mathlib.Core.Path.{_≡_, refl, sym, ap, _∙_, subst}
+use mathlib.Core.Path.{_≡_, refl, sym, ap, _∙_}
 use mathlib.Core.Bool.{Bool, true, false}
-use mathlib.Core.List.{List}
 use lib.ListN.{length}
 use lib.Dec.{eqb}
 use Rattle.meaning.specs.Grammar.{Grammar, leaves}
-use Rattle.meaning.specs.Table.{State, Read, wellFormed, malformed, readTable, grammarOf}
-use Rattle.meaning.specs.Judgement.{Verdict, accepted, rejected, Accepted}
-use Rattle.meaning.specs.Decide.{judge, verdictOf}
+use Rattle.meaning.specs.Table.{grammarOf}
+use Rattle.meaning.specs.Judgement.{accepted, Accepted}
 use Rattle.meaning.specs.Calls.{Answer, more, value, refused, tableRefused, tokensFrom}
-use Rattle.meaning.specs.PublicCalls.{Checked, usable, unusable, check, checkedAs}
+use Rattle.meaning.specs.PublicCalls.{Checked, usable, unusable, check}
 use Rattle.meaning_sheet.specs.Sheet.{sheetOf}
 use Rattle.meaning_sheet.specs.SheetCalls.{withSheet, stackRun, stacksFor, AfterRun, WhenEven, WhenChecked, SheetsOnce}
-use Rattle.theory_sets.specs.Accepted.{verdict→accepted}
-use Rattle.theory_answers.specs.Called.{checks}
+use Rattle.theory_answers.specs.Called.{usable-accepted}
 use Rattle.theory_complete.specs.CompleteUnique.{only}
-
-usable-is : (s u : State) → _≡_ {A = Checked} (usable s) (usable u) → s ≡ u
-usable-is s u e = cc
-
-check-verdict : (t : List ℕ) (s : State) → check t ≡ usable s → verdictOf t ≡ accepted
-check-verdict t s h = go (readTable t) h
-  where
-    by : (u : State) (v : Verdict) → checkedAs u v ≡ usable s → v ≡ accepted
-    by u accepted h = refl
-    by u (rejected n o) h = absurd (let z : _≡_ {A = ℕ} 0 1 = cc in omega arith)
-
-    go : (x : Read) → elim x as (λ z. Checked) [ malformed n o ↦ unusable n o | wellFormed u ↦ checkedAs u (judge u) ] ≡ usable s → elim x as (λ z. Verdict) [ malformed n o ↦ rejected n o | wellFormed u ↦ judge u ] ≡ accepted
-    go (malformed n o) h = absurd (let z : _≡_ {A = ℕ} 0 1 = cc in omega arith)
-    go (wellFormed u) h = by u (judge u) h
-
-usable-accepted : (t : List ℕ) (s : State) → check t ≡ usable s → Accepted t (grammarOf s)
-usable-accepted t s h =
-    let a = verdict→accepted t (check-verdict t s h) in
-    let same : a .1 .state ≡ s = usable-is (a .1 .state) s (sym (checks t (a .0) (a .1)) ∙ h) in
-    subst (Accepted t) (sym (a .1 .isGrammar) ∙ ap grammarOf same) (a .1)
 
 pub sheets-once : SheetsOnce
 sheets-once bs r p ks vs out e f x y = go (check bs) refl x y

@@ -15,7 +15,7 @@ use Rattle.meaning.specs.Value.{mark}
 use Rattle.meaning.specs.Scheme.{Instruction, add, evaluate, expect, test, remove}
 use Rattle.meaning.specs.Machine.{Frame, Config, Lent, moved, next, lookAt, unread, Coming, comes, asLook}
 use Rattle.meaning.specs.Tree.{Tree, synthesizedOf, isLeafOf}
-use Rattle.meaning.specs.Statements.{Above, nothing, andThen, PartWalked, byRead, byRemove, Returned}
+use Rattle.meaning_statements.specs.Statements.{Above, nothing, andThen, PartWalked, byRead, byRemove, Returned}
 use Rattle.meaning.specs.Rules.{WellFormed}
 use Rattle.meaning.specs.Part.{Open, fresh, left, Ancestor, Part, yieldPart, frame, marks, drawFrame, drawFrames, drawRegisters, Good}
 use Rattle.theory_base.specs.Selectors.{syn-size, leaf-size}

@@ -5,7 +5,7 @@ use mathlib.Core.Path.{refl}
 use mathlib.Core.Bool.{true}
 use mathlib.Core.List.{[], _∷_}
 use lib.ListN.{replicate, length-replicate}
-use Rattle.meaning.specs.CallStatements.{Met}
+use Rattle.meaning_statements.specs.CallStatements.{Met}
 use Rattle.meaning.specs.Examples.TableRows.{bytes}
 use Rattle.meaning.specs.Examples.Words.{words}
 use Rattle.meaning.specs.Examples.CallRows.{m, state, stacks}

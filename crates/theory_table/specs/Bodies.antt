@@ -13,7 +13,7 @@ use Rattle.meaning.specs.Base.{all}
 use Rattle.meaning.specs.Layout.{field, symbolByte, ruleBytes, conditionBytes, Bytes}
 use Rattle.meaning.specs.Table.{State, production, rule, condition, byte, within, symbolOf, ruleOf, conditionOf, ruleLength, conditionLength, constantAt, operands, reads, occurrenceKnown, current}
 use Rattle.theory_base.specs.Members.{both, or-cases, in-left, in-right}
-use Rattle.theory_table.specs.Reading.{Passed}
+use Rattle.theory_table.specs.Reading.{Faultless}
 use Rattle.theory_table.specs.Numbers.{high-byte, low-byte, bytes-back, rule-bytes, condition-bytes, listed}
 
 -- a field read is the field of its body
@@ -30,7 +30,7 @@ module _ (t high low : ℕ) (body rest : List ℕ) (h : Bytes (t ∷ high ∷ lo
   pub rest-bytes : Bytes rest
   rest-bytes x i = h x (inr (inr (inr (in-right x body rest i))))
 
-pub rule-body : (s : State) (b : List ℕ) → Bytes b → Passed s rule b → b ≡ ruleBytes (ruleOf b)
+pub rule-body : (s : State) (b : List ℕ) → Bytes b → Faultless s rule b → b ≡ ruleBytes (ruleOf b)
 rule-body s b h p =
     let n = leb→le (byte b 2) 8 (both (leb (byte b 2) 8) (occurrenceKnown s (current s) (ruleOf b .target)) (both (leb (byte b 2) 8 && occurrenceKnown s (current s) (ruleOf b .target)) (all (occurrenceKnown s (current s)) (operands (ruleOf b .function))) (p .named) .0) .0) in
     rule-bytes b h n (go n (or-cases (ltb 8 (byte b 2)) (eqb (length b) (ruleLength (byte b 2))) fits))
@@ -48,7 +48,7 @@ rule-body s b h p =
     go n (inl t) = absurd (omega (arith, ltb→lt 8 (byte b 2) t))
     go n (inr t) = eqb→eq (length b) (ruleLength (byte b 2)) t
 
-pub condition-body : (s : State) (b : List ℕ) → Bytes b → Passed s condition b → b ≡ conditionBytes (conditionOf b)
+pub condition-body : (s : State) (b : List ℕ) → Bytes b → Faultless s condition b → b ≡ conditionBytes (conditionOf b)
 condition-body s b h p =
     let n = leb→le (byte b 0) 2 (both (leb (byte b 0) 2) (all (occurrenceKnown s (current s)) (reads (conditionOf b))) (p .named) .0) in
     condition-bytes b h n (go n (or-cases (ltb 2 (byte b 0)) (eqb (length b) (conditionLength (byte b 0))) (both (leb 1 (length b) && ltb (s .conditions) 512) (ltb 2 (byte b 0) || eqb (length b) (conditionLength (byte b 0))) (p .limits) .1)))
@@ -58,7 +58,7 @@ condition-body s b h p =
     go n (inr t) = eqb→eq (length b) (conditionLength (byte b 0)) t
 
 -- the body of a production: left side, length, symbols
-pub production-length : (s : State) (b : List ℕ) → Passed s production b → length b ≡ 2 + byte b 1
+pub production-length : (s : State) (b : List ℕ) → Faultless s production b → length b ≡ 2 + byte b 1
 production-length s b p = eqb→eq (length b) (2 + byte b 1) (both (leb 2 (length b) && leb (byte b 1) 12) (eqb (length b) (2 + byte b 1)) (both (leb 2 (length b) && leb (byte b 1) 12 && eqb (length b) (2 + byte b 1)) (ltb (length (s .entries)) 128) (p .limits) .0) .1)
 
 pub production-body : (b : List ℕ) → length b ≡ 2 + byte b 1 → b ≡ byte b 0 ∷ length (map symbolOf (drop 2 b)) ∷ map symbolByte (map symbolOf (drop 2 b))

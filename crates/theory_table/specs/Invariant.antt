@@ -18,7 +18,7 @@ use Rattle.meaning.specs.Table as Table
 use Rattle.meaning.specs.Table.{State, Header, Entry, Kind, header, counts, production, rule, condition, carrier, noHeader, headerOf, isSome, byte, signed, constantAt, occurrenceAt, within, symbolOf, symbolKnown, functionOf}
 use Rattle.meaning.specs.Table.{ruleOf, conditionOf, occurrenceKnown, isInput, ordered, hasRule, complete, lastComplete, readField, withRule, withCondition, rises, productionOf, grammarOf, nothingRead}
 use Rattle.theory_base.specs.Members.{both, in-some, all-in, map-in}
-use Rattle.theory_table.specs.Reading.{Passed, Next, Full}
+use Rattle.theory_table.specs.Reading.{Faultless, Next, Full}
 use Rattle.theory_table.specs.Occurrences.{input-over, output-over, operand-over, output-at, operands-map, reads-map, rule-operands, condition-reads, set-once}
 
 -- ---- constants
@@ -219,7 +219,7 @@ no-header none t = refl
 no-header (some h) t = absurd t
 
 module _ (s : State) (v : Inv s) (o : ℕ) (b : List ℕ) where
-  read-header : T (not (isSome (s .header))) → Passed s header b → Inv (readField s o header b)
+  read-header : T (not (isSome (s .header))) → Faultless s header b → Inv (readField s o header b)
   read-header n p = record {
     header = λ t. record { terminals = (leb→le 1 (byte b 0) (l₃ .0), leb→le (byte b 0) 63 (l₃ .1)); nonterminals = (leb→le 1 (byte b 1) (l₄ .0), leb→le (byte b 1) 48 (l₄ .1)); start = ltb→lt (byte b 2) (byte b 1) (p .named) };
     fewCounts = omega (arith, none);
@@ -254,7 +254,7 @@ module _ (s : State) (v : Inv s) (o : ℕ) (b : List ℕ) where
       unfilled : 0 < length (s .entries) → ⊥
       unfilled l = T-not (isSome (s .header)) n (v .filled l .0)
 
-  read-counts : T (isSome (s .header)) → length (s .counts) < headerOf s .nonterminals → Passed s counts b → Inv (readField s o counts b)
+  read-counts : T (isSome (s .header)) → length (s .counts) < headerOf s .nonterminals → Faultless s counts b → Inv (readField s o counts b)
   read-counts t l p = record {
     header = v .header;
     fewCounts = l;
@@ -296,7 +296,7 @@ module _ (s : State) (v : Inv s) (o : ℕ) (b : List ℕ) where
           let q : length (s .counts) ≡ headerOf s .start → ⊥ = λ u. subst T e (rw u (eqb-refl (headerOf s .start))) in
           rw (List·getD-append (reverse (s .counts)) (new ∷ []) noCounts (headerOf s .start) (omega (arith, length-reverse (s .counts)))) (v .startOk (omega arith))
 
-  read-production : Full s → T (lastComplete s) → Passed s production b → Inv (readField s o production b)
+  read-production : Full s → T (lastComplete s) → Faultless s production b → Inv (readField s o production b)
   read-production f t p = record {
     header = v .header;
     fewCounts = v .fewCounts;
@@ -349,7 +349,7 @@ module _ (s : State) (v : Inv s) (o : ℕ) (b : List ℕ) where
       entry e (inl q) = rw q ok
       entry e (inr i) = v .entries e i
 
-  read-carrier : Full s → length (s .entries) ≡ 0 → Passed s carrier b → Inv (readField s o carrier b)
+  read-carrier : Full s → length (s .entries) ≡ 0 → Faultless s carrier b → Inv (readField s o carrier b)
   read-carrier f z p = record {
     header = v .header;
     fewCounts = v .fewCounts;
@@ -386,7 +386,28 @@ module _ (hd : Option Header) (cs : List Counts) (co ws : List ℕ) (rn cn o : �
   replaced e e′ es v k a (inl p) = rw p k
   replaced e e′ es v k a (inr i) = v .entries a (inr i)
 
-  read-rule : (es : List Entry) → Inv (mk hd cs co ws es rn cn) → 0 < length es → Passed (mk hd cs co ws es rn cn) rule b → Inv (readField (mk hd cs co ws es rn cn) o rule b)
+  -- another latest production, with the table's counts of rules and conditions
+  with-latest :
+      (e e′ : Entry) (es : List Entry) (rn′ cn′ : ℕ) → Inv (mk hd cs co ws (e ∷ es) rn cn) → EntryOk (headerOf (mk hd cs co ws (e ∷ es) rn cn)) cs ws e′
+      → (ruleCount (e′ ∷ es) ≡ rn′) × (rn′ ≤ 1024) → (conditionCount (e′ ∷ es) ≡ cn′) × (cn′ ≤ 512) → Inv (mk hd cs co ws (e′ ∷ es) rn′ cn′)
+  with-latest e e′ es rn′ cn′ v k few little =
+      record {
+        header = v .header;
+        fewCounts = v .fewCounts;
+        attributes = v .attributes;
+        startOk = v .startOk;
+        carriers = v .carriers;
+        falling = v .falling;
+        tagged = v .tagged;
+        filled = v .filled;
+        fewEntries = v .fewEntries;
+        entries = replaced e e′ es v k;
+        completes = v .completes;
+        rules = few;
+        conditions = little;
+      }
+
+  read-rule : (es : List Entry) → Inv (mk hd cs co ws es rn cn) → 0 < length es → Faultless (mk hd cs co ws es rn cn) rule b → Inv (readField (mk hd cs co ws es rn cn) o rule b)
   read-rule [] v l p = absurd (omega arith)
   read-rule (e ∷ es) v l p =
       let s : State = mk hd cs co ws (e ∷ es) rn cn in
@@ -398,23 +419,9 @@ module _ (hd : Option Header) (cs : List Counts) (co ws : List ℕ) (rn cn o : �
       let m′ = both (leb 3 (length b) && ltb rn 1024) (ltb 8 (byte b 2) || eqb (length b) (Table.ruleLength (byte b 2))) (m .0) in
       let room = ltb→lt rn 1024 (both (leb 3 (length b)) (ltb rn 1024) (m′ .0) .1) in
       let k = with-rule s (headerOf s) e (v .entries e (inl refl)) r (c .1) (a .1) (d .0) (d .1) (p .once) (p .leftward) (constant-of b (m .1)) in
-      record {
-        header = v .header;
-        fewCounts = v .fewCounts;
-        attributes = v .attributes;
-        startOk = v .startOk;
-        carriers = v .carriers;
-        falling = v .falling;
-        tagged = v .tagged;
-        filled = v .filled;
-        fewEntries = v .fewEntries;
-        entries = replaced e (withRule e r) es v k;
-        completes = v .completes;
-        rules = (omega (arith, v .rules .0), room);
-        conditions = v .conditions;
-      }
+      with-latest e (withRule e r) es (suc rn) cn v k (omega (arith, v .rules .0), room) (v .conditions)
 
-  read-condition : (es : List Entry) → Inv (mk hd cs co ws es rn cn) → 0 < length es → Passed (mk hd cs co ws es rn cn) condition b → Inv (readField (mk hd cs co ws es rn cn) o condition b)
+  read-condition : (es : List Entry) → Inv (mk hd cs co ws es rn cn) → 0 < length es → Faultless (mk hd cs co ws es rn cn) condition b → Inv (readField (mk hd cs co ws es rn cn) o condition b)
   read-condition [] v l p = absurd (omega arith)
   read-condition (e ∷ es) v l p =
       let s : State = mk hd cs co ws (e ∷ es) rn cn in
@@ -423,23 +430,9 @@ module _ (hd : Option Header) (cs : List Counts) (co ws : List ℕ) (rn cn o : �
       let m = both (leb 1 (length b) && ltb cn 512) (ltb 2 (byte b 0) || eqb (length b) (Table.conditionLength (byte b 0))) (p .limits) in
       let room = ltb→lt cn 512 (both (leb 1 (length b)) (ltb cn 512) (m .0) .1) in
       let k = with-condition s (headerOf s) e (v .entries e (inl refl)) c (a .1) (p .directions) (proper-from c (ends-in b) (p .bounds)) in
-      record {
-        header = v .header;
-        fewCounts = v .fewCounts;
-        attributes = v .attributes;
-        startOk = v .startOk;
-        carriers = v .carriers;
-        falling = v .falling;
-        tagged = v .tagged;
-        filled = v .filled;
-        fewEntries = v .fewEntries;
-        entries = replaced e (withCondition e c) es v k;
-        completes = v .completes;
-        rules = v .rules;
-        conditions = (omega (arith, v .conditions .0), room);
-      }
+      with-latest e (withCondition e c) es rn (suc cn) v k (v .rules) (omega (arith, v .conditions .0), room)
 
-pub keeps : (s : State) (o : ℕ) (k : Kind) (b : List ℕ) → Inv s → Next s k → Passed s k b → Inv (readField s o k b)
+pub keeps : (s : State) (o : ℕ) (k : Kind) (b : List ℕ) → Inv s → Next s k → Faultless s k b → Inv (readField s o k b)
 keeps s o header b v n p = read-header s v o b n p
 keeps s o counts b v n p = read-counts s v o b (n .0) (n .1) p
 keeps s o production b v n p = read-production s v o b (n .0) (n .1) p

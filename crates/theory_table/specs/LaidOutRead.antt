@@ -19,7 +19,7 @@ use Rattle.meaning.specs.Layout.{field, symbolByte, headerBytes, countsBytes, p
 use Rattle.meaning.specs.Table.{State, Header, Entry, Kind, header, counts, production, rule, condition, carrier, rises, byte, within, symbolOf, symbolKnown, ruleLength, conditionLength, constantAt, operands, reads}
 use Rattle.meaning.specs.Table.{occurrenceKnown, isInput, ordered, hasRule, complete, lastComplete, readField, withRule, withCondition, wellFormed, readTable, nothingRead, productionOf, grammarOf}
 use Rattle.theory_base.specs.Members.{and, reverse-in, in-all, in-right, in-reverse, map-in, one-more, map-one-more}
-use Rattle.theory_table.specs.Reading.{Passed, tagOf, Full, Next, over, more, reads-table}
+use Rattle.theory_table.specs.Reading.{Faultless, tagOf, Full, Next, over, more, reads-table}
 use Rattle.theory_table.specs.Reading as Reading
 use Rattle.theory_table.specs.Occurrences.{input-over, output-over, operand-over, at-output, operands-map, reads-map, operands-inputs, operands-leftward, reads-inputs, once-set, every-complete}
 use Rattle.theory_table.specs.Invariant.{mk}
@@ -53,7 +53,7 @@ module _ (g : Grammar) (wf : WellFormed g) where
   abbrev Found : State → ℕ → List ℕ → Type 0
   Found s o bs = (u : State) × Reading.Reads s o bs u × (grammarOf u ≡ g)
 
-  found-field : (s : State) (o : ℕ) (k : Kind) (body rest : List ℕ) → Next s k → Passed s k body → Found (readField s o k body) (o + 3 + length body) rest → Found s o (field (tagOf k) body ++ rest)
+  found-field : (s : State) (o : ℕ) (k : Kind) (body rest : List ℕ) → Next s k → Faultless s k body → Found (readField s o k body) (o + 3 + length body) rest → Found s o (field (tagOf k) body ++ rest)
   found-field s o k body rest n p f = (f .0, more k (length body / 256) (length body % 256) body (two-bytes (length body)) n p (f .1), f .2)
 
   full : (co : List ℕ) (es : List Entry) (rn cn : ℕ) → Full (st co es rn cn)
@@ -71,7 +71,7 @@ module _ (g : Grammar) (wf : WellFormed g) where
     abbrev s : State
     s = st co (e ∷ es) rn cn
 
-    rule-passed : (r : Rule Occurrence) → In r (p .rules) → ((q : Rule Occurrence) → In q (e .rules) → q .target ≡ r .target → ⊥) → rn < 1024 → Passed s rule (ruleBytes r)
+    rule-passed : (r : Rule Occurrence) → In r (p .rules) → ((q : Rule Occurrence) → In q (e .rules) → q .target ≡ r .target → ⊥) → rn < 1024 → Faultless s rule (ruleBytes r)
     rule-passed r i once room =
         let b : List ℕ = ruleBytes r in
         let k : ℕ = r .target .position in
@@ -94,7 +94,7 @@ module _ (g : Grammar) (wf : WellFormed g) where
           bounds = tt;
         }
 
-    condition-passed : (c : Condition Occurrence) → In c (p .conditions) → cn < 512 → Passed s condition (conditionBytes c)
+    condition-passed : (c : Condition Occurrence) → In c (p .conditions) → cn < 512 → Faultless s condition (conditionBytes c)
     condition-passed c i room =
         let b : List ℕ = conditionBytes c in
         let q = condition-read c (w .proper c i) in
@@ -120,7 +120,7 @@ module _ (g : Grammar) (wf : WellFormed g) where
   symbols-back [] h = refl
   symbols-back (x ∷ xs) h = ap₂ _∷_ (known-back g wf x (h x (inl refl))) (symbols-back xs (λ y i. h y (inr i)))
 
-  production-passed : (p : Production) → WellFormedProduction g p → (co : List ℕ) (es : List Entry) (rn cn : ℕ) → length es < 128 → Passed (st co es rn cn) production (productionBytes p)
+  production-passed : (p : Production) → WellFormedProduction g p → (co : List ℕ) (es : List Entry) (rn cn : ℕ) → length es < 128 → Faultless (st co es rn cn) production (productionBytes p)
   production-passed p w co es rn cn room =
       let b : List ℕ = productionBytes p in
       let long = length-map (p .right) symbolByte in
@@ -203,7 +203,7 @@ module _ (g : Grammar) (wf : WellFormed g) where
 
   -- ---- the counts
 
-  counts-passed : (co : List ℕ) (done : List Counts) (c : Counts) (todo : List Counts) → reverse done ++ (c ∷ todo) ≡ g .counts → Passed (mk (some headerIs) done co [] [] 0 0) counts (countsBytes c)
+  counts-passed : (co : List ℕ) (done : List Counts) (c : Counts) (todo : List Counts) → reverse done ++ (c ∷ todo) ≡ g .counts → Faultless (mk (some headerIs) done co [] [] 0 0) counts (countsBytes c)
   counts-passed co done c todo q = record {
     limits = le→leb (c .inherited + c .synthesized) 8 (wf .attributes c (subst (In c) q (in-right c (reverse done) (c ∷ todo) (inl refl))));
     named = tt;
@@ -230,7 +230,7 @@ module _ (g : Grammar) (wf : WellFormed g) where
   rising-before (x ∷ xs) t ys d u (inl p) = rw p (d .0 t (in-right t xs (t ∷ ys) (inl refl)))
   rising-before (x ∷ xs) t ys d u (inr i) = rising-before xs t ys (d .1) u i
 
-  carrier-passed : (co done : List ℕ) (t : ℕ) (todo : List ℕ) → reverse done ++ (t ∷ todo) ≡ g .carrying → Passed (mk (some headerIs) (reverse (g .counts)) co done [] 0 0) carrier (t ∷ [])
+  carrier-passed : (co done : List ℕ) (t : ℕ) (todo : List ℕ) → reverse done ++ (t ∷ todo) ≡ g .carrying → Faultless (mk (some headerIs) (reverse (g .counts)) co done [] 0 0) carrier (t ∷ [])
   carrier-passed co done t todo q = record {
     limits = tt;
     named = and (ltb t (g .terminals)) (rises done t) (lt→ltb t (g .terminals) (wf .carriers t (subst (In t) q (in-right t (reverse done) (t ∷ todo) (inl refl))))) (above done (λ u i. rising-before (reverse done) t todo (subst Rising (sym q) (wf .rising)) u (reverse-in u done i)));
@@ -264,7 +264,7 @@ module _ (g : Grammar) (wf : WellFormed g) where
 
   -- ---- the whole table
 
-  header-passed : Passed nothingRead header (headerBytes g)
+  header-passed : Faultless nothingRead header (headerBytes g)
   header-passed = record {
     limits = and (within 1 (g .terminals) 63) (within 1 (nonterminalCount g) 48) (within-is 1 (g .terminals) 63 (wf .terminals .0) (wf .terminals .1)) (within-is 1 (nonterminalCount g) 48 (wf .nonterminals .0) (wf .nonterminals .1));
     named = lt→ltb (g .start) (nonterminalCount g) (wf .start);

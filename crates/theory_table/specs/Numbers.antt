@@ -8,6 +8,7 @@ use mathlib.Core.List.{List, [], _∷_, _++_, map}
 use lib.ListN.{getD, length, List·getD-eq-default}
 use lib.IntN.{ℤ, pos, negsuc}
 use lib.Signed.{leZ}
+use borrow.Author.Tests.{lt-ltb, le-ltb}
 use lib.Dec.{T, eqb, ltb, leb, leb→le, le→leb, ltb→lt, lt→ltb, nltb→le}
 use Rattle.meaning.specs.Base.{countFrom}
 use Rattle.meaning.specs.Grammar.{Symbol, terminal, nonterminal, Occurrence, Function, const, functionsOf, Binary, binaryNumber, copy, binary, sum, diff, prod, maxi, mini, addc, quot, Rule, Condition, range, atmost, Grammar}
@@ -41,7 +42,8 @@ four-joined n l =
     let d : n / 16777216 % 256 ≡ n / 16777216 = omega arith in
     rw (d, c, b, a)
 
-joined-four : (x y z w : ℕ) → x < 256 → y < 256 → z < 256 → w < 256 → fourBytes (joined x y z w) ≡ x ∷ y ∷ z ∷ w ∷ []
+-- four bytes joined, taken apart again
+pub joined-four : (x y z w : ℕ) → x < 256 → y < 256 → z < 256 → w < 256 → fourBytes (joined x y z w) ≡ x ∷ y ∷ z ∷ w ∷ []
 joined-four x y z w a b c d =
     let n : ℕ = joined x y z w in
     let e₁ : n / 16777216 % 256 ≡ x = omega arith in
@@ -69,7 +71,8 @@ signed-unsigned (negsuc n) h =
     go true t e = absurd (t tt)
     go false t e = ap negsuc e
 
-constant-back : (c : ℤ) → InFourBytes c → let n : ℕ = unsigned c in signed (joined (n / 16777216 % 256) (n / 65536 % 256) (n / 256 % 256) (n % 256)) ≡ c
+-- a constant as it is read from its four bytes
+pub constant-back : (c : ℤ) → InFourBytes c → let n : ℕ = unsigned c in signed (joined (n / 16777216 % 256) (n / 65536 % 256) (n / 256 % 256) (n % 256)) ≡ c
 constant-back c h = ap signed (four-joined (unsigned c) (unsigned-small c h)) ∙ signed-unsigned c h
 
 unsigned-signed : (n : ℕ) → n < 4294967296 → unsigned (signed n) ≡ n
@@ -97,17 +100,19 @@ constant-bytes b i h =
 
 -- ---- symbols
 
+-- by its byte
+symbol-by : (b : Bool) (n : ℕ) → ltb n 128 ≡ b → symbolOf n ≡ elim b [ true ↦ terminal n | false ↦ nonterminal (n - 128) ]
+symbol-by b n e = rw (sym e)
+
+pub symbol-terminal : (n : ℕ) → n < 128 → symbolOf n ≡ terminal n
+symbol-terminal n h = symbol-by true n (lt-ltb n 128 h)
+
+pub symbol-nonterminal : (n : ℕ) → 128 ≤ n → symbolOf n ≡ nonterminal (n - 128)
+symbol-nonterminal n h = symbol-by false n (le-ltb n 128 h)
+
 pub symbol-back : (x : Symbol) → ((t : ℕ) → x ≡ terminal t → t < 128) → symbolOf (symbolByte x) ≡ x
-symbol-back (terminal t) h = go (ltb t 128) (lt→ltb t 128 (h t refl))
-  where
-    go : (b : Bool) → T b → _≡_ {A = Symbol} (elim b [ true ↦ terminal t | false ↦ nonterminal (t - 128) ]) (terminal t)
-    go true v = refl
-    go false v = absurd v
-symbol-back (nonterminal n) h = go (ltb (128 + n) 128) (λ t. let l = ltb→lt (128 + n) 128 t in omega arith) (omega arith)
-  where
-    go : (b : Bool) → (T b → ⊥) → 128 + n - 128 ≡ n → _≡_ {A = Symbol} (elim b [ true ↦ terminal (128 + n) | false ↦ nonterminal (128 + n - 128) ]) (nonterminal n)
-    go true v e = absurd (v tt)
-    go false v e = ap nonterminal e
+symbol-back (terminal t) h = symbol-terminal t (h t refl)
+symbol-back (nonterminal n) h = symbol-nonterminal (128 + n) (omega arith) ∙ ap nonterminal {x = 128 + n - 128} {y = n} (omega arith)
 
 -- a symbol of a well-formed grammar
 pub known-back : (g : Grammar) → WellFormed g → (x : Symbol) → Known g x → symbolOf (symbolByte x) ≡ x

@@ -14,7 +14,7 @@ use Rattle.meaning.specs.Grammar.{Symbol, terminal, Counts, noCounts, wholeProd
 use Rattle.meaning.specs.Table.{State, Header, Entry, noEntry, Kind, header, counts, production, rule, condition, carrier, isSome, headerOf, byte, within, symbolOf, readField, onCurrent, withRule, withCondition, ruleOf, conditionOf, wellFormed, readTable, nothingRead, productionOf, grammarOf}
 use Rattle.meaning.specs.Judgement.{entryOffset, countsOffset}
 use Rattle.theory_base.specs.Members.{both, in-reverse, getD-in, map-at}
-use Rattle.theory_table.specs.Reading.{Reads, over, more, Passed, tagOf, Next, table-reads}
+use Rattle.theory_table.specs.Reading.{Reads, over, more, Faultless, tagOf, Next, table-reads}
 use Rattle.theory_table.specs.Invariant.{Inv, nothing-yet, keeps, mk}
 use Rattle.theory_table.specs.Bodies.{production-length}
 use Rattle.theory_table.specs.ReadWellFormed.{Whole, whole-table}
@@ -107,7 +107,7 @@ falling-later [] o o′ l f = tt
 falling-later (e ∷ es) o o′ l f = (omega (arith, f .0), f .1)
 
 module _ (all : List ℕ) (s : State) (o high low : ℕ) (b rest : List ℕ) (v : Placed all s o) where
-  place-header : From all o (1 ∷ high ∷ low ∷ b ++ rest) → T (not (isSome (s .header))) → Passed s header b → Placed all (readField s o header b) (o + 3 + length b)
+  place-header : From all o (1 ∷ high ∷ low ∷ b ++ rest) → T (not (isSome (s .header))) → Faultless s header b → Placed all (readField s o header b) (o + 3 + length b)
   place-header f n p =
       let l : length b ≡ 4 = eqb→eq (length b) 4 (both (eqb (length b) 4) (within 1 (byte b 0) 63) (both (eqb (length b) 4 && within 1 (byte b 0) 63) (within 1 (byte b 1) 48) (p .limits) .0) .0) in
       let z = v .early n in
@@ -125,7 +125,7 @@ module _ (all : List ℕ) (s : State) (o high low : ℕ) (b rest : List ℕ) (v 
         falling = falling-later (s .entries) o (o + 3 + length b) (omega arith) (v .falling);
       }
 
-  place-counts : From all o (2 ∷ high ∷ low ∷ b ++ rest) → T (isSome (s .header)) → length (s .entries) ≡ 0 → length (s .carrying) ≡ 0 → Passed s counts b → Placed all (readField s o counts b) (o + 3 + length b)
+  place-counts : From all o (2 ∷ high ∷ low ∷ b ++ rest) → T (isSome (s .header)) → length (s .entries) ≡ 0 → length (s .carrying) ≡ 0 → Faultless s counts b → Placed all (readField s o counts b) (o + 3 + length b)
   place-counts f t none bare p =
       let c : Counts = record { inherited = byte b 0; synthesized = byte b 1 } in
       let l : length b ≡ 2 = eqb→eq (length b) 2 (both (eqb (length b) 2) (leb (byte b 0 + byte b 1) 8) (p .limits) .0) in
@@ -144,7 +144,7 @@ module _ (all : List ℕ) (s : State) (o high low : ℕ) (b rest : List ℕ) (v 
         falling = falling-later (s .entries) o (o + 3 + length b) (omega arith) (v .falling);
       }
 
-  place-carrier : From all o (6 ∷ high ∷ low ∷ b ++ rest) → T (isSome (s .header)) → length (s .entries) ≡ 0 → Passed s carrier b → Placed all (readField s o carrier b) (o + 3 + length b)
+  place-carrier : From all o (6 ∷ high ∷ low ∷ b ++ rest) → T (isSome (s .header)) → length (s .entries) ≡ 0 → Faultless s carrier b → Placed all (readField s o carrier b) (o + 3 + length b)
   place-carrier f t none p =
       let l : length b ≡ 1 = eqb→eq (length b) 1 (p .limits) in
       let new : CarrierAt all o (byte b 0) = record { tag = tag-at all o 6 high low b rest f; kind = body-at all o 6 high low b rest f 0 (omega arith) } in
@@ -161,7 +161,7 @@ module _ (all : List ℕ) (s : State) (o high low : ℕ) (b rest : List ℕ) (v 
         falling = falling-later (s .entries) o (o + 3 + length b) (omega arith) (v .falling);
       }
 
-  place-production : From all o (3 ∷ high ∷ low ∷ b ++ rest) → T (isSome (s .header)) → Passed s production b → Placed all (readField s o production b) (o + 3 + length b)
+  place-production : From all o (3 ∷ high ∷ low ∷ b ++ rest) → T (isSome (s .header)) → Faultless s production b → Placed all (readField s o production b) (o + 3 + length b)
   place-production f t p =
       record {
         early = λ n. absurd (T-not (isSome (s .header)) n t);
@@ -254,7 +254,7 @@ module _ (h : Entry → Entry) (same : (e : Entry) → SamePlace e (h e)) where
 
 -- ---- the whole table
 
-place : (all : List ℕ) (s : State) (o : ℕ) (k : Kind) (high low : ℕ) (b rest : List ℕ) → Inv s → Placed all s o → From all o (tagOf k ∷ high ∷ low ∷ b ++ rest) → Next s k → Passed s k b → Placed all (readField s o k b) (o + 3 + length b)
+place : (all : List ℕ) (s : State) (o : ℕ) (k : Kind) (high low : ℕ) (b rest : List ℕ) → Inv s → Placed all s o → From all o (tagOf k ∷ high ∷ low ∷ b ++ rest) → Next s k → Faultless s k b → Placed all (readField s o k b) (o + 3 + length b)
 place all s o header high low b rest i v f n p = place-header all s o high low b rest v f n p
 place all s o counts high low b rest i v f n p = place-counts all s o high low b rest v f (n .0) (none (decLt 0 (length (s .entries)))) (bare (decLt 0 (length (s .carrying)))) p
   where

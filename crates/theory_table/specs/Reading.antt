@@ -14,7 +14,7 @@ use Rattle.theory_base.specs.Members.{both, and, or-cases, not-not}
 
 -- ---- a field that no number judges
 
-pub record Passed (s : State) (k : Kind) (b : List ℕ) : Type 0 where
+pub record Faultless (s : State) (k : Kind) (b : List ℕ) : Type 0 where
   pub limits : T (limitsHold s k b)
   pub named : T (known s k b)
   pub start : T (startRight s k b)
@@ -53,7 +53,7 @@ module _ (s : State) (k : Kind) (b : List ℕ) where
   abbrev from4 : List (Bool × ℕ)
   from4 = (limitsHold s k b, 4) ∷ from5
 
-  passed : lowestOf from4 ≡ 0 → Passed s k b
+  passed : lowestOf from4 ≡ 0 → Faultless s k b
   passed e =
       let r4 = first-test (limitsHold s k b) 3 from5 e in
       let r5 = first-test (known s k b) 4 from6 (r4 .1) in
@@ -64,7 +64,7 @@ module _ (s : State) (k : Kind) (b : List ℕ) where
       let r10 = first-test (boundsRight s k b) 9 [] (r9 .1) in
       record { limits = r4 .0; named = r5 .0; start = r6 .0; directions = r7 .0; once = r8 .0; leftward = r9 .0; bounds = r10 .0 }
 
-  judged-0 : Passed s k b → lowestOf from4 ≡ 0
+  judged-0 : Faultless s k b → lowestOf from4 ≡ 0
   judged-0 p =
       test-first (limitsHold s k b) 4 from5 (p .limits)
       (test-first (known s k b) 5 from6 (p .named)
@@ -206,7 +206,7 @@ stands s carrier n = (subst (λ x. T (tagStands x 6)) (sym (stage-first s (n .0)
 
 pub data Reads : State → ℕ → List ℕ → State → Type 0 where
   over : {s : State} {o : ℕ} → Full s → 0 < length (s .entries) → T (lastComplete s) → Reads s o [] s
-  more : {s u : State} {o : ℕ} (k : Kind) (high low : ℕ) (body : List ℕ) {rest : List ℕ} → high * 256 + low ≡ length body → Next s k → Passed s k body → Reads (readField s o k body) (o + 3 + length body) rest u → Reads s o (tagOf k ∷ high ∷ low ∷ body ++ rest) u
+  more : {s u : State} {o : ℕ} (k : Kind) (high low : ℕ) (body : List ℕ) {rest : List ℕ} → high * 256 + low ≡ length body → Next s k → Faultless s k body → Reads (readField s o k body) (o + 3 + length body) rest u → Reads s o (tagOf k ∷ high ∷ low ∷ body ++ rest) u
 
 -- the choices of one field, in their order
 abbrev choose : Bool → ℕ → Bool → ℕ → ℕ → Bool → ℕ → ℕ → Read → Read
@@ -256,14 +256,14 @@ at-end s o u e = go (stage s) (stood s) (lastComplete s) refl e
     go atAny h false f e = refused e
     go atAny h true f e = let q : s ≡ u = cc in subst (λ v. Reads s o [] v) q (over (h .0) (ltb→lt 0 (length (s .entries)) (h .1)) (rw f tt))
 
-judged : (s : State) (o t : ℕ) (b : List ℕ) → judgeField s (record { offset = o; tag = t; body = b }) ≡ 0 → T (tagStands (stage s) t) × Passed s (kindOf t) b
+judged : (s : State) (o t : ℕ) (b : List ℕ) → judgeField s (record { offset = o; tag = t; body = b }) ≡ 0 → T (tagStands (stage s) t) × Faultless s (kindOf t) b
 judged s o t b e = go (tagStands (stage s) t) e
   where
-    go : (c : Bool) → _≡_ {A = ℕ} (elim c [ false ↦ 3 | true ↦ lowestOf (from4 s (kindOf t) b) ]) 0 → T c × Passed s (kindOf t) b
+    go : (c : Bool) → _≡_ {A = ℕ} (elim c [ false ↦ 3 | true ↦ lowestOf (from4 s (kindOf t) b) ]) 0 → T c × Faultless s (kindOf t) b
     go true e = (tt, passed s (kindOf t) b e)
     go false e = absurd (omega arith)
 
-judged-none : (s : State) (o : ℕ) (k : Kind) (b : List ℕ) → T (tagStands (stage s) (tagOf k)) → Passed s k b → judgeField s (record { offset = o; tag = tagOf k; body = b }) ≡ 0
+judged-none : (s : State) (o : ℕ) (k : Kind) (b : List ℕ) → T (tagStands (stage s) (tagOf k)) → Faultless s k b → judgeField s (record { offset = o; tag = tagOf k; body = b }) ≡ 0
 judged-none s o k b t p = go (tagStands (stage s) (tagOf k)) t
   where
     go : (c : Bool) → T c → _≡_ {A = ℕ} (elim c [ false ↦ 3 | true ↦ lowestOf (from4 s (kindOf (tagOf k)) b) ]) 0
@@ -271,7 +271,7 @@ judged-none s o k b t p = go (tagStands (stage s) (tagOf k)) t
     go false v = absurd v
 
 -- one field, its parts given
-one-field : (s u : State) (o t high low : ℕ) (bs : List ℕ) → high * 256 + low ≤ length bs → NextOf s t → Passed s (kindOf t) (take (high * 256 + low) bs)
+one-field : (s u : State) (o t high low : ℕ) (bs : List ℕ) → high * 256 + low ≤ length bs → NextOf s t → Faultless s (kindOf t) (take (high * 256 + low) bs)
     → Reads (readField s o (kindOf t) (take (high * 256 + low) bs)) (o + 3 + (high * 256 + low)) (drop (high * 256 + low) bs) u → Reads s o (t ∷ high ∷ low ∷ bs) u
 one-field s u o t high low bs l n p r =
     let size : ℕ = high * 256 + low in
@@ -281,7 +281,7 @@ one-field s u o t high low bs l n p r =
     let long : length body ≡ size = length-take-le size bs l in
     let r₁ : Reads (readField s o k body) (o + 3 + size) (drop size bs) u = subst (λ z. Reads (readField s o z body) (o + 3 + size) (drop size bs) u) q r in
     let r₂ : Reads (readField s o k body) (o + 3 + length body) (drop size bs) u = subst (λ z. Reads (readField s o k body) (o + 3 + z) (drop size bs) u) (sym long) r₁ in
-    let whole : Reads s o (tagOf k ∷ high ∷ low ∷ body ++ drop size bs) u = more k high low body (sym long) (n .2) (subst (λ z. Passed s z body) q p) r₂ in
+    let whole : Reads s o (tagOf k ∷ high ∷ low ∷ body ++ drop size bs) u = more k high low body (sym long) (n .2) (subst (λ z. Faultless s z body) q p) r₂ in
     subst (λ z. Reads s o (z ∷ high ∷ low ∷ bs) u) (sym (n .1)) (subst (λ z. Reads s o (tagOf k ∷ high ∷ low ∷ z) u) (take-append-drop size bs) whole)
 
 past-two : (n x y : ℕ) (bs : List ℕ) → drop (2 + n) (x ∷ y ∷ bs) ≡ drop n bs
@@ -301,7 +301,7 @@ reads (suc n) s o (t ∷ bs) u e =
     let j = judged s o t body (eqb→eq number 0 (r .2)) in
     go bs (r .1) (next-of s t (j .0) (r .0)) (j .1) (reads n (readField s o (kindOf t) body) (o + 3 + size) (drop (2 + size) bs) u (r .3))
   where
-    go : (bs : List ℕ) → T (leb 2 (length bs) && leb (sizeAt bs) (length bs - 2)) → NextOf s t → Passed s (kindOf t) (take (sizeAt bs) (drop 2 bs))
+    go : (bs : List ℕ) → T (leb 2 (length bs) && leb (sizeAt bs) (length bs - 2)) → NextOf s t → Faultless s (kindOf t) (take (sizeAt bs) (drop 2 bs))
         → Reads (readField s o (kindOf t) (take (sizeAt bs) (drop 2 bs))) (o + 3 + sizeAt bs) (drop (2 + sizeAt bs) bs) u
         → Reads s o (t ∷ bs) u
     go [] l m p r = absurd l

@@ -11,7 +11,7 @@ use Rattle.meaning.specs.Layout as Layout
 use Rattle.meaning.specs.Layout.{field, productionBytes, ruleBytes, conditionBytes, RulesAndConditions, Productions, Bytes}
 use Rattle.meaning.specs.Table.{State, Entry, noEntry, header, counts, production, rule, condition, carrier, isSome, byte, symbolOf, ruleOf, conditionOf, withRule, withCondition, onCurrent, productionOf}
 use Rattle.theory_base.specs.Members.{one-more}
-use Rattle.theory_table.specs.Reading.{Reads, over, more, Passed, Full}
+use Rattle.theory_table.specs.Reading.{Reads, over, more, Faultless, Full}
 use Rattle.theory_table.specs.Bodies.{field-is, low-small, body-bytes, rest-bytes, rule-body, condition-body, production-body, production-length}
 
 -- the bytes of these entries, in their order, from an offset on
@@ -59,7 +59,7 @@ pub record NextStretch (o : ℕ) (es : List Entry) (bs : List ℕ) (s u : State)
 turned : {A : Type 0} (xs : List A) → xs ≡ reverse (reverse xs ++ [])
 turned xs = sym (ap reverse (append-nil (reverse xs)) ∙ reverse-reverse xs)
 
-pub next-stretch : (s s′ u : State) (o high low : ℕ) (b rest : List ℕ) (es : List Entry) → Bytes (3 ∷ high ∷ low ∷ b ++ rest) → high * 256 + low ≡ length b → Passed s production b
+pub next-stretch : (s s′ u : State) (o high low : ℕ) (b rest : List ℕ) (es : List Entry) → Bytes (3 ∷ high ∷ low ∷ b ++ rest) → high * 256 + low ≡ length b → Faultless s production b
     → s′ .header ≡ s .header → s′ .counts ≡ s .counts → s′ .carrying ≡ s .carrying → Rest s′ (o + 3 + length b) (entryOf o b) es rest u
     → NextStretch o es (3 ∷ high ∷ low ∷ b ++ rest) s u
 next-stretch s s′ u o high low b rest es h c p hd cs ws i =

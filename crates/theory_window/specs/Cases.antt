@@ -6,7 +6,7 @@ use mathlib.Core.List.{List, []}
 use lib.ListN.{length}
 use lib.IntN.{ℤ}
 use Rattle.meaning.specs.Value.{inRange}
-use Rattle.meaning.specs.Window.{empty, turnedBack, shown, after, sizeIn, nextIn, valuesIn, sizeFits, wellKept, outcome, written, opensWindow, valuesWith, bringsValue, bringsRefusal}
+use Rattle.meaning_window.specs.Window.{empty, turnedBack, shown, after, sizeIn, nextIn, valuesIn, sizeFits, wellKept, outcome, written, opensWindow, valuesWith, bringsValue, bringsRefusal}
 
 module _ (n : ℕ) (b : List ℤ) where
   pub opens-not : sizeFits n (length b) ≡ false → opensWindow n b ≡ outcome turnedBack b

@@ -11,9 +11,9 @@ use lib.Dec.{eqb, leb, ltb}
 use lib.IntN.{ℤ, pos, _+ℤ_, _-ℤ_}
 use Rattle.meaning.specs.Base.{all, keep}
 use Rattle.meaning.specs.Value.{inRange, mark}
-use Rattle.meaning.specs.Window.{total, largest, stands, empty, shown, turned, order, zeros, slotsOf, after, valueAt, leads, leadersOf, leaderCells, cells}
-use Rattle.meaning.specs.Window.{formOf, formLength, small, numberAt, sizeIn, heldIn, nextIn, totalIn, slotsIn, valuesIn, sameNumber, sizeFits, placeFits, sameCells, wellKept, written, valuesWith}
-use Rattle.meaning.specs.WindowStatements.{answerIn}
+use Rattle.meaning_window.specs.Window.{total, largest, stands, empty, shown, turned, order, zeros, slotsOf, after, valueAt, leads, leadersOf, leaderCells, cells}
+use Rattle.meaning_window.specs.Window.{formOf, formLength, small, numberAt, sizeIn, heldIn, nextIn, totalIn, slotsIn, valuesIn, sameNumber, sizeFits, placeFits, sameCells, wellKept, written, valuesWith}
+use Rattle.meaning_window.specs.WindowStatements.{answerIn}
 use Rattle.theory_window.specs.Parts.{countIn, leaderAreaIn, isZero, eqNumbers, valuesOf, topAt, answerOf, valuesFit, restZero, keptAs, keptParts}
 use Rattle.theory_window.specs.Lists.{and-left, and-right, both, all-append, all-drop, all-turned, all-getD, same-test}
 use Rattle.theory_window.specs.Ring.{length-turned, turned-push, grown, length-grown, last-grown, length-last, values-order, slots-of-values, length-slots, values-of-slots}
@@ -41,7 +41,7 @@ first-zeros n h x v e l z = by (ltb h n) refl
         rw g refl
 
 -- the tests that it passed
-pub record Passed (b : List ℤ) (n h k c : ℕ) (s area : List ℤ) : Type 0 where
+pub record TestsPassed (b : List ℤ) (n h k c : ℕ) (s area : List ℤ) : Type 0 where
   pub one : 1 ≤ n
   pub most : n ≤ 64
   pub long : formLength n ≤ length b
@@ -75,7 +75,7 @@ module _ (b : List ℤ) (n h k c : ℕ) (s area : List ℤ) (e : keptAs (length 
   passed-long : formLength n ≤ length b
   passed-long = leb-true (formLength n) (length b) (and-right (leb n 64) (leb (formLength n) (length b)) sizes)
 
-  passed-by : length s ≡ n → Passed b n h k c s area
+  passed-by : length s ≡ n → TestsPassed b n h k c s area
   passed-by long =
       let q1 : rest1 ≡ true = and-right (sizeFits n (length b)) rest1 e in
       let q2 : rest2 ≡ true = and-right (placeFits n h k) rest2 q1 in
@@ -102,7 +102,7 @@ slots-long : (b : List ℤ) → formLength (sizeIn b) ≤ length b → length (s
 slots-long b l = length-take-le (sizeIn b) (drop 5 b) (omega (arith, length-drop 5 b))
 
 abbrev pub PassedIn : List ℤ → Type 0
-PassedIn b = Passed b (sizeIn b) (heldIn b) (nextIn b) (countIn b) (slotsIn b) (leaderAreaIn b)
+PassedIn b = TestsPassed b (sizeIn b) (heldIn b) (nextIn b) (countIn b) (slotsIn b) (leaderAreaIn b)
 
 passed-parts : (b : List ℤ) → keptParts b ≡ true → PassedIn b
 unfolding keptParts

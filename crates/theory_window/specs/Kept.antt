@@ -11,7 +11,7 @@ use lib.Dec.{eqb, leb, ltb}
 use lib.IntN.{ℤ, pos, negsuc}
 use Rattle.meaning.specs.Base.{all}
 use Rattle.meaning.specs.Value.{inRange}
-use Rattle.meaning.specs.Window.{total, turned, order, zeros, slotsOf, after, valueAt, leadersOf, leaderCells, cells, formOf, formLength, small, sizeIn, heldIn, nextIn, slotsIn, valuesIn, sameNumber, placeFits, sizeFits, written, sameCells, wellKept}
+use Rattle.meaning_window.specs.Window.{total, turned, order, zeros, slotsOf, after, valueAt, leadersOf, leaderCells, cells, formOf, formLength, small, sizeIn, heldIn, nextIn, slotsIn, valuesIn, sameNumber, placeFits, sizeFits, written, sameCells, wellKept}
 use Rattle.theory_window.specs.Parts.{countIn, valuesOf, leaderAreaIn, isZero, eqNumbers, valuesFit, keptAs, keptParts}
 use Rattle.theory_window.specs.Lists.{and-left, and-right, both, all-append, all-turned}
 use Rattle.theory_window.specs.Ring.{grown, length-grown, order-in, length-order, length-slots, slots-of-values, values-of-slots, zeros-of-slots}

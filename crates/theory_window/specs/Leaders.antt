@@ -12,7 +12,7 @@ use lib.IntN.{ℤ, pos, negsuc}
 use lib.Signed.{ltZ}
 use Rattle.meaning.specs.Base.{all, keep, countFrom, consIf}
 use Rattle.meaning.specs.Value.{inRange, mark}
-use Rattle.meaning.specs.Window.{larger, largest, leads, leadersOf, order, after, valueAt, turned}
+use Rattle.meaning_window.specs.Window.{larger, largest, leads, leadersOf, order, after, valueAt, turned}
 use Rattle.value.specs.Overflow.{in-range-size}
 use Rattle.theory_window.specs.Lists.{both, and-left, and-right, length-up, map-reverse}
 use Rattle.theory_window.specs.Ring.{length-turned, grown, staying, order-push, order-room, order-full, staying-others, values-order}

@@ -8,7 +8,7 @@ use lib.ListN.{length, getD, take, drop, set}
 use lib.Seq.{set-getD}
 use lib.IntN.{ℤ}
 use Rattle.meaning.specs.Base.{all, countFrom}
-use Rattle.meaning.specs.Window.{turned, valueAt}
+use Rattle.meaning_window.specs.Window.{turned, valueAt}
 
 -- ---- tests
 

@@ -10,7 +10,7 @@ use lib.Seq.{getD-drop}
 use lib.Dec.{eqb, ltb}
 use lib.IntN.{ℤ, pos, _+ℤ_, _-ℤ_}
 use Rattle.meaning.specs.Base.{all, keep}
-use Rattle.meaning.specs.Window.{total, largest, stands, shown, after, valueAt, order, leadersOf, sizeIn, heldIn, nextIn, totalIn, slotsIn, placeFits, valuesWith}
+use Rattle.meaning_window.specs.Window.{total, largest, stands, shown, after, valueAt, order, leadersOf, sizeIn, heldIn, nextIn, totalIn, slotsIn, placeFits, valuesWith}
 use Rattle.theory_window.specs.Parts.{isZero}
 use Rattle.theory_window.specs.Lists.{all-getD}
 use Rattle.theory_window.specs.Ring.{grown, staying, order-full, values-order}

@@ -7,7 +7,7 @@ use lib.Dec.{eqb, leb}
 use lib.IntN.{ℤ, pos}
 use Rattle.meaning.specs.Base.{all}
 use Rattle.meaning.specs.Value.{inRange, mark}
-use Rattle.meaning.specs.Window.{WindowAnswer, stands, empty, total, turned, valueAt, leadersOf, small, numberAt, sizeIn, heldIn, nextIn, totalIn, slotsIn, sizeFits, placeFits, sameNumber}
+use Rattle.meaning_window.specs.Window.{WindowAnswer, stands, empty, total, turned, valueAt, leadersOf, small, numberAt, sizeIn, heldIn, nextIn, totalIn, slotsIn, sizeFits, placeFits, sameNumber}
 
 abbrev pub countIn : List ℤ → ℕ
 countIn b = numberAt b 4

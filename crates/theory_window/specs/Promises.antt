@@ -10,8 +10,8 @@ use lib.Dec.{T}
 use lib.IntN.{ℤ}
 use Rattle.meaning.specs.Value.{inRange}
 use Rattle.meaning.specs.Calls.{Answer, more, value, refused, tableRefused}
-use Rattle.meaning.specs.Window.{turnedBack, shown, after, formLength, sizeIn, nextIn, valuesIn, sizeFits, wellKept, written, valuesWith, opensWindow, bringsValue, bringsRefusal, bringsAnswer}
-use Rattle.meaning.specs.WindowStatements.{WindowCall, opening, later, callsWindow, Reached, isValue, TurnedBackExactly, Untouched, PastUntouched}
+use Rattle.meaning_window.specs.Window.{turnedBack, shown, after, formLength, sizeIn, nextIn, valuesIn, sizeFits, wellKept, written, valuesWith, opensWindow, bringsValue, bringsRefusal, bringsAnswer}
+use Rattle.meaning_window.specs.WindowStatements.{WindowCall, opening, later, callsWindow, Reached, isValue, TurnedBackExactly, Untouched, PastUntouched}
 use Rattle.theory_base.specs.Members.{apart}
 use Rattle.theory_window.specs.Lists.{both, and-left, and-right}
 use Rattle.theory_window.specs.Kept.{Valid, size-of, past-of}

@@ -1,6 +1,6 @@
 -- The promises of 02 (k), proved: for each statement of meaning's WindowStatements, in its order, the theorem. Nothing is assumed.
-use Rattle.meaning.specs.Window.{wellKept}
-use Rattle.meaning.specs.WindowStatements.{ScanAlways, ReachedExactly, KeptAlways, TurnedBackExactly, Untouched, PastUntouched, KeptBeside}
+use Rattle.meaning_window.specs.Window.{wellKept}
+use Rattle.meaning_window.specs.WindowStatements.{ScanAlways, ReachedExactly, KeptAlways, TurnedBackExactly, Untouched, PastUntouched, KeptBeside}
 use Rattle.theory_base.specs.Members.{T→true, true→T}
 use Rattle.theory_window.specs.FormByParts.{answer-kept}
 use Rattle.theory_window.specs.Reached.{kept-reached, reached-kept}

@@ -11,8 +11,8 @@ use lib.Dec.{leb}
 use lib.IntN.{ℤ, pos}
 use Rattle.meaning.specs.Base.{all}
 use Rattle.meaning.specs.Value.{inRange}
-use Rattle.meaning.specs.Window.{lastOf, empty, turnedBack, shown, zeros, after, formOf, formLength, sizeIn, nextIn, valuesIn, sizeFits, wellKept, Outcome, outcome, written, opensWindow, valuesWith, bringsValue}
-use Rattle.meaning.specs.WindowStatements.{afterValues, Reached}
+use Rattle.meaning_window.specs.Window.{lastOf, empty, turnedBack, shown, zeros, after, formOf, formLength, sizeIn, nextIn, valuesIn, sizeFits, wellKept, Outcome, outcome, written, opensWindow, valuesWith, bringsValue}
+use Rattle.meaning_window.specs.WindowStatements.{afterValues, Reached}
 use Rattle.theory_base.specs.Members.{T→true, true→T}
 use Rattle.theory_window.specs.Lists.{and-left, and-right, both, all-append}
 use Rattle.theory_window.specs.Kept.{Valid, place-by, zeros-in, size-of, next-of, values-of, past-of, form-kept}

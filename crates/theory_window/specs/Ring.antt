@@ -10,7 +10,7 @@ use lib.Seq.{take-at, drop-at, drop-cons, drop-drop, set-split, append-snoc, dro
 use lib.Dec.{eqb, ltb}
 use lib.IntN.{ℤ, pos}
 use Rattle.meaning.specs.Base.{all, countFrom}
-use Rattle.meaning.specs.Window.{turned, order, zeros, slotsOf, after, lastOf, valueAt}
+use Rattle.meaning_window.specs.Window.{turned, order, zeros, slotsOf, after, lastOf, valueAt}
 use Rattle.theory_window.specs.Lists.{all-append, all-take, all-drop, all-up, length-up, drop-up, take-up, set-up, map-turned, map-drop, values-up}
 
 pub length-turned : {A : Type 0} (k : ℕ) (s : List A) → length (turned k s) ≡ length s

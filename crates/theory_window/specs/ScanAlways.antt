@@ -10,8 +10,8 @@ use lib.Dec.{T, leb}
 use lib.IntN.{ℤ}
 use Rattle.meaning.specs.Value.{inRange}
 use Rattle.meaning.specs.Calls.{more, value, refused, tableRefused}
-use Rattle.meaning.specs.Window.{lastOf, turnedBack, shown, formOf, formLength, valuesIn, sizeFits, wellKept, opensWindow, bringsValue, bringsRefusal}
-use Rattle.meaning.specs.WindowStatements.{WindowCall, opening, later, callsWindow, afterCalls, Entered, entered, entering, enteredBy, outside, scanned, ScanAlways, KeptAlways}
+use Rattle.meaning_window.specs.Window.{lastOf, turnedBack, shown, formOf, formLength, valuesIn, sizeFits, wellKept, opensWindow, bringsValue, bringsRefusal}
+use Rattle.meaning_window.specs.WindowStatements.{WindowCall, opening, later, callsWindow, afterCalls, Entered, entered, entering, enteredBy, outside, scanned, ScanAlways, KeptAlways}
 use Rattle.theory_base.specs.Members.{T→true, true→T}
 use Rattle.theory_window.specs.Lists.{and-right}
 use Rattle.theory_window.specs.Kept.{Valid, values-of, form-long, form-kept}

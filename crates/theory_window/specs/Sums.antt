@@ -9,8 +9,8 @@ use lib.Seq.{set-split, split-at}
 use lib.IntN.{ℤ, pos, natAbs, _+ℤ_, _-ℤ_, +ℤ-idl, +ℤ-idr, +ℤ-assoc, +ℤ-comm, +ℤ-negℤ-cancel}
 use Rattle.meaning.specs.Base.{all}
 use Rattle.meaning.specs.Value.{inRange}
-use Rattle.meaning.specs.Window.{total, turned, zeros}
-use Rattle.value.specs.Sizes.{natAbs-add}
+use Rattle.meaning_window.specs.Window.{total, turned, zeros}
+use Rattle.theory_base.specs.Absolute.{natAbs-add}
 use Rattle.value.specs.Overflow.{reach, in-range-size}
 use Rattle.theory_window.specs.Lists.{and-left, and-right}
 

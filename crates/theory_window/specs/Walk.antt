@@ -9,7 +9,7 @@ use lib.IntN.{ℤ, pos, _+ℤ_, +ℤ-idl, +ℤ-idr, +ℤ-assoc}
 use lib.Signed.{ltZ}
 use Rattle.meaning.specs.Base.{all}
 use Rattle.meaning.specs.Value.{inRange, mark}
-use Rattle.meaning.specs.Window.{total, valueAt, leadersOf, sameNumber}
+use Rattle.meaning_window.specs.Window.{total, valueAt, leadersOf, sameNumber}
 use Rattle.theory_window.specs.Parts.{eqNumbers, valuesOf, valuesFit}
 use Rattle.theory_window.specs.Lists.{same-test, all-reverse}
 use Rattle.theory_window.specs.Sums.{total-reverse}

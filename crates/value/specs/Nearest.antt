@@ -10,7 +10,7 @@ use lib.Signed.{leZ, quotZ}
 use Rattle.meaning.specs.Value.{floored}
 use Rattle.theory_base.specs.Members.{T→true}
 use Rattle.theory_base.specs.Quotients.{floored-pos, floored-negsuc}
-use Rattle.value.specs.Sizes.{natAbs-neg}
+use Rattle.theory_base.specs.Absolute.{natAbs-neg}
 
 pub doubled : (c : ℤ) → leZ (pos 1) c ≡ true → leZ (pos 1) (c +ℤ c) ≡ true
 doubled (pos c) e = T→true (leb 1 (c + c)) (le→leb 1 (c + c) (let h = leb→le 1 c (subst T (sym e) tt) in omega arith))

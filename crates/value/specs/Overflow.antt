@@ -14,7 +14,7 @@ use Rattle.theory_base.specs.Members.{T→true, true→T}
 use Rattle.theory_base.specs.Quotients.{value-size, quotient-size, quotient-ranged}
 use Rattle.value.specs.Ranged.{ranged, pick-in}
 use Rattle.value.specs.Computed.{larger, smaller, computed}
-use Rattle.value.specs.Sizes.{natAbs-add, natAbs-sub}
+use Rattle.theory_base.specs.Absolute.{natAbs-add, natAbs-sub}
 
 -- no value has a larger size
 abbrev pub reach : ℕ

@@ -1,31 +1,13 @@
 -- The size of a sum, a difference and a product, and of a number between two bounds.
-use Prim.Native.Nat.{ℕ, zero, suc, _+_, _*_, _≤_, _<_}
+use Prim.Native.Nat.{ℕ, suc, _*_, _≤_, _<_}
 use native.Mathlib.Nat.{mul-le-mul-left, mul-le-mul-right, le-trans}
 use native.Mathlib.Omega.{arith}
 use mathlib.Core.Path.{_≡_, refl}
-use mathlib.Core.Bool.{Bool, true, false, _&&_, cond}
+use mathlib.Core.Bool.{Bool, true, false, _&&_}
 use borrow.Author.Tests.{leb-true, leb-false}
-use lib.Dec.{ltb}
-use lib.IntN.{ℤ, pos, negsuc, negℤ, natAbs, _+ℤ_, _-ℤ_, _*ℤ_}
+use lib.IntN.{ℤ, pos, negsuc, natAbs, _*ℤ_}
 use lib.Signed.{leZ}
-
-pub natAbs-neg : (a : ℤ) → natAbs (negℤ a) ≡ natAbs a
-natAbs-neg (pos zero) = refl
-natAbs-neg (pos (suc n)) = refl
-natAbs-neg (negsuc n) = refl
-
-natAbs-cond : (t : Bool) (x y : ℤ) (n : ℕ) → natAbs x ≤ n → natAbs y ≤ n → natAbs (cond t x y) ≤ n
-natAbs-cond true x y n p q = p
-natAbs-cond false x y n p q = q
-
-pub natAbs-add : (a b : ℤ) → natAbs (a +ℤ b) ≤ natAbs a + natAbs b
-natAbs-add (pos a) (pos b) = omega arith
-natAbs-add (pos a) (negsuc b) = natAbs-cond (ltb a (suc b)) _ _ _ (omega arith) (omega arith)
-natAbs-add (negsuc a) (pos b) = natAbs-cond (ltb b (suc a)) _ _ _ (omega arith) (omega arith)
-natAbs-add (negsuc a) (negsuc b) = omega arith
-
-pub natAbs-sub : (a b : ℤ) → natAbs (a -ℤ b) ≤ natAbs a + natAbs b
-natAbs-sub a b = omega (arith, natAbs-add a (negℤ b), natAbs-neg b)
+use Rattle.theory_base.specs.Absolute.{natAbs-neg}
 
 pub natAbs-mul : (a b : ℤ) → natAbs (a *ℤ b) ≡ natAbs a * natAbs b
 natAbs-mul (pos a) (pos b) = refl

@@ -89,16 +89,29 @@ pub fn compute(function: u32, a: i64, b: i64) -> i64
     requires { ⌜ (inRange a ≡ true) × (inRange b ≡ true) ⌝ }
     ensures { λ r. ⌜ r ≡ ranged (computed function a b) ⌝ }
 {
-    match function {
-        0 => a,
-        1 => a,
-        2 => sum(a, b),
-        3 => difference(a, b),
-        4 => product(a, b),
-        5 => larger(a, b),
-        6 => smaller(a, b),
-        7 => sum(a, b),
-        8 => quotient(a, b),
-        _ => 0,
+    if function < 2 {
+        return a;
     }
+    if function < 4 {
+        if function == 2 {
+            return sum(a, b);
+        }
+        return difference(a, b);
+    }
+    if function < 6 {
+        if function == 4 {
+            return product(a, b);
+        }
+        return larger(a, b);
+    }
+    if function == 6 {
+        return smaller(a, b);
+    }
+    if function == 7 {
+        return sum(a, b);
+    }
+    if function == 8 {
+        return quotient(a, b);
+    }
+    0
 }

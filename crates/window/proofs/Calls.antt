@@ -8,7 +8,7 @@ use lib.ListN.{length, drop, set, length-replicate, drop-of-length-le, replicate
 use lib.Seq.{take-all}
 use lib.IntN.{ℤ, pos}
 use Rattle.meaning.specs.Value.{inRange}
-use Rattle.meaning.specs.Window.{stands, empty, turned, order, zeros, slotsOf, after, leads, leadersOf, leaderCells, valueAt, formOf, sizeIn, heldIn, nextIn, slotsIn, sizeFits, wellKept, outcome, written, opensWindow, bringsValue, valuesWith}
+use Rattle.meaning_window.specs.Window.{stands, empty, turned, order, zeros, slotsOf, after, leads, leadersOf, leaderCells, valueAt, formOf, sizeIn, heldIn, nextIn, slotsIn, sizeFits, wellKept, outcome, written, opensWindow, bringsValue, valuesWith}
 use Rattle.theory_window.specs.Lists.{both}
 use Rattle.theory_window.specs.Ring.{length-order}
 use Rattle.theory_window.specs.Cases.{opens-met, value-met}

@@ -1,8 +1,8 @@
 -- The meaning of the code's answers.
 use mathlib.Core.List.{List}
 use lib.IntN.{ℤ}
-use Rattle.meaning.specs.Window as Window
-use Rattle.meaning.specs.Window.{stands, empty, turnedBack, Outcome, outcome}
+use Rattle.meaning_window.specs.Window as Window
+use Rattle.meaning_window.specs.Window.{stands, empty, turnedBack, Outcome, outcome}
 use Rattle.window.specs.declared.WindowAnswer.{WindowAnswer}
 use Rattle.window.specs.declared.WindowAnswer.the-variants.{Stands, Empty, Refused}
 

@@ -2,7 +2,7 @@
 ghost use mathlib.Core.Path.{_≡_};
 ghost use mathlib.Core.Bool.{true};
 ghost use Rattle.meaning.specs.Value.{inRange};
-ghost use Rattle.meaning.specs.Window.{opensWindow, bringsValue, bringsRefusal};
+ghost use Rattle.meaning_window.specs.Window.{opensWindow, bringsValue, bringsRefusal};
 ghost use Rattle.theory_window.specs.Parts.{answerOf};
 ghost use Rattle.window_push.specs.Parts as Parts;
 ghost use Rattle.window.specs.Answers.{answerIs, outcomeIs};

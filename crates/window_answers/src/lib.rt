@@ -1,6 +1,6 @@
 // A later call on a window brings a finish's answer: a value enters, anything else changes nothing and gets total and largest as they stand.
 ghost use mathlib.Core.Path.{_≡_};
-ghost use Rattle.meaning.specs.Window.{bringsAnswer};
+ghost use Rattle.meaning_window.specs.Window.{bringsAnswer};
 ghost use Rattle.records.specs.Records.{answerIs};
 ghost use Rattle.window.specs.Answers.{outcomeIs};
 use records::Answer;

@@ -15,7 +15,7 @@ use mir.Facts.{toZ-ofZ}
 use lib.ListN.{length, getD, take, drop, set, drop-of-length-le, length-replicate, length-map}
 use lib.Seq.{drop-cons, set-at, append-snoc, take-suc, length-take-le}
 use Rattle.meaning.specs.Base.{all}
-use Rattle.meaning.specs.Window.{zeros, small}
+use Rattle.meaning_window.specs.Window.{zeros, small}
 use Rattle.theory_window.specs.Lists.{and-right, map-append}
 
 -- ---- tests along cells

@@ -5,8 +5,8 @@ ghost use mathlib.Core.List.{map};
 ghost use lib.ListN.{length, getD, take};
 ghost use lib.IntN.{pos};
 ghost use Rattle.meaning.specs.Base.{all};
-ghost use Rattle.meaning.specs.Window as Window;
-ghost use Rattle.meaning.specs.Window.{zeros, numberAt, sameNumber};
+ghost use Rattle.meaning_window.specs.Window as Window;
+ghost use Rattle.meaning_window.specs.Window.{zeros, numberAt, sameNumber};
 ghost use Rattle.theory_window.specs.Parts.{isZero};
 use value::in_bounds;
 

@@ -9,7 +9,7 @@ use lib.ListN.{length, drop}
 use lib.Dec.{leb}
 use lib.IntN.{ℤ, _+ℤ_, _-ℤ_}
 use Rattle.meaning.specs.Base.{all}
-use Rattle.meaning.specs.Window.{valueAt, sizeIn, heldIn, nextIn, totalIn, sizeFits, placeFits, wellKept}
+use Rattle.meaning_window.specs.Window.{valueAt, sizeIn, heldIn, nextIn, totalIn, sizeFits, placeFits, wellKept}
 use Rattle.theory_window.specs.FormByParts.{kept-parts}
 use Rattle.theory_window.specs.Lists.{and-left}
 use Rattle.theory_window.specs.Parts.{keptParts, countIn, isZero, topAt, valuesFit, restZero}

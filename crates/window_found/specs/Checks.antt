@@ -6,7 +6,7 @@ use mathlib.Core.Bool.{Bool, true, false, cond}
 use mathlib.Core.List.{List, map}
 use lib.ListN.{length, take, drop}
 use lib.IntN.{ℤ, _+ℤ_, _-ℤ_}
-use Rattle.meaning.specs.Window.{small, valueAt, sizeIn, heldIn, nextIn, totalIn, wellKept}
+use Rattle.meaning_window.specs.Window.{small, valueAt, sizeIn, heldIn, nextIn, totalIn, wellKept}
 use Rattle.theory_window.specs.Parts.{countIn, topAt, valuesFit}
 use Rattle.theory_window.specs.Next.{leavingOf, leadersWith, topWith}
 use Rattle.window_found.specs.Parts.{partsKept}

@@ -12,9 +12,9 @@ use lib.IntN.{ℤ, pos, natAbs, _+ℤ_, _-ℤ_}
 use lib.Signed.{ltZ}
 use Rattle.meaning.specs.Base.{keep, consIf}
 use Rattle.meaning.specs.Value.{inRange, mark}
-use Rattle.meaning.specs.Window.{valueAt, numberAt, sameNumber}
+use Rattle.meaning_window.specs.Window.{valueAt, numberAt, sameNumber}
 use Rattle.value.specs.Overflow.{reach, in-range-size}
-use Rattle.value.specs.Sizes.{natAbs-add}
+use Rattle.theory_base.specs.Absolute.{natAbs-add}
 use Rattle.theory_window.specs.Lists.{and-left, and-right}
 use Rattle.theory_window.specs.Parts.{topAt}
 use Rattle.theory_window.specs.Leaders.{stays, downFrom, before, before-below}

@@ -6,7 +6,7 @@ use mathlib.Core.List.{List, map}
 use lib.ListN.{length, take, drop}
 use lib.Dec.{leb}
 use lib.IntN.{ℤ}
-use Rattle.meaning.specs.Window.{small, heldIn, nextIn, totalIn, placeFits}
+use Rattle.meaning_window.specs.Window.{small, heldIn, nextIn, totalIn, placeFits}
 use Rattle.window_found.specs.declared.Numbers.{Numbers}
 use Rattle.theory_window.specs.Parts.{countIn, valuesFit, restZero}
 

@@ -10,7 +10,7 @@ use lib.Dec.{eqb}
 use lib.IntN.{ℤ, pos, natAbs}
 use lib.Signed.{ltZ}
 use Rattle.meaning.specs.Value.{inRange}
-use Rattle.meaning.specs.Window.{valueAt, numberAt, sameNumber}
+use Rattle.meaning_window.specs.Window.{valueAt, numberAt, sameNumber}
 use Rattle.value.specs.Overflow.{reach}
 use Rattle.theory_window.specs.Next.{leavingOf}
 use Rattle.theory_window.specs.Leaders.{before}

@@ -10,7 +10,7 @@ use lib.Seq.{take-all, take-suc, getD-take}
 use lib.IntN.{ℤ, pos, _+ℤ_}
 use lib.Signed.{ltZ}
 use Rattle.meaning.specs.Value.{inRange, mark}
-use Rattle.meaning.specs.Window.{valueAt, small, numberAt, sameNumber}
+use Rattle.meaning_window.specs.Window.{valueAt, small, numberAt, sameNumber}
 use Rattle.theory_window.specs.Parts.{topAt}
 use Rattle.theory_window.specs.Leaders.{downFrom, before}
 use Rattle.theory_window.specs.Walk.{walkFits, walk-start, walk-out, walk-skip, walk-none, walk-other, walk-next, walk-end}

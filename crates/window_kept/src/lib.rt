@@ -5,7 +5,7 @@ ghost use mathlib.Core.Path.{_≡_};
 ghost use mathlib.Core.Bool.{true};
 ghost use lib.ListN.{length};
 ghost use Rattle.meaning.specs.Value.{inRange};
-ghost use Rattle.meaning.specs.Window.{placeFits};
+ghost use Rattle.meaning_window.specs.Window.{placeFits};
 ghost use Rattle.theory_window.specs.Parts.{restZero};
 ghost use Rattle.window_found.specs.Checks.{CheckedParts, CheckedIn};
 use window_cells::all_zero;

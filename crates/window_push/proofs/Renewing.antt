@@ -7,7 +7,7 @@ use mathlib.Core.List.{List, _∷_, _++_, map, append-assoc, append-nil}
 use lib.ListN.{length, take, drop, set, length-append, length-take, length-drop, length-map, length-set, length-replicate, drop-of-length-le}
 use lib.Seq.{take-all, take-at, drop-at, length-take-le, set-append-left}
 use lib.IntN.{ℤ, pos, _+ℤ_, _-ℤ_}
-use Rattle.meaning.specs.Window.{total, zeros, after, valueAt, leadersOf, leaderCells, cells, formLength, sizeIn, heldIn, nextIn, totalIn, slotsIn, wellKept, written, valuesWith}
+use Rattle.meaning_window.specs.Window.{total, zeros, after, valueAt, leadersOf, leaderCells, cells, formLength, sizeIn, heldIn, nextIn, totalIn, slotsIn, wellKept, written, valuesWith}
 use Rattle.theory_window.specs.Ring.{grown}
 use Rattle.theory_window.specs.Kept.{leaders-few}
 use Rattle.theory_window.specs.FormByParts.{passed, kept-held, kept-next, kept-slots, kept-cells, push-form}

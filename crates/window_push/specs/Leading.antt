@@ -7,7 +7,7 @@ use mathlib.Core.List.{List, [], _∷_}
 use lib.ListN.{length, set, length-append}
 use lib.IntN.{ℤ}
 use Rattle.meaning.specs.Base.{keep}
-use Rattle.meaning.specs.Window.{after, leadersOf, sizeIn, heldIn, nextIn, slotsIn, wellKept}
+use Rattle.meaning_window.specs.Window.{after, leadersOf, sizeIn, heldIn, nextIn, slotsIn, wellKept}
 use Rattle.theory_window.specs.Ring.{grown, length-grown}
 use Rattle.theory_window.specs.Leaders.{stays, leaders-push}
 use Rattle.theory_window.specs.Kept.{leaders-few}

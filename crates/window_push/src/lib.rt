@@ -2,8 +2,8 @@
 ghost use Prim.Native.Nat.{_+_, _<_, _≤_};
 ghost use mathlib.Core.Path.{_≡_};
 ghost use lib.ListN.{length};
-ghost use Rattle.meaning.specs.Window as Window;
-ghost use Rattle.meaning.specs.Window.{leaderCells, sizeIn, nextIn, written, valuesWith};
+ghost use Rattle.meaning_window.specs.Window as Window;
+ghost use Rattle.meaning_window.specs.Window.{leaderCells, sizeIn, nextIn, written, valuesWith};
 ghost use Rattle.theory_window.specs.Ring as Ring;
 ghost use Rattle.window_push.specs.Parts as Parts;
 ghost use Rattle.window_push.specs.Parts.{stored};

@@ -4,45 +4,40 @@ use borrow.Author.Needs.{needs}
 use borrow.Author.Tests.{not-true, not-false}
 use lib.ListN.{drop}
 use mathlib.Core.Path.{sym, ap, _∙_}
-use Rattle.outline.specs.Rows.{rightAt, byteAt, right-token, right-nonterminal, right-end}
-use Rattle.analysis.specs.Views.{members}
+use Rattle.outline.specs.Rows.{rightAt, sizeAt, row-inside, symbol-inside, right-end}
+use Rattle.analysis.specs.Views.{members, next-small, next-token, next-nonterminal}
 use Rattle.analysis.specs.Fronts.{Scanned, scan-start, scan-token, scan-next, scan-stop, scan-end}
 use Rattle.analysis_first.proofs.begins.Statement.{statement}
 use Rattle.analysis_first.proofs.begins.Tie as tie
 
 abbrev Inv-loop : tie.InvT-loop
-Inv-loop rows count k null table after at n out₀ i₀ out i = Scanned (members (null .0)) table (after .0) (rightAt rows k) (out .0) (drop i (rightAt rows k))
+Inv-loop rows k null table after n out₀ i₀ out i = Scanned (members (null .0)) table (after .0) (rightAt rows k) (out .0) (drop i (rightAt rows k))
 
 abbrev μ-loop : tie.MeasureT-loop
-μ-loop rows count k null table after at n out₀ i₀ out i = n - i
+μ-loop rows k null table after n out₀ i₀ out i = n - i
 
--- in a turn the symbol is one
-symbol : (c : tie.In-loop Inv-loop μ-loop) → byteAt (c .before .before .before .args .rows .now) (c .before .before .before .args .k) (c .before .loop .i) < 176
-symbol c = let st = c .before .before .before in st .pre .0 .symbols _ _ (st .pre .1) (c .loop-test .taken)
+-- in a turn there is such a symbol
+inside : (c : tie.In-loop Inv-loop μ-loop) → c .before .loop .i < sizeAt (c .before .before .before .before .args .rows .now) (c .before .before .before .before .args .k)
+inside c = omega (arith, c .before .before .size-of .ensures .0)
 
-mul-at : tie.Need-mul-at Inv-loop μ-loop
-mul-at c = omega arith
+-- and it is one
+symbol : (c : tie.After-symbol-of Inv-loop μ-loop) → c .symbol-of .result < 176
+symbol c =
+    let lp = c .before .before in
+    let row = lp .before .before .before .before .pre in
+    next-small row _ _ (inside lp) (c .symbol-of .ensures)
 
-add-n : tie.Need-add-n Inv-loop μ-loop
-add-n c = omega arith
-
-element-copy-out-n : tie.Need-element-copy-out-n Inv-loop μ-loop
-element-copy-out-n c = omega arith
-
-cast-n : tie.Need-cast-n Inv-loop μ-loop
-cast-n c = let st = c .before in omega (arith, st .pre .0 .sizes _ (st .pre .1))
+size-of-requires : tie.Need-size-of-requires Inv-loop μ-loop
+size-of-requires c κs = let row = c .before .pre in row-inside (row .image) _ (row .listed)
 
 loop-holds : tie.Need-loop-holds Inv-loop μ-loop
 loop-holds c = scan-start _ _ _ _
 
-add-s : tie.Need-add-s Inv-loop μ-loop
-add-s c = omega arith
-
-add-s-2 : tie.Need-add-s-2 Inv-loop μ-loop
-add-s-2 c = let st = c .before .before .before in omega (arith, st .pre .0 .sizes _ (st .pre .1))
-
-element-copy-out-s : tie.Need-element-copy-out-s Inv-loop μ-loop
-element-copy-out-s c = let st = c .before .before .before in omega (arith, st .pre .0 .few, st .pre .0 .sizes _ (st .pre .1))
+symbol-of-requires : tie.Need-symbol-of-requires Inv-loop μ-loop
+symbol-of-requires c κs =
+    let lp = c .before in
+    let row = lp .before .before .before .before .pre in
+    symbol-inside (row .image) _ _ (row .listed) (inside lp)
 
 of-token-requires : tie.Need-of-token-requires Inv-loop μ-loop
 of-token-requires c κs = search needs
@@ -54,35 +49,40 @@ returns : tie.Need-returns Inv-loop μ-loop
 returns c =
     let ot = c .before in
     let th = ot .before in
-    let lp = th .before .before in
-    let st = lp .before .before .before in
-    λ u. ap (λ (x : ℕ). members x u) (c .union .ensures .1) ∙ scan-token _ _ _ _ _ _ (lp .before .loop .inv) _ _ _ (right-token (st .pre .0) _ (st .pre .1) _ (lp .loop-test .taken) (th .if1 .taken)) (ot .of-token .ensures) u
+    let so = th .before in
+    let lp = so .before .before in
+    let row = lp .before .before .before .before .pre in
+    λ u. ap (λ (x : ℕ). members x u) (c .union .ensures .1) ∙ scan-token _ _ _ _ _ _ (lp .before .loop .inv) _ _ _ (next-token row _ _ (inside lp) (so .symbol-of .ensures) (th .if1 .taken)) (ot .of-token .ensures) u
 
 cast-a : tie.Need-cast-a Inv-loop μ-loop
-cast-a c = omega (arith, symbol (c .before .before))
+cast-a c = omega (arith, symbol (c .before))
 
 mul-own : tie.Need-mul-own Inv-loop μ-loop
-mul-own c = omega (arith, symbol (c .before .before))
+mul-own c = omega (arith, symbol (c .before))
 
 element-copy-out-own : tie.Need-element-copy-out-own Inv-loop μ-loop
-element-copy-out-own c = omega (arith, symbol (c .before .before))
+element-copy-out-own c = omega (arith, symbol (c .before))
 
 union-requires-2 : tie.Need-union-requires-2 Inv-loop μ-loop
 union-requires-2 c κs = search needs
 
 has-requires : tie.Need-has-requires Inv-loop μ-loop
-has-requires c κs = search needs
+has-requires c κs = omega (arith, symbol (c .before .before .before))
 
 returns-2 : tie.Need-returns-2 Inv-loop μ-loop
 returns-2 c =
     let un = c .before .before in
     let el = un .before .before in
-    let lp = el .before .before in
-    let st = lp .before .before .before in
-    λ u. ap (λ (x : ℕ). members x u) (un .union2 .ensures .1) ∙ scan-stop _ _ _ _ _ _ (lp .before .loop .inv) _ _ (right-nonterminal (st .pre .0) _ (st .pre .1) _ (lp .loop-test .taken) (el .if1 .left)) (sym (c .before .has .ensures) ∙ not-true _ (c .if2 .taken)) u
+    let so = el .before in
+    let lp = so .before .before in
+    let row = lp .before .before .before .before .pre in
+    λ u. ap (λ (x : ℕ). members x u) (un .union2 .ensures .1) ∙ scan-stop _ _ _ _ _ _ (lp .before .loop .inv) _ _ (next-nonterminal row _ _ (inside lp) (so .symbol-of .ensures) (el .if1 .left)) (sym (c .before .has .ensures) ∙ not-true _ (c .if2 .taken)) u
 
 add-i : tie.Need-add-i Inv-loop μ-loop
-add-i c = let st = c .before .before .before .before .before .before .before .before .before in omega (arith, st .pre .0 .sizes _ (st .pre .1))
+add-i c =
+    let lp = c .before .before .before .before .before .before .before in
+    let row = lp .before .before .before .before .pre in
+    omega (arith, inside lp, row .image .sizes _ (row .listed))
 
 loop-less : tie.Need-loop-less Inv-loop μ-loop
 loop-less c = omega arith
@@ -91,19 +91,20 @@ loop-again : tie.Need-loop-again Inv-loop μ-loop
 loop-again c =
     let un = c .before .before in
     let el = un .before .before in
-    let lp = el .before .before in
-    let st = lp .before .before .before in
+    let so = el .before in
+    let lp = so .before .before in
+    let row = lp .before .before .before .before .pre in
     rw (un .union2 .ensures .1)
-    (scan-next _ _ _ _ _ _ (lp .before .loop .inv) _ _ (right-nonterminal (st .pre .0) _ (st .pre .1) _ (lp .loop-test .taken) (el .if1 .left)) (sym (c .before .has .ensures) ∙ not-false _ (c .if2 .left)))
+    (scan-next _ _ _ _ _ _ (lp .before .loop .inv) _ _ (next-nonterminal row _ _ (inside lp) (so .symbol-of .ensures) (el .if1 .left)) (sym (c .before .has .ensures) ∙ not-false _ (c .if2 .left)))
 
 union-requires-3 : tie.Need-union-requires-3 Inv-loop μ-loop
 union-requires-3 c κs = search needs
 
 returns-3 : tie.Need-returns-3 Inv-loop μ-loop
 returns-3 c =
-    let lp = c .before in
-    let st = lp .before .before .before in
-    λ u. ap (λ (x : ℕ). members x u) (c .union3 .ensures .1) ∙ scan-end _ _ _ _ _ _ (lp .before .loop .inv) (right-end (st .pre .0) _ (st .pre .1) _ (lp .loop-test .left)) u
+    let at = c .before .before in
+    let row = at .before .before .before .pre in
+    λ u. ap (λ (x : ℕ). members x u) (c .union3 .ensures .1) ∙ scan-end _ _ _ _ _ _ (at .loop .inv) (right-end (row .image) _ (row .listed) (at .loop .i) (omega (arith, at .before .size-of .ensures .0))) u
 
 pub begins-spec : {M : Type 1} → statement M
 begins-spec =
@@ -111,14 +112,9 @@ begins-spec =
     (tie.spec
     Inv-loop
     μ-loop
-    mul-at
-    add-n
-    element-copy-out-n
-    cast-n
+    size-of-requires
     loop-holds
-    add-s
-    add-s-2
-    element-copy-out-s
+    symbol-of-requires
     of-token-requires
     union-requires
     returns

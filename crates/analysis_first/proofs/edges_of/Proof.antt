@@ -1,6 +1,8 @@
 use Prim.Native.Nat.{_≤_, _-_}
 use native.Mathlib.Omega.{arith}
+use borrow.Author.Needs.{needs}
 use mathlib.Core.Path.{_≡_}
+use Rattle.outline.specs.Rows.{row-inside}
 use Rattle.analysis.specs.Views.{members}
 use Rattle.analysis.specs.Fronts.{Gathers, headsBy, leadingBy, gathers-start, gathers-next}
 use Rattle.analysis_first.proofs.edges_of.Statement.{statement}
@@ -15,27 +17,28 @@ abbrev μ-loop : tie.MeasureT-loop
 loop-holds : tie.Need-loop-holds Inv-loop μ-loop
 loop-holds c = (omega arith, rw (c .pre .1) (gathers-start _ _), rw (c .pre .2) (gathers-start _ _))
 
-mul-left : tie.Need-mul-left Inv-loop μ-loop
-mul-left c = omega arith
-
-element-copy-out-left : tie.Need-element-copy-out-left Inv-loop μ-loop
-element-copy-out-left c = omega (arith, c .before .before .pre .0 .few)
+left-of-requires : tie.Need-left-of-requires Inv-loop μ-loop
+left-of-requires c κs = let lp = c .before in row-inside (lp .before .before .pre .0) _ (lp .loop-test .taken)
 
 cast-left : tie.Need-cast-left Inv-loop μ-loop
-cast-left c = let lp = c .before in omega (arith, lp .before .before .pre .0 .lefts _ (lp .loop-test .taken))
+cast-left c = search needs
 
 front-of-requires : tie.Need-front-of-requires Inv-loop μ-loop
-front-of-requires c κs = let lp = c .before in (lp .before .before .pre .0, lp .loop-test .taken)
+front-of-requires c κs =
+    let lp = c .before .before in
+    record { count = _; image = lp .before .before .pre .0; listed = lp .loop-test .taken }
 
 add-requires : tie.Need-add-requires Inv-loop μ-loop
 add-requires c κs =
-    let lp = c .before .before .before in
-    (lp .before .before .pre .0 .lefts _ (lp .loop-test .taken), lp .before .loop .inv .1 .size)
+    let lf = c .before .before in
+    let lp = lf .before .before in
+    (rw (lf .left-of .ensures) (lp .before .before .pre .0 .lefts _ (lp .loop-test .taken)), lp .before .loop .inv .1 .size)
 
 add-requires-2 : tie.Need-add-requires-2 Inv-loop μ-loop
 add-requires-2 c κs =
-    let lp = c .before .before .before .before .before in
-    (lp .before .before .pre .0 .lefts _ (lp .loop-test .taken), lp .before .loop .inv .2 .size)
+    let lf = c .before .before .before .before in
+    let lp = lf .before .before in
+    (rw (lf .left-of .ensures) (lp .before .before .pre .0 .lefts _ (lp .loop-test .taken)), lp .before .loop .inv .2 .size)
 
 add-k : tie.Need-add-k Inv-loop μ-loop
 add-k c = omega arith
@@ -47,8 +50,10 @@ loop-again : tie.Need-loop-again Inv-loop μ-loop
 loop-again c =
     let ad = c .before .before in
     let fo = ad .before .before in
-    let at = fo .before .before .before in
-    (omega arith, gathers-next _ _ _ _ _ _ (at .loop .inv .1) (ad .add .ensures) (fo .front-of .ensures .firsts), gathers-next _ _ _ _ _ _ (at .loop .inv .2) (c .add2 .ensures) (fo .front-of .ensures .tokens))
+    let lf = fo .before in
+    let at = lf .before .before .before in
+    let e = lf .left-of .ensures in
+    (omega arith, gathers-next _ _ _ _ _ _ (at .loop .inv .1) (rw e at (ad .add .ensures)) (fo .front-of .ensures .firsts), gathers-next _ _ _ _ _ _ (at .loop .inv .2) (rw e at (c .add2 .ensures)) (fo .front-of .ensures .tokens))
 
 returns : tie.Need-returns Inv-loop μ-loop
 returns c =
@@ -63,8 +68,7 @@ edges-of-spec =
     Inv-loop
     μ-loop
     loop-holds
-    mul-left
-    element-copy-out-left
+    left-of-requires
     cast-left
     front-of-requires
     add-requires

@@ -1,29 +1,28 @@
+use native.Mathlib.Omega.{arith}
 use borrow.Author.Needs.{needs}
 use borrow.Author.Tests.{not-true, not-false}
 use mathlib.Core.Path.{sym, _∙_}
+use Rattle.outline.specs.Rows.{row-inside}
 use Rattle.analysis.specs.Reaching.{reaches-not, reaches-new}
 use Rattle.analysis_reachable.proofs.reach_by.Statement.{statement}
 use Rattle.analysis_reachable.proofs.reach_by.Tie as tie
 
-mul-has : tie.Need-mul-has
-mul-has c = search needs
-
-element-copy-out-has : tie.Need-element-copy-out-has
-element-copy-out-has c = search needs
+left-of-requires : tie.Need-left-of-requires
+left-of-requires c κs = let row = c .before .pre .0 in row-inside (row .image) _ (row .listed)
 
 has-requires : tie.Need-has-requires
-has-requires c κs = search needs
+has-requires c κs = let row = c .before .before .pre .0 in omega (arith, c .left-of .ensures, row .image .lefts _ (row .listed))
 
 returns : tie.Need-returns
 returns c =
-    let st = c .before .before .before in
-    reaches-not (st .args .rows .now) _ (st .pre .2) _ (sym (c .before .has .ensures) ∙ not-true _ (c .if1 .taken))
+    let lf = c .before .before in
+    λ count lt. reaches-not (lf .before .before .args .rows .now) _ lt _ (rw (lf .left-of .ensures) at (sym (c .before .has .ensures) ∙ not-true _ (c .if1 .taken)))
 
 mul-right : tie.Need-mul-right
 mul-right c = search needs
 
 element-copy-out-right : tie.Need-element-copy-out-right
-element-copy-out-right c = search needs
+element-copy-out-right c = let row = c .before .before .before .before .pre .0 in omega (arith, row .image .few, row .listed)
 
 union-requires : tie.Need-union-requires
 union-requires c κs = search needs
@@ -31,19 +30,12 @@ union-requires c κs = search needs
 returns-2 : tie.Need-returns-2
 returns-2 c =
     let el = c .before .before in
-    let st = el .before .before .before in
-    rw (c .union .ensures .1)
-    (reaches-new (st .args .rows .now) _ (st .pre .2) _ _ (sym (el .before .has .ensures) ∙ not-false _ (el .if1 .left)) (st .pre .1 .is _ (st .pre .2)))
+    let lf = el .before .before in
+    let st = lf .before .before in
+    λ count lt. rw (c .union .ensures .1)
+    (reaches-new (st .args .rows .now) _ lt _ _ (rw (lf .left-of .ensures) at (sym (el .before .has .ensures) ∙ not-false _ (el .if1 .left))) (st .pre .1))
 
 pub reach-by-spec : {M : Type 1} → statement M
 reach-by-spec =
     tie.close
-    (tie.spec
-    mul-has
-    element-copy-out-has
-    has-requires
-    returns
-    mul-right
-    element-copy-out-right
-    union-requires
-    returns-2)
+    (tie.spec left-of-requires has-requires returns mul-right element-copy-out-right union-requires returns-2)

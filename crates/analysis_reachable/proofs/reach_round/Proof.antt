@@ -1,4 +1,4 @@
-use Prim.Native.Nat.{_≤_, _-_}
+use Prim.Native.Nat.{_≤_, _<_, _-_}
 use native.Mathlib.Omega.{arith}
 use mathlib.Core.Path.{_≡_}
 use Rattle.analysis.specs.Views.{Within, within-none, within-after, ReachAt}
@@ -16,7 +16,11 @@ loop-holds : tie.Need-loop-holds Inv-loop μ-loop
 loop-holds c = (omega arith, grown-none _ (within-none _ _ (omega arith)))
 
 reach-by-requires : tie.Need-reach-by-requires Inv-loop μ-loop
-reach-by-requires c κs = let st = c .before .before in (st .pre .0, st .pre .1, omega arith)
+reach-by-requires c κs =
+    let at = c .before in
+    let st = at .before in
+    let lt : at .loop .k < st .args .count = omega arith in
+    (record { count = _; image = st .pre .0; listed = lt }, st .pre .1 .is _ lt)
 
 add-k : tie.Need-add-k Inv-loop μ-loop
 add-k c = omega arith
@@ -25,7 +29,7 @@ loop-less : tie.Need-loop-less Inv-loop μ-loop
 loop-less c = omega arith
 
 loop-again : tie.Need-loop-again Inv-loop μ-loop
-loop-again c = let lp = c .before in (omega arith, grown-then _ _ _ (lp .before .loop .inv .1) (c .reach-by .ensures) (within-after _ _))
+loop-again c = let lp = c .before in (omega arith, grown-then _ _ _ (lp .before .loop .inv .1) (c .reach-by .ensures _ (lp .loop-test .taken)) (within-after _ _))
 
 returns : tie.Need-returns Inv-loop μ-loop
 returns c = let e : c .before .loop .k ≡ c .before .before .args .count = omega arith in rw e at (c .before .loop .inv .1)

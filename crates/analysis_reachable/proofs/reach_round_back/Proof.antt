@@ -1,4 +1,4 @@
-use Prim.Native.Nat.{_≤_}
+use Prim.Native.Nat.{_≤_, _<_, _-_}
 use native.Mathlib.Omega.{arith}
 use mathlib.Core.Path.{_≡_}
 use Rattle.analysis.specs.Views.{Within, within-none, within-before, ReachAt}
@@ -19,13 +19,17 @@ sub-k : tie.Need-sub-k Inv-loop μ-loop
 sub-k c = omega arith
 
 reach-by-requires : tie.Need-reach-by-requires Inv-loop μ-loop
-reach-by-requires c κs = let st = c .before .before in (st .pre .0, st .pre .1, omega arith)
+reach-by-requires c κs =
+    let at = c .before in
+    let st = at .before in
+    let lt : at .loop .k - 1 < st .args .count = omega arith in
+    (record { count = _; image = st .pre .0; listed = lt }, st .pre .1 .is _ lt)
 
 loop-less : tie.Need-loop-less Inv-loop μ-loop
 loop-less c = omega arith
 
 loop-again : tie.Need-loop-again Inv-loop μ-loop
-loop-again c = let lp = c .before in (omega arith, grown-then _ _ _ (lp .before .loop .inv .1) (c .reach-by .ensures) (within-before _ _))
+loop-again c = let lp = c .before in (omega arith, grown-then _ _ _ (lp .before .loop .inv .1) (c .reach-by .ensures _ (omega arith)) (within-before _ _))
 
 returns : tie.Need-returns Inv-loop μ-loop
 returns c = let e : c .before .loop .k ≡ 0 = omega arith in rw e at (c .before .loop .inv .1)

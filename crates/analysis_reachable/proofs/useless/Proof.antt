@@ -8,8 +8,8 @@ use Rattle.analysis_reachable.proofs.useless.Tie as tie
 right-sets-requires : tie.Need-right-sets-requires
 right-sets-requires c κs = search needs
 
-closure-requires : tie.Need-closure-requires
-closure-requires c κs = search needs
+productive-requires : tie.Need-productive-requires
+productive-requires c κs = search needs
 
 of-nonterminal-requires : tie.Need-of-nonterminal-requires
 of-nonterminal-requires c κs = search needs
@@ -26,14 +26,14 @@ returns c =
     let ot = re .before .before in
     let cl = ot .before in
     let rs = cl .before .before in
-    (rs .right-sets .ensures, λ g r n s. useless-found r _ _ _ _ (ot .of-nonterminal .ensures ∙ ap singleton s) (re .reach .ensures) (cl .closure .ensures) (rw n at (c .lowest-useless .ensures)))
+    (rs .right-sets .ensures, λ g r n s. useless-found r _ _ _ _ (ot .of-nonterminal .ensures ∙ ap singleton s) (re .reach .ensures) (cl .productive .ensures) (rw n at (c .lowest-useless .ensures)))
 
 pub useless-spec : {M : Type 1} → statement M
 useless-spec =
     tie.close
     (tie.spec
     right-sets-requires
-    closure-requires
+    productive-requires
     of-nonterminal-requires
     reach-requires
     lowest-useless-requires

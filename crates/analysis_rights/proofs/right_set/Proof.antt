@@ -1,69 +1,67 @@
-use Prim.Native.Nat.{_-_}
+use Prim.Native.Nat.{_-_, _<_}
 use native.Mathlib.Omega.{arith}
 use borrow.Author.Needs.{needs}
 use lib.ListN.{drop}
 use Rattle.analysis.specs.Views.{symbolBit}
-use Rattle.outline.specs.Rows.{rightAt, right-cons, right-end}
+use Rattle.outline.specs.Rows.{rightAt, sizeAt, row-inside, symbol-inside, right-cons, right-end}
 use Rattle.analysis.specs.Reaching.{Gathered, gathered-start, gathered-next, gathered-end}
 use Rattle.analysis_rights.proofs.right_set.Statement.{statement}
 use Rattle.analysis_rights.proofs.right_set.Tie as tie
 
 abbrev Inv-loop : tie.InvT-loop
-Inv-loop rows count k at n out₀ i₀ out i = Gathered symbolBit (rightAt rows k) (out .0) (drop i (rightAt rows k))
+Inv-loop rows k n out₀ i₀ out i = Gathered symbolBit (rightAt rows k) (out .0) (drop i (rightAt rows k))
 
 abbrev μ-loop : tie.MeasureT-loop
-μ-loop rows count k at n out₀ i₀ out i = n - i
+μ-loop rows k n out₀ i₀ out i = n - i
 
-mul-at : tie.Need-mul-at Inv-loop μ-loop
-mul-at c = omega arith
+-- in a turn there is such a symbol
+inside : (c : tie.In-loop Inv-loop μ-loop) → c .before .loop .i < sizeAt (c .before .before .before .before .args .rows .now) (c .before .before .before .before .args .k)
+inside c = omega (arith, c .before .before .size-of .ensures .0)
 
-add-n : tie.Need-add-n Inv-loop μ-loop
-add-n c = omega arith
-
-element-copy-out-n : tie.Need-element-copy-out-n Inv-loop μ-loop
-element-copy-out-n c = omega arith
-
-cast-n : tie.Need-cast-n Inv-loop μ-loop
-cast-n c = let st = c .before in omega (arith, st .pre .0 .sizes _ (st .pre .1))
+size-of-requires : tie.Need-size-of-requires Inv-loop μ-loop
+size-of-requires c κs = let row = c .before .pre in row-inside (row .image) _ (row .listed)
 
 loop-holds : tie.Need-loop-holds Inv-loop μ-loop
 loop-holds c = gathered-start _ _
 
-add-symbol-bit : tie.Need-add-symbol-bit Inv-loop μ-loop
-add-symbol-bit c = omega arith
-
-add-symbol-bit-2 : tie.Need-add-symbol-bit-2 Inv-loop μ-loop
-add-symbol-bit-2 c = let st = c .before .before .before in omega (arith, st .pre .0 .sizes _ (st .pre .1))
-
-element-copy-out-symbol-bit : tie.Need-element-copy-out-symbol-bit Inv-loop μ-loop
-element-copy-out-symbol-bit c = let st = c .before .before .before in omega (arith, st .pre .0 .few, st .pre .0 .sizes _ (st .pre .1))
+symbol-of-requires : tie.Need-symbol-of-requires Inv-loop μ-loop
+symbol-of-requires c κs =
+    let lp = c .before in
+    let row = lp .before .before .before .before .pre in
+    symbol-inside (row .image) _ _ (row .listed) (inside lp)
 
 symbol-bit-requires : tie.Need-symbol-bit-requires Inv-loop μ-loop
 symbol-bit-requires c κs =
-    let st = c .before .before .before .before in
-    st .pre .0 .symbols _ _ (st .pre .1) (c .before .loop-test .taken)
+    let lp = c .before .before in
+    let row = lp .before .before .before .before .pre in
+    rw (c .symbol-of .ensures) (row .image .symbols _ _ (row .listed) (inside lp))
 
 union-requires : tie.Need-union-requires Inv-loop μ-loop
 union-requires c κs = search needs
 
 add-i : tie.Need-add-i Inv-loop μ-loop
-add-i c = let st = c .before .before .before .before .before .before in omega (arith, st .pre .0 .sizes _ (st .pre .1))
+add-i c =
+    let lp = c .before .before .before .before in
+    let row = lp .before .before .before .before .pre in
+    omega (arith, inside lp, row .image .sizes _ (row .listed))
 
 loop-less : tie.Need-loop-less Inv-loop μ-loop
 loop-less c = omega arith
 
 loop-again : tie.Need-loop-again Inv-loop μ-loop
 loop-again c =
-    let sy = c .before in
-    let lp = sy .before .before in
-    let st = lp .before .before .before in
+    let sb = c .before in
+    let so = sb .before in
+    let lp = so .before .before in
+    let row = lp .before .before .before .before .pre in
     rw (c .union .ensures .1)
-    (gathered-next _ _ _ _ _ _ _ (lp .before .loop .inv) (right-cons (st .pre .0) _ (st .pre .1) _ (lp .loop-test .taken)) (sy .symbol-bit .ensures))
+    (gathered-next _ _ _ _ _ _ _ (lp .before .loop .inv) (right-cons (row .image) _ (row .listed) _ (inside lp)) (rw (so .symbol-of .ensures) at (sb .symbol-bit .ensures)))
 
 returns : tie.Need-returns Inv-loop μ-loop
 returns c =
-    let st = c .before .before .before in
-    gathered-end _ _ _ _ (c .before .loop .inv) (right-end (st .pre .0) _ (st .pre .1) _ (c .loop-test .left))
+    let at = c .before in
+    let row = at .before .before .before .pre in
+    gathered-end _ _ _ _ (at .loop .inv) (right-end (row .image) _ (row .listed) (at .loop .i) (omega (arith, at .before .size-of .ensures .0)))
 
 pub right-set-spec : {M : Type 1} → statement M
 right-set-spec =
@@ -71,14 +69,9 @@ right-set-spec =
     (tie.spec
     Inv-loop
     μ-loop
-    mul-at
-    add-n
-    element-copy-out-n
-    cast-n
+    size-of-requires
     loop-holds
-    add-symbol-bit
-    add-symbol-bit-2
-    element-copy-out-symbol-bit
+    symbol-of-requires
     symbol-bit-requires
     union-requires
     add-i

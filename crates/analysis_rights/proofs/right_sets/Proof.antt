@@ -16,7 +16,7 @@ loop-holds : tie.Need-loop-holds Inv-loop μ-loop
 loop-holds c = (omega arith, sets-none _ _ (c .pre .1))
 
 right-set-requires : tie.Need-right-set-requires Inv-loop μ-loop
-right-set-requires c κs = (c .before .before .pre .0, c .loop-test .taken)
+right-set-requires c κs = record { count = _; image = c .before .before .pre .0; listed = c .loop-test .taken }
 
 mul-sets : tie.Need-mul-sets Inv-loop μ-loop
 mul-sets c = omega arith

@@ -1,6 +1,8 @@
 use Prim.Native.Nat.{_≤_, _-_}
 use native.Mathlib.Omega.{arith}
+use borrow.Author.Needs.{needs}
 use mathlib.Core.Path.{_≡_}
+use Rattle.outline.specs.Rows.{row-inside}
 use Rattle.analysis.specs.Views.{members}
 use Rattle.analysis.specs.Growth.{SetsTo, sets-none, sets-next}
 use Rattle.analysis.specs.Starts.{startsBy}
@@ -16,29 +18,28 @@ abbrev μ-loop : tie.MeasureT-loop
 loop-holds : tie.Need-loop-holds Inv-loop μ-loop
 loop-holds c = (omega arith, sets-none _ _ (c .pre .1))
 
-mul-left : tie.Need-mul-left Inv-loop μ-loop
-mul-left c = omega arith
-
-element-copy-out-left : tie.Need-element-copy-out-left Inv-loop μ-loop
-element-copy-out-left c = omega arith
+left-of-requires : tie.Need-left-of-requires Inv-loop μ-loop
+left-of-requires c κs = let lp = c .before in row-inside (lp .before .before .pre .0) _ (lp .loop-test .taken)
 
 cast-left : tie.Need-cast-left Inv-loop μ-loop
-cast-left c = let lp = c .before in omega (arith, lp .before .before .pre .0 .lefts _ (lp .loop-test .taken))
+cast-left c = search needs
 
 mul-after : tie.Need-mul-after Inv-loop μ-loop
-mul-after c = let lp = c .before in omega (arith, lp .before .before .pre .0 .lefts _ (lp .loop-test .taken))
+mul-after c = let lp = c .before .before in omega (arith, c .left-of .ensures, lp .before .before .pre .0 .lefts _ (lp .loop-test .taken))
 
 element-copy-out-after : tie.Need-element-copy-out-after Inv-loop μ-loop
-element-copy-out-after c = let lp = c .before in omega (arith, lp .before .before .pre .0 .lefts _ (lp .loop-test .taken))
+element-copy-out-after c = let lp = c .before .before in omega (arith, c .left-of .ensures, lp .before .before .pre .0 .lefts _ (lp .loop-test .taken))
 
 begins-requires : tie.Need-begins-requires Inv-loop μ-loop
-begins-requires c κs = let lp = c .before .before in (lp .before .before .pre .0, lp .loop-test .taken)
+begins-requires c κs =
+    let lp = c .before .before .before in
+    record { count = _; image = lp .before .before .pre .0; listed = lp .loop-test .taken }
 
 mul-sets : tie.Need-mul-sets Inv-loop μ-loop
 mul-sets c = omega arith
 
 element-write-sets : tie.Need-element-write-sets Inv-loop μ-loop
-element-write-sets c = omega (arith, c .before .before .before .before .loop .inv .1 .size, c .before .before .before .before .before .pre .0 .few)
+element-write-sets c = omega (arith, c .before .before .before .before .before .loop .inv .1 .size, c .before .before .before .before .before .before .pre .0 .few)
 
 add-k : tie.Need-add-k Inv-loop μ-loop
 add-k c = omega arith
@@ -48,9 +49,10 @@ loop-less c = omega arith
 
 loop-again : tie.Need-loop-again Inv-loop μ-loop
 loop-again c =
-    let lp = c .before .before .before in
+    let lf = c .before .before in
+    let lp = lf .before .before in
     let st = lp .before .before in
-    (omega arith, sets-next _ _ _ _ (omega (arith, st .pre .0 .few)) (lp .before .loop .inv .1) (c .begins .ensures))
+    (omega arith, sets-next _ _ _ _ (omega (arith, st .pre .0 .few)) (lp .before .loop .inv .1) (rw (lf .left-of .ensures) at (c .begins .ensures)))
 
 returns : tie.Need-returns Inv-loop μ-loop
 returns c = let e : c .before .loop .k ≡ c .before .before .args .count = omega arith in rw e at (c .before .loop .inv .1)
@@ -62,8 +64,7 @@ all-starts-spec =
     Inv-loop
     μ-loop
     loop-holds
-    mul-left
-    element-copy-out-left
+    left-of-requires
     cast-left
     mul-after
     element-copy-out-after

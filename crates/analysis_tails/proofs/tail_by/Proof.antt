@@ -1,81 +1,126 @@
-use Prim.Native.Nat.{ℕ, _≤_, _-_}
+use Prim.Native.Nat.{ℕ, _≤_, _<_, _-_}
 use native.Mathlib.Omega.{arith}
 use borrow.Author.Needs.{needs}
-use mathlib.Core.Path.{_≡_, refl, _∙_}
-use mathlib.Core.Bool.{Bool}
-use lib.ListN.{length}
-use Rattle.analysis.specs.Follows.{EdgesTo, EdgeTo, Filled, Tail, filled-none, filled-then, filled-map, edge-step, edge-more, edge-done}
+use borrow.Author.Tests.{not-true, not-false}
+use mathlib.Core.Path.{_≡_, refl, sym, ap, _∙_}
+use mathlib.Core.Bool.{false}
+use lib.Dec.{T}
+use lib.ListN.{length, drop}
+use Rattle.meaning.specs.Base.{all}
+use Rattle.meaning.specs.Sets.{singleton}
+use Rattle.outline.specs.Rows.{Image, sizeAt, rightAt, row-inside, symbol-inside}
+use Rattle.analysis.specs.Views.{members, fit, next-small}
+use Rattle.analysis.specs.Tables.{Got, got-none}
+use Rattle.analysis.specs.Follows.{EdgesTo, EdgeFrom, Filled, filled-none, filled-map, tail-start, tail-next, tail-stop, edge-end, edge-step, edge-stop, edge-token}
 use Rattle.analysis_tails.proofs.tail_by.Statement.{statement}
 use Rattle.analysis_tails.proofs.tail_by.Tie as tie
 
 abbrev Inv-loop : tie.InvT-loop
-Inv-loop rows count k edges₀ at left n i₀ edges i = (i₀ ≤ i) × (length edges ≡ length edges₀) × ((gone : ℕ → Bool) → Tail gone rows k i₀ → Filled (EdgesTo gone rows count) (EdgeTo rows k i₀ i) edges₀ edges)
+Inv-loop rows k null edges₀ left done₀ i₀ edges done i =
+    (i ≤ sizeAt rows k) × (length edges ≡ length edges₀) × T (all (fit false (members (null .0))) (drop i (rightAt rows k))) × Got (done .0) (left .0) edges
+    × ((count : ℕ) → Image rows count → k < count → Filled (EdgesTo (members (null .0)) rows count) (EdgeFrom (members (null .0)) rows k i) edges₀ edges)
 
 abbrev μ-loop : tie.MeasureT-loop
-μ-loop rows count k edges₀ at left n i₀ edges i = n - i
+μ-loop rows k null edges₀ left done₀ i₀ edges done i = i
 
-abbrev start : (c : tie.In-loop Inv-loop μ-loop) → tie.Start Inv-loop μ-loop
+abbrev start : (c : tie.At-loop Inv-loop μ-loop) → tie.Start Inv-loop μ-loop
 start c = c .before .before .before .before .before .before
 
-mul-at : tie.Need-mul-at Inv-loop μ-loop
-mul-at c = omega arith
+-- in a turn there is such a symbol
+inside : (c : tie.In-loop Inv-loop μ-loop) → c .before .loop .i - 1 < sizeAt (start (c .before) .args .rows .now) (start (c .before) .args .k)
+inside c = omega (arith, c .before .loop .inv .0, c .loop-test .taken)
 
-element-copy-out-of-nonterminal : tie.Need-element-copy-out-of-nonterminal Inv-loop μ-loop
-element-copy-out-of-nonterminal c = omega arith
+-- and it is one
+symbol : (c : tie.After-symbol-of Inv-loop μ-loop) → c .symbol-of .result < 176
+symbol c = let lp = c .before .before in next-small (start (lp .before) .pre .0) _ _ (inside lp) (c .symbol-of .ensures)
+
+left-of-requires : tie.Need-left-of-requires Inv-loop μ-loop
+left-of-requires c κs = let row = c .before .pre .0 in row-inside (row .image) _ (row .listed)
 
 of-nonterminal-requires : tie.Need-of-nonterminal-requires Inv-loop μ-loop
 of-nonterminal-requires c κs = search needs
 
-add-n : tie.Need-add-n Inv-loop μ-loop
-add-n c = omega arith
-
-element-copy-out-n : tie.Need-element-copy-out-n Inv-loop μ-loop
-element-copy-out-n c = omega arith
-
-cast-n : tie.Need-cast-n Inv-loop μ-loop
-cast-n c = let st = c .before .before .before in omega (arith, st .pre .0 .sizes _ (st .pre .1))
-
-tail-requires : tie.Need-tail-requires Inv-loop μ-loop
-tail-requires c κs = let st = c .before .before .before in (st .pre .0, st .pre .1)
+size-of-requires : tie.Need-size-of-requires Inv-loop μ-loop
+size-of-requires c κs = let row = c .before .before .before .before .pre .0 in row-inside (row .image) _ (row .listed)
 
 loop-holds : tie.Need-loop-holds Inv-loop μ-loop
-loop-holds c = (omega arith, refl, λ gone tl. filled-none _ (λ b. record { at = λ j n xs l h. absurd (omega arith) }))
+loop-holds c =
+    let row = c .before .before .before .before .before .pre .0 in
+    rw (c .size-of .ensures .0)
+    (omega arith, refl, tail-start _ (row .image) _ (row .listed), got-none _ _, λ count image lt. filled-none _ (λ b. edge-end _ image _ lt b _))
 
-add-mark : tie.Need-add-mark Inv-loop μ-loop
-add-mark c = omega arith
+sub-i : tie.Need-sub-i Inv-loop μ-loop
+sub-i c = omega arith
 
-add-mark-2 : tie.Need-add-mark-2 Inv-loop μ-loop
-add-mark-2 c = let st = start (c .before) in omega (arith, st .pre .0 .sizes _ (st .pre .1))
+symbol-of-requires : tie.Need-symbol-of-requires Inv-loop μ-loop
+symbol-of-requires c κs =
+    let lp = c .before in
+    let row = start (lp .before) .pre .0 in
+    symbol-inside (row .image) _ _ (row .listed) (inside lp)
 
-element-copy-out-mark : tie.Need-element-copy-out-mark Inv-loop μ-loop
-element-copy-out-mark c = let st = start (c .before) in omega (arith, st .pre .0 .few, st .pre .0 .sizes _ (st .pre .1))
+returns : tie.Need-returns Inv-loop μ-loop
+returns c =
+    let so = c .before in
+    let lp = so .before .before in
+    let iv = lp .before .loop .inv in
+    λ count image lt. filled-map _ _ (iv .4 count image lt) (λ b f. edge-token _ image _ lt _ (lp .loop-test .taken) (iv .0) (rw (so .symbol-of .ensures) at (c .if1 .taken)) b _ f)
 
-mark-requires : tie.Need-mark-requires Inv-loop μ-loop
-mark-requires c κs =
-    let lp = c .before .before in
-    let st = start lp in
-    (st .pre .0 .symbols _ _ (st .pre .1) (lp .loop-test .taken), lp .before .loop .inv .1 ∙ st .pre .2)
+add-once-requires : tie.Need-add-once-requires Inv-loop μ-loop
+add-once-requires c κs =
+    let so = c .before .before in
+    let at = so .before .before .before in
+    (omega (arith, symbol so), at .loop .inv .1 ∙ start at .pre .1, at .loop .inv .3)
 
-add-i : tie.Need-add-i Inv-loop μ-loop
-add-i c = let st = start (c .before .before .before) in omega (arith, st .pre .0 .sizes _ (st .pre .1))
+has-requires : tie.Need-has-requires Inv-loop μ-loop
+has-requires c κs = omega (arith, symbol (c .before .before .before))
+
+returns-2 : tie.Need-returns-2 Inv-loop μ-loop
+returns-2 c =
+    let ha = c .before in
+    let ao = ha .before in
+    let el = ao .before .before in
+    let so = el .before in
+    let lp = so .before .before in
+    let iv = lp .before .loop .inv in
+    let more = lp .loop-test .taken in
+    let on = lp .before .before .before .before in
+    let one = on .of-nonterminal .ensures ∙ ap singleton (on .before .left-of .ensures) in
+    let e = so .symbol-of .ensures in
+    let high = rw e at (el .if1 .left) in
+    let stays = rw e at (sym (ha .has .ensures) ∙ not-true _ (c .if2 .taken)) in
+    λ count image lt. filled-map _ _ (edge-step _ image _ lt _ more (iv .0) high (iv .2) _ one _ _ _ (iv .4 count image lt) (rw e at (ao .add-once .ensures .0)))
+    (λ b f. edge-stop _ image _ lt _ more (iv .0) (tail-stop _ image _ lt _ more (iv .0) high stays) b _ f)
 
 loop-less : tie.Need-loop-less Inv-loop μ-loop
 loop-less c = omega arith
 
 loop-again : tie.Need-loop-again Inv-loop μ-loop
 loop-again c =
-    let lp = c .before .before .before in
-    let st = start lp in
-    let one = lp .before .before .before .before .of-nonterminal .ensures in
+    let ha = c .before in
+    let ao = ha .before in
+    let el = ao .before .before in
+    let so = el .before in
+    let lp = so .before .before in
     let iv = lp .before .loop .inv in
     let more = lp .loop-test .taken in
-    (omega arith, c .mark .ensures .size ∙ iv .1, λ gone tl. filled-then _ _ _ (iv .2 gone tl) (edge-step _ (st .pre .0) _ (st .pre .1) _ tl _ one _ _ _ (iv .0) more (c .mark .ensures)) (λ b sub f g. edge-more _ (st .pre .0) _ (st .pre .1) _ tl _ one _ b _ _ more sub f g))
+    let row = start (lp .before) .pre .0 in
+    let on = lp .before .before .before .before in
+    let one = on .of-nonterminal .ensures ∙ ap singleton (on .before .left-of .ensures) in
+    let e = so .symbol-of .ensures in
+    let high = rw e at (el .if1 .left) in
+    let goes = rw e at (sym (ha .has .ensures) ∙ not-false _ (c .if2 .left)) in (
+      omega (arith, iv .0),
+      ao .add-once .ensures .0 .size ∙ iv .1,
+      tail-next _ (row .image) _ (row .listed) _ more (iv .0) high goes (iv .2),
+      ao .add-once .ensures .1,
+      λ count image lt. edge-step _ image _ lt _ more (iv .0) high (iv .2) _ one _ _ _ (iv .4 count image lt) (rw e at (ao .add-once .ensures .0)),
+    )
 
-returns : tie.Need-returns Inv-loop μ-loop
-returns c =
+returns-3 : tie.Need-returns-3 Inv-loop μ-loop
+returns-3 c =
     let at = c .before in
-    let st = at .before .before .before .before .before in
-    filled-map _ _ (at .loop .inv .2 _ (at .before .tail .ensures)) (λ b f. edge-done _ (st .pre .0) _ (st .pre .1) _ (at .before .tail .ensures) _ (at .before .before .before .of-nonterminal .ensures) _ b _ (c .loop-test .left) f)
+    let e : at .loop .i ≡ 0 = omega arith in
+    λ count image lt. rw e at (at .loop .inv .4 count image lt)
 
 pub tail-by-spec : {M : Type 1} → statement M
 tail-by-spec =
@@ -83,19 +128,16 @@ tail-by-spec =
     (tie.spec
     Inv-loop
     μ-loop
-    mul-at
-    element-copy-out-of-nonterminal
+    left-of-requires
     of-nonterminal-requires
-    add-n
-    element-copy-out-n
-    cast-n
-    tail-requires
+    size-of-requires
     loop-holds
-    add-mark
-    add-mark-2
-    element-copy-out-mark
-    mark-requires
-    add-i
+    sub-i
+    symbol-of-requires
+    returns
+    add-once-requires
+    has-requires
+    returns-2
     loop-less
     loop-again
-    returns)
+    returns-3)

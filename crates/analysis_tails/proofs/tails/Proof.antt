@@ -1,8 +1,7 @@
 use Prim.Native.Nat.{_≤_, _-_}
 use native.Mathlib.Nat.{not-suc-le-zero}
 use native.Mathlib.Omega.{arith}
-use borrow.Author.Needs.{needs}
-use mathlib.Core.Path.{_≡_}
+use mathlib.Core.Path.{_≡_, _∙_}
 use Rattle.analysis.specs.Views.{members}
 use Rattle.analysis.specs.Follows.{EdgesTo, Filled, filled-none, filled-then, edges-more}
 use Rattle.analysis_tails.proofs.tails.Statement.{statement}
@@ -18,7 +17,10 @@ loop-holds : tie.Need-loop-holds Inv-loop μ-loop
 loop-holds c = (omega arith, filled-none _ (λ u. record { edge = λ p l. absurd (not-suc-le-zero l) }))
 
 tail-by-requires : tie.Need-tail-by-requires Inv-loop μ-loop
-tail-by-requires c κs = search needs
+tail-by-requires c κs =
+    let lp = c .before in
+    let at = lp .before in
+    (record { count = _; image = at .before .pre .0; listed = lp .loop-test .taken }, at .loop .inv .1 .size ∙ at .before .pre .1)
 
 add-k : tie.Need-add-k Inv-loop μ-loop
 add-k c = omega arith
@@ -29,7 +31,7 @@ loop-less c = omega arith
 loop-again : tie.Need-loop-again Inv-loop μ-loop
 loop-again c =
     let at = c .before .before .before in
-    (omega arith, filled-then _ _ _ (at .loop .inv .1) (c .tail-by .ensures) (λ u. edges-more _ _ _ u _ _))
+    (omega arith, filled-then _ _ _ (at .loop .inv .1) (c .tail-by .ensures _ (at .before .pre .0) (c .before .before .loop-test .taken)) (λ u. edges-more _ _ _ u _ _))
 
 returns : tie.Need-returns Inv-loop μ-loop
 returns c = let e : c .before .loop .k ≡ c .before .before .args .count = omega arith in rw e at (c .before .loop .inv .1)

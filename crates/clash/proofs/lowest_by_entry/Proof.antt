@@ -4,7 +4,7 @@ use borrow.Author.Needs.{needs}
 use mathlib.Core.Path.{_≡_, refl}
 use mathlib.Core.Bool.{true}
 use Rattle.meaning.specs.Decide.{clashes}
-use Rattle.outline.specs.Rows.{leftAt, image-of}
+use Rattle.outline.specs.Rows.{leftAt, image-of, row-inside}
 use Rattle.analysis.specs.Numbers.{Clear, clear-none, clear-more, found-here, found-none}
 use Rattle.clash_rivals.specs.Rivals.{startTogether, rival, rival-starts}
 use Rattle.outline.specs.Outline.{grammarIn}
@@ -14,10 +14,10 @@ use Rattle.clash.proofs.lowest_by_entry.Statement.{statement}
 use Rattle.clash.proofs.lowest_by_entry.Tie as tie
 
 abbrev Inv-loop : tie.InvT-loop
-Inv-loop table rows offsets sets count met lows highs ranks seen later left at wanted had earlier₀ earlier = (earlier ≤ later) × Clear (clashIn table later) earlier × (earlier < later → rival rows sets lows highs ranks later earlier ≡ true)
+Inv-loop table rows offsets sets count met lows highs ranks seen later left at on had earlier₀ earlier = (earlier ≤ later) × Clear (clashIn table later) earlier × (earlier < later → rival rows sets lows highs ranks later earlier ≡ true)
 
 abbrev μ-loop : tie.MeasureT-loop
-μ-loop table rows offsets sets count met lows highs ranks seen later left at wanted had earlier₀ earlier = later - earlier
+μ-loop table rows offsets sets count met lows highs ranks seen later left at on had earlier₀ earlier = later - earlier
 
 abbrev Inv-pairs : tie.InvT-pairs
 Inv-pairs table rows offsets sets count met lows₀ highs₀ ranks₀ seen₀ later₀ lows highs ranks seen later = (later ≤ count) × Seen rows sets later seen × Clear (clashes (grammarIn table)) later × KeptTo table rows (met .0) lows highs ranks later
@@ -31,11 +31,18 @@ start c = c .before .before
 abbrev kept-at : tie.At-loop Inv-loop μ-loop Inv-pairs μ-pairs → tie.After-keep Inv-loop μ-loop Inv-pairs μ-pairs
 kept-at c = c .before .before .before .before .before
 
+-- where the left side is read, and the turn
+abbrev left-at : tie.After-keep Inv-loop μ-loop Inv-pairs μ-pairs → tie.After-left-of Inv-loop μ-loop Inv-pairs μ-pairs
+left-at c = c .before .before .before .before .before
+
+abbrev turn : tie.After-keep Inv-loop μ-loop Inv-pairs μ-pairs → tie.In-pairs Inv-loop μ-loop Inv-pairs μ-pairs
+turn c = left-at c .before .before
+
 abbrev in-pairs : tie.In-loop Inv-loop μ-loop Inv-pairs μ-pairs → tie.In-pairs Inv-loop μ-loop Inv-pairs μ-pairs
-in-pairs c = kept-at (c .before) .before .before .before .before .before .before
+in-pairs c = turn (kept-at (c .before))
 
 -- after the inner loop
-full : (c : tie.After-loop Inv-loop μ-loop Inv-pairs μ-pairs) → c .before .loop .earlier ≡ kept-at (c .before) .before .before .before .before .before .before .before .pairs .later
+full : (c : tie.After-loop Inv-loop μ-loop Inv-pairs μ-pairs) → c .before .loop .earlier ≡ turn (kept-at (c .before)) .before .pairs .later
 full c = omega arith
 
 -- the left side is a nonterminal
@@ -48,16 +55,16 @@ few c = image-of (start (c .before) .pre .0 .productions .rowsOf) .few
 -- what is kept with the later production
 keeping :
     (c : tie.After-keep Inv-loop μ-loop Inv-pairs μ-pairs)
-    → let pr = c .before .before .before .before .before .before in
+    → let pr = turn c in
     let st = start (pr .before) in
     let x = c .keep .last .1 .1 .1 .1 in
     KeptTo (st .args .table .now) (st .args .rows .now) (st .args .met .0) (x .0) (x .1 .0) (x .1 .1 .0) (pr .before .pairs .later + 1)
 keeping c =
     let h = c .before .before .before .before in
-    let pr = h .before .before in
+    let pr = turn c in
     let n = few pr in
     let l = pr .pairs-test .taken in
-    kept-next (omega arith) (pr .before .pairs .inv .3) _ (h .has .ensures) (c .keep .ensures)
+    kept-next (omega arith) (pr .before .pairs .inv .3) _ (rw (left-at c .left-of .ensures) at (h .has .ensures)) (c .keep .ensures)
 
 -- the earlier production is one of the table
 listed : (c : tie.In-loop Inv-loop μ-loop Inv-pairs μ-pairs) → c .before .loop .earlier < start (in-pairs c .before) .args .count
@@ -74,43 +81,42 @@ rivalling c = rival-starts _ _ _ _ _ _ _ (c .before .loop .inv .2 (c .loop-test 
 pairs-holds : tie.Need-pairs-holds Inv-loop μ-loop Inv-pairs μ-pairs
 pairs-holds c = (omega arith, seen-none _ _, clear-none _, kept-none)
 
-mul-left : tie.Need-mul-left Inv-loop μ-loop Inv-pairs μ-pairs
-mul-left c = omega (arith, few c)
-
-element-copy-out-left : tie.Need-element-copy-out-left Inv-loop μ-loop Inv-pairs μ-pairs
-element-copy-out-left c = omega (arith, few c)
+left-of-requires : tie.Need-left-of-requires Inv-loop μ-loop Inv-pairs μ-pairs
+left-of-requires c κs =
+    let pr = c .before in
+    row-inside (image-of (start (pr .before) .pre .0 .productions .rowsOf)) _ (pr .pairs-test .taken)
 
 cast-at : tie.Need-cast-at Inv-loop μ-loop Inv-pairs μ-pairs
-cast-at c = omega (arith, below (c .before))
+cast-at c = search needs
 
 has-requires : tie.Need-has-requires Inv-loop μ-loop Inv-pairs μ-pairs
-has-requires c κs = search needs
+has-requires c κs = omega (arith, c .left-of .ensures, below (c .before .before))
 
 keep-requires : tie.Need-keep-requires Inv-loop μ-loop Inv-pairs μ-pairs
 keep-requires c κs =
-    let pr = c .before .before .before .before .before in
+    let pr = c .before .before .before .before .before .before in
     let k = pr .before .pairs .inv .3 in
     let n = few pr in
     let l = pr .pairs-test .taken in
     (omega arith, given-place (start (pr .before) .pre .0) _ l, k .lows-all, k .highs-all)
 
 mul-had : tie.Need-mul-had Inv-loop μ-loop Inv-pairs μ-pairs
-mul-had c = omega (arith, below (c .before .before .before .before .before .before))
+mul-had c = omega (arith, left-at c .left-of .ensures, below (turn c))
 
 array-read-had : tie.Need-array-read-had Inv-loop μ-loop Inv-pairs μ-pairs
-array-read-had c = omega (arith, below (c .before .before .before .before .before .before))
+array-read-had c = omega (arith, left-at c .left-of .ensures, below (turn c))
 
 first-rival-requires : tie.Need-first-rival-requires Inv-loop μ-loop Inv-pairs μ-pairs
 first-rival-requires c κs =
-    let pr = c .before .before .before .before .before .before .before .before .before in
+    let pr = turn (c .before .before .before) in
     omega (arith, few pr, pr .pairs-test .taken)
 
 loop-holds : tie.Need-loop-holds Inv-loop μ-loop Inv-pairs μ-pairs
 loop-holds c =
     let kp = c .before .before .before .before in
-    let pr = kp .before .before .before .before .before .before in
+    let pr = turn kp in
     let pre = start (pr .before) .pre in
-    first-known (pre .0) (pre .1) _ (keeping kp) (pr .pairs-test .taken) _ (pr .before .pairs .inv .1) _ (c .first-rival .ensures)
+    first-known (pre .0) (pre .1) _ (keeping kp) (pr .pairs-test .taken) _ (pr .before .pairs .inv .1) _ (rw (left-at kp .left-of .ensures) at (c .first-rival .ensures))
 
 enters-together-requires : tie.Need-enters-together-requires Inv-loop μ-loop Inv-pairs μ-pairs
 enters-together-requires c κs =
@@ -152,7 +158,7 @@ loop-again c =
 
 -- the turn that the inner loop stands in
 abbrev paired : (c : tie.After-loop Inv-loop μ-loop Inv-pairs μ-pairs) → tie.In-pairs Inv-loop μ-loop Inv-pairs μ-pairs
-paired c = kept-at (c .before) .before .before .before .before .before .before
+paired c = turn (kept-at (c .before))
 
 mul-set : tie.Need-mul-set Inv-loop μ-loop Inv-pairs μ-pairs
 mul-set c = omega (arith, few (paired c))
@@ -164,10 +170,10 @@ union-requires : tie.Need-union-requires Inv-loop μ-loop Inv-pairs μ-pairs
 union-requires c κs = search needs
 
 mul-seen : tie.Need-mul-seen Inv-loop μ-loop Inv-pairs μ-pairs
-mul-seen c = omega (arith, below (paired (c .before .before)))
+mul-seen c = let kp = kept-at (c .before .before .before) in omega (arith, left-at kp .left-of .ensures, below (turn kp))
 
 array-write-seen : tie.Need-array-write-seen Inv-loop μ-loop Inv-pairs μ-pairs
-array-write-seen c = omega (arith, below (paired (c .before .before)))
+array-write-seen c = let kp = kept-at (c .before .before .before) in omega (arith, left-at kp .left-of .ensures, below (turn kp))
 
 add-later : tie.Need-add-later Inv-loop μ-loop Inv-pairs μ-pairs
 add-later c = omega (arith, few (paired (c .before .before)))
@@ -179,9 +185,9 @@ pairs-again : tie.Need-pairs-again Inv-loop μ-loop Inv-pairs μ-pairs
 pairs-again c =
     let en = c .before .before in
     let kp = kept-at (en .before) in
-    let pr = kp .before .before .before .before .before .before in
+    let pr = turn kp in
     let inv = pr .before .pairs .inv in
-    (omega arith, rw (c .union .ensures .1) (seen-next _ _ _ _ (below pr) (inv .1)), clear-more _ _ (inv .2) (clashes-none _ _ (rw (full en) at (en .before .loop .inv .1))), keeping kp)
+    (omega arith, rw (c .union .ensures .1, left-at kp .left-of .ensures) (seen-next _ _ _ _ (below pr) (inv .1)), clear-more _ _ (inv .2) (clashes-none _ _ (rw (full en) at (en .before .loop .inv .1))), keeping kp)
 
 returns : tie.Need-returns Inv-loop μ-loop Inv-pairs μ-pairs
 returns c = found-none _ _ _ (omega arith) (c .before .pairs .inv .2)
@@ -203,8 +209,7 @@ lowest-by-entry-spec =
     Inv-pairs
     μ-pairs
     pairs-holds
-    mul-left
-    element-copy-out-left
+    left-of-requires
     cast-at
     has-requires
     keep-requires

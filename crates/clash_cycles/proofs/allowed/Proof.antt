@@ -4,8 +4,9 @@ use borrow.Author.Needs.{needs, sfits-of}
 use denote.Ref.{now}
 use lib.IntN.{natAbs, _+ℤ_}
 use Rattle.meaning.specs.Differences.{at}
-use Rattle.theory_differences.specs.Order.{natAbs-add}
-use Rattle.clash_differences.proofs.Laws.{small-fits, fits2, through2}
+use Rattle.theory_base.specs.Absolute.{natAbs-add}
+use Rattle.value.specs.Overflow.{fits64}
+use Rattle.value.proofs.Bits.{fits2, through2}
 use Rattle.clash_cycles.specs.Values.{nodeValue}
 use Rattle.clash_cycles.proofs.allowed.Statement.{statement}
 use Rattle.clash_cycles.proofs.allowed.Tie as tie
@@ -37,12 +38,12 @@ shared-slice-copy-out-y c = search needs
 add-result : tie.Need-add-result
 add-result c =
     let s = c .before .before in
-    fits2 _+ℤ_ (nodeValue (now (s .args .v)) (s .args .j)) (at (now (s .args .m)) (s .args .k) (s .args .j)) (sfits-of (c .before .x .given)) (sfits-of (c .y .given)) (small-fits _ (omega (arith, size s)))
+    fits2 _+ℤ_ (nodeValue (now (s .args .v)) (s .args .j)) (at (now (s .args .m)) (s .args .k) (s .args .j)) (sfits-of (c .before .x .given)) (sfits-of (c .y .given)) (fits64 _ (omega (arith, size s)))
 
 returns : tie.Need-returns
 returns c =
     let s = c .before .before in
-    let e = through2 _+ℤ_ (nodeValue (now (s .args .v)) (s .args .j)) (at (now (s .args .m)) (s .args .k) (s .args .j)) (sfits-of (c .before .x .given)) (sfits-of (c .y .given)) (small-fits _ (omega (arith, size s))) in
+    let e = through2 _+ℤ_ (nodeValue (now (s .args .v)) (s .args .j)) (at (now (s .args .m)) (s .args .k) (s .args .j)) (sfits-of (c .before .x .given)) (sfits-of (c .y .given)) (fits64 _ (omega (arith, size s))) in
     (e, rw e (size s))
 
 pub allowed-spec : {M : Type 1} → statement M

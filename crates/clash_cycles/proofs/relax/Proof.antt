@@ -6,8 +6,9 @@ use lib.IntN.{ℤ, _+ℤ_}
 use mir.Syntax.{w64}
 use mir.Val.{SFits}
 use Rattle.meaning.specs.Differences.{at, lowered}
-use Rattle.theory_differences.specs.Order.{natAbs-add}
-use Rattle.clash_differences.proofs.Laws.{small-fits, fits2, through2}
+use Rattle.theory_base.specs.Absolute.{natAbs-add}
+use Rattle.value.specs.Overflow.{fits64}
+use Rattle.value.proofs.Bits.{fits2, through2}
 use Rattle.clash_cycles.proofs.relax.Statement.{statement}
 use Rattle.clash_cycles.proofs.relax.Tie as tie
 
@@ -16,7 +17,7 @@ sum-fits s =
     let l = now (s .args .m) in
     let x = at l (s .args .i) (s .args .k) in
     let y = at l (s .args .k) (s .args .j) in
-    small-fits (x +ℤ y) (omega (arith, natAbs-add x y, s .pre .4 (s .args .i) (s .args .k) (s .pre .2) (s .pre .1), s .pre .4 (s .args .k) (s .args .j) (s .pre .1) (s .pre .3)))
+    fits64 (x +ℤ y) (omega (arith, natAbs-add x y, s .pre .4 (s .args .i) (s .args .k) (s .pre .2) (s .pre .1), s .pre .4 (s .args .k) (s .args .j) (s .pre .1) (s .pre .3)))
 
 mul-x : tie.Need-mul-x
 mul-x c = search needs

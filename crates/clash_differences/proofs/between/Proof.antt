@@ -11,15 +11,17 @@ use mir.Val.{SFits, toZ, ofZ}
 use Rattle.meaning.specs.Differences.{lowered}
 use Rattle.theory_differences.specs.Decided.{limit}
 use Rattle.theory_differences.specs.Building.{lowered-size}
-use Rattle.clash_differences.proofs.Laws.{small-fits, natAbs-neg, lowered-small}
+use Rattle.clash_differences.proofs.Laws.{lowered-small}
+use Rattle.theory_base.specs.Absolute.{natAbs-neg}
+use Rattle.value.specs.Overflow.{fits64}
 use Rattle.clash_differences.proofs.between.Statement.{statement}
 use Rattle.clash_differences.proofs.between.Tie as tie
 
 minus : (z : ℤ) → SFits w64 z → natAbs z ≤ limit → toZ w64 (ofZ w64 (pos 0 -ℤ toZ w64 (ofZ w64 z))) ≡ negℤ z
-minus z f h = rw (toZ-ofZ f, +ℤ-idl (negℤ z)) (toZ-ofZ (small-fits (negℤ z) (omega (arith, natAbs-neg z))))
+minus z f h = rw (toZ-ofZ f, +ℤ-idl (negℤ z)) (toZ-ofZ (fits64 (negℤ z) (omega (arith, natAbs-neg z))))
 
 minus-fits : (z : ℤ) → SFits w64 z → natAbs z ≤ limit → SFits w64 (pos 0 -ℤ toZ w64 (ofZ w64 z))
-minus-fits z f h = rw (toZ-ofZ f, +ℤ-idl (negℤ z)) (small-fits (negℤ z) (omega (arith, natAbs-neg z)))
+minus-fits z f h = rw (toZ-ofZ f, +ℤ-idl (negℤ z)) (fits64 (negℤ z) (omega (arith, natAbs-neg z)))
 
 tighten-requires : tie.Need-tighten-requires
 tighten-requires c κs = search needs

@@ -7,13 +7,15 @@ use lib.ListN.{length, length-set}
 use mir.Syntax.{w64}
 use mir.Val.{SFits, toZ, ofZ}
 use Rattle.meaning.specs.Differences.{at, bound}
-use Rattle.theory_differences.specs.Order.{natAbs-add}
-use Rattle.clash_differences.proofs.Laws.{small-fits, fits2, through2, Filled, filled-more, filled-matrix}
+use Rattle.theory_base.specs.Absolute.{natAbs-add}
+use Rattle.clash_differences.proofs.Laws.{Filled, filled-more, filled-matrix}
+use Rattle.value.specs.Overflow.{fits64}
+use Rattle.value.proofs.Bits.{fits2, through2}
 use Rattle.clash_differences.proofs.start.Statement.{statement}
 use Rattle.clash_differences.proofs.start.Tie as tie
 
 sum-fits : (x y : ℤ) → natAbs x ≤ 1000000000000 → natAbs y ≤ 1000000000000 → SFits w64 (x +ℤ y)
-sum-fits x y p q = small-fits (x +ℤ y) (omega (arith, natAbs-add x y))
+sum-fits x y p q = fits64 (x +ℤ y) (omega (arith, natAbs-add x y))
 
 abbrev Inv-loop : tie.InvT-loop
 Inv-loop n m₀ t₀ m t = (t ≤ 81) × (length m ≡ 81) × Filled n t m
@@ -52,7 +54,8 @@ loop-again c =
     let x = c .before .bound .result in
     let y = c .bound2 .result in
     let e : toZ w64 (ofZ w64 (toZ w64 (ofZ w64 x) +ℤ toZ w64 (ofZ w64 y))) ≡ x +ℤ y = through2 _+ℤ_ x y (sfits-of (c .before .bound .ok)) (sfits-of (c .bound2 .ok)) (sum-fits x y (c .before .bound .ensures .1) (c .bound2 .ensures .1)) in
-    rw e (omega arith, length-set (o .m) (o .t) (x +ℤ y) ∙ o .inv .1, filled-more (s .args .n) (o .t) (o .m) (x +ℤ y) (o .inv .1) (omega arith) (o .inv .2) (ap₂ _+ℤ_ (c .before .bound .ensures .0) (c .bound2 .ensures .0)) (omega (arith, natAbs-add x y, c .before .bound .ensures .1, c .bound2 .ensures .1)))
+    let sum = ap₂ _+ℤ_ (c .before .bound .ensures .0) (c .bound2 .ensures .0) in
+    rw e (omega arith, length-set (o .m) (o .t) (x +ℤ y) ∙ o .inv .1, filled-more (s .args .n) (o .t) (o .m) (x +ℤ y) (o .inv .1) (omega arith) (o .inv .2) sum (omega (arith, natAbs-add x y, c .before .bound .ensures .1, c .bound2 .ensures .1)))
 
 returns : tie.Need-returns Inv-loop μ-loop
 returns c =

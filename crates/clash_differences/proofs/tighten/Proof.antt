@@ -6,7 +6,7 @@ use lib.IntN.{ℤ, pos}
 use lib.ListN.{getD, set}
 use mir.Facts.{toZ-ofZ}
 use Rattle.meaning.specs.Differences.{lesser}
-use Rattle.clash_differences.proofs.Laws.{locals}
+use Rattle.value.proofs.Bits.{locals}
 use Rattle.clash_differences.proofs.tighten.Statement.{statement}
 use Rattle.clash_differences.proofs.tighten.Tie as tie
 

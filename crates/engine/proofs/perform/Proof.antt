@@ -5,8 +5,8 @@ use Rattle.meaning.specs.PublicCalls.{stacksOf, callOf}
 use Rattle.records.specs.Records.{stateIs, handedIs}
 use Rattle.run_lent.specs.Performing.{callIs}
 use Rattle.engine.specs.Records.{leavesAs}
-use Rattle.engine.specs.Beginning.{standing-shown, standing-readable, standing-called}
-use Rattle.engine.proofs.Cases.{ready-case, turned-case}
+use Rattle.prepare.specs.Beginning.{standing-shown, standing-readable, standing-called}
+use Rattle.prepare.proofs.Beginning.{ready-case, turned-case}
 use Rattle.engine.proofs.perform.Statement.{statement}
 use Rattle.engine.proofs.perform.Tie as tie
 

@@ -4,7 +4,7 @@ use mathlib.Core.List.{List}
 use lib.IntN.{ℤ}
 use denote.Ref.{now}
 use mir.Facts.{toZ-ofZ}
-use Rattle.meaning.specs.Window.{Outcome, bringsAnswer}
+use Rattle.meaning_window.specs.Window.{Outcome, bringsAnswer}
 use Rattle.host_window.specs.Windows.{finishedAs, WindowPassedOn}
 use borrow.Author.Needs.{needs}
 use Rattle.host.proofs.segment_window_value.Statement.{statement}

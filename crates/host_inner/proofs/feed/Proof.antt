@@ -2,8 +2,8 @@ use mathlib.Core.Path.{ap, ap₂, _∙_}
 use denote.Ref.{now}
 use Rattle.meaning.specs.Program.{programOf}
 use Rattle.meaning.specs.PublicCalls.{stacksOf, feed}
-use Rattle.meaning.specs.Inner as Inner
-use Rattle.meaning.specs.Inner.{innerPerforms}
+use Rattle.meaning_inner.specs.Inner as Inner
+use Rattle.meaning_inner.specs.Inner.{innerPerforms}
 use Rattle.host_inner.specs.Both.{both-passed-on}
 use borrow.Author.Needs.{needs}
 use Rattle.host_inner.proofs.feed.Statement.{statement}

@@ -2,8 +2,8 @@ use mathlib.Core.Path.{ap, ap₂, _∙_}
 use denote.Ref.{now}
 use Rattle.meaning.specs.Program.{programOf}
 use Rattle.meaning.specs.PublicCalls.{stacksOf, finish}
-use Rattle.meaning.specs.Inner as Inner
-use Rattle.meaning.specs.Inner.{InnerEffect, innerPerforms}
+use Rattle.meaning_inner.specs.Inner as Inner
+use Rattle.meaning_inner.specs.Inner.{InnerEffect, innerPerforms}
 use Rattle.host_numbers.specs.Lent.{answerValue}
 use borrow.Author.Needs.{sfits-of}
 use mir.Facts.{toZ-ofZ}

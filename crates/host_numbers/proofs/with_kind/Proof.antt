@@ -1,6 +1,6 @@
 use mathlib.Core.Path.{ap, _∙_}
 use borrow.Author.Needs.{needs}
-use Rattle.meaning.specs.Inner.{withKind}
+use Rattle.meaning_inner.specs.Inner.{withKind}
 use Rattle.records.specs.Records.{stateIs}
 use Rattle.host_numbers.specs.Lent.{kind-inner, kind-outer}
 use Rattle.host_numbers.proofs.with_kind.Statement.{statement}

@@ -1,6 +1,6 @@
 use mathlib.Core.Path.{ap, _∙_}
 use borrow.Author.Needs.{needs}
-use Rattle.meaning.specs.Inner.{withStatus}
+use Rattle.meaning_inner.specs.Inner.{withStatus}
 use Rattle.records.specs.Records.{stateIs}
 use Rattle.host_numbers.specs.Lent.{status-closed, status-waiting, status-open}
 use Rattle.host_numbers.proofs.with_status.Statement.{statement}

@@ -35,7 +35,8 @@ returns c =
     let a = c .before .before .before .before .before .before .before .before .before .before .before .before .before .before .before .before .before .before .before .args in
     let e = ap (λ z. performs programOf (now (a .table)) (now (a .program)) z (stacksOf (now (a .registers)) (now (a .places))) finish) (c .before .before .before .before .before .before .before .before .before .before .before .before .before .before .brought .ensures) in
     let q = c .before .before .before .before .before .before .before .before .before .before .finish .ensures ∙ e in
-    (passed-on (c .before .before .before .before .before .before .before .before .before .before .finish .result) _ _ _ _ q _ _ _ (c .pass-on .ensures), toZ-ofZ (sfits-of (c .before .before .before .before .value-of .ok)) ∙ (c .before .before .before .before .value-of .ensures ∙ ap (λ z. answerValue (z .answer)) q))
+    let v = c .before .before .before .before .value-of in
+    (passed-on (c .before .before .before .before .before .before .before .before .before .before .finish .result) _ _ _ _ q _ _ _ (c .pass-on .ensures), toZ-ofZ (sfits-of (v .ok)) ∙ (v .ensures ∙ ap (λ z. answerValue (z .answer)) q))
 
 pub finish-spec : {M : Type 1} → statement M
 finish-spec =

@@ -1,6 +1,6 @@
 use mathlib.Core.Path.{sym, ap, _∙_}
 use mir.Facts.{toZ-ofZ}
-use Rattle.meaning.specs.Window.{windowNumber}
+use Rattle.meaning_window.specs.Window.{windowNumber}
 use Rattle.window.specs.Answers.{answerIs}
 use Rattle.host_window.specs.Windows.{totalOf, largestOf, hasLargest}
 use borrow.Author.Needs.{needs, sfits-of}

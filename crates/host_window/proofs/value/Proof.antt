@@ -1,7 +1,7 @@
 use mathlib.Core.Path.{ap, _∙_}
 use denote.Ref.{now}
 use mir.Facts.{toZ-ofZ}
-use Rattle.meaning.specs.Window.{bringsAnswer}
+use Rattle.meaning_window.specs.Window.{bringsAnswer}
 use Rattle.window.specs.Answers.{answerIs}
 use Rattle.host_window.specs.Windows.{finishedAs, window-passed-on}
 use borrow.Author.Needs.{needs}

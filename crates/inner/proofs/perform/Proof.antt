@@ -1,9 +1,9 @@
 use denote.Ref.{now}
 use Rattle.meaning.specs.PublicCalls.{stacksOf}
-use Rattle.meaning.specs.Inner.{innerEffect, innerOf}
+use Rattle.meaning_inner.specs.Inner.{innerEffect, innerOf}
 use Rattle.records.specs.Records.{stateIs}
-use Rattle.engine.specs.Beginning.{standing-shown, standing-readable}
-use Rattle.engine.proofs.Cases.{ready-case}
+use Rattle.prepare.specs.Beginning.{standing-shown, standing-readable}
+use Rattle.prepare.proofs.Beginning.{ready-case}
 use Rattle.inner_records.specs.Records.{callIs, innerHandedIs}
 use Rattle.inner_opening.specs.Beginning.{turned-call, standing-call}
 use borrow.Author.Needs.{needs}

@@ -2,10 +2,10 @@ use mathlib.Core.Path.{ap, _∙_}
 use denote.Ref.{now}
 use Rattle.meaning.specs.Calls.{closedRecord}
 use Rattle.meaning.specs.PublicCalls.{stacksOf}
-use Rattle.meaning.specs.Inner.{innerOpenOf}
+use Rattle.meaning_inner.specs.Inner.{innerOpenOf}
 use Rattle.records.specs.Records.{stateIs}
-use Rattle.engine.specs.Beginning.{standing-shown}
-use Rattle.engine.proofs.Cases.{area-long, ready-case}
+use Rattle.prepare.specs.Beginning.{standing-shown}
+use Rattle.prepare.proofs.Beginning.{area-long, ready-case}
 use Rattle.inner_records.specs.Records.{innerHandedIs, innerLeaves}
 use Rattle.inner_opening.specs.Beginning.{openedInside, turned-call, standing-call}
 use borrow.Author.Needs.{needs}

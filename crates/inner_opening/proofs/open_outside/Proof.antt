@@ -3,8 +3,8 @@ use denote.Ref.{now}
 use Rattle.meaning.specs.Calls.{closedRecord}
 use Rattle.meaning.specs.PublicCalls.{stacksOf}
 use Rattle.records.specs.Records.{stateIs}
-use Rattle.engine.specs.Beginning.{standing-shown, standing-readable}
-use Rattle.engine.proofs.Cases.{ready-case}
+use Rattle.prepare.specs.Beginning.{standing-shown, standing-readable}
+use Rattle.prepare.proofs.Beginning.{ready-case}
 use Rattle.inner_records.specs.Records.{innerLeaves}
 use Rattle.inner_opening.specs.Beginning.{openedOver, turned-call, standing-opens}
 use borrow.Author.Needs.{needs}

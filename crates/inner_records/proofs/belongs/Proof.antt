@@ -31,7 +31,8 @@ returns-3 c =
     let a = c .before .before .before .before .before .before .args in
     let w = c .before .before .before .before .before .is-waiting in
     let u = c .before .before .before .is-outer in
-    belongs-by (stateIs (a .outer)) (stateIs (a .inner)) (sym (w .ensures) ∙ not-false (w .result) (c .before .before .before .before .if1 .left)) (sym (u .ensures) ∙ not-false (u .result) (c .before .before .if2 .left)) (sym (c .before .is-running .ensures) ∙ not-true (c .before .is-running .result) (c .if3 .taken)) refl
+    belongs-by (stateIs (a .outer)) (stateIs (a .inner)) (sym (w .ensures) ∙ not-false (w .result) (c .before .before .before .before .if1 .left))
+    (sym (u .ensures) ∙ not-false (u .result) (c .before .before .if2 .left)) (sym (c .before .is-running .ensures) ∙ not-true (c .before .is-running .result) (c .if3 .taken)) refl
 
 begins-at-requires : tie.Need-begins-at-requires
 begins-at-requires c κs = search needs
@@ -42,7 +43,8 @@ returns-4 c =
     let w = c .before .before .before .before .before .before .is-waiting in
     let u = c .before .before .before .before .is-outer in
     let r = c .before .before .is-running in
-    belongs-by (stateIs (a .outer)) (stateIs (a .inner)) (sym (w .ensures) ∙ not-false (w .result) (c .before .before .before .before .before .if1 .left)) (sym (u .ensures) ∙ not-false (u .result) (c .before .before .before .if2 .left)) (sym (r .ensures) ∙ not-false (r .result) (c .before .if3 .left)) (sym (c .begins-at .ensures))
+    belongs-by (stateIs (a .outer)) (stateIs (a .inner)) (sym (w .ensures) ∙ not-false (w .result) (c .before .before .before .before .before .if1 .left))
+    (sym (u .ensures) ∙ not-false (u .result) (c .before .before .before .if2 .left)) (sym (r .ensures) ∙ not-false (r .result) (c .before .if3 .left)) (sym (c .begins-at .ensures))
 
 pub belongs-spec : {M : Type 1} → statement M
 belongs-spec =

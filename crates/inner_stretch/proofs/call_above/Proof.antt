@@ -73,7 +73,8 @@ returns-2 c =
     let rb = k .before .beginning in
     let pb = k .beginning2 in
     let f = c .before .before .before .call-stretch in
-    λ g s. call-is g (a .outer) (a .inner) (callIs (a .call) (now (a .kinds)) (now (a .values))) (sym (e .if1 .left) ∙ n .ensures) (now (a .registers)) (now (a .places)) (r .result) (p .result) (rb .result) (pb .result) (r .ensures) (p .ensures) (rb .ensures) (pb .ensures) (f .result) (f .last .1 .1 .1 .0) (f .last .1 .1 .1 .1 .0) (f .ensures g s)
+    λ g s. call-is g (a .outer) (a .inner) (callIs (a .call) (now (a .kinds)) (now (a .values))) (sym (e .if1 .left) ∙ n .ensures) (now (a .registers)) (now (a .places)) (r .result)
+    (p .result) (rb .result) (pb .result) (r .ensures) (p .ensures) (rb .ensures) (pb .ensures) (f .result) (f .last .1 .1 .1 .0) (f .last .1 .1 .1 .1 .0) (f .ensures g s)
 
 pub call-above-spec : {M : Type 1} → statement M
 call-above-spec =

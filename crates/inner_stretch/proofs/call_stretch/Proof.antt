@@ -1,7 +1,7 @@
 use mathlib.Core.Path.{sym, ap, _∙_}
 use denote.Ref.{now}
 use Rattle.meaning.specs.PublicCalls.{stacksOf, callOf}
-use Rattle.meaning.specs.Inner.{alone, engineCall}
+use Rattle.meaning_inner.specs.Inner.{alone, engineCall}
 use Rattle.records.specs.Records.{stateIs}
 use Rattle.inner_records.specs.Records.{callIs}
 use Rattle.inner_stretch.specs.Lending.{clears, goes-on-is, ended-is}
@@ -43,8 +43,11 @@ returns c =
     let vs = c .before .before .before .before .before .before .clear-registers in
     let ps = c .before .before .before .clear-places in
     let q = c .before .before .before .before .before .before .before .before .before .ends in
-    let l = clears (now (a .registers)) (f .last .1 .0) (vs .last .0) (now (a .places)) (f .last .1 .1 .0) (ps .last .0) (vs .ensures) (ps .ensures) (c .before .before .before .before .before .before .before .before .before .before .before .before .registers .given) (c .before .before .before .before .before .before .before .before .before .before .before .places .given) in
-    λ g s. ended-is (a .call) (now (a .kinds)) (now (a .values)) (a .outer) (a .inner) m (f .result) (f .last .1 .0) (f .last .1 .1 .0) (callOf g (alone (stateIs (a .inner))) m (engineCall x)) (f .ensures g s ∙ ap (λ z. callOf g (stateIs z) m (engineCall x)) (r .ensures)) (sym (q .ensures) ∙ c .before .before .before .before .before .before .before .before .if1 .taken) (c .ended .result) (c .ended .ensures) (vs .last .0) (ps .last .0) l
+    let l =
+    clears (now (a .registers)) (f .last .1 .0) (vs .last .0) (now (a .places)) (f .last .1 .1 .0) (ps .last .0) (vs .ensures) (ps .ensures)
+    (c .before .before .before .before .before .before .before .before .before .before .before .before .registers .given) (c .before .before .before .before .before .before .before .before .before .before .before .places .given) in
+    λ g s. ended-is (a .call) (now (a .kinds)) (now (a .values)) (a .outer) (a .inner) m (f .result) (f .last .1 .0) (f .last .1 .1 .0) (callOf g (alone (stateIs (a .inner))) m (engineCall x))
+    (f .ensures g s ∙ ap (λ z. callOf g (stateIs z) m (engineCall x)) (r .ensures)) (sym (q .ensures) ∙ c .before .before .before .before .before .before .before .before .if1 .taken) (c .ended .result) (c .ended .ensures) (vs .last .0) (ps .last .0) l
 
 went-on-requires : tie.Need-went-on-requires
 went-on-requires c κs = search needs
@@ -63,7 +66,8 @@ returns-2 c =
     let r = c .before .before .before .before .before .before .before .before .before .alone in
     let x = callIs (a .call) (now (a .kinds)) (now (a .values)) in
     let q = c .before .before .ends in
-    λ g s. goes-on-is (a .call) (now (a .kinds)) (now (a .values)) (a .outer) (a .inner) m (f .result) (f .last .1 .0) (f .last .1 .1 .0) (callOf g (alone (stateIs (a .inner))) m (engineCall x)) (f .ensures g s ∙ ap (λ z. callOf g (stateIs z) m (engineCall x)) (r .ensures)) (sym (q .ensures) ∙ c .before .if1 .left) (c .went-on .result) (c .went-on .ensures)
+    λ g s. goes-on-is (a .call) (now (a .kinds)) (now (a .values)) (a .outer) (a .inner) m (f .result) (f .last .1 .0) (f .last .1 .1 .0) (callOf g (alone (stateIs (a .inner))) m (engineCall x))
+    (f .ensures g s ∙ ap (λ z. callOf g (stateIs z) m (engineCall x)) (r .ensures)) (sym (q .ensures) ∙ c .before .if1 .left) (c .went-on .result) (c .went-on .ensures)
 
 pub call-stretch-spec : {M : Type 1} → statement M
 call-stretch-spec =

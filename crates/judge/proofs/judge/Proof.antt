@@ -30,13 +30,15 @@ returns-2 c =
     let table-bytes = (bytes-of (now (s .args .table)) (λ i. omega (arith, a .before .before .before .before .before .before .before .before .shared-slice-known .given i))) in
     A.answer-many _ _ _ _ _ _ _ (j .ensures) (now (s .args .kinds)) (now (s .args .values)) (now (s .args .sheet)) _ (c .before .before .before .sizes .given .1) table-bytes (c .before .if1 .left) (omega arith)
 
-mul-long : tie.Need-mul-long
-mul-long c =
-    let a = c .before .before .before .before .before .before in
+row-start-requires : tie.Need-row-start-requires
+row-start-requires c κs =
+    let a = c .before .before .before .before .before in
     let s = a .before .before .before .before .before .before .before .before .before in
     let j = a .judge-table in
     let table-bytes = (bytes-of (now (s .args .table)) (λ i. omega (arith, a .before .before .before .before .before .before .before .before .shared-slice-known .given i))) in
-    omega (arith, A.rows-fit _ _ _ _ _ _ _ (j .ensures) (now (s .args .kinds)) (now (s .args .values)) (now (s .args .sheet)) _ (c .before .before .before .before .sizes .given .1) table-bytes, A.lengths _ _ _ _ _ _ _ (j .ensures) (now (s .args .kinds)) (now (s .args .values)) (now (s .args .sheet)) _ (c .before .before .before .before .sizes .given .1) .2)
+    let inside = A.rows-fit _ _ _ _ _ _ _ (j .ensures) (now (s .args .kinds)) (now (s .args .values)) (now (s .args .sheet)) _ (c .before .before .before .sizes .given .1) table-bytes in
+    let long = A.lengths _ _ _ _ _ _ _ (j .ensures) (now (s .args .kinds)) (now (s .args .values)) (now (s .args .sheet)) _ (c .before .before .before .sizes .given .1) in
+    omega (arith, inside, long .2)
 
 array-share-prefix-rows : tie.Need-array-share-prefix-rows
 array-share-prefix-rows c =
@@ -44,7 +46,9 @@ array-share-prefix-rows c =
     let s = a .before .before .before .before .before .before .before .before .before in
     let j = a .judge-table in
     let table-bytes = (bytes-of (now (s .args .table)) (λ i. omega (arith, a .before .before .before .before .before .before .before .before .shared-slice-known .given i))) in
-    omega (arith, A.rows-fit _ _ _ _ _ _ _ (j .ensures) (now (s .args .kinds)) (now (s .args .values)) (now (s .args .sheet)) _ (c .before .before .before .before .sizes .given .1) table-bytes, A.lengths _ _ _ _ _ _ _ (j .ensures) (now (s .args .kinds)) (now (s .args .values)) (now (s .args .sheet)) _ (c .before .before .before .before .sizes .given .1) .2)
+    let inside = A.rows-fit _ _ _ _ _ _ _ (j .ensures) (now (s .args .kinds)) (now (s .args .values)) (now (s .args .sheet)) _ (c .before .before .before .before .sizes .given .1) table-bytes in
+    let long = A.lengths _ _ _ _ _ _ _ (j .ensures) (now (s .args .kinds)) (now (s .args .values)) (now (s .args .sheet)) _ (c .before .before .before .before .sizes .given .1) in
+    omega (arith, c .row-start .ensures, inside, long .2)
 
 slice-aggregate-judge-sheet : tie.Need-slice-aggregate-judge-sheet
 slice-aggregate-judge-sheet c =
@@ -52,7 +56,7 @@ slice-aggregate-judge-sheet c =
     let s = a .before .before .before .before .before .before .before .before .before in
     let j = a .judge-table in
     let table-bytes = (bytes-of (now (s .args .table)) (λ i. omega (arith, a .before .before .before .before .before .before .before .before .shared-slice-known .given i))) in
-    A.rows-cut _ _ _ _ _ _ _ (j .ensures) (now (s .args .kinds)) (now (s .args .values)) (now (s .args .sheet)) _ (c .before .before .before .before .before .sizes .given .1) table-bytes
+    A.rows-cut _ _ _ _ _ _ _ (j .ensures) (now (s .args .kinds)) (now (s .args .values)) (now (s .args .sheet)) _ (c .before .before .before .before .before .sizes .given .1) table-bytes (c .before .row-start .ensures)
 
 slice-aggregate-judge-sheet-2 : tie.Need-slice-aggregate-judge-sheet-2
 slice-aggregate-judge-sheet-2 c =
@@ -82,7 +86,10 @@ judge-sheet-requires c κs =
     let j = a .judge-table in
     let table-bytes = (bytes-of (now (s .args .table)) (λ i. omega (arith, a .before .before .before .before .before .before .before .before .shared-slice-known .given i))) in
     let sheet-bytes = (bytes-of (now (s .args .sheet)) (λ i. omega (arith, a .before .before .before .before .before .before .shared-slice-known3 .given i))) in
-    A.answer-ready _ _ _ _ _ _ _ (j .ensures) (now (s .args .kinds)) (now (s .args .values)) (now (s .args .sheet)) _ (c .before .before .before .before .before .before .before .before .sizes .given .1) table-bytes (c .before .before .before .before .before .before .if1 .left) (omega arith) sheet-bytes
+    let usable = c .before .before .before .before .before .before .before .before .sizes .given .1 in
+    let even = c .before .before .before .before .before .before .if1 .left in
+    let cut = c .before .before .before .before .row-start .ensures in
+    A.answer-ready _ _ _ _ _ _ _ (j .ensures) (now (s .args .kinds)) (now (s .args .values)) (now (s .args .sheet)) _ usable table-bytes even (omega arith) sheet-bytes cut
 
 returns-3 : tie.Need-returns-3
 returns-3 c =
@@ -98,7 +105,10 @@ returns-4 c =
     let j = a .judge-table in
     let table-bytes = (bytes-of (now (s .args .table)) (λ i. omega (arith, a .before .before .before .before .before .before .before .before .shared-slice-known .given i))) in
     let sheet-bytes = (bytes-of (now (s .args .sheet)) (λ i. omega (arith, a .before .before .before .before .before .before .shared-slice-known3 .given i))) in
-    A.answer-told _ _ _ _ _ _ _ (j .ensures) (now (s .args .kinds)) (now (s .args .values)) (now (s .args .sheet)) _ (c .before .before .before .before .before .before .before .before .before .sizes .given .1) table-bytes (c .before .before .before .before .before .before .before .if1 .left) (omega arith) sheet-bytes (c .judge-sheet .result) (c .judge-sheet .ensures)
+    let usable = c .before .before .before .before .before .before .before .before .before .sizes .given .1 in
+    let even = c .before .before .before .before .before .before .before .if1 .left in
+    let cut = c .before .before .before .before .before .row-start .ensures in
+    A.answer-settled _ _ _ _ _ _ _ (j .ensures) (now (s .args .kinds)) (now (s .args .values)) (now (s .args .sheet)) _ usable table-bytes even (omega arith) sheet-bytes cut (c .judge-sheet .result) (c .judge-sheet .ensures)
 
 pub judge-spec : {M : Type 1} → statement M
 judge-spec =
@@ -109,7 +119,7 @@ judge-spec =
     enum-known-sizes
     returns
     returns-2
-    mul-long
+    row-start-requires
     array-share-prefix-rows
     slice-aggregate-judge-sheet
     slice-aggregate-judge-sheet-2

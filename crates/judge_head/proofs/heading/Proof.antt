@@ -37,17 +37,17 @@ word-at-requires c κs = search needs
 cast-p : tie.Need-cast-p
 cast-p c = search needs
 
+row-count-requires : tie.Need-row-count-requires
+row-count-requires c κs = search needs
+
 returns-3 : tie.Need-returns-3
 returns-3 c =
-    let w = c .before in
+    let w = c .before .before in
     let b = w .before .before .before in
     L.head-unlisted _ _ _ _ _ _ _ _ _ (b .before .byte-at .ensures .0) (b .byte-at2 .ensures .0) _ (w .word-at .ensures) (omega arith)
 
-mul-byte-at : tie.Need-mul-byte-at
-mul-byte-at c = search needs
-
-byte-at-requires-3 : tie.Need-byte-at-requires-3
-byte-at-requires-3 c κs = search needs
+left-of-requires : tie.Need-left-of-requires
+left-of-requires c κs = omega arith
 
 cast-if4 : tie.Need-cast-if4
 cast-if4 c = search needs
@@ -55,9 +55,9 @@ cast-if4 c = search needs
 returns-4 : tie.Need-returns-4
 returns-4 c =
     let q = c .before in
-    let w = q .before .before in
+    let w = q .before .before .before in
     let b = w .before .before .before in
-    L.head-other _ _ _ _ _ _ _ _ _ (b .before .byte-at .ensures .0) (b .byte-at2 .ensures .0) _ (w .word-at .ensures) _ (q .byte-at3 .ensures .0) (c .if4 .taken)
+    L.head-other _ _ _ _ _ _ _ _ _ (b .before .byte-at .ensures .0) (b .byte-at2 .ensures .0) _ (w .word-at .ensures) _ (q .left-of .ensures) (c .if4 .taken)
 
 add-word-at : tie.Need-add-word-at
 add-word-at c = search needs
@@ -72,9 +72,9 @@ returns-5 : tie.Need-returns-5
 returns-5 c =
     let v = c .before in
     let q = v .before .before in
-    let w = q .before .before in
+    let w = q .before .before .before in
     let b = w .before .before .before in
-    L.head-before _ _ _ _ _ _ _ _ _ (b .before .byte-at .ensures .0) (b .byte-at2 .ensures .0) _ (w .word-at .ensures) _ (q .byte-at3 .ensures .0) _ (v .word-at2 .ensures) (c .if5 .taken)
+    L.head-before _ _ _ _ _ _ _ _ _ (b .before .byte-at .ensures .0) (b .byte-at2 .ensures .0) _ (w .word-at .ensures) _ (q .left-of .ensures) _ (v .word-at2 .ensures) (c .if5 .taken)
 
 add-are-values : tie.Need-add-are-values
 add-are-values c = search needs
@@ -82,14 +82,14 @@ add-are-values c = search needs
 are-values-requires : tie.Need-are-values-requires
 are-values-requires c κs = search needs
 
-add-t19 : tie.Need-add-t19
-add-t19 c = search needs
+add-t20 : tie.Need-add-t20
+add-t20 c = search needs
 
-mul-t20 : tie.Need-mul-t20
-mul-t20 c = search needs
+mul-t21 : tie.Need-mul-t21
+mul-t21 c = search needs
 
-add-t21 : tie.Need-add-t21
-add-t21 c = search needs
+add-t22 : tie.Need-add-t22
+add-t22 c = search needs
 
 add-word-at-2 : tie.Need-add-word-at-2
 add-word-at-2 c = search needs
@@ -97,26 +97,27 @@ add-word-at-2 c = search needs
 word-at-requires-3 : tie.Need-word-at-requires-3
 word-at-requires-3 c κs = search needs
 
-cast-t24 : tie.Need-cast-t24
-cast-t24 c = search needs
+cast-t25 : tie.Need-cast-t25
+cast-t25 c = search needs
 
 returns-6 : tie.Need-returns-6
 returns-6 c =
     let a = c .before .before in
     let v = a .before .before in
     let q = v .before .before in
-    let w = q .before .before in
+    let w = q .before .before .before in
     let b = w .before .before .before in
-    L.head-found _ _ _ _ _ _ _ _ _ (b .before .byte-at .ensures .0) (b .byte-at2 .ensures .0) _ (w .word-at .ensures) _ (q .byte-at3 .ensures .0) _ (v .word-at2 .ensures) _ (a .are-values .ensures) (omega arith) (omega arith) (omega arith) (v .before .if4 .left) (a .before .if5 .left) (c .before .if6 .taken) _ (c .word-at3 .ensures)
+    L.head-found _ _ _ _ _ _ _ _ _ (b .before .byte-at .ensures .0) (b .byte-at2 .ensures .0) _ (w .word-at .ensures) _ (q .left-of .ensures) _ (v .word-at2 .ensures) _ (a .are-values .ensures) (omega arith) (omega arith)
+    (omega arith) (v .before .if4 .left) (a .before .if5 .left) (c .before .if6 .taken) _ (c .word-at3 .ensures)
 
 returns-7 : tie.Need-returns-7
 returns-7 c =
     let a = c .before in
     let v = a .before .before in
     let q = v .before .before in
-    let w = q .before .before in
+    let w = q .before .before .before in
     let b = w .before .before .before in
-    L.head-far _ _ _ _ _ _ _ _ _ (b .before .byte-at .ensures .0) (b .byte-at2 .ensures .0) _ (w .word-at .ensures) _ (q .byte-at3 .ensures .0) _ (v .word-at2 .ensures) _ (a .are-values .ensures) (c .if6 .left)
+    L.head-far _ _ _ _ _ _ _ _ _ (b .before .byte-at .ensures .0) (b .byte-at2 .ensures .0) _ (w .word-at .ensures) _ (q .left-of .ensures) _ (v .word-at2 .ensures) _ (a .are-values .ensures) (c .if6 .left)
 
 pub heading-spec : {M : Type 1} → statement M
 heading-spec =
@@ -133,9 +134,9 @@ heading-spec =
     returns-2
     word-at-requires
     cast-p
+    row-count-requires
     returns-3
-    mul-byte-at
-    byte-at-requires-3
+    left-of-requires
     cast-if4
     returns-4
     add-word-at
@@ -144,11 +145,11 @@ heading-spec =
     returns-5
     add-are-values
     are-values-requires
-    add-t19
-    mul-t20
-    add-t21
+    add-t20
+    mul-t21
+    add-t22
     add-word-at-2
     word-at-requires-3
-    cast-t24
+    cast-t25
     returns-6
     returns-7)

@@ -2,8 +2,8 @@ use Prim.Native.Nat.{_+_, _-_, _*_, _≤_}
 use mathlib.Core.Path.{_≡_, refl, sym}
 use native.Mathlib.Omega.{arith}
 use borrow.Author.Needs.{needs}
-use Rattle.meaning.specs.Table.{byte}
-use Rattle.judge_parts.specs.Checked.{Passed}
+use Rattle.outline.specs.Rows.{sizeAt}
+use Rattle.judge_parts.specs.Checked.{ChildrenPassed}
 use Rattle.judge_parts.specs.Laws as L
 use Prim.Native.Nat.{ℕ, _<_}
 use borrow.Fn.Kinds.{In}
@@ -18,7 +18,8 @@ use Rattle.judge_parts.proofs.check_token.Reads as check-token-reads
 use Rattle.judge_head.proofs.heading.Reads as heading-reads
 use Rattle.judge_parts.proofs.holds.Reads as holds-reads
 use Rattle.judge_parts.proofs.mark_of.Reads as mark-of-reads
-use Rattle.value.proofs.byte_at.Reads as byte-at-reads
+use Rattle.outline.proofs.size_of.Reads as size-of-reads
+use Rattle.outline.proofs.symbol_of.Reads as symbol-of-reads
 use Rattle.judge_nodes.proofs.+check_children+check_node.{statement}
 use Rattle.judge_nodes.proofs.+check_children+check_node.Tie.{close}
 
@@ -53,99 +54,57 @@ check-node-below t =
     and 8 check-node-kinds.ps (falls 8 check-node-kinds.ps _<_ μ-check-node t) check-node.Pre
 
 abbrev check-children-Inv-loop : check-children-lts.InvT-loop
-check-children-Inv-loop table rows inherited synthesized offsets kinds values sheet p at from depth-left marks₀ first size next₀ end₀ k₀ marks next end k =
-    (size ≡ byte rows (p * 16 + 1)) × (k ≤ size) × Passed table rows inherited synthesized offsets kinds values sheet p at from depth-left marks₀ k next end marks
+check-children-Inv-loop table rows inherited synthesized offsets kinds values sheet p at from depth-left marks₀ size next₀ end₀ k₀ marks next end k =
+    (size ≡ sizeAt rows p) × (k ≤ size) × ChildrenPassed table rows inherited synthesized offsets kinds values sheet p at from depth-left marks₀ k next end marks
 
 abbrev check-children-μ-loop : check-children-lts.MeasureT-loop
-check-children-μ-loop table rows inherited synthesized offsets kinds values sheet p at from depth-left marks₀ first size next₀ end₀ k₀ marks next end k =
+check-children-μ-loop table rows inherited synthesized offsets kinds values sheet p at from depth-left marks₀ size next₀ end₀ k₀ marks next end k =
     size - k
 
-check-children-mul-first : (t : ℕ) → check-children-lts.Need-mul-first (
-  byte-at-reads.Asked,
-  byte-at-reads.Learnt,
+check-children-size-of-requires : (t : ℕ) → check-children-lts.Need-size-of-requires (
+  size-of-reads.Asked,
+  size-of-reads.Learnt,
+  symbol-of-reads.Asked,
+  symbol-of-reads.Learnt,
   mark-of-reads.Asked,
   mark-of-reads.Learnt,
   check-node-below t,
   check-node.Post,
 ) (check-children-at t) check-children.Post check-children-Inv-loop check-children-μ-loop
-check-children-mul-first t c = omega (arith, L.row-few (c .before .before .before .before .before .before .before .pre .1 .0))
-
-check-children-add-byte-at : (t : ℕ) → check-children-lts.Need-add-byte-at (
-  byte-at-reads.Asked,
-  byte-at-reads.Learnt,
-  mark-of-reads.Asked,
-  mark-of-reads.Learnt,
-  check-node-below t,
-  check-node.Post,
-) (check-children-at t) check-children.Post check-children-Inv-loop check-children-μ-loop
-check-children-add-byte-at t c = omega (arith, L.row-few (c .before .before .before .before .before .before .before .pre .1 .0))
-
-check-children-byte-at-requires : (t : ℕ) → check-children-lts.Need-byte-at-requires (
-  byte-at-reads.Asked,
-  byte-at-reads.Learnt,
-  mark-of-reads.Asked,
-  mark-of-reads.Learnt,
-  check-node-below t,
-  check-node.Post,
-) (check-children-at t) check-children.Post check-children-Inv-loop check-children-μ-loop
-check-children-byte-at-requires t c κs = tt
-
-check-children-cast-size : (t : ℕ) → check-children-lts.Need-cast-size (
-  byte-at-reads.Asked,
-  byte-at-reads.Learnt,
-  mark-of-reads.Asked,
-  mark-of-reads.Learnt,
-  check-node-below t,
-  check-node.Post,
-) (check-children-at t) check-children.Post check-children-Inv-loop check-children-μ-loop
-check-children-cast-size t c = search needs
+check-children-size-of-requires t c κs = L.row-inside (c .before .before .before .before .before .before .before .pre .1 .0)
 
 check-children-loop-holds : (t : ℕ) → check-children-lts.Need-loop-holds (
-  byte-at-reads.Asked,
-  byte-at-reads.Learnt,
+  size-of-reads.Asked,
+  size-of-reads.Learnt,
+  symbol-of-reads.Asked,
+  symbol-of-reads.Learnt,
   mark-of-reads.Asked,
   mark-of-reads.Learnt,
   check-node-below t,
   check-node.Post,
 ) (check-children-at t) check-children.Post check-children-Inv-loop check-children-μ-loop
-check-children-loop-holds t c = (c .byte-at .ensures .0, omega arith, L.passed-none (c .before .before .before .before .before .before .before .before .pre .1 .1))
+check-children-loop-holds t c = (c .size-of .ensures .0, omega arith, L.passed-none (c .before .before .before .before .before .before .before .before .pre .1 .1))
 
-check-children-add-symbol : (t : ℕ) → check-children-lts.Need-add-symbol (
-  byte-at-reads.Asked,
-  byte-at-reads.Learnt,
-  mark-of-reads.Asked,
-  mark-of-reads.Learnt,
-  check-node-below t,
-  check-node.Post,
-) (check-children-at t) check-children.Post check-children-Inv-loop check-children-μ-loop
-check-children-add-symbol t c = omega (arith, L.size-few (c .before .before .before .before .before .before .before .before .before .before .pre .1 .0), c .before .loop .inv .0)
-
-check-children-add-symbol-2 : (t : ℕ) → check-children-lts.Need-add-symbol-2 (
-  byte-at-reads.Asked,
-  byte-at-reads.Learnt,
-  mark-of-reads.Asked,
-  mark-of-reads.Learnt,
-  check-node-below t,
-  check-node.Post,
-) (check-children-at t) check-children.Post check-children-Inv-loop check-children-μ-loop
-check-children-add-symbol-2 t c =
-    omega (arith, L.size-few (c .before .before .before .before .before .before .before .before .before .before .pre .1 .0), L.row-few (c .before .before .before .before .before .before .before .before .before .before .pre .1 .0), c .before .loop .inv .0)
-
-check-children-shared-slice-read-symbol :
-    (t : ℕ) → check-children-lts.Need-shared-slice-read-symbol (
-      byte-at-reads.Asked,
-      byte-at-reads.Learnt,
+check-children-symbol-of-requires :
+    (t : ℕ) → check-children-lts.Need-symbol-of-requires (
+      size-of-reads.Asked,
+      size-of-reads.Learnt,
+      symbol-of-reads.Asked,
+      symbol-of-reads.Learnt,
       mark-of-reads.Asked,
       mark-of-reads.Learnt,
       check-node-below t,
       check-node.Post,
     ) (check-children-at t) check-children.Post check-children-Inv-loop check-children-μ-loop
-check-children-shared-slice-read-symbol t c =
-    omega (arith, L.size-few (c .before .before .before .before .before .before .before .before .before .before .before .pre .1 .0), L.row-inside (c .before .before .before .before .before .before .before .before .before .before .before .pre .1 .0), c .before .before .loop .inv .0)
+check-children-symbol-of-requires t c κs =
+    let x = c .before .before .before .before .before .before .before .before .before .before .pre .1 .0 in
+    (L.row-inside x, omega (arith, L.size-few x, c .before .loop .inv .0))
 
 check-children-mark-of-requires : (t : ℕ) → check-children-lts.Need-mark-of-requires (
-  byte-at-reads.Asked,
-  byte-at-reads.Learnt,
+  size-of-reads.Asked,
+  size-of-reads.Learnt,
+  symbol-of-reads.Asked,
+  symbol-of-reads.Learnt,
   mark-of-reads.Asked,
   mark-of-reads.Learnt,
   check-node-below t,
@@ -155,8 +114,10 @@ check-children-mark-of-requires t c κs =
     omega (arith, L.end-small (c .before .before .loop .inv .2) (c .before .before .before .before .before .before .before .before .before .before .before .pre .1 .0), c .before .before .before .before .before .before .before .before .before .before .before .good .1 .1 .1 .1 .1 .1 .1 .0)
 
 check-children-add-marks : (t : ℕ) → check-children-lts.Need-add-marks (
-  byte-at-reads.Asked,
-  byte-at-reads.Learnt,
+  size-of-reads.Asked,
+  size-of-reads.Learnt,
+  symbol-of-reads.Asked,
+  symbol-of-reads.Learnt,
   mark-of-reads.Asked,
   mark-of-reads.Learnt,
   check-node-below t,
@@ -166,8 +127,10 @@ check-children-add-marks t c =
     omega (arith, L.size-few (c .before .before .before .before .before .before .before .before .before .before .before .before .pre .1 .0), c .before .before .before .loop .inv .0)
 
 check-children-mul-marks : (t : ℕ) → check-children-lts.Need-mul-marks (
-  byte-at-reads.Asked,
-  byte-at-reads.Learnt,
+  size-of-reads.Asked,
+  size-of-reads.Learnt,
+  symbol-of-reads.Asked,
+  symbol-of-reads.Learnt,
   mark-of-reads.Asked,
   mark-of-reads.Learnt,
   check-node-below t,
@@ -177,8 +140,10 @@ check-children-mul-marks t c =
     omega (arith, L.size-few (c .before .before .before .before .before .before .before .before .before .before .before .before .pre .1 .0), c .before .before .before .loop .inv .0)
 
 check-children-element-write-marks : (t : ℕ) → check-children-lts.Need-element-write-marks (
-  byte-at-reads.Asked,
-  byte-at-reads.Learnt,
+  size-of-reads.Asked,
+  size-of-reads.Learnt,
+  symbol-of-reads.Asked,
+  symbol-of-reads.Learnt,
   mark-of-reads.Asked,
   mark-of-reads.Learnt,
   check-node-below t,
@@ -188,8 +153,10 @@ check-children-element-write-marks t c =
     omega (arith, L.size-few (c .before .before .before .before .before .before .before .before .before .before .before .before .pre .1 .0), c .before .before .before .loop .inv .0, c .before .before .before .loop .inv .2 .long)
 
 check-children-check-node-requires : (t : ℕ) → check-children-lts.Need-check-node-requires (
-  byte-at-reads.Asked,
-  byte-at-reads.Learnt,
+  size-of-reads.Asked,
+  size-of-reads.Learnt,
+  symbol-of-reads.Asked,
+  symbol-of-reads.Learnt,
   mark-of-reads.Asked,
   mark-of-reads.Learnt,
   check-node-below t,
@@ -197,11 +164,13 @@ check-children-check-node-requires : (t : ℕ) → check-children-lts.Need-check
 ) (check-children-at t) check-children.Post check-children-Inv-loop check-children-μ-loop
 check-children-check-node-requires t c κs =
     let l = c .before .before .before in
-    (omega arith, L.node-ready (l .loop .inv .2) (omega arith) _ refl (c .before .before .before .before .before .before .before .before .before .before .before .before .pre .1 .0))
+    (omega arith, L.node-ready (l .loop .inv .2) (omega arith) _ (c .before .symbol-of .ensures) (c .before .before .before .before .before .before .before .before .before .before .before .before .pre .1 .0))
 
 check-children-enum-told : (t : ℕ) → check-children-lts.Need-enum-told (
-  byte-at-reads.Asked,
-  byte-at-reads.Learnt,
+  size-of-reads.Asked,
+  size-of-reads.Learnt,
+  symbol-of-reads.Asked,
+  symbol-of-reads.Learnt,
   mark-of-reads.Asked,
   mark-of-reads.Learnt,
   check-node-below t,
@@ -210,8 +179,10 @@ check-children-enum-told : (t : ℕ) → check-children-lts.Need-enum-told (
 check-children-enum-told t c = search needs
 
 check-children-returns : (t : ℕ) → check-children-lts.Need-returns (
-  byte-at-reads.Asked,
-  byte-at-reads.Learnt,
+  size-of-reads.Asked,
+  size-of-reads.Learnt,
+  symbol-of-reads.Asked,
+  symbol-of-reads.Learnt,
   mark-of-reads.Asked,
   mark-of-reads.Learnt,
   check-node-below t,
@@ -220,11 +191,13 @@ check-children-returns : (t : ℕ) → check-children-lts.Need-returns (
 check-children-returns t c =
     let a = c .before .before in
     let l = a .before .before .before .before in
-    L.passed-wrong (l .loop .inv .2) (omega arith) _ refl _ (a .check-node .ensures) _ (c .enum-told .given .1)
+    L.passed-wrong (l .loop .inv .2) (omega arith) _ (a .before .before .symbol-of .ensures) _ (a .check-node .ensures) _ (c .enum-told .given .1)
 
 check-children-enum-known-n : (t : ℕ) → check-children-lts.Need-enum-known-n (
-  byte-at-reads.Asked,
-  byte-at-reads.Learnt,
+  size-of-reads.Asked,
+  size-of-reads.Learnt,
+  symbol-of-reads.Asked,
+  symbol-of-reads.Learnt,
   mark-of-reads.Asked,
   mark-of-reads.Learnt,
   check-node-below t,
@@ -233,8 +206,10 @@ check-children-enum-known-n : (t : ℕ) → check-children-lts.Need-enum-known-n
 check-children-enum-known-n t c = search needs
 
 check-children-add-k : (t : ℕ) → check-children-lts.Need-add-k (
-  byte-at-reads.Asked,
-  byte-at-reads.Learnt,
+  size-of-reads.Asked,
+  size-of-reads.Learnt,
+  symbol-of-reads.Asked,
+  symbol-of-reads.Learnt,
   mark-of-reads.Asked,
   mark-of-reads.Learnt,
   check-node-below t,
@@ -243,8 +218,10 @@ check-children-add-k : (t : ℕ) → check-children-lts.Need-add-k (
 check-children-add-k t c = search needs
 
 check-children-loop-less : (t : ℕ) → check-children-lts.Need-loop-less (
-  byte-at-reads.Asked,
-  byte-at-reads.Learnt,
+  size-of-reads.Asked,
+  size-of-reads.Learnt,
+  symbol-of-reads.Asked,
+  symbol-of-reads.Learnt,
   mark-of-reads.Asked,
   mark-of-reads.Learnt,
   check-node-below t,
@@ -253,8 +230,10 @@ check-children-loop-less : (t : ℕ) → check-children-lts.Need-loop-less (
 check-children-loop-less t c = omega arith
 
 check-children-loop-again : (t : ℕ) → check-children-lts.Need-loop-again (
-  byte-at-reads.Asked,
-  byte-at-reads.Learnt,
+  size-of-reads.Asked,
+  size-of-reads.Learnt,
+  symbol-of-reads.Asked,
+  symbol-of-reads.Learnt,
   mark-of-reads.Asked,
   mark-of-reads.Learnt,
   check-node-below t,
@@ -262,12 +241,18 @@ check-children-loop-again : (t : ℕ) → check-children-lts.Need-loop-again (
 ) (check-children-at t) check-children.Post check-children-Inv-loop check-children-μ-loop
 check-children-loop-again t c =
     let a = c .before .before .before in
-    let l = a .before .before .before .before in
-    (l .loop .inv .0, omega arith, L.passed-more (l .loop .inv .2) (omega arith) _ refl _ (a .check-node .ensures) _ _ (c .before .n .given .1) (omega (arith, L.size-few (c .before .before .before .before .before .before .before .before .before .before .before .before .before .before .before .before .pre .1 .0), l .loop .inv .0)) _ (a .before .mark-of .ensures))
+    let l = a .before .before .before .before in (
+      l .loop .inv .0,
+      omega arith,
+      L.passed-more (l .loop .inv .2) (omega arith) _ (a .before .before .symbol-of .ensures) _ (a .check-node .ensures) _ _ (c .before .n .given .1)
+          (omega (arith, L.size-few (c .before .before .before .before .before .before .before .before .before .before .before .before .before .before .before .before .pre .1 .0), l .loop .inv .0)) _ (a .before .mark-of .ensures),
+    )
 
 check-children-returns-2 : (t : ℕ) → check-children-lts.Need-returns-2 (
-  byte-at-reads.Asked,
-  byte-at-reads.Learnt,
+  size-of-reads.Asked,
+  size-of-reads.Learnt,
+  symbol-of-reads.Asked,
+  symbol-of-reads.Learnt,
   mark-of-reads.Asked,
   mark-of-reads.Learnt,
   check-node-below t,
@@ -474,7 +459,7 @@ check-node-holds-requires t c κs =
     let a = c .before .before .before .before .before in
     let h = a .before .before .before .before .before in
     let z = L.ready y _ 0 (omega arith) _ (h .heading .ensures) _ _ _ (a .before .before .before .production .given .1) in
-    (L.productions-few (y .book) _ (z .listed), L.span-inside (y .book) _ (z .listed) .0, L.span-inside (y .book) _ (z .listed) .1, L.listedAt (y .book) _ (z .listed))
+    (L.productions-few (y .book) _ (z .listed), L.span-inside (y .book) _ (z .listed) .0, L.span-inside (y .book) _ (z .listed) .1, L.listedAt (y .book) _ (z .listed), L.row-inside z)
 
 check-node-returns-4 : (t : ℕ) → check-node-lts.Need-returns-4 (
   check-token-reads.Asked,
@@ -489,7 +474,8 @@ check-node-returns-4 : (t : ℕ) → check-node-lts.Need-returns-4 (
 check-node-returns-4 t c = λ x.
     let a = c .before .before .before .before .before .before .before in
     let h = a .before .before .before .before .before in
-    L.fitting x _ _ (omega arith) _ (h .heading .ensures) _ _ _ (a .before .before .before .production .given .1) _ _ _ (a .check-children .ensures) _ _ (c .before .before .before .before .before .next .given .1) refl _ (c .before .holds .ensures) (omega arith) (c .before .before .before .if3 .left) (c .if4 .taken)
+    L.fitting x _ _ (omega arith) _ (h .heading .ensures) _ _ _ (a .before .before .before .production .given .1) _ _ _ (a .check-children .ensures) _ _
+    (c .before .before .before .before .before .next .given .1) refl _ (c .before .holds .ensures) (omega arith) (c .before .before .before .if3 .left) (c .if4 .taken)
 
 check-node-returns-5 : (t : ℕ) → check-node-lts.Need-returns-5 (
   check-token-reads.Asked,
@@ -536,8 +522,10 @@ check-node-returns-7 t c = λ x.
 pub +check-children+check-node-spec : {M : Type 1} → statement M
 +check-children+check-node-spec =
     close μ-check-children μ-check-node (λ t. check-children-lts.spec (
-      byte-at-reads.Asked,
-      byte-at-reads.Learnt,
+      size-of-reads.Asked,
+      size-of-reads.Learnt,
+      symbol-of-reads.Asked,
+      symbol-of-reads.Learnt,
       mark-of-reads.Asked,
       mark-of-reads.Learnt,
       check-node-below t,
@@ -547,14 +535,9 @@ pub +check-children+check-node-spec : {M : Type 1} → statement M
     check-children.Post
     check-children-Inv-loop
     check-children-μ-loop
-    (check-children-mul-first t)
-    (check-children-add-byte-at t)
-    (check-children-byte-at-requires t)
-    (check-children-cast-size t)
+    (check-children-size-of-requires t)
     (check-children-loop-holds t)
-    (check-children-add-symbol t)
-    (check-children-add-symbol-2 t)
-    (check-children-shared-slice-read-symbol t)
+    (check-children-symbol-of-requires t)
     (check-children-mark-of-requires t)
     (check-children-add-marks t)
     (check-children-mul-marks t)

@@ -18,7 +18,9 @@ bits-at-requires c κs = search needs
 wrapping-add-u64-requires : tie.Need-wrapping-add-u64-requires
 wrapping-add-u64-requires c κs = search needs
 
-close : (c : tie.Else1) → (pos (c .before .wrapping-add-u64 .result) -ℤ pos 4611686018427387904 ≡ longAt (now (c .before .before .before .before .args .bytes)) (c .before .before .before .before .args .at)) × SFits w64 (longAt (now (c .before .before .before .before .args .bytes)) (c .before .before .before .before .args .at))
+close : (c : tie.Else1)
+    → let a = c .before .before .before .before .args in
+    (pos (c .before .wrapping-add-u64 .result) -ℤ pos 4611686018427387904 ≡ longAt (now (a .bytes)) (a .at)) × SFits w64 (longAt (now (a .bytes)) (a .at))
 close c = near-at _ _ _ _ (omega arith) (c .before .before .bits-at .ensures) (c .before .wrapping-add-u64 .ensures) (omega arith)
 
 small-back : (n : ℕ) → n < 9223372036854775808 → toZ w64 n ≡ pos n

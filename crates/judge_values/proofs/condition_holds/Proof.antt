@@ -26,7 +26,8 @@ returns c =
     let l = h .before in
     let k = l .before .before in
     let a = k .before in
-    range-is _ _ (k .byte-at .result) _ _ _ _ (k .byte-at .ensures .0) (l .before .if1 .taken) (held (sfits-of (a .occurrence .ok)) (a .occurrence .ensures .0)) (held (sfits-of (l .constant-at .ok)) (l .constant-at .ensures)) (held (sfits-of (h .constant-at2 .ok)) (h .constant-at2 .ensures)) (c .in-bounds .ensures)
+    range-is _ _ (k .byte-at .result) _ _ _ _ (k .byte-at .ensures .0) (l .before .if1 .taken) (held (sfits-of (a .occurrence .ok)) (a .occurrence .ensures .0))
+    (held (sfits-of (l .constant-at .ok)) (l .constant-at .ensures)) (held (sfits-of (h .constant-at2 .ok)) (h .constant-at2 .ensures)) (c .in-bounds .ensures)
 
 occurrence-requires-2 : tie.Need-occurrence-requires-2
 occurrence-requires-2 c κs = search needs
@@ -44,7 +45,8 @@ returns-2 c =
     let b = d .before in
     let k = b .before .before in
     let a = k .before in
-    compare-is _ _ (k .byte-at .result) _ _ _ _ (k .byte-at .ensures .0) (b .before .if1 .left) (held (sfits-of (a .occurrence .ok)) (a .occurrence .ensures .0)) (held (sfits-of (b .occurrence2 .ok)) (b .occurrence2 .ensures .0)) (held (sfits-of (d .added .ok)) (d .added .ensures .0)) (c .at-most-plus .ensures)
+    compare-is _ _ (k .byte-at .result) _ _ _ _ (k .byte-at .ensures .0) (b .before .if1 .left) (held (sfits-of (a .occurrence .ok)) (a .occurrence .ensures .0))
+    (held (sfits-of (b .occurrence2 .ok)) (b .occurrence2 .ensures .0)) (held (sfits-of (d .added .ok)) (d .added .ensures .0)) (c .at-most-plus .ensures)
 
 pub condition-holds-spec : {M : Type 1} → statement M
 condition-holds-spec =

@@ -31,7 +31,8 @@ returns c =
     let b = k .before in
     let a = b .before in
     let h = a .before in
-    rule-is _ _ (h .byte-at .result) _ _ _ _ _ (h .byte-at .ensures .0) (held (sfits-of (a .first .ok)) (a .first .ensures .0)) (held (sfits-of (b .second .ok)) (b .second .ensures .0)) (held (sfits-of (k .compute .ok)) (k .compute .ensures)) (held (sfits-of (o .occurrence .ok)) (o .occurrence .ensures .0)) (c .in-bounds .ensures)
+    rule-is _ _ (h .byte-at .result) _ _ _ _ _ (h .byte-at .ensures .0) (held (sfits-of (a .first .ok)) (a .first .ensures .0)) (held (sfits-of (b .second .ok)) (b .second .ensures .0))
+    (held (sfits-of (k .compute .ok)) (k .compute .ensures)) (held (sfits-of (o .occurrence .ok)) (o .occurrence .ensures .0)) (c .in-bounds .ensures)
 
 pub rule-holds-spec : {M : Type 1} → statement M
 rule-holds-spec =

@@ -1,6 +1,7 @@
 use Rattle.listing_text.specs.Tests.{stays-items, stays-outside, stays-add, skips-others}
 use borrow.Author.Tests.{not-true, not-false}
-use mathlib.Core.Path.{sym, _∙_}
+use mathlib.Core.Path.{sym, ap, _∙_}
+use lib.Dec.{leb}
 use native.Mathlib.Omega.{arith}
 use borrow.Author.Needs.{needs}
 use Rattle.listing_text.proofs.is_silent.Statement.{statement}
@@ -20,20 +21,33 @@ word-requires c κs = search needs
 
 returns-3 : tie.Need-returns-3
 returns-3 c =
-    let a = c .before .before .before .before .before .before .before .args in
-    let i = c .before .before .before .is-inside in
-    let inside = sym (i .ensures .0) ∙ not-false (i .result) (c .before .before .if2 .left) in
-    let w = c .before .word in
-    stays-add (a .program .now) (a .c) (omega arith) (w .result) (w .ensures) inside (c .if3 .taken)
+    let k = c .before in
+    let w = k .before in
+    let e = w .before .before in
+    let a = e .before .before .before .before .before .args in
+    let i = e .before .is-inside in
+    let inside = sym (i .ensures .0) ∙ not-false (i .result) (e .if2 .left) in
+    let here = w .wide .ensures .0 ∙ w .before .word .ensures in
+    stays-add (a .program .now) (a .c) (omega arith) (w .wide .result) here inside (sym (k .operation .ensures) ∙ c .if3 .taken)
 
 returns-4 : tie.Need-returns-4
 returns-4 c =
-    let a = c .before .before .before .before .before .before .before .args in
-    let i = c .before .before .before .is-inside in
-    let inside = sym (i .ensures .0) ∙ not-false (i .result) (c .before .before .if2 .left) in
-    let w = c .before .word in
-    skips-others (a .program .now) (a .c) (omega arith) (w .result) (w .ensures) inside (c .if3 .left)
+    let k = c .before in
+    let w = k .before in
+    let e = w .before .before in
+    let a = e .before .before .before .before .before .args in
+    let i = e .before .is-inside in
+    let inside = sym (i .ensures .0) ∙ not-false (i .result) (e .if2 .left) in
+    let here = w .wide .ensures .0 ∙ w .before .word .ensures in
+    ap (λ n. leb n 4) (k .operation .ensures) ∙ skips-others (a .program .now) (a .c) (omega arith) (w .wide .result) here inside (λ z. c .if3 .left (k .operation .ensures ∙ z))
+
+wide-requires : tie.Need-wide-requires
+wide-requires c κs = search needs
+
+operation-requires : tie.Need-operation-requires
+operation-requires c κs = search needs
 
 pub is-silent-spec : {M : Type 1} → statement M
 is-silent-spec =
-    tie.close (tie.spec returns is-inside-requires returns-2 word-requires returns-3 returns-4)
+    tie.close
+    (tie.spec returns is-inside-requires returns-2 word-requires wide-requires operation-requires returns-3 returns-4)

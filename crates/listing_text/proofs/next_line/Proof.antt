@@ -3,7 +3,8 @@ use Rattle.listing_text.specs.Tests.{inside-facts}
 use Rattle.listing_lines.specs.Line.{addLine, removeLine}
 use borrow.Author.Tests.{not-true, not-false}
 use mathlib.Core.Path.{refl, sym, ap, _∙_}
-use Prim.Native.Nat.{_+_, _/_, _%_}
+use Prim.Native.Nat.{_+_}
+use Rattle.theory_program.specs.Parts.{headOperation, headOperand}
 use native.Mathlib.Omega.{arith}
 use borrow.Author.Needs.{needs}
 use Rattle.listing_text.proofs.next_line.Statement.{statement}
@@ -72,10 +73,10 @@ word-requires c κs = search needs
 
 add-requires : tie.Need-add-requires
 add-requires c κs =
-    let ws = c .before .before .before .before .before .before .before .before .before .before .args .program .now in
-    let d = c .before .before .before .before .before .before .before .settle .result in
-    let inside = c .before .before .before .before .before .before .is-inside in
-    let i = inside-facts ws d (sym (inside .ensures .0) ∙ not-false (inside .result) (c .before .before .before .before .before .if1 .left)) in
+    let ws = c .before .before .before .before .before .before .before .before .before .before .before .before .before .args .program .now in
+    let d = c .before .before .before .before .before .before .before .before .before .before .settle .result in
+    let inside = c .before .before .before .before .before .before .before .before .before .is-inside in
+    let i = inside-facts ws d (sym (inside .ensures .0) ∙ not-false (inside .result) (c .before .before .before .before .before .before .before .before .if1 .left)) in
     (i .1, i .2, omega arith)
 
 same-length-3 : tie.Need-same-length-3
@@ -83,33 +84,57 @@ same-length-3 c = search needs
 
 returns-4 : tie.Need-returns-4
 returns-4 c =
-    let a = c .before .before .before .before .before .before .before .before .before .before .before .before .before .args in
+    let start = c .before .before .before .before .before .before .before .before .before .before .before .before .before .before .before .before in
+    let a = start .args in
     let ws = a .program .now in
-    let s = c .before .before .before .before .before .before .before .before .before .before .settle in
+    let s = c .before .before .before .before .before .before .before .before .before .before .before .before .before .settle in
     let d = s .result in
-    let i = c .before .before .before .before .before .before .before .before .before .is-inside in
-    let inside = sym (i .ensures .0) ∙ not-false (i .result) (c .before .before .before .before .before .before .before .before .if1 .left) in
-    let e = c .before .before .before .before .before .word .ensures in
-    told-line ws (a .cursor) d (s .ensures .1) (omega arith) (step-add ws d (s .ensures .0) inside (omega arith) (sym (ap (λ v. v % 8) e) ∙ c .before .before .before .before .if4 .taken))
-    (emits-as (ap (λ v. addLine (d .production) (d .passed + 1) (v / 8)) e) (c .before .before .add .ensures))
+    let i = c .before .before .before .before .before .before .before .before .before .before .before .before .is-inside in
+    let inside = sym (i .ensures .0) ∙ not-false (i .result) (c .before .before .before .before .before .before .before .before .before .before .before .if1 .left) in
+    let k = c .before .before .before .before .before in
+    let o = k .before in
+    let w = o .before in
+    let e = w .wide .ensures .0 ∙ w .before .word .ensures in
+    told-line ws (a .cursor) d (s .ensures .1) (omega (arith, start .pre)) (step-add ws d (s .ensures .0) inside (omega arith) (sym (k .operation .ensures ∙ ap headOperation e) ∙ c .before .before .before .before .if4 .taken))
+    (emits-as (ap (addLine (d .production) (d .passed + 1)) (o .operand .ensures ∙ ap headOperand e)) (c .before .before .add .ensures))
 
 remove-requires : tie.Need-remove-requires
-remove-requires c κs = (c .before .before .before .before .before .before .is-inside .ensures .1 (not-false (c .before .before .before .before .before .before .is-inside .result) (c .before .before .before .before .before .if1 .left)), omega arith)
+remove-requires c κs = (
+  c .before .before .before .before .before .before .before .before .before .is-inside .ensures .1
+      (not-false (c .before .before .before .before .before .before .before .before .before .is-inside .result) (c .before .before .before .before .before .before .before .before .if1 .left)),
+  omega arith,
+)
 
 same-length-4 : tie.Need-same-length-4
 same-length-4 c = search needs
 
 returns-5 : tie.Need-returns-5
 returns-5 c =
-    let a = c .before .before .before .before .before .before .before .before .before .before .before .before .before .args in
+    let start = c .before .before .before .before .before .before .before .before .before .before .before .before .before .before .before .before in
+    let a = start .args in
     let ws = a .program .now in
-    let s = c .before .before .before .before .before .before .before .before .before .before .settle in
+    let s = c .before .before .before .before .before .before .before .before .before .before .before .before .before .settle in
     let d = s .result in
-    let i = c .before .before .before .before .before .before .before .before .before .is-inside in
-    let inside = sym (i .ensures .0) ∙ not-false (i .result) (c .before .before .before .before .before .before .before .before .if1 .left) in
-    let e = c .before .before .before .before .before .word .ensures in
-    told-line ws (a .cursor) d (s .ensures .1) (omega arith) (step-remove ws d (s .ensures .0) inside (omega arith) (λ z. c .before .before .before .before .if4 .left (ap (λ v. v % 8) e ∙ z)))
-    (emits-as (ap (λ v. removeLine (d .production) (v / 8)) e) (c .before .before .remove .ensures))
+    let i = c .before .before .before .before .before .before .before .before .before .before .before .before .is-inside in
+    let inside = sym (i .ensures .0) ∙ not-false (i .result) (c .before .before .before .before .before .before .before .before .before .before .before .if1 .left) in
+    let k = c .before .before .before .before .before in
+    let o = k .before in
+    let w = o .before in
+    let e = w .wide .ensures .0 ∙ w .before .word .ensures in
+    told-line ws (a .cursor) d (s .ensures .1) (omega (arith, start .pre)) (step-remove ws d (s .ensures .0) inside (omega arith) (λ z. c .before .before .before .before .if4 .left (k .operation .ensures ∙ (ap headOperation e ∙ z))))
+    (emits-as (ap (removeLine (d .production)) (o .operand .ensures ∙ ap headOperand e)) (c .before .before .remove .ensures))
+
+wide-requires : tie.Need-wide-requires
+wide-requires c κs = search needs
+
+operand-requires : tie.Need-operand-requires
+operand-requires c κs = search needs
+
+cast-registers : tie.Need-cast-registers
+cast-registers c = search needs
+
+operation-requires : tie.Need-operation-requires
+operation-requires c κs = search needs
 
 pub next-line-spec : {M : Type 1} → statement M
 next-line-spec =
@@ -125,6 +150,10 @@ next-line-spec =
     same-length-2
     returns-3
     word-requires
+    wide-requires
+    operand-requires
+    cast-registers
+    operation-requires
     add-requires
     same-length-3
     returns-4

@@ -29,12 +29,4 @@ returns c = cc
 pub record-word-spec : {M : Type 1} → statement M
 record-word-spec =
     tie.close
-    (tie.spec
-    word-requires
-    wide-requires
-    wide-requires-2
-    mul-word
-    add-word
-    add-word-2
-    word-requires-2
-    returns)
+    (tie.spec word-requires wide-requires wide-requires-2 mul-word add-word add-word-2 word-requires-2 returns)

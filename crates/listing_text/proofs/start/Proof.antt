@@ -33,11 +33,4 @@ returns c =
 pub start-spec : {M : Type 1} → statement M
 start-spec =
     tie.close
-    (tie.spec
-    record-word-requires
-    wide-requires
-    record-word-requires-2
-    wide-requires-2
-    record-word-requires-3
-    add-t7
-    returns)
+    (tie.spec record-word-requires wide-requires record-word-requires-2 wide-requires-2 record-word-requires-3 add-t7 returns)

@@ -7,7 +7,7 @@ use lib.ListN.{replicate}
 use lib.IntN.{ℤ, pos}
 use Rattle.meaning.specs.Grammar.{Grammar}
 use Rattle.meaning.specs.Value.{mark}
-use Rattle.meaning.specs.Calls.{Called, Record, outer, statusOf, Stacks, Answer, more, value, lentOf, lay, openOf, feedOf, finishOf}
+use Rattle.meaning.specs.Calls.{Called, Status, Kind, Record, outer, statusOf, Stacks, Answer, more, value, lentOf, lay, openOf, feedOf, finishOf}
 use Rattle.meaning.specs.Examples.Words.{words}
 use Rattle.meaning.specs.Examples.SchemeRows.{wide}
 
@@ -17,6 +17,10 @@ m = mark
 -- open or not, tokens, moves, height of the registers, of the places
 abbrev pub state : Bool → ℕ → ℕ → ℕ → ℕ → Record
 state o t n rs ps = record { status = statusOf o; kind = outer; tokens = t; moves = n; registerHeight = rs; placeHeight = ps }
+
+-- the same for a record of any status and kind
+abbrev pub record-of : Status → Kind → ℕ → ℕ → ℕ → ℕ → Record
+record-of s k t n rs ps = record { status = s; kind = k; tokens = t; moves = n; registerHeight = rs; placeHeight = ps }
 
 -- from the bottom
 abbrev pub stacks : List ℤ → List ℕ → Stacks

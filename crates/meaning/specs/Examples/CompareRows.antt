@@ -1,16 +1,13 @@
--- 02 (j): what a comparison says, its entry in the matrix, the sign of a cycle, and a cycle by way of the limits of values.
+-- 02 (j): what a comparison says, its entry in the matrix, and the sign of a cycle.
 use Prim.Native.Nat.{ℕ, zero, suc}
 use mathlib.Core.Path.{_≡_, refl}
 use mathlib.Core.Bool.{true, false}
-use mathlib.Core.Logic.{inl}
 use mathlib.Core.Option.{none, some}
-use mathlib.Core.List.{List, [], _∷_, map}
+use mathlib.Core.List.{[], _∷_, map}
 use lib.ListN.{replicate}
 use lib.IntN.{ℤ, pos, negsuc}
-use lib.Signed.{ltZ-yes}
-use Rattle.meaning.specs.Grammar.{Condition, atmost}
-use Rattle.meaning.specs.Differences.{lesser, bound, at, constrained, noneNegative}
-use Rattle.meaning.specs.CompareStatements.{NegativeCycle, highestEdge, lowestEdge, atmostEdge, step, join}
+use Rattle.meaning.specs.Grammar.{atmost}
+use Rattle.meaning.specs.Differences.{lesser, at, constrained, noneNegative}
 use Rattle.meaning.specs.Value.{holds}
 
 -- ---- what it says: first at most second plus the constant
@@ -21,21 +18,6 @@ sevenAndTen (suc k) = pos 10
 
 at-most-plus : map (holds sevenAndTen) (atmost 1 0 (some (pos 3)) ∷ atmost 1 0 (some (pos 2)) ∷ atmost 0 1 (some (negsuc 2)) ∷ atmost 0 1 (some (negsuc 3)) ∷ atmost 0 1 none ∷ atmost 1 0 none ∷ atmost 0 0 (some (negsuc 0)) ∷ []) ≡ true ∷ false ∷ true ∷ false ∷ true ∷ false ∷ false ∷ []
 at-most-plus = refl
-
--- ---- values that meet conditions, and cycles with a negative sum
-
--- the limits of values count too
-abbrev pub far : ℤ → List (Condition ℕ)
-far c = atmost 1 2 (some c) ∷ []
-
-cycle-of-limits : NegativeCycle 2 (far (negsuc 2000000000000))
-unfolding bound
-cycle-of-limits = record {
-  node = 1;
-  sum = negsuc 0;
-  walk = join (step (atmostEdge 1 2 (some (negsuc 2000000000000)) (inl refl))) (join (step (highestEdge 2)) (step (lowestEdge 1)));
-  negative = ltZ-yes tt;
-}
 
 -- ---- the matrix of conditions: an entry is lowered to the constant itself, and a cycle with the sum 0 is none that is negative
 

@@ -47,7 +47,43 @@ at4 = refl
 
 -- the tree is the segment's: it is well evaluated, and its value is 2
 pub its-tree : TreeOf words (plain segment) tree
-its-tree = record { evaluated = (record { listed = lit< tt; symbol = refl; size = refl; ranges = tt; rules = (refl, (refl, tt)); conditions = tt }, ((record { listed = lit< tt; symbol = refl; size = refl; ranges = tt; rules = (refl, (refl, tt)); conditions = tt }, ((refl, tt), ((record { listed = lit< tt; symbol = refl; size = refl; ranges = tt; rules = (refl, (refl, (refl, tt))); conditions = tt }, ((refl, tt), ((record { listed = lit< tt; symbol = refl; size = refl; ranges = tt; rules = (refl, (refl, tt)); conditions = tt }, ((refl, tt), ((record { listed = lit< tt; symbol = refl; size = refl; ranges = tt; rules = (refl, tt); conditions = tt }, tt), tt))), ((refl, tt), ((record { listed = lit< tt; symbol = refl; size = refl; ranges = tt; rules = (refl, tt); conditions = tt }, tt), tt))))), tt))), tt)); read = refl }
+its-tree = record {
+  evaluated = (
+    record { listed = lit< tt; symbol = refl; size = refl; ranges = tt; rules = (refl, (refl, tt)); conditions = tt },
+    (
+      (
+        record { listed = lit< tt; symbol = refl; size = refl; ranges = tt; rules = (refl, (refl, tt)); conditions = tt },
+        (
+          (refl, tt),
+          (
+            (
+              record { listed = lit< tt; symbol = refl; size = refl; ranges = tt; rules = (refl, (refl, (refl, tt))); conditions = tt },
+              (
+                (refl, tt),
+                (
+                  (
+                    record { listed = lit< tt; symbol = refl; size = refl; ranges = tt; rules = (refl, (refl, tt)); conditions = tt },
+                    (
+                      (refl, tt),
+                      ((record { listed = lit< tt; symbol = refl; size = refl; ranges = tt; rules = (refl, tt); conditions = tt }, tt), tt),
+                    ),
+                  ),
+                  (
+                    (refl, tt),
+                    ((record { listed = lit< tt; symbol = refl; size = refl; ranges = tt; rules = (refl, tt); conditions = tt }, tt), tt),
+                  ),
+                ),
+              ),
+            ),
+            tt,
+          ),
+        ),
+      ),
+      tt,
+    ),
+  );
+  read = refl;
+}
 
 its-value : valueOf words tree ≡ pos 2
 its-value = refl

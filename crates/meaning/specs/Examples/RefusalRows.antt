@@ -1,14 +1,14 @@
--- Refusals of a segment and of the state: 20, 23, 31, 33, 35, and the result that the header names.
+-- Refusals of a segment and of the state: 20, 23, 31, 33, 34, 35, 40, and the result that the header names.
 use mathlib.Core.Path.{_≡_, refl}
 use mathlib.Core.Bool.{true, false}
-use mathlib.Core.List.{[], _∷_, map}
+use mathlib.Core.List.{List, [], _∷_, map}
 use lib.ListN.{replicate}
 use lib.IntN.{ℤ, pos, negsuc}
 use Rattle.meaning.specs.Grammar.{terminal, nonterminal, const, addc, Grammar}
-use Rattle.meaning.specs.Calls.{value, refused, closedRecord, openOf}
+use Rattle.meaning.specs.Calls.{running, waiting, outer, inner, Record, Answer, value, refused, closedRecord, openOf, feedOf, finishOf}
 use Rattle.meaning.specs.Examples.Words.{words, occ, rule}
 use Rattle.meaning.specs.Examples.SchemeRows.{wide}
-use Rattle.meaning.specs.Examples.CallRows.{m, state, stacks, called, used, feedKinds, thenFeed, thenFinish}
+use Rattle.meaning.specs.Examples.CallRows.{m, state, record-of, stacks, called, used, feedKinds, thenFeed, thenFinish}
 
 -- ---- 20: not below T, judged before its moves
 
@@ -46,6 +46,17 @@ open-without-registers = refl
 
 closed-before-unfit : feedKinds words (state false 0 0 0 0) (used 2 2) (0 ∷ []) .answer ≡ refused 33 0
 closed-before-unfit = refl
+
+-- ---- 40 and 34: a call on an outer run that waits, and one that brings an inner record; the stacks of the feed fit
+
+abbrev pub ordinary : Record → List Answer
+ordinary r = feedOf words r (thenFeed words (0 ∷ 1 ∷ []) (openOf words (used 7 4)) .stacks) [] [] .answer ∷ finishOf words r (used 2 2) .answer ∷ []
+
+waiting-is-40 : ordinary (record-of waiting outer 2 11 7 4) ≡ replicate 2 (refused 40 0)
+waiting-is-40 = refl
+
+inner-is-34 : map (λ s. ordinary (record-of s (inner 0 0) 2 11 7 4)) (running ∷ waiting ∷ []) ≡ replicate 2 (replicate 2 (refused 34 0))
+inner-is-34 = refl
 
 -- ---- 35 before 21: the move limit
 

@@ -8,7 +8,7 @@ use lib.IntN.{ℤ, pos}
 use Rattle.meaning.specs.Grammar.{Symbol, terminal, nonterminal, Function, const, copy, binary, sum, diff, maxi, Rule, range, atmost, Leaf, Production, Grammar}
 use Rattle.meaning.specs.Scheme.{evaluate, expect, test, remove, scheme}
 use Rattle.meaning.specs.Tree.{Tree, leaf, node, noTrees, treeAnd, picture}
-use Rattle.meaning.specs.Calls.{Called, refused, openOf, feedOf}
+use Rattle.meaning.specs.Calls.{Called, refused, tokensFrom, openOf, feedOf}
 use Rattle.meaning.specs.Examples.Words.{words, p0, p2, p3, occ, rule, bare}
 use Rattle.meaning.specs.Examples.CallRows.{m, state, stacks, called, used}
 
@@ -22,6 +22,11 @@ carrier k v = record { kind = k; values = v ∷ [] }
 
 abbrev pub r : ℕ → Function ℕ → Rule ℕ
 r t f = record { target = t; function = f }
+
+-- ---- kinds and values, one beside the other
+
+beside : tokensFrom (0 ∷ 1 ∷ []) (pos 7 ∷ pos 8 ∷ []) ≡ record { kind = 0; value = pos 7 } ∷ record { kind = 1; value = pos 8 } ∷ []
+beside = refl
 
 -- ---- the grammar of words and tags, where a word carries its length and n adds the lengths up
 

@@ -21,4 +21,25 @@ abbrev pub wideSegment : List ℕ
 wideSegment = 2 ∷ 0 ∷ 1 ∷ 2 ∷ []
 
 pub wide-tree : TreeOf wide (plain wideSegment) wideTree
-wide-tree = record { evaluated = (record { listed = lit< tt; symbol = refl; size = refl; ranges = tt; rules = (refl, (refl, (refl, tt))); conditions = tt }, ((record { listed = lit< tt; symbol = refl; size = refl; ranges = tt; rules = (refl, (refl, (refl, (refl, (refl, tt))))); conditions = tt }, ((record { listed = lit< tt; symbol = refl; size = refl; ranges = tt; rules = (refl, (refl, tt)); conditions = tt }, ((refl, tt), tt)), ((refl, tt), ((record { listed = lit< tt; symbol = refl; size = refl; ranges = tt; rules = (refl, tt); conditions = tt }, ((refl, tt), tt)), ((record { listed = lit< tt; symbol = refl; size = refl; ranges = tt; rules = (refl, (refl, tt)); conditions = tt }, ((refl, tt), tt)), tt))))), tt)); read = refl }
+wide-tree = record {
+  evaluated = (
+    record { listed = lit< tt; symbol = refl; size = refl; ranges = tt; rules = (refl, (refl, (refl, tt))); conditions = tt },
+    (
+      (
+        record { listed = lit< tt; symbol = refl; size = refl; ranges = tt; rules = (refl, (refl, (refl, (refl, (refl, tt))))); conditions = tt },
+        (
+          (record { listed = lit< tt; symbol = refl; size = refl; ranges = tt; rules = (refl, (refl, tt)); conditions = tt }, ((refl, tt), tt)),
+          (
+            (refl, tt),
+            (
+              (record { listed = lit< tt; symbol = refl; size = refl; ranges = tt; rules = (refl, tt); conditions = tt }, ((refl, tt), tt)),
+              ((record { listed = lit< tt; symbol = refl; size = refl; ranges = tt; rules = (refl, (refl, tt)); conditions = tt }, ((refl, tt), tt)), tt),
+            ),
+          ),
+        ),
+      ),
+      tt,
+    ),
+  );
+  read = refl;
+}

@@ -21,7 +21,8 @@ use Rattle.preview.proofs.may_cells.Statement.{statement}
 use Rattle.preview.proofs.may_cells.Tie as tie
 
 -- 0 was judged, for the run's own stacks
-judged-none : (c : tie.Else1) → (let a = c .before .before .before .before .before .before .before .args in (g : Grammar) → HasProgram g (now (a .program)) → 0 ≡ copyNumber g (stateIs (a .brought)) (stacksOf (now (a .registers)) (now (a .places))) (stacksOf (now (a .scratch-registers)) (now (a .scratch-places))))
+judged-none : (c : tie.Else1) → (let a = c .before .before .before .before .before .before .before .args in (g : Grammar) → HasProgram g (now (a .program)) → 0
+    ≡ copyNumber g (stateIs (a .brought)) (stacksOf (now (a .registers)) (now (a .places))) (stacksOf (now (a .scratch-registers)) (now (a .scratch-places))))
 judged-none c g x = sym (c .if1 .left) ∙ c .before .judge .ensures g x
 
 long : (c : tie.After-smaller2) → (let a = c .before .before .before .before .before .before .before .before .before .args in (c .before .smaller .result ≤ length (now (a .scratch-registers))) × (c .smaller2 .result ≤ length (now (a .scratch-places))))
@@ -90,8 +91,12 @@ may-lent-requires : tie.Need-may-lent-requires
 may-lent-requires c κs =
     let k = c .before .before .before .before in
     let s = k .before .before .before .before .before .before .before .before .before in
-    let a = s .args in
-    (cells-judged (s .pre) (stateIs (a .brought)) (now (a .registers)) (now (a .scratch-registers)) (now (a .places)) (now (a .scratch-places)) (k .before .smaller .result) (k .smaller2 .result) (k .before .smaller .ensures) (k .smaller2 .ensures) (judged-none (k .before .before)), cells-alike (s .pre) (stateIs (a .brought)) (now (a .registers)) (now (a .scratch-registers)) (now (a .places)) (now (a .scratch-places)) (k .before .smaller .result) (k .smaller2 .result) (k .before .smaller .ensures) (k .smaller2 .ensures) (judged-none (k .before .before)))
+    let a = s .args in (
+      cells-judged (s .pre) (stateIs (a .brought)) (now (a .registers)) (now (a .scratch-registers)) (now (a .places)) (now (a .scratch-places)) (k .before .smaller .result) (k .smaller2 .result) (k .before .smaller .ensures)
+          (k .smaller2 .ensures) (judged-none (k .before .before)),
+      cells-alike (s .pre) (stateIs (a .brought)) (now (a .registers)) (now (a .scratch-registers)) (now (a .places)) (now (a .scratch-places)) (k .before .smaller .result)
+          (k .smaller2 .result) (k .before .smaller .ensures) (k .smaller2 .ensures) (judged-none (k .before .before)),
+    )
 
 -- src/cells.rt:148:1
 same-length-3 : tie.Need-same-length-3
@@ -110,7 +115,9 @@ returns-2 c =
     let a = s .args in
     let v = toZ w32 (ofZ w32 (a .value)) in
     let e : v ≡ a .value = toZ-ofZ (s .fits .value) in
-    λ g x. may-made (stateIs (a .brought)) (now (a .registers)) (now (a .scratch-registers)) (now (a .places)) (now (a .scratch-places)) (k .before .smaller .result) (k .smaller2 .result) (k .before .smaller .ensures) (k .smaller2 .ensures) (judged-none (k .before .before)) v (f .result) (now (a .program)) (f .last .1 .1 .0) (f .last .1 .1 .1 .0) (f .ensures) g x ∙ ap (λ z. mayOf g (stateIs (a .brought)) (stacksOf (now (a .registers)) (now (a .places))) (stacksOf (now (a .scratch-registers)) (now (a .scratch-places))) z (now (a .program))) e
+    λ g x. may-made (stateIs (a .brought)) (now (a .registers)) (now (a .scratch-registers)) (now (a .places)) (now (a .scratch-places)) (k .before .smaller .result) (k .smaller2 .result) (k .before .smaller .ensures)
+    (k .smaller2 .ensures) (judged-none (k .before .before)) v (f .result) (now (a .program)) (f .last .1 .1 .0) (f .last .1 .1 .1 .0) (f .ensures) g x
+    ∙ ap (λ z. mayOf g (stateIs (a .brought)) (stacksOf (now (a .registers)) (now (a .places))) (stacksOf (now (a .scratch-registers)) (now (a .scratch-places))) z (now (a .program))) e
 
 pub may-cells-spec : {M : Type 1} → statement M
 may-cells-spec =

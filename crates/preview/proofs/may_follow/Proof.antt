@@ -7,8 +7,8 @@ use denote.Ref.{now}
 use Rattle.meaning.specs.PublicCalls.{stacksOf}
 use Rattle.meaning_preview.specs.Preview.{mayOf}
 use Rattle.engine.specs.Records.{recordIs}
-use Rattle.engine.specs.Beginning.{standing-shown, standing-readable}
-use Rattle.engine.proofs.Cases.{ready-case}
+use Rattle.prepare.specs.Beginning.{standing-shown, standing-readable}
+use Rattle.prepare.proofs.Beginning.{ready-case}
 use Rattle.preview.specs.May.{mayEffectIs}
 use Rattle.preview.specs.Beginning.{turned-mays, standing-mays}
 use borrow.Author.Needs.{needs}

@@ -9,8 +9,8 @@ use Rattle.meaning.specs.PublicCalls.{stacksOf}
 use Rattle.meaning_preview.specs.Preview.{previewOf}
 use Rattle.records.specs.Records.{handedIs}
 use Rattle.engine.specs.Records.{recordIs, effectIs}
-use Rattle.engine.specs.Beginning.{standing-shown, standing-readable, standing-called}
-use Rattle.engine.proofs.Cases.{ready-case, turned-case}
+use Rattle.prepare.specs.Beginning.{standing-shown, standing-readable, standing-called}
+use Rattle.prepare.proofs.Beginning.{ready-case, turned-case}
 use borrow.Author.Needs.{needs}
 use Rattle.preview.proofs.preview.Statement.{statement}
 use Rattle.preview.proofs.preview.Tie as tie

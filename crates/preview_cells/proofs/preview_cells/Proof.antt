@@ -20,7 +20,8 @@ use Rattle.preview_cells.proofs.preview_cells.Statement.{statement}
 use Rattle.preview_cells.proofs.preview_cells.Tie as tie
 
 -- 0 was judged, for the run's own stacks
-judged-none : (c : tie.Else1) → (let a = c .before .before .before .before .before .before .before .args in (g : Grammar) → HasProgram g (now (a .program)) → 0 ≡ copyNumber g (stateIs (a .brought)) (stacksOf (now (a .registers)) (now (a .places))) (stacksOf (now (a .scratch-registers)) (now (a .scratch-places))))
+judged-none : (c : tie.Else1) → (let a = c .before .before .before .before .before .before .before .args in (g : Grammar) → HasProgram g (now (a .program)) → 0
+    ≡ copyNumber g (stateIs (a .brought)) (stacksOf (now (a .registers)) (now (a .places))) (stacksOf (now (a .scratch-registers)) (now (a .scratch-places))))
 judged-none c g x = sym (c .if1 .left) ∙ c .before .judge .ensures g x
 
 long : (c : tie.After-smaller2) → (let a = c .before .before .before .before .before .before .before .before .before .args in (c .before .smaller .result ≤ length (now (a .scratch-registers))) × (c .smaller2 .result ≤ length (now (a .scratch-places))))

@@ -54,8 +54,16 @@ loop-less c = omega arith
 loop-again : tie.Need-loop-again Inv-loop μ-loop
 loop-again c =
     let l = c .before .before .before .before .before .before .before .before .loop in
-    let p = c .before .before .before .before .passes in
-    (omega arith, collected-more (l .inv .1) (omega (arith, few-terminals (c .before .before .before .before .before .before .before .before .before .before .before .before .before .pre .0), c .before .before .before .before .before .before .before .before .before .word-at .ensures)) (p .result) (p .ensures .0) (c .grown .result .0) (c .grown .ensures), p .ensures .1)
+    let p = c .before .before .before .before .passes in (
+      omega arith,
+      collected-more (l .inv .1) (omega (
+        arith,
+        few-terminals (c .before .before .before .before .before .before .before .before .before .before .before .before .before .pre .0),
+        c .before .before .before .before .before
+            .before .before .before .before .word-at .ensures,
+      )) (p .result) (p .ensures .0) (c .grown .result .0) (c .grown .ensures),
+      p .ensures .1,
+    )
 
 -- src/collect.rt:51:1
 same-length : tie.Need-same-length Inv-loop μ-loop

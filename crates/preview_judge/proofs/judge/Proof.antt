@@ -32,7 +32,8 @@ returns-2 c =
     let r = stateIs (a .brought) in
     let m = stacksOf (now (a .registers)) (now (a .places)) in
     let s = stacksOf (now (a .scratch-registers)) (now (a .scratch-places)) in
-    λ g x. copy-short g r m s (sym (c .before .before .before .judge-cells .ensures g x) ∙ c .before .before .if1 .left) (short-registers (now (a .registers)) (now (a .scratch-registers)) (now (a .places)) (now (a .scratch-places)) (c .before .smaller .result) _ (c .before .smaller .ensures) refl (c .if2 .taken))
+    λ g x. copy-short g r m s (sym (c .before .before .before .judge-cells .ensures g x) ∙ c .before .before .if1 .left)
+    (short-registers (now (a .registers)) (now (a .scratch-registers)) (now (a .places)) (now (a .scratch-places)) (c .before .smaller .result) _ (c .before .smaller .ensures) refl (c .if2 .taken))
 
 -- src/cells.rt:49:31
 smaller-requires-2 : tie.Need-smaller-requires-2
@@ -45,7 +46,9 @@ returns-3 c =
     let r = stateIs (a .brought) in
     let m = stacksOf (now (a .registers)) (now (a .places)) in
     let s = stacksOf (now (a .scratch-registers)) (now (a .scratch-places)) in
-    λ g x. copy-short g r m s (sym (c .before .before .before .before .before .judge-cells .ensures g x) ∙ c .before .before .before .before .if1 .left) (short-places (now (a .registers)) (now (a .scratch-registers)) (now (a .places)) (now (a .scratch-places)) (c .before .before .before .smaller .result) (c .before .smaller2 .result) (c .before .before .before .smaller .ensures) (c .before .smaller2 .ensures) (omega (arith, c .before .before .if2 .left)) (c .if3 .taken))
+    λ g x. copy-short g r m s (sym (c .before .before .before .before .before .judge-cells .ensures g x) ∙ c .before .before .before .before .if1 .left)
+    (short-places (now (a .registers)) (now (a .scratch-registers)) (now (a .places)) (now (a .scratch-places)) (c .before .before .before .smaller .result) (c .before .smaller2 .result) (c .before .before .before .smaller .ensures)
+    (c .before .smaller2 .ensures) (omega (arith, c .before .before .if2 .left)) (c .if3 .taken))
 
 -- src/cells.rt:31:1
 returns-4 : tie.Need-returns-4
@@ -54,7 +57,9 @@ returns-4 c =
     let r = stateIs (a .brought) in
     let m = stacksOf (now (a .registers)) (now (a .places)) in
     let s = stacksOf (now (a .scratch-registers)) (now (a .scratch-places)) in
-    λ g x. copy-on g r m s (sym (c .before .before .before .before .before .judge-cells .ensures g x) ∙ c .before .before .before .before .if1 .left) (not-short (now (a .registers)) (now (a .scratch-registers)) (now (a .places)) (now (a .scratch-places)) (c .before .before .before .smaller .result) (c .before .smaller2 .result) (c .before .before .before .smaller .ensures) (c .before .smaller2 .ensures) (omega (arith, c .before .before .if2 .left)) (omega (arith, c .if3 .left)))
+    λ g x. copy-on g r m s (sym (c .before .before .before .before .before .judge-cells .ensures g x) ∙ c .before .before .before .before .if1 .left)
+    (not-short (now (a .registers)) (now (a .scratch-registers)) (now (a .places)) (now (a .scratch-places)) (c .before .before .before .smaller .result) (c .before .smaller2 .result) (c .before .before .before .smaller .ensures)
+    (c .before .smaller2 .ensures) (omega (arith, c .before .before .if2 .left)) (omega (arith, c .if3 .left)))
 
 pub judge-spec : {M : Type 1} → statement M
 judge-spec =

@@ -53,7 +53,8 @@ returns c =
     let j = s .pre .0 in
     let r = c .before .before .before .before .before .before .before .run-of in
     let t = c .before .before .before .before .attempt in
-    λ g x. tried-is (j .few) (j .little) (now (a .scratch-registers)) (now (a .scratch-places)) (s .pre .1 .registers) (s .pre .1 .places) j (r .result) (r .ensures) g x (a .kind) v (t .result) (t .ensures .0) (c .fed .result) (c .fed .ensures) (t .last .1 .1 .0) (t .last .1 .1 .1 .0) (t .ensures .1) ∙ ap (tried g (stateIs (a .brought)) (stacksOf (now (a .registers)) (now (a .places))) (stacksOf (now (a .scratch-registers)) (now (a .scratch-places))) (a .kind)) e
+    λ g x. tried-is (j .few) (j .little) (now (a .scratch-registers)) (now (a .scratch-places)) (s .pre .1 .registers) (s .pre .1 .places) j (r .result) (r .ensures) g x (a .kind) v (t .result) (t .ensures .0) (c .fed .result)
+    (c .fed .ensures) (t .last .1 .1 .0) (t .last .1 .1 .1 .0) (t .ensures .1) ∙ ap (tried g (stateIs (a .brought)) (stacksOf (now (a .registers)) (now (a .places))) (stacksOf (now (a .scratch-registers)) (now (a .scratch-places))) (a .kind)) e
 
 pub preview-lent-spec : {M : Type 1} → statement M
 preview-lent-spec =

@@ -14,14 +14,16 @@ use Rattle.preview_scratch.proofs.attempt.Statement.{statement}
 use Rattle.preview_scratch.proofs.attempt.Tie as tie
 
 -- the token's feed on the caller's own cells
-fed : (c : tie.After-feed) → (let a = c .before .before .before .before .before .before .before .before .before .before .before .before .before .before .before .args in Feeds (now (a .program)) (a .kind ∷ []) (a .value ∷ []) (now (a .registers)) (now (a .places)) (a .run) (c .feed .last .0) (c .feed .last .1 .0) (c .feed .result))
+fed : (c : tie.After-feed) → (let a = c .before .before .before .before .before .before .before .before .before .before .before .before .before .before .before .args in
+    Feeds (now (a .program)) (a .kind ∷ []) (a .value ∷ []) (now (a .registers)) (now (a .places)) (a .run) (c .feed .last .0) (c .feed .last .1 .0) (c .feed .result))
 fed c =
     let s = c .before .before .before .before .before .before .before .before .before .before .before .before .before .before .before in
     let f = c .feed in
     let v = s .args .value in
     let e : toZ w32 (ofZ w32 v) ≡ v = toZ-ofZ (s .fits .value) in
     subst (λ z. Feeds (now (s .args .program)) (s .args .kind ∷ []) (z ∷ []) (now (s .args .registers)) (now (s .args .places)) (s .args .run) (f .last .0) (f .last .1 .0) (f .result)) e
-    (fed-copied (s .pre .0) (s .pre .1) _ _ (c .before .before .before .before .before .before .before .before .before .before .copy-registers .ensures) (c .before .before .before .before .before .before .before .copy-places .ensures) (s .args .kind) (toZ w32 (ofZ w32 v)) (f .last .0) (f .last .1 .0) (f .result) (f .ensures))
+    (fed-copied (s .pre .0) (s .pre .1) _ _ (c .before .before .before .before .before .before .before .before .before .before .copy-registers .ensures)
+    (c .before .before .before .before .before .before .before .copy-places .ensures) (s .args .kind) (toZ w32 (ofZ w32 v)) (f .last .0) (f .last .1 .0) (f .result) (f .ensures))
 
 -- src/scratch.rt:61:5
 copy-registers-requires : tie.Need-copy-registers-requires

@@ -1,46 +1,64 @@
+use Prim.Native.Nat.{_+_, _-_}
 use native.Mathlib.Omega.{arith}
+use mathlib.Core.Path.{_≡_, ap, _∙_}
+use denote.Ref.{now}
+use Rattle.meaning.specs.Table.{byte}
 use borrow.Author.Needs.{needs}
 use Rattle.program_body_words.specs.Schemes as S
 use Rattle.program_bodies.proofs.whole_sum.Statement.{statement}
 use Rattle.program_bodies.proofs.whole_sum.Tie as tie
 
-byte-at-requires : tie.Need-byte-at-requires
-byte-at-requires c κs = search needs
+row-size-requires : tie.Need-row-size-requires
+row-size-requires c κs = search needs
 
 cast-size : tie.Need-cast-size
 cast-size c = search needs
 
 returns : tie.Need-returns
-returns c = λ fs ss ms ls x. S.sum-none x _ (c .before .byte-at .ensures .0) (omega arith)
+returns c = λ fs ss ms ls x. S.sum-none x _ (c .before .row-size .ensures .0) (omega arith)
 
-add-byte-at : tie.Need-add-byte-at
-add-byte-at c = search needs
+sub-row-symbol : tie.Need-sub-row-symbol
+sub-row-symbol c = omega arith
 
-byte-at-requires-2 : tie.Need-byte-at-requires-2
-byte-at-requires-2 c κs = search needs
+row-symbol-requires : tie.Need-row-symbol-requires
+row-symbol-requires c κs = omega (arith, c .before .row-size .ensures .1)
 
-count-at-requires : tie.Need-count-at-requires
-count-at-requires c κs = search needs
+-- the last symbol
+last : (c : tie.After-row-symbol) → c .row-symbol .result ≡ byte (now (c .before .before .before .before .before .before .args .row)) (c .before .before .row-size .result + 1)
+last c =
+    let n = c .before .before .row-size .result in
+    c .row-symbol .ensures .0 ∙ ap (byte (now (c .before .before .before .before .before .before .args .row))) {x = n - 1 + 2} {y = n + 1} (omega arith)
+
+cast-count-of : tie.Need-cast-count-of
+cast-count-of c = search needs
+
+count-of-requires : tie.Need-count-of-requires
+count-of-requires c κs = search needs
+
+cast-own : tie.Need-cast-own
+cast-own c = search needs
 
 number-at-requires : tie.Need-number-at-requires
 number-at-requires c κs = search needs
 
 sub-result : tie.Need-sub-result
-sub-result c = S.own-below (c .before .before .before .before .before .before .before .before .pre .1 .1 .1 .1) _ (c .before .before .before .before .byte-at .ensures .0) (omega arith) (c .before .before .byte-at2 .ensures .0) (c .before .count-at .ensures .0) (c .number-at .ensures)
+sub-result c = S.own-below (c .before .before .before .before .before .before .before .before .pre .1 .1 .1 .1) _ (c .before .before .before .before .row-size .ensures .0) (omega arith) (last (c .before .before)) (c .before .count-of .ensures) (c .number-at .ensures)
 
 returns-2 : tie.Need-returns-2
-returns-2 c = λ fs ss ms ls x. S.sum-some x _ (c .before .before .before .before .byte-at .ensures .0) (omega arith) (c .before .before .byte-at2 .ensures .0) (c .before .count-at .ensures .0) (c .number-at .ensures)
+returns-2 c = λ fs ss ms ls x. S.sum-some x _ (c .before .before .before .before .row-size .ensures .0) (omega arith) (last (c .before .before)) (c .before .count-of .ensures) (c .number-at .ensures)
 
 pub whole-sum-spec : {M : Type 1} → statement M
 whole-sum-spec =
     tie.close
     (tie.spec
-    byte-at-requires
+    row-size-requires
     cast-size
     returns
-    add-byte-at
-    byte-at-requires-2
-    count-at-requires
+    sub-row-symbol
+    row-symbol-requires
+    cast-count-of
+    count-of-requires
+    cast-own
     number-at-requires
     sub-result
     returns-2)

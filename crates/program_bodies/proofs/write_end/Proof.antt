@@ -1,3 +1,4 @@
+use Prim.Native.Nat.{_≤_, _<_}
 use native.Mathlib.Omega.{arith}
 use Rattle.program_block_words.specs.Patch.{wrote-length}
 use Rattle.program_body_words.specs.Schemes as S
@@ -6,101 +7,80 @@ use Rattle.program_bodies.proofs.write_end.Statement.{statement}
 use Rattle.program_bodies.proofs.write_end.Tie as tie
 
 whole-sum-requires : tie.Need-whole-sum-requires
-whole-sum-requires c κs = (_, (_, (_, (_, c .before .before .before .before .before .before .before .before .pre .prepared))))
+whole-sum-requires c κs = (_, (_, (_, (_, c .before .before .before .before .before .before .before .pre .prepared))))
 
-byte-at-requires : tie.Need-byte-at-requires
-byte-at-requires c κs = search needs
+row-left-requires : tie.Need-row-left-requires
+row-left-requires c κs = search needs
 
 cast-byte-at : tie.Need-cast-byte-at
 cast-byte-at c = search needs
 
-byte-at-requires-2 : tie.Need-byte-at-requires-2
-byte-at-requires-2 c κs = search needs
+byte-at-requires : tie.Need-byte-at-requires
+byte-at-requires c κs = search needs
+
+-- the sum of the attributes is small
+small : (c : tie.After-byte-at) → c .before .before .whole-sum .result ≤ 96
+small c =
+    let sum = c .before .before in
+    S.sum-small (sum .before .before .before .before .before .before .before .before .pre) (sum .whole-sum .ensures _ _ _ _) (c .before .row-left .ensures .0) (c .byte-at .ensures .0)
 
 write-block-requires : tie.Need-write-block-requires
 write-block-requires c κs =
-    let x = c .before .before .before .before .before .before .before .before .before .before .before .before .pre in
-    let s = c .before .before .before .whole-sum .ensures in
-    let l = c .before .before .byte-at .ensures .0 in
-    let o = c .before .byte-at2 .ensures .0 in
-    (omega (arith, S.sum-small x (s _ _ _ _) l o), S.end-block x (s _ _ _ _) l o)
+    let own = c .before in
+    let left = own .before in
+    let sum = left .before in
+    (omega (arith, small own), S.end-block (sum .before .before .before .before .before .before .before .before .pre) (sum .whole-sum .ensures _ _ _ _) (left .row-left .ensures .0) (own .byte-at .ensures .0))
+
+-- the remove stands inside the area
+below : (c : tie.After-write-block) → c .write-block .result < 16384
+below c =
+    let own = c .before .before in
+    let left = own .before in
+    let sum = left .before in
+    S.next-small (sum .before .before .before .before .before .before .before .before .pre) (sum .whole-sum .ensures _ _ _ _) (left .row-left .ensures .0) (own .byte-at .ensures .0) (c .write-block .ensures)
 
 add-area : tie.Need-add-area
-add-area c =
-    let x = c .before .before .before .before .before .before .before .before .before .before .before .before .before .before .before .pre in
-    let s = c .before .before .before .before .before .before .whole-sum .ensures in
-    let l = c .before .before .before .before .before .byte-at .ensures .0 in
-    let o = c .before .before .before .before .byte-at2 .ensures .0 in
-    omega (arith, S.sum-small x (s _ _ _ _) l o)
+add-area c = omega (arith, small (c .before .before .before .before))
 
 mul-area : tie.Need-mul-area
-mul-area c =
-    let x = c .before .before .before .before .before .before .before .before .before .before .before .before .before .before .before .pre in
-    let s = c .before .before .before .before .before .before .whole-sum .ensures in
-    let l = c .before .before .before .before .before .byte-at .ensures .0 in
-    let o = c .before .before .before .before .byte-at2 .ensures .0 in
-    omega (arith, S.sum-small x (s _ _ _ _) l o)
+mul-area c = omega (arith, small (c .before .before .before .before))
 
 add-area-2 : tie.Need-add-area-2
-add-area-2 c =
-    let x = c .before .before .before .before .before .before .before .before .before .before .before .before .before .before .before .pre in
-    let s = c .before .before .before .before .before .before .whole-sum .ensures in
-    let l = c .before .before .before .before .before .byte-at .ensures .0 in
-    let o = c .before .before .before .before .byte-at2 .ensures .0 in
-    omega (arith, S.sum-small x (s _ _ _ _) l o)
+add-area-2 c = omega (arith, small (c .before .before .before .before))
 
 mul-area-2 : tie.Need-mul-area-2
-mul-area-2 c =
-    let x = c .before .before .before .before .before .before .before .before .before .before .before .before .before .before .before .pre in
-    let s = c .before .before .before .before .before .before .whole-sum .ensures in
-    let l = c .before .before .before .before .before .byte-at .ensures .0 in
-    let o = c .before .before .before .before .byte-at2 .ensures .0 in
-    let rules = c .before .before .write-block .ensures in
-    omega (arith, S.next-small x (s _ _ _ _) l o rules)
+mul-area-2 c = omega (arith, below (c .before .before))
 
 slice-write-area : tie.Need-slice-write-area
 slice-write-area c =
-    let x = c .before .before .before .before .before .before .before .before .before .before .before .before .before .before .before .pre in
-    let s = c .before .before .before .before .before .before .whole-sum .ensures in
-    let l = c .before .before .before .before .before .byte-at .ensures .0 in
-    let o = c .before .before .before .before .byte-at2 .ensures .0 in
-    let rules = c .before .before .write-block .ensures in
-    S.next-inside x (s _ _ _ _) l o rules
+    let rules = c .before .before in
+    let own = rules .before .before in
+    let left = own .before in
+    let sum = left .before in
+    S.next-inside (sum .before .before .before .before .before .before .before .before .pre) (sum .whole-sum .ensures _ _ _ _) (left .row-left .ensures .0) (own .byte-at .ensures .0) (rules .write-block .ensures)
 
 add-result : tie.Need-add-result
-add-result c =
-    let x = c .before .before .before .before .before .before .before .before .before .before .before .before .before .before .before .pre in
-    let s = c .before .before .before .before .before .before .whole-sum .ensures in
-    let l = c .before .before .before .before .before .byte-at .ensures .0 in
-    let o = c .before .before .before .before .byte-at2 .ensures .0 in
-    let rules = c .before .before .write-block .ensures in
-    omega (arith, S.next-small x (s _ _ _ _) l o rules)
-
-same-length : tie.Need-same-length
-same-length c =
-    let x = c .before .before .before .before .before .before .before .before .before .before .before .before .before .before .before .pre in
-    let s = c .before .before .before .before .before .before .whole-sum .ensures in
-    let l = c .before .before .before .before .before .byte-at .ensures .0 in
-    let o = c .before .before .before .before .byte-at2 .ensures .0 in
-    let rules = c .before .before .write-block .ensures in
-    wrote-length (S.end-written x (s _ _ _ _) l o rules)
+add-result c = omega (arith, below (c .before .before))
 
 returns : tie.Need-returns
 returns c =
-    let s = c .before .before .before .before .before .before .whole-sum .ensures in
-    let l = c .before .before .before .before .before .byte-at .ensures .0 in
-    let o = c .before .before .before .before .byte-at2 .ensures .0 in
-    let rules = c .before .before .write-block .ensures in
-    λ x. S.end-written x (s _ _ _ _) l o rules
+    let rules = c .before .before in
+    let own = rules .before .before in
+    let left = own .before in
+    let sum = left .before in
+    λ x. S.end-written x (sum .whole-sum .ensures _ _ _ _) (left .row-left .ensures .0) (own .byte-at .ensures .0) (rules .write-block .ensures)
+
+same-length : tie.Need-same-length
+same-length c = wrote-length (returns c (c .before .before .before .before .before .before .before .before .before .before .before .before .before .before .pre))
 
 pub write-end-spec : {M : Type 1} → statement M
 write-end-spec =
     tie.close
     (tie.spec
     whole-sum-requires
-    byte-at-requires
+    row-left-requires
     cast-byte-at
-    byte-at-requires-2
+    byte-at-requires
     write-block-requires
     add-area
     mul-area

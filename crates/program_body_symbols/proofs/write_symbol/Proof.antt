@@ -1,20 +1,30 @@
+use Prim.Native.Nat.{_<_}
 use native.Mathlib.Omega.{arith}
 use Rattle.program_body_words.specs.Symbols as S
 use borrow.Author.Needs.{needs}
 use Rattle.program_body_symbols.proofs.write_symbol.Statement.{statement}
 use Rattle.program_body_symbols.proofs.write_symbol.Tie as tie
 
-add-byte-at : tie.Need-add-byte-at
-add-byte-at c = search needs
+row-symbol-requires : tie.Need-row-symbol-requires
+row-symbol-requires c κs = omega (arith, S.index-small (c .before .before .before .before .before .before .before .before .pre))
 
-byte-at-requires : tie.Need-byte-at-requires
-byte-at-requires c κs = search needs
+cast-count-of : tie.Need-cast-count-of
+cast-count-of c = search needs
 
-count-at-requires : tie.Need-count-at-requires
-count-at-requires c κs = search needs
+count-of-requires : tie.Need-count-of-requires
+count-of-requires c κs = search needs
 
-count-at-requires-2 : tie.Need-count-at-requires-2
-count-at-requires-2 c κs = search needs
+cast-own : tie.Need-cast-own
+cast-own c = search needs
+
+cast-count-of-2 : tie.Need-cast-count-of-2
+cast-count-of-2 c = search needs
+
+count-of-requires-2 : tie.Need-count-of-requires-2
+count-of-requires-2 c κs = search needs
+
+cast-all : tie.Need-cast-all
+cast-all c = search needs
 
 add-all : tie.Need-add-all
 add-all c = search needs
@@ -27,35 +37,42 @@ number-at-requires c κs = search needs
 
 write-add-requires : tie.Need-write-add-requires
 write-add-requires c κs =
-    let x = c .before .before .before .before .before .before .before .before .before .before .before .before .before .pre in
-    let b = c .before .before .before .before .byte-at .ensures .0 in
-    let o = c .before .before .before .count-at .ensures .0 in
-    let u = c .before .before .count-at2 .ensures .0 in
-    S.add-fits x b o u
+    let top = c .before in
+    let synthesized = top .before in
+    let inherited = synthesized .before in
+    let symbol = inherited .before in
+    let st = symbol .before .before .before .before .before .before .before .before .before in
+    S.add-fits (st .pre) (symbol .row-symbol .ensures .0) (inherited .count-of .ensures) (synthesized .count-of2 .ensures)
 
 add-write-block : tie.Need-add-write-block
 add-write-block c = search needs
 
 write-block-requires : tie.Need-write-block-requires
 write-block-requires c κs =
-    let x = c .before .before .before .before .before .before .before .before .before .before .before .before .before .before .before .before .before .pre in
-    let b = c .before .before .before .before .before .before .before .before .byte-at .ensures .0 in
-    let o = c .before .before .before .before .before .before .before .count-at .ensures .0 in
-    let u = c .before .before .before .before .before .before .count-at2 .ensures .0 in
-    let t = c .before .before .before .before .before .number-at .ensures in
-    let add = c .before .before .before .write-add .ensures in
-    (S.top-small x b o u t, S.evaluate-fits x b o u t add)
+    let add = c .before .before .before in
+    let top = add .before .before in
+    let synthesized = top .before in
+    let inherited = synthesized .before in
+    let symbol = inherited .before in
+    let st = symbol .before .before .before .before .before .before .before .before .before in (
+      S.top-small (st .pre) (symbol .row-symbol .ensures .0) (inherited .count-of .ensures) (synthesized .count-of2 .ensures) (top .number-at .ensures),
+      S.evaluate-fits (st .pre) (symbol .row-symbol .ensures .0)
+          (inherited .count-of .ensures) (synthesized .count-of2 .ensures) (top .number-at .ensures) (add .write-add .ensures),
+    )
+
+-- the expect stands inside the area
+below : (c : tie.After-write-block) → c .write-block .result < 16384
+below c =
+    let add = c .before .before .before .before in
+    let top = add .before .before in
+    let synthesized = top .before in
+    let inherited = synthesized .before in
+    let symbol = inherited .before in
+    let st = symbol .before .before .before .before .before .before .before .before .before in
+    S.next-small (st .pre) (symbol .row-symbol .ensures .0) (inherited .count-of .ensures) (synthesized .count-of2 .ensures) (top .number-at .ensures) (add .write-add .ensures) (c .write-block .ensures)
 
 cast-area : tie.Need-cast-area
-cast-area c =
-    let x = c .before .before .before .before .before .before .before .before .before .before .before .before .before .before .before .before .before .before .before .before .pre in
-    let b = c .before .before .before .before .before .before .before .before .before .before .before .byte-at .ensures .0 in
-    let o = c .before .before .before .before .before .before .before .before .before .before .count-at .ensures .0 in
-    let u = c .before .before .before .before .before .before .before .before .before .count-at2 .ensures .0 in
-    let t = c .before .before .before .before .before .before .before .before .number-at .ensures in
-    let add = c .before .before .before .before .before .before .write-add .ensures in
-    let rules = c .before .before .write-block .ensures in
-    omega (arith, S.next-small x b o u t add rules)
+cast-area c = omega (arith, below (c .before .before))
 
 add-area : tie.Need-add-area
 add-area c = search needs
@@ -70,95 +87,85 @@ head-of-requires : tie.Need-head-of-requires
 head-of-requires c κs = search needs
 
 mul-area-2 : tie.Need-mul-area-2
-mul-area-2 c =
-    let x = c .before .before .before .before .before .before .before .before .before .before .before .before .before .before .before .before .before .before .before .before .before .pre in
-    let b = c .before .before .before .before .before .before .before .before .before .before .before .before .byte-at .ensures .0 in
-    let o = c .before .before .before .before .before .before .before .before .before .before .before .count-at .ensures .0 in
-    let u = c .before .before .before .before .before .before .before .before .before .before .count-at2 .ensures .0 in
-    let t = c .before .before .before .before .before .before .before .before .before .number-at .ensures in
-    let add = c .before .before .before .before .before .before .before .write-add .ensures in
-    let rules = c .before .before .before .write-block .ensures in
-    omega (arith, S.next-small x b o u t add rules)
+mul-area-2 c = omega (arith, below (c .before .before .before))
 
 slice-write-area-2 : tie.Need-slice-write-area-2
 slice-write-area-2 c =
-    let x = c .before .before .before .before .before .before .before .before .before .before .before .before .before .before .before .before .before .before .before .before .before .pre in
-    let b = c .before .before .before .before .before .before .before .before .before .before .before .before .byte-at .ensures .0 in
-    let o = c .before .before .before .before .before .before .before .before .before .before .before .count-at .ensures .0 in
-    let u = c .before .before .before .before .before .before .before .before .before .before .count-at2 .ensures .0 in
-    let t = c .before .before .before .before .before .before .before .before .before .number-at .ensures in
-    let add = c .before .before .before .before .before .before .before .write-add .ensures in
-    let rules = c .before .before .before .write-block .ensures in
-    S.next-inside x b o u t add rules
+    let rules = c .before .before .before in
+    let add = rules .before .before .before .before in
+    let top = add .before .before in
+    let synthesized = top .before in
+    let inherited = synthesized .before in
+    let symbol = inherited .before in
+    let st = symbol .before .before .before .before .before .before .before .before .before in
+    S.next-inside (st .pre) (symbol .row-symbol .ensures .0) (inherited .count-of .ensures) (synthesized .count-of2 .ensures) (top .number-at .ensures) (add .write-add .ensures) (rules .write-block .ensures)
+
+sub-rest : tie.Need-sub-rest
+sub-rest c =
+    let top = c .before .before .before .before .before .before .before .before .before in
+    let synthesized = top .before in
+    let inherited = synthesized .before in
+    let symbol = inherited .before in
+    let st = symbol .before .before .before .before .before .before .before .before .before in
+    S.own-below (st .pre) (symbol .row-symbol .ensures .0) (inherited .count-of .ensures) (synthesized .count-of2 .ensures) (top .number-at .ensures)
+
+add-test : tie.Need-add-test
+add-test c = omega (arith, below (c .before .before .before))
 
 add-write-block-2 : tie.Need-add-write-block-2
 add-write-block-2 c = omega (arith, S.index-small (c .before .before .before .before .before .before .before .before .before .before .before .before .before .before .before .before .before .before .before .before .before .pre))
 
-sub-write-block : tie.Need-sub-write-block
-sub-write-block c =
-    let x = c .before .before .before .before .before .before .before .before .before .before .before .before .before .before .before .before .before .before .before .before .before .pre in
-    let b = c .before .before .before .before .before .before .before .before .before .before .before .before .byte-at .ensures .0 in
-    let o = c .before .before .before .before .before .before .before .before .before .before .before .count-at .ensures .0 in
-    let u = c .before .before .before .before .before .before .before .before .before .before .count-at2 .ensures .0 in
-    let t = c .before .before .before .before .before .before .before .before .before .number-at .ensures in
-    S.own-below x b o u t
-
-add-write-block-3 : tie.Need-add-write-block-3
-add-write-block-3 c =
-    let x = c .before .before .before .before .before .before .before .before .before .before .before .before .before .before .before .before .before .before .before .before .before .before .pre in
-    let b = c .before .before .before .before .before .before .before .before .before .before .before .before .before .byte-at .ensures .0 in
-    let o = c .before .before .before .before .before .before .before .before .before .before .before .before .count-at .ensures .0 in
-    let u = c .before .before .before .before .before .before .before .before .before .before .before .count-at2 .ensures .0 in
-    let t = c .before .before .before .before .before .before .before .before .before .before .number-at .ensures in
-    let add = c .before .before .before .before .before .before .before .before .write-add .ensures in
-    let rules = c .before .before .before .before .write-block .ensures in
-    omega (arith, S.next-small x b o u t add rules)
-
 write-block-requires-2 : tie.Need-write-block-requires-2
 write-block-requires-2 c κs =
-    let x = c .before .before .before .before .before .before .before .before .before .before .before .before .before .before .before .before .before .before .before .before .before .before .pre in
-    let b = c .before .before .before .before .before .before .before .before .before .before .before .before .before .byte-at .ensures .0 in
-    let o = c .before .before .before .before .before .before .before .before .before .before .before .before .count-at .ensures .0 in
-    let u = c .before .before .before .before .before .before .before .before .before .before .before .count-at2 .ensures .0 in
-    let t = c .before .before .before .before .before .before .before .before .before .before .number-at .ensures in
-    let add = c .before .before .before .before .before .before .before .before .write-add .ensures in
-    let rules = c .before .before .before .before .write-block .ensures in
-    let head = c .before .head-of .ensures in
-    (omega (arith, S.top-small x b o u t), S.test-fits x b o u t add rules head)
+    let head = c .before in
+    let rules = head .before .before .before in
+    let add = rules .before .before .before .before in
+    let top = add .before .before in
+    let synthesized = top .before in
+    let inherited = synthesized .before in
+    let symbol = inherited .before in
+    let st = symbol .before .before .before .before .before .before .before .before .before in (
+      omega (arith, S.top-small (st .pre) (symbol .row-symbol .ensures .0) (inherited .count-of .ensures) (synthesized .count-of2 .ensures) (top .number-at .ensures)),
+      S.test-fits (st .pre) (symbol .row-symbol .ensures .0)
+          (inherited .count-of .ensures) (synthesized .count-of2 .ensures) (top .number-at .ensures) (add .write-add .ensures) (rules .write-block .ensures) (head .head-of .ensures),
+    )
 
 same-length : tie.Need-same-length
 same-length c =
-    let x = c .before .before .before .before .before .before .before .before .before .before .before .before .before .before .before .before .before .before .before .before .before .before .before .before .before .pre in
-    let b = c .before .before .before .before .before .before .before .before .before .before .before .before .before .before .before .before .byte-at .ensures .0 in
-    let o = c .before .before .before .before .before .before .before .before .before .before .before .before .before .before .before .count-at .ensures .0 in
-    let u = c .before .before .before .before .before .before .before .before .before .before .before .before .before .before .count-at2 .ensures .0 in
-    let t = c .before .before .before .before .before .before .before .before .before .before .before .before .before .number-at .ensures in
-    let add = c .before .before .before .before .before .before .before .before .before .before .before .write-add .ensures in
-    let rules = c .before .before .before .before .before .before .before .write-block .ensures in
-    let head = c .before .before .before .before .head-of .ensures in
-    let tests = c .before .before .write-block2 .ensures in
-    S.symbol-size x b o u t add rules head tests
+    let tests = c .before .before in
+    let head = tests .before .before in
+    let rules = head .before .before .before in
+    let add = rules .before .before .before .before in
+    let top = add .before .before in
+    let synthesized = top .before in
+    let inherited = synthesized .before in
+    let symbol = inherited .before in
+    let st = symbol .before .before .before .before .before .before .before .before .before in
+    S.symbol-size (st .pre) (symbol .row-symbol .ensures .0) (inherited .count-of .ensures) (synthesized .count-of2 .ensures) (top .number-at .ensures) (add .write-add .ensures) (rules .write-block .ensures) (head .head-of .ensures) (tests .write-block2 .ensures)
 
 returns : tie.Need-returns
 returns c =
-    let b = c .before .before .before .before .before .before .before .before .before .before .before .before .before .before .before .before .byte-at .ensures .0 in
-    let o = c .before .before .before .before .before .before .before .before .before .before .before .before .before .before .before .count-at .ensures .0 in
-    let u = c .before .before .before .before .before .before .before .before .before .before .before .before .before .before .count-at2 .ensures .0 in
-    let t = c .before .before .before .before .before .before .before .before .before .before .before .before .before .number-at .ensures in
-    let add = c .before .before .before .before .before .before .before .before .before .before .before .write-add .ensures in
-    let rules = c .before .before .before .before .before .before .before .write-block .ensures in
-    let head = c .before .before .before .before .head-of .ensures in
-    let tests = c .before .before .write-block2 .ensures in
-    λ x. S.symbol-written x b o u t add rules head tests
+    let tests = c .before .before in
+    let head = tests .before .before in
+    let rules = head .before .before .before in
+    let add = rules .before .before .before .before in
+    let top = add .before .before in
+    let synthesized = top .before in
+    let inherited = synthesized .before in
+    let symbol = inherited .before in
+    λ x. S.symbol-written x (symbol .row-symbol .ensures .0) (inherited .count-of .ensures) (synthesized .count-of2 .ensures) (top .number-at .ensures) (add .write-add .ensures) (rules .write-block .ensures) (head .head-of .ensures) (tests .write-block2 .ensures)
 
 pub write-symbol-spec : {M : Type 1} → statement M
 write-symbol-spec =
     tie.close
     (tie.spec
-    add-byte-at
-    byte-at-requires
-    count-at-requires
-    count-at-requires-2
+    row-symbol-requires
+    cast-count-of
+    count-of-requires
+    cast-own
+    cast-count-of-2
+    count-of-requires-2
+    cast-all
     add-all
     add-number-at
     number-at-requires
@@ -172,9 +179,9 @@ write-symbol-spec =
     head-of-requires
     mul-area-2
     slice-write-area-2
+    sub-rest
+    add-test
     add-write-block-2
-    sub-write-block
-    add-write-block-3
     write-block-requires-2
     same-length
     returns)

@@ -11,8 +11,8 @@ Inv-loop row fields inherited synthesized rules tests levels area₀ address exp
 abbrev μ-loop : tie.MeasureT-loop
 μ-loop row fields inherited synthesized rules tests levels area₀ address expects size k₀ to₀ area k to = size - k
 
-byte-at-requires : tie.Need-byte-at-requires Inv-loop μ-loop
-byte-at-requires c κs = search needs
+row-size-requires : tie.Need-row-size-requires Inv-loop μ-loop
+row-size-requires c κs = search needs
 
 cast-size : tie.Need-cast-size Inv-loop μ-loop
 cast-size c = search needs
@@ -21,7 +21,7 @@ loop-holds : tie.Need-loop-holds Inv-loop μ-loop
 loop-holds c = (omega arith, S.symbols-start)
 
 write-symbol-requires : tie.Need-write-symbol-requires Inv-loop μ-loop
-write-symbol-requires c κs = S.symbol-fits (c .before .before .loop .inv .1) _ (c .before .before .before .byte-at .ensures .0) (omega arith) (c .before .before .before .before .before .before .before .before .before .before .before .before .pre)
+write-symbol-requires c κs = S.symbol-fits (c .before .before .loop .inv .1) _ (c .before .before .before .row-size .ensures .0) (omega arith) (c .before .before .before .before .before .before .before .before .before .before .before .before .pre)
 
 add-k : tie.Need-add-k Inv-loop μ-loop
 add-k c = search needs
@@ -30,13 +30,13 @@ loop-less : tie.Need-loop-less Inv-loop μ-loop
 loop-less c = omega arith
 
 loop-again : tie.Need-loop-again Inv-loop μ-loop
-loop-again c = (omega arith, S.symbols-turn (c .before .before .before .before .before .loop .inv .1) _ (c .before .before .before .before .before .before .byte-at .ensures .0) (omega arith) (c .before .before .write-symbol .ensures))
+loop-again c = (omega arith, S.symbols-turn (c .before .before .before .before .before .loop .inv .1) _ (c .before .before .before .before .before .before .row-size .ensures .0) (omega arith) (c .before .before .write-symbol .ensures))
 
 same-length : tie.Need-same-length Inv-loop μ-loop
-same-length c = S.symbols-size (c .before .loop .inv .1) _ (c .before .before .byte-at .ensures .0) (c .before .before .before .before .before .before .before .before .before .before .before .pre)
+same-length c = S.symbols-size (c .before .loop .inv .1) _ (c .before .before .row-size .ensures .0) (c .before .before .before .before .before .before .before .before .before .before .before .pre)
 
 returns : tie.Need-returns Inv-loop μ-loop
-returns c = λ x. S.symbols-end (c .before .loop .inv .1) _ (c .before .before .byte-at .ensures .0) (omega arith) x
+returns c = λ x. S.symbols-end (c .before .loop .inv .1) _ (c .before .before .row-size .ensures .0) (omega arith) x
 
 pub write-symbols-spec : {M : Type 1} → statement M
 write-symbols-spec =
@@ -44,7 +44,7 @@ write-symbols-spec =
     (tie.spec
     Inv-loop
     μ-loop
-    byte-at-requires
+    row-size-requires
     cast-size
     loop-holds
     write-symbol-requires

@@ -29,14 +29,11 @@ clear-requires c κs = (omega arith, omega (arith, S.nonterminals-few (c .before
 loop-holds : tie.Need-loop-holds Inv-loop μ-loop
 loop-holds c = (omega arith, λ old long e. S.directory-start long e)
 
-sub-byte-at : tie.Need-sub-byte-at Inv-loop μ-loop
-sub-byte-at c = omega arith
+sub-left-of : tie.Need-sub-left-of Inv-loop μ-loop
+sub-left-of c = omega arith
 
-mul-byte-at : tie.Need-mul-byte-at Inv-loop μ-loop
-mul-byte-at c = omega (arith, S.count-few (c .before .before .before .before .before .before .before .before .before .pre .0 .rowsOf))
-
-byte-at-requires : tie.Need-byte-at-requires Inv-loop μ-loop
-byte-at-requires c κs = search needs
+left-of-requires : tie.Need-left-of-requires Inv-loop μ-loop
+left-of-requires c κs = omega (arith, c .before .before .before .before .before .before .before .before .before .pre .0 .rowsOf .room)
 
 cast-left : tie.Need-cast-left Inv-loop μ-loop
 cast-left c = search needs
@@ -51,17 +48,17 @@ cast-mark : tie.Need-cast-mark Inv-loop μ-loop
 cast-mark c = omega (arith, S.count-few (c .before .before .before .before .before .before .before .before .before .before .before .pre .0 .rowsOf))
 
 mul-mark : tie.Need-mul-mark Inv-loop μ-loop
-mul-mark c = omega (arith, S.left-few (c .before .before .before .before .before .before .before .before .before .before .before .before .pre .0 .rowsOf) _ _ (omega arith) (c .before .before .byte-at .ensures .0))
+mul-mark c = omega (arith, S.left-few (c .before .before .before .before .before .before .before .before .before .before .before .before .pre .0 .rowsOf) _ _ (omega arith) (c .before .before .left-of .ensures))
 
 add-mark : tie.Need-add-mark Inv-loop μ-loop
-add-mark c = omega (arith, S.left-few (c .before .before .before .before .before .before .before .before .before .before .before .before .pre .0 .rowsOf) _ _ (omega arith) (c .before .before .byte-at .ensures .0))
+add-mark c = omega (arith, S.left-few (c .before .before .before .before .before .before .before .before .before .before .before .before .pre .0 .rowsOf) _ _ (omega arith) (c .before .before .left-of .ensures))
 
 mark-requires : tie.Need-mark-requires Inv-loop μ-loop
 mark-requires c κs =
     let loop = c .before .before .before .before .loop in
     let clear = c .before .before .before .before .before .before .before .clear in
     let s = c .before .before .before .before .before .before .before .before .before .before .before .before in
-    omega (arith, S.left-few (s .pre .0 .rowsOf) _ _ (omega arith) (c .before .before .byte-at .ensures .0), s .pre .1, S.directory-size (s .pre .1) (loop .inv .1 (now (s .args .area)) (s .pre .1) (clear .ensures)) (s .pre .0))
+    omega (arith, S.left-few (s .pre .0 .rowsOf) _ _ (omega arith) (c .before .before .left-of .ensures), s .pre .1, S.directory-size (s .pre .1) (loop .inv .1 (now (s .args .area)) (s .pre .1) (clear .ensures)) (s .pre .0))
 
 sub-p : tie.Need-sub-p Inv-loop μ-loop
 sub-p c = omega arith
@@ -72,9 +69,9 @@ loop-less c = omega arith
 loop-again : tie.Need-loop-again Inv-loop μ-loop
 loop-again c =
     let set-at = c .before .before .before .before .set-at in
-    let byte-at = c .before .before .before .before .before .byte-at in
+    let left-of = c .before .before .before .before .before .left-of in
     let loop = c .before .before .before .before .before .before .before .loop in
-    (omega arith, λ old long e. S.directory-turn long (loop .inv .1 old long e) (omega arith) (omega arith) (byte-at .ensures .0) (set-at .ensures .0) (c .before .before .mark .ensures))
+    (omega arith, λ old long e. S.directory-turn long (loop .inv .1 old long e) (omega arith) (omega arith) (left-of .ensures) (set-at .ensures .0) (c .before .before .mark .ensures))
 
 same-length : tie.Need-same-length Inv-loop μ-loop
 same-length c =
@@ -99,9 +96,8 @@ write-directory-spec =
     add-end
     clear-requires
     loop-holds
-    sub-byte-at
-    mul-byte-at
-    byte-at-requires
+    sub-left-of
+    left-of-requires
     cast-left
     sub-set-at
     set-at-requires

@@ -19,17 +19,14 @@ loop-holds c = (omega arith, nexts-start)
 sub-p : tie.Need-sub-p Inv-loop μ-loop
 sub-p c = omega arith
 
-mul-byte-at : tie.Need-mul-byte-at Inv-loop μ-loop
-mul-byte-at c = omega (arith, S.count-few (c .before .before .before .pre .1))
-
-byte-at-requires : tie.Need-byte-at-requires Inv-loop μ-loop
-byte-at-requires c κs = search needs
+left-of-requires : tie.Need-left-of-requires Inv-loop μ-loop
+left-of-requires c κs = omega (arith, c .before .before .before .pre .1 .room)
 
 cast-left : tie.Need-cast-left Inv-loop μ-loop
 cast-left c = search needs
 
 array-read-nexts : tie.Need-array-read-nexts Inv-loop μ-loop
-array-read-nexts c = omega (arith, S.left-few (c .before .before .before .before .pre .1) _ _ (omega arith) (c .byte-at .ensures .0))
+array-read-nexts c = omega (arith, S.left-few (c .before .before .before .before .pre .1) _ _ (omega arith) (c .left-of .ensures))
 
 array-write-nexts : tie.Need-array-write-nexts Inv-loop μ-loop
 array-write-nexts c = omega (arith, S.count-few (c .before .before .before .before .pre .1))
@@ -41,13 +38,13 @@ cast-firsts : tie.Need-cast-firsts Inv-loop μ-loop
 cast-firsts c = omega (arith, S.count-few (c .before .before .before .before .pre .1))
 
 array-write-firsts : tie.Need-array-write-firsts Inv-loop μ-loop
-array-write-firsts c = omega (arith, S.left-few (c .before .before .before .before .pre .1) _ _ (omega arith) (c .byte-at .ensures .0))
+array-write-firsts c = omega (arith, S.left-few (c .before .before .before .before .pre .1) _ _ (omega arith) (c .left-of .ensures))
 
 loop-less : tie.Need-loop-less Inv-loop μ-loop
 loop-less c = omega arith
 
 loop-again : tie.Need-loop-again Inv-loop μ-loop
-loop-again c = (omega arith, nexts-turn (c .before .before .loop .inv .1) (omega arith) (omega arith) (S.count-few (c .before .before .before .before .pre .1)) (c .byte-at .ensures .0) (S.left-few (c .before .before .before .before .pre .1) _ _ (omega arith) (c .byte-at .ensures .0)))
+loop-again c = (omega arith, nexts-turn (c .before .before .loop .inv .1) (omega arith) (omega arith) (S.count-few (c .before .before .before .before .pre .1)) (c .left-of .ensures) (S.left-few (c .before .before .before .before .pre .1) _ _ (omega arith) (c .left-of .ensures)))
 
 returns : tie.Need-returns Inv-loop μ-loop
 returns c = let e : c .before .loop .p ≡ 0 = omega arith in nexts-end (rw e at (c .before .loop .inv .1))
@@ -60,8 +57,7 @@ find-nexts-spec =
     μ-loop
     loop-holds
     sub-p
-    mul-byte-at
-    byte-at-requires
+    left-of-requires
     cast-left
     array-read-nexts
     array-write-nexts

@@ -22,7 +22,8 @@ enters-requires : tie.Need-enters-requires
 enters-requires c κs = let b = c .before .before .pre in (b .0 .0, rw (c .record-of .ensures) (entry-of (b .0 .2 .leads) (b .1 .0)))
 
 returns : tie.Need-returns
-returns c = λ g n s. let b = c .before .before .before .before in search-stop s (b .pre .1 .0) (b .args .look) (b .pre .0 .1) (rw (c .before .before .record-of .ensures) at (sym (c .if1 .taken) ∙ (c .before .enters .ensures ∙ held b (c .before .before .record-of .result) (c .before .before .record-of .ensures))))
+returns c = λ g n s. let b = c .before .before .before .before in
+    search-stop s (b .pre .1 .0) (b .args .look) (b .pre .0 .1) (rw (c .before .before .record-of .ensures) at (sym (c .if1 .taken) ∙ (c .before .enters .ensures ∙ held b (c .before .before .record-of .result) (c .before .before .record-of .ensures))))
 
 add-word-at : tie.Need-add-word-at
 add-word-at c = let b = c .before .before .before .before .pre in omega (arith, entry-of (b .0 .2 .leads) (b .1 .0) .inside, c .before .before .record-of .ensures)
@@ -37,7 +38,8 @@ returns-2 : tie.Need-returns-2
 returns-2 c = λ g n s.
     let b = c .before .before .before .before .before .before in
     let e = rw (c .before .word-at .ensures .0, c .before .before .before .before .record-of .ensures) at (c .later .ensures g n) in
-    e (leads-on s (b .pre .1 .0)) ∙ sym (search-turn s (b .pre .1 .0) (b .args .look) (b .pre .0 .1) (rw (c .before .before .before .before .record-of .ensures) at (sym (c .before .before .if1 .left) ∙ (c .before .before .before .enters .ensures ∙ held b (c .before .before .before .before .record-of .result) (c .before .before .before .before .record-of .ensures)))))
+    e (leads-on s (b .pre .1 .0)) ∙ sym (search-turn s (b .pre .1 .0) (b .args .look) (b .pre .0 .1)
+    (rw (c .before .before .before .before .record-of .ensures) at (sym (c .before .before .if1 .left) ∙ (c .before .before .before .enters .ensures ∙ held b (c .before .before .before .before .record-of .result) (c .before .before .before .before .record-of .ensures)))))
 
 pub find-spec : {M : Type 1} → statement M
 find-spec =

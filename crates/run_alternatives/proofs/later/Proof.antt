@@ -34,7 +34,9 @@ passes-requires : tie.Need-passes-requires Inv-loop μ-loop
 passes-requires c κs = let b = c .before .before .before .before .pre in (b .0, rw (c .record-of .ensures) (entry-of (lead (c .before)) (c .before .loop-test .taken)), b .1)
 
 returns : tie.Need-returns Inv-loop μ-loop
-returns c = λ g n s. let k = c .before .before .before .before .loop .inv g n s in search-stop (k .0) (c .before .before .before .loop-test .taken) (c .before .before .before .before .before .before .args .look) (c .before .before .before .before .before .before .pre .1) (rw (c .before .before .record-of .ensures) at (sym (c .if1 .taken) ∙ c .before .passes .ensures)) ∙ sym (k .1)
+returns c = λ g n s. let k = c .before .before .before .before .loop .inv g n s in
+    search-stop (k .0) (c .before .before .before .loop-test .taken) (c .before .before .before .before .before .before .args .look) (c .before .before .before .before .before .before .pre .1)
+    (rw (c .before .before .record-of .ensures) at (sym (c .if1 .taken) ∙ c .before .passes .ensures)) ∙ sym (k .1)
 
 add-word-at : tie.Need-add-word-at Inv-loop μ-loop
 add-word-at c = omega (arith, entry-of (lead (c .before .before .before)) (c .before .before .before .loop-test .taken) .inside, c .before .before .record-of .ensures)
@@ -48,7 +50,12 @@ loop-less c = rw (c .word-at .ensures .0, c .before .before .before .record-of .
 loop-again : tie.Need-loop-again Inv-loop μ-loop
 loop-again c = λ g n s.
     let k = c .before .before .before .before .before .loop .inv g n s in
-    rw (c .word-at .ensures .0, c .before .before .before .record-of .ensures) (leads-on (k .0) (c .before .before .before .before .loop-test .taken), k .1 ∙ search-turn (k .0) (c .before .before .before .before .loop-test .taken) (c .before .before .before .before .before .before .before .args .look) (c .before .before .before .before .before .before .before .pre .1) (rw (c .before .before .before .record-of .ensures) at (sym (c .before .if1 .left) ∙ c .before .before .passes .ensures)))
+    rw (c .word-at .ensures .0, c .before .before .before .record-of .ensures) (
+      leads-on (k .0) (c .before .before .before .before .loop-test .taken),
+      k .1
+          ∙ search-turn (k .0) (c .before .before .before .before .loop-test .taken) (c .before .before .before .before .before .before .before .args .look) (c .before .before .before .before .before .before .before .pre .1)
+          (rw (c .before .before .before .record-of .ensures) at (sym (c .before .if1 .left) ∙ c .before .before .passes .ensures)),
+    )
 
 returns-2 : tie.Need-returns-2 Inv-loop μ-loop
 returns-2 c = λ g n s. let b = c .before .before .before .args in sym (c .before .loop .inv g n s .1 ∙ ap (found g (stack (b .height) (now (b .registers))) n (lookOf (b .look))) (c .loop-test .left))

@@ -31,7 +31,8 @@ loop-less : tie.Need-loop-less Inv-loop μ-loop
 loop-less c = omega (arith, length-set (c .before .loop .registers) (c .before .loop .i) mark)
 
 loop-again : tie.Need-loop-again Inv-loop μ-loop
-loop-again c = let l = c .before .loop .inv in let s = length-set (c .before .loop .registers) (c .before .loop .i) mark in (omega (arith, l .2), ap (λ z. set z (c .before .loop .i) mark) (l .1) ∙ cleared-more mark (c .before .before .args .registers .now) (c .before .loop .i) (omega (arith, l .2)), s ∙ l .2)
+loop-again c = let l = c .before .loop .inv in let s = length-set (c .before .loop .registers) (c .before .loop .i) mark in
+    (omega (arith, l .2), ap (λ z. set z (c .before .loop .i) mark) (l .1) ∙ cleared-more mark (c .before .before .args .registers .now) (c .before .loop .i) (omega (arith, l .2)), s ∙ l .2)
 
 same-length : tie.Need-same-length Inv-loop μ-loop
 same-length c = c .before .loop .inv .2

@@ -20,4 +20,6 @@ returns : tie.Need-returns
 returns c = search needs
 
 pub read-rows-spec : {M : Type 1} → statement M
-read-rows-spec = tie.close (tie.spec word-at-requires word-at-requires-2 mul-begin add-begin returns)
+read-rows-spec =
+    tie.close
+    (tie.spec word-at-requires word-at-requires-2 mul-begin add-begin returns)

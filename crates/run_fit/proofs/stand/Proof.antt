@@ -23,23 +23,23 @@ returns-2 c =
     let a = c .before .before .before .before .before .before .before .args in
     λ g h. sym (bottom-many h (now (a .registers)) (now (a .places)) (omega arith) (c .before .if2 .taken) (c .if3 .taken))
 
-past-requires : tie.Need-past-requires
-past-requires c κs =
+past-valued-requires : tie.Need-past-valued-requires
+past-valued-requires c κs =
     let w = c .before .before in
     (omega arith, omega (arith, w .word-at .ensures .0, start-small (w .before .before .before .before .before .pre .shown)))
 
 returns-3 : tie.Need-returns-3
 returns-3 c =
     let a = c .before .before .before .before .before .before .before .before .args in
-    λ g h. bottom-left h (now (a .registers)) (now (a .places)) (omega arith) (c .before .before .if2 .taken) (c .before .if3 .left) (c .before .before .before .word-at .ensures .0) (c .past .ensures)
+    λ g h. bottom-left h (now (a .registers)) (now (a .places)) (omega arith) (c .before .before .if2 .taken) (c .before .if3 .left) (c .before .before .before .word-at .ensures .0) (c .past-valued .ensures)
 
 returns-4 : tie.Need-returns-4
 returns-4 c =
     let a = c .before .before .before .before .before .before .before .args in
     λ g h. sym (bottom-other h (now (a .registers)) (now (a .places)) (omega arith) (c .before .if2 .left) (c .if4 .taken))
 
-past-requires-2 : tie.Need-past-requires-2
-past-requires-2 c κs =
+past-marked-requires : tie.Need-past-marked-requires
+past-marked-requires c κs =
     let w = c .before .before in
     (omega arith, omega (arith, w .word-at .ensures .0, start-small (w .before .before .before .before .before .pre .shown)))
 
@@ -49,7 +49,7 @@ stand-above-requires c κs = search needs
 returns-5 : tie.Need-returns-5
 returns-5 c =
     let a = c .before .before .before .before .before .before .before .before .before .args in
-    λ g h. bottom-waits h (now (a .registers)) (now (a .places)) (omega arith) (c .before .before .if4 .left) (c .before .before .before .before .word-at .ensures .0) (c .before .past2 .ensures) (c .stand-above .ensures g h)
+    λ g h. bottom-waits h (now (a .registers)) (now (a .places)) (omega arith) (c .before .before .if4 .left) (c .before .before .before .before .word-at .ensures .0) (c .before .past-marked .ensures) (c .stand-above .ensures g h)
 
 pub stand-spec : {M : Type 1} → statement M
 stand-spec =
@@ -59,9 +59,9 @@ stand-spec =
     shared-slice-read-bottom
     word-at-requires
     returns-2
-    past-requires
+    past-valued-requires
     returns-3
     returns-4
-    past-requires-2
+    past-marked-requires
     stand-above-requires
     returns-5)

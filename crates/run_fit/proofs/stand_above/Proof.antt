@@ -1,4 +1,4 @@
-use Prim.Native.Nat.{_+_, _-_, _*_, _/_, _%_, _≤_, _<_}
+use Prim.Native.Nat.{_+_, _-_, _*_, _≤_, _<_}
 use native.Mathlib.Omega.{arith}
 use mathlib.Core.Path.{_≡_, sym, ap, _∙_}
 use borrow.Author.Needs.{needs}
@@ -7,6 +7,7 @@ use denote.Ref.{now}
 use lib.Dec.{eqb}
 use lib.ListN.{length, getD, drop}
 use Rattle.meaning.specs.Grammar.{Grammar, nonterminal}
+use Rattle.theory_program.specs.Parts.{headOperand, waitLeft, waitSymbol}
 use Rattle.run_fit.specs.HasProgram.{HasProgram, waitAt, header-inside}
 use Rattle.run_fit.proofs.Places.{stands, follow, follow-start, follow-not, follow-turn, follow-alike, alike-from, follow-past, follow-none, follow-end}
 use Rattle.run_fit.proofs.stand_above.Statement.{statement}
@@ -33,11 +34,12 @@ mul-word c = search needs
 
 loop-holds : tie.Need-loop-holds Inv-loop μ-loop
 loop-holds c =
-    let s = c .before .before .before .before in
+    let s = c .before .before .before .before .before in
+    let first = c .operand .ensures ∙ ap headOperand (c .before .word-at .ensures .0) in
     let a = s .args in (
       s .pre .0,
       (λ l. omega arith),
-      λ g h. follow-start h (drop 1 (now (a .places))) (now (a .registers)) (a .at) ∙ ap (λ n. follow g ((128 + n / 8) * 2097152) (drop 1 (now (a .places))) (now (a .registers)) (a .at)) (sym (c .word-at .ensures .0)),
+      λ g h. follow-start h (drop 1 (now (a .places))) (now (a .registers)) (a .at) ∙ ap (λ n. follow g ((128 + n) * 2097152) (drop 1 (now (a .places))) (now (a .registers)) (a .at)) (sym first),
     )
 
 word-at-requires-2 : tie.Need-word-at-requires-2 Inv-loop μ-loop
@@ -47,7 +49,7 @@ word-at-requires-2 c κs = search needs
 
 wait-word-requires : tie.Need-wait-word-requires Inv-loop μ-loop
 wait-word-requires c κs =
-    let p = c .before .before .before .before .before in
+    let p = c .before .before .before .before .before .before in
     (p .before .before .before .pre .1, p .read-rows .ensures)
 
 stands-on-requires : tie.Need-stands-on-requires Inv-loop μ-loop
@@ -55,17 +57,17 @@ stands-on-requires c κs = search needs
 
 -- the word that was read is that of the place at hand
 word-is : (c : tie.After-wait-word Inv-loop μ-loop)
-    → let a = c .before .before .before .before .before .before .before .before .before .args in
+    → let a = c .before .before .before .before .before .before .before .before .before .before .args in
     c .wait-word .result ≡ waitAt (now (a .program)) (getD (now (a .places)) (c .before .before .before .before .loop .i) 0)
-word-is c = c .wait-word .ensures ∙ ap (waitAt (now (c .before .before .before .before .before .before .before .before .before .args .program))) (c .before .before .word-at2 .ensures .0)
+word-is c = c .wait-word .ensures ∙ ap (waitAt (now (c .before .before .before .before .before .before .before .before .before .before .args .program))) (c .before .before .word-at2 .ensures .0)
 
 returns : tie.Need-returns Inv-loop μ-loop
 returns c =
     let w = c .before .before in
     let m = w .before .before .before .before in
     let l = m .loop in
-    let a = m .before .before .before .before .before .args in
-    let off = ap (λ v. eqb (128 + v % 64) (l .word / 2097152 % 256)) (sym (word-is w)) ∙ (sym (c .before .stands-on .ensures) ∙ not-true (c .before .stands-on .result) (c .if2 .taken)) in
+    let a = m .before .before .before .before .before .before .args in
+    let off = ap (λ v. eqb (128 + waitLeft v) (waitSymbol (l .word))) (sym (word-is w)) ∙ (sym (c .before .stands-on .ensures) ∙ not-true (c .before .stands-on .result) (c .if2 .taken)) in
     λ g h. sym (l .inv .2 g h ∙ follow-not h (now (a .registers)) (now (a .places)) (l .i) (l .reached) (l .word) (w .before .before .before .loop-test .taken) off)
 
 past-place-requires : tie.Need-past-place-requires Inv-loop μ-loop
@@ -74,15 +76,15 @@ past-place-requires c κs = c .before .before .before .before .before .before .l
 turned : (c : tie.After-past-place Inv-loop μ-loop)
     → let w = c .before .before .before in
     let m = w .before .before .before .before in
-    let a = m .before .before .before .before .before .args in
+    let a = m .before .before .before .before .before .before .args in
     (g : Grammar) → HasProgram g (now (a .program)) → stands g (nonterminal (g .start)) (drop 1 (now (a .places))) (now (a .registers)) (a .at) ≡ follow g (w .wait-word .result) (drop (m .loop .i + 1) (now (a .places))) (now (a .registers)) (c .past-place .result)
 turned c =
     let w = c .before .before .before in
     let m = w .before .before .before .before in
     let l = m .loop in
-    let a = m .before .before .before .before .before .args in
+    let a = m .before .before .before .before .before .before .args in
     let e = word-is w in
-    let on = ap (λ v. eqb (128 + v % 64) (l .word / 2097152 % 256)) (sym e) ∙ (sym (c .before .before .stands-on .ensures) ∙ not-false (c .before .before .stands-on .result) (c .before .if2 .left)) in
+    let on = ap (λ v. eqb (128 + waitLeft v) (waitSymbol (l .word))) (sym e) ∙ (sym (c .before .before .stands-on .ensures) ∙ not-false (c .before .before .stands-on .result) (c .before .if2 .left)) in
     let p = rw e at (c .past-place .ensures) in
     λ g h. l .inv .2 g h
     ∙ (follow-turn h (now (a .registers)) (now (a .places)) (l .i) (l .reached) (l .word) (w .before .before .before .loop-test .taken) on p
@@ -92,7 +94,7 @@ returns-2 : tie.Need-returns-2 Inv-loop μ-loop
 returns-2 c =
     let w = c .before .before .before .before in
     let m = w .before .before .before .before in
-    let a = m .before .before .before .before .before .args in
+    let a = m .before .before .before .before .before .before .args in
     λ g h. sym (turned (c .before) g h ∙ follow-past g (w .wait-word .result) (drop (m .loop .i + 1) (now (a .places))) (now (a .registers)) (c .before .past-place .result) (c .if3 .taken))
 
 add-i : tie.Need-add-i Inv-loop μ-loop
@@ -106,8 +108,8 @@ loop-again c = (c .before .past-place .ensures .inside, (λ l. c .before .before
 
 -- ---- a place that is the one below, and those above it that are the same
 
-same-word : (c : tie.Else1 Inv-loop μ-loop) → c .before .before .before .loop .word ≡ waitAt (now (c .before .before .before .before .before .before .before .before .args .program)) (c .before .word-at2 .result)
-same-word c = c .before .before .before .loop .inv .1 (omega (arith, c .before .word-at2 .ensures .1, c .if1 .left)) ∙ ap (waitAt (now (c .before .before .before .before .before .before .before .before .args .program))) (sym (c .if1 .left))
+same-word : (c : tie.Else1 Inv-loop μ-loop) → c .before .before .before .loop .word ≡ waitAt (now (c .before .before .before .before .before .before .before .before .before .args .program)) (c .before .word-at2 .result)
+same-word c = c .before .before .before .loop .inv .1 (omega (arith, c .before .word-at2 .ensures .1, c .if1 .left)) ∙ ap (waitAt (now (c .before .before .before .before .before .before .before .before .before .args .program))) (sym (c .if1 .left))
 
 stands-on-requires-2 : tie.Need-stands-on-requires-2 Inv-loop μ-loop
 stands-on-requires-2 c κs = search needs
@@ -117,9 +119,9 @@ returns-3 c =
     let k = c .before .before in
     let m = k .before .before .before in
     let l = m .loop in
-    let a = m .before .before .before .before .before .args in
+    let a = m .before .before .before .before .before .before .args in
     let e = same-word k ∙ ap (waitAt (now (a .program))) (k .before .word-at2 .ensures .0) in
-    let off = ap (λ v. eqb (128 + v % 64) (l .word / 2097152 % 256)) (sym e) ∙ (sym (c .before .stands-on2 .ensures) ∙ not-true (c .before .stands-on2 .result) (c .if4 .taken)) in
+    let off = ap (λ v. eqb (128 + waitLeft v) (waitSymbol (l .word))) (sym e) ∙ (sym (c .before .stands-on2 .ensures) ∙ not-true (c .before .stands-on2 .result) (c .if4 .taken)) in
     λ g h. sym (l .inv .2 g h ∙ follow-not h (now (a .registers)) (now (a .places)) (l .i) (l .reached) (l .word) (k .before .before .loop-test .taken) off)
 
 add-alike : tie.Need-add-alike Inv-loop μ-loop
@@ -144,7 +146,7 @@ loop-again-2 c =
     let k = t .before .before in
     let m = k .before .before .before in
     let l = m .loop in
-    let a = m .before .before .before .before .before .args in
+    let a = m .before .before .before .before .before .before .args in
     let p = k .before .word-at2 in
     let on = sym (t .before .stands-on2 .ensures) ∙ not-false (t .before .stands-on2 .result) (t .if4 .left) in
     let run = alike-from (now (a .places)) (l .i) (p .result) (r .result) (k .before .before .loop-test .taken) (sym (p .ensures .0)) (r .ensures .0) (r .ensures .1) in (
@@ -160,17 +162,25 @@ loop-again-2 c =
 returns-4 : tie.Need-returns-4 Inv-loop μ-loop
 returns-4 c =
     let l = c .before .before .loop in
-    let a = c .before .before .before .before .before .before .before .args in
+    let a = c .before .before .before .before .before .before .before .before .args in
     λ g h. sym (l .inv .2 g h ∙ follow-none g (l .word) (drop (l .i) (now (a .places))) (now (a .registers)) (l .reached) (c .if5 .taken))
 
-past-requires : tie.Need-past-requires Inv-loop μ-loop
-past-requires c κs = (c .before .before .loop .inv .0, omega arith)
+past-valued-requires : tie.Need-past-valued-requires Inv-loop μ-loop
+past-valued-requires c κs = (c .before .before .before .loop .inv .0, omega (arith, c .wait-inherited .ensures))
 
 returns-5 : tie.Need-returns-5 Inv-loop μ-loop
 returns-5 c =
-    let l = c .before .before .before .loop in
-    let a = c .before .before .before .before .before .before .before .before .args in
-    λ g h. sym (l .inv .2 g h ∙ follow-end g (l .word) (now (a .places)) (now (a .registers)) (l .i) (l .reached) (c .before .before .loop-test .left) (c .before .if5 .left) (c .past .ensures))
+    let e = c .before .before in
+    let l = e .before .before .loop in
+    let a = e .before .before .before .before .before .before .before .before .args in
+    let p = rw (c .before .wait-inherited .ensures) at (c .past-valued .ensures) in
+    λ g h. sym (l .inv .2 g h ∙ follow-end g (l .word) (now (a .places)) (now (a .registers)) (l .i) (l .reached) (e .before .loop-test .left) (e .if5 .left) p)
+
+operand-requires : tie.Need-operand-requires Inv-loop μ-loop
+operand-requires c κs = search needs
+
+wait-inherited-requires : tie.Need-wait-inherited-requires Inv-loop μ-loop
+wait-inherited-requires c κs = search needs
 
 pub stand-above-spec : {M : Type 1} → statement M
 stand-above-spec =
@@ -180,6 +190,7 @@ stand-above-spec =
     μ-loop
     read-rows-requires
     word-at-requires
+    operand-requires
     add-word
     mul-word
     loop-holds
@@ -201,5 +212,6 @@ stand-above-spec =
     loop-less-2
     loop-again-2
     returns-4
-    past-requires
+    wait-inherited-requires
+    past-valued-requires
     returns-5)

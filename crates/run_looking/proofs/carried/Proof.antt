@@ -1,22 +1,14 @@
-use Prim.Native.Nat.{_/_, _%_, _^_}
 use native.Mathlib.Omega.{arith}
-use mathlib.Core.Path.{sym, ap, _∙_}
+use mathlib.Core.Path.{sym, _∙_}
 use borrow.Author.Needs.{needs, sfits-of}
-use borrow.Author.Tests.{eq-eqb, ne-eqb}
 use denote.Ref.{now}
 use mir.Facts.{toZ-ofZ}
 use Rattle.run_looking.specs.Judging.{value-there, value-none}
 use Rattle.run_looking.proofs.carried.Statement.{statement}
 use Rattle.run_looking.proofs.carried.Tie as tie
 
-add-word-at : tie.Need-add-word-at
-add-word-at c = search needs
-
-word-at-requires : tie.Need-word-at-requires
-word-at-requires c κs = search needs
-
-shr-if1 : tie.Need-shr-if1
-shr-if1 c = search needs
+in-set-requires : tie.Need-in-set-requires
+in-set-requires c κs = search needs
 
 cast-result : tie.Need-cast-result
 cast-result c =
@@ -27,14 +19,12 @@ returns : tie.Need-returns
 returns c =
     let s = c .before .before .before in
     let a = s .args in
-    let e = ap (λ w. w / 2 ^ (a .kind % 32) % 2) (sym (c .before .word-at .ensures .0)) ∙ c .if1 .taken in
-    toZ-ofZ (cast-result c) ∙ (toZ-ofZ (s .fits .value) ∙ value-there (now (a .program)) (a .kind) (a .value) (eq-eqb _ 1 e))
+    toZ-ofZ (cast-result c) ∙ (toZ-ofZ (s .fits .value) ∙ value-there (now (a .program)) (a .kind) (a .value) (sym (c .before .in-set .ensures) ∙ c .if1 .taken))
 
 returns-2 : tie.Need-returns-2
 returns-2 c =
     let a = c .before .before .before .args in
-    let e = ap (λ w. w / 2 ^ (a .kind % 32) % 2) (sym (c .before .word-at .ensures .0)) in
-    value-none (now (a .program)) (a .kind) (a .value) (ne-eqb _ 1 (λ z. c .if1 .left (sym e ∙ z)))
+    value-none (now (a .program)) (a .kind) (a .value) (sym (c .before .in-set .ensures) ∙ c .if1 .left)
 
 pub carried-spec : {M : Type 1} → statement M
-carried-spec = tie.close (tie.spec add-word-at word-at-requires shr-if1 cast-result returns returns-2)
+carried-spec = tie.close (tie.spec in-set-requires cast-result returns returns-2)

@@ -1,11 +1,10 @@
+use Rattle.theory_program.specs.Parts.{headOperation}
 use Rattle.run_moves.specs.Moves.{countIf}
 use borrow.Author.Tests.{eq-eqb, ne-eqb}
 use lib.ListN.{getD}
 use mathlib.Core.Bool.{not}
 use denote.Ref.{now}
-use Prim.Native.Nat.{_%_}
-use mathlib.Core.Path.{sym, ap, _∙_}
-use native.Mathlib.Omega.{arith}
+use mathlib.Core.Path.{_≡_, sym, ap, _∙_}
 use borrow.Author.Needs.{needs}
 use Rattle.run_moves.proofs.pass.Statement.{statement}
 use Rattle.run_moves.proofs.pass.Tie as tie
@@ -13,8 +12,17 @@ use Rattle.run_moves.proofs.pass.Tie as tie
 word-at-requires : tie.Need-word-at-requires
 word-at-requires c κs = search needs
 
+abbrev start : tie.After-operation → tie.Start
+start c = c .before .before .before .before
+
+-- the operation at hand
+here : (c : tie.After-operation) → c .operation .result ≡ headOperation (getD (now (start c .args .program)) (start c .args .at) 0)
+here c = c .operation .ensures ∙ ap headOperation (c .before .word-at .ensures .0)
+
 returns : tie.Need-returns
-returns c = let b = c .before .before .before .before in sym (ap (λ z. countIf (not z) (b .args .height) (now (b .args .places))) (eq-eqb (getD (now (b .args .program)) (b .args .at) 0 % 8) 4 (omega (arith, c .if1 .taken, c .before .word-at .ensures .0))))
+returns c =
+    let a = start (c .before) .args in
+    sym (ap (λ z. countIf (not z) (a .height) (now (a .places))) (eq-eqb (headOperation (getD (now (a .program)) (a .at) 0)) 4 (sym (here (c .before)) ∙ c .if1 .taken)))
 
 count-requires : tie.Need-count-requires
 count-requires c κs = search needs
@@ -23,7 +31,16 @@ same-length : tie.Need-same-length
 same-length c = search needs
 
 returns-2 : tie.Need-returns-2
-returns-2 c = let b = c .before .before .before .before .before .before .before .before in c .before .before .count .ensures ∙ sym (ap (λ z. countIf (not z) (b .args .height) (now (b .args .places))) (ne-eqb (getD (now (b .args .program)) (b .args .at) 0 % 8) 4 (λ e. c .before .before .before .before .if1 .left (omega (arith, e, c .before .before .before .before .before .word-at .ensures .0)))))
+returns-2 c =
+    let counted = c .before .before in
+    let other = counted .before .before in
+    let a = start (other .before) .args in
+    counted .count .ensures ∙ sym (ap (λ z. countIf (not z) (a .height) (now (a .places))) (ne-eqb (headOperation (getD (now (a .program)) (a .at) 0)) 4 (λ e. other .if1 .left (here (other .before) ∙ e))))
+
+operation-requires : tie.Need-operation-requires
+operation-requires c κs = search needs
 
 pub pass-spec : {M : Type 1} → statement M
-pass-spec = tie.close (tie.spec word-at-requires returns count-requires same-length returns-2)
+pass-spec =
+    tie.close
+    (tie.spec word-at-requires operation-requires returns count-requires same-length returns-2)

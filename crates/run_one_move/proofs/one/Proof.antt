@@ -1,3 +1,6 @@
+use Rattle.theory_program.specs.Parts.{headOperation}
+use lib.ListN.{getD}
+use mathlib.Core.Path.{_≡_, ap, _∙_}
 use Rattle.run_moves.specs.Passing.{comingOf, coming-look}
 use Rattle.run_moves.specs.Held.{bounds, ready-as}
 use denote.Ref.{now}
@@ -7,38 +10,44 @@ use borrow.Author.Needs.{needs}
 use Rattle.run_one_move.proofs.one.Statement.{statement}
 use Rattle.run_one_move.proofs.one.Tie as tie
 
+-- the operation at hand
+operation-is : (c : tie.After-operation) → let a = c .before .before .before .before .args in c .operation .result ≡ headOperation (getD (now (a .program)) (a .run .at) 0)
+operation-is c = c .operation .ensures ∙ ap headOperation (c .before .word-at .ensures .0)
+
 word-at-requires : tie.Need-word-at-requires
 word-at-requires c κs = bounds (c .before .before .pre .0 .held) .inside
 
 add-requires : tie.Need-add-requires
-add-requires c κs = (now (c .before .before .before .before .before .args .places), ready-as 0 (omega (arith, c .before .match .keys1, c .before .before .word-at .ensures .0)) (c .before .before .before .before .before .pre .0))
+add-requires c κs = (now (c .before .before .before .before .before .before .args .places), ready-as 0 (omega (arith, c .before .match .keys1, operation-is (c .before .before))) (c .before .before .before .before .before .before .pre .0))
 
 evaluate-requires : tie.Need-evaluate-requires
-evaluate-requires c κs = (now (c .before .before .before .before .before .args .places), ready-as 1 (omega (arith, c .before .match .keys2, c .before .before .word-at .ensures .0)) (c .before .before .before .before .before .pre .0))
+evaluate-requires c κs = (now (c .before .before .before .before .before .before .args .places), ready-as 1 (omega (arith, c .before .match .keys2, operation-is (c .before .before))) (c .before .before .before .before .before .before .pre .0))
 
 read-requires : tie.Need-read-requires
-read-requires c κs = ready-as 2 (omega (arith, c .before .before .match .keys3, c .before .before .before .word-at .ensures .0)) (c .before .before .before .before .before .before .pre .0)
+read-requires c κs = ready-as 2 (omega (arith, c .before .before .match .keys3, operation-is (c .before .before .before))) (c .before .before .before .before .before .before .before .pre .0)
 
 predict-requires : tie.Need-predict-requires
-predict-requires c κs = (ready-as 3 (omega (arith, c .before .before .match .keys4, c .before .before .before .word-at .ensures .0)) (c .before .before .before .before .before .before .pre .0), c .before .before .before .before .before .before .pre .2)
+predict-requires c κs = (ready-as 3 (omega (arith, c .before .before .match .keys4, operation-is (c .before .before .before))) (c .before .before .before .before .before .before .before .pre .0), c .before .before .before .before .before .before .before .pre .2)
 
 test-requires : tie.Need-test-requires
-test-requires c κs = ready-as 4 (omega (arith, c .before .before .match .keys5, c .before .before .before .word-at .ensures .0)) (c .before .before .before .before .before .before .pre .0)
+test-requires c κs = ready-as 4 (omega (arith, c .before .before .match .keys5, operation-is (c .before .before .before))) (c .before .before .before .before .before .before .before .pre .0)
 
 remove-requires : tie.Need-remove-requires
-remove-requires c κs = ready-as 5 (let n = c .before .before .match .rest in omega (arith, n .1, n .0 .1, n .0 .0 .1, n .0 .0 .0 .1, n .0 .0 .0 .0 .1, c .before .before .before .word-at .ensures .0, c .before .before .before .before .before .before .pre .1)) (c .before .before .before .before .before .before .pre .0)
+remove-requires c κs = ready-as 5 (let n = c .before .before .match .rest in
+    omega (arith, n .1, n .0 .1, n .0 .0 .1, n .0 .0 .0 .1, n .0 .0 .0 .0 .1, operation-is (c .before .before .before), c .before .before .before .before .before .before .before .pre .1)) (c .before .before .before .before .before .before .before .pre .0)
 
 same-length : tie.Need-same-length
 same-length c = search needs
 
 returns : tie.Need-returns
-returns c = c .add .ensures (now (c .before .before .before .before .before .before .args .places)) (comingOf (c .before .before .before .before .before .before .args .look) (c .before .before .before .before .before .before .args .value))
+returns c = c .add .ensures (now (c .before .before .before .before .before .before .before .args .places)) (comingOf (c .before .before .before .before .before .before .before .args .look) (c .before .before .before .before .before .before .before .args .value))
 
 same-length-2 : tie.Need-same-length-2
 same-length-2 c = search needs
 
 returns-2 : tie.Need-returns-2
-returns-2 c = c .before .evaluate .ensures (now (c .before .before .before .before .before .before .before .args .places)) (comingOf (c .before .before .before .before .before .before .before .args .look) (c .before .before .before .before .before .before .before .args .value))
+returns-2 c = c .before .evaluate .ensures (now (c .before .before .before .before .before .before .before .before .args .places))
+    (comingOf (c .before .before .before .before .before .before .before .before .args .look) (c .before .before .before .before .before .before .before .before .args .value))
 
 same-length-3 : tie.Need-same-length-3
 same-length-3 c = search needs
@@ -47,7 +56,7 @@ same-length-4 : tie.Need-same-length-4
 same-length-4 c = search needs
 
 returns-3 : tie.Need-returns-3
-returns-3 c = rw (toZ-ofZ (c .before .before .before .before .before .before .before .before .before .before .fits .value)) at (c .before .before .before .read .ensures)
+returns-3 c = rw (toZ-ofZ (c .before .before .before .before .before .before .before .before .before .before .before .fits .value)) at (c .before .before .before .read .ensures)
 
 same-length-5 : tie.Need-same-length-5
 same-length-5 c = search needs
@@ -56,7 +65,7 @@ same-length-6 : tie.Need-same-length-6
 same-length-6 c = search needs
 
 returns-4 : tie.Need-returns-4
-returns-4 c = let a = c .before .before .before .before .before .before .before .before .before .args in c .before .before .predict .ensures (comingOf (a .look) (a .value)) (coming-look (a .look) (a .value))
+returns-4 c = let a = c .before .before .before .before .before .before .before .before .before .before .args in c .before .before .predict .ensures (comingOf (a .look) (a .value)) (coming-look (a .look) (a .value))
 
 same-length-7 : tie.Need-same-length-7
 same-length-7 c = search needs
@@ -65,7 +74,7 @@ same-length-8 : tie.Need-same-length-8
 same-length-8 c = search needs
 
 returns-5 : tie.Need-returns-5
-returns-5 c = c .before .before .test .ensures (comingOf (c .before .before .before .before .before .before .before .before .before .args .look) (c .before .before .before .before .before .before .before .before .before .args .value))
+returns-5 c = c .before .before .test .ensures (comingOf (c .before .before .before .before .before .before .before .before .before .before .args .look) (c .before .before .before .before .before .before .before .before .before .before .args .value))
 
 same-length-9 : tie.Need-same-length-9
 same-length-9 c = search needs
@@ -74,13 +83,17 @@ same-length-10 : tie.Need-same-length-10
 same-length-10 c = search needs
 
 returns-6 : tie.Need-returns-6
-returns-6 c = c .before .before .before .remove .ensures (comingOf (c .before .before .before .before .before .before .before .before .before .before .args .look) (c .before .before .before .before .before .before .before .before .before .before .args .value))
+returns-6 c = c .before .before .before .remove .ensures (comingOf (c .before .before .before .before .before .before .before .before .before .before .before .args .look) (c .before .before .before .before .before .before .before .before .before .before .before .args .value))
+
+operation-requires : tie.Need-operation-requires
+operation-requires c κs = search needs
 
 pub one-spec : {M : Type 1} → statement M
 one-spec =
     tie.close
     (tie.spec
     word-at-requires
+    operation-requires
     add-requires
     evaluate-requires
     read-requires

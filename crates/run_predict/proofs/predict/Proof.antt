@@ -1,3 +1,4 @@
+use Rattle.theory_program.specs.Parts.{headOperand}
 use Rattle.run_alternatives.specs.Predicting.{recordOf}
 use Rattle.run_predict.specs.Entering.{directory-inside, first-led, first-holds, found-first, blocked-unexpected, blocked-none, blocked-full, entering-small, entering-inside, made-predict}
 use lib.ListN.{length, getD}
@@ -7,31 +8,35 @@ use Rattle.meaning.specs.Value.{mark}
 use Rattle.run_moves.specs.Held.{bounds}
 use Rattle.run_moves.specs.Passing.{comingOf, coming-look}
 use denote.Ref.{now}
-use Prim.Native.Nat.{_+_, _*_, _/_, _≤_}
+use Prim.Native.Nat.{_+_, _*_, _≤_}
 use mathlib.Core.Path.{_≡_, refl, sym, ap, _∙_}
 use native.Mathlib.Omega.{arith}
 use borrow.Author.Needs.{needs}
 use Rattle.run_predict.proofs.predict.Statement.{statement}
 use Rattle.run_predict.proofs.predict.Tie as tie
 
+-- the operand at hand
+operand-is : (c : tie.After-operand) → let a = c .before .before .before .before .args in c .operand .result ≡ headOperand (getD (now (a .program)) (a .run .at) 0)
+operand-is c = c .operand .ensures ∙ ap headOperand (c .before .word-at .ensures .0)
+
 -- the directory's word
-first : (c : tie.After-word-at2) → let b = c .before .before .before .before .args in c .word-at2 .result ≡ getD (now (b .program)) (9 + 64 * (getD (now (b .program)) (b .run .at) 0 / 8) + b .look) 0
-first c = let b = c .before .before .before .before .args in c .word-at2 .ensures .0 ∙ ap (λ w. getD (now (b .program)) (9 + 64 * (w / 8) + b .look) 0) (c .before .word-at .ensures .0)
+first : (c : tie.After-word-at2) → let b = c .before .before .before .before .before .args in c .word-at2 .result ≡ getD (now (b .program)) (9 + 64 * headOperand (getD (now (b .program)) (b .run .at) 0) + b .look) 0
+first c = let b = c .before .before .before .before .before .args in c .word-at2 .ensures .0 ∙ ap (λ w. getD (now (b .program)) (9 + 64 * w + b .look) 0) (operand-is (c .before))
 
 -- the production found is listed
 small : (c : tie.Else2) → c .before .find .result ≤ 128
 small c =
     let s = c .before .before .before in
-    let b = c .before .before .before .before .before .before .before in
+    let b = c .before .before .before .before .before .before .before .before in
     entering-small (b .pre .0 .held) (b .pre .0 .operation) (b .args .look) (b .pre .1) (comingOf (b .args .look) mark) (coming-look (b .args .look) mark) (b .pre .0 .limit)
     (λ e. c .before .before .if1 .left (first s ∙ e)) (c .before .find .result)
     (found-first (b .pre .0 .held) (b .pre .0 .operation) (b .args .look) (b .pre .1) (c .before .find .result) (c .before .before .before .word-at2 .result) (first s) (c .before .find .ensures))
     (c .if2 .left)
 
-inside : (c : tie.Else2) → recordOf (now (c .before .before .before .before .before .before .before .args .program)) (c .before .find .result) + 8 ≤ length (now (c .before .before .before .before .before .before .before .args .program))
+inside : (c : tie.Else2) → recordOf (now (c .before .before .before .before .before .before .before .before .args .program)) (c .before .find .result) + 8 ≤ length (now (c .before .before .before .before .before .before .before .before .args .program))
 inside c =
     let s = c .before .before .before in
-    let b = c .before .before .before .before .before .before .before in
+    let b = c .before .before .before .before .before .before .before .before in
     entering-inside (b .pre .0 .held) (b .pre .0 .operation) (b .args .look) (b .pre .1) (comingOf (b .args .look) mark) (coming-look (b .args .look) mark) (b .pre .0 .limit)
     (λ e. c .before .before .if1 .left (first s ∙ e)) (c .before .find .result)
     (found-first (b .pre .0 .held) (b .pre .0 .operation) (b .args .look) (b .pre .1) (c .before .find .result) (c .before .before .before .word-at2 .result) (first s) (c .before .find .ensures))
@@ -50,24 +55,24 @@ add-word-at-2 : tie.Need-add-word-at-2
 add-word-at-2 c = search needs
 
 word-at-requires-2 : tie.Need-word-at-requires-2
-word-at-requires-2 c κs = let b = c .before .before .before in rw (c .word-at .ensures .0) (directory-inside (b .pre .0 .held) (b .pre .0 .operation) (b .args .look) (b .pre .1))
+word-at-requires-2 c κs = let b = c .before .before .before .before in rw (operand-is c) (directory-inside (b .pre .0 .held) (b .pre .0 .operation) (b .args .look) (b .pre .1))
 
 unexpected-requires : tie.Need-unexpected-requires
 unexpected-requires c κs = search needs
 
 returns : tie.Need-returns
-returns c = λ a q g lent d h ok. let b = c .before .before .before .before .before .before in rw (c .unexpected .ensures) (blocked-unexpected h (b .pre .0 .operation) (b .args .look) (b .pre .1) a q (b .pre .0 .limit) (sym (first (c .before .before)) ∙ c .before .if1 .taken))
+returns c = λ a q g lent d h ok. let b = c .before .before .before .before .before .before .before in rw (c .unexpected .ensures) (blocked-unexpected h (b .pre .0 .operation) (b .args .look) (b .pre .1) a q (b .pre .0 .limit) (sym (first (c .before .before)) ∙ c .before .if1 .taken))
 
 find-requires : tie.Need-find-requires
 find-requires c κs =
-    let b = c .before .before .before .before .before in
+    let b = c .before .before .before .before .before .before in
     let h = b .pre .0 .held in
     ((bounds h .registers, b .pre .1, rw (first (c .before)) (first-led h (b .pre .0 .operation) (b .args .look) (b .pre .1))), (c .if1 .left, rw (first (c .before)) (first-holds h (b .pre .0 .operation) (b .args .look) (b .pre .1) (λ e. c .if1 .left (first (c .before) ∙ e)))))
 
 returns-2 : tie.Need-returns-2
 returns-2 c =
     let s = c .before .before .before in
-    let b = c .before .before .before .before .before .before .before in
+    let b = c .before .before .before .before .before .before .before .before in
     λ a q g lent d h ok.
     blocked-none h (b .pre .0 .operation) (b .args .look) (b .pre .1) a q (b .pre .0 .limit) (λ e. c .before .before .if1 .left (first s ∙ e)) (c .before .find .result)
     (found-first h (b .pre .0 .operation) (b .args .look) (b .pre .1) (c .before .find .result) (c .before .before .before .word-at2 .result) (first s) (c .before .find .ensures)) (c .if2 .taken)
@@ -77,7 +82,7 @@ returns-3 c =
     let find = c .before .before .find in
     let s = c .before .before .before .before in
     let word-at2 = c .before .before .before .before .word-at2 in
-    let b = c .before .before .before .before .before .before .before .before in
+    let b = c .before .before .before .before .before .before .before .before .before in
     λ a q g lent d h ok.
     blocked-full h (b .pre .0 .operation) (b .args .look) (b .pre .1) a q (b .pre .0 .limit) (λ e. c .before .before .before .if1 .left (first s ∙ e)) (find .result)
     (found-first h (b .pre .0 .operation) (b .args .look) (b .pre .1) (find .result) (word-at2 .result) (first s) (find .ensures)) (c .before .if2 .left) (c .if3 .taken)
@@ -92,13 +97,13 @@ cast-places : tie.Need-cast-places
 cast-places c = omega (arith, small (c .before))
 
 mul-places-2 : tie.Need-mul-places-2
-mul-places-2 c = omega (arith, bounds (c .before .before .before .before .before .before .before .before .pre .0 .held) .places)
+mul-places-2 c = omega (arith, bounds (c .before .before .before .before .before .before .before .before .before .pre .0 .held) .places)
 
 slice-write-places : tie.Need-slice-write-places
-slice-write-places c = omega (arith, bounds (c .before .before .before .before .before .before .before .before .pre .0 .held) .places, c .if3 .left)
+slice-write-places c = omega (arith, bounds (c .before .before .before .before .before .before .before .before .before .pre .0 .held) .places, c .if3 .left)
 
 record-of-requires : tie.Need-record-of-requires
-record-of-requires c κs = (omega (arith, stands-within (segment-at (c .before .before .before .before .before .before .before .before .pre .0 .held .begins))), omega (arith, c .before .if2 .left), small (c .before))
+record-of-requires c κs = (omega (arith, stands-within (segment-at (c .before .before .before .before .before .before .before .before .before .pre .0 .held .begins))), omega (arith, c .before .if2 .left), small (c .before))
 
 add-word-at-3 : tie.Need-add-word-at-3
 add-word-at-3 c = omega (arith, inside (c .before .before), c .record-of .ensures)
@@ -110,7 +115,7 @@ counted-requires : tie.Need-counted-requires
 counted-requires c κs = search needs
 
 add-next : tie.Need-add-next
-add-next c = omega (arith, bounds (c .before .before .before .before .before .before .before .before .before .before .before .pre .0 .held) .places)
+add-next c = omega (arith, bounds (c .before .before .before .before .before .before .before .before .before .before .before .before .pre .0 .held) .places)
 
 same-length : tie.Need-same-length
 same-length c = search needs
@@ -122,18 +127,22 @@ returns-4 c =
     let if1 = c .before .before .before .before .before .before .if1 in
     let s = c .before .before .before .before .before .before .before in
     let word-at2 = c .before .before .before .before .before .before .before .word-at2 in
-    let b = c .before .before .before .before .before .before .before .before .before .before .before in
+    let b = c .before .before .before .before .before .before .before .before .before .before .before .before in
     λ a q g lent d h ok.
     rw (c .counted .ensures, c .before .word-at3 .ensures .0, c .before .before .record-of .ensures)
     (made-predict h (b .pre .0 .operation) (b .args .look) (b .pre .1) a q (b .pre .0 .limit) (λ e. if1 .left (first s ∙ e)) (find .result)
     (found-first h (b .pre .0 .operation) (b .args .look) (b .pre .1) (find .result) (word-at2 .result) (first s) (find .ensures)) (if2 .left) ok
     (omega (arith, bounds h .places, c .before .before .before .if3 .left)) _ refl)
 
+operand-requires : tie.Need-operand-requires
+operand-requires c κs = search needs
+
 pub predict-spec : {M : Type 1} → statement M
 predict-spec =
     tie.close
     (tie.spec
     word-at-requires
+    operand-requires
     mul-word-at
     add-word-at
     add-word-at-2

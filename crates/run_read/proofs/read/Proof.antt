@@ -1,3 +1,4 @@
+use Rattle.theory_program.specs.Parts.{headOperand}
 use Prim.Native.Nat.{_/_}
 use native.Mathlib.Omega.{arith}
 use mathlib.Core.Path.{_≡_, sym, ap, _∙_}
@@ -12,6 +13,10 @@ use Rattle.run_moves.specs.Passing.{top-small, read-inside, made-read, blocked-
 use Rattle.run_read.proofs.read.Statement.{statement}
 use Rattle.run_read.proofs.read.Tie as tie
 
+-- the operand at hand
+operand-is : (c : tie.After-operand) → let a = c .before .before .before .before .args in c .operand .result ≡ headOperand (getD (now (a .program)) (a .run .at) 0)
+operand-is c = c .operand .ensures ∙ ap headOperand (c .before .word-at .ensures .0)
+
 word-at-requires : tie.Need-word-at-requires
 word-at-requires c κs = bounds (c .before .before .pre .held) .inside
 
@@ -20,9 +25,9 @@ unexpected-requires c κs = search needs
 
 returns : tie.Need-returns
 returns c = λ g lent d h ok.
-    let s = c .before .before .before .before .before in
+    let s = c .before .before .before .before .before .before in
     let b = s .pre in
-    rw (c .unexpected .ensures) (blocked-read h (s .args .look) (s .args .value) (b .limit) (b .operation) (λ e. c .before .if1 .taken (omega (arith, e, c .before .before .word-at .ensures .0))))
+    rw (c .unexpected .ensures) (blocked-read h (s .args .look) (s .args .value) (b .limit) (b .operation) (λ e. c .before .if1 .taken (omega (arith, e, operand-is (c .before .before)))))
 
 is-mark-requires : tie.Need-is-mark-requires
 is-mark-requires c κs = search needs
@@ -30,7 +35,7 @@ is-mark-requires c κs = search needs
 read-value-requires : tie.Need-read-value-requires
 read-value-requires c κs =
     let k = c .before .before .before in
-    let s = k .before .before .before .before .before in
+    let s = k .before .before .before .before .before .before in
     (s .pre, ap isMark (toZ-ofZ (s .fits .value)) ∙ (ap isMark (sym (toZ-ofZ (s .fits .value))) ∙ (sym (k .is-mark .ensures) ∙ not-true (k .is-mark .result) (c .before .before .if2 .taken))))
 
 same-length : tie.Need-same-length
@@ -42,21 +47,21 @@ same-length-2 c = search needs
 returns-2 : tie.Need-returns-2
 returns-2 c =
     let k = c .before .before .before .before .before .before .before in
-    let s = k .before .before .before .before .before in
-    let e : getD (now (s .args .program)) (s .args .run .at) 0 / 8 ≡ s .args .look = omega (arith, k .before .before .word-at .ensures .0, k .before .if1 .left) in
+    let s = k .before .before .before .before .before .before in
+    let e : getD (now (s .args .program)) (s .args .run .at) 0 / 8 ≡ s .args .look = omega (arith, operand-is (k .before .before), k .before .if1 .left) in
     rw (toZ-ofZ (s .fits .value), e) at (c .before .before .before .read-value .ensures)
 
 add-pass : tie.Need-add-pass
-add-pass c = let b = c .before .before .before .before .before .before .before .before .pre in omega (arith, read-inside (b .held) (b .limit) (b .operation))
+add-pass c = let b = c .before .before .before .before .before .before .before .before .before .pre in omega (arith, read-inside (b .held) (b .limit) (b .operation))
 
 pass-requires : tie.Need-pass-requires
 pass-requires c κs =
-    let b = c .before .before .before .before .before .before .before .before .pre in
+    let b = c .before .before .before .before .before .before .before .before .before .pre in
     let k = bounds (b .held) in
     ((k .somePlace, k .places, top-small (b .held)), read-inside (b .held) (b .limit) (b .operation))
 
 add-counted : tie.Need-add-counted
-add-counted c = let b = c .before .before .before .before .before .before .before .before .before .before .before .before .pre in omega (arith, read-inside (b .held) (b .limit) (b .operation))
+add-counted c = let b = c .before .before .before .before .before .before .before .before .before .before .before .before .before .pre in omega (arith, read-inside (b .held) (b .limit) (b .operation))
 
 counted-requires : tie.Need-counted-requires
 counted-requires c κs = search needs
@@ -70,15 +75,21 @@ same-length-3 c = search needs
 returns-3 : tie.Need-returns-3
 returns-3 c = λ g lent d h ok.
     let k = c .before .before .before .before .before .before .before .before .before in
-    let s = k .before .before .before .before .before in
+    let s = k .before .before .before .before .before .before in
     let b = s .pre in
-    rw (c .before .counted .ensures, c .before .before .before .before .before .pass .ensures) (made-read h (s .args .look) (s .args .value) ok (b .limit) (b .operation) (omega (arith, k .before .if1 .left, k .before .before .word-at .ensures .0)) (ap isMark (sym (toZ-ofZ (s .fits .value))) ∙ (sym (k .is-mark .ensures) ∙ not-false (k .is-mark .result) (c .before .before .before .before .before .before .before .before .if2 .left))))
+    rw (c .before .counted .ensures, c .before .before .before .before .before .pass .ensures)
+    (made-read h (s .args .look) (s .args .value) ok (b .limit) (b .operation) (omega (arith, k .before .if1 .left, operand-is (k .before .before)))
+    (ap isMark (sym (toZ-ofZ (s .fits .value))) ∙ (sym (k .is-mark .ensures) ∙ not-false (k .is-mark .result) (c .before .before .before .before .before .before .before .before .if2 .left))))
+
+operand-requires : tie.Need-operand-requires
+operand-requires c κs = search needs
 
 pub read-spec : {M : Type 1} → statement M
 read-spec =
     tie.close
     (tie.spec
     word-at-requires
+    operand-requires
     unexpected-requires
     returns
     is-mark-requires

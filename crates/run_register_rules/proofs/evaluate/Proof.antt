@@ -1,54 +1,182 @@
+use Prim.Native.Nat.{_+_, _-_, _<_, _≤_}
 use native.Mathlib.Omega.{arith}
-use mathlib.Core.Path.{sym, _∙_}
-use borrow.Author.Needs.{needs}
+use mathlib.Core.Path.{_≡_, refl, sym, ap, _∙_}
+use borrow.Author.Needs.{needs, sfits-of}
 use denote.Ref.{now}
-use Rattle.meaning.specs.Value.{mark}
-use Rattle.run_registers.specs.Stack.{stack-laid}
+use lib.ListN.{length, set}
+use mir.Syntax.{w64}
+use mir.Val.{toZ, ofZ}
+use Rattle.meaning.specs.Calls.{isMark}
+use Rattle.run_registers.specs.Stack.{stack, stack-length}
+use Rattle.run_registers.proofs.Bits.{held}
+use Rattle.run_registers.proofs.Loops.{rules-inside}
+use Rattle.run_register_rules.proofs.Straight.{Straight, straight-start, inside-now, straight-applies, straight-target, straight-turn, straight-stop, straight-end}
 use Rattle.run_register_rules.proofs.evaluate.Statement.{statement}
 use Rattle.run_register_rules.proofs.evaluate.Tie as tie
 
-slice-aggregate-compute-all : tie.Need-slice-aggregate-compute-all
-slice-aggregate-compute-all c = search needs
+abbrev Inv-loop : tie.InvT-loop
+Inv-loop registers₀ height program at count i₀ p₀ registers i p = (i ≤ count) × Straight program at count height registers₀ i p registers
 
-compute-all-requires : tie.Need-compute-all-requires
-compute-all-requires c κs = search needs
+abbrev μ-loop : tie.MeasureT-loop
+μ-loop registers₀ height program at count i₀ p₀ registers i p = count - i
 
-slice-aggregate-write-all : tie.Need-slice-aggregate-write-all
-slice-aggregate-write-all c = search needs
+-- the words of the rule at hand lie inside
+inside : (c : tie.In-loop Inv-loop μ-loop) → c .before .loop .p + 1 < length (now (c .before .before .before .args .program))
+inside c = omega (arith, rules-inside (c .before .loop .inv .1 .left))
 
-write-all-requires : tie.Need-write-all-requires
-write-all-requires c κs =
-    let t = c .before .before in
-    let e = t .before .before in
-    let s = e .before .before .before .before in
-    (s .pre .0, omega (arith, s .pre .1, e .compute-all .kept .1 .1 .1 .1 .1 .0), s .pre .2, e .compute-all .ensures .values (t .if1 .taken))
+-- its target stands
+target : (c : tie.After-rule-target Inv-loop μ-loop) → (1 ≤ c .rule-target .result) × (c .rule-target .result ≤ c .before .before .before .before .before .before .args .height)
+target c =
+    let t = c .before .before .before in
+    let s = t .before .before .before in
+    let a = s .args in
+    rw (c .rule-target .ensures) (straight-target (now (a .program)) (a .at) (a .count) (a .height) (now (a .registers)) (s .pre .0) (s .pre .2) (t .before .loop .inv .1) (t .loop-test .taken))
 
-same-length : tie.Need-same-length
+-- its value, read back from the local
+back : (c : tie.After-result Inv-loop μ-loop) → toZ w64 (ofZ w64 (c .result .result)) ≡ c .result .result
+back c = held (sfits-of (c .result .ok)) refl
+
+tested : (c : tie.After-is-mark Inv-loop μ-loop) → isMark (c .before .result .result) ≡ c .is-mark .result
+tested c = sym (c .is-mark .ensures ∙ ap isMark (back (c .before)))
+
+loop-holds : tie.Need-loop-holds Inv-loop μ-loop
+loop-holds c =
+    let s = c .before in
+    let a = s .args in
+    (omega arith, straight-start (now (a .program)) (a .at) (a .count) (a .height) (now (a .registers)) (s .pre .0) (s .pre .2) (s .pre .1))
+
+mul-word : tie.Need-mul-word Inv-loop μ-loop
+mul-word c = omega (arith, inside c)
+
+shared-slice-read-word : tie.Need-shared-slice-read-word Inv-loop μ-loop
+shared-slice-read-word c = omega (arith, inside (c .before))
+
+add-constant : tie.Need-add-constant Inv-loop μ-loop
+add-constant c = omega (arith, inside (c .before))
+
+mul-constant : tie.Need-mul-constant Inv-loop μ-loop
+mul-constant c = omega (arith, inside (c .before))
+
+shared-slice-read-constant : tie.Need-shared-slice-read-constant Inv-loop μ-loop
+shared-slice-read-constant c = omega (arith, inside (c .before .before))
+
+rule-target-requires : tie.Need-rule-target-requires Inv-loop μ-loop
+rule-target-requires c κs = search needs
+
+cast-below : tie.Need-cast-below Inv-loop μ-loop
+cast-below c = omega arith
+
+result-requires : tie.Need-result-requires Inv-loop μ-loop
+result-requires c κs =
+    let t = c .before .before .before .before in
+    let w = t .before .loop .inv .1 in
+    let s = t .before .before .before in
+    let a = s .args in (
+      inside-now (now (a .program)) (a .at) (a .count) (a .height) (now (a .registers)) (s .pre .0) (s .pre .2) w,
+      straight-applies (now (a .program)) (a .at) (a .count) (a .height) (now (a .registers)) (s .pre .0) (s .pre .2) w (t .loop-test .taken),
+    )
+
+is-mark-requires : tie.Need-is-mark-requires Inv-loop μ-loop
+is-mark-requires c κs = search needs
+
+mark-again-requires : tie.Need-mark-again-requires Inv-loop μ-loop
+mark-again-requires c κs =
+    let t = c .before .before .before .before .before .before .before .before in
+    let s = t .before .before .before in
+    let a = s .args in (
+      inside-now (now (a .program)) (a .at) (a .count) (a .height) (now (a .registers)) (s .pre .0) (s .pre .2) (t .before .loop .inv .1),
+      (stack (a .height) (now (a .registers)), stack-length (a .height) (now (a .registers)) (s .pre .0), s .pre .1),
+    )
+
+same-length : tie.Need-same-length Inv-loop μ-loop
 same-length c = search needs
 
-returns : tie.Need-returns
+returns : tie.Need-returns Inv-loop μ-loop
 returns c =
-    let t = c .before .before .before .before in
-    record { answer = sym (t .if1 .taken) ∙ t .before .before .compute-all .ensures .answer; memory = c .before .write-all .ensures }
+    let q = c .before in
+    let k = q .before .before .before in
+    let r = k .before in
+    let t = r .before .before .before .before .before in
+    let s = t .before .before .before in
+    let a = s .args in
+    straight-stop (now (a .program)) (a .at) (a .count) (a .height) (now (a .registers)) (s .pre .0) (s .pre .2) (t .before .loop .inv .1) (t .loop-test .taken) (r .result .result) (r .result .ensures) (tested k ∙ q .before .before .if1 .taken) _ (q .mark-again .ensures)
 
-same-length-2 : tie.Need-same-length-2
-same-length-2 c = search needs
+sub-v : tie.Need-sub-v Inv-loop μ-loop
+sub-v c =
+    let k = target (c .before .before .before .before) in
+    omega (arith, k .0, k .1)
 
-returns-2 : tie.Need-returns-2
+mul-v : tie.Need-mul-v Inv-loop μ-loop
+mul-v c = omega arith
+
+slice-set-from-v : tie.Need-slice-set-from-v Inv-loop μ-loop
+slice-set-from-v c =
+    let g = c .before .before .before .before in
+    let t = g .before .before .before in
+    let k = target g in
+    omega (arith, k .0, k .1, t .before .loop .inv .1 .sameLength, t .before .before .before .pre .0)
+
+add-i : tie.Need-add-i Inv-loop μ-loop
+add-i c = omega arith
+
+add-p : tie.Need-add-p Inv-loop μ-loop
+add-p c = omega (arith, inside (c .before .before .before .before .before .before .before))
+
+loop-less : tie.Need-loop-less Inv-loop μ-loop
+loop-less c = omega arith
+
+-- what is written for the rule at hand
+written : (c : tie.Else1 Inv-loop μ-loop) → (
+    let g = c .before .before .before .before in
+    let l = g .before .before .before .before .loop in
+    let s = g .before .before .before .before .before .before in
+    let a = s .args in
+    Straight (now (a .program)) (a .at) (a .count) (a .height) (now (a .registers)) (l .i + 1) (l .p + 2) (set (l .registers) (a .height - g .rule-target .result) (toZ w64 (ofZ w64 (c .before .before .result .result))))
+    )
+written c =
+    let r = c .before .before in
+    let t = r .before .before .before .before .before in
+    let s = t .before .before .before in
+    let a = s .args in
+    rw (back r, r .before .before .rule-target .ensures) (straight-turn (now (a .program)) (a .at) (a .count) (a .height) (now (a .registers)) (s .pre .0) (s .pre .2) (t .before .loop .inv .1) (t .loop-test .taken) (r .result .result) (r .result .ensures) (tested (c .before) ∙ c .if1 .left))
+
+loop-again : tie.Need-loop-again Inv-loop μ-loop
+loop-again c = (omega arith, written c)
+
+same-length-2 : tie.Need-same-length-2 Inv-loop μ-loop
+same-length-2 c = c .before .loop .inv .1 .sameLength
+
+returns-2 : tie.Need-returns-2 Inv-loop μ-loop
 returns-2 c =
-    let e = c .before .before in
-    let s = e .before .before .before .before in
-    record { answer = sym (c .if1 .left) ∙ e .compute-all .ensures .answer; memory = sym (stack-laid mark (s .args .height) (now (s .args .registers)) (s .pre .0)) }
+    let s = c .before .before .before in
+    let a = s .args in
+    straight-end (now (a .program)) (a .at) (a .count) (a .height) (now (a .registers)) (s .pre .0) (s .pre .2) (c .before .loop .inv .1) (c .loop-test .left)
 
 pub evaluate-spec : {M : Type 1} → statement M
 evaluate-spec =
     tie.close
     (tie.spec
-    slice-aggregate-compute-all
-    compute-all-requires
-    slice-aggregate-write-all
-    write-all-requires
+    Inv-loop
+    μ-loop
+    loop-holds
+    mul-word
+    shared-slice-read-word
+    add-constant
+    mul-constant
+    shared-slice-read-constant
+    rule-target-requires
+    cast-below
+    result-requires
+    is-mark-requires
+    mark-again-requires
     same-length
     returns
+    sub-v
+    mul-v
+    slice-set-from-v
+    add-i
+    add-p
+    loop-less
+    loop-again
     same-length-2
     returns-2)

@@ -1,18 +1,23 @@
-use lib.ListN.{length, length-set}
+use Rattle.theory_program.specs.Parts.{headOperand}
+use lib.ListN.{length, length-set, getD}
 use denote.Ref.{now}
 use Prim.Native.Nat.{_+_, _-_, _<_}
 use Rattle.run_moves.specs.Passing.{removal, popped-small, resumes, resumed-at, resume-inside, made-remove}
 use Rattle.run_moves.specs.Held.{bounds}
-use mathlib.Core.Path.{_∙_}
+use mathlib.Core.Path.{_∙_, _≡_, ap}
 use native.Mathlib.Omega.{arith}
 use borrow.Author.Needs.{needs}
 use Rattle.run_remove.proofs.remove.Statement.{statement}
 use Rattle.run_remove.proofs.remove.Tie as tie
 
+-- the operand at hand
+operand-is : (c : tie.After-operand) → let a = c .before .before .before .before .args in c .operand .result ≡ headOperand (getD (now (a .program)) (a .run .at) 0)
+operand-is c = c .operand .ensures ∙ ap headOperand (c .before .word-at .ensures .0)
+
 -- the code from which the place below goes on is in the program
-going : (c : tie.After-resume) → c .resume .result + 1 < length (now (c .before .before .before .before .before .before .before .before .before .before .args .program))
+going : (c : tie.After-resume) → c .resume .result + 1 < length (now (c .before .before .before .before .before .before .before .before .before .before .before .args .program))
 going c =
-    let b = c .before .before .before .before .before .before .before .before .before .before .pre in
+    let b = c .before .before .before .before .before .before .before .before .before .before .before .pre in
     let r = removal (b .held) (b .operation) in
     rw (resumed-at (b .held) r _ _ (c .before .word-at2 .ensures .0) (c .resume .ensures)) (resume-inside (b .held) r (b .limit))
 
@@ -20,32 +25,32 @@ word-at-requires : tie.Need-word-at-requires
 word-at-requires c κs = bounds (c .before .before .pre .held) .inside
 
 remove-requires : tie.Need-remove-requires
-remove-requires c κs = let b = c .before .before .before .before .pre in (bounds (b .held) .registers, rw (c .before .word-at .ensures .0) (removal (b .held) (b .operation) .fits))
+remove-requires c κs = let b = c .before .before .before .before .before .pre in (bounds (b .held) .registers, rw (operand-is (c .before)) (removal (b .held) (b .operation) .fits))
 
 sub-height : tie.Need-sub-height
-sub-height c = bounds (c .before .before .before .before .before .before .before .pre .held) .somePlace
+sub-height c = bounds (c .before .before .before .before .before .before .before .before .pre .held) .somePlace
 
 sub-word-at : tie.Need-sub-word-at
-sub-word-at c = let b = c .before .before .before .before .before .before .before .before .pre in omega (arith, removal (b .held) (b .operation) .somePlaces)
+sub-word-at c = let b = c .before .before .before .before .before .before .before .before .before .pre in omega (arith, removal (b .held) (b .operation) .somePlaces)
 
 word-at-requires-2 : tie.Need-word-at-requires-2
-word-at-requires-2 c κs = let b = c .before .before .before .before .before .before .before .before .pre in omega (arith, bounds (b .held) .places, bounds (b .held) .somePlace)
+word-at-requires-2 c κs = let b = c .before .before .before .before .before .before .before .before .before .pre in omega (arith, bounds (b .held) .places, bounds (b .held) .somePlace)
 
 resume-requires : tie.Need-resume-requires
-resume-requires c κs = let b = c .before .before .before .before .before .before .before .before .before .pre in let r = removal (b .held) (b .operation) in rw (c .word-at2 .ensures .0 ∙ r .isPlace) (resumes (b .held) r)
+resume-requires c κs = let b = c .before .before .before .before .before .before .before .before .before .before .pre in let r = removal (b .held) (b .operation) in rw (c .word-at2 .ensures .0 ∙ r .isPlace) (resumes (b .held) r)
 
 add-at : tie.Need-add-at
 add-at c = omega (arith, going c)
 
 mul-places : tie.Need-mul-places
-mul-places c = let b = c .before .before .before .before .before .before .before .before .before .before .pre in omega (arith, bounds (b .held) .places)
+mul-places c = let b = c .before .before .before .before .before .before .before .before .before .before .before .pre in omega (arith, bounds (b .held) .places)
 
 slice-write-places : tie.Need-slice-write-places
-slice-write-places c = let b = c .before .before .before .before .before .before .before .before .before .before .pre in omega (arith, bounds (b .held) .places, bounds (b .held) .somePlace)
+slice-write-places c = let b = c .before .before .before .before .before .before .before .before .before .before .before .pre in omega (arith, bounds (b .held) .places, bounds (b .held) .somePlace)
 
 pass-requires : tie.Need-pass-requires
 pass-requires c κs =
-    let s = c .before .before .before .before .before .before .before .before .before .before .before in
+    let s = c .before .before .before .before .before .before .before .before .before .before .before .before in
     let b = s .pre in
     let r = removal (b .held) (b .operation) in
     ((omega (arith, r .somePlaces), omega (arith, bounds (b .held) .places, length-set (now (s .args .places)) (s .args .run .places - 1) 0), popped-small (b .held) r), going (c .before))
@@ -55,10 +60,10 @@ counted-requires c κs = search needs
 
 sub-next : tie.Need-sub-next
 sub-next c =
-    let word-at = c .before .before .before .before .before .before .before .before .before .before .before .before .before .word-at in
-    let s = c .before .before .before .before .before .before .before .before .before .before .before .before .before .before .before .before in
+    let operand = operand-is (c .before .before .before .before .before .before .before .before .before .before .before .before .before) in
+    let s = c .before .before .before .before .before .before .before .before .before .before .before .before .before .before .before .before .before in
     let b = s .pre in
-    rw (word-at .ensures .0) (removal (b .held) (b .operation) .fits)
+    rw operand (removal (b .held) (b .operation) .fits)
 
 same-length : tie.Need-same-length
 same-length c = search needs
@@ -66,7 +71,7 @@ same-length c = search needs
 same-length-2 : tie.Need-same-length-2
 same-length-2 c =
     let pass = c .before .before .before .before .pass in
-    let s = c .before .before .before .before .before .before .before .before .before .before .before .before .before .before .before .before in
+    let s = c .before .before .before .before .before .before .before .before .before .before .before .before .before .before .before .before .before in
     pass .kept .0 ∙ length-set (now (s .args .places)) (s .args .run .places - 1) 0
 
 returns : tie.Need-returns
@@ -75,18 +80,22 @@ returns c =
     let resume = c .before .before .before .before .before .before .resume in
     let word-at2 = c .before .before .before .before .before .before .before .word-at2 in
     let remove = c .before .before .before .before .before .before .before .before .before .before .before .remove in
-    let word-at = c .before .before .before .before .before .before .before .before .before .before .before .before .before .word-at in
-    let s = c .before .before .before .before .before .before .before .before .before .before .before .before .before .before .before .before in
+    let operand = operand-is (c .before .before .before .before .before .before .before .before .before .before .before .before .before) in
+    let s = c .before .before .before .before .before .before .before .before .before .before .before .before .before .before .before .before .before in
     λ look g lent d h ok.
     let b = s .pre in
     let r = removal h (b .operation) in
-    rw (c .before .counted .ensures, word-at .ensures .0) (made-remove h r look ok (b .limit) _ _ (resume .result) (resumed-at h r _ _ (word-at2 .ensures .0) (resume .ensures)) (rw (word-at .ensures .0) at (remove .ensures)) (pass .ensures))
+    rw (c .before .counted .ensures, operand) (made-remove h r look ok (b .limit) _ _ (resume .result) (resumed-at h r _ _ (word-at2 .ensures .0) (resume .ensures)) (rw operand at (remove .ensures)) (pass .ensures))
+
+operand-requires : tie.Need-operand-requires
+operand-requires c κs = search needs
 
 pub remove-spec : {M : Type 1} → statement M
 remove-spec =
     tie.close
     (tie.spec
     word-at-requires
+    operand-requires
     remove-requires
     sub-height
     sub-word-at

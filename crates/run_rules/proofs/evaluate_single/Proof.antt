@@ -17,7 +17,7 @@ evaluate-one-requires : tie.Need-evaluate-one-requires
 evaluate-one-requires c κs =
     let s = c .before .before .before in
     let b = s .pre .0 .1 in
-    (bounds (b .held) .registers, subst (λ (n : ℕ). Evaluates (now (s .args .program)) (s .args .run .at + 1) n (stack (s .args .run .registers) (now (s .args .registers)))) (s .pre .1) (rules-here (b .held) (b .operation) .ready))
+    (bounds (b .held) .registers, subst (λ (n : ℕ). Evaluates (now (s .args .program)) (s .args .run .at + 1) n (stack (s .args .run .registers) (now (s .args .registers)))) (s .pre .1) (rules-here (b .held) (b .operation) .ready), s .pre .2)
 
 add-counted : tie.Need-add-counted
 add-counted c =

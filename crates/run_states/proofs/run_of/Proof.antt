@@ -20,7 +20,13 @@ word-at-requires c κs =
 address-of-requires : tie.Need-address-of-requires
 address-of-requires c κs =
     let s = c .before .before .before in
-    record { grammar = s .pre .1 .grammar; begins = s .pre .1 .begins; wellFormed = s .pre .1 .wellFormed; stood = subst (Stood (s .pre .1 .grammar)) (sym (c .word-at .ensures .0)) (top-stands (s .pre .1 .begins) (s .pre .1 .wellFormed) (s .pre .0) (now (s .args .places)) (stateIs (s .args .brought)) (s .pre .1 .fits)) }
+    record {
+      grammar = s .pre .1 .grammar;
+      begins = s .pre .1 .begins;
+      wellFormed = s .pre .1 .wellFormed;
+      stood = subst (Stood (s .pre .1 .grammar)) (sym (c .word-at .ensures .0))
+          (top-stands (s .pre .1 .begins) (s .pre .1 .wellFormed) (s .pre .0) (now (s .args .places)) (stateIs (s .args .brought)) (s .pre .1 .fits));
+    }
 
 returns : tie.Need-returns
 returns c =

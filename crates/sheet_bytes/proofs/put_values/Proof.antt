@@ -57,7 +57,9 @@ loop-again c =
     let l = c .before .before .before .before .before .before .loop in
     let h = c .before .before .before .before .before .loop-test .taken in
     let t : s .args .above + l .i < length (stack (s .args .height) (now (s .args .registers))) = omega (arith, s .pre .2, h, stack-length (s .args .height) (now (s .args .registers)) (s .pre .1)) in
-    (value-laid (s .args .at) (l .i) (s .args .above) (stack (s .args .height) (now (s .args .registers))) _ (now (s .args .sheet)) (l .sheet) _ t (c .before .before .before .before .read .ensures) (l .inv .0) (rw (toZ-ofZ (sfits-of (c .before .before .before .before .read .ok))) at (c .before .before .put-eight .ensures)), omega (arith, h), c .before .before .put-eight .kept .0 ∙ l .inv .2)
+    let r = c .before .before .before .before .read in
+    let w = c .before .before .put-eight in
+    (value-laid (s .args .at) (l .i) (s .args .above) (stack (s .args .height) (now (s .args .registers))) _ (now (s .args .sheet)) (l .sheet) _ t (r .ensures) (l .inv .0) (rw (toZ-ofZ (sfits-of (r .ok))) at (w .ensures)), omega (arith, h), w .kept .0 ∙ l .inv .2)
 
 same-length : tie.Need-same-length Inv-loop μ-loop
 same-length c = c .before .loop .inv .2

@@ -23,10 +23,12 @@ one-requires c κs =
 
 -- the step that was answered
 answered : (c : tie.After-one) (t : Step) → c .one .result ≡ t
-    → Answers (now (c .before .before .before .before .before .before .before .args .program)) (now (c .before .before .before .before .before .before .before .args .registers)) (now (c .before .before .before .before .before .before .before .args .places)) (c .before .before .before .before .before .before .before .args .run) (comingOf (c .before .before .before .before .before .before .before .args .look) (c .before .before .before .before .before .before .before .args .value)) (c .one .last .0) (c .one .last .1 .0) t
+    → let a = c .before .before .before .before .before .before .before .args in
+    Answers (now (a .program)) (now (a .registers)) (now (a .places)) (a .run) (comingOf (a .look) (a .value)) (c .one .last .0) (c .one .last .1 .0) t
 answered c t e =
+    let a = c .before .before .before .before .before .before .before .args in
     subst
-    (λ x. Answers (now (c .before .before .before .before .before .before .before .args .program)) (now (c .before .before .before .before .before .before .before .args .registers)) (now (c .before .before .before .before .before .before .before .args .places)) (c .before .before .before .before .before .before .before .args .run) (comingOf (c .before .before .before .before .before .before .before .args .look) (c .before .before .before .before .before .before .before .args .value)) (c .one .last .0) (c .one .last .1 .0) x)
+    (λ x. Answers (now (a .program)) (now (a .registers)) (now (a .places)) (a .run) (comingOf (a .look) (a .value)) (c .one .last .0) (c .one .last .1 .0) x)
     e
     (rw (toZ-ofZ (c .before .before .before .before .before .before .before .fits .value)) at (c .one .ensures))
 

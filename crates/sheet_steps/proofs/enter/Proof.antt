@@ -8,7 +8,7 @@ use Rattle.sheet_record.specs.Counting.{Nested, Counted}
 use Rattle.sheet_record.specs.Recording.{nested}
 use Rattle.sheet_steps.specs.Numbers.{low, runIn, kept-fits}
 use Rattle.sheet_steps.specs.Cycle.{enters-inner}
-use Rattle.sheet_steps.specs.Walks.{Passed, enter-fails, enter-opens, enter-few}
+use Rattle.sheet_steps.specs.Walks.{PassOut, enter-fails, enter-opens, enter-few}
 use borrow.Author.Needs.{needs}
 use Rattle.sheet_steps.proofs.enter.Statement.{statement}
 use Rattle.sheet_steps.proofs.enter.Tie as tie
@@ -17,12 +17,12 @@ use Rattle.sheet_steps.proofs.enter.Tie as tie
 passed-as : (c : tie.After-advance) (b : Bool) → c .advance .result ≡ b
     → let s = c .before .before .before .before .before .before .before in
     let p = c .advance in
-    Passed (now (s .args .program)) (now (s .args .kinds)) (now (s .args .values)) (now (s .args .registers)) (now (s .args .places)) (now (s .args .numbers)) (p .last .0) (p .last .1 .0) b (p .last .1 .1 .1 .1 .1 .0)
+    PassOut (now (s .args .program)) (now (s .args .kinds)) (now (s .args .values)) (now (s .args .registers)) (now (s .args .places)) (now (s .args .numbers)) (p .last .0) (p .last .1 .0) b (p .last .1 .1 .1 .1 .1 .0)
 passed-as c b e =
     let s = c .before .before .before .before .before .before .before in
     let p = c .advance in
     subst
-    (λ z. Passed (now (s .args .program)) (now (s .args .kinds)) (now (s .args .values)) (now (s .args .registers)) (now (s .args .places)) (now (s .args .numbers)) (p .last .0) (p .last .1 .0) z (p .last .1 .1 .1 .1 .1 .0))
+    (λ z. PassOut (now (s .args .program)) (now (s .args .kinds)) (now (s .args .values)) (now (s .args .registers)) (now (s .args .places)) (now (s .args .numbers)) (p .last .0) (p .last .1 .0) z (p .last .1 .1 .1 .1 .1 .0))
     e
     (p .ensures)
 

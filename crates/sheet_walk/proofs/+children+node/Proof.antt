@@ -9,7 +9,7 @@ use denote.Ref.{now}
 use borrow.Author.Needs.{needs}
 use Rattle.run_moves.specs.Held.{bounds}
 use Rattle.sheet_steps.specs.Cycle.{list-symbols, list-node-at}
-use Rattle.sheet_steps.specs.Walks.{Opened, NodeOut, ListOut, pass-out, node-out-as, child-inside, child-over, child-more-in, child-more, child-fails, node-enter, enter-out, open-inside, open-depth, open-list, open-none, open-fails, leave-at, left-out}
+use Rattle.sheet_steps.specs.Walks.{Opened, NodeOut, ListOut, depthLeft, pass-out, node-out-as, child-inside, child-over, child-more-in, child-depth, child-more, child-fails, node-enter, enter-out, open-inside, open-depth, open-list, open-none, open-fails, leave-at, left-out}
 use borrow.Fn.Kinds.{In}
 use borrow.Fn.PlainCycle.{Measures, is, falls, and}
 use Rattle.sheet_walk.proofs.children.Reads as children
@@ -26,10 +26,10 @@ use Rattle.sheet_walk.proofs.+children+node.{statement}
 use Rattle.sheet_walk.proofs.+children+node.Tie.{close}
 
 abbrev μ-children : Measures 7 children-kinds.ps ℕ
-μ-children κs a = 16 * a .1 .1 .1 .1 .1 .1 .1 .0 + a .1 .1 .1 .1 .1 .1 .1 .1 .0
+μ-children κs a = 16 * depthLeft (now (a .1 .1 .1 .1 .1 .1 .0)) + a .1 .1 .1 .1 .1 .1 .1 .0
 
 abbrev μ-node : Measures 7 node-kinds.ps ℕ
-μ-node κs a = 16 * a .1 .1 .1 .1 .1 .1 .1 .0
+μ-node κs a = 16 * depthLeft (now (a .1 .1 .1 .1 .1 .1 .0))
 
 abbrev children-at : ℕ → In 7 children-kinds.ps
 children-at t = and 7 children-kinds.ps (is 7 children-kinds.ps μ-children t) children.Pre
@@ -216,7 +216,7 @@ children-children-requires t c κs =
     let s = (c .before .before .before .before .before .before .before .before .before .before .before .before .before .before) in
     let q = s .pre .1 in
     let n = child-as t (c .before .before .before .before .before .before .before .before) true ((c .before .before .before .before .before .before .before) .if2 .taken) in
-    (omega (arith, s .pre .0, list-symbols (q .ready) (q .look)), child-more-in q n (omega (arith, (c .before .before .before .before .before) .operation2 .ensures, (c .before .before .before .before) .if3 .left)))
+    (omega (arith, s .pre .0, list-symbols (q .ready) (q .look), child-depth q n), child-more-in q n (omega (arith, (c .before .before .before .before .before) .operation2 .ensures, (c .before .before .before .before) .if3 .left)))
 
 children-same-length-2 : (t : ℕ) → children-lts.Need-same-length-2 (
   operation-reads.Asked,
@@ -417,23 +417,6 @@ node-returns t c =
     let o = opened-as t d true ((c .before .before .before .before .before .before .before .before .before .before) .if1 .taken) in
     left-out q o (open-none q o out (omega (arith, (c .before .before .before .before .before .before .before .before) .operation .ensures, (c .before .before .before .before .before .before .before) .if2 .taken))) ((c .before .before) .leave .ensures)
 
-node-sub-children : (t : ℕ) → node-lts.Need-sub-children (
-  enter-reads.Asked,
-  enter-reads.Learnt,
-  operation-reads.Asked,
-  operation-reads.Learnt,
-  leave-reads.Asked,
-  leave-reads.Learnt,
-  children-below t,
-  children.Post,
-) (node-at t) node.Post
-node-sub-children t c =
-    let s = (c .before .before .before .before .before .before .before .before .before .before .before .before .before .before .before .before .before) in
-    let q = s .pre .1 in
-    let d = c .before .before .before .before .before .before .before .before in
-    let o = opened-as t d true ((c .before .before .before .before .before .before .before) .if1 .taken) in
-    open-depth q o
-
 node-children-requires : (t : ℕ) → node-lts.Need-children-requires (
   enter-reads.Asked,
   enter-reads.Learnt,
@@ -586,7 +569,6 @@ pub +children+node-spec : {M : Type 1} → statement M
     (node-leave-requires t)
     (node-same-length t)
     (node-returns t)
-    (node-sub-children t)
     (node-children-requires t)
     (node-leave-requires-2 t)
     (node-same-length-2 t)

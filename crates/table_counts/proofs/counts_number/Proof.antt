@@ -41,7 +41,11 @@ counts-fault-requires : tie.Need-counts-fault-requires
 counts-fault-requires c κs = search needs
 
 returns-4 : tie.Need-returns-4
-returns-4 c = counts-right _ _ _ _ _ (omega arith) _ (c .before .before .before .before .before .before .size-at .ensures .0 (omega arith)) _ _ (omega arith) (part-body (c .before .before .before .before .before .before .before .before .before .args .table .now) (c .before .before .before .before .before .before .before .before .before .args .at) (c .before .before .before .before .before .before .size-at .result)) (c .counts-fault .ensures)
+returns-4 c =
+    let sized = c .before .before .before .before .before .before in
+    let st = sized .before .before .before in
+    let part = part-body (st .args .table .now) (st .args .at) (sized .size-at .result) in
+    counts-right _ _ _ _ _ (omega arith) _ (sized .size-at .ensures .0 (omega arith)) _ _ (omega arith) part (c .counts-fault .ensures)
 
 pub counts-number-spec : {M : Type 1} → statement M
 counts-number-spec =

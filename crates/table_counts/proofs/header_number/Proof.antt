@@ -38,7 +38,11 @@ header-fault-requires : tie.Need-header-fault-requires
 header-fault-requires c κs = search needs
 
 returns-4 : tie.Need-returns-4
-returns-4 c = header-right _ (omega arith) _ _ _ (c .before .before .before .before .before .before .size-at .ensures .0 (omega arith)) (omega arith) (part-body (c .before .before .before .before .before .before .before .before .before .args .table .now) 0 (c .before .before .before .before .before .before .size-at .result)) (c .header-fault .ensures)
+returns-4 c =
+    let sized = c .before .before .before .before .before .before in
+    let st = sized .before .before .before in
+    let part = part-body (st .args .table .now) 0 (sized .size-at .result) in
+    header-right _ (omega arith) _ _ _ (sized .size-at .ensures .0 (omega arith)) (omega arith) part (c .header-fault .ensures)
 
 pub header-number-spec : {M : Type 1} → statement M
 header-number-spec =

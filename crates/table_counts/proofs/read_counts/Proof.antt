@@ -23,7 +23,11 @@ counts-number-requires : tie.Need-counts-number-requires Inv-loop μ-loop
 counts-number-requires c κs = omega (arith, c .before .loop .inv .1 .long)
 
 returns : tie.Need-returns Inv-loop μ-loop
-returns c = (counting-refused _ _ _ _ (c .before .before .before .loop .inv .1) (omega arith) _ _ _ (c .before .before .before .before .before .pre .1) (c .before .before .before .before .before .pre .2) (c .before .counts-number .ensures) _ (c .if1 .taken), (c .before .before .before .loop .inv .1 .first, c .before .before .before .loop .inv .1 .second))
+returns c =
+    let lp = c .before .before .before in
+    let pre = lp .before .before .pre in
+    let counting = lp .loop .inv .1 in
+    (counting-refused _ _ _ _ counting (omega arith) _ _ _ (pre .1) (pre .2) (c .before .counts-number .ensures) _ (c .if1 .taken), (counting .first, counting .second))
 
 add-inherited : tie.Need-add-inherited Inv-loop μ-loop
 add-inherited c = omega arith
@@ -50,7 +54,11 @@ loop-less : tie.Need-loop-less Inv-loop μ-loop
 loop-less c = omega arith
 
 loop-again : tie.Need-loop-again Inv-loop μ-loop
-loop-again c = (omega arith, counting-more _ _ _ _ (c .before .before .before .before .before .loop .inv .1) (omega arith) _ _ _ (c .before .before .before .before .before .before .before .pre .1) (c .before .before .before .before .before .before .before .pre .2) (c .before .before .before .counts-number .ensures) (omega arith) (omega arith))
+loop-again c =
+    let number = c .before .before .before in
+    let lp = number .before .before in
+    let pre = lp .before .before .pre in
+    (omega arith, counting-more _ _ _ _ (lp .loop .inv .1) (omega arith) _ _ _ (pre .1) (pre .2) (number .counts-number .ensures) (omega arith) (omega arith))
 
 returns-2 : tie.Need-returns-2 Inv-loop μ-loop
 returns-2 c = (counting-end _ _ _ _ (c .before .loop .inv .1) _ (omega arith), (c .before .loop .inv .1 .first, c .before .loop .inv .1 .second))

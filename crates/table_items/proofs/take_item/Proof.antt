@@ -36,7 +36,7 @@ returns-2 : tie.Need-returns-2
 returns-2 c =
     let start = c .before .before .before .before .before .before .before .before in
     let taken = c .take-rule .ensures in
-    use-rule _ _ _ _ _ _ _ _ _ (start .pre .0) (start .pre .1) (start .pre .2 .0 (omega arith)) (start .pre .3) _ (part-body (start .args .table .now) (start .args .at) (start .args .size)) _ _ (omega arith) (taken .0) (taken .1 .0) (taken .1 .1)
+    use-rule _ _ _ _ _ _ _ _ _ (start .pre .0) (start .pre .1) (start .pre .2 .0 (omega arith)) (start .pre .3) _ (part-body (start .args .table .now) (start .args .done .at) (start .args .size)) _ _ (omega arith) (taken .0) (taken .1 .0) (taken .1 .1)
 
 sub-condition-fault : tie.Need-sub-condition-fault
 sub-condition-fault c = search needs
@@ -53,7 +53,7 @@ condition-fault-requires c κs = search needs
 returns-3 : tie.Need-returns-3
 returns-3 c =
     let start = c .before .before .before .before .before .before .before .before in
-    use-condition _ _ _ _ _ _ _ _ _ (start .pre .0) (start .pre .1) (start .pre .2 .0 (omega arith)) (start .pre .3) _ (part-body (start .args .table .now) (start .args .at) (start .args .size)) _ (omega arith) (c .condition-fault .ensures)
+    use-condition _ _ _ _ _ _ _ _ _ (start .pre .0) (start .pre .1) (start .pre .2 .0 (omega arith)) (start .pre .3) _ (part-body (start .args .table .now) (start .args .done .at) (start .args .size)) _ (omega arith) (c .condition-fault .ensures)
 
 returns-4 : tie.Need-returns-4
 returns-4 c =

@@ -1,6 +1,6 @@
 use mathlib.Core.Path.{refl}
 use native.Mathlib.Omega.{arith}
-use borrow.Author.Needs.{needs, needs}
+use borrow.Author.Needs.{needs}
 use Rattle.table_production.proofs.Producing.{part-in, body-small, taken-body, next-sooner}
 use Rattle.table_production.proofs.judge_body.Statement.{statement}
 use Rattle.table_production.proofs.judge_body.Tie as tie
@@ -23,14 +23,14 @@ add-end c = search needs
 add-end-2 : tie.Need-add-end-2
 add-end-2 c = search needs
 
-sub-place-counts : tie.Need-sub-place-counts
-sub-place-counts c = search needs
+sub-body : tie.Need-sub-body
+sub-body c = search needs
 
-part-place-counts-start : tie.Need-part-place-counts-start
-part-place-counts-start c = search needs
+part-body-start : tie.Need-part-body-start
+part-body-start c = search needs
 
-part-place-counts-end : tie.Need-part-place-counts-end
-part-place-counts-end c = search needs
+part-body-end : tie.Need-part-body-end
+part-body-end c = search needs
 
 place-counts-requires : tie.Need-place-counts-requires
 place-counts-requires c κs = (search needs, search needs, search needs, search needs, refl, refl)
@@ -77,9 +77,9 @@ judge-body-spec =
     add-from
     add-end
     add-end-2
-    sub-place-counts
-    part-place-counts-start
-    part-place-counts-end
+    sub-body
+    part-body-start
+    part-body-end
     place-counts-requires
     note-of-requires
     read-items-requires

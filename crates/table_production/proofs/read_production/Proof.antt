@@ -1,5 +1,7 @@
+use mathlib.Core.Path.{sym, subst}
 use native.Mathlib.Omega.{arith}
 use borrow.Author.Needs.{needs}
+use Rattle.table_production.specs.Productions.{ProductionRead}
 use Rattle.table_production.proofs.Producing.{part-in, part-short, small-body}
 use Rattle.table_production.proofs.ProductionRows.{production-refused, production-read}
 use Rattle.table_production.proofs.read_production.Statement.{statement}
@@ -8,8 +10,17 @@ use Rattle.table_production.proofs.read_production.Tie as tie
 production-number-requires : tie.Need-production-number-requires
 production-number-requires c κs = search needs
 
+refused-after-requires : tie.Need-refused-after-requires
+refused-after-requires c κs = tt
+
 returns : tie.Need-returns
-returns c = production-refused _ _ _ _ _ _ _ _ _ _ _ _ _ (c .before .production-number .ensures) (c .before .before .before .pre .8) (c .if1 .taken) (omega arith) (c .before .before .before .pre .7)
+returns c =
+    let judged = c .before .before in
+    let pre = judged .before .before .pre in
+    subst
+    (ProductionRead _ _ _ _ _ _ _ _ _ _ _ _ _ _)
+    (sym (c .refused-after .ensures))
+    (production-refused _ _ _ _ _ _ _ _ _ _ _ _ _ (judged .production-number .ensures) (pre .8) (c .before .if1 .taken) (omega arith) (pre .7))
 
 add-from : tie.Need-add-from
 add-from c = search needs
@@ -43,7 +54,7 @@ copy-row-requires c κs =
     let n = c .before .before .before .before .before in
     let st = n .before .before in
     let known = n .production-number .ensures .known (omega arith) in
-    (known .few, part-short (st .args .table .now) (st .args .at) (c .before .before .wide .result) (omega (arith, known .short)), st .pre .7)
+    (known .few, part-short (st .args .table .now) (st .args .before .at) (c .before .before .wide .result) (omega (arith, known .short)), st .pre .7)
 
 cast-offsets : tie.Need-cast-offsets
 cast-offsets c = search needs
@@ -66,7 +77,7 @@ returns-2 c =
     let n = c .before .before .before .before .before .before .before in
     let st = n .before .before in
     let w = c .before .before .before .before in
-    let part = part-in (st .args .table .now) (st .args .at) (w .wide .result) (w .wide .ensures .0) in
+    let part = part-in (st .args .table .now) (st .args .before .at) (w .wide .result) (w .wide .ensures .0) in
     production-read _ _ _ _ _ _ _ _ _ _ _ _ _ (n .production-number .ensures) (st .pre .8) (omega arith) _ _ part (c .before .copy-row .ensures) _ (c .read-body .ensures .0) (c .read-body .ensures .1 .0) (c .read-body .ensures .1 .1)
 
 pub read-production-spec : {M : Type 1} → statement M
@@ -74,6 +85,7 @@ read-production-spec =
     tie.close
     (tie.spec
     production-number-requires
+    refused-after-requires
     returns
     add-from
     add-end

@@ -12,13 +12,13 @@ add-from c = omega (arith, c .before .before .pre .0 .few)
 read-carriers-requires : tie.Need-read-carriers-requires
 read-carriers-requires c κs = (c .before .before .pre .0 .long, c .before .before .pre .0 .tokens)
 
-cast-offset : tie.Need-cast-offset
-cast-offset c = let rc = c .before .before .before in omega (arith, rc .read-carriers .ensures .inside, rc .before .before .before .pre .0 .short)
+refused-requires : tie.Need-refused-requires
+refused-requires c κs = let rc = c .before .before in omega (arith, rc .read-carriers .ensures .inside, rc .before .before .before .pre .0 .short)
 
 returns : tie.Need-returns
 returns c =
     let rc = c .before .before .before in
-    carriers-refused _ _ _ _ (rc .before .before .before .pre .0) _ (rc .read-carriers .ensures) (c .before .if1 .taken)
+    rw (c .refused .ensures) (carriers-refused _ _ _ _ (rc .before .before .before .pre .0) _ (rc .read-carriers .ensures) (c .before .if1 .taken))
 
 read-productions-requires : tie.Need-read-productions-requires
 read-productions-requires c κs =
@@ -38,7 +38,7 @@ read-after-counts-spec =
     mul-from
     add-from
     read-carriers-requires
-    cast-offset
+    refused-requires
     returns
     read-productions-requires
     returns-2)

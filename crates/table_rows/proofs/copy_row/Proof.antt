@@ -7,19 +7,19 @@ use Rattle.table_rows.proofs.copy_row.Statement.{statement}
 use Rattle.table_rows.proofs.copy_row.Tie as tie
 
 abbrev Inv-loop : tie.InvT-loop
-Inv-loop rows₀ p body k₀ rows k = (k ≤ length body) × Copied rows₀ p body rows k
+Inv-loop rows₀ p body start k₀ rows k = (k ≤ length body) × Copied rows₀ p body rows k
 
 abbrev μ-loop : tie.MeasureT-loop
-μ-loop rows₀ p body k₀ rows k = length body - k
+μ-loop rows₀ p body start k₀ rows k = length body - k
+
+row-start-requires : tie.Need-row-start-requires Inv-loop μ-loop
+row-start-requires c κs = omega arith
 
 loop-holds : tie.Need-loop-holds Inv-loop μ-loop
 loop-holds c = (omega arith, copying-start _ _ _ (omega arith))
 
 shared-slice-read-rows : tie.Need-shared-slice-read-rows Inv-loop μ-loop
 shared-slice-read-rows c = omega arith
-
-mul-rows : tie.Need-mul-rows Inv-loop μ-loop
-mul-rows c = omega arith
 
 add-rows : tie.Need-add-rows Inv-loop μ-loop
 add-rows c = omega arith
@@ -34,7 +34,7 @@ loop-less : tie.Need-loop-less Inv-loop μ-loop
 loop-less c = omega arith
 
 loop-again : tie.Need-loop-again Inv-loop μ-loop
-loop-again c = (omega arith, copying-more _ _ _ _ _ (c .before .before .loop .inv .1) (omega arith))
+loop-again c = (omega arith, rw (c .before .before .before .row-start .ensures) (copying-more _ _ _ _ _ (c .before .before .loop .inv .1) (omega arith)))
 
 returns : tie.Need-returns Inv-loop μ-loop
 returns c = record { before = c .before .loop .inv .1 .before; row = λ k h. c .before .loop .inv .1 .row k (omega arith); kept = c .before .loop .inv .1 .kept }
@@ -45,9 +45,9 @@ copy-row-spec =
     (tie.spec
     Inv-loop
     μ-loop
+    row-start-requires
     loop-holds
     shared-slice-read-rows
-    mul-rows
     add-rows
     element-write-rows
     add-k

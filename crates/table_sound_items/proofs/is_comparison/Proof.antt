@@ -18,7 +18,7 @@ is-input-requires-2 c κs = search needs
 returns-2 : tie.Need-returns-2
 returns-2 c = λ e width inh syn n i l.
     let start = c .before .before .before .before in
-    comparison-none n width inh syn (start .args .body .now) l (start .args .kind) (start .pre .0) (start .pre .1) (start .pre .2) (start .pre .3) (c .before .before .is-input .ensures width inh syn i (not-false _ (c .before .if1 .left)) .0) (c .is-input2 .ensures width inh syn i e .0)
+    comparison-none n width inh syn (start .args .body .now) l (start .pre .0) (start .pre .1) (start .pre .2) (c .before .before .is-input .ensures width inh syn i (not-false _ (c .before .if1 .left)) .0) (c .is-input2 .ensures width inh syn i e .0)
 
 pub is-comparison-spec : {M : Type 1} → statement M
 is-comparison-spec = tie.close (tie.spec is-input-requires returns is-input-requires-2 returns-2)

@@ -24,8 +24,13 @@ in-order-requires c κs = search needs
 
 returns-2 : tie.Need-returns-2
 returns-2 c = λ e width inh syn n i l.
-    let ready = c .before .before .before .before .before in
-    range-none n width inh syn (ready .before .args .body .now) l (ready .before .pre .0) (ready .before .pre .1) (c .before .before .before .before .is-input .ensures width inh syn i (not-false _ (c .before .before .before .if1 .left)) .0) (sym (ap₂ inOrder (c .before .before .four-at .ensures .0) (c .before .four-at2 .ensures .0)) ∙ sym (c .in-order .ensures) ∙ e)
+    let high = c .before in
+    let low = high .before in
+    let first = low .before in
+    let st = first .before .before .before in
+    let input = first .before .is-input .ensures width inh syn i (not-false _ (first .if1 .left)) .0 in
+    let order = sym (ap₂ inOrder (low .four-at .ensures .0) (high .four-at2 .ensures .0)) ∙ sym (c .in-order .ensures) ∙ e in
+    range-none n width inh syn (st .args .body .now) l (st .pre .0) (st .pre .1) input order
 
 pub is-range-spec : {M : Type 1} → statement M
 is-range-spec =

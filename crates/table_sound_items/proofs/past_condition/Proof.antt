@@ -101,7 +101,8 @@ is-comparison-requires c κs =
     let kind = c .before .before .before .before .before in
     let whole = c .before .before .stands2 .ensures (not-false _ (c .before .if7 .left)) in
     let part = part-body (start .args .table .now) (start .args .at) (4 * kind .wide .result + 1) in
-    (omega arith, omega arith, part-first _ _ _ whole _ part (omega arith) ∙ sym (kind .wide .ensures .0), part-long _ _ _ whole _ part)
+    let first = part-first _ _ _ whole _ part (omega arith) ∙ sym (kind .wide .ensures .0) in
+    (omega (arith, first), omega (arith, first), omega (arith, first, part-long _ _ _ whole _ part))
 
 returns-8 : tie.Need-returns-8
 returns-8 c = λ n. absurd (n refl)

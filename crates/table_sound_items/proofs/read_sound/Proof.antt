@@ -3,7 +3,7 @@ use mathlib.Core.Path.{refl, sym, subst}
 use mathlib.Core.List.{List}
 use native.Mathlib.Omega.{arith}
 use Rattle.table_rows.specs.RowWritten.{symbolByte}
-use Rattle.table_carriers.specs.Named.{inheritedCount, synthesizedOf}
+use Rattle.outline.specs.Counts.{countAt, synthesizedAt}
 use Rattle.table_sound_items.proofs.Walking.{body-taken-by, part-in, part-size}
 use borrow.Author.Needs.{needs}
 use Rattle.table_sound_items.proofs.read_sound.Statement.{statement}
@@ -49,7 +49,7 @@ place-words-requires c κs =
       st .pre .7,
       λ k l.
           subst
-          (λ (x : List ℕ). inheritedCount (st .args .inherited .now) (symbolByte x k) + synthesizedOf (st .args .carrying .0) (st .args .synthesized .now) (symbolByte x k) ≤ 8)
+          (λ (x : List ℕ). countAt (st .args .inherited .now) (symbolByte x k) + synthesizedAt (st .args .carrying .0) (st .args .synthesized .now) (symbolByte x k) ≤ 8)
           (sym (part-in (st .args .table .now) (st .args .at) (wd .wide .result) (wd .wide .ensures .0)))
           (st .pre .2 k (omega (arith, size))),
     )

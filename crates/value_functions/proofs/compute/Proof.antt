@@ -1,4 +1,4 @@
-use Prim.Native.Nat.{ℕ, _≤_}
+use Prim.Native.Nat.{ℕ, zero, suc, _≤_, _<_}
 use native.Mathlib.Omega.{arith}
 use mathlib.Core.Path.{_≡_, refl, sym, _∙_, ap}
 use mathlib.Core.Bool.{true}
@@ -27,91 +27,96 @@ answers f c e = answer e (locals (computed f) (c .args .a) (c .args .b) (c .fits
 picked : (f : ℕ) (c : tie.Start) {r : ℤ} → r ≡ computed f (toZ w64 (ofZ w64 (c .args .a))) (toZ w64 (ofZ w64 (c .args .b))) → inRange (computed f (c .args .a) (c .args .b)) ≡ true → toZ w64 (ofZ w64 r) ≡ ranged (computed f (c .args .a) (c .args .b))
 picked f c e i = answer {x = computed f (c .args .a) (c .args .b)} (e ∙ locals (computed f) (c .args .a) (c .args .b) (c .fits .a) (c .fits .b) ∙ sym (ranged-in (computed f (c .args .a) (c .args .b)) i)) refl
 
--- omega takes at most 6 ≢ at a time
-past3 : (f : ℕ) → (f ≡ 0 → ⊥) → (f ≡ 1 → ⊥) → (f ≡ 2 → ⊥) → (f ≡ 3 → ⊥) → 4 ≤ f
-past3 f p q r s = omega arith
+-- the first two functions have their first operand
+first-two : (f : ℕ) (a b : ℤ) → f < 2 → computed f a b ≡ a
+first-two zero a b l = refl
+first-two (suc zero) a b l = refl
+first-two (suc (suc f)) a b l = absurd (omega arith)
 
-past8 : (f : ℕ) → 4 ≤ f → (f ≡ 4 → ⊥) → (f ≡ 5 → ⊥) → (f ≡ 6 → ⊥) → (f ≡ 7 → ⊥) → (f ≡ 8 → ⊥) → 9 ≤ f
-past8 f l p q r s t = omega arith
+-- the second of a pair of functions
+differs : (c : tie.Else3) → c .before .before .before .args .function ≡ 3
+differs c = omega (arith, c .if3 .left, c .before .if2 .taken, c .before .before .if1 .left)
+
+takes-larger : (c : tie.Else5) → c .before .before .before .before .args .function ≡ 5
+takes-larger c = omega (arith, c .if5 .left, c .before .if4 .taken, c .before .before .if2 .left)
+
+-- none of the nine
+past : (c : tie.Else8) → 9 ≤ c .before .before .before .before .before .before .args .function
+past c = omega (arith, c .if8 .left, c .before .if7 .left, c .before .before .if6 .left, c .before .before .before .if4 .left)
+
+returns : tie.Need-returns
+returns c =
+    let s = c .before in
+    same s ∙ ap ranged (sym (first-two (s .args .function) (s .args .a) (s .args .b) (c .if1 .taken)))
 
 sum-requires : tie.Need-sum-requires
 sum-requires c κs = search needs
 
+returns-2 : tie.Need-returns-2
+returns-2 c = rw (c .before .if3 .taken) (answers 2 (c .before .before .before .before) (c .sum .ensures))
+
 difference-requires : tie.Need-difference-requires
 difference-requires c κs = search needs
+
+returns-3 : tie.Need-returns-3
+returns-3 c = rw (differs (c .before)) (answers 3 (c .before .before .before .before) (c .difference .ensures))
 
 product-requires : tie.Need-product-requires
 product-requires c κs = search needs
 
+returns-4 : tie.Need-returns-4
+returns-4 c = rw (c .before .if5 .taken) (answers 4 (c .before .before .before .before .before) (c .product .ensures))
+
 larger-requires : tie.Need-larger-requires
 larger-requires c κs = search needs
+
+returns-5 : tie.Need-returns-5
+returns-5 c =
+    let s = c .before .before .before .before .before in
+    rw (takes-larger (c .before)) (picked 5 s (c .larger .ensures) (pick-in (leZ (s .args .a) (s .args .b)) (s .args .b) (s .args .a) (s .pre .1) (s .pre .0)))
 
 smaller-requires : tie.Need-smaller-requires
 smaller-requires c κs = search needs
 
+returns-6 : tie.Need-returns-6
+returns-6 c =
+    let s = c .before .before .before .before .before in
+    rw (c .before .if6 .taken) (picked 6 s (c .smaller .ensures) (pick-in (leZ (s .args .a) (s .args .b)) (s .args .a) (s .args .b) (s .pre .0) (s .pre .1)))
+
 sum-requires-2 : tie.Need-sum-requires-2
 sum-requires-2 c κs = search needs
+
+returns-7 : tie.Need-returns-7
+returns-7 c = rw (c .before .if7 .taken) (answers 7 (c .before .before .before .before .before .before) (c .sum2 .ensures))
 
 quotient-requires : tie.Need-quotient-requires
 quotient-requires c κs = search needs
 
-returns : tie.Need-returns
-returns c = rw (c .match .keys1) (same (c .before))
-
-returns-2 : tie.Need-returns-2
-returns-2 c = rw (c .match .keys2) (same (c .before))
-
-returns-3 : tie.Need-returns-3
-returns-3 c = rw (c .before .match .keys3) (answers 2 (c .before .before) (c .sum .ensures))
-
-returns-4 : tie.Need-returns-4
-returns-4 c = rw (c .before .match .keys4) (answers 3 (c .before .before) (c .difference .ensures))
-
-returns-5 : tie.Need-returns-5
-returns-5 c = rw (c .before .match .keys5) (answers 4 (c .before .before) (c .product .ensures))
-
-returns-6 : tie.Need-returns-6
-returns-6 c =
-    let s = c .before .before in
-    rw (c .before .match .keys6) (picked 5 s (c .larger .ensures) (pick-in (leZ (s .args .a) (s .args .b)) (s .args .b) (s .args .a) (s .pre .1) (s .pre .0)))
-
-returns-7 : tie.Need-returns-7
-returns-7 c =
-    let s = c .before .before in
-    rw (c .before .match .keys7) (picked 6 s (c .smaller .ensures) (pick-in (leZ (s .args .a) (s .args .b)) (s .args .a) (s .args .b) (s .pre .0) (s .pre .1)))
-
 returns-8 : tie.Need-returns-8
-returns-8 c = rw (c .before .match .keys8) (answers 7 (c .before .before) (c .sum2 .ensures))
+returns-8 c = rw (c .before .if8 .taken) (answers 8 (c .before .before .before .before .before .before .before) (c .quotient .ensures))
 
 returns-9 : tie.Need-returns-9
-returns-9 c = rw (c .before .match .keys9) (answers 8 (c .before .before) (c .quotient .ensures))
-
-returns-10 : tie.Need-returns-10
-returns-10 c =
-    let f = c .before .args .function in
-    let n = c .match .rest in
-    let l = past3 f (n .0 .0 .0 .0 .0 .0 .0 .0 .1) (n .0 .0 .0 .0 .0 .0 .0 .1) (n .0 .0 .0 .0 .0 .0 .1) (n .0 .0 .0 .0 .0 .1) in
-    let k = past8 f l (n .0 .0 .0 .0 .1) (n .0 .0 .0 .1) (n .0 .0 .1) (n .0 .1) (n .1) in
-    sym (ap ranged (List·getD-eq-default (results (c .before .args .a) (c .before .args .b)) (pos 0) {n = f} k))
+returns-9 c =
+    let s = c .before .before .before .before .before .before in
+    sym (ap ranged (List·getD-eq-default (results (s .args .a) (s .args .b)) (pos 0) {n = s .args .function} (past c)))
 
 pub compute-spec : {M : Type 1} → statement M
 compute-spec =
     tie.close
     (tie.spec
-    sum-requires
-    difference-requires
-    product-requires
-    larger-requires
-    smaller-requires
-    sum-requires-2
-    quotient-requires
     returns
+    sum-requires
     returns-2
+    difference-requires
     returns-3
+    product-requires
     returns-4
+    larger-requires
     returns-5
+    smaller-requires
     returns-6
+    sum-requires-2
     returns-7
+    quotient-requires
     returns-8
-    returns-9
-    returns-10)
+    returns-9)

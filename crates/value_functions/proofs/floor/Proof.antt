@@ -8,7 +8,7 @@ use lib.Signed.{leZ, quotZ}
 use mir.Syntax.{w64}
 use mir.Facts.{toZ-ofZ}
 use mir.Val.{SFits}
-use Rattle.value.specs.Sizes.{natAbs-add, natAbs-sub}
+use Rattle.theory_base.specs.Absolute.{natAbs-add, natAbs-sub}
 use Rattle.value.specs.Nearest.{quotZ-size, floor-nonneg, floor-negative}
 use Rattle.value.specs.Overflow.{fits64}
 use Rattle.value.proofs.Bits.{op-fits, op-back, positive-bits}

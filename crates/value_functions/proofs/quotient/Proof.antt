@@ -11,7 +11,7 @@ use mir.Val.{SFits, toZ, ofZ}
 use Rattle.meaning.specs.Value.{floored, quotient}
 use Rattle.theory_base.specs.Quotients.{quotient-floored, quotient-low}
 use Rattle.value.specs.Ranged.{ranged, ranged-in}
-use Rattle.value.specs.Sizes.{natAbs-add}
+use Rattle.theory_base.specs.Absolute.{natAbs-add}
 use Rattle.value.specs.Nearest.{doubled}
 use Rattle.value.specs.Overflow.{in-range-size, fits64, quotient-in}
 use Rattle.value.proofs.Bits.{answer, op-fits, op-back}

@@ -4,7 +4,7 @@ use denote.Ref.{now}
 use lib.IntN.{ℤ}
 use mir.Syntax.{w64}
 use mir.Val.{toZ, ofZ}
-use Rattle.meaning.specs.Window.{after, sizeIn, nextIn, valuesWith, written}
+use Rattle.meaning_window.specs.Window.{after, sizeIn, nextIn, valuesWith, written}
 use Rattle.window_cells.specs.Signed.{back}
 use Rattle.window.proofs.Calls.{pushed}
 use borrow.Author.Needs.{needs}

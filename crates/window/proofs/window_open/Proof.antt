@@ -7,7 +7,7 @@ use lib.IntN.{pos}
 use mir.Syntax.{w64}
 use mir.Val.{toZ}
 use borrow.Author.Tests.{le-leb, lt-leb}
-use Rattle.meaning.specs.Window.{zeros}
+use Rattle.meaning_window.specs.Window.{zeros}
 use Rattle.window_cells.specs.Signed.{back}
 use Rattle.theory_window.specs.Cases.{opens-not}
 use Rattle.window.proofs.Calls.{opens-cleared}

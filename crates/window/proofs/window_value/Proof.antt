@@ -4,7 +4,7 @@ use denote.Ref.{now}
 use mir.Syntax.{w64}
 use mir.Val.{toZ, ofZ}
 use Rattle.meaning.specs.Value.{inRange}
-use Rattle.meaning.specs.Window.{wellKept, bringsValue}
+use Rattle.meaning_window.specs.Window.{wellKept, bringsValue}
 use borrow.Author.Tests.{not-true, not-false}
 use Rattle.window_cells.specs.Signed.{back}
 use Rattle.theory_window.specs.Cases.{value-not}

@@ -3,8 +3,8 @@ use mathlib.Core.List.{List}
 use mir.Facts.{toZ-ofZ}
 use denote.Ref.{now}
 use lib.IntN.{ℤ}
-use Rattle.meaning.specs.Window as Window
-use Rattle.meaning.specs.Window.{outcome, bringsAnswer, bringsRefusal, bringsValue}
+use Rattle.meaning_window.specs.Window as Window
+use Rattle.meaning_window.specs.Window.{outcome, bringsAnswer, bringsRefusal, bringsValue}
 use Rattle.records.specs.Records.{answerIs}
 use Rattle.records.specs.declared.Answer.{Answer}
 use borrow.Author.Needs.{needs, sfits-of}

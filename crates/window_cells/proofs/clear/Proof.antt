@@ -5,7 +5,7 @@ use mathlib.Core.List.{List, _++_, append-nil}
 use denote.Ref.{now}
 use lib.ListN.{length, drop, length-set, drop-of-length-le}
 use lib.IntN.{ℤ}
-use Rattle.meaning.specs.Window.{zeros}
+use Rattle.meaning_window.specs.Window.{zeros}
 use Rattle.window_cells.proofs.Laws.{clear-turn}
 use Rattle.window_cells.proofs.clear.Statement.{statement}
 use Rattle.window_cells.proofs.clear.Tie as tie

@@ -1,7 +1,7 @@
 use mathlib.Core.Path.{ap, _∙_}
 use mir.Facts.{toZ-ofZ}
 use borrow.Author.Needs.{sfits-of, needs}
-use Rattle.meaning.specs.Window.{small}
+use Rattle.meaning_window.specs.Window.{small}
 use Rattle.window_cells.proofs.number_at.Statement.{statement}
 use Rattle.window_cells.proofs.number_at.Tie as tie
 

@@ -8,7 +8,7 @@ use mir.Syntax.{w64}
 use mir.Val.{toZ, ofZ}
 use borrow.Author.Needs.{sfits-of, needs}
 use borrow.Author.Tests.{not-true, not-false}
-use Rattle.meaning.specs.Window.{placeFits}
+use Rattle.meaning_window.specs.Window.{placeFits}
 use Rattle.window_cells.specs.Signed.{back}
 use Rattle.window_found.specs.Checking.{place-not, count-not, rest-not, values-by, window-part}
 use Rattle.window_kept.proofs.parts_kept.Statement.{statement}

@@ -8,8 +8,8 @@ use lib.Seq.{take-all}
 use lib.IntN.{ℤ}
 use mir.Syntax.{w64}
 use mir.Val.{toZ, ofZ}
-use Rattle.meaning.specs.Window as Window
-use Rattle.meaning.specs.Window.{sizeIn, heldIn, nextIn}
+use Rattle.meaning_window.specs.Window as Window
+use Rattle.meaning_window.specs.Window.{sizeIn, heldIn, nextIn}
 use Rattle.theory_window.specs.Ring as Ring
 use Rattle.window_cells.specs.Signed.{back}
 use Rattle.window_found.specs.Checks.{newLeaders}

@@ -10,9 +10,9 @@ use mir.Val.{SFits, toZ, ofZ}
 use borrow.Author.Needs.{sfits-of, needs}
 use borrow.Author.Tests.{not-true, not-false}
 use Rattle.meaning.specs.Value.{inRange}
-use Rattle.meaning.specs.Window.{valueAt}
+use Rattle.meaning_window.specs.Window.{valueAt}
 use Rattle.value.specs.Overflow.{fits64, in-range-size}
-use Rattle.value.specs.Sizes.{natAbs-add}
+use Rattle.theory_base.specs.Absolute.{natAbs-add}
 use Rattle.window_cells.specs.Signed.{back, le-not-lt}
 use Rattle.window_found.specs.Turns.{matchedAt, staysAt}
 use Rattle.window_found.specs.declared.Walk.{Walk}

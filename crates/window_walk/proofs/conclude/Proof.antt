@@ -8,9 +8,9 @@ use mir.Syntax.{w64}
 use mir.Val.{SFits, toZ, ofZ}
 use borrow.Author.Needs.{sfits-of, needs}
 use borrow.Author.Tests.{not-true, not-false, eq-eqb, ne-eqb}
-use Rattle.meaning.specs.Window.{sameNumber}
+use Rattle.meaning_window.specs.Window.{sameNumber}
 use Rattle.value.specs.Overflow.{fits64, reach}
-use Rattle.value.specs.Sizes.{natAbs-add, natAbs-sub}
+use Rattle.theory_base.specs.Absolute.{natAbs-add, natAbs-sub}
 use Rattle.theory_window.specs.Kept.{sameNumber-same}
 use Rattle.theory_window.specs.Next.{leavingOf}
 use Rattle.window_cells.specs.Signed.{back}

@@ -5,21 +5,21 @@ use borrow.Author.Needs.{needs}
 use Rattle.analysis.specs.Views.{Within, ClosedAt}
 use Rattle.analysis.specs.Growth.{Rising, rising-start, rising-on, settled}
 use Rattle.nonterminal_set.specs.Same.{same-words, other-words}
-use Rattle.analysis.specs.Closing.{narrow-rising}
+use Rattle.analysis.specs.Closing.{tokensIn, narrow-rising}
 use Rattle.analysis.proofs.closing.closure.Statement.{statement}
 use Rattle.analysis.proofs.closing.closure.Tie as tie
 
 abbrev Inv-loop : tie.InvT-loop
-Inv-loop rows count rights tokens set₀ set = (set .0 < 2 ^ 64) × Rising (Within (ClosedAt tokens rows) 0 count) 0 (set .0)
+Inv-loop rows count rights free set₀ set = (set .0 < 2 ^ 64) × Rising (Within (ClosedAt (tokensIn (free .0)) rows) 0 count) 0 (set .0)
 
 abbrev μ-loop : tie.MeasureT-loop
-μ-loop rows count rights tokens set₀ set = 2 ^ 64 - set .0
+μ-loop rows count rights free set₀ set = 2 ^ 64 - set .0
 
 loop-holds : tie.Need-loop-holds Inv-loop μ-loop
 loop-holds c = (omega arith, rising-start _)
 
 close-round-requires : tie.Need-close-round-requires Inv-loop μ-loop
-close-round-requires c κs = let st = c .before in (st .pre .0, st .pre .1, narrow-rising _ (st .pre .0) _ (c .loop .inv .1))
+close-round-requires c κs = let st = c .before in (st .pre .0, st .pre .1, narrow-rising _ (st .pre .0) _ (c .loop .inv .1), st .pre .2)
 
 same-requires : tie.Need-same-requires Inv-loop μ-loop
 same-requires c κs = search needs
@@ -34,7 +34,7 @@ close-round-back-requires c κs =
     let round = c .before .before in
     let at = round .before in
     let st = at .before in
-    (st .pre .0, st .pre .1, narrow-rising _ (st .pre .0) _ (rising-on _ _ _ (at .loop .inv .1) (round .close-round .ensures)))
+    (st .pre .0, st .pre .1, narrow-rising _ (st .pre .0) _ (rising-on _ _ _ (at .loop .inv .1) (round .close-round .ensures)), st .pre .2)
 
 same-requires-2 : tie.Need-same-requires-2 Inv-loop μ-loop
 same-requires-2 c κs = search needs

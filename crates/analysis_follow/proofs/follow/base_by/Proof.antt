@@ -1,76 +1,89 @@
-use Prim.Native.Nat.{_≤_, _<_, _-_}
+use Prim.Native.Nat.{ℕ, _≤_, _<_, _-_}
 use native.Mathlib.Omega.{arith}
-use mathlib.Core.Path.{_≡_, _∙_}
-use Rattle.outline.specs.Rows.{sizeAt, byteAt}
-use Rattle.analysis.specs.Views.{members}
+use mathlib.Core.Path.{_≡_, refl, _∙_}
+use lib.ListN.{length}
+use Rattle.outline.specs.Rows.{Image, sizeAt, row-inside, symbol-inside}
+use Rattle.analysis.specs.Views.{members, next-small}
+use Rattle.analysis.specs.Tables.{Got, got-none}
 use Rattle.analysis.specs.Follows.{FollowClosed, BaseFrom, Filled, filled-none, filled-then, filled-join, Rest, rest-start, rest-step, base-fine, base-more, base-end}
 use Rattle.analysis_follow.proofs.follow.base_by.Statement.{statement}
 use Rattle.analysis_follow.proofs.follow.base_by.Tie as tie
 
 abbrev Inv-loop : tie.InvT-loop
-Inv-loop rows count k null first table₀ at rest₀ i₀ table rest i = (i ≤ sizeAt rows k) × Filled (FollowClosed (members (null .0)) first rows count) (λ u. BaseFrom (members (null .0)) first rows u k i) table₀ table × Rest (members (null .0)) first rows k i (rest .0)
+Inv-loop rows k null first table₀ rest₀ done₀ i₀ table rest done i =
+    (i ≤ sizeAt rows k) × (length table ≡ length table₀) × Rest (members (null .0)) first rows k i (rest .0) × Got (done .0) (rest .0) table
+    × ((count : ℕ) → Image rows count → k < count → Filled (FollowClosed (members (null .0)) first rows count) (λ u. BaseFrom (members (null .0)) first rows u k i) table₀ table)
 
 abbrev μ-loop : tie.MeasureT-loop
-μ-loop rows count k null first table₀ at rest₀ i₀ table rest i = i
+μ-loop rows k null first table₀ rest₀ done₀ i₀ table rest done i = i
 
--- in a turn the symbol is one
-symbol : (c : tie.In-loop Inv-loop μ-loop) → byteAt (c .before .before .before .args .rows .now) (c .before .before .before .args .k) (c .before .loop .i - 1) < 176
-symbol c = let st = c .before .before .before in st .pre .0 .symbols _ _ (st .pre .1) (omega (arith, c .before .loop .inv .0))
+abbrev start : (c : tie.At-loop Inv-loop μ-loop) → tie.Start Inv-loop μ-loop
+start c = c .before .before .before
 
-mul-at : tie.Need-mul-at Inv-loop μ-loop
-mul-at c = omega arith
+-- in a turn there is such a symbol
+inside : (c : tie.In-loop Inv-loop μ-loop) → c .before .loop .i - 1 < sizeAt (start (c .before) .args .rows .now) (start (c .before) .args .k)
+inside c = omega (arith, c .before .loop .inv .0, c .loop-test .taken)
 
-add-i : tie.Need-add-i Inv-loop μ-loop
-add-i c = omega arith
+-- and it is one
+symbol : (c : tie.After-symbol-of Inv-loop μ-loop) → c .symbol-of .result < 176
+symbol c = let lp = c .before .before in next-small (start (lp .before) .pre .0) _ _ (inside lp) (c .symbol-of .ensures)
 
-element-copy-out-i : tie.Need-element-copy-out-i Inv-loop μ-loop
-element-copy-out-i c = omega arith
-
-cast-i : tie.Need-cast-i Inv-loop μ-loop
-cast-i c = let st = c .before in omega (arith, st .pre .0 .sizes _ (st .pre .1))
+size-of-requires : tie.Need-size-of-requires Inv-loop μ-loop
+size-of-requires c κs = let row = c .before .pre .0 in row-inside (row .image) _ (row .listed)
 
 loop-holds : tie.Need-loop-holds Inv-loop μ-loop
 loop-holds c =
-    let st = c .before in
-    (omega arith, filled-none _ (λ u. base-end _ _ (st .pre .0) _ (st .pre .1) u _), rest-start _ _ (st .pre .0) _ (st .pre .1))
+    let row = c .before .before .pre .0 in
+    rw (c .size-of .ensures .0)
+    (omega arith, refl, rest-start _ _ (row .image) _ (row .listed), got-none _ _, λ count image lt. filled-none _ (λ u. base-end _ _ image _ lt u _))
 
 sub-i : tie.Need-sub-i Inv-loop μ-loop
 sub-i c = omega arith
 
-add-s : tie.Need-add-s Inv-loop μ-loop
-add-s c = omega arith
-
-add-s-2 : tie.Need-add-s-2 Inv-loop μ-loop
-add-s-2 c = let st = c .before .before .before in omega (arith, st .pre .0 .sizes _ (st .pre .1))
-
-element-copy-out-s : tie.Need-element-copy-out-s Inv-loop μ-loop
-element-copy-out-s c = let st = c .before .before .before in omega (arith, st .pre .0 .few, st .pre .0 .sizes _ (st .pre .1))
+symbol-of-requires : tie.Need-symbol-of-requires Inv-loop μ-loop
+symbol-of-requires c κs =
+    let lp = c .before in
+    let row = start (lp .before) .pre .0 in
+    symbol-inside (row .image) _ _ (row .listed) (inside lp)
 
 mark-requires : tie.Need-mark-requires Inv-loop μ-loop
 mark-requires c κs =
-    let lp = c .before .before in
-    let st = lp .before .before .before in
-    (symbol lp, lp .before .loop .inv .1 .size ∙ st .pre .2)
+    let so = c .before in
+    let at = so .before .before .before in
+    (symbol so, at .loop .inv .1 ∙ start at .pre .1, at .loop .inv .3)
 
 begin-with-requires : tie.Need-begin-with-requires Inv-loop μ-loop
-begin-with-requires c κs = symbol (c .before .before .before)
+begin-with-requires c κs = symbol (c .before .before)
+
+still-requires : tie.Need-still-requires Inv-loop μ-loop
+still-requires c κs = tt
 
 loop-less : tie.Need-loop-less Inv-loop μ-loop
 loop-less c = omega arith
 
 loop-again : tie.Need-loop-again Inv-loop μ-loop
 loop-again c =
-    let lp = c .before .before .before .before in
-    let st = lp .before .before .before in
+    let bw = c .before in
+    let mk = bw .before in
+    let so = mk .before .before in
+    let lp = so .before .before in
+    let row = start (lp .before) .pre .0 in
     let iv = lp .before .loop .inv in
-    let more : 0 < lp .before .loop .i = omega arith in (
-      omega arith,
-      filled-then _ _ _ (iv .1) (filled-join _ _ _ _ (c .before .mark .ensures) (base-fine _ _ (st .pre .0) _ (st .pre .1) _ more (iv .0) _ (iv .2))) (λ u sub b g. base-more _ _ (st .pre .0) _ (st .pre .1) _ more (iv .0) _ (iv .2) u _ _ sub b g),
-      rest-step _ _ (st .pre .0) _ (st .pre .1) _ more (iv .0) _ _ (iv .2) (c .begin-with .ensures),
+    let more = lp .loop-test .taken in
+    let e = so .symbol-of .ensures in
+    let marked = rw e at (mk .mark .ensures .0) in (
+      omega (arith, iv .0),
+      mk .mark .ensures .0 .size ∙ iv .1,
+      rest-step _ _ (row .image) _ (row .listed) _ more (iv .0) _ _ (iv .2) (rw e at (bw .begin-with .ensures)),
+      c .still .ensures _ (mk .mark .ensures .1),
+      λ count image lt. filled-then _ _ _ (iv .4 count image lt) (filled-join _ _ _ _ marked (base-fine _ _ image _ lt _ more (iv .0) _ (iv .2))) (λ u sub b g. base-more _ _ image _ lt _ more (iv .0) _ (iv .2) u _ _ sub b g),
     )
 
 returns : tie.Need-returns Inv-loop μ-loop
-returns c = let e : c .before .loop .i ≡ 0 = omega arith in rw e at (c .before .loop .inv .1)
+returns c =
+    let at = c .before in
+    let e : at .loop .i ≡ 0 = omega arith in
+    λ count image lt. rw e at (at .loop .inv .4 count image lt)
 
 pub base-by-spec : {M : Type 1} → statement M
 base-by-spec =
@@ -78,17 +91,13 @@ base-by-spec =
     (tie.spec
     Inv-loop
     μ-loop
-    mul-at
-    add-i
-    element-copy-out-i
-    cast-i
+    size-of-requires
     loop-holds
     sub-i
-    add-s
-    add-s-2
-    element-copy-out-s
+    symbol-of-requires
     mark-requires
     begin-with-requires
+    still-requires
     loop-less
     loop-again
     returns)

@@ -21,7 +21,7 @@ add-if1 c =
 returns : tie.Need-returns
 returns c =
     let pre = c .before .before .before .before .pre in
-    ranges-free _ _ _ _ _ (pre .0 .2) (pre .1 .0 .2) (c .if1 .taken) (pre .1 .1)
+    ranges-free _ _ _ _ (pre .0 .2) (pre .1 .0 .2) (c .if1 .taken) (pre .1 .1)
 
 leaves-differences-requires : tie.Need-leaves-differences-requires
 leaves-differences-requires c κs = search needs
@@ -29,7 +29,7 @@ leaves-differences-requires c κs = search needs
 returns-2 : tie.Need-returns-2
 returns-2 c =
     let pre = c .before .before .before .before .before .pre in
-    differences-told _ _ _ (pre .0 .2) (pre .1 .0 .2) (omega (arith, c .before .if1 .left)) (c .leaves-differences .ensures)
+    differences-told _ _ (pre .0 .2) (pre .1 .0 .2) (omega (arith, c .before .if1 .left)) (c .leaves-differences .ensures)
 
 pub enters-together-spec : {M : Type 1} → statement M
 enters-together-spec =

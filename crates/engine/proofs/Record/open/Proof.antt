@@ -5,8 +5,8 @@ use Rattle.meaning.specs.PublicCalls.{stacksOf}
 use Rattle.meaning.specs.Calls.{closedRecord, openOf}
 use Rattle.records.specs.Records.{handedIs}
 use Rattle.engine.specs.Records.{effectIs, calledFrom}
-use Rattle.engine.specs.Beginning.{standing-shown, standing-called}
-use Rattle.engine.proofs.Cases.{area-long, ready-case, turned-case}
+use Rattle.prepare.specs.Beginning.{standing-shown, standing-called}
+use Rattle.prepare.proofs.Beginning.{area-long, ready-case, turned-case}
 use Rattle.engine.proofs.Record.open.Statement.{statement}
 use Rattle.engine.proofs.Record.open.Tie as tie
 

@@ -1,2 +1,0 @@
--- The cases of what a call begins with
-pub mod Cases

@@ -1,0 +1,1 @@
+// 02 (h): inner runs: the definitions; no code.

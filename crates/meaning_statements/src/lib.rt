@@ -1,0 +1,1 @@
+// The statements of the demands and of the change requests; no code.

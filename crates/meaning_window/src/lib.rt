@@ -1,0 +1,1 @@
+// 02 (k): a window over the last values: the definitions and the statements; no code.

@@ -1,0 +1,2 @@
+-- Rules evaluated straight into their registers
+pub mod Straight
