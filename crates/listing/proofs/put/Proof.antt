@@ -1,8 +1,8 @@
 use mathlib.Core.Path.{sym}
 use lib.Seq.{length-take-le}
 use borrow.Author.Needs.{needs}
-use Rattle.listing_out.proofs.put.Statement.{statement}
-use Rattle.listing_out.proofs.put.Tie as tie
+use Rattle.listing.proofs.put.Statement.{statement}
+use Rattle.listing.proofs.put.Tie as tie
 
 slice-aggregate-write-all : tie.Need-slice-aggregate-write-all
 slice-aggregate-write-all c = sym (length-take-le _ _ (c .before .before .pre))

@@ -4,8 +4,8 @@ use lib.ListN.{length}
 use borrow.Author.Needs.{needs}
 use Rattle.listing_text.specs.Cursors.{linesLeft}
 use Rattle.listing_pages.proofs.Paging.{onward-on}
-use Rattle.listing_out.proofs.print_rest.Statement.{statement}
-use Rattle.listing_out.proofs.print_rest.Tie as tie
+use Rattle.listing.proofs.print_rest.Statement.{statement}
+use Rattle.listing.proofs.print_rest.Tie as tie
 
 abbrev Inv-loop : tie.InvT-loop
 Inv-loop program out₀ c₀ out c = length out ≡ length out₀
