@@ -7,7 +7,7 @@ use borrow.Author.Needs.{needs}
 use denote.Ref.{now}
 use Rattle.listing_pages.specs.Pages.{lineRoom}
 use Rattle.listing_text.specs.Cursors.{linesLeft}
-use Rattle.listing_pages.proofs.Paging.{Filled, filled-start, filled-full, filled-page, told-turn, told-less, told-over, told-none-left}
+use Rattle.listing_pages.proofs.Paging.{Filled, filled-start, filled-full, filled-page, told-turn, told-less, told-over, none-of-lines-left}
 use Rattle.listing_pages.proofs.next_page.Statement.{statement}
 use Rattle.listing_pages.proofs.next_page.Tie as tie
 
@@ -84,7 +84,7 @@ returns-2 c =
     let start = c .before .before .before .before .before .before .before in
     let ws = now (start .args .program) in
     let line = c .before .next-line2 in
-    let none = told-none-left ws (linesLeft ws (lp .c)) (replicate 64 0) (line .last .1 .1 .0) (line .result) (line .ensures .1) in (
+    let none = none-of-lines-left ws (linesLeft ws (lp .c)) (replicate 64 0) (line .last .1 .1 .0) (line .result) (line .ensures .1) in (
       filled-full (lp .inv .0) (omega (arith, lp .inv .1, lp .inv .2)) (omega (arith, lp .inv .1, test, start .pre)) (line .result .over) none,
       filled-page (lp .inv .0) (omega (arith, test, lp .inv .1, start .pre)) (line .result .over),
     )
