@@ -49,7 +49,7 @@ fn write_end(
     let sum = whole_sum(row, inherited, levels);
     let own = value::byte_at(inherited, outline::row_left(row) as usize);
     let remove = write_block(fields, marks, links, RULES, 0, sum, levels, area, address);
-    area[remove] = REMOVE + 8 * (own + sum);
+    area[remove] = program_parts::head(REMOVE, own + sum);
     remove + 1
 }
 

@@ -10,15 +10,6 @@ use outline::synthesized_of;
 use program_body_counts::clear;
 use token_set::TokenSet;
 
-// What one place waits at: the left side, the registers passed, those of the symbol that stand marked, those it inherits, its byte,
-// and a bit.
-fn wait_word(left: u32, passed: u32, marked: u32, own: u32, symbol: u32) -> u32
-    requires { ⌜ (left < 256) × (passed < 65536) × (marked < 256) × (own < 256) × (symbol < 256) ⌝ }
-    ensures { λ r. ⌜ r ≡ left + 64 * passed + 8192 * marked + 131072 * own + 2097152 * symbol + 536870912 ⌝ }
-{
-    left + 64 * passed + 8192 * marked + 131072 * own + 2097152 * symbol + 536870912
-}
-
 // The levels of the positions. On the way what the production's places wait at is written: a word for each symbol, then zeros.
 pub fn find_levels(
     row: &[u8],
@@ -40,7 +31,7 @@ pub fn find_levels(
         let symbol = outline::row_symbol(row, k);
         let marked = count_of(synthesized, symbol as usize) as u32;
         let own = count_of(inherited, symbol as usize) as u32;
-        area[wait + k] = wait_word(left, sum, marked, own, symbol);
+        area[wait + k] = program_parts::wait_word(left, sum, marked, own, symbol);
         sum = sum + synthesized_of(carrying, synthesized, symbol as usize) as u32;
         levels[k + 1] = sum + own;
         k += 1;

@@ -11,6 +11,8 @@ use program_blocks::RULES;
 use program_blocks::write_block;
 use program_body_counts::number_at;
 
+const ADD: u32 = operations::ADD as u32;
+
 const READ: u32 = operations::READ as u32;
 
 const PREDICT: u32 = operations::PREDICT as u32;
@@ -21,9 +23,9 @@ fn head_of(symbol: u32) -> u32
     ensures { λ r. ⌜ r ≡ headOf symbol ⌝ }
 {
     if symbol < 128 {
-        return READ + 8 * symbol;
+        return program_parts::head(READ, symbol);
     }
-    PREDICT + 8 * (symbol - 128)
+    program_parts::head(PREDICT, symbol - 128)
 }
 
 fn write_add(n: u32, area: &mut [u32], address: usize) -> usize
@@ -33,7 +35,7 @@ fn write_add(n: u32, area: &mut [u32], address: usize) -> usize
     if n == 0 {
         return address;
     }
-    area[address] = 8 * n;
+    area[address] = program_parts::head(ADD, n);
     address + 1
 }
 

@@ -30,9 +30,11 @@ pub add-not-written : (area : List ℕ) (a n : ℕ) → n ≡ 0 → Wrote area a
 unfolding addWords
 add-not-written area a n e = rw (eq-eqb n 0 e) (wrote-none area a)
 
-pub add-written : (area : List ℕ) (a n : ℕ) → (n ≡ 0 → ⊥) → Wrote area (set area a (8 * n)) a (a + 1) (addWords n)
+pub add-written : (area : List ℕ) (a n w : ℕ) → (n ≡ 0 → ⊥) → w ≡ 0 + 8 * n → Wrote area (set area a w) a (a + 1) (addWords n)
 unfolding addWords
-add-written area a n e = rw (ne-eqb n 0 e) (wrote-one area a (8 * n))
+add-written area a n w e ew =
+    let f : w ≡ 8 * n = omega (arith, ew) in
+    rw (ne-eqb n 0 e, sym f) (wrote-one area a w)
 
 pub size-some : (rules : Bool) (n : ℕ) → (n ≡ 0 → ⊥) → 1 + itemSize rules * n ≡ blockSize rules n
 unfolding blockSize

@@ -173,8 +173,8 @@ module _ {row fields inherited marks links levels area : List ℕ} {a : ℕ} (x 
       pub next-inside : next < length mid
       next-inside = omega (arith, next-small, wrote-length so-far, x .long)
 
-      pub end-written : Wrote area (set mid next (5 + 8 * (own + sum))) a (next + 1) (endWords gr pr)
+      pub end-written : {w : ℕ} → w ≡ 5 + 8 * (own + sum) → Wrote area (set mid next w) a (next + 1) (endWords gr pr)
       unfolding endWords
-      end-written =
+      end-written {w} ew =
           let e : own + sum ≡ removed gr pr = ap₂ (λ y z. y + z) left-is (f (x .prepared)) in
-          wrote-then so-far (wrote-as (ap (λ z. (5 + 8 * z) ∷ []) e) (wrote-one mid next (5 + 8 * (own + sum))))
+          wrote-then so-far (wrote-as (ap (λ z. z ∷ []) ew ∙ ap (λ z. (5 + 8 * z) ∷ []) e) (wrote-one mid next w))
