@@ -1,5 +1,5 @@
 -- A cursor at an instruction: what its word says, and what comes behind it.
-use Prim.Native.Nat.{ℕ, _+_, _*_, _≤_, _<_}
+use Prim.Native.Nat.{ℕ, _+_, _*_, _≤_}
 use native.Mathlib.Numerals.{add-one}
 use native.Mathlib.Omega.{arith}
 use mathlib.Core.Path.{_≡_, refl, sym, ap, _∙_, subst}
@@ -17,7 +17,6 @@ use Rattle.meaning.specs.Listing.{Text}
 use Rattle.theory_program.specs.WordsStand.{stands-at, stands-left}
 use Rattle.theory_program.specs.Parts.{headOperand}
 use Rattle.theory_program.specs.Code.{CodeAt, operation, code-head, code-next, code-evaluate, code-test, rules-length, conditions-length}
-use Rattle.theory_program.specs.Proper.{AllProper}
 use Rattle.listing_lines.specs.Line.{addLine, removeLine}
 use Rattle.listing_text.specs.declared.Cursor.{Cursor}
 use Rattle.listing_text.specs.Lines.{codeLines}

@@ -1,5 +1,5 @@
 -- What the functions of the walk rely on and leave, over cells of which the first ones are lent, and the numbers.
-use Prim.Native.Nat.{ℕ, _+_, _-_, _*_, _%_, _≤_, _<_}
+use Prim.Native.Nat.{ℕ, _+_, _-_, _*_, _≤_, _<_}
 use native.Mathlib.Omega.{arith}
 use mathlib.Core.Path.{_≡_, refl, sym, ap, _∙_, subst}
 use mathlib.Core.Bool.{Bool, true, false}
@@ -7,6 +7,7 @@ use mathlib.Core.List.{List, _++_}
 use lib.ListN.{length, getD, set, take, drop}
 use lib.Seq.{getD-set-same}
 use lib.IntN.{ℤ}
+use Rattle.theory_program.specs.Parts.{headOperation}
 use Rattle.theory_program.specs.Proper.{att-most}
 use Rattle.run_moves.specs.Held.{bounds}
 use Rattle.run_machine.specs.declared.Ended.{Ended}
@@ -21,7 +22,7 @@ use Rattle.sheet_steps.specs.Cycle.{list-more-at, list-places, rests-loo
 
 -- the operation at hand
 abbrev pub handIn : List ℕ → List ℕ → ℕ
-handIn ws s = getD ws (getD s 4 0) 0 % 8
+handIn ws s = headOperation (getD ws (getD s 4 0) 0)
 
 pub record PassAt (ws ks : List ℕ) (vs m : List ℤ) (ps s : List ℕ) : Type 0 where
   pub walking : Walking ws ks vs (low 6 s m) (low 7 s ps) (runIn s)

@@ -2,7 +2,7 @@ use mathlib.Core.Path.{sym, subst}
 use lib.Seq.{length-take-le}
 use denote.Ref.{now}
 use lib.ListN.{getD}
-use Prim.Native.Nat.{_%_}
+use Rattle.theory_program.specs.Parts.{headOperation}
 use Rattle.sheet_moves.specs.NodeInMemory.{Walking, isLook}
 use Rattle.sheet_steps.specs.Numbers.{low, walkedAs}
 use Rattle.sheet_steps.specs.Cycle.{Passes}
@@ -42,7 +42,7 @@ pass-requires c κs =
     let run = (c .before .before) .run-of in
     let ks = now (s .args .kinds) in
     let vs = now (s .args .values) in
-    (subst (λ z. Walking ws ks vs (low 6 n m) (low 7 n ps) z) (sym (run .ensures)) (s .pre .walking), subst (λ z. isLook (getD ws (z .at) 0 % 8)) (sym (run .ensures)) (s .pre .look))
+    (subst (λ z. Walking ws ks vs (low 6 n m) (low 7 n ps) z) (sym (run .ensures)) (s .pre .walking), subst (λ z. isLook (headOperation (getD ws (z .at) 0))) (sym (run .ensures)) (s .pre .look))
 
 told-requires : tie.Need-told-requires
 told-requires c κs = search needs
