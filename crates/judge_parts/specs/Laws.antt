@@ -233,9 +233,6 @@ module _ {table rows inherited synthesized offsets ks : List ℕ} {vs : List ℤ
   pub row-inside : (x : ChildrenReady table rows inherited synthesized offsets ks vs sheet p from) → HasRow rows p
   row-inside x = omega (arith, x .listed, x .book .productions .rowsOf .counted)
 
-  pub row-few : (x : ChildrenReady table rows inherited synthesized offsets ks vs sheet p from) → p < 128
-  row-few x = productions-few (x .book) p (x .listed)
-
 module _ {table rows inherited synthesized offsets ks : List ℕ} {vs : List ℤ} {sheet : List ℕ} {p at from d : ℕ} {marks₀ : List ℕ} where
   pub passed-none : length marks₀ ≡ 13 → ChildrenPassed table rows inherited synthesized offsets ks vs sheet p at from d marks₀ 0 at from marks₀
   passed-none l = record {

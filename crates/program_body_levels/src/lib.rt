@@ -3,7 +3,7 @@ ghost use Prim.Native.Nat.{ℕ, _+_, _≤_, _<_};
 ghost use mathlib.Core.Path.{_≡_};
 ghost use mathlib.Core.List.{List};
 ghost use lib.ListN.{length};
-ghost use Rattle.program_body_words.specs.Given.{Given, Carried};
+ghost use Rattle.program_body_words.specs.OfProduction.{OfProduction, Carried};
 ghost use Rattle.program_body_words.specs.Waits.{LeveledAndWaiting};
 use outline::count_of;
 use outline::synthesized_of;
@@ -19,8 +19,8 @@ pub fn find_levels(
     area: &mut [u32],
     wait: usize,
 ) -> [u32; 13]
-    requires { ⌜ ((fs : List ℕ) × Given (now row) fs (now inherited) (now synthesized)) × (wait + 12 ≤ length (now area)) ⌝ }
-    ensures { λ r. ⌜ (length r ≡ 13) × ((fs : List ℕ) (x : Given (now (row .entry)) fs (now (inherited .entry)) (now (synthesized .entry))) → Carried (carrying .0) (x .grammar) → LeveledAndWaiting x r (now (area .entry)) (now (area .exit)) wait) ⌝ }
+    requires { ⌜ ((fs : List ℕ) × OfProduction (now row) fs (now inherited) (now synthesized)) × (wait + 12 ≤ length (now area)) ⌝ }
+    ensures { λ r. ⌜ (length r ≡ 13) × ((fs : List ℕ) (x : OfProduction (now (row .entry)) fs (now (inherited .entry)) (now (synthesized .entry))) → Carried (carrying .0) (x .grammar) → LeveledAndWaiting x r (now (area .entry)) (now (area .exit)) wait) ⌝ }
 {
     let mut levels = [0u32; 13];
     let left = outline::row_left(row);

@@ -2,8 +2,8 @@ use native.Mathlib.Omega.{arith}
 use mathlib.Core.Path.{_∙_}
 use borrow.Author.Needs.{needs}
 use Rattle.program_body_words.specs.Laws as L
-use Rattle.program_body_symbols.proofs.head_of.Statement.{statement}
-use Rattle.program_body_symbols.proofs.head_of.Tie as tie
+use Rattle.program_body_symbols.proofs.expect_head.Statement.{statement}
+use Rattle.program_body_symbols.proofs.expect_head.Tie as tie
 
 head-requires : tie.Need-head-requires
 head-requires c κs = search needs
@@ -17,5 +17,5 @@ head-requires-2 c κs = search needs
 returns-2 : tie.Need-returns-2
 returns-2 c = c .head2 .ensures ∙ L.head-nonterminal _ (omega arith)
 
-pub head-of-spec : {M : Type 1} → statement M
-head-of-spec = tie.close (tie.spec head-requires returns head-requires-2 returns-2)
+pub expect-head-spec : {M : Type 1} → statement M
+expect-head-spec = tie.close (tie.spec head-requires returns head-requires-2 returns-2)
