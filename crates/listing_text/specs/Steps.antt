@@ -81,8 +81,8 @@ module _ {g : Grammar} {ws : List ℕ} (w : WellFormed g) (b : Begins g ws) (c :
 
   -- the line of the first item comes first, and the other items behind it
   behind-first : {is : List Instruction} (items others : Items) (n : ℕ) (t : Text) → Inside g ws c items is ls → itemCount items ≡ suc (itemCount others) → itemSize items ≡ n + itemSize others
-    → ItemsAt ws (c .at + n) others → ProperItems others → itemLines (c .production) (symbols g c) (c .passed) items ≡ t ∷ itemLines (c .production) (symbols g c) (c .passed) others
-    → First g ws ls t (goOn c (c .passed) (areRules others) (c .left - 1) (c .at + n))
+      → ItemsAt ws (c .at + n) others → ProperItems others → itemLines (c .production) (symbols g c) (c .passed) items ≡ t ∷ itemLines (c .production) (symbols g c) (c .passed) others
+      → First g ws ls t (goOn c (c .passed) (areRules others) (c .left - 1) (c .at + n))
   behind-first {is} items others n t h counted sized here proper line =
       let behind = codeLines (c .production) (symbols g c) (c .passed) is ++ later g c in
       record {
