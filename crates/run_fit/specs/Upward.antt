@@ -90,8 +90,10 @@ module _ (g : Grammar) where
   unfolding placesAbove
   places-up [] q qs = sym (and-true (placesFit g (q ∷ qs)))
   places-up (p ∷ ps) q qs =
+      let n = placeProduction p in
+      let production = productionAt g n in
       places-up ps p (q ∷ qs)
-      ∙ place-facts (ltb (placeProduction p) (length (g .productions))) (eqb (placeProduction p) whole) (ltb (placePassed p) (length (productionAt g (placeProduction p) .right))) (isNonterminal (productionAt g (placeProduction p) .left) (awaited g q)) (placesFit g (q ∷ qs)) (placesAbove g (awaited g p) ps)
+      ∙ place-facts (ltb n (length (g .productions))) (eqb n whole) (ltb (placePassed p) (length (production .right))) (isNonterminal (production .left) (awaited g q)) (placesFit g (q ∷ qs)) (placesAbove g (awaited g p) ps)
 
   cells-place : (p : ℕ) (qs : List ℕ) → reverse (placeCells g (p ∷ qs)) ≡ reverse (placeCells g qs) ++ cellsOf g p
   cells-place p qs =

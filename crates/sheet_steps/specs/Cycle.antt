@@ -228,7 +228,8 @@ module _ {ws : List ℕ} (ks : List ℕ) (vs : List ℤ) {m₀ : List ℤ} {ps�
         let r = read-on g (h .wellFormed) lent (tokensAs g ks vs) (leaves-of g ks vs four) c s _ (i .frames) (headOperand (getD ws (run₀ .at) 0)) refl (x .to) (x .made) in
         record { to = x .to; tree = leaf (r .0); held = x .held; stand = r .1; same = x .same; isEnd = omega arith; written = sym (overlay-none k sheet₀); room = omega (arith, counts g lent (lookAt (comingTo c (tokensAs g ks vs))) c (x .to) (x .made) .moves) }
 
-    entered-at-once : headOperation (getD ws (run₀ .at) 0) ≡ 3 → (g : Grammar) (lent : Lent) (c : Config) (o : Open) (bs : List Ancestor) → length ks ≡ length vs → T (all fourBytes vs) → Held g ws lent m₀ ps₀ run₀ c → Stand g (tokensAs g ks vs) o bs c → Entered g ws lent (tokensAs g ks vs) c o bs m₁ ps₁ run₁
+    entered-at-once : headOperation (getD ws (run₀ .at) 0) ≡ 3 → (g : Grammar) (lent : Lent) (c : Config) (o : Open) (bs : List Ancestor)
+        → length ks ≡ length vs → T (all fourBytes vs) → Held g ws lent m₀ ps₀ run₀ c → Stand g (tokensAs g ks vs) o bs c → Entered g ws lent (tokensAs g ks vs) c o bs m₁ ps₁ run₁
     entered-at-once three g lent c o bs even four h s =
         let x = a g lent c o bs even four h s in
         let i = hand-nonterminal h three in
@@ -342,7 +343,8 @@ module _ {ws : List ℕ} (ks : List ℕ) (vs : List ℤ) {m₀ : List ℤ} {ps�
       }
 
 -- only a remove is left of a node on another
-pub five-of : {g : Grammar} {ws : List ℕ} {lent : Lent} {tokens : List Leaf} {m : List ℤ} {ps : List ℕ} {run : Run} {c : Config} {o : Open} {b : Ancestor} {bs : List Ancestor} → Held g ws lent m ps run c → Stand g tokens o (b ∷ bs) c → 5 ≤ headOperation (getD ws (run .at) 0) → headOperation (getD ws (run .at) 0) ≡ 5
+pub five-of : {g : Grammar} {ws : List ℕ} {lent : Lent} {tokens : List Leaf} {m : List ℤ} {ps : List ℕ} {run : Run} {c : Config} {o : Open} {b : Ancestor} {bs : List Ancestor}
+    → Held g ws lent m ps run c → Stand g tokens o (b ∷ bs) c → 5 ≤ headOperation (getD ws (run .at) 0) → headOperation (getD ws (run .at) 0) ≡ 5
 five-of {g} {ws} {run = run} {c = c} {o = o} h s l = go (at-hand h)
   where
     first : {a b : ℕ} {x y : List Instruction} {fs gs : List Frame} → frame a x ∷ fs ≡ frame b y ∷ gs → a ≡ b

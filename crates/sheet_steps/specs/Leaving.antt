@@ -66,7 +66,8 @@ module _ {ws : List ℕ} {m₀ : List ℤ} {ps₀ : List ℕ} {run₀ : Run} (fi
         let n = remove-on g (h .wellFormed) lent tokens known c s (headOperand (getD ws (run₀ .at) 0)) (x .frames) ends (t .0) (t .1) in
         go e (t .2) (n .0) (n .1) (counts g lent ends c (t .0) (t .1) .moves) (q g lent tokens (t .0) (withChild (b .node) (treeOf (o .production) (ownValues g (o .production) (headOperand (getD ws (run₀ .at) 0)) (c .registers)) (o .children))) bs known (t .2) (n .0))
       where
-        go : (e : Ended) {d : Config} → Held g ws lent m₁ ps₁ run₁ d → Stand g tokens (withChild (b .node) (treeOf (o .production) (ownValues g (o .production) (headOperand (getD ws (run₀ .at) 0)) (c .registers)) (o .children))) bs d → rest g lent tokens c ≡ rest g lent tokens d → d .moves ≡ suc (c .moves)
+        go : (e : Ended) {d : Config} → Held g ws lent m₁ ps₁ run₁ d
+            → Stand g tokens (withChild (b .node) (treeOf (o .production) (ownValues g (o .production) (headOperand (getD ws (run₀ .at) 0)) (c .registers)) (o .children))) bs d → rest g lent tokens c ≡ rest g lent tokens d → d .moves ≡ suc (c .moves)
             → SettledAs g ws lent tokens d (withChild (b .node) (treeOf (o .production) (ownValues g (o .production) (headOperand (getD ws (run₀ .at) 0)) (c .registers)) (o .children))) bs m ps e → LeftAs g ws lent tokens c o b bs run₀ k before end sheet₀ m ps sheet (walkedAs e end)
         go (Failed run j) h′ s′ same more z = refused-from same z
         go (Stopped run) h′ s′ same more z = (record { to = z .0 .to; held = z .0 .held; stand = z .0 .stand; same = same ∙ z .0 .same; moves = omega (arith, more, z .0 .later) }, refl, r g lent tokens c o b bs h s)

@@ -26,7 +26,9 @@ module _ (g : Grammar) (qs : List Production) (s : SameEach (g .productions) qs)
   places-same : (ps : List ℕ) → placesFit g ps ≡ placesFit (regrouped g qs) ps
   places-same [] = refl
   places-same (p ∷ []) = refl
-  places-same (p ∷ q ∷ ps) = λ i. ltb (placeProduction p) (count i) && ((ltb (placeProduction p) (count i) || eqb (placeProduction p) whole) && ltb (placePassed p) (length (rights (placeProduction p) i))) && isNonterminal (lefts (placeProduction p) i) (getD (rights (placeProduction q) i) (placePassed q) (terminal 0)) && places-same (q ∷ ps) i
+  places-same (p ∷ q ∷ ps) =
+      let n = placeProduction p in
+      λ i. ltb n (count i) && ((ltb n (count i) || eqb n whole) && ltb (placePassed p) (length (rights n i))) && isNonterminal (lefts n i) (getD (rights (placeProduction q) i) (placePassed q) (terminal 0)) && places-same (q ∷ ps) i
 
   syn-cells-same : (xs : List Symbol) (below : List Cell) → synCells g xs below ≡ synCells (regrouped g qs) xs below
   syn-cells-same [] below = refl
