@@ -125,13 +125,13 @@ pub record AnswerWritten (s : List ℕ) (ended : Ended.Ended) (r : Bool) (s′ :
   pub places : getD s′ 7 0 ≡ getD s 7 0
   pub small : Small r s′
 
-pub told-stopped : (s : List ℕ) (run : Run) → length s ≡ 8 → AnswerWritten s (E.Stopped run) true (stored s run)
-told-stopped s run l =
+pub end-stopped : (s : List ℕ) (run : Run) → length s ≡ 8 → AnswerWritten s (E.Stopped run) true (stored s run)
+end-stopped s run l =
     let x = stored-as s run l in
     record { walked = (λ i. Left (x .0 i) (x .1 i)); eight = x .4; registers = x .2; places = x .3; small = tt }
 
-pub told-failed : (s : List ℕ) (run : Run) (j : ℕ) → j < 4294967296 → length s ≡ 8 → AnswerWritten s (E.Failed run j) false (set (stored s run) 5 j)
-told-failed s run j few l =
+pub end-failed : (s : List ℕ) (run : Run) (j : ℕ) → j < 4294967296 → length s ≡ 8 → AnswerWritten s (E.Failed run j) false (set (stored s run) 5 j)
+end-failed s run j few l =
     let x = stored-as s run l in
     let t = stored s run in
     let y : runIn (set t 5 j) ≡ run = run-apart t j ∙ x .0 in

@@ -39,7 +39,7 @@ fn store(numbers: &mut [u64; 8], run: Run)
 }
 
 // What the moves came to; whether none was refused.
-fn told(numbers: &mut [u64; 8], ended: Ended) -> bool
+fn store_end(numbers: &mut [u64; 8], ended: Ended) -> bool
     requires { ⌜ length (now numbers) ≡ 8 ⌝ }
     ensures { λ r. ⌜ AnswerWritten (now (numbers .entry)) ended r (now (numbers .exit)) ⌝ }
 {
@@ -128,7 +128,7 @@ pub fn advance(
         values,
         run,
     );
-    told(numbers, ended)
+    store_end(numbers, ended)
 }
 
 // A node is left, its record written, on the cells that are lent.
@@ -156,7 +156,7 @@ pub fn leave(
         at,
         before,
     );
-    told(numbers, ended)
+    store_end(numbers, ended)
 }
 
 // A node is entered: behind the room of its record come those of the nodes below it.
