@@ -20,8 +20,8 @@ fn pass_on(
     host_numbers::hand_back(called.outer, outer);
     host_numbers::hand_back(called.inner, inner);
     let answer = called.answer;
-    *number = host_numbers::number_of(answer);
-    *count = host_numbers::count_of(answer);
+    *number = host_numbers::answer_number(answer);
+    *count = host_numbers::answer_count(answer);
 }
 
 // Opens an inner run above an outer one, which then waits. A refusal sets no mark, and hands back an inner record closed and all zero.
@@ -104,7 +104,7 @@ pub fn finish(
         program,
     );
     let answer = ended.answer;
-    *value = host_numbers::value_of(answer);
+    *value = host_numbers::answer_value(answer);
     pass_on(ended, outer, inner, number, count);
 }
 

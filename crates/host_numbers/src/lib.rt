@@ -3,7 +3,7 @@ ghost use mathlib.Core.Path.{_≡_};
 ghost use Rattle.meaning_inner.specs.Inner.{registerBase, placeBase, withStatus, withKind};
 ghost use Rattle.records.specs.Records.{statusIs, kindIs, stateIs, answerIs};
 ghost use Rattle.engine.specs.Records.{recordIs};
-ghost use Rattle.host_numbers.specs.Lent.{statusFrom, kindFrom, broughtIn, statusNumber, kindNumber, flagOf, numbersOf, answerNumber, answerCount, answerValue};
+ghost use Rattle.host_numbers.specs.Lent.{statusFrom, kindFrom, broughtIn, statusNumber, kindNumber, numbersOf, answerNumber, answerCount, answerValue};
 use engine::Called;
 use engine::Record;
 use records::Answer;
@@ -100,18 +100,9 @@ pub fn hand_back(record: Record, numbers: &mut [u64; 8])
     ];
 }
 
-// ---- a flag and an answer as numbers
+// ---- an answer as numbers
 
-pub fn flag(open: bool) -> u64
-    ensures { λ r. ⌜ r ≡ flagOf «open» ⌝ }
-{
-    if open {
-        return 1;
-    }
-    0
-}
-
-pub fn number_of(answer: Answer) -> u32
+pub fn answer_number(answer: Answer) -> u32
     ensures { λ r. ⌜ r ≡ answerNumber (answerIs answer) ⌝ }
 {
     match answer {
@@ -122,7 +113,7 @@ pub fn number_of(answer: Answer) -> u32
     }
 }
 
-pub fn count_of(answer: Answer) -> u64
+pub fn answer_count(answer: Answer) -> u64
     ensures { λ r. ⌜ r ≡ answerCount (answerIs answer) ⌝ }
 {
     match answer {
@@ -133,7 +124,7 @@ pub fn count_of(answer: Answer) -> u64
     }
 }
 
-pub fn value_of(answer: Answer) -> i64
+pub fn answer_value(answer: Answer) -> i64
     ensures { λ r. ⌜ r ≡ answerValue (answerIs answer) ⌝ }
 {
     match answer {
@@ -157,6 +148,6 @@ pub fn pass_on(called: Called, numbers: &mut [u64; 8], number: &mut u32, count: 
 {
     hand_back(called.record, numbers);
     let answer = called.answer;
-    *number = number_of(answer);
-    *count = count_of(answer);
+    *number = answer_number(answer);
+    *count = answer_count(answer);
 }

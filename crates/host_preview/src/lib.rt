@@ -18,21 +18,21 @@ fn tokens_of(may: May) -> u64
     }
 }
 
-fn number_of(may: May) -> u32
+fn may_number(may: May) -> u32
     ensures { λ r. ⌜ r ≡ mayNumber (mayIs may) ⌝ }
 {
     match may {
         May::Tokens(set) => 0,
-        May::Turned(answer) => host_numbers::number_of(answer),
+        May::Turned(answer) => host_numbers::answer_number(answer),
     }
 }
 
-fn count_of(may: May) -> u64
+fn may_count(may: May) -> u64
     ensures { λ r. ⌜ r ≡ mayCount (mayIs may) ⌝ }
 {
     match may {
         May::Tokens(set) => 0,
-        May::Turned(answer) => host_numbers::count_of(answer),
+        May::Turned(answer) => host_numbers::answer_count(answer),
     }
 }
 
@@ -96,6 +96,6 @@ pub fn may_follow(
         value,
     );
     *tokens = tokens_of(may);
-    *number = number_of(may);
-    *count = count_of(may);
+    *number = may_number(may);
+    *count = may_count(may);
 }

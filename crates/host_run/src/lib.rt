@@ -65,6 +65,6 @@ pub fn finish(
 {
     let called = host_numbers::brought(record).finish(table, registers, places, program);
     let answer = called.answer;
-    *value = host_numbers::value_of(answer);
+    *value = host_numbers::answer_value(answer);
     host_numbers::pass_on(called, record, number, count);
 }

@@ -8,7 +8,7 @@ use borrow.Author.Tests.{ne-eqb}
 use lib.Dec.{eqb}
 use lib.IntN.{ℤ, pos}
 use Rattle.meaning.specs.Calls.{Answer, value, refused, tableRefused}
-use Rattle.meaning_window.specs.Window.{WindowAnswer, stands, empty, turnedBack, windowNumber, Outcome, outcome, bringsAnswer}
+use Rattle.meaning_window.specs.Window.{WindowAnswer, totals, empty, turnedBack, windowNumber, Outcome, outcome, bringsAnswer}
 use Rattle.host_numbers.specs.Lent.{answerNumber, answerCount, answerValue}
 
 -- ---- a finish's answer, from the numbers that the host's finish hands out
@@ -29,17 +29,17 @@ brought-table n k l b = ap (λ t. bringsAnswer (cond t (value (pos 0) k) (refuse
 -- ---- a window's answer as four numbers: 42 or 0, the total, the largest, and 1 or 0 where there is none
 
 abbrev pub totalOf : WindowAnswer → ℤ
-totalOf (stands sum top) = sum
+totalOf (totals sum top) = sum
 totalOf empty = pos 0
 totalOf turnedBack = pos 0
 
 abbrev pub largestOf : WindowAnswer → ℤ
-largestOf (stands sum top) = top
+largestOf (totals sum top) = top
 largestOf empty = pos 0
 largestOf turnedBack = pos 0
 
 abbrev pub hasLargest : WindowAnswer → ℕ
-hasLargest (stands sum top) = 1
+hasLargest (totals sum top) = 1
 hasLargest empty = 0
 hasLargest turnedBack = 0
 

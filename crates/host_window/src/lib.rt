@@ -32,7 +32,7 @@ fn hand_out(
     ensures { λ r. ⌜ NumbersOf (Answers.answerIs answer) (now (number .exit)) (now (total .exit)) (now (largest .exit)) (now (known .exit)) ⌝ }
 {
     match answer {
-        WindowAnswer::Stands {
+        WindowAnswer::Totals {
             total: sum,
             largest: top,
         } => {

@@ -6,7 +6,7 @@ ghost use Rattle.meaning.specs.Value.{inRange};
 ghost use Rattle.meaning.specs.Base.{all};
 ghost use Rattle.value.specs.Ranged.{ranged};
 ghost use Rattle.theory_judge.specs.Longs.{bitsAt, longAt, longs};
-ghost use Rattle.theory_judge.specs.Marks.{told};
+ghost use Rattle.theory_judge.specs.Marks.{valueOrZero};
 
 // With 2 ^ 62 added within 64 bits, the numbers from -2 ^ 62 up to 2 ^ 62 are those below 2 ^ 63.
 const BIAS: i64 = 4611686018427387904;
@@ -42,7 +42,7 @@ fn is_value(bytes: &[u8], at: usize) -> bool
 // The value at a place, or 0 where there is none.
 pub fn value_in(bytes: &[u8], at: usize) -> i64
     requires { ⌜ at ≤ 9223372036854779904 ⌝ }
-    ensures { λ r. ⌜ (r ≡ told (longAt (now (bytes .entry)) at)) × (inRange r ≡ true) ⌝ }
+    ensures { λ r. ⌜ (r ≡ valueOrZero (longAt (now (bytes .entry)) at)) × (inRange r ≡ true) ⌝ }
 {
     let z = long_at(bytes, at);
     if value::in_range(z) {

@@ -180,12 +180,12 @@ module _ {table rows inherited synthesized offsets ks : List ℕ} {vs : List ℤ
 
       module _ (old new : List ℕ) (a : Answer) (below : ChildrenEnds table rows inherited synthesized offsets ks vs sheet p behind from (d - 1) old new a) where
         -- the same with the record's own numbers
-        told : EndsAndMarks gr ks vs sheet (wordAt sheet at) (at + 12 + 8 * att gr (nonterminal m)) from (d - 1) old new a
-        told = subst (λ q. EndsAndMarks gr ks vs sheet q (at + 12 + 8 * att gr (nonterminal m)) from (d - 1) old new a) (is .production) (subst (λ q. EndsAndMarks gr ks vs sheet p q from (d - 1) old new a) behind-is (below ready))
+        ends-there : EndsAndMarks gr ks vs sheet (wordAt sheet at) (at + 12 + 8 * att gr (nonterminal m)) from (d - 1) old new a
+        ends-there = subst (λ q. EndsAndMarks gr ks vs sheet q (at + 12 + 8 * att gr (nonterminal m)) from (d - 1) old new a) (is .production) (subst (λ q. EndsAndMarks gr ks vs sheet p q from (d - 1) old new a) behind-is (below ready))
 
         pub wrong : a ≡ Wrong → EndsOrNone Here Wrong
         unfolding EndsAndMarks
-        wrong e = none-here (P.node-wrong gr (x .book .productions .rowsOf .sound) ks vs (few (x .book)) sheet (x .book .isBytes) at from m d low (subst (λ z. EndsAndMarks gr ks vs sheet (wordAt sheet at) (at + 12 + 8 * att gr (nonterminal m)) from (d - 1) old new z) e told))
+        wrong e = none-here (P.node-wrong gr (x .book .productions .rowsOf .sound) ks vs (few (x .book)) sheet (x .book .isBytes) at from m d low (subst (λ z. EndsAndMarks gr ks vs sheet (wordAt sheet at) (at + 12 + 8 * att gr (nonterminal m)) from (d - 1) old new z) e ends-there))
 
         module _ (n e : ℕ) (fits : a ≡ Fits n e) where
           abbrev Got : Type 0
@@ -197,7 +197,7 @@ module _ {table rows inherited synthesized offsets ks : List ℕ} {vs : List ℤ
 
           got : Got
           unfolding EndsAndMarks
-          got = subst (λ z. EndsAndMarks gr ks vs sheet (wordAt sheet at) (at + 12 + 8 * att gr (nonterminal m)) from (d - 1) old new z) fits told
+          got = subst (λ z. EndsAndMarks gr ks vs sheet (wordAt sheet at) (at + 12 + 8 * att gr (nonterminal m)) from (d - 1) old new z) fits ends-there
 
           pub thirteen : length new ≡ 13
           thirteen = got .3
@@ -232,9 +232,6 @@ module _ {table rows inherited synthesized offsets ks : List ℕ} {vs : List ℤ
 
   pub row-inside : (x : ChildrenReady table rows inherited synthesized offsets ks vs sheet p from) → HasRow rows p
   row-inside x = omega (arith, x .listed, x .book .productions .rowsOf .counted)
-
-  pub row-few : (x : ChildrenReady table rows inherited synthesized offsets ks vs sheet p from) → p < 128
-  row-few x = productions-few (x .book) p (x .listed)
 
 module _ {table rows inherited synthesized offsets ks : List ℕ} {vs : List ℤ} {sheet : List ℕ} {p at from d : ℕ} {marks₀ : List ℕ} where
   pub passed-none : length marks₀ ≡ 13 → ChildrenPassed table rows inherited synthesized offsets ks vs sheet p at from d marks₀ 0 at from marks₀

@@ -45,15 +45,15 @@ module _ {table rows inherited synthesized offsets ks : List ℕ} {vs : List ℤ
   few-leaves = omega (arith, leaves-many g ks vs (y .book .even), y .book .few)
 
   module _ (r : Answer.Answer) (t : NodeEnds table rows inherited synthesized offsets ks vs sheet 0 0 (128 + start) 1023 r) where
-    told : EndsOrNone (Described g (leavesIn g ks vs) sheet 0 0 (nonterminal (g .start)) 1023) r
-    told = subst (λ z. EndsOrNone (Described g (leavesIn g ks vs) sheet 0 0 z 1023) r) start-is (t root-ready)
+    ends-there : EndsOrNone (Described g (leavesIn g ks vs) sheet 0 0 (nonterminal (g .start)) 1023) r
+    ends-there = subst (λ z. EndsOrNone (Described g (leavesIn g ks vs) sheet 0 0 z 1023) r) start-is (t root-ready)
 
     pub sheet-wrong : r ≡ Wrong → Settles g (leavesIn g ks vs) sheet (turnedBack 43 0)
-    sheet-wrong w = settles-none g (y .book .productions .rowsOf .sound) ks vs sheet (none-wrong g (y .book .productions .rowsOf .sound) ks vs sheet (none-of-wrong _ r told w))
+    sheet-wrong w = settles-none g (y .book .productions .rowsOf .sound) ks vs sheet (none-wrong g (y .book .productions .rowsOf .sound) ks vs sheet (none-of-wrong _ r ends-there w))
 
     module _ (n e : ℕ) (f : r ≡ Fits n e) where
       only : Only (Described g (leavesIn g ks vs) sheet 0 0 (nonterminal (g .start)) 1023) n e
-      only = ends-of-fits r n e told f
+      only = ends-of-fits r n e ends-there f
 
       pub sheet-longer : (n ≡ length sheet → ⊥) → Settles g (leavesIn g ks vs) sheet (turnedBack 43 0)
       sheet-longer k = settles-none g (y .book .productions .rowsOf .sound) ks vs sheet (none-longer g (y .book .productions .rowsOf .sound) ks vs sheet n e only k)

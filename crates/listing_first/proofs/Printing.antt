@@ -8,7 +8,7 @@ use Rattle.meaning.specs.PublicCalls.{unusable, check}
 use Rattle.prepare.specs.Making.{ProgramStands}
 use Rattle.listing_text.specs.declared.Cursor.{Cursor}
 use Rattle.listing_text.specs.Cursors.{linesLeft}
-use Rattle.listing_text.specs.Handed.{BeforeAll}
+use Rattle.listing_text.specs.LineOut.{BeforeAll}
 use Rattle.listing_pages.specs.declared.Page.{Page}
 use Rattle.listing_pages.specs.Pages.{linesBy, linesOf, Shows}
 

@@ -14,7 +14,7 @@ use Rattle.meaning.specs.PublicCalls.{written, joined}
 use Rattle.listing_text.specs.declared.Cursor.{Cursor}
 use Rattle.listing_text.specs.declared.Line.{Line}
 use Rattle.listing_text.specs.Cursors.{linesLeft}
-use Rattle.listing_text.specs.Handed.{FirstLineOrOver, told-first, told-none}
+use Rattle.listing_text.specs.LineOut.{FirstLineOrOver, first-of-lines, none-of-lines}
 use Rattle.listing_pages.specs.declared.Page.{Page}
 use Rattle.listing_pages.specs.Pages.{lineRoom, leadBy, leftBy, lead, left, isNone, restBy, Shows, OnwardBy, Onward}
 
@@ -126,25 +126,25 @@ module _ {ws before : List ℕ} {c₀ : Cursor} {out : List ℕ} {filled : ℕ} 
   none-behind = drop-of-length-le (drop filled out) {i = room} (omega (arith, length-drop filled out))
 
   module _ (r : Line) (after : List ℕ) (t : FirstLineOrOver ws (linesLeft ws c) (take room (drop filled out)) after r) where
-    pub told-turn : filled + lineRoom ≤ length before → r .over ≡ false → Filled ws before c₀ (putMid filled room out after) (filled + r .length) (r .next)
-    told-turn l e =
-        let x = told-first ws (linesLeft ws c) r e t in
+    pub line-turn : filled + lineRoom ≤ length before → r .over ≡ false → Filled ws before c₀ (putMid filled room out after) (filled + r .length) (r .next)
+    line-turn l e =
+        let x = first-of-lines ws (linesLeft ws c) r e t in
         let same : putMid filled room out after ≡ take filled out ++ written (x .0) (drop filled out) = ap₂ (λ s z. take filled out ++ (s ++ z)) (x .3 ∙ ap (written (x .0)) all-room) none-behind ∙ ap (λ s. take filled out ++ s) (append-nil (written (x .0) (drop filled out))) in
         subst (λ z. Filled ws before c₀ z (filled + r .length) (r .next)) (sym same) (filled-turn (x .0) (r .next) (r .length) l (x .1) (x .2))
 
-    pub told-less : r .over ≡ false → length (linesLeft ws (r .next)) < length (linesLeft ws c)
-    told-less e = let x = told-first ws (linesLeft ws c) r e t in omega (arith, ap length (x .1))
+    pub line-less : r .over ≡ false → length (linesLeft ws (r .next)) < length (linesLeft ws c)
+    line-less e = let x = first-of-lines ws (linesLeft ws c) r e t in omega (arith, ap length (x .1))
 
-    pub told-over : r .over ≡ true → filled ≤ length before → Shows (linesLeft ws c₀) ws before (putMid filled room out after) (record { length = filled; over = true; next = c })
-    told-over e l =
-        let x = told-none ws (linesLeft ws c) r e t in
+    pub line-over : r .over ≡ true → filled ≤ length before → Shows (linesLeft ws c₀) ws before (putMid filled room out after) (record { length = filled; over = true; next = c })
+    line-over e l =
+        let x = none-of-lines ws (linesLeft ws c) r e t in
         subst (λ z. Shows (linesLeft ws c₀) ws before z (record { length = filled; over = true; next = c })) (sym (ap (putMid filled room out) (x .1) ∙ put-same filled room out)) (filled-over l (x .0))
 
 -- ---- a line asked for aside says whether one is left
 
-pub told-none-left : (ws : List ℕ) (ls : List Text) (before after : List ℕ) (r : Line) → FirstLineOrOver ws ls before after r → r .over ≡ isNone ls
-told-none-left ws [] before after r t = t .0
-told-none-left ws (l ∷ ls) before after r t = t .0
+pub none-of-lines-left : (ws : List ℕ) (ls : List Text) (before after : List ℕ) (r : Line) → FirstLineOrOver ws ls before after r → r .over ≡ isNone ls
+none-of-lines-left ws [] before after r t = t .0
+none-of-lines-left ws (l ∷ ls) before after r t = t .0
 
 -- ---- what is printed for a table
 

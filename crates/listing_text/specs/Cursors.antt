@@ -1,10 +1,11 @@
 -- What a cursor means: the lines that are still to come, read off the words step by step.
-use Prim.Native.Nat.{ℕ, zero, suc, _+_, _-_, _*_, _/_, _%_}
+use Prim.Native.Nat.{ℕ, zero, suc, _+_, _-_, _*_}
 use mathlib.Core.Bool.{Bool, true, false, _&&_, not}
 use mathlib.Core.List.{List, [], _∷_}
 use lib.ListN.{getD}
 use lib.Dec.{eqb, ltb, leb}
 use Rattle.meaning.specs.Listing.{Text}
+use Rattle.theory_program.specs.Parts.{headOperation, headOperand}
 use Rattle.theory_program.specs.Unpacked.{ruleFrom, conditionFrom}
 use Rattle.listing_lines.specs.Line.{addLine, ruleLine, conditionLine, removeLine}
 use Rattle.listing_text.specs.declared.Cursor.{Cursor}
@@ -12,6 +13,13 @@ use Rattle.listing_text.specs.Lines.{positionAt}
 
 abbrev pub wordAt : List ℕ → ℕ → ℕ
 wordAt ws a = getD ws a 0
+
+-- the operation and the operand of the instruction at a cursor
+abbrev pub operationAt : List ℕ → Cursor → ℕ
+operationAt ws c = headOperation (wordAt ws (c .at))
+
+abbrev pub operandAt : List ℕ → Cursor → ℕ
+operandAt ws c = headOperand (wordAt ws (c .at))
 
 -- word k of a production's record
 abbrev pub recordWord : List ℕ → ℕ → ℕ → ℕ
@@ -33,7 +41,7 @@ abbrev pub silent : ℕ → Bool
 silent operation = not (eqb operation 0) && leb operation 4
 
 unfoldable pub skipsOf : List ℕ → Cursor → Bool
-skipsOf ws c = not (ltb 0 (c .left)) && (insideOf ws c && silent (wordAt ws (c .at) % 8))
+skipsOf ws c = not (ltb 0 (c .left)) && (insideOf ws c && silent (operationAt ws c))
 
 -- behind an instruction with the word w that has no line of its own
 abbrev pub skippedBy : Bool → Bool → Cursor → ℕ → Cursor
@@ -42,7 +50,7 @@ skippedBy false true c n = goOn c (c .passed) false n (c .at + 1)
 skippedBy false false c n = goOn c (c .passed + 1) false 0 (c .at + 1)
 
 abbrev pub skipped : List ℕ → Cursor → Cursor
-skipped ws c = skippedBy (eqb (wordAt ws (c .at) % 8) 1) (eqb (wordAt ws (c .at) % 8) 4) c (wordAt ws (c .at) / 8)
+skipped ws c = skippedBy (eqb (operationAt ws c) 1) (eqb (operationAt ws c) 4) c (operandAt ws c)
 
 -- ---- the line of the item or instruction at hand, and the cursor behind it
 
@@ -63,13 +71,13 @@ abbrev pub behindCondition : Cursor → Cursor
 behindCondition c = goOn c (c .passed) false (c .left - 1) (c .at + 3)
 
 abbrev pub addHere : List ℕ → Cursor → Text
-addHere ws c = addLine (c .production) (c .passed + 1) (wordAt ws (c .at) / 8)
+addHere ws c = addLine (c .production) (c .passed + 1) (operandAt ws c)
 
 abbrev pub behindAdd : Cursor → Cursor
 behindAdd c = goOn c (c .passed) false 0 (c .at + 1)
 
 abbrev pub removeHere : List ℕ → Cursor → Text
-removeHere ws c = removeLine (c .production) (wordAt ws (c .at) / 8)
+removeHere ws c = removeLine (c .production) (operandAt ws c)
 
 -- ---- the lines still to come
 
@@ -86,7 +94,7 @@ abbrev pub itemStep : List ℕ → Cursor → NextLine
 itemStep ws c = pickStep (c .rules) (emit (ruleHere ws c) (behindRule c)) (emit (conditionHere ws c) (behindCondition c))
 
 abbrev pub headStep : List ℕ → Cursor → NextLine
-headStep ws c = pickStep (eqb (wordAt ws (c .at) % 8) 0) (emit (addHere ws c) (behindAdd c)) (emit (removeHere ws c) (startOf ws (c .production + 1)))
+headStep ws c = pickStep (eqb (operationAt ws c) 0) (emit (addHere ws c) (behindAdd c)) (emit (removeHere ws c) (startOf ws (c .production + 1)))
 
 unfoldable pub stepOf : List ℕ → Cursor → NextLine
 stepOf ws c = pickStep (skipsOf ws c) (skip (skipped ws c)) (pickStep (insideOf ws c) (pickStep (ltb 0 (c .left)) (itemStep ws c) (headStep ws c)) stop)

@@ -1,12 +1,12 @@
 -- Each step of a cursor goes ahead, so there are lines enough: the lines left are those of the next step.
-use Prim.Native.Nat.{ℕ, zero, suc, _%_, _<_}
+use Prim.Native.Nat.{ℕ, zero, suc, _<_}
 use native.Mathlib.Omega.{arith}
 use mathlib.Core.Path.{_≡_, refl, ap}
 use mathlib.Core.Bool.{Bool, true, false}
 use mathlib.Core.List.{List, _∷_}
 use lib.Dec.{eqb, ltb}
 use Rattle.listing_text.specs.declared.Cursor.{Cursor}
-use Rattle.listing_text.specs.Cursors.{wordAt, insideOf, skipsOf, skipped, NextLine, stop, skip, emit, pickStep, itemStep, headStep, stepOf, followed, linesWithin, ahead, linesLeft}
+use Rattle.listing_text.specs.Cursors.{operationAt, insideOf, skipsOf, skipped, NextLine, stop, skip, emit, pickStep, itemStep, headStep, stepOf, followed, linesWithin, ahead, linesLeft}
 use Rattle.listing_text.specs.Tests.{inside-facts, skips-facts, skipped-on}
 
 abbrev pub Onward : List ℕ → Cursor → NextLine → Type 0
@@ -27,7 +27,7 @@ module _ (ws : List ℕ) (c : Cursor) where
   onward-head : insideOf ws c ≡ true → Onward ws c (headStep ws c)
   onward-head e =
       let i = inside-facts ws c e in
-      onward-pick ws c (eqb (wordAt ws (c .at) % 8) 0) _ _ (λ _. omega (arith, i .1)) (λ _. omega (arith, i .0))
+      onward-pick ws c (eqb (operationAt ws c) 0) _ _ (λ _. omega (arith, i .1)) (λ _. omega (arith, i .0))
 
   pub onward : Onward ws c (stepOf ws c)
   unfolding stepOf

@@ -15,4 +15,4 @@ pub mod Starts
 -- In the program of a grammar the lines left at a cursor are those of the listing that are still to come
 pub mod Steps
 -- What is promised of a line that is handed out, and when which step is due
-pub mod Handed
+pub mod LineOut

@@ -22,6 +22,10 @@ pub data Items : Type 0 where
   rules : List (Rule ℕ) → Items
   conditions : List (Condition ℕ) → Items
 
+abbrev pub instructionOf : Items → Instruction
+instructionOf (rules rs) = evaluate rs
+instructionOf (conditions cs) = test cs
+
 abbrev pub areRules : Items → Bool
 areRules (rules rs) = true
 areRules (conditions cs) = false
@@ -65,18 +69,22 @@ symbols g c = length (productionAt g (c .production) .right)
 abbrev pub later : Grammar → Cursor → List Text
 later g c = linesFrom g (suc (c .production)) (drop (suc (c .production)) (g .productions))
 
+-- the instructions left of production i, where k of its symbols are passed
+pub record Unread (g : Grammar) (i k : ℕ) (is : List Instruction) : Type 0 where
+  pub listed : i < length (g .productions)
+  pub proper : AllProper g is
+  pub passed : k + expects is ≡ length (productionAt g i .right)
+  pub ends : Ends is
+
 -- in a production: items are left, and instructions behind them
 pub record Inside (g : Grammar) (ws : List ℕ) (c : Cursor) (items : Items) (is : List Instruction) (ls : List Text) : Type 0 where
-  pub listed : c .production < length (g .productions)
+  pub unread : Unread g (c .production) (c .passed) is
   pub kind : c .rules ≡ areRules items
   pub count : c .left ≡ itemCount items
   pub here : ItemsAt ws (c .at) items
   pub behind : CodeAt ws (c .at + itemSize items) is
   pub properItems : ProperItems items
-  pub proper : AllProper g is
-  pub passed : c .passed + expects is ≡ symbols g c
   pub fits : c .at + itemSize items + length (schemeWords is) ≤ 16384
-  pub ends : Ends is
   pub lines : ls ≡ itemLines (c .production) (symbols g c) (c .passed) items ++ (codeLines (c .production) (symbols g c) (c .passed) is ++ later g c)
 
 -- `ls` are the lines still to come at c, in words that begin with the program of g

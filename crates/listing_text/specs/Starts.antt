@@ -71,8 +71,8 @@ module _ {g : Grammar} {ws : List ℕ} (w : WellFormed g) (b : Begins g ws) wher
 
   pub inside-some : {c : Cursor} {items : Items} {is : List Instruction} {ls : List Text} → Inside g ws c items is ls → insideOf ws c ≡ true
   inside-some {c} {items} {is} h =
-      let few = w .each (productionAt g (c .production)) (production-in g w (c .production) (h .listed)) .short in
-      rw (lt-ltb (c .production) (wordAt ws 6) (omega (arith, h .listed, segment-words b .productions)), lt-ltb (c .at) 16384 (omega (arith, h .fits, ends-words is (h .ends))), le-leb (c .passed) 12 (omega (arith, h .passed)))
+      let few = w .each (productionAt g (c .production)) (production-in g w (c .production) (h .unread .listed)) .short in
+      rw (lt-ltb (c .production) (wordAt ws 6) (omega (arith, h .unread .listed, segment-words b .productions)), lt-ltb (c .at) 16384 (omega (arith, h .fits, ends-words is (h .unread .ends))), le-leb (c .passed) 12 (omega (arith, h .unread .passed)))
 
   pub inside-none : (c : Cursor) → c .production ≡ length (g .productions) → insideOf ws c ≡ false
   inside-none c e = rw (le-ltb (c .production) (wordAt ws 6) (omega (arith, segment-words b .productions)))
@@ -98,16 +98,13 @@ module _ {g : Grammar} {ws : List ℕ} (w : WellFormed g) (b : Begins g ws) wher
         let at : recordWord ws i 4 + recordWord ws i 7 ≡ entryAddress g i = ap₂ _+_ (record-word i 4 ∙ r .body) (record-word i 7 ∙ r .symbols) in
         let long = conditions-length (entryTests g p) in
         record {
-          listed = l;
+          unread = record { listed = l; proper = scheme-proper g w p listed; passed = omega (arith, expects-scheme g p); ends = ends-scheme g p };
           kind = refl;
           count = record-word i 5 ∙ r .tests;
           here = record { words = stands-at _ (sym at) (entry-at b w i l .words) };
           behind = record { words = stands-at _ (omega arith) (scheme-at b w i l .words) };
           properItems = entry-proper g w p listed;
-          proper = scheme-proper g w p listed;
-          passed = omega (arith, expects-scheme g p);
           fits = omega (arith, body-within g w i l, program-most g w);
-          ends = ends-scheme g p;
           lines = start-lines;
         }
 

@@ -1,5 +1,5 @@
 -- In the program of a grammar the lines left at a cursor are those of the listing that are still to come.
-use Prim.Native.Nat.{ℕ, zero, suc, _+_, _%_, _<_}
+use Prim.Native.Nat.{ℕ, zero, suc, _+_, _-_, _<_}
 use native.Mathlib.Numerals.{add-one}
 use native.Mathlib.Omega.{arith}
 use mathlib.Core.Path.{_≡_, refl, sym, ap, _∙_, subst}
@@ -20,8 +20,8 @@ use Rattle.theory_program.specs.Unpacked.{rule-at, condition-at}
 use Rattle.listing_lines.specs.Line.{ruleLine, conditionLine}
 use Rattle.listing_text.specs.declared.Cursor.{Cursor}
 use Rattle.listing_text.specs.Lines.{positionAt, rulesOf, conditionsOf, codeLines}
-use Rattle.listing_text.specs.Pending.{Items, rules, conditions, symbols, later, Inside, Pending, none, some}
-use Rattle.listing_text.specs.Cursors.{wordAt, startOf, insideOf, silent, skipsOf, skipped, ruleHere, behindRule, conditionHere, behindCondition, addHere, behindAdd, removeHere, NextLine, stop, skip, emit, pickStep, itemStep, headStep, stepOf, followed, ahead, linesLeft}
+use Rattle.listing_text.specs.Pending.{Items, rules, conditions, areRules, itemCount, itemSize, itemLines, ItemsAt, ProperItems, symbols, later, Inside, Pending, none, some}
+use Rattle.listing_text.specs.Cursors.{operationAt, startOf, goOn, insideOf, silent, skipsOf, skipped, ruleHere, behindRule, conditionHere, behindCondition, addHere, behindAdd, removeHere, NextLine, stop, skip, emit, pickStep, itemStep, headStep, stepOf, followed, ahead, linesLeft}
 use Rattle.listing_text.specs.Tests.{skips-facts, is-loud}
 use Rattle.listing_text.specs.Falling.{Onward, onward, lines-step}
 use Rattle.listing_text.specs.Heads.{AtHead, head-of, on-add, on-remove, on-silent}
@@ -50,8 +50,8 @@ module _ {g : Grammar} {ws : List ℕ} (w : WellFormed g) (b : Begins g ws) (c :
   pending-skip e (none p f) = absurd (outside w b c (skips-facts ws c e .inside) p)
   pending-skip e (some items is h) = let s = skips-facts ws c e in on-silent is (s .quiet) (head-of items h (s .none))
 
-  at-add : (is : List Instruction) → AtHead g ws c is ls → wordAt ws (c .at) % 8 ≡ 0 → First g ws ls (addHere ws c) (behindAdd c)
-  at-add [] h e = absurd (h .ends)
+  at-add : (is : List Instruction) → AtHead g ws c is ls → operationAt ws c ≡ 0 → First g ws ls (addHere ws c) (behindAdd c)
+  at-add [] h e = absurd (h .unread .ends)
   at-add (add m ∷ is) h e = let f = on-add h in record { rest = f .0; lines = f .1; pending = f .2 }
   at-add (evaluate rs ∷ is) h e = absurd (omega (arith, code-head (h .code) .0))
   at-add (expect (terminal t) ∷ is) h e = absurd (omega (arith, code-head (h .code) .0))
@@ -59,25 +59,46 @@ module _ {g : Grammar} {ws : List ℕ} (w : WellFormed g) (b : Begins g ws) (c :
   at-add (test cs ∷ is) h e = absurd (omega (arith, code-head (h .code) .0))
   at-add (remove m ∷ is) h e = absurd (omega (arith, code-head (h .code) .0))
 
-  at-remove : (is : List Instruction) → AtHead g ws c is ls → (wordAt ws (c .at) % 8 ≡ 0 → ⊥) → silent (wordAt ws (c .at) % 8) ≡ false → First g ws ls (removeHere ws c) (startOf ws (c .production + 1))
-  at-remove [] h e q = absurd (h .ends)
+  at-remove : (is : List Instruction) → AtHead g ws c is ls → (operationAt ws c ≡ 0 → ⊥) → silent (operationAt ws c) ≡ false → First g ws ls (removeHere ws c) (startOf ws (c .production + 1))
+  at-remove [] h e q = absurd (h .unread .ends)
   at-remove (add m ∷ is) h e q = absurd (e (code-head (h .code) .0))
   at-remove (evaluate rs ∷ is) h e q = absurd (subst T (sym (ap silent (code-head (h .code) .0)) ∙ q) tt)
   at-remove (expect (terminal t) ∷ is) h e q = absurd (subst T (sym (ap silent (code-head (h .code) .0)) ∙ q) tt)
   at-remove (expect (nonterminal n) ∷ is) h e q = absurd (subst T (sym (ap silent (code-head (h .code) .0)) ∙ q) tt)
   at-remove (test cs ∷ is) h e q = absurd (subst T (sym (ap silent (code-head (h .code) .0)) ∙ q) tt)
-  at-remove (remove m ∷ is) h e q = record { rest = later g c; lines = on-remove h; pending = subst (λ i. Pending g ws (startOf ws i) (later g c)) (sym (add-one (c .production))) (pending-start w b (suc (c .production)) (h .listed)) }
+  at-remove (remove m ∷ is) h e q = record { rest = later g c; lines = on-remove h; pending = subst (λ i. Pending g ws (startOf ws i) (later g c)) (sym (add-one (c .production))) (pending-start w b (suc (c .production)) (h .unread .listed)) }
 
   module _ (inside : insideOf ws c ≡ true) (alone : c .left ≡ 0) where
-    pub pending-add : wordAt ws (c .at) % 8 ≡ 0 → Pending g ws c ls → First g ws ls (addHere ws c) (behindAdd c)
+    pub pending-add : operationAt ws c ≡ 0 → Pending g ws c ls → First g ws ls (addHere ws c) (behindAdd c)
     pending-add e (none p f) = absurd (outside w b c inside p)
     pending-add e (some items is h) = at-add is (head-of items h alone) e
 
-    pub pending-remove : (wordAt ws (c .at) % 8 ≡ 0 → ⊥) → skipsOf ws c ≡ false → Pending g ws c ls → First g ws ls (removeHere ws c) (startOf ws (c .production + 1))
+    pub pending-remove : (operationAt ws c ≡ 0 → ⊥) → skipsOf ws c ≡ false → Pending g ws c ls → First g ws ls (removeHere ws c) (startOf ws (c .production + 1))
     pending-remove e q (none p f) = absurd (outside w b c inside p)
     pending-remove e q (some items is h) = at-remove is (head-of items h alone) e (is-loud ws c inside alone q)
 
   -- ---- items
+
+  -- the line of the first item comes first, and the other items behind it
+  behind-first : {is : List Instruction} (items others : Items) (n : ℕ) (t : Text) → Inside g ws c items is ls → itemCount items ≡ suc (itemCount others) → itemSize items ≡ n + itemSize others
+      → ItemsAt ws (c .at + n) others → ProperItems others → itemLines (c .production) (symbols g c) (c .passed) items ≡ t ∷ itemLines (c .production) (symbols g c) (c .passed) others
+      → First g ws ls t (goOn c (c .passed) (areRules others) (c .left - 1) (c .at + n))
+  behind-first {is} items others n t h counted sized here proper line =
+      let behind = codeLines (c .production) (symbols g c) (c .passed) is ++ later g c in
+      record {
+        rest = itemLines (c .production) (symbols g c) (c .passed) others ++ behind;
+        lines = h .lines ∙ ap (λ l. l ++ behind) line;
+        pending = some others is (record {
+          unread = h .unread;
+          kind = refl;
+          count = omega (arith, h .count, counted);
+          here = here;
+          behind = record { words = stands-at _ (omega (arith, sized)) (h .behind .words) };
+          properItems = proper;
+          fits = omega (arith, h .fits, sized);
+          lines = refl;
+        });
+      }
 
   module _ (more : 0 < c .left) where
     at-rule : (items : Items) (is : List Instruction) → Inside g ws c items is ls → c .rules ≡ true → First g ws ls (ruleHere ws c) (behindRule c)
@@ -85,24 +106,8 @@ module _ {g : Grammar} {ws : List ℕ} (w : WellFormed g) (b : Begins g ws) (c :
     at-rule (conditions cs) is h e = absurd (subst T (sym e ∙ h .kind) tt)
     at-rule (rules (r ∷ rs)) is h e =
         let at = positionAt (ltb (c .passed) (symbols g c)) (c .passed) in
-        let rest = rulesOf (c .production) at rs ++ (codeLines (c .production) (symbols g c) (c .passed) is ++ later g c) in
-        record {
-          rest = rest;
-          lines = h .lines ∙ (λ t. ruleLine (c .production) (positionAt (ltb (c .passed) (sym (symbols-word w b c (h .listed)) t)) (c .passed)) (sym (rule-at (h .here) (h .properItems r (inl refl))) t) ∷ rest);
-          pending = some (rules rs) is (record {
-            listed = h .listed;
-            kind = refl;
-            count = omega (arith, h .count);
-            here = rule-first (h .here) .2;
-            behind = record { words = stands-at _ (omega arith) (h .behind .words) };
-            properItems = λ q i. h .properItems q (inr i);
-            proper = h .proper;
-            passed = h .passed;
-            fits = omega (arith, h .fits);
-            ends = h .ends;
-            lines = refl;
-          });
-        }
+        behind-first (rules (r ∷ rs)) (rules rs) 2 (ruleHere ws c) h refl (omega arith) (rule-first (h .here) .2) (λ q i. h .properItems q (inr i))
+        (λ t. ruleLine (c .production) (positionAt (ltb (c .passed) (sym (symbols-word w b c (h .unread .listed)) t)) (c .passed)) (sym (rule-at (h .here) (h .properItems r (inl refl))) t) ∷ rulesOf (c .production) at rs)
 
     pub pending-rule : insideOf ws c ≡ true → c .rules ≡ true → Pending g ws c ls → First g ws ls (ruleHere ws c) (behindRule c)
     pending-rule inside e (none p f) = absurd (outside w b c inside p)
@@ -112,24 +117,8 @@ module _ {g : Grammar} {ws : List ℕ} (w : WellFormed g) (b : Begins g ws) (c :
     at-condition (conditions []) is h e = absurd (omega (arith, h .count))
     at-condition (rules rs) is h e = absurd (subst T (sym (h .kind) ∙ e) tt)
     at-condition (conditions (d ∷ ds)) is h e =
-        let rest = conditionsOf (c .production) (c .passed) ds ++ (codeLines (c .production) (symbols g c) (c .passed) is ++ later g c) in
-        record {
-          rest = rest;
-          lines = h .lines ∙ ap (λ q. conditionLine (c .production) (c .passed) q ∷ rest) (sym (condition-at (h .here) (h .properItems d (inl refl))));
-          pending = some (conditions ds) is (record {
-            listed = h .listed;
-            kind = refl;
-            count = omega (arith, h .count);
-            here = condition-first (h .here) .3;
-            behind = record { words = stands-at _ (omega arith) (h .behind .words) };
-            properItems = λ q i. h .properItems q (inr i);
-            proper = h .proper;
-            passed = h .passed;
-            fits = omega (arith, h .fits);
-            ends = h .ends;
-            lines = refl;
-          });
-        }
+        behind-first (conditions (d ∷ ds)) (conditions ds) 3 (conditionHere ws c) h refl (omega arith) (condition-first (h .here) .3) (λ q i. h .properItems q (inr i))
+        (ap (λ q. conditionLine (c .production) (c .passed) q ∷ conditionsOf (c .production) (c .passed) ds) (sym (condition-at (h .here) (h .properItems d (inl refl)))))
 
     pub pending-condition : insideOf ws c ≡ true → c .rules ≡ false → Pending g ws c ls → First g ws ls (conditionHere ws c) (behindCondition c)
     pending-condition inside e (none p f) = absurd (outside w b c inside p)
@@ -156,7 +145,7 @@ module _ {g : Grammar} {ws : List ℕ} (w : WellFormed g) (b : Begins g ws) wher
 
     follows-head : c .left ≡ 0 → skipsOf ws c ≡ false → Follows g ws ls (headStep ws c)
     follows-head alone loud =
-        let operation = wordAt ws (c .at) % 8 in
+        let operation = operationAt ws c in
         follows-pick g ws ls (eqb operation 0) (emit (addHere ws c) (behindAdd c)) (emit (removeHere ws c) (startOf ws (c .production + 1)))
         (λ e. pending-add w b c inside alone (eqb-true operation 0 e) p)
         (λ e. pending-remove w b c inside alone (eqb-false operation 0 e) loud p)

@@ -1,13 +1,14 @@
 -- What the tests on cursors say, and what they follow from.
-use Prim.Native.Nat.{ℕ, _+_, _/_, _%_, _≤_, _<_}
+use Prim.Native.Nat.{ℕ, _+_, _≤_, _<_}
 use native.Mathlib.Omega.{arith}
 use mathlib.Core.Path.{_≡_, refl, sym, ap, _∙_, subst}
 use mathlib.Core.Bool.{Bool, true, false, _&&_, not}
 use mathlib.Core.List.{List}
 use borrow.Author.Tests.{ltb-true, ltb-false, leb-true, not-true, lt-ltb, le-ltb, eq-eqb, ne-eqb}
 use lib.Dec.{T, eqb, ltb, leb}
+use Rattle.theory_program.specs.Parts.{headOperation, headOperand}
 use Rattle.listing_text.specs.declared.Cursor.{Cursor}
-use Rattle.listing_text.specs.Cursors.{wordAt, goOn, insideOf, silent, skipsOf, skippedBy, skipped}
+use Rattle.listing_text.specs.Cursors.{wordAt, operationAt, operandAt, goOn, insideOf, silent, skipsOf, skippedBy, skipped}
 
 both : (a b : Bool) → (a && b) ≡ true → (a ≡ true) × (b ≡ true)
 both true b e = (refl, e)
@@ -27,19 +28,19 @@ inside-facts ws c e =
 pub record Skips (ws : List ℕ) (c : Cursor) : Type 0 where
   pub none : c .left ≡ 0
   pub inside : insideOf ws c ≡ true
-  pub quiet : silent (wordAt ws (c .at) % 8) ≡ true
+  pub quiet : silent (operationAt ws c) ≡ true
 
 pub skips-facts : (ws : List ℕ) (c : Cursor) → skipsOf ws c ≡ true → Skips ws c
 unfolding skipsOf
 skips-facts ws c e =
-    let h = both (not (ltb 0 (c .left))) (insideOf ws c && silent (wordAt ws (c .at) % 8)) e in
-    let k = both (insideOf ws c) (silent (wordAt ws (c .at) % 8)) (h .1) in
+    let h = both (not (ltb 0 (c .left))) (insideOf ws c && silent (operationAt ws c)) e in
+    let k = both (insideOf ws c) (silent (operationAt ws c)) (h .1) in
     record { none = omega (arith, ltb-false 0 (c .left) (not-true (ltb 0 (c .left)) (h .0))); inside = k .0; quiet = k .1 }
 
 -- an instruction that is not passed over has a line of its own
-pub is-loud : (ws : List ℕ) (c : Cursor) → insideOf ws c ≡ true → c .left ≡ 0 → skipsOf ws c ≡ false → silent (wordAt ws (c .at) % 8) ≡ false
+pub is-loud : (ws : List ℕ) (c : Cursor) → insideOf ws c ≡ true → c .left ≡ 0 → skipsOf ws c ≡ false → silent (operationAt ws c) ≡ false
 unfolding skipsOf
-is-loud ws c inside alone e = not-both (insideOf ws c) (silent (wordAt ws (c .at) % 8)) inside (not-both (not (ltb 0 (c .left))) (insideOf ws c && silent (wordAt ws (c .at) % 8)) (ap (λ n. not (ltb 0 n)) alone) e)
+is-loud ws c inside alone e = not-both (insideOf ws c) (silent (operationAt ws c)) inside (not-both (not (ltb 0 (c .left))) (insideOf ws c && silent (operationAt ws c)) (ap (λ n. not (ltb 0 n)) alone) e)
 
 -- ---- what the code finds
 
@@ -61,42 +62,42 @@ module _ (ws : List ℕ) (c : Cursor) where
   stays-items h = rw (lt-ltb 0 (c .left) h)
 
   module _ (alone : c .left ≤ 0) where
-    skips-by : insideOf ws c && silent (wordAt ws (c .at) % 8) ≡ skipsOf ws c
+    skips-by : insideOf ws c && silent (operationAt ws c) ≡ skipsOf ws c
     unfolding skipsOf
-    skips-by = ap (λ b. not b && (insideOf ws c && silent (wordAt ws (c .at) % 8))) (sym (le-ltb 0 (c .left) alone))
+    skips-by = ap (λ b. not b && (insideOf ws c && silent (operationAt ws c))) (sym (le-ltb 0 (c .left) alone))
 
     pub stays-outside : insideOf ws c ≡ false → false ≡ skipsOf ws c
-    stays-outside e = ap (λ b. b && silent (wordAt ws (c .at) % 8)) (sym e) ∙ skips-by
+    stays-outside e = ap (λ b. b && silent (operationAt ws c)) (sym e) ∙ skips-by
 
     module _ (v : ℕ) (here : v ≡ wordAt ws (c .at)) (inside : insideOf ws c ≡ true) where
-      skips-silent : silent (v % 8) ≡ skipsOf ws c
-      skips-silent = ap (λ n. silent (n % 8)) here ∙ (ap (λ b. b && silent (wordAt ws (c .at) % 8)) (sym inside) ∙ skips-by)
+      skips-silent : silent (headOperation v) ≡ skipsOf ws c
+      skips-silent = ap (λ n. silent (headOperation n)) here ∙ (ap (λ b. b && silent (operationAt ws c)) (sym inside) ∙ skips-by)
 
-      pub stays-add : v % 8 ≡ 0 → false ≡ skipsOf ws c
+      pub stays-add : headOperation v ≡ 0 → false ≡ skipsOf ws c
       stays-add e = sym (ap silent e) ∙ skips-silent
 
-      pub skips-others : (v % 8 ≡ 0 → ⊥) → leb (v % 8) 4 ≡ skipsOf ws c
-      skips-others n = sym (silent-loud (v % 8) n) ∙ skips-silent
+      pub skips-others : (headOperation v ≡ 0 → ⊥) → leb (headOperation v) 4 ≡ skipsOf ws c
+      skips-others n = sym (silent-loud (headOperation v) n) ∙ skips-silent
 
   -- ---- behind an instruction
 
   module _ (v : ℕ) (here : v ≡ wordAt ws (c .at)) where
-    operation : v % 8 ≡ wordAt ws (c .at) % 8
-    operation = ap (λ n. n % 8) here
+    operation : headOperation v ≡ operationAt ws c
+    operation = ap headOperation here
 
-    pub to-rules : v % 8 ≡ 1 → goOn c (c .passed) true (v / 8) (c .at + 1) ≡ skipped ws c
-    to-rules e = ap (λ n. goOn c (c .passed) true (n / 8) (c .at + 1)) here ∙ rw (eq-eqb (wordAt ws (c .at) % 8) 1 (sym operation ∙ e)) refl
+    pub to-rules : headOperation v ≡ 1 → goOn c (c .passed) true (headOperand v) (c .at + 1) ≡ skipped ws c
+    to-rules e = ap (λ n. goOn c (c .passed) true (headOperand n) (c .at + 1)) here ∙ rw (eq-eqb (operationAt ws c) 1 (sym operation ∙ e)) refl
 
-    pub to-conditions : (v % 8 ≡ 1 → ⊥) → v % 8 ≡ 4 → goOn c (c .passed) false (v / 8) (c .at + 1) ≡ skipped ws c
-    to-conditions n e = ap (λ n. goOn c (c .passed) false (n / 8) (c .at + 1)) here ∙ rw (ne-eqb (wordAt ws (c .at) % 8) 1 (λ f. n (operation ∙ f)), eq-eqb (wordAt ws (c .at) % 8) 4 (sym operation ∙ e)) refl
+    pub to-conditions : (headOperation v ≡ 1 → ⊥) → headOperation v ≡ 4 → goOn c (c .passed) false (headOperand v) (c .at + 1) ≡ skipped ws c
+    to-conditions n e = ap (λ n. goOn c (c .passed) false (headOperand n) (c .at + 1)) here ∙ rw (ne-eqb (operationAt ws c) 1 (λ f. n (operation ∙ f)), eq-eqb (operationAt ws c) 4 (sym operation ∙ e)) refl
 
-    pub past-symbol : (v % 8 ≡ 1 → ⊥) → (v % 8 ≡ 4 → ⊥) → goOn c (c .passed + 1) false 0 (c .at + 1) ≡ skipped ws c
-    past-symbol n m = rw (ne-eqb (wordAt ws (c .at) % 8) 1 (λ f. n (operation ∙ f)), ne-eqb (wordAt ws (c .at) % 8) 4 (λ f. m (operation ∙ f))) refl
+    pub past-symbol : (headOperation v ≡ 1 → ⊥) → (headOperation v ≡ 4 → ⊥) → goOn c (c .passed + 1) false 0 (c .at + 1) ≡ skipped ws c
+    past-symbol n m = rw (ne-eqb (operationAt ws c) 1 (λ f. n (operation ∙ f)), ne-eqb (operationAt ws c) 4 (λ f. m (operation ∙ f))) refl
 
   pub skipped-on : (skipped ws c .production ≡ c .production) × (skipped ws c .at ≡ c .at + 1)
-  skipped-on = go (eqb (wordAt ws (c .at) % 8) 1) (eqb (wordAt ws (c .at) % 8) 4)
+  skipped-on = go (eqb (operationAt ws c) 1) (eqb (operationAt ws c) 4)
     where
-      go : (a b : Bool) → (skippedBy a b c (wordAt ws (c .at) / 8) .production ≡ c .production) × (skippedBy a b c (wordAt ws (c .at) / 8) .at ≡ c .at + 1)
+      go : (a b : Bool) → (skippedBy a b c (operandAt ws c) .production ≡ c .production) × (skippedBy a b c (operandAt ws c) .at ≡ c .at + 1)
       go true b = (refl, refl)
       go false true = (refl, refl)
       go false false = (refl, refl)

@@ -5,7 +5,7 @@ ghost use mathlib.Core.Bool.{true, false};
 ghost use lib.ListN.{length};
 ghost use Rattle.listing_lines.specs.Line.{addLine, removeLine};
 ghost use Rattle.listing_text.specs.Cursors.{wordAt, recordWord, startOf, goOn, insideOf, skipsOf, skipped, positionOf, ruleHere, behindRule, conditionHere, behindCondition, behindAdd, linesLeft};
-ghost use Rattle.listing_text.specs.Handed.{Emits, FirstLineOrOver, BeforeAll};
+ghost use Rattle.listing_text.specs.LineOut.{Emits, FirstLineOrOver, BeforeAll};
 use limits::AREA;
 
 // 01: "right-side length (0 to 12)".

@@ -4,7 +4,7 @@ use mathlib.Core.Bool.{true, false}
 use mathlib.Core.List.{[], _∷_, map}
 use lib.IntN.{pos, negsuc}
 use Rattle.meaning.specs.Calls.{more, value, refused, tableRefused}
-use Rattle.meaning_window.specs.Window.{stands, empty, turnedBack, zeros, largest, outcome, opensWindow, bringsValue, bringsRefusal, wellKept}
+use Rattle.meaning_window.specs.Window.{totals, empty, turnedBack, zeros, largest, outcome, opensWindow, bringsValue, bringsRefusal, wellKept}
 use Rattle.meaning_window.specs.WindowStatements.{opening, later, entered, enteredBy, outside, answerIn}
 
 -- a size that is none
@@ -13,19 +13,19 @@ unfolding opensWindow
 none = refl
 
 -- after a 5: 2, 6 and 4 after each other
-second : bringsValue (pos 2) (pos 3 ∷ pos 1 ∷ pos 1 ∷ pos 5 ∷ pos 1 ∷ pos 5 ∷ zeros 5) ≡ outcome (stands (pos 7) (pos 5)) (pos 3 ∷ pos 2 ∷ pos 2 ∷ pos 7 ∷ pos 2 ∷ pos 5 ∷ pos 2 ∷ pos 0 ∷ pos 0 ∷ pos 1 ∷ pos 0 ∷ [])
+second : bringsValue (pos 2) (pos 3 ∷ pos 1 ∷ pos 1 ∷ pos 5 ∷ pos 1 ∷ pos 5 ∷ zeros 5) ≡ outcome (totals (pos 7) (pos 5)) (pos 3 ∷ pos 2 ∷ pos 2 ∷ pos 7 ∷ pos 2 ∷ pos 5 ∷ pos 2 ∷ pos 0 ∷ pos 0 ∷ pos 1 ∷ pos 0 ∷ [])
 unfolding bringsValue wellKept
 second = refl
 
-third : bringsValue (pos 6) (pos 3 ∷ pos 2 ∷ pos 2 ∷ pos 7 ∷ pos 2 ∷ pos 5 ∷ pos 2 ∷ pos 0 ∷ pos 0 ∷ pos 1 ∷ pos 0 ∷ []) ≡ outcome (stands (pos 13) (pos 6)) (pos 3 ∷ pos 3 ∷ pos 0 ∷ pos 13 ∷ pos 1 ∷ pos 5 ∷ pos 2 ∷ pos 6 ∷ pos 2 ∷ pos 0 ∷ pos 0 ∷ [])
+third : bringsValue (pos 6) (pos 3 ∷ pos 2 ∷ pos 2 ∷ pos 7 ∷ pos 2 ∷ pos 5 ∷ pos 2 ∷ pos 0 ∷ pos 0 ∷ pos 1 ∷ pos 0 ∷ []) ≡ outcome (totals (pos 13) (pos 6)) (pos 3 ∷ pos 3 ∷ pos 0 ∷ pos 13 ∷ pos 1 ∷ pos 5 ∷ pos 2 ∷ pos 6 ∷ pos 2 ∷ pos 0 ∷ pos 0 ∷ [])
 unfolding bringsValue wellKept
 third = refl
 
-fourth : bringsValue (pos 4) (pos 3 ∷ pos 3 ∷ pos 0 ∷ pos 13 ∷ pos 1 ∷ pos 5 ∷ pos 2 ∷ pos 6 ∷ pos 2 ∷ pos 0 ∷ pos 0 ∷ []) ≡ outcome (stands (pos 12) (pos 6)) (pos 3 ∷ pos 3 ∷ pos 1 ∷ pos 12 ∷ pos 2 ∷ pos 4 ∷ pos 2 ∷ pos 6 ∷ pos 2 ∷ pos 0 ∷ pos 0 ∷ [])
+fourth : bringsValue (pos 4) (pos 3 ∷ pos 3 ∷ pos 0 ∷ pos 13 ∷ pos 1 ∷ pos 5 ∷ pos 2 ∷ pos 6 ∷ pos 2 ∷ pos 0 ∷ pos 0 ∷ []) ≡ outcome (totals (pos 12) (pos 6)) (pos 3 ∷ pos 3 ∷ pos 1 ∷ pos 12 ∷ pos 2 ∷ pos 4 ∷ pos 2 ∷ pos 6 ∷ pos 2 ∷ pos 0 ∷ pos 0 ∷ [])
 unfolding bringsValue wellKept
 fourth = refl
 
-standing : bringsRefusal (pos 3 ∷ pos 2 ∷ pos 2 ∷ pos 7 ∷ pos 2 ∷ pos 5 ∷ pos 2 ∷ pos 0 ∷ pos 0 ∷ pos 1 ∷ pos 0 ∷ []) ≡ stands (pos 7) (pos 5)
+standing : bringsRefusal (pos 3 ∷ pos 2 ∷ pos 2 ∷ pos 7 ∷ pos 2 ∷ pos 5 ∷ pos 2 ∷ pos 0 ∷ pos 0 ∷ pos 1 ∷ pos 0 ∷ []) ≡ totals (pos 7) (pos 5)
 unfolding bringsRefusal wellKept
 standing = refl
 
@@ -52,7 +52,7 @@ unfolding opensWindow
 past-form = refl
 
 -- 02 (d)'s limits
-highest-value : bringsValue (pos 1000000000000) (pos 1 ∷ zeros 6) .answer ≡ stands (pos 1000000000000) (pos 1000000000000)
+highest-value : bringsValue (pos 1000000000000) (pos 1 ∷ zeros 6) .answer ≡ totals (pos 1000000000000) (pos 1000000000000)
 unfolding bringsValue wellKept
 highest-value = refl
 
@@ -74,5 +74,5 @@ outside-rows : map (outside 11) (opening 0 ∷ opening 3 ∷ opening 4 ∷ later
 outside-rows = refl
 
 -- the first leader cell names slot 1
-beside : answerIn (pos 2 ∷ pos 2 ∷ pos 0 ∷ pos 9 ∷ pos 1 ∷ pos 4 ∷ pos 5 ∷ pos 1 ∷ pos 0 ∷ []) ≡ stands (pos 9) (pos 5)
+beside : answerIn (pos 2 ∷ pos 2 ∷ pos 0 ∷ pos 9 ∷ pos 1 ∷ pos 4 ∷ pos 5 ∷ pos 1 ∷ pos 0 ∷ []) ≡ totals (pos 9) (pos 5)
 beside = refl

@@ -32,7 +32,7 @@ lastOf n vs = drop (length vs - n) vs
 
 pub data WindowAnswer : Type 0 where
   -- total and largest
-  stands : (sum top : ℤ) → WindowAnswer
+  totals : (sum top : ℤ) → WindowAnswer
   -- no value yet: the total is 0
   empty : WindowAnswer
   -- 42
@@ -40,14 +40,14 @@ pub data WindowAnswer : Type 0 where
 
 -- 02 (k): "turned back as 42"
 abbrev pub windowNumber : WindowAnswer → ℕ
-windowNumber (stands sum top) = 0
+windowNumber (totals sum top) = 0
 windowNumber empty = 0
 windowNumber turnedBack = 42
 
 -- by a scan of the window's values. "before the first there is no largest"
-abbrev pub shown : List ℤ → WindowAnswer
-shown [] = empty
-shown (v ∷ vs) = stands (total (v ∷ vs)) (largest v vs)
+abbrev pub scanOf : List ℤ → WindowAnswer
+scanOf [] = empty
+scanOf (v ∷ vs) = totals (total (v ∷ vs)) (largest v vs)
 
 -- ---- slots: the values stand in a ring of as many slots as the window's size
 
@@ -182,11 +182,11 @@ valuesWith v b = lastOf (sizeIn b) (valuesIn b ++ (v ∷ []))
 
 -- "A later call with a value outside the limits of (d), or on a buffer that by docs/ no opening and values after it can leave, is a 42 too, likewise"
 unfoldable pub bringsValue : ℤ → List ℤ → Outcome
-bringsValue v b = cond (inRange v && wellKept b) (outcome (shown (valuesWith v b)) (written (sizeIn b) (after (sizeIn b) (nextIn b)) (valuesWith v b) b)) (outcome turnedBack b)
+bringsValue v b = cond (inRange v && wellKept b) (outcome (scanOf (valuesWith v b)) (written (sizeIn b) (after (sizeIn b) (nextIn b)) (valuesWith v b) b)) (outcome turnedBack b)
 
 -- "a refusal changes nothing and gets both as they stand"
 unfoldable pub bringsRefusal : List ℤ → WindowAnswer
-bringsRefusal b = cond (wellKept b) (shown (valuesIn b)) turnedBack
+bringsRefusal b = cond (wellKept b) (scanOf (valuesIn b)) turnedBack
 
 -- "Only accepted segments enter: a later call brings a finish's answer"
 abbrev pub bringsAnswer : Answer → List ℤ → Outcome

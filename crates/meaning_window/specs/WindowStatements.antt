@@ -10,7 +10,7 @@ use lib.IntN.{ℤ, pos}
 use Rattle.meaning.specs.Base.{all}
 use Rattle.meaning.specs.Value.{inRange}
 use Rattle.meaning.specs.Calls.{Answer, more, value, refused, tableRefused}
-use Rattle.meaning_window.specs.Window.{lastOf, WindowAnswer, stands, empty, turnedBack, shown, formLength, numberAt, sizeIn, heldIn, totalIn, valuesIn, sizeFits, wellKept, Outcome, opensWindow, bringsAnswer}
+use Rattle.meaning_window.specs.Window.{lastOf, WindowAnswer, totals, empty, turnedBack, scanOf, formLength, numberAt, sizeIn, heldIn, totalIn, valuesIn, sizeFits, wellKept, Outcome, opensWindow, bringsAnswer}
 
 -- a call on a window buffer
 pub data WindowCall : Type 0 where
@@ -58,7 +58,7 @@ outside long (later (tableRefused number offset)) = false
 
 -- by a scan of the last values that entered
 abbrev pub scanned : Entered → WindowAnswer
-scanned e = shown (lastOf (e .size) (e .values))
+scanned e = scanOf (lastOf (e .size) (e .values))
 
 -- after an opening and any list of calls, refusals, 42s and openings among them, the next call is answered by a scan of the last `size` values
 abbrev pub ScanAlways : Type 0
@@ -119,7 +119,7 @@ PastUntouched =
 
 -- the total's cell, and the value in the slot that the first leader cell names
 abbrev pub answerIn : List ℤ → WindowAnswer
-answerIn b = cond (eqb (heldIn b) 0) empty (stands (totalIn b) (getD b (5 + numberAt b (5 + sizeIn b)) (pos 0)))
+answerIn b = cond (eqb (heldIn b) 0) empty (totals (totalIn b) (getD b (5 + numberAt b (5 + sizeIn b)) (pos 0)))
 
 abbrev pub KeptBeside : Type 0
-KeptBeside = (b : List ℤ) → T (wellKept b) → answerIn b ≡ shown (valuesIn b)
+KeptBeside = (b : List ℤ) → T (wellKept b) → answerIn b ≡ scanOf (valuesIn b)

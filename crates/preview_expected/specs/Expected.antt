@@ -1,5 +1,5 @@
 -- What the word at hand says of a token before any try.
-use Prim.Native.Nat.{ℕ, _+_, _*_, _/_, _%_, _<_}
+use Prim.Native.Nat.{ℕ, _+_, _*_, _<_}
 use native.Mathlib.Omega.{arith}
 use mathlib.Core.Path.{_≡_, refl, sym, ap, ap₂}
 use mathlib.Core.Bool.{Bool, true, false, not}
@@ -7,6 +7,7 @@ use mathlib.Core.List.{List, [], _∷_}
 use lib.ListN.{length, getD}
 use lib.Dec.{eqb}
 use borrow.Author.Tests.{eq-eqb, ne-eqb}
+use Rattle.theory_program.specs.Parts.{headOperation, headOperand}
 
 -- the directory names an alternative of nonterminal n for token u
 abbrev pub namesOne : List ℕ → ℕ → ℕ → Bool
@@ -18,7 +19,7 @@ expectedBy isTerminal isNonterminal isNothing ws n u = elim isTerminal as (λ x.
 
 -- by the head word
 abbrev pub expectedFrom : ℕ → List ℕ → ℕ → Bool
-expectedFrom w ws u = expectedBy (eqb (w % 8) 2) (eqb (w % 8) 3) (eqb (w % 8) 6) ws (w / 8) u
+expectedFrom w ws u = expectedBy (eqb (headOperation w) 2) (eqb (headOperation w) 3) (eqb (headOperation w) 6) ws (headOperand w) u
 
 abbrev pub expectedAt : List ℕ → ℕ → ℕ → Bool
 expectedAt ws a u = expectedFrom (getD ws a 0) ws u
@@ -45,17 +46,17 @@ add-looks : expectedFrom 8 [] 0 ≡ true
 add-looks = refl
 
 module _ (w : ℕ) (ws : List ℕ) (u : ℕ) where
-  pub from-terminal : w % 8 ≡ 2 → eqb (w / 8) u ≡ expectedFrom w ws u
-  from-terminal e = sym (ap (λ b. expectedBy b (eqb (w % 8) 3) (eqb (w % 8) 6) ws (w / 8) u) (eq-eqb (w % 8) 2 e))
+  pub from-terminal : headOperation w ≡ 2 → eqb (headOperand w) u ≡ expectedFrom w ws u
+  from-terminal e = sym (ap (λ b. expectedBy b (eqb (headOperation w) 3) (eqb (headOperation w) 6) ws (headOperand w) u) (eq-eqb (headOperation w) 2 e))
 
-  pub from-nonterminal : w % 8 ≡ 3 → namesOne ws (w / 8) u ≡ expectedFrom w ws u
-  from-nonterminal e = sym (ap₂ (λ b d. expectedBy b d (eqb (w % 8) 6) ws (w / 8) u) (ne-eqb (w % 8) 2 (λ z. omega arith)) (eq-eqb (w % 8) 3 e))
+  pub from-nonterminal : headOperation w ≡ 3 → namesOne ws (headOperand w) u ≡ expectedFrom w ws u
+  from-nonterminal e = sym (ap₂ (λ b d. expectedBy b d (eqb (headOperation w) 6) ws (headOperand w) u) (ne-eqb (headOperation w) 2 (λ z. omega arith)) (eq-eqb (headOperation w) 3 e))
 
-  pub from-other : (w % 8 ≡ 2 → ⊥) → (w % 8 ≡ 3 → ⊥) → not (eqb (w % 8) 6) ≡ expectedFrom w ws u
-  from-other x y = sym (ap₂ (λ b d. expectedBy b d (eqb (w % 8) 6) ws (w / 8) u) (ne-eqb (w % 8) 2 x) (ne-eqb (w % 8) 3 y))
+  pub from-other : (headOperation w ≡ 2 → ⊥) → (headOperation w ≡ 3 → ⊥) → not (eqb (headOperation w) 6) ≡ expectedFrom w ws u
+  from-other x y = sym (ap₂ (λ b d. expectedBy b d (eqb (headOperation w) 6) ws (headOperand w) u) (ne-eqb (headOperation w) 2 x) (ne-eqb (headOperation w) 3 y))
 
 -- the words that are read stand in the program
 pub record Legible (ws : List ℕ) (a u : ℕ) : Type 0 where
   pub inside : a < length ws
-  pub directory : getD ws a 0 % 8 ≡ 3 → 9 + 64 * (getD ws a 0 / 8) + u < length ws
+  pub directory : headOperation (getD ws a 0) ≡ 3 → 9 + 64 * headOperand (getD ws a 0) + u < length ws
   pub small : u < 64

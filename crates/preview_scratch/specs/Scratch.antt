@@ -34,12 +34,6 @@ abbrev pub reachedBy : Ended.Ended → Run
 reachedBy (Stopped run) = run
 reachedBy (Failed run k) = run
 
-pub reached-stopped : (e : Ended.Ended) (run : Run) → e ≡ Stopped run → run ≡ reachedBy e
-reached-stopped e run q = ap reachedBy (sym q)
-
-pub reached-failed : (e : Ended.Ended) (run : Run) (k : ℕ) → e ≡ Failed run k → run ≡ reachedBy e
-reached-failed e run k q = ap reachedBy (sym q)
-
 -- ---- cells copied one after the other
 
 module _ {A : Type 0} (from to : List A) where

@@ -1,5 +1,5 @@
 -- A token that is not expected is refused by the first move that looks at it.
-use Prim.Native.Nat.{ℕ, suc, _+_, _-_, _*_, _/_, _%_, _<_}
+use Prim.Native.Nat.{ℕ, suc, _+_, _-_, _*_, _<_}
 use native.Mathlib.Omega.{arith}
 use mathlib.Core.Path.{_≡_, refl, sym, ap, _∙_}
 use mathlib.Core.Bool.{Bool, true, false, not, _&&_, cond}
@@ -12,6 +12,7 @@ use Rattle.meaning.specs.Grammar.{Grammar, Leaf, leafOf}
 use Rattle.meaning.specs.Machine.{Config, Lent, comes, moved, blocked, next, waits, isDone, Settled, stopped, failed, advanceFrom, feedAll, movesLimit, tokensLimit}
 use Rattle.theory_base.specs.Members.{apart}
 use Rattle.theory_base.specs.Steps.{advance-failed}
+use Rattle.theory_program.specs.Parts.{headOperation, headOperand}
 use Rattle.run_moves.specs.declared.Run.{Run}
 use Rattle.run_moves.specs.Held.{Held, bounds, hand-terminal, next-is}
 use Rattle.run_moves.specs.Moves.{after}
@@ -33,10 +34,10 @@ module _ {g : Grammar} {ws : List ℕ} {lent : Lent} {m : List ℤ} {ps : List �
   leaf = leafOf g (record { kind = u; value = v })
 
   abbrev number : ℕ
-  number = getD ws (run .at) 0 % 8
+  number = headOperation (getD ws (run .at) 0)
 
   abbrev operand : ℕ
-  operand = getD ws (run .at) 0 / 8
+  operand = headOperand (getD ws (run .at) 0)
 
   abbrev Refuses : Type 0
   Refuses = (k : ℕ) × (next g lent (comes leaf) c ≡ blocked k)

@@ -143,13 +143,13 @@ count-few d x rules k = elim rules as (λ y. itemCount y k x ≤ length d) [
 
 -- ---- a block
 
-abbrev pub headOf : Bool → ℕ
-headOf true = 1
-headOf false = 4
+abbrev pub operationOf : Bool → ℕ
+operationOf true = 1
+operationOf false = 4
 
 -- an evaluate or a test of n items; nothing where there are none
 unfoldable pub block : Bool → ℕ → List ℕ → List ℕ
-block rules n ws = chooseWords (eqb n 0) [] ((headOf rules + 8 * n) ∷ ws)
+block rules n ws = chooseWords (eqb n 0) [] ((operationOf rules + 8 * n) ∷ ws)
 
 abbrev pub blockWords : Bool → ℕ → List ℕ → ℕ → {d : List ℕ} → Listed d → List ℕ
 blockWords rules top below k x = block rules (itemCount rules k x) (itemWords rules top below k x)

@@ -6,7 +6,7 @@ ghost use lib.ListN.{length};
 ghost use Rattle.meaning.specs.Scheme.{synBetween};
 ghost use Rattle.program_block_words.specs.Patch.{Wrote};
 ghost use Rattle.program_body_words.specs.SchemeWords.{endWords};
-ghost use Rattle.program_body_words.specs.Given.{rightOf, Prepared, EndFits, BodyFits, BodyWrote};
+ghost use Rattle.program_body_words.specs.OfProduction.{rightOf, Prepared, EndFits, BodyFits, BodyWrote};
 use outline::count_of;
 use program_blocks::RULES;
 use program_blocks::write_block;
@@ -49,7 +49,7 @@ fn write_end(
     let sum = whole_sum(row, inherited, levels);
     let own = value::byte_at(inherited, outline::row_left(row) as usize);
     let remove = write_block(fields, marks, links, RULES, 0, sum, levels, area, address);
-    area[remove] = REMOVE + 8 * (own + sum);
+    area[remove] = program_parts::head(REMOVE, own + sum);
     remove + 1
 }
 

@@ -1,23 +1,14 @@
 // The levels of a production's positions, and what its places wait at.
-ghost use Prim.Native.Nat.{ℕ, _+_, _*_, _≤_, _<_};
+ghost use Prim.Native.Nat.{ℕ, _+_, _≤_, _<_};
 ghost use mathlib.Core.Path.{_≡_};
 ghost use mathlib.Core.List.{List};
 ghost use lib.ListN.{length};
-ghost use Rattle.program_body_words.specs.Given.{Given, Carried};
+ghost use Rattle.program_body_words.specs.OfProduction.{OfProduction, Carried};
 ghost use Rattle.program_body_words.specs.Waits.{LeveledAndWaiting};
 use outline::count_of;
 use outline::synthesized_of;
 use program_body_counts::clear;
 use token_set::TokenSet;
-
-// What one place waits at: the left side, the registers passed, those of the symbol that stand marked, those it inherits, its byte,
-// and a bit.
-fn wait_word(left: u32, passed: u32, marked: u32, own: u32, symbol: u32) -> u32
-    requires { ⌜ (left < 256) × (passed < 65536) × (marked < 256) × (own < 256) × (symbol < 256) ⌝ }
-    ensures { λ r. ⌜ r ≡ left + 64 * passed + 8192 * marked + 131072 * own + 2097152 * symbol + 536870912 ⌝ }
-{
-    left + 64 * passed + 8192 * marked + 131072 * own + 2097152 * symbol + 536870912
-}
 
 // The levels of the positions. On the way what the production's places wait at is written: a word for each symbol, then zeros.
 pub fn find_levels(
@@ -28,8 +19,8 @@ pub fn find_levels(
     area: &mut [u32],
     wait: usize,
 ) -> [u32; 13]
-    requires { ⌜ ((fs : List ℕ) × Given (now row) fs (now inherited) (now synthesized)) × (wait + 12 ≤ length (now area)) ⌝ }
-    ensures { λ r. ⌜ (length r ≡ 13) × ((fs : List ℕ) (x : Given (now (row .entry)) fs (now (inherited .entry)) (now (synthesized .entry))) → Carried (carrying .0) (x .grammar) → LeveledAndWaiting x r (now (area .entry)) (now (area .exit)) wait) ⌝ }
+    requires { ⌜ ((fs : List ℕ) × OfProduction (now row) fs (now inherited) (now synthesized)) × (wait + 12 ≤ length (now area)) ⌝ }
+    ensures { λ r. ⌜ (length r ≡ 13) × ((fs : List ℕ) (x : OfProduction (now (row .entry)) fs (now (inherited .entry)) (now (synthesized .entry))) → Carried (carrying .0) (x .grammar) → LeveledAndWaiting x r (now (area .entry)) (now (area .exit)) wait) ⌝ }
 {
     let mut levels = [0u32; 13];
     let left = outline::row_left(row);
@@ -40,7 +31,7 @@ pub fn find_levels(
         let symbol = outline::row_symbol(row, k);
         let marked = count_of(synthesized, symbol as usize) as u32;
         let own = count_of(inherited, symbol as usize) as u32;
-        area[wait + k] = wait_word(left, sum, marked, own, symbol);
+        area[wait + k] = program_parts::wait_word(left, sum, marked, own, symbol);
         sum = sum + synthesized_of(carrying, synthesized, symbol as usize) as u32;
         levels[k + 1] = sum + own;
         k += 1;

@@ -4,26 +4,28 @@ ghost use mathlib.Core.Path.{_≡_};
 ghost use lib.ListN.{length};
 ghost use Rattle.program_block_words.specs.Patch.{Wrote};
 ghost use Rattle.program_body_words.specs.SchemeWords.{addWords, addSize};
-ghost use Rattle.program_body_words.specs.Given.{headOf, SymbolFits, SymbolWrote, SymbolsFit, SymbolsWrote};
+ghost use Rattle.program_body_words.specs.OfProduction.{expectHead, SymbolFits, SymbolWrote, SymbolsFit, SymbolsWrote};
 use outline::count_of;
 use program_blocks::CONDITIONS;
 use program_blocks::RULES;
 use program_blocks::write_block;
 use program_body_counts::number_at;
 
+const ADD: u32 = operations::ADD as u32;
+
 const READ: u32 = operations::READ as u32;
 
 const PREDICT: u32 = operations::PREDICT as u32;
 
 // The expect of a symbol, by its byte.
-fn head_of(symbol: u32) -> u32
+fn expect_head(symbol: u32) -> u32
     requires { ⌜ symbol < 256 ⌝ }
-    ensures { λ r. ⌜ r ≡ headOf symbol ⌝ }
+    ensures { λ r. ⌜ r ≡ expectHead symbol ⌝ }
 {
     if symbol < 128 {
-        return READ + 8 * symbol;
+        return program_parts::head(READ, symbol);
     }
-    PREDICT + 8 * (symbol - 128)
+    program_parts::head(PREDICT, symbol - 128)
 }
 
 fn write_add(n: u32, area: &mut [u32], address: usize) -> usize
@@ -33,7 +35,7 @@ fn write_add(n: u32, area: &mut [u32], address: usize) -> usize
     if n == 0 {
         return address;
     }
-    area[address] = 8 * n;
+    area[address] = program_parts::head(ADD, n);
     address + 1
 }
 
@@ -62,7 +64,7 @@ fn write_symbol(
     let from = write_add(all, area, address);
     let expect = write_block(fields, marks, links, RULES, k + 1, top, levels, area, from);
     area[expects + k] = expect as u32;
-    area[expect] = head_of(symbol);
+    area[expect] = expect_head(symbol);
     let rest = top - own;
     let test = expect + 1;
     write_block(

@@ -17,7 +17,7 @@ use Rattle.program_block_words.specs.Walk.{itemCount, itemWords, wordsOf, count
 use Rattle.program_block_words.specs.Chains.{chainWords, ItemsFit}
 use Rattle.program_body_words.specs.Levels.{Leveled, tests-words}
 use Rattle.program_body_words.specs.SchemeWords.{endWords}
-use Rattle.program_body_words.specs.Given.{Given, listedOf, Carried, Prepared, SymbolsFit, SymbolsWrote, restWords, EndFits, restExpects, body-words, body-size, BodyFits}
+use Rattle.program_body_words.specs.OfProduction.{OfProduction, listedOf, Carried, Prepared, SymbolsFit, SymbolsWrote, restWords, EndFits, restExpects, body-words, body-size, BodyFits}
 use Rattle.program_body_words.specs.Waits.{LeveledAndWaiting}
 use Rattle.program_body_words.specs.Symbols.{tests-count}
 
@@ -39,7 +39,7 @@ module _ {row fields inherited synthesized marks links area : List ℕ} {carryin
   lastTest = getD marks 33 0
 
   module _ (levels : List ℕ) {m0 : List ℕ} {n : ℕ}
-      (ew : (y : Given row fields inherited synthesized) → Carried carrying (y .grammar) → LeveledAndWaiting y levels area m0 wait)
+      (ew : (y : OfProduction row fields inherited synthesized) → Carried carrying (y .grammar) → LeveledAndWaiting y levels area m0 wait)
       (en : n ≡ byte row 1) where
     el : Leveled g p levels
     el = ew (x .given) (x .carried) .leveled
@@ -62,9 +62,6 @@ module _ {row fields inherited synthesized marks links area : List ℕ} {carryin
     expects-count : (b : ℕ) → length (restExpects g p 0 b) ≡ length (p .right)
     unfolding restExpects
     expects-count b = expects-length b (scheme g p) ∙ expects-scheme g p
-
-    pub entry-small : a + n ≤ 16384
-    entry-small = omega (arith, x .room, body-size g p, en, x .given .size)
 
     pub items-fit : ItemsFit fields links false tests lastTest m0 (a + n)
     items-fit = record {

@@ -12,9 +12,9 @@ use Rattle.meaning.specs.Table.{byte}
 use Rattle.theory_base.specs.Selectors.{syn-none, syn-more}
 use Rattle.program_body_words.specs.Levels.{level, Leveled}
 use Rattle.outline.specs.Counts.{countAt, synthesizedAt}
-use Rattle.program_body_words.specs.Given.{Given, rightOf, Carried, inherited-at, synthesized-at}
+use Rattle.program_body_words.specs.OfProduction.{OfProduction, rightOf, Carried, inherited-at, synthesized-at}
 
-module _ {row fields inherited synthesized : List ℕ} (x : Given row fields inherited synthesized) (carrying : ℕ) (carried : Carried carrying (x .grammar)) where
+module _ {row fields inherited synthesized : List ℕ} (x : OfProduction row fields inherited synthesized) (carrying : ℕ) (carried : Carried carrying (x .grammar)) where
   -- the levels of the first k positions are found
   pub record LevelsGo (k sum : ℕ) (levels : List ℕ) : Type 0 where
     pub summed : sum ≡ synBetween (x .grammar) (x .production) 0 k
@@ -51,5 +51,5 @@ module _ {row fields inherited synthesized : List ℕ} (x : Given row fields inh
   pub levels-end : {k sum : ℕ} {levels : List ℕ} → LevelsGo k sum levels → length (rightOf x) ≤ k → Leveled (x .grammar) (x .production) levels
   levels-end d l i h = d .each i (omega arith)
 
-pub row-short : {row fields inherited synthesized : List ℕ} (x : Given row fields inherited synthesized) (n : ℕ) → n ≡ byte row 1 → n ≤ 12
+pub row-short : {row fields inherited synthesized : List ℕ} (x : OfProduction row fields inherited synthesized) (n : ℕ) → n ≡ byte row 1 → n ≤ 12
 row-short x n e = omega (arith, e, x .size, x .ofGrammar .short)

@@ -2,8 +2,8 @@
 pub mod Levels
 -- The words of a scheme, symbol by symbol: an add, an evaluate, an expect, a test
 pub mod SchemeWords
--- What is brought of one production: its row (left side, length, symbols as the table has them), the bytes of its rules and conditions, and the attribute counts of all nonterminals
-pub mod Given
+-- What the builder has of one production: its row (left side, length, symbols as the table has them), the bytes of its rules and conditions, and the attribute counts of all nonterminals
+pub mod OfProduction
 -- What the places of a production wait at: a word for each symbol, then zeros
 pub mod Waits
 -- The definitions of specs/ by the tests that the code makes

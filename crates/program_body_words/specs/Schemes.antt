@@ -16,7 +16,7 @@ use Rattle.program_block_words.specs.Walk.{itemCount, wordsOf, blockWords, bloc
 use Rattle.program_body_words.specs.Levels.{synthesized-words}
 use Rattle.program_body_words.specs.SchemeWords.{blockSize, evaluateWords, evaluate-length, endWords}
 use Rattle.outline.specs.Counts.{countAt}
-use Rattle.program_body_words.specs.Given.{Given, rightOf, listedOf, inherited-at, left-inherited, Prepared, wordsAt, aheadAt, SymbolFits, SymbolWrote, SymbolsFit, SymbolsWrote, restWords, words-turn, words-end, EndFits, restExpects, expects-turn, expects-over}
+use Rattle.program_body_words.specs.OfProduction.{OfProduction, rightOf, listedOf, inherited-at, left-inherited, Prepared, wordsAt, aheadAt, SymbolFits, SymbolWrote, SymbolsFit, SymbolsWrote, restWords, words-turn, words-end, EndFits, restExpects, expects-turn, expects-over}
 use Rattle.program_body_words.specs.Laws.{patch-beside}
 use Rattle.program_body_words.specs.Symbols.{synthesized-count, block-fits}
 
@@ -136,7 +136,7 @@ module _ {row fields inherited synthesized marks links levels : List ℕ} (x : P
     sum-some = let e : top - own ≡ synBetween g p 0 (suc (n - 1)) = omega (arith, own-is, top-is) in e ∙ ap (synBetween g p 0) (last ∙ size-is)
 
 module _ {row fields inherited marks links levels area : List ℕ} {a : ℕ} (x : EndFits row fields inherited marks links levels area a) where
-  abbrev given : Given row fields inherited (x .synthesized)
+  abbrev given : OfProduction row fields inherited (x .synthesized)
   given = x .prepared .given
 
   abbrev gr : Grammar
@@ -173,8 +173,8 @@ module _ {row fields inherited marks links levels area : List ℕ} {a : ℕ} (x 
       pub next-inside : next < length mid
       next-inside = omega (arith, next-small, wrote-length so-far, x .long)
 
-      pub end-written : Wrote area (set mid next (5 + 8 * (own + sum))) a (next + 1) (endWords gr pr)
+      pub end-written : {w : ℕ} → w ≡ 5 + 8 * (own + sum) → Wrote area (set mid next w) a (next + 1) (endWords gr pr)
       unfolding endWords
-      end-written =
+      end-written {w} ew =
           let e : own + sum ≡ removed gr pr = ap₂ (λ y z. y + z) left-is (f (x .prepared)) in
-          wrote-then so-far (wrote-as (ap (λ z. (5 + 8 * z) ∷ []) e) (wrote-one mid next (5 + 8 * (own + sum))))
+          wrote-then so-far (wrote-as (ap (λ z. z ∷ []) ew ∙ ap (λ z. (5 + 8 * z) ∷ []) e) (wrote-one mid next w))

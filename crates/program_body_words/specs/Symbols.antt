@@ -17,7 +17,7 @@ use Rattle.program_block_words.specs.Walk.{itemsAt, wordsOf, itemCount, blockWo
 use Rattle.program_body_words.specs.Levels.{level, inherited-words, tests-words}
 use Rattle.program_body_words.specs.SchemeWords.{addWords, addSize, blockSize, add-length, aheadSize, symbolWords, symbol-length, evaluateWords, evaluate-length, testWords}
 use Rattle.outline.specs.Counts.{countAt}
-use Rattle.program_body_words.specs.Given.{Given, listedOf, headOf, inherited-at, marked-at, head-at, SymbolFits, wordsAt, aheadAt}
+use Rattle.program_body_words.specs.OfProduction.{OfProduction, listedOf, expectHead, inherited-at, marked-at, head-at, SymbolFits, wordsAt, aheadAt}
 use Rattle.program_body_words.specs.Laws.{size-some, set-beside}
 
 -- ---- how many
@@ -42,7 +42,7 @@ abbrev pub block-fits : {fields links marks : List ℕ} (x : Listed fields) (fou
 block-fits {fields} x found short rules k h l = record { listed = x; found = found; here = h; few = omega (arith, count-few fields x rules k); room = λ some. omega (arith, size-some rules (itemCount rules k x) (omega arith)) }
 
 module _ {row fields inherited synthesized marks links levels : List ℕ} {k : ℕ} {area : List ℕ} {a e : ℕ} (x : SymbolFits row fields inherited synthesized marks links levels k area a e) where
-  abbrev given : Given row fields inherited synthesized
+  abbrev given : OfProduction row fields inherited synthesized
   given = x .prepared .given
 
   abbrev g : Grammar
@@ -116,7 +116,7 @@ module _ {row fields inherited synthesized marks links levels : List ℕ} {k : �
           pub next-inside : next < length (set then (e + k) next)
           next-inside = omega (arith, next-is, length-set then (e + k) next, wrote-length so-far, words-size, x .room, x .long)
 
-          module _ {h : ℕ} (eh : h ≡ headOf b) where
+          module _ {h : ℕ} (eh : h ≡ expectHead b) where
             tests-length : length (testsAfter g p (suc k)) ≡ itemCount false (k + 1) (listedOf given)
             tests-length = let e : k + 1 ≡ suc k = omega arith in tests-count g p (suc k) ∙ sym (ap (λ z. itemCount false z (listedOf given)) e)
 
@@ -137,7 +137,7 @@ module _ {row fields inherited synthesized marks links levels : List ℕ} {k : �
             pub symbol-written : {new : List ℕ} {end : ℕ} → ((y : BlockFits fields links marks false (k + 1) headed (next + 1)) → Wrote headed new (next + 1) end (blockWords false (top - own) levels (k + 1) (y .listed))) → Wrote (set area (e + k) (a + aheadAt given k)) new a end (wordsAt given k)
             unfolding symbolWords test-fits aheadSize
             symbol-written {new} {end} q =
-                let here : h ≡ symbolHead (symbolAt p (suc k)) = eh ∙ (ap headOf eb ∙ head-at given k (x .here)) in
+                let here : h ≡ symbolHead (symbolAt p (suc k)) = eh ∙ (ap expectHead eb ∙ head-at given k (x .here)) in
                 let last = wrote-then (wrote-one (set then (e + k) next) next h) (wrote-as test-words (q test-fits)) in
                 let beside = set-beside (e + k) next (x .apart) so-far in
                 let tests = testWords (testsAfter g p (suc k)) in

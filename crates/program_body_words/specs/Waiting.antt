@@ -10,7 +10,7 @@ use Rattle.meaning.specs.Program.{waitWord, waitRow}
 use Rattle.meaning.specs.Table.{byte}
 use Rattle.program_block_words.specs.Patch.{patch, Wrote, wrote-one, wrote-then, Onward, onward-start, onward-as, onward-then, onward-end}
 use Rattle.outline.specs.Counts.{countAt, synthesizedAt}
-use Rattle.program_body_words.specs.Given.{Given, rightOf, Carried, inherited-at, marked-at, synthesized-at}
+use Rattle.program_body_words.specs.OfProduction.{OfProduction, rightOf, Carried, inherited-at, marked-at, synthesized-at}
 use Rattle.program_body_words.specs.Waits.{waitsLeft, waits-turn, waits-end, byte-is}
 
 -- ---- a range of zeros
@@ -33,7 +33,7 @@ module _ (row fields inherited synthesized : List ℕ) (carrying : ℕ) (old : L
   -- k words are written, and the symbols passed have n registers
   pub record RowGo (k n : ℕ) (area : List ℕ) : Type 0 where
     pub size : length area ≡ length old
-    pub go : (x : Given row fields inherited synthesized) → Carried carrying (x .grammar) → Onward old at (waitsLeft x 0 0) area (at + k) (waitsLeft x k n)
+    pub go : (x : OfProduction row fields inherited synthesized) → Carried carrying (x .grammar) → Onward old at (waitsLeft x 0 0) area (at + k) (waitsLeft x k n)
 
 pub row-start : {row fields inherited synthesized : List ℕ} {carrying : ℕ} {old : List ℕ} {at : ℕ} → RowGo row fields inherited synthesized carrying old at 0 0 old
 row-start {old = old} {at = at} = record {
@@ -47,7 +47,7 @@ module _ {row fields inherited synthesized : List ℕ} {carrying : ℕ} {old : L
       → RowGo row fields inherited synthesized carrying old at (k + 1) (n + out) (set area (at + k) word)
   row-turn {left} {b} {marked} {own} {out} {word} l el eb em eo ep ew = record { size = length-set area (at + k) word ∙ s .size; go = turn }
     where
-      turn : (x : Given row fields inherited synthesized) → Carried carrying (x .grammar) → Onward old at (waitsLeft x 0 0) (set area (at + k) word) (at + (k + 1)) (waitsLeft x (k + 1) (n + out))
+      turn : (x : OfProduction row fields inherited synthesized) → Carried carrying (x .grammar) → Onward old at (waitsLeft x 0 0) (set area (at + k) word) (at + (k + 1)) (waitsLeft x (k + 1) (n + out))
       turn x c =
           let g = x .grammar in
           let pr = x .production in
@@ -65,7 +65,7 @@ module _ {row fields inherited synthesized : List ℕ} {carrying : ℕ} {old : L
           (subst (λ z. Onward old at (waitsLeft x 0 0) (set area (at + k) z) (at + (k + 1)) (waitsLeft x (k + 1) (n + syn g y))) (sym isWord)
           (subst (λ z. Onward old at (waitsLeft x 0 0) (set area (at + k) (waitWord g (pr .left) n y)) z (waitsLeft x (k + 1) (n + syn g y))) place o))
 
-  pub row-written : {new : List ℕ} → k ≡ size → new ≡ patch area (at + size) (replicate (at + 12 - (at + size)) 0) → (x : Given row fields inherited synthesized) → Carried carrying (x .grammar) → Wrote old new at (at + 12) (waitRow (x .grammar) (x .production))
+  pub row-written : {new : List ℕ} → k ≡ size → new ≡ patch area (at + size) (replicate (at + 12 - (at + size)) 0) → (x : OfProduction row fields inherited synthesized) → Carried carrying (x .grammar) → Wrote old new at (at + 12) (waitRow (x .grammar) (x .production))
   row-written {new} e h x c =
       let m : length (rightOf x) ≤ k = omega (arith, es, x .size) in
       let short = x .ofGrammar .short in

@@ -12,9 +12,9 @@ use Rattle.meaning.specs.Table.{byte}
 use Rattle.theory_table.specs.Numbers.{byte-back}
 use Rattle.program_block_words.specs.Patch.{Wrote}
 use Rattle.program_body_words.specs.Levels.{Leveled}
-use Rattle.program_body_words.specs.Given.{Given, rightOf}
+use Rattle.program_body_words.specs.OfProduction.{OfProduction, rightOf}
 
-module _ {row fields inherited synthesized : List ℕ} (x : Given row fields inherited synthesized) where
+module _ {row fields inherited synthesized : List ℕ} (x : OfProduction row fields inherited synthesized) where
   -- the words behind the first k, where the symbols passed have n registers
   abbrev pub waitsLeft : ℕ → ℕ → List ℕ
   waitsLeft k n = waitsFrom (x .grammar) (x .production .left) n (drop k (rightOf x))

@@ -15,7 +15,7 @@ fn write_rule(field: &[u8], top: u32, below: &[u32], area: &mut [u32], at: usize
     let a = program_operands::first_operand(field, function, top, below);
     let b = program_operands::second_operand(field, function, top, below);
     let c = program_operands::rule_constant(field, function);
-    area[at] = target + 128 * function + 2048 * a + 262144 * b;
+    area[at] = program_parts::rule_word(target, function, a, b);
     area[at + 1] = c;
     at + 2
 }
@@ -38,14 +38,14 @@ fn write_condition(field: &[u8], top: u32, below: &[u32], area: &mut [u32], at: 
 {
     let a = program_operands::select_at(field, 4, top, below);
     if program_operands::byte_in(field, 3) == 0 {
-        area[at] = a;
+        area[at] = program_parts::condition_word(a, 0, 0);
         area[at + 1] = value::whole_word(field, 6);
         area[at + 2] = value::whole_word(field, 10);
         return at + 3;
     }
     let b = program_operands::select_at(field, 6, top, below);
     let kind = program_operands::byte_in(field, 3);
-    area[at] = a + 128 * kind + 2048 * b;
+    area[at] = program_parts::condition_word(a, kind, b);
     area[at + 1] = offset(field);
     area[at + 2] = 0;
     at + 3

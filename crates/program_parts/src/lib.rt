@@ -1,8 +1,9 @@
-// The layout of the program (docs/PROGRAM.md) in code: how many words each thing has, which word of it is which, and the parts of a word. Every crate that reads a program or a place takes it apart here.
-ghost use Prim.Native.Nat.{_+_, _≤_, _<_};
+// The layout of the program (docs/PROGRAM.md) in code: how many words each thing has, which word of it is which, and the parts of a word. Every crate that reads a program or a place takes it apart here, and every crate that writes one puts its words together here.
+ghost use Prim.Native.Nat.{_+_, _*_, _≤_, _<_};
 ghost use mathlib.Core.Path.{_≡_};
 ghost use lib.ListN.{length};
 ghost use Rattle.meaning.specs.Grammar.{placeProduction, placePassed};
+ghost use Rattle.meaning.specs.Program.{packed};
 ghost use Rattle.theory_program.specs.Parts.{headOperation, headOperand, ruleTarget, ruleFunction, ruleFirst, ruleSecond, conditionKind, conditionFirst, conditionSecond, waitLeft, waitPassed, waitMarked, waitInherited, waitSymbol, inSet};
 
 // ---- the words on the whole segment
@@ -79,7 +80,23 @@ pub fn operand(head: usize) -> usize
     head / 8
 }
 
+// The head word of an operation with its operand.
+pub fn head(operation: u32, operand: u32) -> u32
+    requires { ⌜ (operation < 8) × (operand < 65536) ⌝ }
+    ensures { λ r. ⌜ r ≡ operation + 8 * operand ⌝ }
+{
+    operation + 8 * operand
+}
+
 // ---- a rule's first word
+
+// Its target, its function, and the selectors of its operands, 0 where it has none.
+pub fn rule_word(target: u32, function: u32, first: u32, second: u32) -> u32
+    requires { ⌜ (target < 4096) × (function < 256) × (first < 4096) × (second < 4096) ⌝ }
+    ensures { λ r. ⌜ r ≡ packed target function first second ⌝ }
+{
+    target + 128 * function + 2048 * first + 262144 * second
+}
 
 pub fn rule_target(word: u32) -> u32
     ensures { λ r. ⌜ r ≡ ruleTarget word ⌝ }
@@ -108,6 +125,14 @@ pub fn rule_second(word: u32) -> u32
 }
 
 // ---- a condition's first word
+
+// Its kind and its selectors; a range has one.
+pub fn condition_word(first: u32, kind: u32, second: u32) -> u32
+    requires { ⌜ (first < 4096) × (kind < 256) × (second < 4096) ⌝ }
+    ensures { λ r. ⌜ r ≡ packed first kind second 0 ⌝ }
+{
+    first + 128 * kind + 2048 * second
+}
 
 // 0 for a range, 1 for "a at most b", 2 for "a at most b plus a constant".
 pub fn condition_kind(word: u32) -> u32
@@ -144,6 +169,14 @@ pub fn passed(place: usize) -> usize
 }
 
 // ---- the word that says what a place waits at
+
+// The left side, the registers passed, those of the symbol that stand marked, those it inherits, its byte, and a bit.
+pub fn wait_word(left: u32, passed: u32, marked: u32, own: u32, symbol: u32) -> u32
+    requires { ⌜ (left < 256) × (passed < 65536) × (marked < 256) × (own < 256) × (symbol < 256) ⌝ }
+    ensures { λ r. ⌜ r ≡ left + 64 * passed + 8192 * marked + 131072 * own + 2097152 * symbol + 536870912 ⌝ }
+{
+    left + 64 * passed + 8192 * marked + 131072 * own + 2097152 * symbol + 536870912
+}
 
 // The production's left nonterminal.
 pub fn wait_left(word: usize) -> usize

@@ -37,7 +37,8 @@ pub fn write_segment(synthesized: &[u8], sizes: Sizes, area: &mut [u32]) -> usiz
     let productions = sizes.productions as u32;
     let low = (sizes.carrying.0 % 4294967296) as u32;
     let high = (sizes.carrying.0 / 4294967296) as u32;
-    let next = put_four(area, 0, PREDICT + 8 * start, NOTHING, records, terminals);
+    let head = program_parts::head(PREDICT, start);
+    let next = put_four(area, 0, head, NOTHING, records, terminals);
     let last = put_four(area, next, registers, result, productions, low);
     area[last] = high;
     last + 1

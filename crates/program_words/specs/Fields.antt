@@ -21,7 +21,7 @@ use Rattle.theory_table.specs.Reading.{table-reads}
 use Rattle.theory_table.specs.Stretches.{StretchAt}
 use Rattle.outline.specs.Rows.{rowStart, rowAt, sizeAt, size-is, symbol-is}
 use Rattle.outline.specs.Outline.{stateIn, grammarIn, CountsOf, Productions, entries-are}
-use Rattle.program_body_words.specs.Given.{Given}
+use Rattle.program_body_words.specs.OfProduction.{OfProduction}
 
 -- where its stretch of the table ends
 unfoldable pub stretchEnd : List ℕ → List ℕ → ℕ → ℕ → ℕ
@@ -96,7 +96,7 @@ module _ {table rows offsets : List ℕ} {count : ℕ} (x : Productions table ro
     pub row-byte : (i j : ℕ) → j ≡ rowStart p + i → i < 16 → byte (rowAt rows p) i ≡ getD rows j 0
     row-byte i j q m = getD-take 16 (drop (rowStart p) rows) i 0 m ∙ (getD-drop (rowStart p) rows i 0 ∙ ap (λ k. getD rows k 0) (sym q))
 
-    unfoldable pub given-at : {inherited synthesized : List ℕ} → CountsOf inherited synthesized (grammarIn table) → Given (rowAt rows p) (fieldsAt table from to) inherited synthesized
+    unfoldable pub given-at : {inherited synthesized : List ℕ} → CountsOf inherited synthesized (grammarIn table) → OfProduction (rowAt rows p) (fieldsAt table from to) inherited synthesized
     given-at counts = record {
       grammar = grammarIn table;
       production = pr;

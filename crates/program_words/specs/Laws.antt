@@ -114,11 +114,14 @@ module _ {table : List ℕ} {sizes : Sizes} {inherited synthesized rows offsets 
   unfolding bit
   carried-words small = two-words (carriers g) (sizes .carrying .0) small (λ u l. sym (has-bit (sizes .carrying .0) u l) ∙ ap (λ z. has z u) (carried-set (sizes .carrying .0) g (numbers .carrying)))
 
-  pub segment-written : {old one two : List ℕ} {next last registers : ℕ} → registers ≡ byte synthesized (sizes .start) → sizes .carrying .0 < 18446744073709551616
-      → Wrote old one 0 next ((3 + 8 * sizes .start) ∷ 6 ∷ (9 + 64 * sizes .nonterminals) ∷ sizes .terminals ∷ []) → Wrote one two next last (registers ∷ sizes .result ∷ sizes .productions ∷ sizes .carrying .0 % 4294967296 ∷ [])
+  pub segment-written : {old one two : List ℕ} {next last registers head : ℕ} → head ≡ 3 + 8 * sizes .start → registers ≡ byte synthesized (sizes .start) → sizes .carrying .0 < 18446744073709551616
+      → Wrote old one 0 next (head ∷ 6 ∷ (9 + 64 * sizes .nonterminals) ∷ sizes .terminals ∷ []) → Wrote one two next last (registers ∷ sizes .result ∷ sizes .productions ∷ sizes .carrying .0 % 4294967296 ∷ [])
       → Wrote old (set two last (sizes .carrying .0 / 4294967296)) 0 (last + 1) (segmentWords g)
-  segment-written {two = two} {last = last} {registers = registers} e small v w = wrote-as same (wrote-then (wrote-then v w) (wrote-one two last (sizes .carrying .0 / 4294967296)))
+  segment-written {two = two} {last = last} {registers = registers} {head = head} h e small v w = wrote-as same (wrote-then (wrote-then (wrote-as first v) w) (wrote-one two last (sizes .carrying .0 / 4294967296)))
     where
+      first : head ∷ 6 ∷ (9 + 64 * sizes .nonterminals) ∷ sizes .terminals ∷ [] ≡ (3 + 8 * sizes .start) ∷ 6 ∷ (9 + 64 * sizes .nonterminals) ∷ sizes .terminals ∷ []
+      first = ap (λ z. z ∷ 6 ∷ (9 + 64 * sizes .nonterminals) ∷ sizes .terminals ∷ []) h
+
       low : ℕ
       low = sizes .carrying .0 % 4294967296
 

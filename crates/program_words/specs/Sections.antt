@@ -20,7 +20,7 @@ use Rattle.theory_program.specs.Proper.{production-in}
 use Rattle.theory_program.specs.Sizes.{program-length, program-fits}
 use Rattle.program_block_words.specs.Patch.{patch, patch-none, patch-length, patch-append, patch-swap, Wrote, wrote-as, wrote-then, wrote-ahead, wrote-length, patch-written}
 use Rattle.program_block_words.specs.Chains.{Listing, Found}
-use Rattle.program_body_words.specs.Given.{Given, listedOf, BodyFits, BodyWrote}
+use Rattle.program_body_words.specs.OfProduction.{OfProduction, listedOf, BodyFits, BodyWrote}
 use Rattle.program_body_words.specs.Laws.{patch-beside}
 use Rattle.program_body_words.specs.Symbols.{tests-count}
 use Rattle.table.specs.CarriedSet.{carried-count}
@@ -157,7 +157,7 @@ module _ {table : List ℕ} {sizes : Sizes} {inherited synthesized rows offsets 
   pub place : (from ≤ to) × (to ≤ length table)
   place = fields-place listed bytes p (x .here) from to refl refl
 
-  abbrev here : Given (rowAt rows p) own inherited synthesized
+  abbrev here : OfProduction (rowAt rows p) own inherited synthesized
   here = given-at listed bytes p (x .here) from to refl refl (x .outlined .outline .counts)
 
   own-listing : {nodes : ℕ} → LinksFit (length table) nodes → Listing own nodes

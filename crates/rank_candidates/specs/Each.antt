@@ -85,9 +85,6 @@ module _ (ws lengths ks : List ℕ) (us l₀ vs₀ : List ℤ) (ps₀ : List ℕ
       pub next-inside : at + getD lengths i 0 ≤ length ks
       next-inside = omega (arith, next-left)
 
-      length-list : length l ≡ 3 * i + length (drop (3 * i) l₀)
-      length-list = ap length (k .isList) ∙ (length-append (cellsOf (k .entries)) (drop (3 * i) l₀) ∙ ap (λ n. n + length (drop (3 * i) l₀)) (length-cells (k .entries) ∙ ap (λ n. 3 * n) (k .size)))
-
       cells-size : length (cellsOf (k .entries)) ≡ 3 * i
       cells-size = length-cells (k .entries) ∙ ap (λ n. 3 * n) (k .size)
 

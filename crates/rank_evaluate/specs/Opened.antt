@@ -14,7 +14,7 @@ use Rattle.meaning.specs.Fit.{Fit}
 use Rattle.meaning.specs.PublicCalls.{stacksOf}
 use Rattle.theory_answers.specs.Memory.{Within, read-back, laid-fits}
 use Rattle.theory_answers.specs.ShapeMemory.{at-stop}
-use Rattle.theory_sound.specs.CallSound.{opening-held}
+use Rattle.theory_sound.specs.CallSound.{opening-sound}
 use Rattle.theory_program.specs.Records.{segment-words}
 use Rattle.theory_program.specs.Resuming.{placeAddress}
 use Rattle.theory_evaluating.specs.Whole.{is-open}
@@ -55,7 +55,7 @@ module _ (g : Grammar) (ws : List ℕ) (s : HasProgram g ws) where
         ∙ ap (λ k. k .stacks) (is-open g (stacksOf vs ps) (s .formed) roomy placed))
 
     pub opening-within : Within (lentOf (stacksOf vs ps)) (opening g)
-    opening-within = opening-held g (s .formed) (stacksOf vs ps) roomy placed .0 .within
+    opening-within = opening-sound g (s .formed) (stacksOf vs ps) roomy placed .0 .within
 
   module _ (vs : List ℤ) (ps : List ℕ) (o : Opened ws vs ps) where
     enough : length (opening g .registers) ≤ lentOf (stacksOf vs ps) .maxRegisters
@@ -69,16 +69,16 @@ module _ (g : Grammar) (ws : List ℕ) (s : HasProgram g ws) where
     opened-same = opened-lays vs ps (o .few) (o .little) (o .room) (o .some) vs ps (o .registers) (o .places)
 
     within : Within (lentOf (stacksOf vs ps)) (opening g)
-    within = opening-held g (s .formed) (stacksOf vs ps) enough one .0 .within
+    within = opening-sound g (s .formed) (stacksOf vs ps) enough one .0 .within
 
     fits : Fit g (recordOf true (opening g)) (stacksOf vs ps)
     fits =
-        let h = opening-held g (s .formed) (stacksOf vs ps) enough one in
+        let h = opening-sound g (s .formed) (stacksOf vs ps) enough one in
         subst (Fit g (recordOf true (opening g))) (sym opened-same) (laid-fits g true (opening g) (stacksOf vs ps) (at-stop g (s .formed) (opening g .frames) (opening g .registers) (h .0 .shaped) (h .1)) within (omega arith))
 
     config-is : configOf g (recordOf true (opening g)) (stacksOf vs ps) ≡ opening g
     config-is =
-        let h = opening-held g (s .formed) (stacksOf vs ps) enough one in
+        let h = opening-sound g (s .formed) (stacksOf vs ps) enough one in
         ap (configOf g (recordOf true (opening g))) opened-same ∙ read-back g true (opening g) (stacksOf vs ps) (at-stop g (s .formed) (opening g .frames) (opening g .registers) (h .0 .shaped) (h .1)) within
 
     first-place : getD ps 0 0 ≡ 32768

@@ -1,5 +1,5 @@
 -- The loop over the places, a turn at a time.
-use Prim.Native.Nat.{ℕ, zero, suc, _+_, _-_, _*_, _/_, _%_, _<_, _≤_}
+use Prim.Native.Nat.{ℕ, zero, suc, _+_, _-_, _*_, _<_, _≤_}
 use native.Mathlib.Numerals.{add-one}
 use native.Mathlib.Omega.{arith}
 use mathlib.Core.Path.{_≡_, refl, sym, ap, ap₂, _∙_}
@@ -13,6 +13,7 @@ use lib.Seq.{drop-cons}
 use Rattle.meaning.specs.Grammar.{Symbol, nonterminal, Grammar, syn}
 use Rattle.meaning.specs.Table.{symbolOf}
 use Rattle.meaning.specs.Calls.{Cell, valued, marked, cellsFit, awaited}
+use Rattle.theory_program.specs.Parts.{headOperand, waitLeft, waitPassed, waitMarked, waitInherited, waitSymbol}
 use Rattle.run_fit_past.specs.Passing.{Passes, repeated, repeated-front, fitsFrom, past-end, from-start, from-end, cellsBetween}
 use Rattle.run_fit.specs.Upward.{regrouped, standsFit, placesAbove, cellsOf, cellsAbove}
 use Rattle.run_fit.specs.HasProgram.{HasProgram, waitAt, wordOn, cellsIn, on-word, start-count, start-symbol, symbol-awaited, cells-of}
@@ -23,13 +24,13 @@ stands g x ps vs at = placesAbove g x ps && fitsFrom vs at (cellsAbove g ps)
 
 -- the places above one with word v stand, and the registers from `at` up are theirs, behind the last ones of that with word v
 abbrev pub follow : Grammar → ℕ → List ℕ → List ℤ → ℕ → Bool
-follow g v ps vs at = not (eqb v 0) && (placesAbove g (symbolOf (v / 2097152 % 256)) ps && fitsFrom vs at (replicate (v / 131072 % 16) valued ++ cellsAbove g ps))
+follow g v ps vs at = not (eqb v 0) && (placesAbove g (symbolOf (waitSymbol v)) ps && fitsFrom vs at (replicate (waitInherited v) valued ++ cellsAbove g ps))
 
 -- above the bottom place, whose word has the start symbol alone
-pub follow-start : {g : Grammar} {ws : List ℕ} → HasProgram g ws → (ps : List ℕ) (vs : List ℤ) (at : ℕ) → stands g (nonterminal (g .start)) ps vs at ≡ follow g ((128 + getD ws 0 0 / 8) * 2097152) ps vs at
+pub follow-start : {g : Grammar} {ws : List ℕ} → HasProgram g ws → (ps : List ℕ) (vs : List ℤ) (at : ℕ) → stands g (nonterminal (g .start)) ps vs at ≡ follow g ((128 + headOperand (getD ws 0 0)) * 2097152) ps vs at
 follow-start {g} {ws} s ps vs at =
-    let v : ℕ = (128 + getD ws 0 0 / 8) * 2097152 in
-    let none : v / 131072 % 16 ≡ 0 = omega arith in
+    let v : ℕ = (128 + headOperand (getD ws 0 0)) * 2097152 in
+    let none : waitInherited v ≡ 0 = omega arith in
     sym (rw (ne-eqb v 0 (λ e. omega arith), start-symbol s, none) refl)
 
 module _ {g : Grammar} {ws : List ℕ} (s : HasProgram g ws) (vs : List ℤ) (places : List ℕ) (i at v : ℕ) (l : i < length places) where
@@ -40,64 +41,64 @@ module _ {g : Grammar} {ws : List ℕ} (s : HasProgram g ws) (vs : List ℤ) (pl
   next = waitAt ws here
 
   abbrev awaitedByte : ℕ
-  awaitedByte = v / 2097152 % 256
+  awaitedByte = waitSymbol v
 
   abbrev pending : List Cell
-  pending = replicate (v / 131072 % 16) valued
+  pending = replicate (waitInherited v) valued
 
   follow-here : follow g v (drop i places) vs at ≡ not (eqb v 0) && ((wordOn next awaitedByte && placesAbove g (awaited g here) (drop (i + 1) places)) && fitsFrom vs at (pending ++ (cellsOf g here ++ cellsAbove g (drop (i + 1) places))))
   unfolding placesAbove cellsAbove
   follow-here = rw (add-one i, drop-cons places i 0 l, ← on-word s here awaitedByte) refl
 
-  pub follow-not : eqb (128 + next % 64) awaitedByte ≡ false → follow g v (drop i places) vs at ≡ false
+  pub follow-not : eqb (128 + waitLeft next) awaitedByte ≡ false → follow g v (drop i places) vs at ≡ false
   follow-not e = follow-here ∙ rw (e, and-false (not (eqb next 0))) (and-false (not (eqb v 0)))
 
-  pub follow-turn : {r : ℕ} → eqb (128 + next % 64) awaitedByte ≡ true → Passes vs (cellsBetween v next) at r → follow g v (drop i places) vs at ≡ follow g next (drop (i + 1) places) vs r
+  pub follow-turn : {r : ℕ} → eqb (128 + waitLeft next) awaitedByte ≡ true → Passes vs (cellsBetween v next) at r → follow g v (drop i places) vs at ≡ follow g next (drop (i + 1) places) vs r
   follow-turn {r} e p = by (eqb next 0) refl
     where
       some : eqb v 0 ≡ false
-      some = ne-eqb v 0 (λ z. omega (arith, eqb-true (128 + next % 64) awaitedByte e))
+      some = ne-eqb v 0 (λ z. omega (arith, eqb-true (128 + waitLeft next) awaitedByte e))
 
-      by : (b : Bool) → eqb next 0 ≡ b → follow g v (drop i places) vs at ≡ not b && (placesAbove g (symbolOf (next / 2097152 % 256)) (drop (i + 1) places) && fitsFrom vs r (replicate (next / 131072 % 16) valued ++ cellsAbove g (drop (i + 1) places)))
+      by : (b : Bool) → eqb next 0 ≡ b → follow g v (drop i places) vs at ≡ not b && (placesAbove g (symbolOf (waitSymbol next)) (drop (i + 1) places) && fitsFrom vs r (replicate (waitInherited next) valued ++ cellsAbove g (drop (i + 1) places)))
       by true d = follow-here ∙ rw d (and-false (not (eqb v 0)))
       by false d =
           let on : wordOn next awaitedByte ≡ true = rw (d, e) refl in
           let above : List Cell = cellsAbove g (drop (i + 1) places) in
-          let cells : fitsFrom vs at (pending ++ (cellsOf g here ++ above)) ≡ fitsFrom vs r (replicate (next / 131072 % 16) valued ++ above) =
+          let cells : fitsFrom vs at (pending ++ (cellsOf g here ++ above)) ≡ fitsFrom vs r (replicate (waitInherited next) valued ++ above) =
           ap (λ z. fitsFrom vs at (pending ++ (z ++ above))) (sym (cells-of s here awaitedByte on))
-          ∙ (ap (fitsFrom vs at) (regrouped (v / 131072 % 16) (next / 64 % 128) (next / 8192 % 16) (next / 131072 % 16) above)
-          ∙ p .same (replicate (next / 131072 % 16) valued ++ above)) in
+          ∙ (ap (fitsFrom vs at) (regrouped (waitInherited v) (waitPassed next) (waitMarked next) (waitInherited next) above)
+          ∙ p .same (replicate (waitInherited next) valued ++ above)) in
           follow-here ∙ rw (some, on, cells, symbol-awaited s here awaitedByte on) refl
 
 -- ---- equal places
 
 -- w is the word of place p, which can stand on itself
-module _ {g : Grammar} {ws : List ℕ} (s : HasProgram g ws) (vs : List ℤ) (p w : ℕ) (d : w ≡ waitAt ws p) (e : eqb (128 + w % 64) (w / 2097152 % 256) ≡ true) where
-  on-itself : wordOn (waitAt ws p) (w / 2097152 % 256) ≡ true
-  on-itself = ap (λ v. wordOn v (w / 2097152 % 256)) (sym d) ∙ rw (ne-eqb w 0 (λ z. omega (arith, eqb-true (128 + w % 64) (w / 2097152 % 256) e)), e) refl
+module _ {g : Grammar} {ws : List ℕ} (s : HasProgram g ws) (vs : List ℤ) (p w : ℕ) (d : w ≡ waitAt ws p) (e : eqb (128 + waitLeft w) (waitSymbol w) ≡ true) where
+  on-itself : wordOn (waitAt ws p) (waitSymbol w) ≡ true
+  on-itself = ap (λ v. wordOn v (waitSymbol w)) (sym d) ∙ rw (ne-eqb w 0 (λ z. omega (arith, eqb-true (128 + waitLeft w) (waitSymbol w) e)), e) refl
 
-  waits-for : symbolOf (w / 2097152 % 256) ≡ awaited g p
-  waits-for = ap (λ v. symbolOf (v / 2097152 % 256)) d ∙ symbol-awaited s p (w / 2097152 % 256) on-itself
+  waits-for : symbolOf (waitSymbol w) ≡ awaited g p
+  waits-for = ap (λ v. symbolOf (waitSymbol v)) d ∙ symbol-awaited s p (waitSymbol w) on-itself
 
-  places-alike : (n : ℕ) (ps : List ℕ) → placesAbove g (symbolOf (w / 2097152 % 256)) (replicate n p ++ ps) ≡ placesAbove g (symbolOf (w / 2097152 % 256)) ps
+  places-alike : (n : ℕ) (ps : List ℕ) → placesAbove g (symbolOf (waitSymbol w)) (replicate n p ++ ps) ≡ placesAbove g (symbolOf (waitSymbol w)) ps
   unfolding placesAbove
   places-alike zero ps = refl
-  places-alike (suc n) ps = ap₂ (λ b x. b && placesAbove g x (replicate n p ++ ps)) (sym (on-word s p (w / 2097152 % 256)) ∙ on-itself) (sym waits-for) ∙ places-alike n ps
+  places-alike (suc n) ps = ap₂ (λ b x. b && placesAbove g x (replicate n p ++ ps)) (sym (on-word s p (waitSymbol w)) ∙ on-itself) (sym waits-for) ∙ places-alike n ps
 
-  cells-alike : (n : ℕ) (ps : List ℕ) → replicate (w / 131072 % 16) valued ++ cellsAbove g (replicate n p ++ ps) ≡ repeated n (cellsBetween w w) ++ (replicate (w / 131072 % 16) valued ++ cellsAbove g ps)
+  cells-alike : (n : ℕ) (ps : List ℕ) → replicate (waitInherited w) valued ++ cellsAbove g (replicate n p ++ ps) ≡ repeated n (cellsBetween w w) ++ (replicate (waitInherited w) valued ++ cellsAbove g ps)
   unfolding cellsAbove repeated
   cells-alike zero ps = refl
   cells-alike (suc n) ps =
       let above : List Cell = cellsAbove g (replicate n p ++ ps) in
-      let rest : List Cell = replicate (w / 131072 % 16) valued ++ cellsAbove g ps in
-      ap (λ z. replicate (w / 131072 % 16) valued ++ (z ++ above)) (sym (ap cellsIn d ∙ cells-of s p (w / 2097152 % 256) on-itself))
-      ∙ (regrouped (w / 131072 % 16) (w / 64 % 128) (w / 8192 % 16) (w / 131072 % 16) above
+      let rest : List Cell = replicate (waitInherited w) valued ++ cellsAbove g ps in
+      ap (λ z. replicate (waitInherited w) valued ++ (z ++ above)) (sym (ap cellsIn d ∙ cells-of s p (waitSymbol w) on-itself))
+      ∙ (regrouped (waitInherited w) (waitPassed w) (waitMarked w) (waitInherited w) above
       ∙ (ap (λ z. cellsBetween w w ++ z) (cells-alike n ps)
       ∙ (sym (append-assoc (cellsBetween w w) (repeated n (cellsBetween w w)) rest)
       ∙ ap (λ z. z ++ rest) (repeated-front n (cellsBetween w w)))))
 
   pub follow-alike : (n : ℕ) (ps : List ℕ) (at : ℕ) {r : ℕ} → Passes vs (repeated n (cellsBetween w w)) at r → follow g w (replicate n p ++ ps) vs at ≡ follow g w ps vs r
-  follow-alike n ps at q = ap₂ (λ b c. not (eqb w 0) && (b && c)) (places-alike n ps) (ap (fitsFrom vs at) (cells-alike n ps) ∙ q .same (replicate (w / 131072 % 16) valued ++ cellsAbove g ps))
+  follow-alike n ps at q = ap₂ (λ b c. not (eqb w 0) && (b && c)) (places-alike n ps) (ap (fitsFrom vs at) (cells-alike n ps) ∙ q .same (replicate (waitInherited w) valued ++ cellsAbove g ps))
 
 -- the places from f up to i are p
 pub alike-none : (places : List ℕ) (f p : ℕ) → drop f places ≡ replicate (f - f) p ++ drop f places
@@ -124,12 +125,12 @@ alike-from places i p r l e m q =
 
 module _ (g : Grammar) (v : ℕ) (ps : List ℕ) (vs : List ℤ) (at : ℕ) where
   pub follow-past : length vs < at → follow g v ps vs at ≡ false
-  follow-past l = rw (past-end vs at (replicate (v / 131072 % 16) valued ++ cellsAbove g ps) l, and-false (placesAbove g (symbolOf (v / 2097152 % 256)) ps)) (and-false (not (eqb v 0)))
+  follow-past l = rw (past-end vs at (replicate (waitInherited v) valued ++ cellsAbove g ps) l, and-false (placesAbove g (symbolOf (waitSymbol v)) ps)) (and-false (not (eqb v 0)))
 
   pub follow-none : v ≡ 0 → follow g v ps vs at ≡ false
   follow-none e = rw (eq-eqb v 0 e) refl
 
-pub follow-end : (g : Grammar) (v : ℕ) (places : List ℕ) (vs : List ℤ) (i at : ℕ) {r : ℕ} → length places ≤ i → (v ≡ 0 → ⊥) → Passes vs (replicate (v / 131072 % 16) valued) at r → follow g v (drop i places) vs at ≡ eqb r (length vs)
+pub follow-end : (g : Grammar) (v : ℕ) (places : List ℕ) (vs : List ℤ) (i at : ℕ) {r : ℕ} → length places ≤ i → (v ≡ 0 → ⊥) → Passes vs (replicate (waitInherited v) valued) at r → follow g v (drop i places) vs at ≡ eqb r (length vs)
 unfolding placesAbove cellsAbove
 follow-end g v places vs i at l n p = rw (drop-of-length-le places {i = i} l, ne-eqb v 0 n) (p .same [] ∙ from-end vs _)
 

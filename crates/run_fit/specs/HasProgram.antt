@@ -1,5 +1,5 @@
 -- What the program says of a grammar's places: one word a place, and the start symbol's registers.
-use Prim.Native.Nat.{ℕ, _+_, _-_, _*_, _/_, _%_, _≤_, _<_}
+use Prim.Native.Nat.{ℕ, _+_, _-_, _*_, _≤_, _<_}
 use native.Mathlib.Omega.{arith}
 use mathlib.Core.Path.{_≡_, refl, sym, ap, ap₂, _∙_, subst}
 use mathlib.Core.Bool.{Bool, true, false, _&&_, not, cond}
@@ -7,13 +7,14 @@ use mathlib.Core.List.{List, _++_}
 use borrow.Author.Tests.{lt-ltb, le-ltb, ltb-true, ltb-false, eq-eqb, ne-eqb, eqb-true, eqb-false}
 use lib.ListN.{getD, length, replicate}
 use lib.Dec.{T, eqb, ltb, ltb→lt}
-use Rattle.meaning.specs.Grammar.{terminal, nonterminal, Grammar, productionAt, syn, isNonterminal}
+use Rattle.meaning.specs.Grammar.{terminal, nonterminal, Grammar, productionAt, syn, isNonterminal, placeProduction, placePassed}
 use Rattle.meaning.specs.Rules.{WellFormed}
 use Rattle.meaning.specs.Table.{symbolOf}
 use Rattle.meaning.specs.Calls.{Cell, valued, marked, awaited}
 use Rattle.theory_table.specs.Numbers.{symbol-terminal, symbol-nonterminal}
 use Rattle.theory_base.specs.Members.{true→T, both}
 use Rattle.theory_base.specs.WellFormed.{well-formed-at}
+use Rattle.theory_program.specs.Parts.{headOperand, waitLeft, waitPassed, waitMarked, waitInherited, waitSymbol}
 use Rattle.theory_program.specs.WordsStand.{stands-within}
 use Rattle.theory_program.specs.Addresses.{Begins, waitAddress, wait-row-at, wait-row-length, segment-at}
 use Rattle.theory_program.specs.Records.{segment-words}
@@ -39,36 +40,36 @@ pub record RowsAt (ws : List ℕ) (count begin : ℕ) : Type 0 where
 
 -- the address of the word of place p
 abbrev pub wordAddress : List ℕ → ℕ → ℕ
-wordAddress ws p = getD ws 2 0 + 8 * getD ws 6 0 + 12 * (p / 256) + p % 256
+wordAddress ws p = getD ws 2 0 + 8 * getD ws 6 0 + 12 * placeProduction p + placePassed p
 
 -- the word of place p; 0 where it has no production, or more symbols passed than any right side has
 unfoldable pub waitAt : List ℕ → ℕ → ℕ
-waitAt ws p = cond (ltb (p / 256) (getD ws 6 0)) (cond (ltb (p % 256) 12) (getD ws (wordAddress ws p) 0) 0) 0
+waitAt ws p = cond (ltb (placeProduction p) (getD ws 6 0)) (cond (ltb (placePassed p) 12) (getD ws (wordAddress ws p) 0) 0) 0
 
 -- a place with word v waits, and its left side is the symbol with byte x
 abbrev pub wordOn : ℕ → ℕ → Bool
-wordOn v x = not (eqb v 0) && eqb (128 + v % 64) x
+wordOn v x = not (eqb v 0) && eqb (128 + waitLeft v) x
 
 -- the registers of a place with word v, the lowest first
 abbrev pub cellsIn : ℕ → List Cell
-cellsIn v = stretches (v / 64 % 128) (v / 8192 % 16) (v / 131072 % 16)
+cellsIn v = stretches (waitPassed v) (waitMarked v) (waitInherited v)
 
 module _ (ws : List ℕ) (p : ℕ) where
-  pub wait-unlisted : getD ws 6 0 ≤ p / 256 → waitAt ws p ≡ 0
+  pub wait-unlisted : getD ws 6 0 ≤ placeProduction p → waitAt ws p ≡ 0
   unfolding waitAt
-  wait-unlisted l = rw (le-ltb (p / 256) (getD ws 6 0) l) refl
+  wait-unlisted l = rw (le-ltb (placeProduction p) (getD ws 6 0) l) refl
 
-  pub wait-passed : 12 ≤ p % 256 → waitAt ws p ≡ 0
+  pub wait-passed : 12 ≤ placePassed p → waitAt ws p ≡ 0
   unfolding waitAt
-  wait-passed l = by (ltb (p / 256) (getD ws 6 0))
+  wait-passed l = by (ltb (placeProduction p) (getD ws 6 0))
     where
-      by : (b : Bool) → cond b (cond (ltb (p % 256) 12) (getD ws (wordAddress ws p) 0) 0) 0 ≡ 0
-      by true = rw (le-ltb (p % 256) 12 l) refl
+      by : (b : Bool) → cond b (cond (ltb (placePassed p) 12) (getD ws (wordAddress ws p) 0) 0) 0 ≡ 0
+      by true = rw (le-ltb (placePassed p) 12 l) refl
       by false = refl
 
-  pub wait-word : p / 256 < getD ws 6 0 → p % 256 < 12 → waitAt ws p ≡ getD ws (wordAddress ws p) 0
+  pub wait-word : placeProduction p < getD ws 6 0 → placePassed p < 12 → waitAt ws p ≡ getD ws (wordAddress ws p) 0
   unfolding waitAt
-  wait-word l m = rw (lt-ltb (p / 256) (getD ws 6 0) l, lt-ltb (p % 256) 12 m) refl
+  wait-word l m = rw (lt-ltb (placeProduction p) (getD ws 6 0) l, lt-ltb (placePassed p) 12 m) refl
 
 -- ---- symbols by their bytes
 
@@ -98,56 +99,56 @@ module _ {g : Grammar} {ws : List ℕ} (s : HasProgram g ws) where
   header-inside = stands-within (segment-at (s .begins))
 
   module _ (p : ℕ) where
-    address-is : wordAddress ws p ≡ waitAddress g (p / 256) + p % 256
+    address-is : wordAddress ws p ≡ waitAddress g (placeProduction p) + placePassed p
     address-is = omega (arith, segment-words (s .begins) .records, productions-are)
 
-    pub word-inside : p / 256 < getD ws 6 0 → p % 256 < 12 → wordAddress ws p < length ws
+    pub word-inside : placeProduction p < getD ws 6 0 → placePassed p < 12 → wordAddress ws p < length ws
     word-inside l m =
-        let k : p / 256 < length (g .productions) = omega (arith, productions-are) in
-        let f = well-formed-at g (s .formed) (p / 256) k in
-        omega (arith, address-is, stands-within (wait-row-at (s .begins) (s .formed) (p / 256) k), wait-row-length g (productionAt g (p / 256)) (f .short))
+        let k : placeProduction p < length (g .productions) = omega (arith, productions-are) in
+        let f = well-formed-at g (s .formed) (placeProduction p) k in
+        omega (arith, address-is, stands-within (wait-row-at (s .begins) (s .formed) (placeProduction p) k), wait-row-length g (productionAt g (placeProduction p)) (f .short))
 
-    module _ (l : p / 256 < length (g .productions)) where
-      pub waits-at : p % 256 < length (productionAt g (p / 256) .right) → Waits g (productionAt g (p / 256)) (p % 256) (waitAt ws p)
+    module _ (l : placeProduction p < length (g .productions)) where
+      pub waits-at : placePassed p < length (productionAt g (placeProduction p) .right) → Waits g (productionAt g (placeProduction p)) (placePassed p) (waitAt ws p)
       waits-at k =
-          let f = well-formed-at g (s .formed) (p / 256) l in
-          subst (Waits g (productionAt g (p / 256)) (p % 256)) (sym (wait-word ws p (omega (arith, productions-are)) (omega (arith, f .short)) ∙ ap (λ a. getD ws a 0) address-is)) (place-waits (s .begins) (s .formed) (p / 256) l (p % 256) k)
+          let f = well-formed-at g (s .formed) (placeProduction p) l in
+          subst (Waits g (productionAt g (placeProduction p)) (placePassed p)) (sym (wait-word ws p (omega (arith, productions-are)) (omega (arith, f .short)) ∙ ap (λ a. getD ws a 0) address-is)) (place-waits (s .begins) (s .formed) (placeProduction p) l (placePassed p) k)
 
-      rests-at : length (productionAt g (p / 256) .right) ≤ p % 256 → p % 256 < 12 → waitAt ws p ≡ 0
-      rests-at k m = wait-word ws p (omega (arith, productions-are)) m ∙ (ap (λ a. getD ws a 0) address-is ∙ place-rests (s .begins) (s .formed) (p / 256) l (p % 256) k m)
+      rests-at : length (productionAt g (placeProduction p) .right) ≤ placePassed p → placePassed p < 12 → waitAt ws p ≡ 0
+      rests-at k m = wait-word ws p (omega (arith, productions-are)) m ∙ (ap (λ a. getD ws a 0) address-is ∙ place-rests (s .begins) (s .formed) (placeProduction p) l (placePassed p) k m)
 
       -- a place that waits has a word, one that does not has none
-      pub on-listed : (x : ℕ) → wordOn (waitAt ws p) x ≡ ltb (p % 256) (length (productionAt g (p / 256) .right)) && isNonterminal (productionAt g (p / 256) .left) (symbolOf x)
-      on-listed x = by (ltb (p % 256) (length (productionAt g (p / 256) .right))) refl
+      pub on-listed : (x : ℕ) → wordOn (waitAt ws p) x ≡ ltb (placePassed p) (length (productionAt g (placeProduction p) .right)) && isNonterminal (productionAt g (placeProduction p) .left) (symbolOf x)
+      on-listed x = by (ltb (placePassed p) (length (productionAt g (placeProduction p) .right))) refl
         where
-          by : (b : Bool) → ltb (p % 256) (length (productionAt g (p / 256) .right)) ≡ b → wordOn (waitAt ws p) x ≡ b && isNonterminal (productionAt g (p / 256) .left) (symbolOf x)
+          by : (b : Bool) → ltb (placePassed p) (length (productionAt g (placeProduction p) .right)) ≡ b → wordOn (waitAt ws p) x ≡ b && isNonterminal (productionAt g (placeProduction p) .left) (symbolOf x)
           by true e =
-              let v = waits-at (ltb-true (p % 256) (length (productionAt g (p / 256) .right)) e) in
-              rw (ne-eqb (waitAt ws p) 0 (λ z. omega (arith, v .some)), v .left) (sym (named (productionAt g (p / 256) .left) x))
-          by false e = rw (none (ltb-false (p % 256) (length (productionAt g (p / 256) .right)) e) (ltb (p % 256) 12) refl) refl
+              let v = waits-at (ltb-true (placePassed p) (length (productionAt g (placeProduction p) .right)) e) in
+              rw (ne-eqb (waitAt ws p) 0 (λ z. omega (arith, v .some)), v .left) (sym (named (productionAt g (placeProduction p) .left) x))
+          by false e = rw (none (ltb-false (placePassed p) (length (productionAt g (placeProduction p) .right)) e) (ltb (placePassed p) 12) refl) refl
             where
-              none : length (productionAt g (p / 256) .right) ≤ p % 256 → (b : Bool) → ltb (p % 256) 12 ≡ b → waitAt ws p ≡ 0
-              none k true d = rests-at k (ltb-true (p % 256) 12 d)
-              none k false d = wait-passed ws p (ltb-false (p % 256) 12 d)
+              none : length (productionAt g (placeProduction p) .right) ≤ placePassed p → (b : Bool) → ltb (placePassed p) 12 ≡ b → waitAt ws p ≡ 0
+              none k true d = rests-at k (ltb-true (placePassed p) 12 d)
+              none k false d = wait-passed ws p (ltb-false (placePassed p) 12 d)
 
     pub on-word : (x : ℕ) → wordOn (waitAt ws p) x ≡ placeOn g (symbolOf x) p
-    on-word x = by (ltb (p / 256) (length (g .productions))) refl
+    on-word x = by (ltb (placeProduction p) (length (g .productions))) refl
       where
-        by : (b : Bool) → ltb (p / 256) (length (g .productions)) ≡ b → wordOn (waitAt ws p) x ≡ b && (ltb (p % 256) (length (productionAt g (p / 256) .right)) && isNonterminal (productionAt g (p / 256) .left) (symbolOf x))
-        by true e = on-listed (ltb-true (p / 256) (length (g .productions)) e) x
-        by false e = rw (wait-unlisted ws p (omega (arith, productions-are, ltb-false (p / 256) (length (g .productions)) e))) refl
+        by : (b : Bool) → ltb (placeProduction p) (length (g .productions)) ≡ b → wordOn (waitAt ws p) x ≡ b && (ltb (placePassed p) (length (productionAt g (placeProduction p) .right)) && isNonterminal (productionAt g (placeProduction p) .left) (symbolOf x))
+        by true e = on-listed (ltb-true (placeProduction p) (length (g .productions)) e) x
+        by false e = rw (wait-unlisted ws p (omega (arith, productions-are, ltb-false (placeProduction p) (length (g .productions)) e))) refl
 
     -- a place that stands on another: its symbol and its registers
     module _ (x : ℕ) (on : wordOn (waitAt ws p) x ≡ true) where
-      tests : T (ltb (p / 256) (length (g .productions))) × T (ltb (p % 256) (length (productionAt g (p / 256) .right)) && isNonterminal (productionAt g (p / 256) .left) (symbolOf x))
-      tests = both (ltb (p / 256) (length (g .productions))) (ltb (p % 256) (length (productionAt g (p / 256) .right)) && isNonterminal (productionAt g (p / 256) .left) (symbolOf x)) (true→T (placeOn g (symbolOf x) p) (sym (on-word x) ∙ on))
+      tests : T (ltb (placeProduction p) (length (g .productions))) × T (ltb (placePassed p) (length (productionAt g (placeProduction p) .right)) && isNonterminal (productionAt g (placeProduction p) .left) (symbolOf x))
+      tests = both (ltb (placeProduction p) (length (g .productions))) (ltb (placePassed p) (length (productionAt g (placeProduction p) .right)) && isNonterminal (productionAt g (placeProduction p) .left) (symbolOf x)) (true→T (placeOn g (symbolOf x) p) (sym (on-word x) ∙ on))
 
-      word-of : Waits g (productionAt g (p / 256)) (p % 256) (waitAt ws p)
+      word-of : Waits g (productionAt g (placeProduction p)) (placePassed p) (waitAt ws p)
       word-of =
-          let k = both (ltb (p % 256) (length (productionAt g (p / 256) .right))) (isNonterminal (productionAt g (p / 256) .left) (symbolOf x)) (tests .1) .0 in
-          waits-at (ltb→lt (p / 256) (length (g .productions)) (tests .0)) (ltb→lt (p % 256) (length (productionAt g (p / 256) .right)) k)
+          let k = both (ltb (placePassed p) (length (productionAt g (placeProduction p) .right))) (isNonterminal (productionAt g (placeProduction p) .left) (symbolOf x)) (tests .1) .0 in
+          waits-at (ltb→lt (placeProduction p) (length (g .productions)) (tests .0)) (ltb→lt (placePassed p) (length (productionAt g (placeProduction p) .right)) k)
 
-      pub symbol-awaited : symbolOf (waitAt ws p / 2097152 % 256) ≡ awaited g p
+      pub symbol-awaited : symbolOf (waitSymbol (waitAt ws p)) ≡ awaited g p
       symbol-awaited = word-of .symbol
 
       pub cells-of : cellsIn (waitAt ws p) ≡ cellsOf g p
@@ -161,9 +162,9 @@ module _ {g : Grammar} {ws : List ℕ} (s : HasProgram g ws) where
   start-small = omega (arith, start-count, att-most g (s .formed) (nonterminal (g .start)))
 
   -- a word that has the start symbol alone
-  pub start-symbol : symbolOf ((128 + getD ws 0 0 / 8) * 2097152 / 2097152 % 256) ≡ nonterminal (g .start)
+  pub start-symbol : symbolOf (waitSymbol ((128 + headOperand (getD ws 0 0)) * 2097152)) ≡ nonterminal (g .start)
   start-symbol =
-      let e : getD ws 0 0 / 8 ≡ g .start = omega (arith, segment-words (s .begins) .expected) in
+      let e : headOperand (getD ws 0 0) ≡ g .start = omega (arith, segment-words (s .begins) .expected) in
       let f : g .start < 48 = omega (arith, s .formed .start, s .formed .nonterminals .1) in
-      let d : (128 + getD ws 0 0 / 8) * 2097152 / 2097152 % 256 ≡ 128 + getD ws 0 0 / 8 = omega arith in
-      ap symbolOf d ∙ (symbol-high (getD ws 0 0 / 8) ∙ ap nonterminal e)
+      let d : waitSymbol ((128 + headOperand (getD ws 0 0)) * 2097152) ≡ 128 + headOperand (getD ws 0 0) = omega arith in
+      ap symbolOf d ∙ (symbol-high (headOperand (getD ws 0 0)) ∙ ap nonterminal e)

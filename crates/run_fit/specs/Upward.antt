@@ -1,5 +1,5 @@
 -- 34's test from the bottom up: the places and the registers as they lie in memory.
-use Prim.Native.Nat.{ℕ, suc, _+_, _/_, _%_, _<_}
+use Prim.Native.Nat.{ℕ, suc, _+_, _<_}
 use native.Mathlib.Omega.{arith}
 use mathlib.Core.Path.{_≡_, refl, sym, ap, ap₂, _∙_}
 use mathlib.Core.Bool.{Bool, true, false, _&&_, _||_, and-true, and-false, and-assoc}
@@ -9,7 +9,7 @@ use lib.ListN.{length, take, replicate, length-reverseAux, replicate-append-repl
 use lib.Dec.{eqb, ltb}
 use lib.IntN.{ℤ}
 use Rattle.meaning.specs.Base.{total, isEmpty}
-use Rattle.meaning.specs.Grammar.{Symbol, nonterminal, Grammar, productionAt, inh, syn, markedFor, isNonterminal, whole}
+use Rattle.meaning.specs.Grammar.{Symbol, nonterminal, Grammar, productionAt, inh, syn, markedFor, isNonterminal, whole, placeProduction, placePassed}
 use Rattle.meaning.specs.Rules.{WellFormed}
 use Rattle.meaning.specs.Calls.{Cell, valued, marked, cellFits, cellsFit, waitingCells, awaited, placesFit, placeCells, stackFits}
 use Rattle.theory_answers.specs.FitTest.{syn-cells, alone}
@@ -50,7 +50,7 @@ regrouped n a b c cs =
 
 -- a place on one that waits at x
 abbrev pub placeOn : Grammar → Symbol → ℕ → Bool
-placeOn g x p = ltb (p / 256) (length (g .productions)) && (ltb (p % 256) (length (productionAt g (p / 256) .right)) && isNonterminal (productionAt g (p / 256) .left) x)
+placeOn g x p = ltb (placeProduction p) (length (g .productions)) && (ltb (placePassed p) (length (productionAt g (placeProduction p) .right)) && isNonterminal (productionAt g (placeProduction p) .left) x)
 
 -- places above one that waits at x
 unfoldable pub placesAbove : Grammar → Symbol → List ℕ → Bool
@@ -59,7 +59,7 @@ placesAbove g x (p ∷ ps) = placeOn g x p && placesAbove g (awaited g p) ps
 
 -- the registers of a place, the lowest first
 abbrev pub cellsOf : Grammar → ℕ → List Cell
-cellsOf g p = replicate (total (map (syn g) (take (p % 256) (productionAt g (p / 256) .right)))) valued ++ (replicate (markedFor g (awaited g p)) marked ++ replicate (inh g (awaited g p)) valued)
+cellsOf g p = replicate (total (map (syn g) (take (placePassed p) (productionAt g (placeProduction p) .right)))) valued ++ (replicate (markedFor g (awaited g p)) marked ++ replicate (inh g (awaited g p)) valued)
 
 unfoldable pub cellsAbove : Grammar → List ℕ → List Cell
 cellsAbove g [] = []
@@ -90,18 +90,20 @@ module _ (g : Grammar) where
   unfolding placesAbove
   places-up [] q qs = sym (and-true (placesFit g (q ∷ qs)))
   places-up (p ∷ ps) q qs =
+      let n = placeProduction p in
+      let production = productionAt g n in
       places-up ps p (q ∷ qs)
-      ∙ place-facts (ltb (p / 256) (length (g .productions))) (eqb (p / 256) whole) (ltb (p % 256) (length (productionAt g (p / 256) .right))) (isNonterminal (productionAt g (p / 256) .left) (awaited g q)) (placesFit g (q ∷ qs)) (placesAbove g (awaited g p) ps)
+      ∙ place-facts (ltb n (length (g .productions))) (eqb n whole) (ltb (placePassed p) (length (production .right))) (isNonterminal (production .left) (awaited g q)) (placesFit g (q ∷ qs)) (placesAbove g (awaited g p) ps)
 
   cells-place : (p : ℕ) (qs : List ℕ) → reverse (placeCells g (p ∷ qs)) ≡ reverse (placeCells g qs) ++ cellsOf g p
   cells-place p qs =
       let x : Symbol = awaited g p in
-      let t : ℕ = total (map (syn g) (take (p % 256) (productionAt g (p / 256) .right))) in
+      let t : ℕ = total (map (syn g) (take (placePassed p) (productionAt g (placeProduction p) .right))) in
       let below : List Cell = placeCells g qs in
       let lower : reverse (replicate t valued ++ below) ≡ reverse below ++ replicate t valued = reverse-append (replicate t valued) below ∙ ap (λ z. reverse below ++ z) (reverse-replicate t valued) in
       let upper : reverse (waitingCells g x) ≡ replicate (markedFor g x) marked ++ replicate (inh g x) valued =
       reverse-append (replicate (inh g x) valued) (replicate (markedFor g x) marked) ∙ ap₂ (λ y z. y ++ z) (reverse-replicate (markedFor g x) marked) (reverse-replicate (inh g x) valued) in
-      ap (λ z. reverse (waitingCells g x ++ z)) (syn-cells g (take (p % 256) (productionAt g (p / 256) .right)) below)
+      ap (λ z. reverse (waitingCells g x ++ z)) (syn-cells g (take (placePassed p) (productionAt g (placeProduction p) .right)) below)
       ∙ (reverse-append (waitingCells g x) (replicate t valued ++ below)
       ∙ (ap₂ (λ y z. y ++ z) lower upper
       ∙ append-assoc (reverse below) (replicate t valued) (replicate (markedFor g x) marked ++ replicate (inh g x) valued)))

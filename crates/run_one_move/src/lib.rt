@@ -1,6 +1,7 @@
 // One move, whatever its kind.
-ghost use Prim.Native.Nat.{_%_, _≤_, _<_};
+ghost use Prim.Native.Nat.{_≤_, _<_};
 ghost use lib.ListN.{getD};
+ghost use Rattle.theory_program.specs.Parts.{headOperation};
 ghost use Rattle.run_moves.specs.Held.{ReadyForMove, Answers};
 ghost use Rattle.run_moves.specs.Passing.{comingOf};
 use run_moves::Run;
@@ -15,7 +16,7 @@ pub fn one(
     look: usize,
     value: i64,
 ) -> Step
-    requires { ⌜ ReadyForMove (now program) (now registers) (now places) run (getD (now program) (run .at) 0 % 8) × (getD (now program) (run .at) 0 % 8 ≤ 5) × (look < 64) ⌝ }
+    requires { ⌜ ReadyForMove (now program) (now registers) (now places) run (headOperation (getD (now program) (run .at) 0)) × (headOperation (getD (now program) (run .at) 0) ≤ 5) × (look < 64) ⌝ }
     ensures { λ r. ⌜ Answers (now (program .entry)) (now (registers .entry)) (now (places .entry)) run (comingOf look value) (now (registers .exit)) (now (places .exit)) r ⌝ }
 {
     match program_parts::operation(run_moves::word_at(program, run.at)) {

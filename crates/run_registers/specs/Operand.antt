@@ -1,5 +1,5 @@
 -- The operands of a rule by its words: where a selector is 0, the constant stands for the operand.
-use Prim.Native.Nat.{ℕ, zero, suc, _/_, _%_, _≤_, _<_}
+use Prim.Native.Nat.{ℕ, zero, suc, _≤_, _<_}
 use native.Mathlib.Omega.{arith}
 use mathlib.Core.Path.{_≡_, refl, sym, ap, ap₂, _∙_, subst}
 use mathlib.Core.Bool.{Bool, true, false, _&&_}
@@ -13,6 +13,7 @@ use Rattle.meaning.specs.Table.{signed}
 use Rattle.meaning.specs.Machine.{readRegister}
 use Rattle.meaning.specs.Program.{functionWords, ruleWords}
 use Rattle.value.specs.Computed.{computed}
+use Rattle.theory_program.specs.Parts.{ruleTarget, ruleFunction, ruleFirst, ruleSecond}
 use Rattle.theory_program.specs.Unpacked.{functionFrom, ruleFrom, conditionOfKind}
 use Rattle.run_registers.specs.Read.{Valued}
 
@@ -31,9 +32,9 @@ pub record Applies (rs : List ℤ) (w k : ℕ) : Type 0 where
 
 -- its operands, and its result from them
 pub record Operation (rs : List ℤ) (w k : ℕ) : Type 0 where
-  pub first : Fetched rs (w / 2048 % 128)
-  pub second : Fetched rs (w / 262144)
-  pub result : apply (readRegister rs) (ruleFrom w k .function) ≡ computed (w / 128 % 16) (operandOf rs (w / 2048 % 128) (signed k)) (operandOf rs (w / 262144) (signed k))
+  pub first : Fetched rs (ruleFirst w)
+  pub second : Fetched rs (ruleSecond w)
+  pub result : apply (readRegister rs) (ruleFrom w k .function) ≡ computed (ruleFunction w) (operandOf rs (ruleFirst w) (signed k)) (operandOf rs (ruleSecond w) (signed k))
 
 -- ---- one operand
 
@@ -77,7 +78,7 @@ module _ (rs : List ℤ) (a b : ℕ) (l h : ℤ) (one : Bool) where
 
 -- ---- the words of a rule
 
-module _ (rs : List ℤ) (c : ℤ) (t a b w : ℕ) (low : t < 128) (isFirst : w / 2048 % 128 ≡ a) (isSecond : w / 262144 ≡ b) where
+module _ (rs : List ℤ) (c : ℤ) (t a b w : ℕ) (low : t < 128) (isFirst : ruleFirst w ≡ a) (isSecond : ruleSecond w ≡ b) where
   abbrev Meant : ℕ → Type 0
   Meant f = Fetched rs a × Fetched rs b × (apply (readRegister rs) (functionFrom f a b c) ≡ computed f (operandOf rs a c) (operandOf rs b c))
 
@@ -87,7 +88,7 @@ module _ (rs : List ℤ) (c : ℤ) (t a b w : ℕ) (low : t < 128) (isFirst : w 
   with-one : (f : ℕ) → Valued rs a → b ≡ 0 → apply (readRegister rs) (functionFrom f a b c) ≡ computed f (readRegister rs a) c → Meant f
   with-one f p z e = (valued-fetched rs a p, none-fetched rs b z, e ∙ sym (ap₂ (computed f) (operand-some rs a c (p .0)) (operand-none rs b c z)))
 
-  meant : (f : ℕ) → w / 128 % 16 ≡ f → w ≡ getD (functionWords t (functionFrom f a b c)) 0 0 → Operands (Valued rs) (functionFrom f a b c) → Meant f
+  meant : (f : ℕ) → ruleFunction w ≡ f → w ≡ getD (functionWords t (functionFrom f a b c)) 0 0 → Operands (Valued rs) (functionFrom f a b c) → Meant f
   meant zero n e p =
       let y : a ≡ 0 = omega arith in
       let z : b ≡ 0 = omega arith in
@@ -104,26 +105,26 @@ module _ (rs : List ℤ) (c : ℤ) (t a b w : ℕ) (low : t < 128) (isFirst : w 
 
 pub operation : {rs : List ℤ} {w k : ℕ} → Applies rs w k → Operation rs w k
 operation {rs} {w} {k} q =
-    let m = meant rs (signed k) (w % 128) (w / 2048 % 128) (w / 262144) w (omega arith) refl refl (w / 128 % 16) refl (q .written) (q .operands) in
+    let m = meant rs (signed k) (ruleTarget w) (ruleFirst w) (ruleSecond w) w (omega arith) refl refl (ruleFunction w) refl (q .written) (q .operands) in
     record { first = m .0; second = m .1; result = m .2 }
 
 -- ---- a rule by its function's number
 
 module _ {rs : List ℤ} {w k : ℕ} (q : Applies rs w k) where
   abbrev by : ℕ → ℤ
-  by f = apply (readRegister rs) (functionFrom f (w / 2048 % 128) (w / 262144) (signed k))
+  by f = apply (readRegister rs) (functionFrom f (ruleFirst w) (ruleSecond w) (signed k))
 
-  asked : {f : ℕ} → w / 128 % 16 ≡ f → Operands (Valued rs) (functionFrom f (w / 2048 % 128) (w / 262144) (signed k))
-  asked e = subst (λ (f : ℕ). Operands (Valued rs) (functionFrom f (w / 2048 % 128) (w / 262144) (signed k))) e (q .operands)
+  asked : {f : ℕ} → ruleFunction w ≡ f → Operands (Valued rs) (functionFrom f (ruleFirst w) (ruleSecond w) (signed k))
+  asked e = subst (λ (f : ℕ). Operands (Valued rs) (functionFrom f (ruleFirst w) (ruleSecond w) (signed k))) e (q .operands)
 
-  pub is-const : w / 128 % 16 ≡ 0 → apply (readRegister rs) (ruleFrom w k .function) ≡ signed k
+  pub is-const : ruleFunction w ≡ 0 → apply (readRegister rs) (ruleFrom w k .function) ≡ signed k
   is-const e = ap by e
 
-  pub is-copy : w / 128 % 16 ≡ 1 → Valued rs (w / 2048 % 128) × (apply (readRegister rs) (ruleFrom w k .function) ≡ readRegister rs (w / 2048 % 128))
+  pub is-copy : ruleFunction w ≡ 1 → Valued rs (ruleFirst w) × (apply (readRegister rs) (ruleFrom w k .function) ≡ readRegister rs (ruleFirst w))
   is-copy e = (asked e, ap by e)
 
-  pub is-sum : w / 128 % 16 ≡ 2 → Valued rs (w / 2048 % 128) × Valued rs (w / 262144) × (apply (readRegister rs) (ruleFrom w k .function) ≡ readRegister rs (w / 2048 % 128) +ℤ readRegister rs (w / 262144))
+  pub is-sum : ruleFunction w ≡ 2 → Valued rs (ruleFirst w) × Valued rs (ruleSecond w) × (apply (readRegister rs) (ruleFrom w k .function) ≡ readRegister rs (ruleFirst w) +ℤ readRegister rs (ruleSecond w))
   is-sum e = (asked e .0, asked e .1, ap by e)
 
-  pub is-addc : w / 128 % 16 ≡ 7 → Valued rs (w / 2048 % 128) × (apply (readRegister rs) (ruleFrom w k .function) ≡ readRegister rs (w / 2048 % 128) +ℤ signed k)
+  pub is-addc : ruleFunction w ≡ 7 → Valued rs (ruleFirst w) × (apply (readRegister rs) (ruleFrom w k .function) ≡ readRegister rs (ruleFirst w) +ℤ signed k)
   is-addc e = (asked e, ap by e)

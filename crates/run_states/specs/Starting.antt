@@ -1,5 +1,5 @@
 -- From stacks that fit, or from the opening, to a run that memory holds.
-use Prim.Native.Nat.{ℕ, _+_, _-_, _*_, _/_, _%_, _≤_}
+use Prim.Native.Nat.{ℕ, _+_, _-_, _*_, _≤_}
 use native.Mathlib.Omega.{arith}
 use mathlib.Core.Path.{_≡_, refl, sym, ap, _∙_, subst, subst₂}
 use mathlib.Core.Logic.{_⊎_, inl, inr}
@@ -9,7 +9,7 @@ use lib.ListN.{length, getD, drop, replicate, length-replicate, drop-of-length-l
 use lib.Dec.{T, ltb}
 use lib.IntN.{ℤ}
 use borrow.Author.Tests.{lt-ltb}
-use Rattle.meaning.specs.Grammar.{Grammar, Symbol, whole, productionAt}
+use Rattle.meaning.specs.Grammar.{Grammar, Symbol, whole, productionAt, placeProduction, placePassed}
 use Rattle.meaning.specs.Value.{mark}
 use Rattle.meaning.specs.Rules.{WellFormed}
 use Rattle.meaning.specs.Machine.{Config, placeOf}
@@ -45,8 +45,8 @@ ahead-stood {g} {ws} b w p (inr e) = subst (λ q. Ahead g ws (placeAddress g q) 
 waits-stood : (g : Grammar) {ps : List ℕ} {rs : List ℤ} {x : Symbol} → WaitsAt g ps rs x → (p : ℕ) × (qs : List ℕ) × (ps ≡ p ∷ qs) × T (placeWaits g p)
 waits-stood g (segment vs v) = (32768, [], refl, segment-waits g)
 waits-stood g (inside p k vs ss {ps} {rs} l s m v u w) =
-    let q : (p * 256 + k) / 256 ≡ p = omega arith in
-    let r : (p * 256 + k) % 256 ≡ k = omega arith in
+    let q : placeProduction (p * 256 + k) ≡ p = omega arith in
+    let r : placePassed (p * 256 + k) ≡ k = omega arith in
     let a : T (placeWaits g (p * 256 + k)) = rw (q, r, lt-ltb p (length (g .productions)) l, lt-ltb k (length (productionAt g p .right)) s) tt in
     (p * 256 + k, ps, refl, a)
 

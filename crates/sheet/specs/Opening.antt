@@ -17,7 +17,7 @@ use Rattle.meaning.specs.Calls.{Stacks, Called, more, refused, lentOf, layAll, 
 use Rattle.meaning.specs.PublicCalls.{stacksOf}
 use Rattle.theory_answers.specs.Memory.{Within, lent-kept, read-back, laid-fits}
 use Rattle.theory_answers.specs.ShapeMemory.{AtStop, at-stop}
-use Rattle.theory_sound.specs.CallSound.{opening-held}
+use Rattle.theory_sound.specs.CallSound.{opening-sound}
 use Rattle.theory_program.specs.Addresses.{Begins}
 use Rattle.theory_program.specs.Records.{segment-words}
 use Rattle.theory_program.specs.Resuming.{placeAddress}
@@ -50,10 +50,10 @@ module _ (g : Grammar) (ws : List ℕ) (b : Begins g ws) (f : WellFormed g) (vs 
         by a d = elim a [ true ↦ asBrought (refused 31 0) closedRecord m | false ↦ elim d [ true ↦ asBrought (refused 32 0) closedRecord m | false ↦ record { answer = more 0; state = recordOf true (opening g); stacks = layAll g (opening g) m } ] ]
 
     stop : AtStop g (opening g .frames) (opening g .registers)
-    stop = at-stop g f (opening g .frames) (opening g .registers) (opening-held g f m room place .0 .shaped) tt
+    stop = at-stop g f (opening g .frames) (opening g .registers) (opening-sound g f m room place .0 .shaped) tt
 
     within : Within (lentOf m) (opening g)
-    within = opening-held g f m room place .0 .within
+    within = opening-sound g f m room place .0 .within
 
     pub opened-held : (vs′ : List ℤ) (ps′ : List ℕ) → length vs′ ≡ length vs → length ps′ ≡ length ps → stacksOf vs′ ps′ ≡ openOf g m .stacks → Held g ws (lentOf m) vs′ ps′ (firstRun (getD ws 4 0)) (opening g)
     opened-held vs′ ps′ d e z =

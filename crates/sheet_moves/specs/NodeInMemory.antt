@@ -1,5 +1,5 @@
 -- Memory that holds a node in progress, and what moves lead to: a later configuration, or a refusal.
-use Prim.Native.Nat.{ℕ, zero, suc, _%_, _≤_, _<_}
+use Prim.Native.Nat.{ℕ, zero, suc, _≤_, _<_}
 use native.Mathlib.Omega.{arith}
 use mathlib.Core.Path.{_≡_, refl, sym, ap, _∙_, subst}
 use mathlib.Core.Bool.{Bool, true, false, _&&_, _||_}
@@ -20,6 +20,7 @@ use Rattle.theory_base.specs.Members.{both}
 use Rattle.theory_base.specs.Feeds.{leaves-of, leaves-length}
 use Rattle.theory_answers.specs.Bounds.{counts}
 use Rattle.theory_answers.specs.ShapeMoves.{IsAhead}
+use Rattle.theory_program.specs.Parts.{headOperation}
 use Rattle.theory_program.specs.Code.{operation}
 use Rattle.theory_program.specs.Records.{segment-words}
 use Rattle.theory_sheet.specs.Whole.{Failing, fails-behind}
@@ -131,7 +132,7 @@ pub record Going (ws : List ℕ) (m₀ : List ℤ) (ps₀ : List ℕ) (run₀ : 
   pub from : (g : Grammar) (lent : Lent) (tokens : List Leaf) (c : Config) (o : Open) (bs : List Ancestor) → T (all (isLeafOf g) tokens) → Held g ws lent m₀ ps₀ run₀ c → Stand g tokens o bs c → Reached g ws lent tokens c o bs m ps run
 
 abbrev pub SettledAs : Grammar → List ℕ → Lent → List Leaf → Config → Open → List Ancestor → List ℤ → List ℕ → Ended.Ended → Type 0
-SettledAs g ws lent tokens c o bs m ps (Stopped run) = Reached g ws lent tokens c o bs m ps run × (isInside (getD ws (run .at) 0 % 8) ≡ false)
+SettledAs g ws lent tokens c o bs m ps (Stopped run) = Reached g ws lent tokens c o bs m ps run × (isInside (headOperation (getD ws (run .at) 0)) ≡ false)
 SettledAs g ws lent tokens c o bs m ps (Failed run k) = Refused g ws lent tokens c m ps run k
 
 abbrev pub Settles : List ℕ → List ℤ → List ℕ → Run → List ℤ → List ℕ → Ended.Ended → Type 0
@@ -146,10 +147,10 @@ module _ {ws : List ℕ} {m₀ : List ℤ} {ps₀ : List ℕ} {run₀ : Run} {m 
       let q = k .from (r .grammar) (r .lent) (r .tokens) (r .config) (r .node) (r .below) (r .known) (r .held) (r .stand) in
       record { grammar = r .grammar; lent = r .lent; tokens = r .tokens; known = r .known; config = q .to; node = r .node; below = r .below; held = q .held; stand = q .stand }
 
-  pub going-stop : isInside (getD ws (run .at) 0 % 8) ≡ false → Settles ws m₀ ps₀ run₀ m ps (Stopped run)
+  pub going-stop : isInside (headOperation (getD ws (run .at) 0)) ≡ false → Settles ws m₀ ps₀ run₀ m ps (Stopped run)
   going-stop e g lent tokens c o bs known h s = (k .from g lent tokens c o bs known h s, e)
 
-  module _ (e : isInside (getD ws (run .at) 0 % 8) ≡ true) where
+  module _ (e : isInside (headOperation (getD ws (run .at) 0)) ≡ true) where
     -- the instruction at hand
     at-inside : {g : Grammar} {lent : Lent} {d : Config} (h : Held g ws lent m ps run d) → (i : Instruction) × Hand g ws (run .at) d i × (inside i ≡ true)
     at-inside {g} {lent} {d} h = go (at-hand h)
@@ -158,7 +159,7 @@ module _ {ws : List ℕ} {m₀ : List ℤ} {ps₀ : List ℕ} {run₀ : Run} {m 
         go (some i x o n) = (i, x, sym (inside-is i) ∙ (ap isInside (sym o) ∙ e))
         go (nothing below f w l) = absurd (subst T (sym e ∙ ap isInside six) tt)
           where
-            six : getD ws (run .at) 0 % 8 ≡ 6
+            six : headOperation (getD ws (run .at) 0) ≡ 6
             six = omega arith
 
     pub going-on : (m′ : List ℤ) (ps′ : List ℕ) (run′ : Run) → Tries ws m ps run ends m′ ps′ (Stopped run′) → Going ws m₀ ps₀ run₀ m′ ps′ run′
@@ -232,7 +233,7 @@ module _ (ks : List ℕ) (vs : List ℤ) (g : Grammar) where
   pub one-left : (n : ℕ) → length ks ≡ length vs → n < length ks → drop n (tokensAs g ks vs) ≡ leafHere n ∷ leaves g (drop (suc n) (tokensFrom ks vs))
   one-left n e l = leaves-drop g n (tokensFrom ks vs) ∙ ap (leaves g) (tokens-turn ks vs n e l)
 
-module _ {ws : List ℕ} {m₀ : List ℤ} {ps₀ : List ℕ} {run₀ : Run} (look : isLook (getD ws (run₀ .at) 0 % 8)) where
+module _ {ws : List ℕ} {m₀ : List ℤ} {ps₀ : List ℕ} {run₀ : Run} (look : isLook (headOperation (getD ws (run₀ .at) 0))) where
   module _ {g : Grammar} {lent : Lent} {c : Config} (h : Held g ws lent m₀ ps₀ run₀ c) where
     pub at-look : (i : Instruction) × Hand g ws (run₀ .at) c i × (x : Symbol) × (i ≡ expect x)
     at-look = go (at-hand h)

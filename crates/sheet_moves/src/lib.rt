@@ -1,7 +1,8 @@
 // The moves of the recursive evaluator: the machine's own, one at a time, those that need no next token, and those that look at it.
-ghost use Prim.Native.Nat.{_%_, _≤_, _<_};
+ghost use Prim.Native.Nat.{_≤_, _<_};
 ghost use mathlib.Core.Path.{_≡_};
 ghost use lib.ListN.{getD};
+ghost use Rattle.theory_program.specs.Parts.{headOperation};
 ghost use Rattle.run_moves.specs.Passing.{comingOf};
 ghost use Rattle.run_one_move.specs.Facing.{Facing};
 ghost use Rattle.sheet_moves.specs.Trying.{Tries};
@@ -23,7 +24,7 @@ pub fn made(
     look: usize,
     value: i64,
 ) -> Ended
-    requires { ⌜ Facing (now program) (now registers) (now places) run look value × (getD (now program) (run .at) 0 % 8 ≤ 5) × (look < 64) ⌝ }
+    requires { ⌜ Facing (now program) (now registers) (now places) run look value × (headOperation (getD (now program) (run .at) 0) ≤ 5) × (look < 64) ⌝ }
     ensures { λ r. ⌜ Tries (now (program .entry)) (now (registers .entry)) (now (places .entry)) run (comingOf look value) (now (registers .exit)) (now (places .exit)) r ⌝ }
 {
     if run.moves == MOVES_LIMIT {
@@ -79,7 +80,7 @@ pub fn step(
     values: &[i32],
     run: Run,
 ) -> Ended
-    requires { ⌜ Walking (now program) (now kinds) (now values) (now registers) (now places) run × isLook (getD (now program) (run .at) 0 % 8) ⌝ }
+    requires { ⌜ Walking (now program) (now kinds) (now values) (now registers) (now places) run × isLook (headOperation (getD (now program) (run .at) 0)) ⌝ }
     ensures { λ r. ⌜ Steps (now (program .entry)) (now (kinds .entry)) (now (values .entry)) (now (registers .entry)) (now (places .entry)) run (now (registers .exit)) (now (places .exit)) r ⌝ }
 {
     let n = run.tokens as usize;

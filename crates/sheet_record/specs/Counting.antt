@@ -1,17 +1,18 @@
 -- How many attributes the left side of a node in progress has: the program tells it of the place below, which waits at that symbol.
-use Prim.Native.Nat.{ℕ, suc, _+_, _-_, _*_, _/_, _%_, _≤_, _<_}
+use Prim.Native.Nat.{ℕ, suc, _+_, _-_, _*_, _≤_, _<_}
 use native.Mathlib.Omega.{arith}
 use mathlib.Core.Path.{_≡_, sym, ap, _∙_, subst}
 use mathlib.Core.Logic.{_⊎_, inl, inr}
 use mathlib.Core.List.{List, [], _∷_, map}
 use lib.ListN.{length, getD, drop, length-map}
 use lib.IntN.{ℤ}
-use Rattle.meaning.specs.Grammar.{Grammar, Leaf, Symbol, terminal, nonterminal, inh, syn, att, markedFor, productionAt, symbolAt, whole}
+use Rattle.meaning.specs.Grammar.{Grammar, Leaf, Symbol, terminal, nonterminal, inh, syn, att, markedFor, productionAt, symbolAt, whole, placeProduction, placePassed}
 use Rattle.meaning.specs.Machine.{Config, Lent, placeOf}
 use Rattle.meaning.specs.Part.{Open, Ancestor, Stands}
 use Rattle.theory_base.specs.Values.{drop-head}
 use Rattle.theory_base.specs.Frames.{place-waits}
 use Rattle.theory_base.specs.WellFormed.{well-formed-at}
+use Rattle.theory_program.specs.Parts.{waitMarked, waitInherited}
 use Rattle.theory_program.specs.WordsStand.{stands-within}
 use Rattle.theory_program.specs.Addresses.{waitAddress, wait-row-at, wait-row-length}
 use Rattle.theory_program.specs.Records.{segment-words}
@@ -88,7 +89,7 @@ module _ {g : Grammar} {ws : List ℕ} {lent : Lent} {tokens : List Leaf} {m : L
   -- on another node
   module _ (e : place ≡ 32768 → ⊥) where
     abbrev address : ℕ
-    address = getD ws 2 0 + 8 * getD ws 6 0 + 12 * (place / 256) + place % 256
+    address = getD ws 2 0 + 8 * getD ws 6 0 + 12 * placeProduction place + placePassed place
 
     listed : b .node .production < length (g .productions)
     listed = go parent-is
@@ -100,8 +101,8 @@ module _ {g : Grammar} {ws : List ℕ} {lent : Lent} {tokens : List Leaf} {m : L
     address-is : address ≡ waitAddress g (b .node .production) + length (b .node .children)
     address-is =
         let f = well-formed-at g (h .wellFormed) (b .node .production) listed in
-        let q : place / 256 ≡ b .node .production = omega (arith, place-is, few-passed, f .short) in
-        let k : place % 256 ≡ length (b .node .children) = omega (arith, place-is, few-passed, f .short) in
+        let q : placeProduction place ≡ b .node .production = omega (arith, place-is, few-passed, f .short) in
+        let k : placePassed place ≡ length (b .node .children) = omega (arith, place-is, few-passed, f .short) in
         omega (arith, q, k, segment-words (h .begins) .records, segment-words (h .begins) .productions)
 
     pub address-inside : address < length ws
@@ -109,8 +110,8 @@ module _ {g : Grammar} {ws : List ℕ} {lent : Lent} {tokens : List Leaf} {m : L
         let f = well-formed-at g (h .wellFormed) (b .node .production) listed in
         omega (arith, address-is, stands-within (wait-row-at (h .begins) (h .wellFormed) (b .node .production) listed), wait-row-length g (productionAt g (b .node .production)) (f .short), few-passed, f .short)
 
-    pub word-counts : (v : ℕ) → v ≡ getD ws address 0 → (v / 131072 % 16 ≡ inh g (leftOf g o)) × (v / 131072 % 16 + v / 8192 % 16 ≡ att g (leftOf g o))
+    pub word-counts : (v : ℕ) → v ≡ getD ws address 0 → (waitInherited v ≡ inh g (leftOf g o)) × (waitInherited v + waitMarked v ≡ att g (leftOf g o))
     word-counts v z =
         let w = subst (Waits.Waits g (productionAt g (b .node .production)) (length (b .node .children))) (sym (z ∙ ap (λ a. getD ws a 0) address-is)) (Waits.place-waits (h .begins) (h .wellFormed) (b .node .production) listed (length (b .node .children)) few-passed) in
-        let i : v / 131072 % 16 ≡ inh g (leftOf g o) = w .inherited ∙ ap (inh g) symbol-is in
+        let i : waitInherited v ≡ inh g (leftOf g o) = w .inherited ∙ ap (inh g) symbol-is in
         (i, omega (arith, i, w .marked ∙ ap (markedFor g) symbol-is))

@@ -1,7 +1,8 @@
 // The record of a node, written when it is left: the values of its attributes still stand.
-ghost use Prim.Native.Nat.{_%_, _≤_, _<_};
+ghost use Prim.Native.Nat.{_≤_, _<_};
 ghost use mathlib.Core.Path.{_≡_};
 ghost use lib.ListN.{length, getD};
+ghost use Rattle.theory_program.specs.Parts.{headOperation};
 ghost use Rattle.sheet_record.specs.Counting.{Nested, Counted};
 ghost use Rattle.sheet_record.specs.Recording.{Inner, Records};
 use run_moves::Run;
@@ -48,7 +49,7 @@ pub fn write_record(
     at: usize,
     before: u64,
 )
-    requires { ⌜ Inner (now program) (now registers) (now places) run × (getD (now program) (run .at) 0 % 8 ≡ 5) × (at < 800000000000) × (before ≤ run .tokens) × (length (now registers) ≤ 4096) ⌝ }
+    requires { ⌜ Inner (now program) (now registers) (now places) run × (headOperation (getD (now program) (run .at) 0) ≡ 5) × (at < 800000000000) × (before ≤ run .tokens) × (length (now registers) ≤ 4096) ⌝ }
     ensures { λ r. ⌜ Records (now (program .entry)) (now (registers .entry)) (now (places .entry)) run at before (now (sheet .entry)) (now (sheet .exit)) ⌝ }
 {
     let sizes = attributes(places, program, run);

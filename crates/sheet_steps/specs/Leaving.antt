@@ -1,5 +1,5 @@
 -- A node is left: its record is written, and it becomes its parent's child.
-use Prim.Native.Nat.{ℕ, suc, _/_, _%_, _≤_}
+use Prim.Native.Nat.{ℕ, suc, _≤_}
 use native.Mathlib.Omega.{arith}
 use mathlib.Core.Path.{_≡_, refl, _∙_}
 use mathlib.Core.List.{List, _∷_}
@@ -13,6 +13,7 @@ use Rattle.meaning.specs.Tree.{isLeafOf}
 use Rattle.meaning.specs.Part.{Open, Ancestor}
 use Rattle.theory_base.specs.Values.{treeOf}
 use Rattle.theory_answers.specs.Bounds.{counts}
+use Rattle.theory_program.specs.Parts.{headOperation, headOperand}
 use Rattle.theory_sound.specs.MovesKeepPart.{withChild}
 use Rattle.theory_sheet.specs.Overlay.{overlay}
 use Rattle.theory_sheet.specs.NodeInProgress.{Stand}
@@ -30,7 +31,7 @@ use Rattle.sheet_moves.specs.NodeInMemory.{Stood, Refused, refused-from, Settle
 pub record Departed (g : Grammar) (ws : List ℕ) (lent : Lent) (tokens : List Leaf) (c : Config) (o : Open) (b : Ancestor) (bs : List Ancestor) (m : List ℤ) (ps : List ℕ) (run₀ run : Run) : Type 0 where
   pub to : Config
   pub held : Held g ws lent m ps run to
-  pub stand : Stand g tokens (withChild (b .node) (treeOf (o .production) (ownValues g (o .production) (getD ws (run₀ .at) 0 / 8) (c .registers)) (o .children))) bs to
+  pub stand : Stand g tokens (withChild (b .node) (treeOf (o .production) (ownValues g (o .production) (headOperand (getD ws (run₀ .at) 0)) (c .registers)) (o .children))) bs to
   pub same : rest g lent tokens c ≡ rest g lent tokens to
   pub moves : suc (c .moves) ≤ to .moves
 
@@ -42,12 +43,12 @@ abbrev pub Leaves : List ℕ → List ℤ → List ℕ → Run → ℕ → ℕ �
 Leaves ws m₀ ps₀ run₀ k before end sheet₀ m ps sheet w =
     (g : Grammar) (lent : Lent) (tokens : List Leaf) (c : Config) (o : Open) (b : Ancestor) (bs : List Ancestor) → T (all (isLeafOf g) tokens) → Held g ws lent m₀ ps₀ run₀ c → Stand g tokens o (b ∷ bs) c → LeftAs g ws lent tokens c o b bs run₀ k before end sheet₀ m ps sheet w
 
-module _ {ws : List ℕ} {m₀ : List ℤ} {ps₀ : List ℕ} {run₀ : Run} (five : getD ws (run₀ .at) 0 % 8 ≡ 5) (k before : ℕ) (sheet₀ sheet : List ℕ) where
+module _ {ws : List ℕ} {m₀ : List ℤ} {ps₀ : List ℕ} {run₀ : Run} (five : headOperation (getD ws (run₀ .at) 0) ≡ 5) (k before : ℕ) (sheet₀ sheet : List ℕ) where
   pub left-fails : (m : List ℤ) (ps : List ℕ) (run : Run) (j : ℕ) → Tries ws m₀ ps₀ run₀ ends m ps (Failed run j) → (end : ℕ) → Leaves ws m₀ ps₀ run₀ k before end sheet₀ m ps sheet (W.Failed run j)
   left-fails m ps run j a end g lent tokens c o b bs known h s =
       let t = a g lent c h tt in
       let x = hand-remove h five in
-      record { to = c; held = t .1; fails = remove-stuck g (h .wellFormed) lent tokens known c (getD ws (run₀ .at) 0 / 8) (x .frames) ends j (t .0) }
+      record { to = c; held = t .1; fails = remove-stuck g (h .wellFormed) lent tokens known c (headOperand (getD ws (run₀ .at) 0)) (x .frames) ends j (t .0) }
 
   -- the remove, then the moves of the node below that need no next token
   module _ (m₁ : List ℤ) (ps₁ : List ℕ) (run₁ : Run) (a : Tries ws m₀ ps₀ run₀ ends m₁ ps₁ (Stopped run₁)) where
@@ -55,18 +56,19 @@ module _ {ws : List ℕ} {m₀ : List ℤ} {ps₀ : List ℕ} {run₀ : Run} (fi
     left-stood q =
         let t = a (q .grammar) (q .lent) (q .config) (q .held) tt in
         let x = hand-remove (q .held) five in
-        let n = remove-on (q .grammar) (q .held .wellFormed) (q .lent) (q .tokens) (q .known) (q .config) (q .stand) (getD ws (run₀ .at) 0 / 8) (x .frames) ends (t .0) (t .1) in
+        let n = remove-on (q .grammar) (q .held .wellFormed) (q .lent) (q .tokens) (q .known) (q .config) (q .stand) (headOperand (getD ws (run₀ .at) 0)) (x .frames) ends (t .0) (t .1) in
         record { grammar = q .grammar; lent = q .lent; tokens = q .tokens; known = q .known; config = t .0; node = _; below = q .below; held = t .2; stand = n .0 }
 
     pub left-settled : Records ws m₀ ps₀ run₀ k before sheet₀ sheet → (m : List ℤ) (ps : List ℕ) (e : Ended) → Settles ws m₁ ps₁ run₁ m ps e → (end : ℕ) → Leaves ws m₀ ps₀ run₀ k before end sheet₀ m ps sheet (walkedAs e end)
     left-settled r m ps e q end g lent tokens c o b bs known h s =
         let t = a g lent c h tt in
         let x = hand-remove h five in
-        let n = remove-on g (h .wellFormed) lent tokens known c s (getD ws (run₀ .at) 0 / 8) (x .frames) ends (t .0) (t .1) in
-        go e (t .2) (n .0) (n .1) (counts g lent ends c (t .0) (t .1) .moves) (q g lent tokens (t .0) (withChild (b .node) (treeOf (o .production) (ownValues g (o .production) (getD ws (run₀ .at) 0 / 8) (c .registers)) (o .children))) bs known (t .2) (n .0))
+        let n = remove-on g (h .wellFormed) lent tokens known c s (headOperand (getD ws (run₀ .at) 0)) (x .frames) ends (t .0) (t .1) in
+        go e (t .2) (n .0) (n .1) (counts g lent ends c (t .0) (t .1) .moves) (q g lent tokens (t .0) (withChild (b .node) (treeOf (o .production) (ownValues g (o .production) (headOperand (getD ws (run₀ .at) 0)) (c .registers)) (o .children))) bs known (t .2) (n .0))
       where
-        go : (e : Ended) {d : Config} → Held g ws lent m₁ ps₁ run₁ d → Stand g tokens (withChild (b .node) (treeOf (o .production) (ownValues g (o .production) (getD ws (run₀ .at) 0 / 8) (c .registers)) (o .children))) bs d → rest g lent tokens c ≡ rest g lent tokens d → d .moves ≡ suc (c .moves)
-            → SettledAs g ws lent tokens d (withChild (b .node) (treeOf (o .production) (ownValues g (o .production) (getD ws (run₀ .at) 0 / 8) (c .registers)) (o .children))) bs m ps e → LeftAs g ws lent tokens c o b bs run₀ k before end sheet₀ m ps sheet (walkedAs e end)
+        go : (e : Ended) {d : Config} → Held g ws lent m₁ ps₁ run₁ d
+            → Stand g tokens (withChild (b .node) (treeOf (o .production) (ownValues g (o .production) (headOperand (getD ws (run₀ .at) 0)) (c .registers)) (o .children))) bs d → rest g lent tokens c ≡ rest g lent tokens d → d .moves ≡ suc (c .moves)
+            → SettledAs g ws lent tokens d (withChild (b .node) (treeOf (o .production) (ownValues g (o .production) (headOperand (getD ws (run₀ .at) 0)) (c .registers)) (o .children))) bs m ps e → LeftAs g ws lent tokens c o b bs run₀ k before end sheet₀ m ps sheet (walkedAs e end)
         go (Failed run j) h′ s′ same more z = refused-from same z
         go (Stopped run) h′ s′ same more z = (record { to = z .0 .to; held = z .0 .held; stand = z .0 .stand; same = same ∙ z .0 .same; moves = omega (arith, more, z .0 .later) }, refl, r g lent tokens c o b bs h s)
 

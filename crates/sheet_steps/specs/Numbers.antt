@@ -1,11 +1,12 @@
 -- The numbers of a walk in eight cells: the run's five; where the sheet goes on, or the number that refuses; how many registers and places are lent. And what a walk comes to.
-use Prim.Native.Nat.{ℕ, zero, suc, _%_, _≤_, _<_}
+use Prim.Native.Nat.{ℕ, zero, suc, _≤_, _<_}
 use native.Mathlib.Omega.{arith}
 use mathlib.Core.Path.{_≡_, refl, ap, _∙_}
 use mathlib.Core.Bool.{Bool, true, false}
 use mathlib.Core.List.{List, [], _∷_, _++_}
 use lib.ListN.{length, getD, set, take, drop, length-set, length-append, length-take, length-drop}
 use lib.Seq.{length-take-le, getD-set-other, getD-set-same}
+use Rattle.theory_program.specs.Parts.{headOperation}
 use Rattle.run_moves.specs.declared.Run.{Run}
 use Rattle.run_machine.specs.declared.Ended as Ended
 use Rattle.run_machine.specs.declared.Ended.the-variants as E
@@ -29,7 +30,7 @@ walkedAs (E.Failed run j) end = Failed run j
 
 -- what is at hand is no add, evaluate or test
 abbrev pub Rests : List ℕ → Walked → Type 0
-Rests ws (Left run end) = isInside (getD ws (run .at) 0 % 8) ≡ false
+Rests ws (Left run end) = isInside (headOperation (getD ws (run .at) 0)) ≡ false
 Rests ws (Failed run j) = Unit {0}
 
 -- a number that refuses has four bytes
@@ -124,13 +125,13 @@ pub record AnswerWritten (s : List ℕ) (ended : Ended.Ended) (r : Bool) (s′ :
   pub places : getD s′ 7 0 ≡ getD s 7 0
   pub small : Small r s′
 
-pub told-stopped : (s : List ℕ) (run : Run) → length s ≡ 8 → AnswerWritten s (E.Stopped run) true (stored s run)
-told-stopped s run l =
+pub end-stopped : (s : List ℕ) (run : Run) → length s ≡ 8 → AnswerWritten s (E.Stopped run) true (stored s run)
+end-stopped s run l =
     let x = stored-as s run l in
     record { walked = (λ i. Left (x .0 i) (x .1 i)); eight = x .4; registers = x .2; places = x .3; small = tt }
 
-pub told-failed : (s : List ℕ) (run : Run) (j : ℕ) → j < 4294967296 → length s ≡ 8 → AnswerWritten s (E.Failed run j) false (set (stored s run) 5 j)
-told-failed s run j few l =
+pub end-failed : (s : List ℕ) (run : Run) (j : ℕ) → j < 4294967296 → length s ≡ 8 → AnswerWritten s (E.Failed run j) false (set (stored s run) 5 j)
+end-failed s run j few l =
     let x = stored-as s run l in
     let t = stored s run in
     let y : runIn (set t 5 j) ≡ run = run-apart t j ∙ x .0 in

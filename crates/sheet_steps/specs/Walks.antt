@@ -1,5 +1,5 @@
 -- What the functions of the walk rely on and leave, over cells of which the first ones are lent, and the numbers.
-use Prim.Native.Nat.{ℕ, _+_, _-_, _*_, _%_, _≤_, _<_}
+use Prim.Native.Nat.{ℕ, _+_, _-_, _*_, _≤_, _<_}
 use native.Mathlib.Omega.{arith}
 use mathlib.Core.Path.{_≡_, refl, sym, ap, _∙_, subst}
 use mathlib.Core.Bool.{Bool, true, false}
@@ -7,6 +7,7 @@ use mathlib.Core.List.{List, _++_}
 use lib.ListN.{length, getD, set, take, drop}
 use lib.Seq.{getD-set-same}
 use lib.IntN.{ℤ}
+use Rattle.theory_program.specs.Parts.{headOperation}
 use Rattle.theory_program.specs.Proper.{att-most}
 use Rattle.run_moves.specs.Held.{bounds}
 use Rattle.run_machine.specs.declared.Ended.{Ended}
@@ -21,7 +22,7 @@ use Rattle.sheet_steps.specs.Cycle.{list-more-at, list-places, rests-loo
 
 -- the operation at hand
 abbrev pub handIn : List ℕ → List ℕ → ℕ
-handIn ws s = getD ws (getD s 4 0) 0 % 8
+handIn ws s = headOperation (getD ws (getD s 4 0) 0)
 
 pub record PassAt (ws ks : List ℕ) (vs m : List ℤ) (ps s : List ℕ) : Type 0 where
   pub walking : Walking ws ks vs (low 6 s m) (low 7 s ps) (runIn s)
@@ -93,20 +94,20 @@ module _ {m₀ : List ℤ} {ps₀ s₀ : List ℕ} (f : Fits m₀ ps₀ s₀) (m
   abbrev ps : List ℕ
   ps = ps₁ ++ drop (getD s₀ 7 0) ps₀
 
-  pub told-kept : Kept m₀ ps₀ s₀ m ps s
-  told-kept = record { eight = t .eight; registers = t .registers; places = t .places; long = long-written (getD s₀ 6 0) m₁ m₀ d (f .registers); longPlaces = long-written (getD s₀ 7 0) ps₁ ps₀ e (f .places) }
+  pub all-kept : Kept m₀ ps₀ s₀ m ps s
+  all-kept = record { eight = t .eight; registers = t .registers; places = t .places; long = long-written (getD s₀ 6 0) m₁ m₀ d (f .registers); longPlaces = long-written (getD s₀ 7 0) ps₁ ps₀ e (f .places) }
 
-  pub told-low : (P : List ℤ → List ℕ → Walked → Type 0) → P m₁ ps₁ (walkedAs ended (getD s₀ 5 0)) → P (low 6 s m) (low 7 s ps) (walkedIn r s)
-  told-low P p =
+  pub all-low : (P : List ℤ → List ℕ → Walked → Type 0) → P m₁ ps₁ (walkedAs ended (getD s₀ 5 0)) → P (low 6 s m) (low 7 s ps) (walkedIn r s)
+  all-low P p =
       let a : m₁ ≡ low 6 s m = sym (ap (λ n. take n m) (t .registers) ∙ low-written (getD s₀ 6 0) m₁ m₀ (d ∙ fits-low f .0)) in
       let b : ps₁ ≡ low 7 s ps = sym (ap (λ n. take n ps) (t .places) ∙ low-written (getD s₀ 7 0) ps₁ ps₀ (e ∙ fits-low f .1)) in
       subst (λ w. P (low 6 s m) (low 7 s ps) w) (sym (t .walked)) (subst (λ y. P (low 6 s m) y (walkedAs ended (getD s₀ 5 0))) b (subst (λ x. P x ps₁ (walkedAs ended (getD s₀ 5 0))) a p))
 
   pub pass-whole : (ws ks : List ℕ) (vs : List ℤ) → Passes ws ks vs (low 6 s₀ m₀) (low 7 s₀ ps₀) (runIn s₀) (getD s₀ 5 0) m₁ ps₁ (walkedAs ended (getD s₀ 5 0)) → Rests ws (walkedAs ended (getD s₀ 5 0)) → PassOut ws ks vs m₀ ps₀ s₀ m ps r s
-  pass-whole ws ks vs p q = record { passes = told-low (Passes ws ks vs (low 6 s₀ m₀) (low 7 s₀ ps₀) (runIn s₀) (getD s₀ 5 0)) p; rests = told-low (λ x y w. Rests ws w) q; kept = told-kept; small = t .small }
+  pass-whole ws ks vs p q = record { passes = all-low (Passes ws ks vs (low 6 s₀ m₀) (low 7 s₀ ps₀) (runIn s₀) (getD s₀ 5 0)) p; rests = all-low (λ x y w. Rests ws w) q; kept = all-kept; small = t .small }
 
   pub left-whole : (ws : List ℕ) (at before : ℕ) (sheet₀ sheet : List ℕ) → Leaves ws (low 6 s₀ m₀) (low 7 s₀ ps₀) (runIn s₀) at before (getD s₀ 5 0) sheet₀ m₁ ps₁ sheet (walkedAs ended (getD s₀ 5 0)) → Rests ws (walkedAs ended (getD s₀ 5 0)) → LeftBy ws m₀ ps₀ s₀ at before sheet₀ m ps sheet r s
-  left-whole ws at before sheet₀ sheet p q = record { leaves = told-low (λ x y w. Leaves ws (low 6 s₀ m₀) (low 7 s₀ ps₀) (runIn s₀) at before (getD s₀ 5 0) sheet₀ x y sheet w) p; rests = told-low (λ x y w. Rests ws w) q; kept = told-kept; small = t .small }
+  left-whole ws at before sheet₀ sheet p q = record { leaves = all-low (λ x y w. Leaves ws (low 6 s₀ m₀) (low 7 s₀ ps₀) (runIn s₀) at before (getD s₀ 5 0) sheet₀ x y sheet w) p; rests = all-low (λ x y w. Rests ws w) q; kept = all-kept; small = t .small }
 
 -- ---- a node is entered
 

@@ -1,7 +1,8 @@
 // What the recursive evaluator is made of: the run's numbers in lent cells, a child passed, a node entered, a node left and its record written.
-ghost use Prim.Native.Nat.{ℕ, _%_, _≤_, _<_};
+ghost use Prim.Native.Nat.{ℕ, _≤_, _<_};
 ghost use mathlib.Core.Path.{_≡_};
 ghost use lib.ListN.{length, getD};
+ghost use Rattle.theory_program.specs.Parts.{headOperation};
 ghost use Rattle.sheet_moves.specs.NodeInMemory.{Walking, isLook};
 ghost use Rattle.sheet_record.specs.Recording.{Inner};
 ghost use Rattle.sheet_steps.specs.Numbers.{runIn, stored, AnswerWritten, walkedAs, Rests};
@@ -38,7 +39,7 @@ fn store(numbers: &mut [u64; 8], run: Run)
 }
 
 // What the moves came to; whether none was refused.
-fn told(numbers: &mut [u64; 8], ended: Ended) -> bool
+fn store_end(numbers: &mut [u64; 8], ended: Ended) -> bool
     requires { ⌜ length (now numbers) ≡ 8 ⌝ }
     ensures { λ r. ⌜ AnswerWritten (now (numbers .entry)) ended r (now (numbers .exit)) ⌝ }
 {
@@ -58,7 +59,7 @@ fn told(numbers: &mut [u64; 8], ended: Ended) -> bool
 // The operation at hand.
 pub fn operation(program: &[u32], numbers: &[u64; 8]) -> usize
     requires { ⌜ getD (now numbers) 4 0 < length (now program) ⌝ }
-    ensures { λ r. ⌜ r ≡ getD (now (program .entry)) (getD (now (numbers .entry)) 4 0) 0 % 8 ⌝ }
+    ensures { λ r. ⌜ r ≡ headOperation (getD (now (program .entry)) (getD (now (numbers .entry)) 4 0) 0) ⌝ }
 {
     let here = numbers[4] as usize;
     program_parts::operation(run_moves::word_at(program, here))
@@ -75,7 +76,7 @@ fn pass(
     values: &[i32],
     run: Run,
 ) -> Ended
-    requires { ⌜ Walking (now program) (now kinds) (now values) (now registers) (now places) run × isLook (getD (now program) (run .at) 0 % 8) ⌝ }
+    requires { ⌜ Walking (now program) (now kinds) (now values) (now registers) (now places) run × isLook (headOperation (getD (now program) (run .at) 0)) ⌝ }
     ensures { λ r. ⌜ ((k : ℕ) → Passes (now (program .entry)) (now (kinds .entry)) (now (values .entry)) (now (registers .entry)) (now (places .entry)) run k (now (registers .exit)) (now (places .exit)) (walkedAs r k)) × ((k : ℕ) → Rests (now (program .entry)) (walkedAs r k)) ⌝ }
 {
     match sheet_moves::step(registers, places, program, kinds, values, run) {
@@ -94,7 +95,7 @@ fn depart(
     at: usize,
     before: u64,
 ) -> Ended
-    requires { ⌜ Inner (now program) (now registers) (now places) run × (getD (now program) (run .at) 0 % 8 ≡ 5) × (at < 800000000000) × (before ≤ run .tokens) × (length (now registers) ≤ 4096) ⌝ }
+    requires { ⌜ Inner (now program) (now registers) (now places) run × (headOperation (getD (now program) (run .at) 0) ≡ 5) × (at < 800000000000) × (before ≤ run .tokens) × (length (now registers) ≤ 4096) ⌝ }
     ensures { λ r. ⌜ ((end : ℕ) → Leaves (now (program .entry)) (now (registers .entry)) (now (places .entry)) run at before end (now (sheet .entry)) (now (registers .exit)) (now (places .exit)) (now (sheet .exit)) (walkedAs r end)) × ((end : ℕ) → Rests (now (program .entry)) (walkedAs r end)) ⌝ }
 {
     sheet_record::write_record(registers, places, program, sheet, run, at, before);
@@ -127,7 +128,7 @@ pub fn advance(
         values,
         run,
     );
-    told(numbers, ended)
+    store_end(numbers, ended)
 }
 
 // A node is left, its record written, on the cells that are lent.
@@ -155,7 +156,7 @@ pub fn leave(
         at,
         before,
     );
-    told(numbers, ended)
+    store_end(numbers, ended)
 }
 
 // A node is entered: behind the room of its record come those of the nodes below it.

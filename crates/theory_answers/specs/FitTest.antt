@@ -1,5 +1,5 @@
 -- 34's test is 34's meaning: `stacksFit` holds exactly where `Fit` does.
-use Prim.Native.Nat.{ℕ, zero, suc, _+_, _-_, _*_, _/_, _%_, _≤_, _<_}
+use Prim.Native.Nat.{ℕ, zero, suc, _+_, _-_, _*_, _≤_, _<_}
 use native.Mathlib.Omega.{arith}
 use mathlib.Core.Path.{_≡_, refl, sym, ap, ap₂, _∙_, subst, subst₂}
 use mathlib.Core.Logic.{_⊎_, inl, inr}
@@ -10,7 +10,7 @@ use lib.Seq.{getD-take, getD-drop}
 use lib.Dec.{T, eqb, eqb→eq, eqb-refl, ltb, ltb→lt, lt→ltb, leb, leb→le, le→leb}
 use lib.IntN.{ℤ, pos, negsuc}
 use Rattle.meaning.specs.Base.{all, total}
-use Rattle.meaning.specs.Grammar.{Symbol, terminal, nonterminal, Grammar, productionAt, symbolAt, inh, syn, markedFor, isNonterminal, whole}
+use Rattle.meaning.specs.Grammar.{Symbol, terminal, nonterminal, Grammar, productionAt, symbolAt, inh, syn, markedFor, isNonterminal, whole, placeProduction, placePassed}
 use Rattle.meaning.specs.Value.{inRange, mark}
 use Rattle.meaning.specs.Machine.{movesLimit, tokensLimit}
 use Rattle.meaning.specs.Calls.{Record, Stacks, lentOf, Cell, valued, marked, isMark, cellFits, cellsFit, synCells, waitingCells, isListed, placeWaits, awaited, placesFit, placeCells, stackFits, stacksFit}
@@ -101,35 +101,35 @@ is-nonterminal n x e = rw e (eqb-refl n)
 
 -- the four tests of a place on another one
 abbrev PlaceOn : Grammar → ℕ → List ℕ → Type 0
-PlaceOn g p ps = (p / 256 < length (g .productions)) × (p % 256 < length (productionAt g (p / 256) .right)) × (awaitedTop g ps ≡ nonterminal (productionAt g (p / 256) .left)) × T (placesFit g ps)
+PlaceOn g p ps = (placeProduction p < length (g .productions)) × (placePassed p < length (productionAt g (placeProduction p) .right)) × (awaitedTop g ps ≡ nonterminal (productionAt g (placeProduction p) .left)) × T (placesFit g ps)
 
 module _ (g : Grammar) (p q : ℕ) (qs : List ℕ) where
   isBelow : Bool
-  isBelow = ltb (p / 256) (length (g .productions))
+  isBelow = ltb (placeProduction p) (length (g .productions))
 
   isShort : Bool
-  isShort = ltb (p % 256) (length (productionAt g (p / 256) .right))
+  isShort = ltb (placePassed p) (length (productionAt g (placeProduction p) .right))
 
   isNamed : Bool
-  isNamed = isNonterminal (productionAt g (p / 256) .left) (awaited g q)
+  isNamed = isNonterminal (productionAt g (placeProduction p) .left) (awaited g q)
 
   place-on : T (placesFit g (p ∷ q ∷ qs)) → PlaceOn g p (q ∷ qs)
   unfolding isBelow isShort isNamed
   place-on t =
       let abc : T (isBelow && placeWaits g p && isNamed) = both (isBelow && placeWaits g p && isNamed) (placesFit g (q ∷ qs)) t .0 in
       let ab : T (isBelow && placeWaits g p) = both (isBelow && placeWaits g p) isNamed abc .0 in (
-        ltb→lt (p / 256) (length (g .productions)) (both isBelow (placeWaits g p) ab .0),
-        ltb→lt (p % 256) (length (productionAt g (p / 256) .right)) (both (isListed g (p / 256)) isShort (both isBelow (placeWaits g p) ab .1) .1),
-        nonterminal-is (productionAt g (p / 256) .left) (awaited g q) (both (isBelow && placeWaits g p) isNamed abc .1),
+        ltb→lt (placeProduction p) (length (g .productions)) (both isBelow (placeWaits g p) ab .0),
+        ltb→lt (placePassed p) (length (productionAt g (placeProduction p) .right)) (both (isListed g (placeProduction p)) isShort (both isBelow (placeWaits g p) ab .1) .1),
+        nonterminal-is (productionAt g (placeProduction p) .left) (awaited g q) (both (isBelow && placeWaits g p) isNamed abc .1),
         both (isBelow && placeWaits g p && isNamed) (placesFit g (q ∷ qs)) t .1,
       )
 
   on-place : PlaceOn g p (q ∷ qs) → T (placesFit g (p ∷ q ∷ qs))
   unfolding isBelow isShort isNamed
   on-place o =
-      let a : T isBelow = lt→ltb (p / 256) (length (g .productions)) (o .0) in
-      let b : T (placeWaits g p) = and (isListed g (p / 256)) isShort (or-left isBelow (eqb (p / 256) whole) a) (lt→ltb (p % 256) (length (productionAt g (p / 256) .right)) (o .1)) in
-      let c : T isNamed = is-nonterminal (productionAt g (p / 256) .left) (awaited g q) (o .2) in
+      let a : T isBelow = lt→ltb (placeProduction p) (length (g .productions)) (o .0) in
+      let b : T (placeWaits g p) = and (isListed g (placeProduction p)) isShort (or-left isBelow (eqb (placeProduction p) whole) a) (lt→ltb (placePassed p) (length (productionAt g (placeProduction p) .right)) (o .1)) in
+      let c : T isNamed = is-nonterminal (productionAt g (placeProduction p) .left) (awaited g q) (o .2) in
       and (isBelow && placeWaits g p && isNamed) (placesFit g (q ∷ qs)) (and (isBelow && placeWaits g p) isNamed (and isBelow (placeWaits g p) a b) c) (o .3)
 
 -- ---- places and registers that fit wait
@@ -189,10 +189,10 @@ fit-waits g (p ∷ []) rs t u = bottom p rs (eqb→eq p 32768 t) u
         nothing-below = append-nil (waitingCells g (nonterminal (g .start)))
 fit-waits g (p ∷ q ∷ qs) rs t u =
     let o = place-on g p q qs t in
-    let a = fit-place g (p / 256) (p % 256) (placeCells g (q ∷ qs)) rs u in
-    let e : p / 256 * 256 + p % 256 ≡ p = omega arith in
-    let below : WaitsAt g (q ∷ qs) (a .lower) (nonterminal (productionAt g (p / 256) .left)) = subst (λ z. WaitsAt g (q ∷ qs) (a .lower) z) (o .2) (fit-waits g (q ∷ qs) (a .lower) (o .3) (a .lowerFit)) in
-    subst₂ (λ n z. WaitsAt g (n ∷ q ∷ qs) z (awaited g p)) e (sym (a .joined)) (inside (p / 256) (p % 256) (a .inherited) (a .passed) (o .0) (o .1) (omega arith) (a .inheritedFit) (a .passedFit) below)
+    let a = fit-place g (placeProduction p) (placePassed p) (placeCells g (q ∷ qs)) rs u in
+    let e : placeProduction p * 256 + placePassed p ≡ p = omega arith in
+    let below : WaitsAt g (q ∷ qs) (a .lower) (nonterminal (productionAt g (placeProduction p) .left)) = subst (λ z. WaitsAt g (q ∷ qs) (a .lower) z) (o .2) (fit-waits g (q ∷ qs) (a .lower) (o .3) (a .lowerFit)) in
+    subst₂ (λ n z. WaitsAt g (n ∷ q ∷ qs) z (awaited g p)) e (sym (a .joined)) (inside (placeProduction p) (placePassed p) (a .inherited) (a .passed) (o .0) (o .1) (omega arith) (a .inheritedFit) (a .passedFit) below)
 
 -- ---- and back
 
@@ -209,8 +209,8 @@ waits-fit : (g : Grammar) {ps : List ℕ} {rs : List ℤ} {x : Symbol} → Waits
 waits-fit g (segment vs v) = record { places = tt; cells = subst (λ z. T (cellsFit z (vs ++ replicate (syn g (nonterminal (g .start))) mark))) (sym (append-nil (waitingCells g (nonterminal (g .start))))) (waiting-fit g (nonterminal (g .start)) vs v); named = refl }
 waits-fit g (inside p k vs ss {ps} {rs} l s m v w below) =
     let r = waits-fit g below in
-    let d : (p * 256 + k) / 256 ≡ p = omega arith in
-    let e : (p * 256 + k) % 256 ≡ k = omega arith in
+    let d : placeProduction (p * 256 + k) ≡ p = omega arith in
+    let e : placePassed (p * 256 + k) ≡ k = omega arith in
     record {
       places = place-above g (p * 256 + k) ps (rw d l, rw (d, e) s, r .named ∙ rw d refl, r .places);
       cells = rw (d, e) (place-fit g p k (placeCells g ps) vs ss rs v w (r .cells));

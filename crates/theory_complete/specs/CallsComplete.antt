@@ -24,7 +24,7 @@ use Rattle.theory_base.specs.Selectors.{tree-syn, tree-size}
 use Rattle.theory_base.specs.Walks.{allMoves, room}
 use Rattle.theory_answers.specs.Memory.{lay-over}
 use Rattle.theory_sound.specs.KeptByCalls.{Stopped}
-use Rattle.theory_sound.specs.CallSound.{Held, held-feed, opening-held, feed-is, finish-is}
+use Rattle.theory_sound.specs.CallSound.{SoundSoFar, sound-feed, opening-sound, feed-is, finish-is}
 use Rattle.theory_complete.specs.Run.{ltb-above}
 use Rattle.theory_complete.specs.PredictsOfWalk.{Foreseen}
 use Rattle.theory_complete.specs.SegmentComplete.{Shows, shows, ends, final, final-registers, final-places, final-moves}
@@ -32,7 +32,7 @@ use Rattle.meaning.specs.Calls as Calls
 
 -- ---- a call on the stacks that the last one left
 
-module _ (g : Grammar) (formed : WellFormed g) (m : Stacks) (ts : List Leaf) (c : Config) (s : Stopped (Held g (lentOf m)) ts c) (d : Config) where
+module _ (g : Grammar) (formed : WellFormed g) (m : Stacks) (ts : List Leaf) (c : Config) (s : Stopped (SoundSoFar g (lentOf m)) ts c) (d : Config) where
   fed-call : (us : List Leaf) → feedAll g (lentOf m) us c ≡ stopped d → feedLeaves g (recordOf true c) (layAll g c m) us ≡ record { answer = Calls.more (d .moves); state = recordOf true d; stacks = layAll g d m }
   fed-call us e =
       feed-is g formed m ts c s us
@@ -84,8 +84,8 @@ module _ (g : Grammar) (formed : WellFormed g) (m : Stacks) (t : Tree) (o : Fore
       (omega arith, omega arith)
 
   -- what a feed shows is a stop of a run
-  held : (ts : List Leaf) (s : Shows g formed (lentOf m) t o w f ts) → Stopped (Held g (lentOf m)) ts (s .at)
-  held ts s = held-feed g formed (lentOf m) [] ts (s .seen) (opening g) (s .at) (opening-held g formed m (enough .0) (enough .1)) (s .stops)
+  held : (ts : List Leaf) (s : Shows g formed (lentOf m) t o w f ts) → Stopped (SoundSoFar g (lentOf m)) ts (s .at)
+  held ts s = sound-feed g formed (lentOf m) [] ts (s .seen) (opening g) (s .at) (opening-sound g formed m (enough .0) (enough .1)) (s .stops)
 
   -- an answer at a configuration, laid out in the memory lent
   abbrev called : Calls.Answer → Bool → Config → Called

@@ -26,7 +26,7 @@ use Rattle.meaning_ranking.specs.RankCall.{fedOn, finishedOn, evaluated, entryO
 use Rattle.meaning_ranking.specs.RankingStatements.{numbered, isRefusal, candidateAnswer}
 use Rattle.theory_base.specs.Feeds.{even-feed}
 use Rattle.theory_table.specs.AcceptedTable.{accepted-well-formed}
-use Rattle.theory_sound.specs.CallSound.{opening-held, feed-is}
+use Rattle.theory_sound.specs.CallSound.{opening-sound, feed-is}
 use Rattle.theory_demands.specs.ByGrammar.{opens-is, performs-is}
 use Rattle.theory_demands.specs.ValueWhole.{value-whole}
 use Rattle.theory_evaluating.specs.Whole.{is-open, opened-31, opened-32, evaluated-31, evaluated-32}
@@ -67,7 +67,7 @@ module _ (g : Grammar) (f : WellFormed g) (m : Stacks) (ks : List ℕ) (vs : Lis
       let r : length (opening g .registers) ≤ lentOf m .maxRegisters = omega arith in
       let p : 1 ≤ lentOf m .maxPlaces = omega arith in
       let o = is-open g m f r p in
-      let e = even-feed g (recordOf true (opening g)) (layAll g (opening g) m) ks vs even ∙ feed-is g f m [] (opening g) (opening-held g f m r p) (leaves g (tokensFrom ks vs)) in
+      let e = even-feed g (recordOf true (opening g)) (layAll g (opening g) m) ks vs even ∙ feed-is g f m [] (opening g) (opening-sound g f m r p) (leaves g (tokensFrom ks vs)) in
       let a = fed-alike (layAll g (opening g) m) (feedAll g (lentOf m) (leaves g (tokensFrom ks vs)) (opening g)) in
       let b = subst (λ k. Alike v n (finishedOn g k .answer) (finishedAfter k)) (sym e) a in
       subst (λ k. Alike v n (finishedOn g (fedOn g ks vs k) .answer) (finishedAfter (fedAfter k))) (sym o) b

@@ -26,7 +26,7 @@ use Rattle.theory_answers.specs.ShapeMoves.{ShapedAt}
 use Rattle.theory_answers.specs.Answers.{when-met}
 use Rattle.theory_answers.specs.Runs.{makes-keep, with-nothing, with-end, Fed, FeedBlocks, fed, Finished, finished}
 use Rattle.theory_sound.specs.KeptByCalls.{Stopped}
-use Rattle.theory_sound.specs.CallSound.{Held, held-feed, held-finish, opening-held, feed-is}
+use Rattle.theory_sound.specs.CallSound.{SoundSoFar, sound-feed, sound-finish, opening-sound, feed-is}
 
 -- what a finish after all tokens, or the refusal of one, leaves
 abbrev pub wholly : Grammar → Stacks → Settled → Called
@@ -73,8 +73,8 @@ module _ (g : Grammar) (m : Stacks) where
         ∙ ap (λ b. finishedOn g (fedOn g ks vs (openBy false b))) (lt-ltb (lentOf m .maxPlaces) 1 l)
 
   module _ (f : WellFormed g) (r : length (opening g .registers) ≤ lentOf m .maxRegisters) (p : 1 ≤ lentOf m .maxPlaces) where
-    start : Stopped (Held g (lentOf m)) [] (opening g)
-    start = opening-held g f m r p
+    start : Stopped (SoundSoFar g (lentOf m)) [] (opening g)
+    start = opening-sound g f m r p
 
     pub is-open : openOf g m ≡ opened
     is-open = ap (λ b. openBy b flat) (le-ltb (lentOf m .maxRegisters) (length (opening g .registers)) r) ∙ ap (openBy false) (le-ltb (lentOf m .maxPlaces) 1 p)
@@ -124,7 +124,7 @@ module _ (g : Grammar) (m : Stacks) where
 
       pub value-at : T (all (isLeafOf g) us) → (d : Config) → finishAll g (lentOf m) c ≡ stopped d → T (inRange (result g d))
       value-at t d e =
-          let h = held-finish g f (lentOf m) us c d (held-feed g f (lentOf m) [] us t (opening g) c start q) e in
+          let h = sound-finish g f (lentOf m) us c d (sound-feed g f (lentOf m) [] us t (opening g) c start q) e in
           result-ranged g f d (h .0 .shaped) (h .1)
 
     module _ (ks : List ℕ) (vs : List ℤ) (even : length ks ≡ length vs) where
@@ -154,4 +154,4 @@ module _ (g : Grammar) (m : Stacks) where
         where
           go : (o : Settled) → feedAll g (lentOf m) (leaves g (tokensFrom ks vs)) (opening g) ≡ o → evaluated g m ks vs ≡ wholly g m o
           go (failed c k) q = evaluated-failed c k q
-          go (stopped c) q = evaluated-stopped c q (held-feed g f (lentOf m) [] (leaves g (tokensFrom ks vs)) (leaves-of g ks vs t) (opening g) c start q .0 .shaped)
+          go (stopped c) q = evaluated-stopped c q (sound-feed g f (lentOf m) [] (leaves g (tokensFrom ks vs)) (leaves-of g ks vs t) (opening g) c start q .0 .shaped)

@@ -17,7 +17,7 @@ use Rattle.meaning.specs.Value.{inRange, mark}
 use Rattle.value.specs.Ranged.{ranged, ranged-in, in-ranged}
 use Rattle.value.specs.Overflow.{large-out}
 use Rattle.theory_judge.specs.Longs.{longOf, long-low, long-high, bitsAt, longAt}
-use Rattle.theory_judge.specs.Marks.{told}
+use Rattle.theory_judge.specs.Marks.{valueOrZero}
 
 abbrev pub biased : ℕ → ℕ
 biased n = (n + 4611686018427387904) % 18446744073709551616
@@ -55,13 +55,13 @@ module _ (z y : ℤ) (same : ranged z ≡ ranged y) where
   pub in-same : inRange z ≡ inRange y
   in-same = sym (in-ranged z) ∙ (ap inRange same ∙ in-ranged y)
 
-  pub told-value : inRange z ≡ true → z ≡ told y
-  told-value e =
+  pub or-zero-value : inRange z ≡ true → z ≡ valueOrZero y
+  or-zero-value e =
       let i : inRange y ≡ true = sym in-same ∙ e in
       sym (ranged-in z e) ∙ (same ∙ (ranged-in y i ∙ sym (ap (λ b. cond b y (pos 0)) i)))
 
-  pub told-none : inRange z ≡ false → pos 0 ≡ told y
-  told-none e = sym (ap (λ b. cond b y (pos 0)) (sym in-same ∙ e))
+  pub or-zero-none : inRange z ≡ false → pos 0 ≡ valueOrZero y
+  or-zero-none e = sym (ap (λ b. cond b y (pos 0)) (sym in-same ∙ e))
 
 -- the same of what stands at a place: n is what was read, b is that with 2 ^ 62 added
 module _ (bytes : List ℕ) (at n b : ℕ) (small : n < 18446744073709551616) (read : n ≡ bitsAt bytes at) (added : b ≡ (n + 4611686018427387904) % 18446744073709551616) where

@@ -27,25 +27,25 @@ use Rattle.theory_judge.specs.Holding.{sameZ, same-exactly, ruleTrue, al
 -- ---- reading
 
 -- a number where it is a value, else 0
-abbrev pub told : ℤ → ℤ
-told z = cond (inRange z) z (pos 0)
+abbrev pub valueOrZero : ℤ → ℤ
+valueOrZero z = cond (inRange z) z (pos 0)
 
-pub told-same : (z : ℤ) → T (inRange z) → told z ≡ z
-told-same z t = ap (λ b. cond b z (pos 0)) (T→true (inRange z) t)
+pub or-zero-same : (z : ℤ) → T (inRange z) → valueOrZero z ≡ z
+or-zero-same z t = ap (λ b. cond b z (pos 0)) (T→true (inRange z) t)
 
 unfoldable pub readMark : List ℕ → List ℤ → ℕ → ℕ → ℤ
-readMark bytes vals m a = cond (ltb m (length bytes)) (told (longAt bytes (m + 4 + 8 * a))) (getD vals (m - length bytes) (pos 0))
+readMark bytes vals m a = cond (ltb m (length bytes)) (valueOrZero (longAt bytes (m + 4 + 8 * a))) (getD vals (m - length bytes) (pos 0))
 
 unfoldable pub readAt : List ℕ → List ℤ → List ℕ → Occurrence → ℤ
 readAt bytes vals marks o = readMark bytes vals (getD marks (o .position) 0) (o .attribute)
 
-pub read-record : (bytes : List ℕ) (vals : List ℤ) (m a : ℕ) → m < length bytes → readMark bytes vals m a ≡ told (longAt bytes (m + 4 + 8 * a))
+pub read-record : (bytes : List ℕ) (vals : List ℤ) (m a : ℕ) → m < length bytes → readMark bytes vals m a ≡ valueOrZero (longAt bytes (m + 4 + 8 * a))
 unfolding readMark
-read-record bytes vals m a l = ap (λ b. cond b (told (longAt bytes (m + 4 + 8 * a))) (getD vals (m - length bytes) (pos 0))) (lt-ltb m (length bytes) l)
+read-record bytes vals m a l = ap (λ b. cond b (valueOrZero (longAt bytes (m + 4 + 8 * a))) (getD vals (m - length bytes) (pos 0))) (lt-ltb m (length bytes) l)
 
 pub read-token : (bytes : List ℕ) (vals : List ℤ) (m a : ℕ) → length bytes ≤ m → readMark bytes vals m a ≡ getD vals (m - length bytes) (pos 0)
 unfolding readMark
-read-token bytes vals m a l = ap (λ b. cond b (told (longAt bytes (m + 4 + 8 * a))) (getD vals (m - length bytes) (pos 0))) (le-ltb m (length bytes) l)
+read-token bytes vals m a l = ap (λ b. cond b (valueOrZero (longAt bytes (m + 4 + 8 * a))) (getD vals (m - length bytes) (pos 0))) (le-ltb m (length bytes) l)
 
 -- ---- a mark shows the values of a tree
 
@@ -94,7 +94,7 @@ values-shown bytes vals m p vs f l t e a low high =
     let i : ℕ = a - 1 in
     let at-place : m + 12 + 8 * i ≡ m + 4 + 8 * a = omega arith in
     let here : longAt bytes (m + 4 + 8 * a) ≡ getD vs i (pos 0) = ap (longAt bytes) (sym at-place) ∙ (sym (longs-at bytes (m + 12) (length vs) i (omega arith)) ∙ ap (λ l. getD l i (pos 0)) e) in
-    read-record bytes vals m a l ∙ (ap told here ∙ told-same (getD vs i (pos 0)) (in-range-at vs t i (omega arith)))
+    read-record bytes vals m a l ∙ (ap valueOrZero here ∙ or-zero-same (getD vs i (pos 0)) (in-range-at vs t i (omega arith)))
 
 module _ (g : Grammar) (formed : WellFormed g) (ks : List ℕ) (vals : List ℤ) (few : length (leaves g (tokensFrom ks vals)) < 4294967296) (bytes : List ℕ) (at from : ℕ) (low : from ≤ length (leaves g (tokensFrom ks vals))) where
   abbrev us : List Leaf

@@ -55,19 +55,19 @@ nothing-left left p fs e = let s = same-frame (frame whole []) (frame p []) [] f
 nothing-left (on q is {fs = zs} k b) p fs e = let s = same-frame (frame q is) (frame p []) zs fs e in absurd (subst (λ z. T (closes z)) (ap (λ f. f .rest) (s .0)) k)
 
 -- a frame with an instruction left
-abbrev Held : ℕ → Instruction → List Instruction → List Frame → Type 0
-Held p i is fs = ((p ≡ whole) × (isExpect i ≡ 1) × (is ≡ []) × (fs ≡ [])) ⊎ (T (closes (i ∷ is)) × Below fs)
+abbrev FirstFrame : ℕ → Instruction → List Instruction → List Frame → Type 0
+FirstFrame p i is fs = ((p ≡ whole) × (isExpect i ≡ 1) × (is ≡ []) × (fs ≡ [])) ⊎ (T (closes (i ∷ is)) × Below fs)
 
 same-rest : (i j : Instruction) (is js : List Instruction) → i ∷ is ≡ j ∷ js → (i ≡ j) × (is ≡ js)
 same-rest i j is js e = (cc, cc)
 
-held : {zs : List Frame} → Framed zs → (p : ℕ) (i : Instruction) (is : List Instruction) (fs : List Frame) → zs ≡ frame p (i ∷ is) ∷ fs → Held p i is fs
-held (begun x) p i is fs e =
+first-frame : {zs : List Frame} → Framed zs → (p : ℕ) (i : Instruction) (is : List Instruction) (fs : List Frame) → zs ≡ frame p (i ∷ is) ∷ fs → FirstFrame p i is fs
+first-frame (begun x) p i is fs e =
     let s = same-frame (frame whole (expect x ∷ [])) (frame p (i ∷ is)) [] fs e in
     let r = same-rest (expect x) i [] is (ap (λ f. f .rest) (s .0)) in
     inl (sym (ap (λ f. f .production) (s .0)), sym (ap isExpect (r .0)), sym (r .1), sym (s .1))
-held left p i is fs e = let s = same-frame (frame whole []) (frame p (i ∷ is)) [] fs e in absurd (cons≢nil (sym (ap (λ f. f .rest) (s .0))))
-held (on q js {fs = zs} k b) p i is fs e =
+first-frame left p i is fs e = let s = same-frame (frame whole []) (frame p (i ∷ is)) [] fs e in absurd (cons≢nil (sym (ap (λ f. f .rest) (s .0))))
+first-frame (on q js {fs = zs} k b) p i is fs e =
     let s = same-frame (frame q js) (frame p (i ∷ is)) zs fs e in
     inr (subst (λ z. T (closes z)) (ap (λ f. f .rest) (s .0)) k, subst Below (s .1) b)
 
@@ -106,23 +106,23 @@ module _ (g : Grammar) (w : WellFormed g) (lent : Lent) (l : Coming) (c d : Conf
   To z = Framed (z .frames)
 
   -- an instruction that expects nothing
-  onward : (p : ℕ) (i : Instruction) (is : List Instruction) (fs : List Frame) → isExpect i ≡ 0 → closes (i ∷ is) ≡ closes is → Held p i is fs → Framed (frame p is ∷ fs)
+  onward : (p : ℕ) (i : Instruction) (is : List Instruction) (fs : List Frame) → isExpect i ≡ 0 → closes (i ∷ is) ≡ closes is → FirstFrame p i is fs → Framed (frame p is ∷ fs)
   onward p i is fs e k (inl h) = absurd (omega (arith, e, h .1))
   onward p i is fs e k (inr h) = on p is (subst T k (h .0)) (h .1)
 
-  reads : (p t : ℕ) (is : List Instruction) (fs : List Frame) → Held p (expect (terminal t)) is fs → Framed (frame p is ∷ fs)
+  reads : (p t : ℕ) (is : List Instruction) (fs : List Frame) → FirstFrame p (expect (terminal t)) is fs → Framed (frame p is ∷ fs)
   reads p t is fs (inl h) = subst Framed (sym (ap₂ (λ (f : Frame) (zs : List Frame). f ∷ zs) (ap₂ frame (h .0) (h .2)) (h .3))) left
   reads p t is fs (inr h) = on p is (h .0) (h .1)
 
-  stays : (p n : ℕ) (is : List Instruction) (fs : List Frame) → Held p (expect (nonterminal n)) is fs → Below (frame p (expect (nonterminal n) ∷ is) ∷ fs)
+  stays : (p n : ℕ) (is : List Instruction) (fs : List Frame) → FirstFrame p (expect (nonterminal n)) is fs → Below (frame p (expect (nonterminal n) ∷ is) ∷ fs)
   stays p n is fs (inl h) = subst Below (sym (ap₂ (λ (f : Frame) (zs : List Frame). f ∷ zs) (ap₂ (λ q js. frame q (expect (nonterminal n) ∷ js)) (h .0) (h .2)) (h .3))) (segment (nonterminal n))
   stays p n is fs (inr h) = inside p (nonterminal n) is (h .0) (h .1)
 
-  removes : (p n : ℕ) (is : List Instruction) (fs : List Frame) → Held p (remove n) is fs → Framed (parentOnward fs)
+  removes : (p n : ℕ) (is : List Instruction) (fs : List Frame) → FirstFrame p (remove n) is fs → Framed (parentOnward fs)
   removes p n is fs (inl h) = absurd (omega (arith, h .1))
   removes p n is fs (inr h) = parent-framed (h .1)
 
-  by-result : (p : ℕ) (i : Instruction) (is : List Instruction) (fs : List Frame) → c .frames ≡ frame p (i ∷ is) ∷ fs → Held p i is fs → Result g lent l c (frame p (i ∷ is)) fs i d → To d
+  by-result : (p : ℕ) (i : Instruction) (is : List Instruction) (fs : List Frame) → c .frames ≡ frame p (i ∷ is) ∷ fs → FirstFrame p i is fs → Result g lent l c (frame p (i ∷ is)) fs i d → To d
   by-result p (add n) is fs e h r = subst To (r .1) (onward p (add n) is fs refl refl h)
   by-result p (evaluate rs) is fs e h r = subst To (r .1) (onward p (evaluate rs) is fs refl refl h)
   by-result p (test cs) is fs e h r = subst To (r .1) (onward p (test cs) is fs refl refl h)
@@ -134,4 +134,4 @@ module _ (g : Grammar) (w : WellFormed g) (lent : Lent) (l : Coming) (c d : Conf
   framed-move k h =
       let a = at-hand g lent l c d h in
       let f : Frame = frame (a .production) (a .instruction ∷ a .rest) in
-      by-result (a .production) (a .instruction) (a .rest) (a .below) (a .frames) (held k (a .production) (a .instruction) (a .rest) (a .below) (a .frames)) (result g lent l c f (a .below) (a .instruction) d (a .makes))
+      by-result (a .production) (a .instruction) (a .rest) (a .below) (a .frames) (first-frame k (a .production) (a .instruction) (a .rest) (a .below) (a .frames)) (result g lent l c f (a .below) (a .instruction) d (a .makes))

@@ -1,5 +1,5 @@
 -- 34 reads left and right sides and counts alone.
-use Prim.Native.Nat.{ℕ, _-_, _/_, _%_}
+use Prim.Native.Nat.{ℕ, _-_}
 use mathlib.Core.Path.{_≡_, refl, ap, ap₂, _∙_}
 use mathlib.Core.Bool.{Bool, false, _&&_, _||_}
 use mathlib.Core.List.{List, [], _∷_, _++_, reverse}
@@ -7,7 +7,7 @@ use lib.ListN.{length, getD, drop, take, replicate}
 use lib.Dec.{eqb, ltb, leb}
 use lib.IntN.{ℤ}
 use Rattle.meaning.specs.Base.{all}
-use Rattle.meaning.specs.Grammar.{Symbol, terminal, nonterminal, Production, Grammar, productionAt, inh, syn, whole, isNonterminal}
+use Rattle.meaning.specs.Grammar.{Symbol, terminal, nonterminal, Production, Grammar, productionAt, inh, syn, whole, isNonterminal, placeProduction, placePassed}
 use Rattle.meaning.specs.Machine.{movesLimit, tokensLimit}
 use Rattle.meaning.specs.Calls.{Record, Stacks, lentOf, Cell, valued, marked, isMark, cellsFit, synCells, waitingCells, awaited, placesFit, placeCells, stackFits, stacksFit}
 use Rattle.meaning_house.specs.Order.{SameEach}
@@ -26,7 +26,9 @@ module _ (g : Grammar) (qs : List Production) (s : SameEach (g .productions) qs)
   places-same : (ps : List ℕ) → placesFit g ps ≡ placesFit (regrouped g qs) ps
   places-same [] = refl
   places-same (p ∷ []) = refl
-  places-same (p ∷ q ∷ ps) = λ i. ltb (p / 256) (count i) && ((ltb (p / 256) (count i) || eqb (p / 256) whole) && ltb (p % 256) (length (rights (p / 256) i))) && isNonterminal (lefts (p / 256) i) (getD (rights (q / 256) i) (q % 256) (terminal 0)) && places-same (q ∷ ps) i
+  places-same (p ∷ q ∷ ps) =
+      let n = placeProduction p in
+      λ i. ltb n (count i) && ((ltb n (count i) || eqb n whole) && ltb (placePassed p) (length (rights n i))) && isNonterminal (lefts n i) (getD (rights (placeProduction q) i) (placePassed q) (terminal 0)) && places-same (q ∷ ps) i
 
   syn-cells-same : (xs : List Symbol) (below : List Cell) → synCells g xs below ≡ synCells (regrouped g qs) xs below
   syn-cells-same [] below = refl
@@ -38,8 +40,8 @@ module _ (g : Grammar) (qs : List Production) (s : SameEach (g .productions) qs)
   cells-same : (ps : List ℕ) → placeCells g ps ≡ placeCells (regrouped g qs) ps
   cells-same [] = refl
   cells-same (p ∷ ps) =
-      (λ i. waitingCells g (getD (rights (p / 256) i) (p % 256) (terminal 0)) ++ synCells g (take (p % 256) (rights (p / 256) i)) (cells-same ps i))
-      ∙ ap₂ _++_ (waiting-same (awaited (regrouped g qs) p)) (syn-cells-same (take (p % 256) (productionAt (regrouped g qs) (p / 256) .right)) (placeCells (regrouped g qs) ps))
+      (λ i. waitingCells g (getD (rights (placeProduction p) i) (placePassed p) (terminal 0)) ++ synCells g (take (placePassed p) (rights (placeProduction p) i)) (cells-same ps i))
+      ∙ ap₂ _++_ (waiting-same (awaited (regrouped g qs) p)) (syn-cells-same (take (placePassed p) (productionAt (regrouped g qs) (placeProduction p) .right)) (placeCells (regrouped g qs) ps))
 
   stack-same : (ps : List ℕ) (rs : List ℤ) → stackFits g ps rs ≡ stackFits (regrouped g qs) ps rs
   stack-same ps rs = ap₂ (λ a c.

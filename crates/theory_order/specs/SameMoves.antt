@@ -1,5 +1,5 @@
 -- Two grammars whose schemes, sets and entry conditions agree: corresponding configurations move to corresponding ones, and each call gives the same answer, record and stacks.
-use Prim.Native.Nat.{ℕ, zero, suc, _+_, _-_, _*_, _/_, _%_}
+use Prim.Native.Nat.{ℕ, zero, suc, _+_, _-_, _*_}
 use mathlib.Core.Path.{_≡_, refl, ap, ap₂, subst, fun-ext, _∙_}
 use mathlib.Core.Bool.{Bool, true, false, _&&_}
 use mathlib.Core.List.{List, [], _∷_, _++_, map, reverse}
@@ -7,7 +7,7 @@ use lib.ListN.{length, drop, take, replicate}
 use lib.Dec.{eqb, ltb, leb}
 use lib.IntN.{ℤ}
 use Rattle.meaning.specs.Base.{any, keep, isEmpty}
-use Rattle.meaning.specs.Grammar.{terminal, nonterminal, Token, Leaf, Grammar, productionAt, syn, carried, leaves, Look, whole}
+use Rattle.meaning.specs.Grammar.{terminal, nonterminal, Token, Leaf, Grammar, productionAt, syn, carried, leaves, Look, whole, placeProduction, placePassed}
 use Rattle.meaning.specs.Value.{mark}
 use Rattle.meaning.specs.Scheme.{Instruction, expect}
 use Rattle.meaning.specs.Machine.{Coming, comes, ends, asLook, Frame, Config, Lent, Outcome, moved, blocked, Settled, stopped, failed, schemeAt, alternatives, entered, push, predict, accept}
@@ -155,7 +155,7 @@ module _ (g h : Grammar) (w : Matched g h) where
 
   frames-back : (ps : List ℕ) → AlikeFrames (map (frameOf g) ps) (map (frameOf h) ps)
   frames-back [] = bottom
-  frames-back (p ∷ ps) = on (p / 256) (alike-from (w .schemes (p / 256)) (p % 256)) (frames-back ps)
+  frames-back (p ∷ ps) = on (placeProduction p) (alike-from (w .schemes (placeProduction p)) (placePassed p)) (frames-back ps)
 
   pub same-config : (r : Record) (m : Stacks) → AlikeConfig (configOf g r m) (configOf h r m)
   same-config r m = alike (reverse (take (r .registerHeight) (m .registers))) (r .tokens) (r .moves) (frames-back (reverse (take (r .placeHeight) (m .places))))

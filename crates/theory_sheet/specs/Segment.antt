@@ -22,7 +22,7 @@ use Rattle.theory_sound.specs.MovesKeepPart.{nodeOf}
 use Rattle.theory_sound.specs.RunsShowPart.{empty-good, empty-registers}
 use Rattle.theory_sound.specs.Sound.{finished-done}
 use Rattle.theory_sound.specs.KeptByCalls.{Stopped}
-use Rattle.theory_sound.specs.CallSound.{Held, feed-is, finish-is, opening-held, held-feed}
+use Rattle.theory_sound.specs.CallSound.{SoundSoFar, feed-is, finish-is, opening-sound, sound-feed}
 use Rattle.theory_sheet.specs.Whole.{andThen, runFrom, run-whole}
 use Rattle.theory_sheet.specs.NodeInProgress.{Stand, withChildren, onto, onto-forest, shows}
 
@@ -50,8 +50,8 @@ module _ (g : Grammar) (f : WellFormed g) (m : Stacks) (ks : List ℕ) (vs : Lis
   after o = let z = feedOf g (o .state) (o .stacks) ks vs in unlessRefused (o .answer) (unlessRefused (z .answer) (finishOf g (z .state) (z .stacks) .answer))
 
   module _ (r : length (opening g .registers) ≤ lentOf m .maxRegisters) (p : 1 ≤ lentOf m .maxPlaces) where
-    s : Stopped (Held g (lentOf m)) [] (opening g)
-    s = opening-held g f m r p
+    s : Stopped (SoundSoFar g (lentOf m)) [] (opening g)
+    s = opening-sound g f m r p
 
     abbrev finishes : Called → Answer
     finishes z = unlessRefused (z .answer) (finishOf g (z .state) (z .stacks) .answer)
@@ -59,7 +59,7 @@ module _ (g : Grammar) (f : WellFormed g) (m : Stacks) (ks : List ℕ) (vs : Lis
     ends-by : (k : Settled) → feedAll g (lentOf m) us (opening g) ≡ k → finishes (afterFeed g (layAll g (opening g) m) k) ≡ answerOf g (andThen k (finishAll g (lentOf m)))
     ends-by (failed e k) q = refl
     ends-by (stopped e) q =
-        let t = held-feed g f (lentOf m) [] us (leaves-of g ks vs four) (opening g) e s q in
+        let t = sound-feed g f (lentOf m) [] us (leaves-of g ks vs four) (opening g) e s q in
         let laid : layAll g e (layAll g (opening g) m) ≡ layAll g e m = lay-over g (opening g) e m (s .0 .within) in
         ap (λ x. finishOf g (recordOf true e) x .answer) laid ∙ (ap (λ z. z .answer) (finish-is g f m us e t) ∙ by (finishAll g (lentOf m) e))
       where

@@ -11,7 +11,7 @@ use lib.Dec.{eqb, leb, ltb}
 use lib.IntN.{ℤ, pos, _+ℤ_, _-ℤ_}
 use Rattle.meaning.specs.Base.{all, keep}
 use Rattle.meaning.specs.Value.{inRange, mark}
-use Rattle.meaning_window.specs.Window.{total, largest, stands, empty, shown, turned, order, zeros, slotsOf, after, valueAt, leads, leadersOf, leaderCells, cells}
+use Rattle.meaning_window.specs.Window.{total, largest, totals, empty, scanOf, turned, order, zeros, slotsOf, after, valueAt, leads, leadersOf, leaderCells, cells}
 use Rattle.meaning_window.specs.Window.{formOf, formLength, small, numberAt, sizeIn, heldIn, nextIn, totalIn, slotsIn, valuesIn, sameNumber, sizeFits, placeFits, sameCells, wellKept, written, valuesWith}
 use Rattle.meaning_window.specs.WindowStatements.{answerIn}
 use Rattle.theory_window.specs.Parts.{countIn, leaderAreaIn, isZero, eqNumbers, valuesOf, topAt, answerOf, valuesFit, restZero, keptAs, keptParts}
@@ -259,7 +259,7 @@ first-cell n [] rest l = absurd (omega arith)
 first-cell n (i ∷ ls) rest l = refl
 
 module _ (n k : ℕ) (w : List ℤ) (valid : Valid n k w) (rest : List ℤ) where
-  pub answer-form : answerIn (formOf n k w ++ rest) ≡ shown w
+  pub answer-form : answerIn (formOf n k w ++ rest) ≡ scanOf w
   answer-form = by w refl
     where
       cell : ℕ → ℤ
@@ -299,13 +299,13 @@ module _ (n k : ℕ) (w : List ℤ) (valid : Valid n k w) (rest : List ℤ) wher
       small-held : heldIn (formOf n k w ++ rest) ≡ length w
       small-held = small-pos (length w) (omega (arith, held, valid .most))
 
-      by : (u : List ℤ) → w ≡ u → answerIn (formOf n k w ++ rest) ≡ shown u
-      by [] e = ap (λ m. cond (eqb m 0) empty (stands (total w) (getD (formOf n k w ++ rest) (5 + numberAt (formOf n k w ++ rest) (5 + sizeIn (formOf n k w ++ rest))) (pos 0)))) (small-held ∙ ap length e)
+      by : (u : List ℤ) → w ≡ u → answerIn (formOf n k w ++ rest) ≡ scanOf u
+      by [] e = ap (λ m. cond (eqb m 0) empty (totals (total w) (getD (formOf n k w ++ rest) (5 + numberAt (formOf n k w ++ rest) (5 + sizeIn (formOf n k w ++ rest))) (pos 0)))) (small-held ∙ ap length e)
       by (v ∷ vs) e =
           let m : heldIn (formOf n k w ++ rest) ≡ suc (length vs) = small-held ∙ ap length e in
-          ap (λ m. cond (eqb m 0) empty (stands (total w) (getD (formOf n k w ++ rest) (5 + numberAt (formOf n k w ++ rest) (5 + sizeIn (formOf n k w ++ rest))) (pos 0)))) m
-          ∙ (ap (λ b. cond b empty (stands (total w) (getD (formOf n k w ++ rest) (5 + numberAt (formOf n k w ++ rest) (5 + sizeIn (formOf n k w ++ rest))) (pos 0)))) (ne-eqb (suc (length vs)) 0 (λ z. omega arith))
-          ∙ (λ i. stands (total (e i)) (largest-in v vs e i)))
+          ap (λ m. cond (eqb m 0) empty (totals (total w) (getD (formOf n k w ++ rest) (5 + numberAt (formOf n k w ++ rest) (5 + sizeIn (formOf n k w ++ rest))) (pos 0)))) m
+          ∙ (ap (λ b. cond b empty (totals (total w) (getD (formOf n k w ++ rest) (5 + numberAt (formOf n k w ++ rest) (5 + sizeIn (formOf n k w ++ rest))) (pos 0)))) (ne-eqb (suc (length vs)) 0 (λ z. omega arith))
+          ∙ (λ i. totals (total (e i)) (largest-in v vs e i)))
 
 -- what the code's walk has read of a buffer is what a scan gives
 module _ (b : List ℤ) (kept : PassedIn b) where
@@ -324,15 +324,15 @@ module _ (b : List ℤ) (kept : PassedIn b) where
       ap small (sym (getD-take c area 0 (pos 0) some)) ∙ (sym (List·getD-map small (take c area) 0 (pos 0)) ∙ ap (λ l. getD l 0 0) (kept .leaders)) in
       ap (λ x. cond x mark (valueAt (slotsIn b) (numberAt area 0))) (ne-eqb 0 c (λ z. omega arith)) ∙ (ap (valueAt (slotsIn b)) first ∙ f .1)
 
-  pub answer-read : answerOf (heldIn b) (totalIn b) (topAt (slotsIn b) (leaderAreaIn b) (countIn b) 0) ≡ shown (valuesIn b)
+  pub answer-read : answerOf (heldIn b) (totalIn b) (topAt (slotsIn b) (leaderAreaIn b) (countIn b) 0) ≡ scanOf (valuesIn b)
   answer-read = by (valuesIn b) refl
     where
-      by : (u : List ℤ) → valuesIn b ≡ u → answerOf (heldIn b) (totalIn b) (topAt (slotsIn b) (leaderAreaIn b) (countIn b) 0) ≡ shown u
-      by [] e = ap (λ x. cond x empty (stands (totalIn b) (topAt (slotsIn b) area c 0))) (eq-eqb (heldIn b) 0 (sym (held-long b kept) ∙ ap length e))
+      by : (u : List ℤ) → valuesIn b ≡ u → answerOf (heldIn b) (totalIn b) (topAt (slotsIn b) (leaderAreaIn b) (countIn b) 0) ≡ scanOf u
+      by [] e = ap (λ x. cond x empty (totals (totalIn b) (topAt (slotsIn b) area c 0))) (eq-eqb (heldIn b) 0 (sym (held-long b kept) ∙ ap length e))
       by (v ∷ vs) e =
           let some : heldIn b ≡ suc (length vs) = sym (held-long b kept) ∙ ap length e in
           let t : totalIn b ≡ total (v ∷ vs) = kept .sum ∙ (sym (total-values (sizeIn b - heldIn b) (nextIn b) (slotsIn b) (kept-zeros b kept)) ∙ ap total e) in
-          ap (λ x. cond x empty (stands (totalIn b) (topAt (slotsIn b) area c 0))) (ne-eqb (heldIn b) 0 (λ z. omega arith)) ∙ (λ i. stands (t i) (top-largest v vs e i))
+          ap (λ x. cond x empty (totals (totalIn b) (topAt (slotsIn b) area c 0))) (ne-eqb (heldIn b) 0 (λ z. omega arith)) ∙ (λ i. totals (t i) (top-largest v vs e i))
 
 -- ---- the tests of the parts answer whether a buffer is well kept
 
@@ -376,7 +376,7 @@ kept-parts b = same-test (keptParts b) (wellKept b) there (well-parts b)
         ap wellKept (kept-form b p) ∙ form-kept (sizeIn b) (nextIn b) (valuesIn b) (kept-valid b p) (drop (formLength (sizeIn b)) b)
 
 -- a well kept buffer answers by a scan of its values
-pub answer-kept : (b : List ℤ) → wellKept b ≡ true → answerIn b ≡ shown (valuesIn b)
+pub answer-kept : (b : List ℤ) → wellKept b ≡ true → answerIn b ≡ scanOf (valuesIn b)
 answer-kept b e =
     let p = passed b e in
     ap answerIn (kept-form b p) ∙ answer-form (sizeIn b) (nextIn b) (valuesIn b) (kept-valid b p) (drop (formLength (sizeIn b)) b)

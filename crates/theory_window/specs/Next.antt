@@ -10,7 +10,7 @@ use lib.Seq.{getD-drop}
 use lib.Dec.{eqb, ltb}
 use lib.IntN.{ℤ, pos, _+ℤ_, _-ℤ_}
 use Rattle.meaning.specs.Base.{all, keep}
-use Rattle.meaning_window.specs.Window.{total, largest, stands, shown, after, valueAt, order, leadersOf, sizeIn, heldIn, nextIn, totalIn, slotsIn, placeFits, valuesWith}
+use Rattle.meaning_window.specs.Window.{total, largest, totals, scanOf, after, valueAt, order, leadersOf, sizeIn, heldIn, nextIn, totalIn, slotsIn, placeFits, valuesWith}
 use Rattle.theory_window.specs.Parts.{isZero}
 use Rattle.theory_window.specs.Lists.{all-getD}
 use Rattle.theory_window.specs.Ring.{grown, staying, order-full, values-order}
@@ -89,16 +89,16 @@ module _ (b : List ℤ) (kept : PassedIn b) (v : ℤ) where
   abbrev s : List ℤ
   s = slotsIn b
 
-  pub push-shown : stands (totalIn b -ℤ valueAt (slotsIn b) (nextIn b) +ℤ v) (topWith (slotsIn b) (nextIn b) v (leadersOf (sizeIn b) (heldIn b) (nextIn b) (slotsIn b))) ≡ shown (valuesWith v b)
-  push-shown = by (valuesWith v b) refl
+  pub push-scan : totals (totalIn b -ℤ valueAt (slotsIn b) (nextIn b) +ℤ v) (topWith (slotsIn b) (nextIn b) v (leadersOf (sizeIn b) (heldIn b) (nextIn b) (slotsIn b))) ≡ scanOf (valuesWith v b)
+  push-scan = by (valuesWith v b) refl
     where
       f : ℕ → ℤ
       f = valueAt (set s k v)
 
-      by : (u : List ℤ) → valuesWith v b ≡ u → stands (totalIn b -ℤ valueAt s k +ℤ v) (topWith s k v (leadersOf n h k s)) ≡ shown u
+      by : (u : List ℤ) → valuesWith v b ≡ u → totals (totalIn b -ℤ valueAt s k +ℤ v) (topWith s k v (leadersOf n h k s)) ≡ scanOf u
       by [] e = absurd (some-grown n h (kept .one) (sym (push-long b kept v) ∙ ap length e))
       by (w ∷ ws) e =
           let t : totalIn b -ℤ valueAt s k +ℤ v ≡ total (w ∷ ws) = ap (λ x. x -ℤ valueAt s k +ℤ v) (kept .sum) ∙ (sym (push-total b kept v) ∙ ap total e) in
           let o : map f (order n (grown n h) (after n k)) ≡ w ∷ ws = values-order n (grown n h) (after n k) (set s k v) (set-long b kept v) ∙ (sym (push-values b kept v) ∙ e) in
           let m : topWith s k v (leadersOf n h k s) ≡ largest w ws = ap (λ l. f (getD l 0 0)) (sym (leaders-push n h k (kept-held b kept) (kept-next b kept) s (kept-slots b kept) v)) ∙ first-value f (order n (grown n h) (after n k)) w ws o .1 in
-          (λ i. stands (t i) (m i))
+          (λ i. totals (t i) (m i))

@@ -7,7 +7,7 @@ use lib.Dec.{eqb, leb}
 use lib.IntN.{ℤ, pos}
 use Rattle.meaning.specs.Base.{all}
 use Rattle.meaning.specs.Value.{inRange, mark}
-use Rattle.meaning_window.specs.Window.{WindowAnswer, stands, empty, total, turned, valueAt, leadersOf, small, numberAt, sizeIn, heldIn, nextIn, totalIn, slotsIn, sizeFits, placeFits, sameNumber}
+use Rattle.meaning_window.specs.Window.{WindowAnswer, totals, empty, total, turned, valueAt, leadersOf, small, numberAt, sizeIn, heldIn, nextIn, totalIn, slotsIn, sizeFits, placeFits, sameNumber}
 
 abbrev pub countIn : List ℤ → ℕ
 countIn b = numberAt b 4
@@ -38,7 +38,7 @@ topAt s area c u = cond (eqb u c) mark (valueAt s (numberAt area u))
 
 -- the answer by number held, total and largest
 abbrev pub answerOf : ℕ → (t top : ℤ) → WindowAnswer
-answerOf h t top = cond (eqb h 0) empty (stands t top)
+answerOf h t top = cond (eqb h 0) empty (totals t top)
 
 -- 0 in the slots that hold none yet and in the leader cells past the leaders
 abbrev pub restZero : ℕ → List ℤ → ℕ → List ℤ → Bool

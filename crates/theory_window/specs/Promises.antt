@@ -10,7 +10,7 @@ use lib.Dec.{T}
 use lib.IntN.{ℤ}
 use Rattle.meaning.specs.Value.{inRange}
 use Rattle.meaning.specs.Calls.{Answer, more, value, refused, tableRefused}
-use Rattle.meaning_window.specs.Window.{turnedBack, shown, after, formLength, sizeIn, nextIn, valuesIn, sizeFits, wellKept, written, valuesWith, opensWindow, bringsValue, bringsRefusal, bringsAnswer}
+use Rattle.meaning_window.specs.Window.{turnedBack, scanOf, after, formLength, sizeIn, nextIn, valuesIn, sizeFits, wellKept, written, valuesWith, opensWindow, bringsValue, bringsRefusal, bringsAnswer}
 use Rattle.meaning_window.specs.WindowStatements.{WindowCall, opening, later, callsWindow, Reached, isValue, TurnedBackExactly, Untouched, PastUntouched}
 use Rattle.theory_base.specs.Members.{apart}
 use Rattle.theory_window.specs.Lists.{both, and-left, and-right}
@@ -19,9 +19,9 @@ use Rattle.theory_window.specs.FormByParts.{passed, push-valid}
 use Rattle.theory_window.specs.Cases.{opens-not, opens-met, value-not, value-met, state-not, state-met}
 use Rattle.theory_window.specs.Reached.{kept-reached, reached-kept, fresh-form}
 
-shown-not : (vs : List ℤ) → shown vs ≡ turnedBack → ⊥
-shown-not [] e = let z : _≡_ {A = ℕ} 0 1 = cc in omega arith
-shown-not (v ∷ vs) e = let z : _≡_ {A = ℕ} 0 1 = cc in omega arith
+scan-not : (vs : List ℤ) → scanOf vs ≡ turnedBack → ⊥
+scan-not [] e = let z : _≡_ {A = ℕ} 0 1 = cc in omega arith
+scan-not (v ∷ vs) e = let z : _≡_ {A = ℕ} 0 1 = cc in omega arith
 
 and-no : (a b : Bool) → b ≡ false → (a && b) ≡ false
 and-no true b e = e
@@ -33,13 +33,13 @@ unchanged : (c : WindowCall) (b : List ℤ) → callsWindow c b .answer ≡ turn
 unchanged (opening n) b e = by (sizeFits n (length b)) refl
   where
     by : (t : Bool) → sizeFits n (length b) ≡ t → opensWindow n b .buffer ≡ b
-    by true q = absurd (shown-not [] (sym (ap (λ o. o .answer) (opens-met n b q)) ∙ e))
+    by true q = absurd (scan-not [] (sym (ap (λ o. o .answer) (opens-met n b q)) ∙ e))
     by false q = ap (λ o. o .buffer) (opens-not n b q)
 unchanged (later (more moves)) b e = refl
 unchanged (later (value v moves)) b e = by (inRange v && wellKept b) refl
   where
     by : (t : Bool) → (inRange v && wellKept b) ≡ t → bringsValue v b .buffer ≡ b
-    by true q = absurd (shown-not (valuesWith v b) (sym (ap (λ o. o .answer) (value-met v b q)) ∙ e))
+    by true q = absurd (scan-not (valuesWith v b) (sym (ap (λ o. o .answer) (value-met v b q)) ∙ e))
     by false q = ap (λ o. o .buffer) (value-not v b q)
 unchanged (later (refused number tokens)) b e = refl
 unchanged (later (tableRefused number offset)) b e = refl
@@ -95,7 +95,7 @@ module _ (b : List ℤ) where
       by false q = refl
 
   state-exactly : (bringsRefusal b ≡ turnedBack → T false ⊎ (Reached b → ⊥)) × (T false ⊎ (Reached b → ⊥) → bringsRefusal b ≡ turnedBack)
-  state-exactly = (λ e. inr (λ r. shown-not (valuesIn b) (sym (state-met b (reached-kept b r)) ∙ e)), back)
+  state-exactly = (λ e. inr (λ r. scan-not (valuesIn b) (sym (state-met b (reached-kept b r)) ∙ e)), back)
     where
       back : T false ⊎ (Reached b → ⊥) → bringsRefusal b ≡ turnedBack
       back (inl t) = absurd t
@@ -105,7 +105,7 @@ module _ (b : List ℤ) where
   value-exactly v = (there (inRange v) refl, back)
     where
       there : (t : Bool) → inRange v ≡ t → bringsValue v b .answer ≡ turnedBack → T (not t) ⊎ (Reached b → ⊥)
-      there true q e = inr (λ r. shown-not (valuesWith v b) (sym (ap (λ o. o .answer) (value-met v b (both q (reached-kept b r)))) ∙ e))
+      there true q e = inr (λ r. scan-not (valuesWith v b) (sym (ap (λ o. o .answer) (value-met v b (both q (reached-kept b r)))) ∙ e))
       there false q e = inl tt
 
       no : (t : Bool) → T (not t) → t ≡ false

@@ -11,7 +11,7 @@ use lib.Dec.{leb}
 use lib.IntN.{ℤ, pos}
 use Rattle.meaning.specs.Base.{all}
 use Rattle.meaning.specs.Value.{inRange}
-use Rattle.meaning_window.specs.Window.{lastOf, empty, turnedBack, shown, zeros, after, formOf, formLength, sizeIn, nextIn, valuesIn, sizeFits, wellKept, Outcome, outcome, written, opensWindow, valuesWith, bringsValue}
+use Rattle.meaning_window.specs.Window.{lastOf, empty, turnedBack, scanOf, zeros, after, formOf, formLength, sizeIn, nextIn, valuesIn, sizeFits, wellKept, Outcome, outcome, written, opensWindow, valuesWith, bringsValue}
 use Rattle.meaning_window.specs.WindowStatements.{afterValues, Reached}
 use Rattle.theory_base.specs.Members.{T→true, true→T}
 use Rattle.theory_window.specs.Lists.{and-left, and-right, both, all-append}
@@ -37,12 +37,12 @@ module _ (n k : ℕ) (w : List ℤ) (v : ℤ) (valid : Valid n k w) (r : inRange
   with : valuesWith v b ≡ lastOf n (w ++ (v ∷ []))
   with = (λ i. lastOf (size-of n k w valid rest i) (values-of n k w valid rest i ++ (v ∷ [])))
 
-  pub brings-form : bringsValue v (formOf n k w ++ rest) ≡ outcome (shown (lastOf n (w ++ (v ∷ [])))) (formOf n (after n k) (lastOf n (w ++ (v ∷ []))) ++ rest)
+  pub brings-form : bringsValue v (formOf n k w ++ rest) ≡ outcome (scanOf (lastOf n (w ++ (v ∷ [])))) (formOf n (after n k) (lastOf n (w ++ (v ∷ []))) ++ rest)
   unfolding bringsValue
   brings-form =
-      ap (λ t. cond t (outcome (shown (valuesWith v b)) (written (sizeIn b) (after (sizeIn b) (nextIn b)) (valuesWith v b) b)) (outcome turnedBack b)) (both r (form-kept n k w valid rest))
-      ∙ ((λ i. outcome (shown (with i)) (formOf (size-of n k w valid rest i) (after (size-of n k w valid rest i) (next-of n k w valid rest i)) (with i) ++ drop (formLength (size-of n k w valid rest i)) b))
-      ∙ ap (λ l. outcome (shown (lastOf n (w ++ (v ∷ [])))) (formOf n (after n k) (lastOf n (w ++ (v ∷ []))) ++ l)) (past-of n k w valid rest))
+      ap (λ t. cond t (outcome (scanOf (valuesWith v b)) (written (sizeIn b) (after (sizeIn b) (nextIn b)) (valuesWith v b) b)) (outcome turnedBack b)) (both r (form-kept n k w valid rest))
+      ∙ ((λ i. outcome (scanOf (with i)) (formOf (size-of n k w valid rest i) (after (size-of n k w valid rest i) (next-of n k w valid rest i)) (with i) ++ drop (formLength (size-of n k w valid rest i)) b))
+      ∙ ap (λ l. outcome (scanOf (lastOf n (w ++ (v ∷ [])))) (formOf n (after n k) (lastOf n (w ++ (v ∷ []))) ++ l)) (past-of n k w valid rest))
 
   pub brings-valid : Valid n (after n k) (lastOf n (w ++ (v ∷ [])))
   brings-valid = moved (size-of n k w valid rest) (next-of n k w valid rest) with (push-valid b (passed b (form-kept n k w valid rest)) v r)
@@ -66,14 +66,14 @@ last-last n us v =
 -- us have been brought
 module _ (n : ℕ) (rest : List ℤ) where
   abbrev pub left : List ℤ → Outcome
-  left us = outcome (shown (lastOf n us)) (formOf n (turns n (length us)) (lastOf n us) ++ rest)
+  left us = outcome (scanOf (lastOf n us)) (formOf n (turns n (length us)) (lastOf n us) ++ rest)
 
   pub brings-one : (us : List ℤ) (v : ℤ) → Valid n (turns n (length us)) (lastOf n us) → inRange v ≡ true
       → (bringsValue v (left us .buffer) ≡ left (us ++ (v ∷ []))) × Valid n (turns n (length (us ++ (v ∷ [])))) (lastOf n (us ++ (v ∷ [])))
   brings-one us v valid q =
       let m : length (us ++ (v ∷ [])) ≡ suc (length us) = omega (arith, length-append us (v ∷ [])) in
       let t : after n (turns n (length us)) ≡ turns n (length (us ++ (v ∷ []))) = ap (turns n) (sym m) in
-      (brings-form n (turns n (length us)) (lastOf n us) v valid q rest ∙ (λ i. outcome (shown (last-last n us v i)) (formOf n (t i) (last-last n us v i) ++ rest)), rw (← t, ← last-last n us v) (brings-valid n (turns n (length us)) (lastOf n us) v valid q rest))
+      (brings-form n (turns n (length us)) (lastOf n us) v valid q rest ∙ (λ i. outcome (scanOf (last-last n us v i)) (formOf n (t i) (last-last n us v i) ++ rest)), rw (← t, ← last-last n us v) (brings-valid n (turns n (length us)) (lastOf n us) v valid q rest))
 
   pub brings-more : (us vs : List ℤ) → Valid n (turns n (length us)) (lastOf n us) → all inRange vs ≡ true
       → (bringsAll vs (left us) ≡ left (us ++ vs)) × Valid n (turns n (length (us ++ vs))) (lastOf n (us ++ vs))
@@ -87,7 +87,7 @@ module _ (n : ℕ) (rest : List ℤ) where
 module _ (n : ℕ) (start : List ℤ) (fits : sizeFits n (length start) ≡ true) where
   pub opened : opensWindow n start ≡ left n (drop (formLength n) start) []
   unfolding opensWindow
-  opened = ap (λ t. cond t (outcome empty (written n 0 [] start)) (outcome turnedBack start)) fits ∙ ap (λ w. outcome (shown w) (formOf n 0 w ++ drop (formLength n) start)) (sym (drop-nil (0 - n)))
+  opened = ap (λ t. cond t (outcome empty (written n 0 [] start)) (outcome turnedBack start)) fits ∙ ap (λ w. outcome (scanOf w) (formOf n 0 w ++ drop (formLength n) start)) (sym (drop-nil (0 - n)))
 
   pub fresh : Valid n 0 (lastOf n [])
   fresh =
@@ -100,7 +100,7 @@ module _ (n : ℕ) (start : List ℤ) (fits : sizeFits n (length start) ≡ true
 
   -- ★ (k): after an opening and any values, total and largest are those of the last n values by a scan, and the buffer is the form of these
   pub window-scan : (vs : List ℤ) → all inRange vs ≡ true
-      → bringsAll vs (opensWindow n start) ≡ outcome (shown (lastOf n vs)) (written n (turns n (length vs)) (lastOf n vs) start)
+      → bringsAll vs (opensWindow n start) ≡ outcome (scanOf (lastOf n vs)) (written n (turns n (length vs)) (lastOf n vs) start)
   window-scan vs r = ap (bringsAll vs) opened ∙ brings-more n (drop (formLength n) start) [] vs fresh r .0
 
   pub window-valid : (vs : List ℤ) → all inRange vs ≡ true → Valid n (turns n (length vs)) (lastOf n vs)

@@ -10,7 +10,7 @@ use lib.Dec.{T, leb}
 use lib.IntN.{ℤ}
 use Rattle.meaning.specs.Value.{inRange}
 use Rattle.meaning.specs.Calls.{more, value, refused, tableRefused}
-use Rattle.meaning_window.specs.Window.{lastOf, turnedBack, shown, formOf, formLength, valuesIn, sizeFits, wellKept, opensWindow, bringsValue, bringsRefusal}
+use Rattle.meaning_window.specs.Window.{lastOf, turnedBack, scanOf, formOf, formLength, valuesIn, sizeFits, wellKept, opensWindow, bringsValue, bringsRefusal}
 use Rattle.meaning_window.specs.WindowStatements.{WindowCall, opening, later, callsWindow, afterCalls, Entered, entered, entering, enteredBy, outside, scanned, ScanAlways, KeptAlways}
 use Rattle.theory_base.specs.Members.{T→true, true→T}
 use Rattle.theory_window.specs.Lists.{and-right}
@@ -49,7 +49,7 @@ module _ (long : ℕ) where
     same c q = record { rest = h .rest; valid = h .valid; is = q ∙ h .is; lasts = ap length q ∙ h .lasts }
 
     standing : bringsRefusal b ≡ scanned e
-    standing = state-met b kept ∙ ap shown (ap valuesIn (h .is) ∙ values-of (e .size) (turns (e .size) (length (e .values))) (lastOf (e .size) (e .values)) (h .valid) (h .rest))
+    standing = state-met b kept ∙ ap scanOf (ap valuesIn (h .is) ∙ values-of (e .size) (turns (e .size) (length (e .values))) (lastOf (e .size) (e .values)) (h .valid) (h .rest))
 
     reopened : (n : ℕ) → Stepped (opening n)
     reopened n = by (sizeFits n long) refl

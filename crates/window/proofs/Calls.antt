@@ -8,12 +8,12 @@ use lib.ListN.{length, drop, set, length-replicate, drop-of-length-le, replicate
 use lib.Seq.{take-all}
 use lib.IntN.{ℤ, pos}
 use Rattle.meaning.specs.Value.{inRange}
-use Rattle.meaning_window.specs.Window.{stands, empty, turned, order, zeros, slotsOf, after, leads, leadersOf, leaderCells, valueAt, formOf, sizeIn, heldIn, nextIn, slotsIn, sizeFits, wellKept, outcome, written, opensWindow, bringsValue, valuesWith}
+use Rattle.meaning_window.specs.Window.{totals, empty, turned, order, zeros, slotsOf, after, leads, leadersOf, leaderCells, valueAt, formOf, sizeIn, heldIn, nextIn, slotsIn, sizeFits, wellKept, outcome, written, opensWindow, bringsValue, valuesWith}
 use Rattle.theory_window.specs.Lists.{both}
 use Rattle.theory_window.specs.Ring.{length-order}
 use Rattle.theory_window.specs.Cases.{opens-met, value-met}
 use Rattle.theory_window.specs.FormByParts.{passed}
-use Rattle.theory_window.specs.Next.{topWith, push-shown}
+use Rattle.theory_window.specs.Next.{topWith, push-scan}
 use Rattle.window_found.specs.Checks.{foundIn}
 
 -- ---- opening
@@ -48,11 +48,11 @@ module _ (n : ℕ) (b : List ℤ) where
 
 -- total and largest as the check has found them, and the buffer written
 pub pushed : (b : List ℤ) → wellKept b ≡ true → (v : ℤ) → inRange v ≡ true → (c : List ℤ) → c ≡ written (sizeIn b) (after (sizeIn b) (nextIn b)) (valuesWith v b) b
-    → (t top : ℤ) → t ≡ foundIn b v .sum → top ≡ foundIn b v .top → outcome (stands t top) c ≡ bringsValue v b
+    → (t top : ℤ) → t ≡ foundIn b v .sum → top ≡ foundIn b v .top → outcome (totals t top) c ≡ bringsValue v b
 pushed b kept v r c e t top et em =
     let n = sizeIn b in
     let k = after n (nextIn b) in
     let m : top ≡ topWith (slotsIn b) (nextIn b) v (leadersOf n (heldIn b) (nextIn b) (slotsIn b)) = em ∙ ap (topWith (slotsIn b) (nextIn b) v) (passed b kept .leaders) in
-    (λ i. outcome (stands (et i) (m i)) (e i))
-    ∙ (ap (λ a. outcome a (written n k (valuesWith v b) b)) (push-shown b (passed b kept) v)
+    (λ i. outcome (totals (et i) (m i)) (e i))
+    ∙ (ap (λ a. outcome a (written n k (valuesWith v b) b)) (push-scan b (passed b kept) v)
     ∙ sym (value-met v b (both r kept)))

@@ -2,12 +2,12 @@
 use mathlib.Core.List.{List}
 use lib.IntN.{ℤ}
 use Rattle.meaning_window.specs.Window as Window
-use Rattle.meaning_window.specs.Window.{stands, empty, turnedBack, Outcome, outcome}
+use Rattle.meaning_window.specs.Window.{totals, empty, turnedBack, Outcome, outcome}
 use Rattle.window.specs.declared.WindowAnswer.{WindowAnswer}
-use Rattle.window.specs.declared.WindowAnswer.the-variants.{Stands, Empty, Refused}
+use Rattle.window.specs.declared.WindowAnswer.the-variants.{Totals, Empty, Refused}
 
 abbrev pub answerIs : WindowAnswer → Window.WindowAnswer
-answerIs (Stands sum top) = stands sum top
+answerIs (Totals sum top) = totals sum top
 answerIs Empty = empty
 answerIs Refused = turnedBack
 

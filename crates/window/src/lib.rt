@@ -17,7 +17,7 @@ use window_push::renew;
 const MOST: u64 = 64;
 
 pub enum WindowAnswer {
-    Stands { total: i64, largest: i64 },
+    Totals { total: i64, largest: i64 },
     // No value yet: total 0, and no largest.
     Empty,
     // 42.
@@ -31,7 +31,7 @@ fn standing(held: usize, total: i64, largest: i64) -> WindowAnswer
     if held == 0 {
         return WindowAnswer::Empty;
     }
-    WindowAnswer::Stands { total, largest }
+    WindowAnswer::Totals { total, largest }
 }
 
 // The value enters: total and largest with it are what the check has found.
@@ -40,7 +40,7 @@ fn push(value: i64, buffer: &mut [i64], found: Found, leaders: &[u8]) -> WindowA
     ensures { λ r. ⌜ outcomeIs r (now (buffer .exit)) ≡ bringsValue value (now (buffer .entry)) ⌝ }
 {
     renew(buffer, found, value, leaders);
-    WindowAnswer::Stands {
+    WindowAnswer::Totals {
         total: found.sum,
         largest: found.top,
     }

@@ -23,7 +23,7 @@ use Rattle.window_found.specs.declared.Numbers.{Numbers}
 use Rattle.window_found.specs.declared.Checked.{Checked}
 use Rattle.window_found.specs.declared.Checked.the-variants.{Wrong}
 
--- nothing is told of a buffer that fails the test
+-- nothing is known of a buffer that fails the test
 untold : {P : Type 0} {b : Bool} → b ≡ false → b ≡ true → P
 untold e t = absurd (let z : true ≡ false = sym t ∙ e in let o : _≡_ {A = ℕ} 0 1 = cc in omega arith)
 

@@ -94,15 +94,15 @@ pub record KnownWhereKept (b : List ℤ) (v : ℤ) (f : Found) (cells : List ℕ
   pub found : f ≡ foundIn b v
   pub leaders : EndsWith (newLeaders b (sizeIn b) v) cells
 
-pub told-kept : (b : List ℤ) (v : ℤ) {r : Checked} {cells : List ℕ} {f : Found} → CheckedIn b v r cells → r ≡ Kept f → KnownWhereKept b v f cells
-told-kept b v {cells = cells} {f = f} w d = by (wellKept b) refl (sym d ∙ w .answer)
+pub checked-kept : (b : List ℤ) (v : ℤ) {r : Checked} {cells : List ℕ} {f : Found} → CheckedIn b v r cells → r ≡ Kept f → KnownWhereKept b v f cells
+checked-kept b v {cells = cells} {f = f} w d = by (wellKept b) refl (sym d ∙ w .answer)
   where
     by : (x : Bool) → wellKept b ≡ x → Kept f ≡ checked x (foundIn b v) → KnownWhereKept b v f cells
     by true e q = record { kept = e; found = cc; leaders = w .leaders e }
     by false e q = absurd (let z : _≡_ {A = ℕ} 0 1 = cc in omega arith)
 
-pub told-wrong : (b : List ℤ) (v : ℤ) {r : Checked} {cells : List ℕ} → CheckedIn b v r cells → r ≡ Wrong → wellKept b ≡ false
-told-wrong b v w d = by (wellKept b) (sym d ∙ w .answer)
+pub checked-wrong : (b : List ℤ) (v : ℤ) {r : Checked} {cells : List ℕ} → CheckedIn b v r cells → r ≡ Wrong → wellKept b ≡ false
+checked-wrong b v w d = by (wellKept b) (sym d ∙ w .answer)
   where
     by : (x : Bool) → Wrong ≡ checked x (foundIn b v) → x ≡ false
     by true q = absurd (let z : _≡_ {A = ℕ} 0 1 = cc in omega arith)

@@ -51,7 +51,7 @@ module _ (b : List ℤ) (kept : wellKept b ≡ true) (v : ℤ) where
       let next : f .next ≡ k = ap (λ x. x .next) (w .found) in
       let from : f .from ≡ 65 - length new = ap (λ x. x .from) (w .found) in
       record {
-        told = w;
+        known = w;
         most = omega (arith, passed b kept .most);
         long = omega (arith, passed b kept .long);
         place = omega (arith, kept-held b (passed b kept));

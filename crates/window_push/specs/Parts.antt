@@ -12,7 +12,7 @@ stored b h k t c slot v = set (set (set (set (set b 1 (pos h)) 2 (pos k)) 3 t) 4
 
 -- a well kept buffer, what the check has found in it, and a value to bring
 pub record ValueBrought (b : List ℤ) (f : Found) (v : ℤ) (cells : List ℕ) : Type 0 where
-  pub told : KnownWhereKept b v f cells
+  pub known : KnownWhereKept b v f cells
   pub most : f .size ≤ 64
   pub long : 5 + 2 * f .size ≤ length b
   pub place : f .held ≤ f .size

@@ -21,8 +21,8 @@ brought-requires-2 c κs = search needs
 finish-inner-requires : tie.Need-finish-inner-requires
 finish-inner-requires c κs = search needs
 
-value-of-requires : tie.Need-value-of-requires
-value-of-requires c κs = search needs
+answer-value-requires : tie.Need-answer-value-requires
+answer-value-requires c κs = search needs
 
 pass-on-requires : tie.Need-pass-on-requires
 pass-on-requires c κs = search needs
@@ -44,7 +44,7 @@ returns c =
     let inner = c .before .before .before .before .before .before .before .before .before .before .before .before .before .before .before .brought2 .ensures in
     let e = ap₂ (λ z y. innerPerforms programOf (now (a .table)) (now (a .program)) z y (stacksOf (now (a .registers)) (now (a .places))) (Inner.engine finish)) outer inner in
     let q = f .ensures ∙ e in
-    let v = c .before .before .before .before .before .value-of in
+    let v = c .before .before .before .before .before .answer-value in
     (both-passed-on (f .result) _ _ _ _ q _ _ _ _ (c .pass-on .ensures), toZ-ofZ (sfits-of (v .ok)) ∙ (v .ensures ∙ ap (λ (z : InnerEffect). answerValue (z .answer)) q))
 
 pub finish-spec : {M : Type 1} → statement M
@@ -54,7 +54,7 @@ finish-spec =
     brought-requires
     brought-requires-2
     finish-inner-requires
-    value-of-requires
+    answer-value-requires
     pass-on-requires
     same-length
     same-length-2

@@ -22,12 +22,12 @@ tokens-of-requires : tie.Need-tokens-of-requires
 tokens-of-requires c κs = search needs
 
 -- src/lib.rt:98:15
-number-of-requires : tie.Need-number-of-requires
-number-of-requires c κs = search needs
+may-number-requires : tie.Need-may-number-requires
+may-number-requires c κs = search needs
 
 -- src/lib.rt:99:14
-count-of-requires : tie.Need-count-of-requires
-count-of-requires c κs = search needs
+may-count-requires : tie.Need-may-count-requires
+may-count-requires c κs = search needs
 
 -- src/lib.rt:72:1
 same-length : tie.Need-same-length
@@ -51,7 +51,7 @@ returns c =
     let under = stacksOf (now (a .registers)) (now (a .places)) in
     let scratch = stacksOf (now (a .scratch-registers)) (now (a .scratch-places)) in
     let e = ap₂ (λ r w. mays programOf (now (a .table)) (now (a .program)) r under scratch w) known (toZ-ofZ (s .fits .value)) in
-    may-passed-on (f .result) _ _ _ _ (f .ensures ∙ e) _ _ _ (c .before .before .tokens-of .ensures) (c .before .number-of .ensures) (c .count-of .ensures)
+    may-passed-on (f .result) _ _ _ _ (f .ensures ∙ e) _ _ _ (c .before .before .tokens-of .ensures) (c .before .may-number .ensures) (c .may-count .ensures)
 
 pub may-follow-spec : {M : Type 1} → statement M
 may-follow-spec =
@@ -60,8 +60,8 @@ may-follow-spec =
     brought-requires
     may-follow-requires
     tokens-of-requires
-    number-of-requires
-    count-of-requires
+    may-number-requires
+    may-count-requires
     same-length
     same-length-2
     same-length-3

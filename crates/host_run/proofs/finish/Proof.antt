@@ -15,8 +15,8 @@ brought-requires c κs = search needs
 finish-requires : tie.Need-finish-requires
 finish-requires c κs = search needs
 
-value-of-requires : tie.Need-value-of-requires
-value-of-requires c κs = search needs
+answer-value-requires : tie.Need-answer-value-requires
+answer-value-requires c κs = search needs
 
 pass-on-requires : tie.Need-pass-on-requires
 pass-on-requires c κs = search needs
@@ -35,7 +35,7 @@ returns c =
     let a = c .before .before .before .before .before .before .before .before .before .before .before .before .before .before .before .before .before .before .before .args in
     let e = ap (λ z. performs programOf (now (a .table)) (now (a .program)) z (stacksOf (now (a .registers)) (now (a .places))) finish) (c .before .before .before .before .before .before .before .before .before .before .before .before .before .before .brought .ensures) in
     let q = c .before .before .before .before .before .before .before .before .before .before .finish .ensures ∙ e in
-    let v = c .before .before .before .before .value-of in
+    let v = c .before .before .before .before .answer-value in
     (passed-on (c .before .before .before .before .before .before .before .before .before .before .finish .result) _ _ _ _ q _ _ _ (c .pass-on .ensures), toZ-ofZ (sfits-of (v .ok)) ∙ (v .ensures ∙ ap (λ z. answerValue (z .answer)) q))
 
 pub finish-spec : {M : Type 1} → statement M
@@ -44,7 +44,7 @@ finish-spec =
     (tie.spec
     brought-requires
     finish-requires
-    value-of-requires
+    answer-value-requires
     pass-on-requires
     same-length
     same-length-2

@@ -7,7 +7,7 @@ use borrow.Author.Needs.{needs}
 use denote.Ref.{now}
 use Rattle.listing_pages.specs.Pages.{lineRoom}
 use Rattle.listing_text.specs.Cursors.{linesLeft}
-use Rattle.listing_pages.proofs.Paging.{Filled, filled-start, filled-full, filled-page, told-turn, told-less, told-over, told-none-left}
+use Rattle.listing_pages.proofs.Paging.{Filled, filled-start, filled-full, filled-page, line-turn, line-less, line-over, none-of-lines-left}
 use Rattle.listing_pages.proofs.next_page.Statement.{statement}
 use Rattle.listing_pages.proofs.next_page.Tie as tie
 
@@ -48,7 +48,7 @@ returns : tie.Need-returns Inv-loop μ-loop
 returns c =
     let i = c .before .before .before .before .before .before .loop .inv in
     let line = c .before .before .before .next-line in
-    (told-over (i .0) (line .result) (line .last .1 .1 .0) (line .ensures .1) (c .if1 .taken) (omega (arith, i .1, i .2)), tt)
+    (line-over (i .0) (line .result) (line .last .1 .1 .0) (line .ensures .1) (c .if1 .taken) (omega (arith, i .1, i .2)), tt)
 
 add-filled : tie.Need-add-filled Inv-loop μ-loop
 add-filled c = search needs
@@ -56,7 +56,7 @@ add-filled c = search needs
 loop-less : tie.Need-loop-less Inv-loop μ-loop
 loop-less c =
     let line = c .before .before .before .before .before .next-line in
-    told-less (c .before .before .before .before .before .before .before .before .loop .inv .0) (line .result) (line .last .1 .1 .0) (line .ensures .1) (c .before .before .if1 .left)
+    line-less (c .before .before .before .before .before .before .before .before .loop .inv .0) (line .result) (line .last .1 .1 .0) (line .ensures .1) (c .before .before .if1 .left)
 
 loop-again : tie.Need-loop-again Inv-loop μ-loop
 loop-again c =
@@ -66,7 +66,7 @@ loop-again c =
     let test = c .before .before .before .before .before .before .before .loop-test .taken in
     let room : lp .filled + lineRoom ≤ length (now (start .args .out)) = omega (arith, test, lp .inv .1, start .pre) in
     let same = same-len-mid (lp .filled) (length (lp .out) - lp .filled) (lp .out) (line .last .1 .1 .0) (line .kept .1 .1 .0) in
-    (told-turn (lp .inv .0) (line .result) (line .last .1 .1 .0) (line .ensures .1) room (c .before .before .if1 .left), same ∙ lp .inv .1, omega (arith, same, line .ensures .0, test, lp .inv .1, start .pre))
+    (line-turn (lp .inv .0) (line .result) (line .last .1 .1 .0) (line .ensures .1) room (c .before .before .if1 .left), same ∙ lp .inv .1, omega (arith, same, line .ensures .0, test, lp .inv .1, start .pre))
 
 slice-aggregate-next-line : tie.Need-slice-aggregate-next-line Inv-loop μ-loop
 slice-aggregate-next-line c = search needs
@@ -84,7 +84,7 @@ returns-2 c =
     let start = c .before .before .before .before .before .before .before in
     let ws = now (start .args .program) in
     let line = c .before .next-line2 in
-    let none = told-none-left ws (linesLeft ws (lp .c)) (replicate 64 0) (line .last .1 .1 .0) (line .result) (line .ensures .1) in (
+    let none = none-of-lines-left ws (linesLeft ws (lp .c)) (replicate 64 0) (line .last .1 .1 .0) (line .result) (line .ensures .1) in (
       filled-full (lp .inv .0) (omega (arith, lp .inv .1, lp .inv .2)) (omega (arith, lp .inv .1, test, start .pre)) (line .result .over) none,
       filled-page (lp .inv .0) (omega (arith, test, lp .inv .1, start .pre)) (line .result .over),
     )

@@ -1,4 +1,4 @@
-use Rattle.listing_text.specs.Handed.{emits-as, step-stop, step-rule, step-condition, step-add, step-remove, told-stop, told-line}
+use Rattle.listing_text.specs.LineOut.{emits-as, step-stop, step-rule, step-condition, step-add, step-remove, over-at-stop, line-at-step}
 use Rattle.listing_text.specs.Tests.{inside-facts}
 use Rattle.listing_lines.specs.Line.{addLine, removeLine}
 use borrow.Author.Tests.{not-true, not-false}
@@ -24,7 +24,7 @@ returns c =
     let d = s .result in
     let inside = c .before .is-inside in
     let outside = sym (inside .ensures .0) ∙ not-true (inside .result) (c .if1 .taken) in
-    (omega arith, told-stop ws (a .cursor) d (s .ensures .1) (a .out .now) _ (step-stop ws d (s .ensures .0) outside) refl)
+    (omega arith, over-at-stop ws (a .cursor) d (s .ensures .1) (a .out .now) _ (step-stop ws d (s .ensures .0) outside) refl)
 
 rule-requires : tie.Need-rule-requires
 rule-requires c κs =
@@ -45,7 +45,7 @@ returns-2 c =
     let d = s .result in
     let i = c .before .before .before .before .before .before .before .before .is-inside in
     let inside = sym (i .ensures .0) ∙ not-false (i .result) (c .before .before .before .before .before .before .before .if1 .left) in
-    told-line ws (a .cursor) d (s .ensures .1) (omega arith) (step-rule ws d (s .ensures .0) inside (omega arith) (c .before .before .before .before .if3 .taken)) (c .before .before .rule .ensures)
+    line-at-step ws (a .cursor) d (s .ensures .1) (omega arith) (step-rule ws d (s .ensures .0) inside (omega arith) (c .before .before .before .before .if3 .taken)) (c .before .before .rule .ensures)
 
 condition-requires : tie.Need-condition-requires
 condition-requires c κs =
@@ -66,7 +66,7 @@ returns-3 c =
     let d = s .result in
     let i = c .before .before .before .before .before .before .before .before .is-inside in
     let inside = sym (i .ensures .0) ∙ not-false (i .result) (c .before .before .before .before .before .before .before .if1 .left) in
-    told-line ws (a .cursor) d (s .ensures .1) (omega arith) (step-condition ws d (s .ensures .0) inside (omega arith) (c .before .before .before .before .if3 .left)) (c .before .before .condition .ensures)
+    line-at-step ws (a .cursor) d (s .ensures .1) (omega arith) (step-condition ws d (s .ensures .0) inside (omega arith) (c .before .before .before .before .if3 .left)) (c .before .before .condition .ensures)
 
 word-requires : tie.Need-word-requires
 word-requires c κs = search needs
@@ -95,7 +95,7 @@ returns-4 c =
     let o = k .before in
     let w = o .before in
     let e = w .wide .ensures .0 ∙ w .before .word .ensures in
-    told-line ws (a .cursor) d (s .ensures .1) (omega (arith, start .pre)) (step-add ws d (s .ensures .0) inside (omega arith) (sym (k .operation .ensures ∙ ap headOperation e) ∙ c .before .before .before .before .if4 .taken))
+    line-at-step ws (a .cursor) d (s .ensures .1) (omega (arith, start .pre)) (step-add ws d (s .ensures .0) inside (omega arith) (sym (k .operation .ensures ∙ ap headOperation e) ∙ c .before .before .before .before .if4 .taken))
     (emits-as (ap (addLine (d .production) (d .passed + 1)) (o .operand .ensures ∙ ap headOperand e)) (c .before .before .add .ensures))
 
 remove-requires : tie.Need-remove-requires
@@ -121,7 +121,7 @@ returns-5 c =
     let o = k .before in
     let w = o .before in
     let e = w .wide .ensures .0 ∙ w .before .word .ensures in
-    told-line ws (a .cursor) d (s .ensures .1) (omega (arith, start .pre)) (step-remove ws d (s .ensures .0) inside (omega arith) (λ z. c .before .before .before .before .if4 .left (k .operation .ensures ∙ (ap headOperation e ∙ z))))
+    line-at-step ws (a .cursor) d (s .ensures .1) (omega (arith, start .pre)) (step-remove ws d (s .ensures .0) inside (omega arith) (λ z. c .before .before .before .before .if4 .left (k .operation .ensures ∙ (ap headOperation e ∙ z))))
     (emits-as (ap (removeLine (d .production)) (o .operand .ensures ∙ ap headOperand e)) (c .before .before .remove .ensures))
 
 wide-requires : tie.Need-wide-requires

@@ -1,4 +1,4 @@
-use Rattle.listing_text.specs.Handed.{lines-skip}
+use Rattle.listing_text.specs.LineOut.{lines-skip}
 use Rattle.listing_text.specs.Tests.{inside-facts, skips-facts, skipped-on}
 use Rattle.listing_text.specs.Cursors.{linesLeft}
 use mathlib.Core.Path.{_≡_, refl, sym, ap, _∙_}

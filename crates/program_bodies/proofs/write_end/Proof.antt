@@ -39,39 +39,36 @@ below c =
     let sum = left .before in
     S.next-small (sum .before .before .before .before .before .before .before .before .pre) (sum .whole-sum .ensures _ _ _ _) (left .row-left .ensures .0) (own .byte-at .ensures .0) (c .write-block .ensures)
 
-add-area : tie.Need-add-area
-add-area c = omega (arith, small (c .before .before .before .before))
+add-head : tie.Need-add-head
+add-head c = omega (arith, small (c .before .before .before .before))
+
+head-requires : tie.Need-head-requires
+head-requires c κs = (omega arith, omega (arith, small (c .before .before .before .before)))
 
 mul-area : tie.Need-mul-area
-mul-area c = omega (arith, small (c .before .before .before .before))
-
-add-area-2 : tie.Need-add-area-2
-add-area-2 c = omega (arith, small (c .before .before .before .before))
-
-mul-area-2 : tie.Need-mul-area-2
-mul-area-2 c = omega (arith, below (c .before .before))
+mul-area c = omega (arith, below (c .before .before .before))
 
 slice-write-area : tie.Need-slice-write-area
 slice-write-area c =
-    let rules = c .before .before in
+    let rules = c .before .before .before in
     let own = rules .before .before in
     let left = own .before in
     let sum = left .before in
     S.next-inside (sum .before .before .before .before .before .before .before .before .pre) (sum .whole-sum .ensures _ _ _ _) (left .row-left .ensures .0) (own .byte-at .ensures .0) (rules .write-block .ensures)
 
 add-result : tie.Need-add-result
-add-result c = omega (arith, below (c .before .before))
+add-result c = omega (arith, below (c .before .before .before))
 
 returns : tie.Need-returns
 returns c =
-    let rules = c .before .before in
+    let rules = c .before .before .before in
     let own = rules .before .before in
     let left = own .before in
     let sum = left .before in
-    λ x. S.end-written x (sum .whole-sum .ensures _ _ _ _) (left .row-left .ensures .0) (own .byte-at .ensures .0) (rules .write-block .ensures)
+    λ x. S.end-written x (sum .whole-sum .ensures _ _ _ _) (left .row-left .ensures .0) (own .byte-at .ensures .0) (rules .write-block .ensures) (c .head .ensures)
 
 same-length : tie.Need-same-length
-same-length c = wrote-length (returns c (c .before .before .before .before .before .before .before .before .before .before .before .before .before .before .pre))
+same-length c = wrote-length (returns c (c .before .before .before .before .before .before .before .before .before .before .before .before .before .before .before .pre))
 
 pub write-end-spec : {M : Type 1} → statement M
 write-end-spec =
@@ -82,10 +79,9 @@ write-end-spec =
     cast-byte-at
     byte-at-requires
     write-block-requires
-    add-area
+    add-head
+    head-requires
     mul-area
-    add-area-2
-    mul-area-2
     slice-write-area
     add-result
     same-length

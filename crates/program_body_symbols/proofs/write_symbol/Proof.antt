@@ -83,8 +83,8 @@ mul-area c = search needs
 slice-write-area : tie.Need-slice-write-area
 slice-write-area c = search needs
 
-head-of-requires : tie.Need-head-of-requires
-head-of-requires c κs = search needs
+expect-head-requires : tie.Need-expect-head-requires
+expect-head-requires c κs = search needs
 
 mul-area-2 : tie.Need-mul-area-2
 mul-area-2 c = omega (arith, below (c .before .before .before))
@@ -127,7 +127,7 @@ write-block-requires-2 c κs =
     let st = symbol .before .before .before .before .before .before .before .before .before in (
       omega (arith, S.top-small (st .pre) (symbol .row-symbol .ensures .0) (inherited .count-of .ensures) (synthesized .count-of2 .ensures) (top .number-at .ensures)),
       S.test-fits (st .pre) (symbol .row-symbol .ensures .0)
-          (inherited .count-of .ensures) (synthesized .count-of2 .ensures) (top .number-at .ensures) (add .write-add .ensures) (rules .write-block .ensures) (head .head-of .ensures),
+          (inherited .count-of .ensures) (synthesized .count-of2 .ensures) (top .number-at .ensures) (add .write-add .ensures) (rules .write-block .ensures) (head .expect-head .ensures),
     )
 
 same-length : tie.Need-same-length
@@ -141,7 +141,7 @@ same-length c =
     let inherited = synthesized .before in
     let symbol = inherited .before in
     let st = symbol .before .before .before .before .before .before .before .before .before in
-    S.symbol-size (st .pre) (symbol .row-symbol .ensures .0) (inherited .count-of .ensures) (synthesized .count-of2 .ensures) (top .number-at .ensures) (add .write-add .ensures) (rules .write-block .ensures) (head .head-of .ensures) (tests .write-block2 .ensures)
+    S.symbol-size (st .pre) (symbol .row-symbol .ensures .0) (inherited .count-of .ensures) (synthesized .count-of2 .ensures) (top .number-at .ensures) (add .write-add .ensures) (rules .write-block .ensures) (head .expect-head .ensures) (tests .write-block2 .ensures)
 
 returns : tie.Need-returns
 returns c =
@@ -153,7 +153,7 @@ returns c =
     let synthesized = top .before in
     let inherited = synthesized .before in
     let symbol = inherited .before in
-    λ x. S.symbol-written x (symbol .row-symbol .ensures .0) (inherited .count-of .ensures) (synthesized .count-of2 .ensures) (top .number-at .ensures) (add .write-add .ensures) (rules .write-block .ensures) (head .head-of .ensures) (tests .write-block2 .ensures)
+    λ x. S.symbol-written x (symbol .row-symbol .ensures .0) (inherited .count-of .ensures) (synthesized .count-of2 .ensures) (top .number-at .ensures) (add .write-add .ensures) (rules .write-block .ensures) (head .expect-head .ensures) (tests .write-block2 .ensures)
 
 pub write-symbol-spec : {M : Type 1} → statement M
 write-symbol-spec =
@@ -176,7 +176,7 @@ write-symbol-spec =
     add-area
     mul-area
     slice-write-area
-    head-of-requires
+    expect-head-requires
     mul-area-2
     slice-write-area-2
     sub-rest

@@ -49,57 +49,49 @@ cast-low c = omega arith
 cast-high : tie.Need-cast-high
 cast-high c = omega arith
 
-mul-put-four : tie.Need-mul-put-four
-mul-put-four c =
-    let x = c .before .before .before .before .before .before .before .before .before .before .before .pre .0 .4 in
-    omega (arith, L.numbers-small x .0, L.numbers-small x .1, L.numbers-small x .2, L.numbers-small x .3, L.start-small x)
-
-add-put-four : tie.Need-add-put-four
-add-put-four c =
-    let x = c .before .before .before .before .before .before .before .before .before .before .before .pre .0 .4 in
-    omega (arith, L.numbers-small x .0, L.numbers-small x .1, L.numbers-small x .2, L.numbers-small x .3, L.start-small x)
+head-requires : tie.Need-head-requires
+head-requires c κs =
+    let x = c .before .before .before .before .before .before .before .before .before .before .pre .0 .4 in
+    (omega arith, omega (arith, L.numbers-small x .0, L.numbers-small x .1, L.numbers-small x .2, L.numbers-small x .3, L.start-small x))
 
 put-four-requires : tie.Need-put-four-requires
-put-four-requires c κs = omega (arith, c .before .before .before .before .before .before .before .before .before .before .before .pre .1)
+put-four-requires c κs = omega (arith, c .before .before .before .before .before .before .before .before .before .before .before .before .pre .1)
 
 put-four-requires-2 : tie.Need-put-four-requires-2
 put-four-requires-2 c κs =
-    let first = c .before .before .before .put-four .ensures in
-    omega (arith, c .before .before .before .before .before .before .before .before .before .before .before .before .before .before .before .pre .1, first .address, wrote-length first)
+    let first = c .before .before .before in
+    omega (arith, first .before .before .before .before .before .before .before .before .before .before .before .before .before .pre .1, first .put-four .ensures .address, wrote-length (first .put-four .ensures))
 
 mul-area : tie.Need-mul-area
 mul-area c =
-    let start = c .before .before .before .before .before .before .before .before .before .before .before .before .before .before .before .before .before .before .pre in
-    let first = c .before .before .before .before .before .before .put-four .ensures in
-    let second = c .before .before .put-four2 .ensures in
-    omega (arith, start .1, first .address, second .address, wrote-length first, wrote-length second)
+    let first = c .before .before .before .before .before .before in
+    let second = c .before .before in
+    omega (arith, first .before .before .before .before .before .before .before .before .before .before .before .before .before .pre .1, first .put-four .ensures .address, second .put-four2 .ensures .address, wrote-length (first .put-four .ensures), wrote-length (second .put-four2 .ensures))
 
 slice-write-area : tie.Need-slice-write-area
 slice-write-area c =
-    let start = c .before .before .before .before .before .before .before .before .before .before .before .before .before .before .before .before .before .before .pre in
-    let first = c .before .before .before .before .before .before .put-four .ensures in
-    let second = c .before .before .put-four2 .ensures in
-    omega (arith, start .1, first .address, second .address, wrote-length first, wrote-length second)
+    let first = c .before .before .before .before .before .before in
+    let second = c .before .before in
+    omega (arith, first .before .before .before .before .before .before .before .before .before .before .before .before .before .pre .1, first .put-four .ensures .address, second .put-four2 .ensures .address, wrote-length (first .put-four .ensures), wrote-length (second .put-four2 .ensures))
 
 add-result : tie.Need-add-result
 add-result c =
-    let start = c .before .before .before .before .before .before .before .before .before .before .before .before .before .before .before .before .before .before .pre in
-    let first = c .before .before .before .before .before .before .put-four .ensures in
-    let second = c .before .before .put-four2 .ensures in
-    omega (arith, start .1, first .address, second .address, wrote-length first, wrote-length second)
+    let first = c .before .before .before .before .before .before in
+    let second = c .before .before in
+    omega (arith, first .before .before .before .before .before .before .before .before .before .before .before .before .before .pre .1, first .put-four .ensures .address, second .put-four2 .ensures .address, wrote-length (first .put-four .ensures), wrote-length (second .put-four2 .ensures))
+
+returns : tie.Need-returns
+returns c =
+    let second = c .before .before in
+    let first = c .before .before .before .before .before .before in
+    let head = first .before .before in
+    let registers = head .before .before .before .before .before in
+    λ table inherited rows offsets x. L.segment-written x (head .head .ensures) (registers .byte-at .ensures .0) (omega (arith, registers .before .struct-known3 .given .1 .1 .1 .1 .1)) (first .put-four .ensures) (second .put-four2 .ensures)
 
 same-length : tie.Need-same-length
 same-length c =
-    let x = c .before .before .before .before .before .before .before .before .before .before .before .before .before .before .before .before .before .before .pre .0 .4 in
-    let registers = c .before .before .before .before .before .before .before .before .before .before .before .before .byte-at .ensures .0 in
-    let known = c .before .before .before .before .before .before .before .before .before .before .before .before .before .struct-known3 .given in
-    wrote-length (L.segment-written x registers (omega (arith, known .1 .1 .1 .1 .1)) (c .before .before .before .before .before .before .put-four .ensures) (c .before .before .put-four2 .ensures))
-
-returns : tie.Need-returns
-returns c = λ table inherited rows offsets x.
-    let registers = c .before .before .before .before .before .before .before .before .before .before .before .before .byte-at .ensures .0 in
-    let known = c .before .before .before .before .before .before .before .before .before .before .before .before .before .struct-known3 .given in
-    L.segment-written x registers (omega (arith, known .1 .1 .1 .1 .1)) (c .before .before .before .before .before .before .put-four .ensures) (c .before .before .put-four2 .ensures)
+    let start = c .before .before .before .before .before .before .before .before .before .before .before .before .before .before .before .before .before .before .before in
+    wrote-length (returns c _ _ _ _ (start .pre .0 .4))
 
 pub write-segment-spec : {M : Type 1} → statement M
 write-segment-spec =
@@ -115,8 +107,7 @@ write-segment-spec =
     cast-productions
     cast-low
     cast-high
-    mul-put-four
-    add-put-four
+    head-requires
     put-four-requires
     put-four-requires-2
     mul-area

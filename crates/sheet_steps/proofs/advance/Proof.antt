@@ -2,7 +2,7 @@ use mathlib.Core.Path.{sym, subst}
 use lib.Seq.{length-take-le}
 use denote.Ref.{now}
 use lib.ListN.{getD}
-use Prim.Native.Nat.{_%_}
+use Rattle.theory_program.specs.Parts.{headOperation}
 use Rattle.sheet_moves.specs.NodeInMemory.{Walking, isLook}
 use Rattle.sheet_steps.specs.Numbers.{low, walkedAs}
 use Rattle.sheet_steps.specs.Cycle.{Passes}
@@ -42,10 +42,10 @@ pass-requires c κs =
     let run = (c .before .before) .run-of in
     let ks = now (s .args .kinds) in
     let vs = now (s .args .values) in
-    (subst (λ z. Walking ws ks vs (low 6 n m) (low 7 n ps) z) (sym (run .ensures)) (s .pre .walking), subst (λ z. isLook (getD ws (z .at) 0 % 8)) (sym (run .ensures)) (s .pre .look))
+    (subst (λ z. Walking ws ks vs (low 6 n m) (low 7 n ps) z) (sym (run .ensures)) (s .pre .walking), subst (λ z. isLook (headOperation (getD ws (z .at) 0))) (sym (run .ensures)) (s .pre .look))
 
-told-requires : tie.Need-told-requires
-told-requires c κs = search needs
+store-end-requires : tie.Need-store-end-requires
+store-end-requires c κs = search needs
 
 same-length : tie.Need-same-length
 same-length c = search needs
@@ -64,7 +64,7 @@ returns c =
     let ks = now (s .args .kinds) in
     let vs = now (s .args .values) in
     let p = (c .before .before .before .before .before) .pass in
-    let t = c .told in
+    let t = c .store-end in
     let x : Passes ws ks vs (low 6 n m) (low 7 n ps) (run .result) (getD n 5 0) (p .last .0) (p .last .1 .0) (walkedAs (p .result) (getD n 5 0)) = p .ensures .0 (getD n 5 0) in
     pass-whole (s .pre .fits) (p .last .0) (p .last .1 .0) (p .kept .0) (p .kept .1 .0) (p .result) (t .result) _ (t .ensures) ws ks vs
     (subst (λ z. Passes ws ks vs (low 6 n m) (low 7 n ps) z (getD n 5 0) (p .last .0) (p .last .1 .0) (walkedAs (p .result) (getD n 5 0))) (run .ensures) x)
@@ -82,7 +82,7 @@ advance-spec =
     slice-relend-prefix-pass-2
     slice-aggregate-pass-2
     pass-requires
-    told-requires
+    store-end-requires
     same-length
     same-length-2
     returns)

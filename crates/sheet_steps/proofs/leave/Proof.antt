@@ -2,7 +2,8 @@ use mathlib.Core.Path.{_≡_, sym, subst}
 use lib.Seq.{length-take-le}
 use denote.Ref.{now}
 use lib.ListN.{getD}
-use Prim.Native.Nat.{_%_, _≤_}
+use Prim.Native.Nat.{_≤_}
+use Rattle.theory_program.specs.Parts.{headOperation}
 use Rattle.sheet_record.specs.Recording.{Inner}
 use Rattle.sheet_steps.specs.Numbers.{low, walkedAs}
 use Rattle.sheet_steps.specs.Leaving.{Leaves}
@@ -40,10 +41,10 @@ depart-requires c κs =
     let ps = now (s .args .places) in
     let n = now (s .args .numbers) in
     let run = (c .before .before .before) .run-of in
-    (subst (λ z. Inner ws (low 6 n m) (low 7 n ps) z) (sym (run .ensures)) (s .pre .inner), subst (λ z. getD ws (z .at) 0 % 8 ≡ 5) (sym (run .ensures)) (s .pre .five), s .pre .room, subst (λ z. s .args .before ≤ z .tokens) (sym (run .ensures)) (s .pre .earlier), s .pre .few)
+    (subst (λ z. Inner ws (low 6 n m) (low 7 n ps) z) (sym (run .ensures)) (s .pre .inner), subst (λ z. headOperation (getD ws (z .at) 0) ≡ 5) (sym (run .ensures)) (s .pre .five), s .pre .room, subst (λ z. s .args .before ≤ z .tokens) (sym (run .ensures)) (s .pre .earlier), s .pre .few)
 
-told-requires : tie.Need-told-requires
-told-requires c κs = search needs
+store-end-requires : tie.Need-store-end-requires
+store-end-requires c κs = search needs
 
 same-length : tie.Need-same-length
 same-length c = search needs
@@ -63,7 +64,7 @@ returns c =
     let n = now (s .args .numbers) in
     let run = (c .before .before .before .before .before .before .before .before .before .before .before) .run-of in
     let p = (c .before .before .before .before .before .before .before) .depart in
-    let t = c .told in
+    let t = c .store-end in
     let out = p .last .1 .1 .1 .0 in
     let x : Leaves ws (low 6 n m) (low 7 n ps) (run .result) (s .args .at) (s .args .before) (getD n 5 0) (now (s .args .sheet)) (p .last .0) (p .last .1 .0) out (walkedAs (p .result) (getD n 5 0)) = p .ensures .0 (getD n 5 0) in
     left-whole (s .pre .fits) (p .last .0) (p .last .1 .0) (p .kept .0) (p .kept .1 .0) (p .result) (t .result) _ (t .ensures) ws (s .args .at) (s .args .before) (now (s .args .sheet)) out
@@ -82,7 +83,7 @@ leave-spec =
     slice-relend-prefix-depart-2
     slice-aggregate-depart-2
     depart-requires
-    told-requires
+    store-end-requires
     same-length
     same-length-2
     same-length-3

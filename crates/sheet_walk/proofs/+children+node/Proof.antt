@@ -44,6 +44,13 @@ node-at t = and 7 node-kinds.ps (is 7 node-kinds.ps μ-node t) node.Pre
 abbrev node-below : ℕ → In 7 node-kinds.ps
 node-below t = and 7 node-kinds.ps (falls 7 node-kinds.ps _<_ μ-node t) node.Pre
 
+-- what each function called asks and shows
+abbrev children-claims : ℕ → children-lts.Claims
+children-claims t = (operation-reads.Asked, operation-reads.Learnt, node-below t, node.Post, advance-reads.Asked, advance-reads.Learnt, children-below t, children.Post)
+
+abbrev node-claims : ℕ → node-lts.Claims
+node-claims t = (enter-reads.Asked, enter-reads.Learnt, operation-reads.Asked, operation-reads.Learnt, leave-reads.Asked, leave-reads.Learnt, children-below t, children.Post)
+
 -- the first child, whether it is a node or a token
 child : (t : ℕ) (j : children-lts.Joined1 (
   operation-reads.Asked,
@@ -103,171 +110,63 @@ child-long t j =
     let s = (j .before .before .before .before .before .before) in
     elim (j .if1 .came) as (λ z. length (j .if1 .sheet) ≡ length (now (s .args .sheet))) [ inl v ↦ ap length (v .10) ∙ v .5 .kept .1 .1 .1 .1 .1 .0 | inr v ↦ ap length (v .7) ]
 
-children-operation-requires : (t : ℕ) → children-lts.Need-operation-requires (
-  operation-reads.Asked,
-  operation-reads.Learnt,
-  node-below t,
-  node.Post,
-  advance-reads.Asked,
-  advance-reads.Learnt,
-  children-below t,
-  children.Post,
-) (children-at t) children.Post
+children-operation-requires : (t : ℕ) → children-lts.Need-operation-requires (children-claims t) (children-at t) children.Post
 children-operation-requires t c κs = bounds ((c .before .before .before .before) .pre .1 .ready .walking .held) .inside
 
-children-node-requires : (t : ℕ) → children-lts.Need-node-requires (
-  operation-reads.Asked,
-  operation-reads.Learnt,
-  node-below t,
-  node.Post,
-  advance-reads.Asked,
-  advance-reads.Learnt,
-  children-below t,
-  children.Post,
-) (children-at t) children.Post
+children-node-requires : (t : ℕ) → children-lts.Need-node-requires (children-claims t) (children-at t) children.Post
 children-node-requires t c κs =
     let s = (c .before .before .before .before .before .before .before .before .before .before) in
     let q = s .pre .1 in
     (omega (arith, s .pre .0, list-symbols (q .ready) (q .look)), record { ready = list-node-at (q .ready) (omega (arith, (c .before .before .before .before .before) .operation .ensures, (c .before .before .before .before) .if1 .taken)); fits = q .fits })
 
-children-advance-requires : (t : ℕ) → children-lts.Need-advance-requires (
-  operation-reads.Asked,
-  operation-reads.Learnt,
-  node-below t,
-  node.Post,
-  advance-reads.Asked,
-  advance-reads.Learnt,
-  children-below t,
-  children.Post,
-) (children-at t) children.Post
+children-advance-requires : (t : ℕ) → children-lts.Need-advance-requires (children-claims t) (children-at t) children.Post
 children-advance-requires t c κs =
     let q = (c .before .before .before .before .before .before .before .before .before) .pre .1 in
     record { walking = q .ready .walking; look = q .look; fits = q .fits }
 
-children-operation-requires-2 : (t : ℕ) → children-lts.Need-operation-requires-2 (
-  operation-reads.Asked,
-  operation-reads.Learnt,
-  node-below t,
-  node.Post,
-  advance-reads.Asked,
-  advance-reads.Learnt,
-  children-below t,
-  children.Post,
-) (children-at t) children.Post
+children-operation-requires-2 : (t : ℕ) → children-lts.Need-operation-requires-2 (children-claims t) (children-at t) children.Post
 children-operation-requires-2 t c κs =
     let s = (c .before .before .before .before .before .before .before .before) in
     let q = s .pre .1 in
     let n = child-as t (c .before .before) true ((c .before) .if2 .taken) in
     child-inside q n
 
-children-same-length : (t : ℕ) → children-lts.Need-same-length (
-  operation-reads.Asked,
-  operation-reads.Learnt,
-  node-below t,
-  node.Post,
-  advance-reads.Asked,
-  advance-reads.Learnt,
-  children-below t,
-  children.Post,
-) (children-at t) children.Post
+children-same-length : (t : ℕ) → children-lts.Need-same-length (children-claims t) (children-at t) children.Post
 children-same-length t c = child-long t (c .before .before .before .before)
 
-children-returns : (t : ℕ) → children-lts.Need-returns (
-  operation-reads.Asked,
-  operation-reads.Learnt,
-  node-below t,
-  node.Post,
-  advance-reads.Asked,
-  advance-reads.Learnt,
-  children-below t,
-  children.Post,
-) (children-at t) children.Post
+children-returns : (t : ℕ) → children-lts.Need-returns (children-claims t) (children-at t) children.Post
 children-returns t c =
     let s = (c .before .before .before .before .before .before .before .before .before .before) in
     let q = s .pre .1 in
     let n = child-as t (c .before .before .before .before) true ((c .before .before .before) .if2 .taken) in
     child-over q n (omega (arith, (c .before) .operation2 .ensures, c .if3 .taken))
 
-children-sub-children : (t : ℕ) → children-lts.Need-sub-children (
-  operation-reads.Asked,
-  operation-reads.Learnt,
-  node-below t,
-  node.Post,
-  advance-reads.Asked,
-  advance-reads.Learnt,
-  children-below t,
-  children.Post,
-) (children-at t) children.Post
+children-sub-children : (t : ℕ) → children-lts.Need-sub-children (children-claims t) (children-at t) children.Post
 children-sub-children t c =
     let q = (c .before .before .before .before .before .before .before .before .before .before .before .before .before .before) .pre .1 in
     list-symbols (q .ready) (q .look)
 
-children-children-requires : (t : ℕ) → children-lts.Need-children-requires (
-  operation-reads.Asked,
-  operation-reads.Learnt,
-  node-below t,
-  node.Post,
-  advance-reads.Asked,
-  advance-reads.Learnt,
-  children-below t,
-  children.Post,
-) (children-at t) children.Post
+children-children-requires : (t : ℕ) → children-lts.Need-children-requires (children-claims t) (children-at t) children.Post
 children-children-requires t c κs =
     let s = (c .before .before .before .before .before .before .before .before .before .before .before .before .before .before) in
     let q = s .pre .1 in
     let n = child-as t (c .before .before .before .before .before .before .before .before) true ((c .before .before .before .before .before .before .before) .if2 .taken) in
     (omega (arith, s .pre .0, list-symbols (q .ready) (q .look), child-depth q n), child-more-in q n (omega (arith, (c .before .before .before .before .before) .operation2 .ensures, (c .before .before .before .before) .if3 .left)))
 
-children-same-length-2 : (t : ℕ) → children-lts.Need-same-length-2 (
-  operation-reads.Asked,
-  operation-reads.Learnt,
-  node-below t,
-  node.Post,
-  advance-reads.Asked,
-  advance-reads.Learnt,
-  children-below t,
-  children.Post,
-) (children-at t) children.Post
+children-same-length-2 : (t : ℕ) → children-lts.Need-same-length-2 (children-claims t) (children-at t) children.Post
 children-same-length-2 t c = (c .before .before) .children .kept .1 .1 .1 .1 .1 .0 ∙ child-long t (c .before .before .before .before .before .before .before .before .before .before .before)
 
-children-returns-2 : (t : ℕ) → children-lts.Need-returns-2 (
-  operation-reads.Asked,
-  operation-reads.Learnt,
-  node-below t,
-  node.Post,
-  advance-reads.Asked,
-  advance-reads.Learnt,
-  children-below t,
-  children.Post,
-) (children-at t) children.Post
+children-returns-2 : (t : ℕ) → children-lts.Need-returns-2 (children-claims t) (children-at t) children.Post
 children-returns-2 t c =
     let s = (c .before .before .before .before .before .before .before .before .before .before .before .before .before .before .before .before .before) in
     let q = s .pre .1 in
     let n = child-as t (c .before .before .before .before .before .before .before .before .before .before .before) true ((c .before .before .before .before .before .before .before .before .before .before) .if2 .taken) in
     child-more q n ((c .before .before) .children .ensures)
 
-children-same-length-3 : (t : ℕ) → children-lts.Need-same-length-3 (
-  operation-reads.Asked,
-  operation-reads.Learnt,
-  node-below t,
-  node.Post,
-  advance-reads.Asked,
-  advance-reads.Learnt,
-  children-below t,
-  children.Post,
-) (children-at t) children.Post
+children-same-length-3 : (t : ℕ) → children-lts.Need-same-length-3 (children-claims t) (children-at t) children.Post
 children-same-length-3 t c = child-long t (c .before)
 
-children-returns-3 : (t : ℕ) → children-lts.Need-returns-3 (
-  operation-reads.Asked,
-  operation-reads.Learnt,
-  node-below t,
-  node.Post,
-  advance-reads.Asked,
-  advance-reads.Learnt,
-  children-below t,
-  children.Post,
-) (children-at t) children.Post
+children-returns-3 : (t : ℕ) → children-lts.Need-returns-3 (children-claims t) (children-at t) children.Post
 children-returns-3 t c =
     child-fails (child-as t (c .before) false (c .if2 .left))
 
@@ -316,52 +215,16 @@ listed-as t d b p =
     p
     (h .ensures)
 
-node-element-copy-out-before : (t : ℕ) → node-lts.Need-element-copy-out-before (
-  enter-reads.Asked,
-  enter-reads.Learnt,
-  operation-reads.Asked,
-  operation-reads.Learnt,
-  leave-reads.Asked,
-  leave-reads.Learnt,
-  children-below t,
-  children.Post,
-) (node-at t) node.Post
+node-element-copy-out-before : (t : ℕ) → node-lts.Need-element-copy-out-before (node-claims t) (node-at t) node.Post
 node-element-copy-out-before t c = search needs
 
-node-element-copy-out-at : (t : ℕ) → node-lts.Need-element-copy-out-at (
-  enter-reads.Asked,
-  enter-reads.Learnt,
-  operation-reads.Asked,
-  operation-reads.Learnt,
-  leave-reads.Asked,
-  leave-reads.Learnt,
-  children-below t,
-  children.Post,
-) (node-at t) node.Post
+node-element-copy-out-at : (t : ℕ) → node-lts.Need-element-copy-out-at (node-claims t) (node-at t) node.Post
 node-element-copy-out-at t c = search needs
 
-node-enter-requires : (t : ℕ) → node-lts.Need-enter-requires (
-  enter-reads.Asked,
-  enter-reads.Learnt,
-  operation-reads.Asked,
-  operation-reads.Learnt,
-  leave-reads.Asked,
-  leave-reads.Learnt,
-  children-below t,
-  children.Post,
-) (node-at t) node.Post
+node-enter-requires : (t : ℕ) → node-lts.Need-enter-requires (node-claims t) (node-at t) node.Post
 node-enter-requires t c κs = node-enter ((c .before .before .before .before .before .before .before .before) .pre .1)
 
-node-operation-requires : (t : ℕ) → node-lts.Need-operation-requires (
-  enter-reads.Asked,
-  enter-reads.Learnt,
-  operation-reads.Asked,
-  operation-reads.Learnt,
-  leave-reads.Asked,
-  leave-reads.Learnt,
-  children-below t,
-  children.Post,
-) (node-at t) node.Post
+node-operation-requires : (t : ℕ) → node-lts.Need-operation-requires (node-claims t) (node-at t) node.Post
 node-operation-requires t c κs =
     let s = (c .before .before .before .before .before .before .before .before .before .before .before) in
     let q = s .pre .1 in
@@ -369,16 +232,7 @@ node-operation-requires t c κs =
     let o = opened-as t d true ((c .before) .if1 .taken) in
     open-inside q o
 
-node-leave-requires : (t : ℕ) → node-lts.Need-leave-requires (
-  enter-reads.Asked,
-  enter-reads.Learnt,
-  operation-reads.Asked,
-  operation-reads.Learnt,
-  leave-reads.Asked,
-  leave-reads.Learnt,
-  children-below t,
-  children.Post,
-) (node-at t) node.Post
+node-leave-requires : (t : ℕ) → node-lts.Need-leave-requires (node-claims t) (node-at t) node.Post
 node-leave-requires t c κs =
     let s = (c .before .before .before .before .before .before .before .before .before .before .before .before .before .before .before .before .before) in
     let q = s .pre .1 in
@@ -387,28 +241,10 @@ node-leave-requires t c κs =
     let o = opened-as t d true ((c .before .before .before .before .before .before .before) .if1 .taken) in
     leave-at q o (open-none q o out (omega (arith, (c .before .before .before .before .before) .operation .ensures, (c .before .before .before .before) .if2 .taken)))
 
-node-same-length : (t : ℕ) → node-lts.Need-same-length (
-  enter-reads.Asked,
-  enter-reads.Learnt,
-  operation-reads.Asked,
-  operation-reads.Learnt,
-  leave-reads.Asked,
-  leave-reads.Learnt,
-  children-below t,
-  children.Post,
-) (node-at t) node.Post
+node-same-length : (t : ℕ) → node-lts.Need-same-length (node-claims t) (node-at t) node.Post
 node-same-length t c = (c .before .before) .leave .kept .1 .1 .1 .0
 
-node-returns : (t : ℕ) → node-lts.Need-returns (
-  enter-reads.Asked,
-  enter-reads.Learnt,
-  operation-reads.Asked,
-  operation-reads.Learnt,
-  leave-reads.Asked,
-  leave-reads.Learnt,
-  children-below t,
-  children.Post,
-) (node-at t) node.Post
+node-returns : (t : ℕ) → node-lts.Need-returns (node-claims t) (node-at t) node.Post
 node-returns t c =
     let s = (c .before .before .before .before .before .before .before .before .before .before .before .before .before .before .before .before .before .before .before .before) in
     let q = s .pre .1 in
@@ -417,16 +253,7 @@ node-returns t c =
     let o = opened-as t d true ((c .before .before .before .before .before .before .before .before .before .before) .if1 .taken) in
     left-out q o (open-none q o out (omega (arith, (c .before .before .before .before .before .before .before .before) .operation .ensures, (c .before .before .before .before .before .before .before) .if2 .taken))) ((c .before .before) .leave .ensures)
 
-node-children-requires : (t : ℕ) → node-lts.Need-children-requires (
-  enter-reads.Asked,
-  enter-reads.Learnt,
-  operation-reads.Asked,
-  operation-reads.Learnt,
-  leave-reads.Asked,
-  leave-reads.Learnt,
-  children-below t,
-  children.Post,
-) (node-at t) node.Post
+node-children-requires : (t : ℕ) → node-lts.Need-children-requires (node-claims t) (node-at t) node.Post
 node-children-requires t c κs =
     let s = (c .before .before .before .before .before .before .before .before .before .before .before .before .before .before .before .before .before) in
     let q = s .pre .1 in
@@ -434,16 +261,7 @@ node-children-requires t c κs =
     let o = opened-as t d true ((c .before .before .before .before .before .before .before) .if1 .taken) in
     (omega (arith, s .pre .0, open-depth q o), open-list q o (omega (arith, (c .before .before .before .before .before) .operation .ensures, (c .before .before .before .before) .if2 .left)))
 
-node-leave-requires-2 : (t : ℕ) → node-lts.Need-leave-requires-2 (
-  enter-reads.Asked,
-  enter-reads.Learnt,
-  operation-reads.Asked,
-  operation-reads.Learnt,
-  leave-reads.Asked,
-  leave-reads.Learnt,
-  children-below t,
-  children.Post,
-) (node-at t) node.Post
+node-leave-requires-2 : (t : ℕ) → node-lts.Need-leave-requires-2 (node-claims t) (node-at t) node.Post
 node-leave-requires-2 t c κs =
     let s = (c .before .before .before .before .before .before .before .before .before .before .before .before .before .before .before .before .before .before .before .before .before .before .before .before .before) in
     let q = s .pre .1 in
@@ -452,28 +270,10 @@ node-leave-requires-2 t c κs =
     let l = listed-as t (c .before .before .before .before .before .before .before) true ((c .before .before .before .before) .if3 .taken) in
     leave-at q o l
 
-node-same-length-2 : (t : ℕ) → node-lts.Need-same-length-2 (
-  enter-reads.Asked,
-  enter-reads.Learnt,
-  operation-reads.Asked,
-  operation-reads.Learnt,
-  leave-reads.Asked,
-  leave-reads.Learnt,
-  children-below t,
-  children.Post,
-) (node-at t) node.Post
+node-same-length-2 : (t : ℕ) → node-lts.Need-same-length-2 (node-claims t) (node-at t) node.Post
 node-same-length-2 t c = (c .before .before) .leave2 .kept .1 .1 .1 .0 ∙ (c .before .before .before .before .before .before .before .before .before .before) .children .kept .1 .1 .1 .1 .1 .0
 
-node-returns-2 : (t : ℕ) → node-lts.Need-returns-2 (
-  enter-reads.Asked,
-  enter-reads.Learnt,
-  operation-reads.Asked,
-  operation-reads.Learnt,
-  leave-reads.Asked,
-  leave-reads.Learnt,
-  children-below t,
-  children.Post,
-) (node-at t) node.Post
+node-returns-2 : (t : ℕ) → node-lts.Need-returns-2 (node-claims t) (node-at t) node.Post
 node-returns-2 t c =
     let s = (c .before .before .before .before .before .before .before .before .before .before .before .before .before .before .before .before .before .before .before .before .before .before .before .before .before .before .before .before) in
     let q = s .pre .1 in
@@ -482,28 +282,10 @@ node-returns-2 t c =
     let l = listed-as t (c .before .before .before .before .before .before .before .before .before .before) true ((c .before .before .before .before .before .before .before) .if3 .taken) in
     left-out q o l ((c .before .before) .leave2 .ensures)
 
-node-same-length-3 : (t : ℕ) → node-lts.Need-same-length-3 (
-  enter-reads.Asked,
-  enter-reads.Learnt,
-  operation-reads.Asked,
-  operation-reads.Learnt,
-  leave-reads.Asked,
-  leave-reads.Learnt,
-  children-below t,
-  children.Post,
-) (node-at t) node.Post
+node-same-length-3 : (t : ℕ) → node-lts.Need-same-length-3 (node-claims t) (node-at t) node.Post
 node-same-length-3 t c = (c .before .before .before) .children .kept .1 .1 .1 .1 .1 .0
 
-node-returns-3 : (t : ℕ) → node-lts.Need-returns-3 (
-  enter-reads.Asked,
-  enter-reads.Learnt,
-  operation-reads.Asked,
-  operation-reads.Learnt,
-  leave-reads.Asked,
-  leave-reads.Learnt,
-  children-below t,
-  children.Post,
-) (node-at t) node.Post
+node-returns-3 : (t : ℕ) → node-lts.Need-returns-3 (node-claims t) (node-at t) node.Post
 node-returns-3 t c =
     let s = (c .before .before .before .before .before .before .before .before .before .before .before .before .before .before .before .before .before .before .before .before .before) in
     let q = s .pre .1 in
@@ -512,30 +294,12 @@ node-returns-3 t c =
     let l = listed-as t (c .before .before .before) false (c .if3 .left) in
     open-fails q o l
 
-node-returns-4 : (t : ℕ) → node-lts.Need-returns-4 (
-  enter-reads.Asked,
-  enter-reads.Learnt,
-  operation-reads.Asked,
-  operation-reads.Learnt,
-  leave-reads.Asked,
-  leave-reads.Learnt,
-  children-below t,
-  children.Post,
-) (node-at t) node.Post
+node-returns-4 : (t : ℕ) → node-lts.Need-returns-4 (node-claims t) (node-at t) node.Post
 node-returns-4 t c =
     enter-out (now ((c .before .before .before .before .before .before .before .before .before .before) .args .sheet)) (opened-as t (c .before) false (c .if1 .left))
 
 pub +children+node-spec : {M : Type 1} → statement M
-+children+node-spec = close μ-children μ-node (λ t. children-lts.spec (
-  operation-reads.Asked,
-  operation-reads.Learnt,
-  node-below t,
-  node.Post,
-  advance-reads.Asked,
-  advance-reads.Learnt,
-  children-below t,
-  children.Post,
-)
++children+node-spec = close μ-children μ-node (λ t. children-lts.spec (children-claims t)
     (children-at t)
     children.Post
     (children-operation-requires t)
@@ -550,16 +314,7 @@ pub +children+node-spec : {M : Type 1} → statement M
     (children-returns-2 t)
     (children-same-length-3 t)
     (children-returns-3 t))
-    λ t. node-lts.spec (
-      enter-reads.Asked,
-      enter-reads.Learnt,
-      operation-reads.Asked,
-      operation-reads.Learnt,
-      leave-reads.Asked,
-      leave-reads.Learnt,
-      children-below t,
-      children.Post,
-    )
+    λ t. node-lts.spec (node-claims t)
     (node-at t)
     node.Post
     (node-element-copy-out-before t)

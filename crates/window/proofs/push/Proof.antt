@@ -27,7 +27,7 @@ returns c =
     let e : y ≡ written (sizeIn b) (after (sizeIn b) (nextIn b)) (valuesWith v b) b = c .before .before .renew .ensures ∙ ap (λ x. written (sizeIn b) (after (sizeIn b) (nextIn b)) (valuesWith x b) b) (back v (s .fits .value)) in
     let t : toZ w64 (ofZ w64 (f .sum)) ≡ f .sum = search needs in
     let m : toZ w64 (ofZ w64 (f .top)) ≡ f .top = search needs in
-    let w = s .pre .0 .told in
+    let w = s .pre .0 .known in
     pushed b (w .kept) v (s .pre .1) y e _ _ (t ∙ ap (λ x. x .sum) (w .found)) (m ∙ ap (λ x. x .top) (w .found))
 
 pub push-spec : {M : Type 1} → statement M

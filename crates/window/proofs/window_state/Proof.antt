@@ -6,7 +6,7 @@ use mir.Val.{toZ, ofZ}
 use Rattle.theory_window.specs.Parts.{answerOf}
 use Rattle.theory_window.specs.Cases.{state-not, state-met}
 use Rattle.theory_window.specs.FormByParts.{passed, answer-read}
-use Rattle.window_found.specs.Checks.{told-kept, told-wrong}
+use Rattle.window_found.specs.Checks.{checked-kept, checked-wrong}
 use borrow.Author.Needs.{needs}
 use Rattle.window.proofs.window_state.Statement.{statement}
 use Rattle.window.proofs.window_state.Tie as tie
@@ -23,7 +23,7 @@ enum-told c = search needs
 returns : tie.Need-returns
 returns c =
     let b = now (c .before .before .before .before .args .buffer) in
-    sym (state-not b (told-wrong b (pos 0) (c .before .before .check .ensures) (c .enum-told .given .1)))
+    sym (state-not b (checked-wrong b (pos 0) (c .before .before .check .ensures) (c .enum-told .given .1)))
 
 standing-requires : tie.Need-standing-requires
 standing-requires c κs = search needs
@@ -32,7 +32,7 @@ returns-2 : tie.Need-returns-2
 returns-2 c =
     let b = now (c .before .before .before .before .before .before .before .before .args .buffer) in
     let f = c .before .before .before .before .found .given .0 .0 in
-    let w = told-kept b (pos 0) (c .before .before .before .before .before .before .check .ensures) (c .before .before .before .before .found .given .1) in
+    let w = checked-kept b (pos 0) (c .before .before .before .before .before .before .check .ensures) (c .before .before .before .before .found .given .1) in
     let t : toZ w64 (ofZ w64 (f .total)) ≡ f .total = search needs in
     let l : toZ w64 (ofZ w64 (f .largest)) ≡ f .largest = search needs in
     c .standing .ensures

@@ -8,7 +8,7 @@ use Rattle.meaning_window.specs.Window.{wellKept, bringsValue}
 use borrow.Author.Tests.{not-true, not-false}
 use Rattle.window_cells.specs.Signed.{back}
 use Rattle.theory_window.specs.Cases.{value-not}
-use Rattle.window_found.specs.Checks.{KnownWhereKept, told-kept, told-wrong}
+use Rattle.window_found.specs.Checks.{KnownWhereKept, checked-kept, checked-wrong}
 use Rattle.window_push.specs.Leading.{brought}
 use borrow.Author.Needs.{needs}
 use Rattle.window.proofs.window_value.Statement.{statement}
@@ -48,21 +48,21 @@ returns-2 c =
     let s = e .before .before in
     let b = now (s .args .buffer) in
     let t : inRange (s .args .value) ≡ true = tested (e .before) ∙ not-false (e .before .in-range .result) (e .if1 .left) in
-    let w : wellKept b ≡ false = told-wrong b (toZ w64 (ofZ w64 (s .args .value))) (c .before .before .check .ensures) (c .enum-told .given .1) in
+    let w : wellKept b ≡ false = checked-wrong b (toZ w64 (ofZ w64 (s .args .value))) (c .before .before .check .ensures) (c .enum-told .given .1) in
     sym (value-not (s .args .value) b (ap (λ x. x && wellKept b) t ∙ w))
 
 -- what the check has found
-told : (c : tie.After-found) → KnownWhereKept (now (c .before .before .before .before .before .before .before .args .buffer)) (toZ w64 (ofZ w64 (c .before .before .before .before .before .before .before .args .value))) (c .found .given .0 .0) (c .before .before .check .last .1 .1 .0)
-told c = told-kept (now (c .before .before .before .before .before .before .before .args .buffer)) (toZ w64 (ofZ w64 (c .before .before .before .before .before .before .before .args .value))) (c .before .before .check .ensures) (c .found .given .1)
+known : (c : tie.After-found) → KnownWhereKept (now (c .before .before .before .before .before .before .before .args .buffer)) (toZ w64 (ofZ w64 (c .before .before .before .before .before .before .before .args .value))) (c .found .given .0 .0) (c .before .before .check .last .1 .1 .0)
+known c = checked-kept (now (c .before .before .before .before .before .before .before .args .buffer)) (toZ w64 (ofZ w64 (c .before .before .before .before .before .before .before .args .value))) (c .before .before .check .ensures) (c .found .given .1)
 
 slice-aggregate-push : tie.Need-slice-aggregate-push
-slice-aggregate-push c = sym (told (c .before .before .before) .leaders .long)
+slice-aggregate-push c = sym (known (c .before .before .before) .leaders .long)
 
 push-requires : tie.Need-push-requires
 push-requires c κs =
     let f = c .before .before .before in
     let s = f .before .before .before .before .before .before .before in
-    let w = told f in
+    let w = known f in
     (brought (now (s .args .buffer)) (w .kept) (toZ w64 (ofZ w64 (s .args .value))) (f .found .given .0 .0) (f .before .before .check .last .1 .1 .0) w, inside (f .before .before .before .before .before))
 
 same-length-2 : tie.Need-same-length-2

@@ -76,10 +76,10 @@ returns c =
     let p = s .pre in
     let n = f .size in
     let cells = now (s .args .leaders) in
-    let size : n ≡ sizeIn b = ap (λ x. x .size) (p .told .found) in
-    let held : f .held ≡ heldIn b = ap (λ x. x .held) (p .told .found) in
-    let next : f .next ≡ nextIn b = ap (λ x. x .next) (p .told .found) in
-    let from : f .from ≡ 65 - length (newLeaders b (sizeIn b) (s .args .value)) = ap (λ x. x .from) (p .told .found) in
+    let size : n ≡ sizeIn b = ap (λ x. x .size) (p .known .found) in
+    let held : f .held ≡ heldIn b = ap (λ x. x .held) (p .known .found) in
+    let next : f .next ≡ nextIn b = ap (λ x. x .next) (p .known .found) in
+    let from : f .from ≡ 65 - length (newLeaders b (sizeIn b) (s .args .value)) = ap (λ x. x .from) (p .known .found) in
     let v : toZ w64 (ofZ w64 (s .args .value)) ≡ s .args .value = back (s .args .value) (s .fits .value) in
     let t : toZ w64 (ofZ w64 (f .sum)) ≡ f .sum = search needs in
     let x = c .before .before .before .before .before .store in
@@ -93,10 +93,10 @@ returns c =
     let m : length (take (5 + 2 * n - (5 + n)) (drop (5 + n) y)) ≡ sizeIn b = omega (arith, length-take (5 + 2 * n - (5 + n)) (drop (5 + n) y), length-drop (5 + n) y, p .long) in
     let j : 5 + 2 * n - (5 + n) ≡ sizeIn b = omega arith in
     let new : take (length cells - f .from) (drop (f .from) cells) ≡ newLeaders b (sizeIn b) (s .args .value) =
-    take-all (length cells - f .from) (drop (f .from) cells) (omega (arith, length-drop (f .from) cells)) ∙ (ap (λ i. drop i cells) from ∙ p .told .leaders .tail) in
-    let r : 65 - f .from ≡ length (newLeaders b (sizeIn b) (s .args .value)) = omega (arith, few-leaders b (p .told .kept) (s .args .value), p .most) in
+    take-all (length cells - f .from) (drop (f .from) cells) (omega (arith, length-drop (f .from) cells)) ∙ (ap (λ i. drop i cells) from ∙ p .known .leaders .tail) in
+    let r : 65 - f .from ≡ length (newLeaders b (sizeIn b) (s .args .value)) = omega (arith, few-leaders b (p .known .kept) (s .args .value), p .most) in
     ap (λ (ys : List ℤ). take (5 + n) y ++ (ys ++ drop (5 + 2 * n - (5 + n)) (drop (5 + n) y))) (c .before .lay .ensures)
-    ∙ renewed b (p .told .kept) (s .args .value) _ (65 - f .from) (f .sum) y new r (ap (λ x. x .sum) (p .told .found)) e n _ _ size m j
+    ∙ renewed b (p .known .kept) (s .args .value) _ (65 - f .from) (f .sum) y new r (ap (λ x. x .sum) (p .known .found)) e n _ _ size m j
 
 pub renew-spec : {M : Type 1} → statement M
 renew-spec =

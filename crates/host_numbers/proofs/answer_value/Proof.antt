@@ -3,8 +3,8 @@ use mathlib.Core.Path.{sym, ap, _∙_}
 use Rattle.records.specs.Records.{answerIs}
 use Rattle.host_numbers.specs.Lent.{answerValue}
 use borrow.Author.Needs.{needs, sfits-of}
-use Rattle.host_numbers.proofs.value_of.Statement.{statement}
-use Rattle.host_numbers.proofs.value_of.Tie as tie
+use Rattle.host_numbers.proofs.answer_value.Statement.{statement}
+use Rattle.host_numbers.proofs.answer_value.Tie as tie
 
 enum-told : tie.Need-enum-told
 enum-told c = search needs
@@ -30,8 +30,8 @@ returns-3 c = sym (ap (λ z. answerValue (answerIs z)) (c .enum-told2 .given .1)
 returns-4 : tie.Need-returns-4
 returns-4 c = sym (ap (λ z. answerValue (answerIs z)) (c .enum-told3 .given .1))
 
-pub value-of-spec : {M : Type 1} → statement M
-value-of-spec =
+pub answer-value-spec : {M : Type 1} → statement M
+answer-value-spec =
     tie.close
     (tie.spec
     enum-told

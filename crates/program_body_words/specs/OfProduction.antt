@@ -1,4 +1,4 @@
--- What is brought of one production: its row (left side, length, symbols as the table has them), the bytes of its rules and conditions, and the attribute counts of all nonterminals.
+-- What the builder has of one production: its row (left side, length, symbols as the table has them), the bytes of its rules and conditions, and the attribute counts of all nonterminals.
 use Prim.Native.Nat.{ℕ, suc, _+_, _-_, _*_, _≤_, _<_}
 use native.Mathlib.Omega.{arith}
 use mathlib.Core.Path.{_≡_, refl, sym, ap, _∙_, subst}
@@ -26,7 +26,7 @@ use Rattle.program_block_words.specs.Chains.{Found}
 use Rattle.program_body_words.specs.Levels.{Leveled}
 use Rattle.program_body_words.specs.SchemeWords.{symbolWords, aheadSize, scheme-symbol, expects-symbol, endScheme, endWords, scheme-end, expects-end}
 
-pub record Given (row fields inherited synthesized : List ℕ) : Type 0 where
+pub record OfProduction (row fields inherited synthesized : List ℕ) : Type 0 where
   pub grammar : Grammar
   pub production : Production
   pub wellFormed : WellFormed grammar
@@ -38,10 +38,10 @@ pub record Given (row fields inherited synthesized : List ℕ) : Type 0 where
   pub own : RulesAndConditions (production .rules) (production .conditions) fields
   pub short : length fields ≤ 32768
 
-abbrev pub rightOf : {row fields inherited synthesized : List ℕ} → Given row fields inherited synthesized → List Symbol
+abbrev pub rightOf : {row fields inherited synthesized : List ℕ} → OfProduction row fields inherited synthesized → List Symbol
 rightOf x = x .production .right
 
-abbrev pub listedOf : {row fields inherited synthesized : List ℕ} → Given row fields inherited synthesized → Listed fields
+abbrev pub listedOf : {row fields inherited synthesized : List ℕ} → OfProduction row fields inherited synthesized → Listed fields
 listedOf x = record { rules = x .production .rules; conditions = x .production .conditions; own = x .own; constants = x .ofGrammar .constants; proper = x .ofGrammar .proper }
 
 -- ---- symbols by their bytes
@@ -50,14 +50,14 @@ listedOf x = record { rules = x .production .rules; conditions = x .production .
 abbrev pub Carried : ℕ → Grammar → Type 0
 Carried carrying g = (t : ℕ) → attributeIf (has (setOf carrying) t) ≡ syn g (terminal t)
 
-unfoldable pub headOf : ℕ → ℕ
-headOf b = cond (ltb b 128) (2 + 8 * b) (3 + 8 * (b - 128))
+unfoldable pub expectHead : ℕ → ℕ
+expectHead b = cond (ltb b 128) (2 + 8 * b) (3 + 8 * (b - 128))
 
 abbrev symbolBy : Bool → ℕ → Symbol
 symbolBy c b = elim c as (λ z. Symbol) [ true ↦ terminal b | false ↦ nonterminal (b - 128) ]
 
-pub head-is : (b : ℕ) → headOf b ≡ symbolHead (symbolOf b)
-unfolding headOf
+pub head-is : (b : ℕ) → expectHead b ≡ symbolHead (symbolOf b)
+unfolding expectHead
 head-is b = go (ltb b 128)
   where
     go : (c : Bool) → cond c (2 + 8 * b) (3 + 8 * (b - 128)) ≡ symbolHead (symbolBy c b)
@@ -80,7 +80,7 @@ synthesized-by g carrying ft counts fn b kn = go (ltb b 128) kn
     go true h = ft b
     go false h = fn (b - 128) h
 
-module _ {row fields inherited synthesized : List ℕ} (x : Given row fields inherited synthesized) where
+module _ {row fields inherited synthesized : List ℕ} (x : OfProduction row fields inherited synthesized) where
   known : (k : ℕ) → k < length (rightOf x) → Known (x .grammar) (symbolAt (x .production) (suc k))
   known k l = x .ofGrammar .symbols (symbolAt (x .production) (suc k)) (getD-in (rightOf x) k (terminal 0) l)
 
@@ -99,7 +99,7 @@ module _ {row fields inherited synthesized : List ℕ} (x : Given row fields inh
   pub synthesized-at : (carrying : ℕ) → Carried carrying (x .grammar) → (k : ℕ) → k < length (rightOf x) → synthesizedAt carrying synthesized (byte row (k + 2)) ≡ syn (x .grammar) (symbolAt (x .production) (suc k))
   synthesized-at carrying c k l = synthesized-by (x .grammar) carrying c synthesized (x .counts .synthesizes) (byte row (k + 2)) (known-byte k l) ∙ ap (syn (x .grammar)) (x .symbols k l)
 
-  pub head-at : (k : ℕ) → k < length (rightOf x) → headOf (byte row (k + 2)) ≡ symbolHead (symbolAt (x .production) (suc k))
+  pub head-at : (k : ℕ) → k < length (rightOf x) → expectHead (byte row (k + 2)) ≡ symbolHead (symbolAt (x .production) (suc k))
   head-at k l = head-is (byte row (k + 2)) ∙ ap symbolHead (x .symbols k l)
 
   pub left-inherited : byte inherited (byte row 0) ≡ inh (x .grammar) (nonterminal (x .production .left))
@@ -108,15 +108,15 @@ module _ {row fields inherited synthesized : List ℕ} (x : Given row fields inh
 -- ---- what is computed first: the rules and conditions of each position, and the levels
 
 pub record Prepared (row fields inherited synthesized marks links levels : List ℕ) : Type 0 where
-  pub given : Given row fields inherited synthesized
+  pub given : OfProduction row fields inherited synthesized
   pub found : Found fields links marks (listedOf given)
   pub leveled : Leveled (given .grammar) (given .production) levels
 
-abbrev pub wordsAt : {row fields inherited synthesized : List ℕ} → Given row fields inherited synthesized → ℕ → List ℕ
+abbrev pub wordsAt : {row fields inherited synthesized : List ℕ} → OfProduction row fields inherited synthesized → ℕ → List ℕ
 wordsAt x k = symbolWords (x .grammar) (x .production) (suc k) (symbolAt (x .production) (suc k))
 
 -- the words of its symbol before the expect
-abbrev pub aheadAt : {row fields inherited synthesized : List ℕ} → Given row fields inherited synthesized → ℕ → ℕ
+abbrev pub aheadAt : {row fields inherited synthesized : List ℕ} → OfProduction row fields inherited synthesized → ℕ → ℕ
 aheadAt x k = aheadSize (x .grammar) (x .production) (suc k) (symbolAt (x .production) (suc k))
 
 -- there is room for the words of the symbol at position k + 1, behind that for the address of its expect
@@ -165,7 +165,7 @@ pub record EndFits (row fields inherited marks links levels area : List ℕ) (a 
 -- ---- the whole body
 
 pub record BodyFits (row fields inherited synthesized : List ℕ) (carrying : ℕ) (marks links area : List ℕ) (a wait : ℕ) : Type 0 where
-  pub given : Given row fields inherited synthesized
+  pub given : OfProduction row fields inherited synthesized
   pub carried : Carried carrying (given .grammar)
   pub found : Found fields links marks (listedOf given)
   pub room : a + bodySize (given .grammar) (given .production) ≤ 16384

@@ -2,12 +2,12 @@ use Prim.Native.Nat.{_<_}
 use native.Mathlib.Omega.{arith}
 use mathlib.Core.Path.{sym, subst}
 use denote.Ref.{now}
-use Rattle.sheet_steps.specs.Numbers.{stored, AnswerWritten, told-stopped, told-failed}
+use Rattle.sheet_steps.specs.Numbers.{stored, AnswerWritten, end-stopped, end-failed}
 use mathlib.Core.Bool.{true, false}
 use lib.ListN.{set}
 use borrow.Author.Needs.{needs}
-use Rattle.sheet_steps.proofs.told.Statement.{statement}
-use Rattle.sheet_steps.proofs.told.Tie as tie
+use Rattle.sheet_steps.proofs.store_end.Statement.{statement}
+use Rattle.sheet_steps.proofs.store_end.Tie as tie
 
 enum-known-ended : tie.Need-enum-known-ended
 enum-known-ended c = search needs
@@ -32,7 +32,7 @@ returns c =
     let s = (c .before .before .before .before .before) in
     let e = (c .before .before .before) .ended .given in
     let n = now (s .args .numbers) in
-    subst (λ z. AnswerWritten n (s .args .ended) true z) (sym (c .store .ensures)) (subst (λ z. AnswerWritten n z true (stored n (e .0 .0))) (sym (e .1)) (told-stopped n (e .0 .0) (s .pre)))
+    subst (λ z. AnswerWritten n (s .args .ended) true z) (sym (c .store .ensures)) (subst (λ z. AnswerWritten n z true (stored n (e .0 .0))) (sym (e .1)) (end-stopped n (e .0 .0) (s .pre)))
 
 -- a refusal is a number of four bytes
 small : (c : tie.After-store2) → (c .before .before .before) .ended2 .given .0 .1 .0 < 4294967296
@@ -43,10 +43,10 @@ returns-2 c =
     let s = (c .before .before .before .before .before) in
     let e = (c .before .before .before) .ended2 .given in
     let n = now (s .args .numbers) in
-    subst (λ z. AnswerWritten n (s .args .ended) false (set z 5 (e .0 .1 .0))) (sym (c .store2 .ensures)) (subst (λ z. AnswerWritten n z false (set (stored n (e .0 .0)) 5 (e .0 .1 .0))) (sym (e .1)) (told-failed n (e .0 .0) (e .0 .1 .0) (small c) (s .pre)))
+    subst (λ z. AnswerWritten n (s .args .ended) false (set z 5 (e .0 .1 .0))) (sym (c .store2 .ensures)) (subst (λ z. AnswerWritten n z false (set (stored n (e .0 .0)) 5 (e .0 .1 .0))) (sym (e .1)) (end-failed n (e .0 .0) (e .0 .1 .0) (small c) (s .pre)))
 
-pub told-spec : {M : Type 1} → statement M
-told-spec =
+pub store-end-spec : {M : Type 1} → statement M
+store-end-spec =
     tie.close
     (tie.spec
     enum-known-ended

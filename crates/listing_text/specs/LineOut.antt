@@ -1,5 +1,5 @@
 -- What is promised of a line that is handed out, and when which step is due.
-use Prim.Native.Nat.{ℕ, _+_, _%_, _≤_, _<_}
+use Prim.Native.Nat.{ℕ, _+_, _≤_, _<_}
 use native.Mathlib.Omega.{arith}
 use mathlib.Core.Path.{_≡_, refl, sym, ap, _∙_, subst}
 use mathlib.Core.Bool.{Bool, true, false}
@@ -15,7 +15,7 @@ use Rattle.theory_program.specs.Addresses.{Begins}
 use Rattle.listing_bytes.specs.Written.{Wrote, wrote-first}
 use Rattle.listing_text.specs.declared.Cursor.{Cursor}
 use Rattle.listing_text.specs.declared.Line.{Line}
-use Rattle.listing_text.specs.Cursors.{wordAt, startOf, insideOf, skipsOf, skipped, ruleHere, behindRule, conditionHere, behindCondition, addHere, behindAdd, removeHere, NextLine, stop, skip, emit, pickStep, itemStep, headStep, stepOf, followed, linesLeft}
+use Rattle.listing_text.specs.Cursors.{operationAt, startOf, insideOf, skipsOf, skipped, ruleHere, behindRule, conditionHere, behindCondition, addHere, behindAdd, removeHere, NextLine, stop, skip, emit, pickStep, itemStep, headStep, stepOf, followed, linesLeft}
 use Rattle.listing_text.specs.Falling.{lines-step}
 
 -- the text t was written from the first byte on, and the cursor moved to d
@@ -78,24 +78,24 @@ module _ (ws : List ℕ) (c : Cursor) where
       pub step-condition : 0 < c .left → c .rules ≡ false → stepOf ws c ≡ emit (conditionHere ws c) (behindCondition c)
       step-condition l e = step-item l ∙ pick-no (c .rules) (emit (ruleHere ws c) (behindRule c)) (emit (conditionHere ws c) (behindCondition c)) e
 
-      pub step-add : c .left ≤ 0 → wordAt ws (c .at) % 8 ≡ 0 → stepOf ws c ≡ emit (addHere ws c) (behindAdd c)
-      step-add l e = step-head l ∙ pick-yes (eqb (wordAt ws (c .at) % 8) 0) (emit (addHere ws c) (behindAdd c)) (emit (removeHere ws c) (startOf ws (c .production + 1))) (eq-eqb (wordAt ws (c .at) % 8) 0 e)
+      pub step-add : c .left ≤ 0 → operationAt ws c ≡ 0 → stepOf ws c ≡ emit (addHere ws c) (behindAdd c)
+      step-add l e = step-head l ∙ pick-yes (eqb (operationAt ws c) 0) (emit (addHere ws c) (behindAdd c)) (emit (removeHere ws c) (startOf ws (c .production + 1))) (eq-eqb (operationAt ws c) 0 e)
 
-      pub step-remove : c .left ≤ 0 → (wordAt ws (c .at) % 8 ≡ 0 → ⊥) → stepOf ws c ≡ emit (removeHere ws c) (startOf ws (c .production + 1))
-      step-remove l n = step-head l ∙ pick-no (eqb (wordAt ws (c .at) % 8) 0) (emit (addHere ws c) (behindAdd c)) (emit (removeHere ws c) (startOf ws (c .production + 1))) (ne-eqb (wordAt ws (c .at) % 8) 0 n)
+      pub step-remove : c .left ≤ 0 → (operationAt ws c ≡ 0 → ⊥) → stepOf ws c ≡ emit (removeHere ws c) (startOf ws (c .production + 1))
+      step-remove l n = step-head l ∙ pick-no (eqb (operationAt ws c) 0) (emit (addHere ws c) (behindAdd c)) (emit (removeHere ws c) (startOf ws (c .production + 1))) (ne-eqb (operationAt ws c) 0 n)
 
--- ---- what is told
+-- ---- what is answered
 
 -- the lines left at c are asked for, and a step at d, where as many are left, answers
 module _ (ws : List ℕ) (c d : Cursor) (same : linesLeft ws d ≡ linesLeft ws c) where
   after-step : (s : NextLine) → stepOf ws d ≡ s → linesLeft ws c ≡ followed s (λ e. linesLeft ws e)
   after-step s e = sym same ∙ (lines-step ws d ∙ ap (λ k. followed k (λ f. linesLeft ws f)) e)
 
-  pub told-stop : (m : List ℕ) (r : Line) → stepOf ws d ≡ stop → r .over ≡ true → FirstLineOrOver ws (linesLeft ws c) m m r
-  told-stop m r e o = subst (λ ls. FirstLineOrOver ws ls m m r) (sym (after-step stop e)) (o, refl)
+  pub over-at-stop : (m : List ℕ) (r : Line) → stepOf ws d ≡ stop → r .over ≡ true → FirstLineOrOver ws (linesLeft ws c) m m r
+  over-at-stop m r e o = subst (λ ls. FirstLineOrOver ws ls m m r) (sym (after-step stop e)) (o, refl)
 
-  pub told-line : {before after : List ℕ} {r : Line} {t : Text} {e : Cursor} → 64 ≤ length before → stepOf ws d ≡ emit t e → Emits before after r t e → (r .length ≤ 64) × FirstLineOrOver ws (linesLeft ws c) before after r
-  told-line {before} {after} {r} {t} {e} l s h = (
+  pub line-at-step : {before after : List ℕ} {r : Line} {t : Text} {e : Cursor} → 64 ≤ length before → stepOf ws d ≡ emit t e → Emits before after r t e → (r .length ≤ 64) × FirstLineOrOver ws (linesLeft ws c) before after r
+  line-at-step {before} {after} {r} {t} {e} l s h = (
     h .short,
     subst (λ ls. FirstLineOrOver ws ls before after r) (sym (after-step (emit t e) s))
         (h .some, omega (arith, h .text .behind), wrote-first (omega (arith, h .short)) (h .text), ap (linesLeft ws) (h .next)),
@@ -104,11 +104,11 @@ module _ (ws : List ℕ) (c d : Cursor) (same : linesLeft ws d ≡ linesLeft ws 
 -- ---- for a caller that asks for one line after the other
 
 -- a line was handed out: it comes first, and one line less is left
-pub told-first : (ws : List ℕ) (ls : List Text) {before after : List ℕ} (r : Line) → r .over ≡ false → FirstLineOrOver ws ls before after r → (l : Text) × (ls ≡ l ∷ linesLeft ws (r .next)) × (r .length ≡ length l) × (after ≡ written l before)
-told-first ws [] r e t = absurd (subst T (sym (t .0) ∙ e) tt)
-told-first ws (l ∷ ls) r e t = (l, ap (λ k. l ∷ k) (sym (t .3)), t .1, t .2)
+pub first-of-lines : (ws : List ℕ) (ls : List Text) {before after : List ℕ} (r : Line) → r .over ≡ false → FirstLineOrOver ws ls before after r → (l : Text) × (ls ≡ l ∷ linesLeft ws (r .next)) × (r .length ≡ length l) × (after ≡ written l before)
+first-of-lines ws [] r e t = absurd (subst T (sym (t .0) ∙ e) tt)
+first-of-lines ws (l ∷ ls) r e t = (l, ap (λ k. l ∷ k) (sym (t .3)), t .1, t .2)
 
 -- none was
-pub told-none : (ws : List ℕ) (ls : List Text) {before after : List ℕ} (r : Line) → r .over ≡ true → FirstLineOrOver ws ls before after r → (ls ≡ []) × (after ≡ before)
-told-none ws [] r e t = (refl, t .1)
-told-none ws (l ∷ ls) r e t = absurd (subst T (sym e ∙ t .0) tt)
+pub none-of-lines : (ws : List ℕ) (ls : List Text) {before after : List ℕ} (r : Line) → r .over ≡ true → FirstLineOrOver ws ls before after r → (ls ≡ []) × (after ≡ before)
+none-of-lines ws [] r e t = (refl, t .1)
+none-of-lines ws (l ∷ ls) r e t = absurd (subst T (sym e ∙ t .0) tt)
