@@ -30,9 +30,12 @@ checked-read t s e = go (readTable t) e
     go x e = rw e refl
 
 module _ (t inh syn rows offsets : List ℕ) (q : Reading) (ans : Answers q inh syn rows offsets (readTable t)) where
+  pub read-malformed : (n o : ℕ) → q ≡ Malformed n o → readTable t ≡ malformed n o
+  read-malformed n o e = subst (λ z. Answers z inh syn rows offsets (readTable t)) e ans
+
   pub read-refused : (sets : List ℕ) (n o : ℕ) → q ≡ Malformed n o → Judges t inh syn rows offsets sets (Unusable n o)
   unfolding Judges
-  read-refused sets n o e = checked-not t n o (subst (λ z. Answers z inh syn rows offsets (readTable t)) e ans)
+  read-refused sets n o e = checked-not t n o (read-malformed n o e)
 
   module _ (sizes : Sizes) (e : q ≡ WellFormed sizes) where
     pub read-outline : Outline t sizes inh syn rows offsets
