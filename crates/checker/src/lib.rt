@@ -3,12 +3,10 @@ ghost use mathlib.Core.Path.{_≡_};
 ghost use Rattle.meaning.specs.Decide.{verdictOf};
 ghost use Rattle.meaning.specs.PublicCalls.{stretchOf};
 ghost use Rattle.checker_span.specs.Spans.{stretchIs};
-ghost use Rattle.outline.specs.Outline.{grammarIn, NumbersOf, Productions};
 ghost use Rattle.checker.specs.Verdicts.{verdictIs};
 use crate::spans::span_of;
 use checker_grammar::Judged;
 use checker_grammar::judge_grammar;
-use outline::Sizes;
 use table::Reading;
 use table_read::read_table;
 
@@ -20,18 +18,6 @@ pub enum Verdict {
     Refused { number: u32, offset: u32 },
 }
 
-// The verdict on a table that is well formed, by its outline.
-fn verdict_by(table: &[u8], sizes: Sizes, rows: &[u8; 2048], offsets: &[u32; 128]) -> Verdict
-    requires { ⌜ Productions (now table) (now rows) (now offsets) (sizes .productions) × NumbersOf sizes (grammarIn (now table)) ⌝ }
-    ensures { λ r. ⌜ verdictIs r ≡ verdictOf (now (table .entry)) ⌝ }
-{
-    let mut sets = [0u64; 128];
-    match judge_grammar(table, sizes, rows, offsets, &mut sets) {
-        Judged::Usable(_) => Verdict::Accepted,
-        Judged::Unusable { number, offset } => Verdict::Refused { number, offset },
-    }
-}
-
 // The verdict on any bytes as a table. It calls the reader and the judge of grammars itself, as `judge_table` does: so the compiler keeps
 // each of them a function of its own, with fewer values to hold at a time.
 pub fn check(table: &[u8]) -> Verdict
@@ -41,18 +27,23 @@ pub fn check(table: &[u8]) -> Verdict
     let mut synthesized = [0u8; 48];
     let mut rows = [0u8; 2048];
     let mut offsets = [0u32; 128];
+    let mut sets = [0u64; 128];
     match read_table(
         table,
         &mut inherited,
         &mut synthesized,
         &mut rows,
         &mut offsets,
+        &mut sets,
     ) {
         Reading::Malformed { number, offset } => Verdict::Refused {
             number: number as u32,
             offset,
         },
-        Reading::WellFormed(sizes) => verdict_by(table, sizes, &rows, &offsets),
+        Reading::WellFormed(sizes) => match judge_grammar(table, sizes, &rows, &offsets, &mut sets) {
+            Judged::Usable(_) => Verdict::Accepted,
+            Judged::Unusable { number, offset } => Verdict::Refused { number, offset },
+        },
     }
 }
 

@@ -17,7 +17,7 @@ add-requires : tie.Need-add-requires
 add-requires c κs = let st = c .before .before .before in (st .pre .0, st .pre .1)
 
 of-nonterminal-requires : tie.Need-of-nonterminal-requires
-of-nonterminal-requires c κs = search needs
+of-nonterminal-requires c κs = omega (arith, c .before .before .before .before .pre .0)
 
 union-requires : tie.Need-union-requires
 union-requires c κs = search needs

@@ -38,7 +38,7 @@ left-of-requires : tie.Need-left-of-requires Inv-loop μ-loop
 left-of-requires c κs = let row = c .before .pre .0 in row-inside (row .image) _ (row .listed)
 
 of-nonterminal-requires : tie.Need-of-nonterminal-requires Inv-loop μ-loop
-of-nonterminal-requires c κs = search needs
+of-nonterminal-requires c κs = let row = c .before .before .pre .0 in omega (arith, c .left-of .ensures, row .image .lefts _ (row .listed))
 
 size-of-requires : tie.Need-size-of-requires Inv-loop μ-loop
 size-of-requires c κs = let row = c .before .before .before .before .pre .0 in row-inside (row .image) _ (row .listed)
