@@ -4,7 +4,7 @@ use native.Mathlib.Decide.{decLt}
 use native.Mathlib.Omega.{arith}
 use mathlib.Core.Path.{_≡_, refl, sym, ap, _∙_, subst}
 use mathlib.Core.Logic.{⊎-elim}
-use mathlib.Core.Bool.{Bool, true, false, _&&_, _||_}
+use mathlib.Core.Bool.{Bool, true, false, cond, _&&_, _||_}
 use mathlib.Core.List.{List, [], _∷_}
 use lib.Bits.{bitOr}
 use lib.Dec.{T, lit<, ltb, ltb→lt, lt→ltb}
@@ -150,85 +150,76 @@ pub record EdgeFrom (gone : ℕ → Bool) (rows : List ℕ) (p i b : ℕ) (see :
 pub record EdgesTo (gone : ℕ → Bool) (rows : List ℕ) (k b : ℕ) (see : ℕ → Bool) : Type 0 where
   pub edge : (p : ℕ) → p < k → EdgeFrom gone rows p 0 b see
 
-all-drop : (f : Symbol → Bool) (m : ℕ) (xs : List Symbol) → T (all f xs) → T (all f (drop m xs))
-all-drop f zero xs t = t
-all-drop f (suc m) [] t = tt
-all-drop f (suc m) (x ∷ xs) t = all-drop f m xs (both (f x) (all f xs) t .1)
+-- the table and the edges filled by walks along right sides, with what then holds of each
+pub record Behind (gone : ℕ → Bool) (first rows : List ℕ) (count : ℕ) (P Q : ℕ → (ℕ → Bool) → Type 0) (s e s′ e′ : List ℕ) : Type 0 where
+  pub base : Filled (FollowClosed gone first rows count) P s s′
+  pub edge : Filled (EdgesTo gone rows count) Q e e′
+
+-- the left side while all behind a place derives nothing, then none
+pub record Upward (gone : ℕ → Bool) (rows : List ℕ) (k i left up : ℕ) : Type 0 where
+  pub is : up ≡ cond (all (fit false gone) (drop i (rightAt rows k))) left 0
+
+both-cond : (a b : Bool) (x : ℕ) → cond a (cond b x 0) 0 ≡ cond (a && b) x 0
+both-cond true b x = refl
+both-cond false b x = refl
 
 module _ (gone : ℕ → Bool) {rows : List ℕ} {count : ℕ} (image : Image rows count) (k : ℕ) (lt : k < count) where
-  -- what derives nothing from a place on derives nothing from a later one on
-  later : (i j : ℕ) → i ≤ j → T (all (fit false gone) (drop i (rightAt rows k))) → T (all (fit false gone) (drop j (rightAt rows k)))
-  later i j l t =
-      let e : i + (j - i) ≡ j = omega arith in
-      subst (λ (m : ℕ). T (all (fit false gone) (drop m (rightAt rows k)))) e (rw (drop-drop (j - i) i (rightAt rows k)) at (all-drop (fit false gone) (j - i) (drop i (rightAt rows k)) t))
-
-  behind : (j n : ℕ) (rest : List Symbol) → drop j (rightAt rows k) ≡ nonterminal n ∷ rest → rest ≡ drop (j + 1) (rightAt rows k)
-  behind j n rest e = sym (sym (drop-drop 1 j (rightAt rows k)) ∙ ap (drop 1) e)
-
-  pub tail-start : T (all (fit false gone) (drop (sizeAt rows k) (rightAt rows k)))
-  tail-start = rw (right-end image k lt (sizeAt rows k) (omega arith)) tt
+  pub up-start : (left : ℕ) → Upward gone rows k (sizeAt rows k) left left
+  up-start left = record { is = sym (ap (λ (xs : List Symbol). cond (all (fit false gone) xs) left 0) (right-end image k lt (sizeAt rows k) (omega arith))) }
 
   pub edge-end : (b : ℕ) (see : ℕ → Bool) → EdgeFrom gone rows k (sizeAt rows k) b see
   edge-end b see = record { at = λ j n xs l e a t. absurd (let d : [] ≡ nonterminal n ∷ xs = sym (right-end image k lt j l) ∙ e in let z : _≡_ {A = ℕ} 0 1 = cc in omega arith) }
 
-  -- the symbol before place i, where all from there on derives nothing
+  -- the symbol before place i
   module _ (i : ℕ) (more : 0 < i) (upto : i ≤ sizeAt rows k) where
-    -- one that does not derive nothing: no earlier nonterminal has an edge
-    pub edge-stop : fit false gone (symbolOf (byteAt rows k (i - 1))) ≡ false → (b : ℕ) (see : ℕ → Bool) → EdgeFrom gone rows k (i - 1) b see → EdgeFrom gone rows k 0 b see
-    edge-stop stays b see c = record { at = λ j n xs l e a t. go j n xs e a t (decLt j (i - 1)) }
-      where
-        go : (j n : ℕ) (xs : List Symbol) → drop j (rightAt rows k) ≡ nonterminal n ∷ xs → T (all (fit false gone) xs) → leftAt rows k ≡ b → Dec (j < i - 1) → T (see n)
-        go j n xs e a t (no m) = c .at j n xs (omega arith) e a t
-        go j n xs e a t (yes m) =
-            let z = later (j + 1) (i - 1) (omega arith) (subst (λ (ys : List Symbol). T (all (fit false gone) ys)) (behind j n xs e) a) in
-            absurd (rw (right-back image k lt i more upto, stays) at z)
+    pub up-step : (left up on : ℕ) → Upward gone rows k i left up → on ≡ cond (fit false gone (symbolOf (byteAt rows k (i - 1)))) up 0 → Upward gone rows k (i - 1) left on
+    up-step left up on a e =
+        record {
+          is = e ∙ ap (λ (x : ℕ). cond (fit false gone (symbolOf (byteAt rows k (i - 1)))) x 0) (a .is)
+              ∙ both-cond (fit false gone (symbolOf (byteAt rows k (i - 1)))) (all (fit false gone) (drop i (rightAt rows k))) left
+              ∙ sym (ap (λ (xs : List Symbol). cond (all (fit false gone) xs) left 0) (right-back image k lt i more upto));
+        }
 
-    -- a token has no edge
-    pub edge-token : byteAt rows k (i - 1) < 128 → (b : ℕ) (see : ℕ → Bool) → EdgeFrom gone rows k i b see → EdgeFrom gone rows k 0 b see
-    edge-token h b see c = edge-stop (ap (fit false gone) (symbol-terminal (byteAt rows k (i - 1)) h)) b see (record { at = λ j n xs l e a t. go j n xs l e a t (decLt j i) })
-      where
-        go : (j n : ℕ) (xs : List Symbol) → i - 1 ≤ j → drop j (rightAt rows k) ≡ nonterminal n ∷ xs → T (all (fit false gone) xs) → leftAt rows k ≡ b → Dec (j < i) → T (see n)
-        go j n xs l e a t (no m) = c .at j n xs (omega arith) e a t
-        go j n xs l e a t (yes m) =
-            let q : j ≡ i - 1 = omega arith in
-            let o : drop (i - 1) (rightAt rows k) ≡ terminal (byteAt rows k (i - 1)) ∷ drop i (rightAt rows k) = right-back image k lt i more upto ∙ ap (λ (y : Symbol). y ∷ drop i (rightAt rows k)) (symbol-terminal (byteAt rows k (i - 1)) h) in
-            let d : terminal (byteAt rows k (i - 1)) ∷ drop i (rightAt rows k) ≡ nonterminal n ∷ xs = sym o ∙ ap (λ (y : ℕ). drop y (rightAt rows k)) (sym q) ∙ e in
-            absurd (let z : _≡_ {A = ℕ} 0 1 = cc in omega arith)
+    module _ (left : ℕ) (one : setOf left ≡ singleton (leftAt rows k)) (up : ℕ) (a : Upward gone rows k i left up) where
+      -- what is handed on is the left side, behind which all derives nothing
+      up-only : (b : ℕ) → T (members up b) → T (all (fit false gone) (drop i (rightAt rows k))) × (leftAt rows k ≡ b)
+      up-only b h = go (all (fit false gone) (drop i (rightAt rows k))) (a .is)
+        where
+          go : (c : Bool) → up ≡ cond c left 0 → T c × (leftAt rows k ≡ b)
+          go true e = (tt, sym (single-only (leftAt rows k) b (rw (e, one) at h)))
+          go false e = absurd (rw (e, none-in b) at h)
 
-    module _ (high : 128 ≤ byteAt rows k (i - 1)) where
-      abbrev here : ℕ
-      here = byteAt rows k (i - 1) - 128
+      pub edge-fine : (b : ℕ) (see : ℕ → Bool) → EdgesTo gone rows count b see → T (members up b) → (n : ℕ) → symbolOf (byteAt rows k (i - 1)) ≡ nonterminal n → T (see n)
+      edge-fine b see c h n e =
+          let w = up-only b h in
+          c .edge k lt .at (i - 1) n (drop i (rightAt rows k)) zero-le (right-back image k lt i more upto ∙ ap (λ (x : Symbol). x ∷ drop i (rightAt rows k)) e) (w .0) (w .1)
 
-      is-here : drop (i - 1) (rightAt rows k) ≡ nonterminal here ∷ drop i (rightAt rows k)
-      is-here = right-back image k lt i more upto ∙ ap (λ (y : Symbol). y ∷ drop i (rightAt rows k)) (symbol-nonterminal (byteAt rows k (i - 1)) high)
+      up-has : (b : ℕ) → T (all (fit false gone) (drop i (rightAt rows k))) → leftAt rows k ≡ b → T (members up b)
+      up-has b t h = go (all (fit false gone) (drop i (rightAt rows k))) (a .is) t
+        where
+          go : (c : Bool) → up ≡ cond c left 0 → T c → T (members up b)
+          go true e u = rw (e, one, ← h) (single-has (leftAt rows k) (omega (arith, image .lefts k lt)))
+          go false e u = absurd u
 
-      pub tail-next : gone here ≡ true → T (all (fit false gone) (drop i (rightAt rows k))) → T (all (fit false gone) (drop (i - 1) (rightAt rows k)))
-      tail-next e t = rw (is-here, e) t
+      pub edge-more : (b : ℕ) (f h : ℕ → Bool) → Inside f h → EdgeFrom gone rows k i b f → Gets (symbolOf (byteAt rows k (i - 1))) up b h → EdgeFrom gone rows k (i - 1) b h
+      edge-more b f h sub c g = record { at = λ j n xs l e t o. go j n xs l e t o (decLt j i) }
+        where
+          go : (j n : ℕ) (xs : List Symbol) → i - 1 ≤ j → drop j (rightAt rows k) ≡ nonterminal n ∷ xs → T (all (fit false gone) xs) → leftAt rows k ≡ b → Dec (j < i) → T (h n)
+          go j n xs l e t o (no m) = sub n (c .at j n xs (omega arith) e t o)
+          go j n xs l e t o (yes m) =
+              let q : j ≡ i - 1 = omega arith in
+              let d : symbolOf (byteAt rows k (i - 1)) ∷ drop i (rightAt rows k) ≡ nonterminal n ∷ xs = sym (right-back image k lt i more upto) ∙ ap (λ (y : ℕ). drop y (rightAt rows k)) (sym q) ∙ e in
+              let x : symbolOf (byteAt rows k (i - 1)) ≡ nonterminal n = cc in
+              let y : xs ≡ drop i (rightAt rows k) = cc in
+              g .got n x (up-has b (rw y at t) o)
 
-      pub tail-stop : gone here ≡ false → fit false gone (symbolOf (byteAt rows k (i - 1))) ≡ false
-      tail-stop e = ap (fit false gone) (symbol-nonterminal (byteAt rows k (i - 1)) high) ∙ e
+-- ---- whether a symbol hands it on
+module _ (gone : ℕ → Bool) (s : ℕ) where
+  pub fit-token : s < 128 → fit false gone (symbolOf s) ≡ false
+  fit-token h = ap (fit false gone) (symbol-terminal s h)
 
-      -- a nonterminal gets its edge
-      module _ (t : T (all (fit false gone) (drop i (rightAt rows k)))) (x : ℕ) (one : setOf x ≡ singleton (leftAt rows k)) where
-        pub edge-step : (s r q : List ℕ) → Filled (EdgesTo gone rows count) (EdgeFrom gone rows k i) s r → Added r (nonterminal here) x q → Filled (EdgesTo gone rows count) (EdgeFrom gone rows k (i - 1)) s q
-        edge-step s r q f j = filled-then s r q f (filled-join r q (nonterminal here) x j fine) more-of
-          where
-            fine : (b : ℕ) (see : ℕ → Bool) → EdgesTo gone rows count b see → T (members x b) → (n : ℕ) → nonterminal here ≡ nonterminal n → T (see n)
-            fine b see c h n e = c .edge k lt .at (i - 1) n (drop i (rightAt rows k)) zero-le (is-here ∙ ap (λ (y : Symbol). y ∷ drop i (rightAt rows k)) e) t (sym (single-only (leftAt rows k) b (rw one at h)))
-
-            own : (b : ℕ) → leftAt rows k ≡ b → T (members x b)
-            own b h = rw (one, ← h) (single-has (leftAt rows k) (omega (arith, image .lefts k lt)))
-
-            more-of : (b : ℕ) → Inside (sees r b) (sees q b) → EdgeFrom gone rows k i b (sees r b) → Gets (nonterminal here) x b (sees q b) → EdgeFrom gone rows k (i - 1) b (sees q b)
-            more-of b sub c g = record { at = λ j n xs l e a h. go j n xs l e a h (decLt j i) }
-              where
-                go : (j n : ℕ) (xs : List Symbol) → i - 1 ≤ j → drop j (rightAt rows k) ≡ nonterminal n ∷ xs → T (all (fit false gone) xs) → leftAt rows k ≡ b → Dec (j < i) → T (sees q b n)
-                go j n xs l e a h (no m) = sub n (c .at j n xs (omega arith) e a h)
-                go j n xs l e a h (yes m) =
-                    let z : j ≡ i - 1 = omega arith in
-                    let d : nonterminal here ∷ drop i (rightAt rows k) ≡ nonterminal n ∷ xs = sym is-here ∙ ap (λ (y : ℕ). drop y (rightAt rows k)) (sym z) ∙ e in
-                    let y : nonterminal here ≡ nonterminal n = cc in
-                    g .got n y (own b h)
+  pub fit-nonterminal : 128 ≤ s → fit false gone (symbolOf s) ≡ gone (s - 128)
+  fit-nonterminal h = ap (fit false gone) (symbol-nonterminal s h)
 
 edge-lift : {gone : ℕ → Bool} {rows : List ℕ} {p b : ℕ} (f h : ℕ → Bool) → Inside f h → EdgeFrom gone rows p 0 b f → EdgeFrom gone rows p 0 b h
 edge-lift f h sub c = record { at = λ j n xs l e a t. sub n (c .at j n xs l e a t) }

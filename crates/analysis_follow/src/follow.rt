@@ -1,22 +1,21 @@
 // FOLLOW: what comes after a nonterminal from the rest of a right side, then along the edges from the tails of right sides to left sides.
 use analysis_spreading::add;
 use analysis_spreading::spread;
-use analysis_tails::add_once;
-use analysis_tails::tails;
 use nonterminal_set::NonterminalSet;
+use outline::left_of;
 use outline::size_of;
 use outline::symbol_of;
 use token_set::TokenSet;
 ghost use mathlib.Core.Path.{_≡_};
-ghost use mathlib.Core.Bool.{true};
+ghost use mathlib.Core.Bool.{true, false, cond};
 ghost use mathlib.Core.List.{List};
 ghost use Prim.Native.Nat.{ℕ, _<_, _≤_};
 ghost use lib.ListN.{length, replicate};
 ghost use Rattle.meaning.specs.Table.{symbolOf};
 ghost use Rattle.outline.specs.Rows.{Image};
-ghost use Rattle.analysis.specs.Views.{members, sees, turn, Below, Imaged};
+ghost use Rattle.analysis.specs.Views.{members, sees, turn, fit, Below, Imaged};
 ghost use Rattle.analysis.specs.Tables.{Added, Got};
-ghost use Rattle.analysis.specs.Follows.{BaseFrom, FollowClosed, Filled, BasesTo, Followed};
+ghost use Rattle.analysis.specs.Follows.{BaseFrom, BasesTo, EdgeFrom, EdgesTo, Behind, Followed};
 
 // What a string begins with whose first symbol is s, from what the rest begins with.
 fn begin_with(s: u8, null: NonterminalSet, first: &[u64; 48], rest: TokenSet) -> TokenSet
@@ -34,67 +33,113 @@ fn begin_with(s: u8, null: NonterminalSet, first: &[u64; 48], rest: TokenSet) ->
     TokenSet(own)
 }
 
-// Adds a set to the entry of a symbol, unless it is one of those that have got it: these, and the symbol. A token has no entry.
-fn mark(table: &mut [u64; 48], s: u8, more: u64, done: NonterminalSet) -> NonterminalSet
-    requires { ⌜ (s < 176) × (length (now table) ≡ 48) × Got (done .0) more (now table) ⌝ }
-    ensures added { λ r. ⌜ Added (now (table .entry)) (symbolOf s) more (now (table .exit)) ⌝ }
-    ensures got { λ r. ⌜ Got (r .0) more (now (table .exit)) ⌝ }
+// Adds a set to the entry of a symbol in a table, and another to its entry in the edges, unless it is one of those that have got both: these, and
+// the symbol. A token has no entry. The same nonterminal often stands many times on a right side.
+fn mark(
+    table: &mut [u64; 48],
+    edges: &mut [u64; 48],
+    s: u8,
+    rest: u64,
+    up: u64,
+    done: NonterminalSet,
+) -> NonterminalSet
+    requires { ⌜ (s < 176) × (length (now table) ≡ 48) × (length (now edges) ≡ 48) × Got (done .0) rest (now table) × Got (done .0) up (now edges) ⌝ }
+    ensures table { λ r. ⌜ Added (now (table .entry)) (symbolOf s) rest (now (table .exit)) × Got (r .0) rest (now (table .exit)) ⌝ }
+    ensures edges { λ r. ⌜ Added (now (edges .entry)) (symbolOf s) up (now (edges .exit)) × Got (r .0) up (now (edges .exit)) ⌝ }
 {
     if s < 128 {
         return NonterminalSet::EMPTY;
     }
-    add_once(table, s - 128, more, done)
+    let a = s - 128;
+    if done.has(a) {
+        return done;
+    }
+    add(table, a as usize, rest);
+    add(edges, a as usize, up);
+    done.union(NonterminalSet::of_nonterminal(a))
 }
 
-// Those that have got the next set: the same as before where it is the same, else none.
-fn still(done: NonterminalSet, rest: TokenSet, next: TokenSet) -> NonterminalSet
-    ensures { λ r. ⌜ ((t : List ℕ) → Got (done .0) (rest .0) t → Got (r .0) (next .0) t) ⌝ }
+// What is handed on past a symbol: the same where it derives nothing, else none.
+fn onward(s: u8, null: NonterminalSet, up: NonterminalSet) -> NonterminalSet
+    requires { ⌜ s < 176 ⌝ }
+    ensures { λ r. ⌜ r .0 ≡ cond (fit false (members (null .0)) (symbolOf s)) (up .0) 0 ⌝ }
 {
-    if rest.0 == next.0 {
-        return done;
+    if s < 128 {
+        return NonterminalSet::EMPTY;
+    }
+    if null.has(s - 128) {
+        return up;
     }
     NonterminalSet::EMPTY
 }
 
-// Adds what comes after each nonterminal on the right of production k from the symbols behind it.
-fn base_by(
+// Those that have got the next sets: the same as before where these are the same, else none.
+fn still(
+    done: NonterminalSet,
+    rest: TokenSet,
+    next: TokenSet,
+    up: NonterminalSet,
+    on: NonterminalSet,
+) -> NonterminalSet
+    ensures { λ r. ⌜ ((t e : List ℕ) → Got (done .0) (rest .0) t → Got (done .0) (up .0) e → Got (r .0) (next .0) t × Got (r .0) (on .0) e) ⌝ }
+{
+    if rest.0 != next.0 {
+        return NonterminalSet::EMPTY;
+    }
+    if up.0 != on.0 {
+        return NonterminalSet::EMPTY;
+    }
+    done
+}
+
+// One walk along the right side of production k, from its end: adds what comes after each nonterminal from the symbols behind it, and the left
+// side to the edges of those behind which all derives nothing.
+fn behind_by(
     rows: &[u8; 2048],
     k: usize,
     null: NonterminalSet,
     first: &[u64; 48],
     table: &mut [u64; 48],
+    edges: &mut [u64; 48],
 )
-    requires { ⌜ Imaged (now rows) k × (length (now table) ≡ 48) ⌝ }
+    requires { ⌜ Imaged (now rows) k × (length (now table) ≡ 48) × (length (now edges) ≡ 48) ⌝ }
     ensures { λ r. ⌜ ((count : ℕ) → Image (now (rows .entry)) count → k < count
-        → Filled (FollowClosed (members (null .0)) (now (first .entry)) (now (rows .entry)) count) (λ u. BaseFrom (members (null .0)) (now (first .entry)) (now (rows .entry)) u k 0) (now (table .entry)) (now (table .exit))) ⌝ }
+        → Behind (members (null .0)) (now (first .entry)) (now (rows .entry)) count (λ u. BaseFrom (members (null .0)) (now (first .entry)) (now (rows .entry)) u k 0) (EdgeFrom (members (null .0)) (now (rows .entry)) k 0)
+        (now (table .entry)) (now (edges .entry)) (now (table .exit)) (now (edges .exit))) ⌝ }
 {
+    let left = NonterminalSet::of_nonterminal(left_of(rows, k));
+    let mut up = left;
     let mut rest = TokenSet::EMPTY;
     let mut done = NonterminalSet::EMPTY;
     let mut i = size_of(rows, k);
     while 0 < i {
         i -= 1;
         let s = symbol_of(rows, k, i);
-        let got = mark(table, s, rest.0, done);
+        let got = mark(table, edges, s, rest.0, up.0, done);
         let next = begin_with(s, null, first, rest);
-        done = still(got, rest, next);
+        let on = onward(s, null, up);
+        done = still(got, rest, next, up, on);
         rest = next;
+        up = on;
     }
 }
 
 // The same for all productions.
-fn bases(
+fn behinds(
     rows: &[u8; 2048],
     count: usize,
     null: NonterminalSet,
     first: &[u64; 48],
     table: &mut [u64; 48],
+    edges: &mut [u64; 48],
 )
-    requires { ⌜ Image (now rows) count × (length (now table) ≡ 48) ⌝ }
-    ensures { λ r. ⌜ Filled (FollowClosed (members (null .0)) (now (first .entry)) (now (rows .entry)) count) (BasesTo (members (null .0)) (now (first .entry)) (now (rows .entry)) count) (now (table .entry)) (now (table .exit)) ⌝ }
+    requires { ⌜ Image (now rows) count × (length (now table) ≡ 48) × (length (now edges) ≡ 48) ⌝ }
+    ensures { λ r. ⌜ Behind (members (null .0)) (now (first .entry)) (now (rows .entry)) count (BasesTo (members (null .0)) (now (first .entry)) (now (rows .entry)) count) (EdgesTo (members (null .0)) (now (rows .entry)) count)
+        (now (table .entry)) (now (edges .entry)) (now (table .exit)) (now (edges .exit)) ⌝ }
 {
     let mut k: usize = 0;
     while k < count {
-        base_by(rows, k, null, first, table);
+        behind_by(rows, k, null, first, table, edges);
         k += 1;
     }
 }
@@ -114,7 +159,6 @@ pub fn follow(
 {
     let mut edges = [0u64; 48];
     add(table, start, TokenSet::END.0);
-    bases(rows, count, null, first, table);
-    tails(rows, count, null, &mut edges);
+    behinds(rows, count, null, first, table, &mut edges);
     spread(&mut edges, table, n);
 }

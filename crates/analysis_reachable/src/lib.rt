@@ -1,12 +1,11 @@
 // 11: the nonterminals that the start symbol reaches, and the lowest that is unreachable or derives no token string.
 use analysis::closing::productive;
 use analysis::judging::lowest_useless;
-use analysis_rights::right_sets;
 use nonterminal_set::NonterminalSet;
 use outline::left_of;
 ghost use mathlib.Core.Path.{_≡_};
 ghost use Prim.Native.Nat.{ℕ, _<_, _≤_};
-ghost use lib.ListN.{length, getD};
+ghost use lib.ListN.{getD};
 ghost use Rattle.meaning.specs.Grammar.{Grammar, nonterminalCount};
 ghost use Rattle.outline.specs.Rows.{Image, Rows};
 ghost use Rattle.analysis.specs.Views.{members, rightBy, ReachAt, Imaged, Within};
@@ -88,21 +87,19 @@ pub fn reach(
     }
 }
 
-// 11: the lowest nonterminal that is unreachable or derives no token string; `nonterminals` where there is none.
-// The lent array then holds the words of the right sides.
+// 11: the lowest nonterminal that is unreachable or derives no token string; `nonterminals` where there is none. From the words of the right
+// sides.
 pub fn useless(
     rows: &[u8; 2048],
     count: usize,
     nonterminals: usize,
     start: u8,
-    rights: &mut [u64; 128],
+    rights: &[u64; 128],
 ) -> usize
-    requires { ⌜ Image (now rows) count × (nonterminals ≤ 48) × (length (now rights) ≡ 128) ⌝ }
-    ensures words { λ r. ⌜ SetsTo (rightBy (now (rows .entry))) count (now (rights .exit)) ⌝ }
-    ensures found { λ r. ⌜ ((g : Grammar) → Rows (now (rows .entry)) count g → nonterminals ≡ nonterminalCount g → start ≡ g .start
+    requires { ⌜ Image (now rows) count × (nonterminals ≤ 48) × (start < 48) × SetsTo (rightBy (now rows)) count (now rights) ⌝ }
+    ensures { λ r. ⌜ ((g : Grammar) → Rows (now (rows .entry)) count g → nonterminals ≡ nonterminalCount g → start ≡ g .start
         → Found (isUseless g) (nonterminalCount g) r) ⌝ }
 {
-    right_sets(rows, count, rights);
     let live = productive(rows, count, rights);
     let first = NonterminalSet::of_nonterminal(start);
     let reached = reach(rows, count, rights, first);

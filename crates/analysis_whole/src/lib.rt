@@ -6,9 +6,10 @@ use analysis_reachable::useless;
 use analysis_recursion::left_recursive;
 ghost use mathlib.Core.Path.{_≡_};
 ghost use Prim.Native.Nat.{_<_, _≤_};
-ghost use lib.ListN.{length};
 ghost use Rattle.meaning.specs.Grammar.{Grammar, nonterminalCount};
 ghost use Rattle.outline.specs.Rows.{Image, Rows};
+ghost use Rattle.analysis.specs.Views.{rightBy};
+ghost use Rattle.analysis.specs.Growth.{SetsTo};
 ghost use Rattle.analysis.specs.Finding.{Analysed};
 
 // The number of the refusal, or 0; its nonterminal.
@@ -17,7 +18,7 @@ pub struct Analysis {
     pub index: usize,
 }
 
-// The lent array holds, where the number is 0, FIRST-then-FOLLOW of each production.
+// The lent array holds the words of the right sides; at the end, where the number is 0, FIRST-then-FOLLOW of each production.
 pub fn analyse(
     rows: &[u8; 2048],
     count: usize,
@@ -25,7 +26,7 @@ pub fn analyse(
     start: u8,
     sets: &mut [u64; 128],
 ) -> Analysis
-    requires { ⌜ Image (now rows) count × (nonterminals ≤ 48) × (start < 48) × (length (now sets) ≡ 128) ⌝ }
+    requires { ⌜ Image (now rows) count × (nonterminals ≤ 48) × (start < 48) × SetsTo (rightBy (now rows)) count (now sets) ⌝ }
     ensures { λ r. ⌜ ((g : Grammar) → Rows (now (rows .entry)) count g → nonterminals ≡ nonterminalCount g → start ≡ g .start
         → Analysed g (r .number) (r .index) (now (sets .exit))) ⌝ }
 {

@@ -11,7 +11,9 @@ use Rattle.outline.specs.declared.Sizes.{Sizes}
 use Rattle.table.specs.declared.Reading.{Reading}
 use Rattle.table.specs.declared.Reading.the-variants.{WellFormed, Malformed}
 use Rattle.outline.specs.Outline.{stateIn, Outline}
-use Rattle.table.specs.Answer.{Answers}
+use Rattle.table.specs.Answer.{Answers, Worded}
+use Rattle.analysis.specs.Views.{rightBy}
+use Rattle.analysis.specs.Growth.{SetsTo}
 use Rattle.checker_grammar.specs.Concludes.{Concludes}
 use Rattle.checker.specs.Judging.{Judges}
 use Rattle.checker_grammar.specs.declared.Judged.{Judged}
@@ -29,10 +31,17 @@ checked-read t s e = go (readTable t) e
     go : (x : Read) → x ≡ wellFormed s → _≡_ {A = Checked} (elim x [ malformed n o ↦ unusable n o | wellFormed s ↦ checkedAs s (judge s) ]) (checkedAs s (judge s))
     go x e = rw e refl
 
+-- the words of the right sides
+pub read-words : (rows words : List ℕ) (q : Reading) → Worded q rows words → (sizes : Sizes) → q ≡ WellFormed sizes → SetsTo (rightBy rows) (sizes .productions) words
+read-words rows words q w sizes e = subst (λ z. Worded z rows words) e w
+
 module _ (t inh syn rows offsets : List ℕ) (q : Reading) (ans : Answers q inh syn rows offsets (readTable t)) where
+  pub read-malformed : (n o : ℕ) → q ≡ Malformed n o → readTable t ≡ malformed n o
+  read-malformed n o e = subst (λ z. Answers z inh syn rows offsets (readTable t)) e ans
+
   pub read-refused : (sets : List ℕ) (n o : ℕ) → q ≡ Malformed n o → Judges t inh syn rows offsets sets (Unusable n o)
   unfolding Judges
-  read-refused sets n o e = checked-not t n o (subst (λ z. Answers z inh syn rows offsets (readTable t)) e ans)
+  read-refused sets n o e = checked-not t n o (read-malformed n o e)
 
   module _ (sizes : Sizes) (e : q ≡ WellFormed sizes) where
     pub read-outline : Outline t sizes inh syn rows offsets

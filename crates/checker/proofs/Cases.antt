@@ -23,6 +23,7 @@ use Rattle.checker.specs.Judging.{Accepts, Judges}
 use Rattle.checker_span.specs.Spans.{stretchBy, stretchIs, Inside, spanIn}
 use Rattle.checker_span.proofs.Cases.{span-missing, span-found}
 use Rattle.checker.specs.Verdicts.{spanWhere, spanAs, spanOf}
+use Rattle.checker_grammar.specs.Concludes.{Concludes}
 use Rattle.checker_grammar.specs.declared.Judged.{Judged}
 use Rattle.checker_grammar.specs.declared.Judged.the-variants.{Usable, Unusable}
 use Rattle.checker_span.specs.declared.Span.{Span}
@@ -41,27 +42,34 @@ module _ (t inh syn rows offsets sets : List ℕ) (q : Judged) (j : Judges t inh
 
 -- ---- the verdict
 
-abbrev verdictIn : Checked → Judgement.Verdict
-verdictIn (usable s) = accepted
-verdictIn (unusable n o) = rejected n o
-
-verdict-checked : (t : List ℕ) → verdictOf t ≡ verdictIn (check t)
-verdict-checked t = go (readTable t)
+verdict-read : (t : List ℕ) (s : State) → readTable t ≡ wellFormed s → verdictOf t ≡ judge s
+verdict-read t s e = go (readTable t) e
   where
-    by : (s : State) (v : Judgement.Verdict) → v ≡ verdictIn (checkedAs s v)
-    by s accepted = refl
-    by s (rejected n o) = refl
+    go : (x : Read) → x ≡ wellFormed s → _≡_ {A = Judgement.Verdict} (elim x [ malformed n o ↦ rejected n o | wellFormed s ↦ judge s ]) (judge s)
+    go x e = rw e refl
 
-    go : (x : Read) → _≡_ {A = Judgement.Verdict} (elim x [ malformed n o ↦ rejected n o | wellFormed s ↦ judge s ]) (verdictIn (elim x [ malformed n o ↦ unusable n o | wellFormed s ↦ checkedAs s (judge s) ]))
-    go (malformed n o) = refl
-    go (wellFormed s) = by s (judge s)
+-- of a table that cannot be read
+pub verdict-malformed : (t : List ℕ) (n o : ℕ) → readTable t ≡ malformed n o → rejected n o ≡ verdictOf t
+verdict-malformed t n o e = sym (go (readTable t) e)
+  where
+    go : (x : Read) → x ≡ malformed n o → _≡_ {A = Judgement.Verdict} (elim x [ malformed n o ↦ rejected n o | wellFormed s ↦ judge s ]) (rejected n o)
+    go x e = rw e refl
 
-module _ (t inh syn rows offsets sets : List ℕ) (q : Judged) (j : Judges t inh syn rows offsets sets q) where
-  pub verdict-accepted : (sizes : Sizes) → q ≡ Usable sizes → accepted ≡ verdictOf t
-  verdict-accepted sizes e = sym (verdict-checked t ∙ ap verdictIn (accepted-case t inh syn rows offsets sets q j sizes e .isUsable))
+-- of one that is read
+module _ (t sets : List ℕ) (sizes : Sizes) (r : Judged) (read : readTable t ≡ wellFormed (stateIn t)) (k : Concludes t sizes sets r (judge (stateIn t))) where
+  pub verdict-accepted : (s : Sizes) → r ≡ Usable s → accepted ≡ verdictOf t
+  verdict-accepted s e = by (judge (stateIn t)) k ∙ sym (verdict-read t (stateIn t) read)
+    where
+      by : (d : Judgement.Verdict) → Concludes t sizes sets r d → accepted ≡ d
+      by accepted c = refl
+      by (rejected n o) c = cc
 
-  pub verdict-refused : (n o : ℕ) → q ≡ Unusable n o → rejected n o ≡ verdictOf t
-  verdict-refused n o e = sym (verdict-checked t ∙ ap verdictIn (refused-case t inh syn rows offsets sets q j n o e))
+  pub verdict-refused : (n o : ℕ) → r ≡ Unusable n o → rejected n o ≡ verdictOf t
+  verdict-refused n o e = by (judge (stateIn t)) k ∙ sym (verdict-read t (stateIn t) read)
+    where
+      by : (d : Judgement.Verdict) → Concludes t sizes sets r d → rejected n o ≡ d
+      by accepted c = let f = c .0 in cc
+      by (rejected m i) c = cc
 
 -- ---- the stretch
 

@@ -18,7 +18,7 @@ pub fn judge_table(
     requires { ⌜ (length (now inherited) ≡ 48) × (length (now synthesized) ≡ 48) × (length (now rows) ≡ 2048) × (length (now offsets) ≡ 128) × (length (now sets) ≡ 128) ⌝ }
     ensures { λ r. ⌜ Judges (now (table .entry)) (now (inherited .exit)) (now (synthesized .exit)) (now (rows .exit)) (now (offsets .exit)) (now (sets .exit)) r ⌝ }
 {
-    match table_read::read_table(table, inherited, synthesized, rows, offsets) {
+    match table_read::read_table(table, inherited, synthesized, rows, offsets, sets) {
         Reading::Malformed { number, offset } => Judged::Unusable {
             number: number as u32,
             offset,

@@ -4,9 +4,11 @@ ghost use Rattle.meaning.specs.Decide.{verdictOf};
 ghost use Rattle.meaning.specs.PublicCalls.{stretchOf};
 ghost use Rattle.checker_span.specs.Spans.{stretchIs};
 ghost use Rattle.checker.specs.Verdicts.{verdictIs};
-use crate::judging::judge_table;
 use crate::spans::span_of;
 use checker_grammar::Judged;
+use checker_grammar::judge_grammar;
+use table::Reading;
+use table_read::read_table;
 
 pub mod judging;
 pub mod spans;
@@ -16,7 +18,8 @@ pub enum Verdict {
     Refused { number: u32, offset: u32 },
 }
 
-// The verdict on any bytes as a table.
+// The verdict on any bytes as a table. It calls the reader and the judge of grammars itself, as `judge_table` does: so the compiler keeps
+// each of them a function of its own, with fewer values to hold at a time.
 pub fn check(table: &[u8]) -> Verdict
     ensures { λ r. ⌜ verdictIs r ≡ verdictOf (now (table .entry)) ⌝ }
 {
@@ -25,7 +28,7 @@ pub fn check(table: &[u8]) -> Verdict
     let mut rows = [0u8; 2048];
     let mut offsets = [0u32; 128];
     let mut sets = [0u64; 128];
-    match judge_table(
+    match read_table(
         table,
         &mut inherited,
         &mut synthesized,
@@ -33,8 +36,14 @@ pub fn check(table: &[u8]) -> Verdict
         &mut offsets,
         &mut sets,
     ) {
-        Judged::Usable(_) => Verdict::Accepted,
-        Judged::Unusable { number, offset } => Verdict::Refused { number, offset },
+        Reading::Malformed { number, offset } => Verdict::Refused {
+            number: number as u32,
+            offset,
+        },
+        Reading::WellFormed(sizes) => match judge_grammar(table, sizes, &rows, &offsets, &mut sets) {
+            Judged::Usable(_) => Verdict::Accepted,
+            Judged::Unusable { number, offset } => Verdict::Refused { number, offset },
+        },
     }
 }
 

@@ -1,8 +1,9 @@
 // Refusals 11 to 13: the analysis of the grammar, then the clash test.
 ghost use mathlib.Core.Path.{_≡_};
-ghost use lib.ListN.{length};
 ghost use Rattle.meaning.specs.Decide.{judge};
 ghost use Rattle.outline.specs.Outline.{stateIn, grammarIn, NumbersOf, Productions};
+ghost use Rattle.analysis.specs.Views.{rightBy};
+ghost use Rattle.analysis.specs.Growth.{SetsTo};
 ghost use Rattle.checker_grammar.specs.Concludes.{Concludes};
 use outline::Sizes;
 
@@ -12,7 +13,7 @@ pub enum Judged {
     Unusable { number: u32, offset: u32 },
 }
 
-// Refusals 11 to 13 of a table that is well formed, by its outline.
+// Refusals 11 to 13 of a table that is well formed, by its outline and the words of its right sides.
 pub fn judge_grammar(
     table: &[u8],
     sizes: Sizes,
@@ -20,7 +21,7 @@ pub fn judge_grammar(
     offsets: &[u32; 128],
     sets: &mut [u64; 128],
 ) -> Judged
-    requires { ⌜ Productions (now table) (now rows) (now offsets) (sizes .productions) × NumbersOf sizes (grammarIn (now table)) × (length (now sets) ≡ 128) ⌝ }
+    requires { ⌜ Productions (now table) (now rows) (now offsets) (sizes .productions) × NumbersOf sizes (grammarIn (now table)) × SetsTo (rightBy (now rows)) (sizes .productions) (now sets) ⌝ }
     ensures { λ r. ⌜ Concludes (now (table .entry)) sizes (now (sets .exit)) r (judge (stateIn (now (table .entry)))) ⌝ }
 {
     let productions = sizes.productions;

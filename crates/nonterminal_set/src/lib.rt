@@ -1,5 +1,4 @@
 // A set of nonterminals: a word whose bit n is nonterminal n. Bit 63 is no nonterminal's; in a set of symbols it stands for the tokens.
-use token_set::word;
 ghost use mathlib.Core.Path.{_≡_};
 ghost use lib.Bits.{bitOr};
 ghost use Prim.Native.Nat.{_<_};
@@ -14,10 +13,12 @@ impl NonterminalSet {
 
     pub const TOKENS: NonterminalSet = NonterminalSet(0x8000_0000_0000_0000);
 
+    // The set of one number that has a bit.
     pub fn of_nonterminal(n: u8) -> NonterminalSet
+        requires { ⌜ n < 64 ⌝ }
         ensures { λ r. ⌜ setOf (r .0) ≡ singleton n ⌝ }
     {
-        NonterminalSet(word::one(n))
+        NonterminalSet(1u64 << n)
     }
 
     pub fn union(self, other: NonterminalSet) -> NonterminalSet

@@ -5,6 +5,8 @@ use mathlib.Core.List.{List, reverse}
 use Rattle.meaning.specs.Table.{Read, malformed, readTable}
 use Rattle.outline.specs.declared.Sizes.{Sizes}
 use Rattle.outline.specs.Outline.{Carries, Outline}
+use Rattle.analysis.specs.Views.{rightBy}
+use Rattle.analysis.specs.Growth.{SetsTo}
 use Rattle.table_fields.specs.Field.{rest}
 use Rattle.table.specs.declared.Reading.{Reading}
 use Rattle.table.specs.declared.Reading.the-variants.{WellFormed, Malformed}
@@ -20,3 +22,8 @@ abbrev pub AnswersFrom : List ℕ → ℕ → Sizes → Reading → List ℕ →
 AnswersFrom t from sizes r inherited synthesized rows offsets =
     (ws : List ℕ) → Carries (sizes .carrying .0) (reverse ws)
     → Answers r inherited synthesized rows offsets (rest t (named t inherited synthesized (sizes .nonterminals) ws) from)
+
+-- beside the outline, the words of the right sides
+abbrev pub Worded : Reading → List ℕ → List ℕ → Type 0
+Worded (WellFormed sizes) rows words = SetsTo (rightBy rows) (sizes .productions) words
+Worded (Malformed number offset) rows words = Unit {0}

@@ -2,3 +2,5 @@
 pub mod Producing
 -- Productions, one after the other, and their rows
 pub mod ProductionRows
+-- The words of the right sides, kept while another production is read
+pub mod Wording

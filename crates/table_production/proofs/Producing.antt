@@ -205,7 +205,7 @@ module _ (inh syn : List ℕ) where
             omega (arith, first, second, small (k - 128) (h l))
 
 -- the nonterminals among known symbols
-known-below : (terminals n k : ℕ) → symbolKnown terminals n k ≡ true → 128 ≤ k → k - 128 < n
+pub known-below : (terminals n k : ℕ) → symbolKnown terminals n k ≡ true → 128 ≤ k → k - 128 < n
 unfolding symbolKnown ifBelow
 known-below terminals n k e l = ltb-true (k - 128) n (sym (ap (λ (b : Bool). cond b (ltb k terminals) (ltb (k - 128) n)) (le-ltb k 128 l)) ∙ e)
 

@@ -7,6 +7,7 @@ ghost use Rattle.table_counts.specs.Counted.{SmallCounts};
 ghost use Rattle.table_items.specs.Progress.{Next};
 ghost use Rattle.table_sound_items.specs.Sound.{BodyTaken};
 ghost use Rattle.table_production.specs.Productions.{widthIn, ProductionJudged, SmallBody, BodyRead, ProductionRead};
+ghost use Rattle.table_production.specs.Rights.{RightsTo};
 use outline::Sizes;
 use table_items::Items;
 use table_items::read_items;
@@ -100,7 +101,8 @@ fn read_body(
     judge_body(table, at, carrying, inherited, synthesized, &settled, sound)
 }
 
-// Production p, with its row, its offset, its rules and conditions, from where those of the productions before it end.
+// Production p, with its row, its offset, the word of its right side, its rules and conditions, from where those of the productions before it
+// end.
 pub fn read_production(
     table: &[u8],
     before: Items,
@@ -110,12 +112,16 @@ pub fn read_production(
     synthesized: &[u8; 48],
     rows: &mut [u8; 2048],
     offsets: &mut [u32; 128],
+    words: &mut [u64; 128],
 ) -> Items
     requires { ⌜ (before .at < length (now table)) × (length (now table) ≤ 32768) × (0 < p → byte (now table) (before .at) ≡ 3) × (byte (now table) (before .at) ≡ 6 → ⊥)
         × SmallCounts (now inherited) (now synthesized) (sizes .nonterminals) × (length (now inherited) ≡ 48) × (length (now synthesized) ≡ 48)
-        × (length (now rows) ≡ 2048) × (length (now offsets) ≡ 128) × (before .rules ≤ before .at) × (before .conditions ≤ before .at) ⌝ }
-    ensures { λ u. ⌜ ProductionRead (now (table .entry)) (before .at) p (sizes .terminals) (sizes .nonterminals) (sizes .carrying .0) (now (inherited .entry)) (now (synthesized .entry))
+        × (length (now rows) ≡ 2048) × (length (now offsets) ≡ 128) × (before .rules ≤ before .at) × (before .conditions ≤ before .at) × (length (now words) ≡ 128)
+        × (sizes .nonterminals ≤ 48) ⌝ }
+    ensures read { λ u. ⌜ ProductionRead (now (table .entry)) (before .at) p (sizes .terminals) (sizes .nonterminals) (sizes .carrying .0) (now (inherited .entry)) (now (synthesized .entry))
         (now (rows .entry)) (now (offsets .entry)) (before .rules) (before .conditions) (now (rows .exit)) (now (offsets .exit)) u ⌝ }
+    ensures kept { λ u. ⌜ length (now (words .exit)) ≡ 128 ⌝ }
+    ensures words { λ u. ⌜ (u .number ≡ 0 → RightsTo (now (rows .entry)) p (now (words .entry)) → RightsTo (now (rows .exit)) (p + 1) (now (words .exit))) ⌝ }
 {
     let at = before.at;
     let number = production_number(table, at, p, sizes.terminals, sizes.nonterminals);
@@ -124,7 +130,7 @@ pub fn read_production(
     }
     let from = at + 3;
     let end = at + 5 + table_fields::wide(table[at + 4]);
-    table_rows::copy_row(rows, p, &table[from..end]);
+    words[p] = table_rows::copy_row(rows, p, &table[from..end]).0;
     offsets[p] = at as u32;
     read_body(table, before, sizes.carrying, inherited, synthesized)
 }

@@ -6,7 +6,7 @@ ghost use Rattle.meaning.specs.Table.{byte, readTable};
 ghost use Rattle.table_fields.specs.Field.{rest};
 ghost use Rattle.table_counts.specs.Counted.{counted};
 ghost use Rattle.table.specs.declared.Reading.the-variants.{Malformed};
-ghost use Rattle.table.specs.Answer.{Answers, AnswersFrom};
+ghost use Rattle.table.specs.Answer.{Answers, AnswersFrom, Worded};
 ghost use Rattle.table_production.specs.Productions.{HeaderRead, Begun};
 use outline::Sizes;
 use table::Reading;
@@ -32,9 +32,11 @@ fn read_productions(
     synthesized: &[u8; 48],
     rows: &mut [u8; 2048],
     offsets: &mut [u32; 128],
+    words: &mut [u64; 128],
 ) -> Reading
-    requires { ⌜ Begun (now table) from sizes (now inherited) (now synthesized) × (length (now rows) ≡ 2048) × (length (now offsets) ≡ 128) ⌝ }
-    ensures { λ r. ⌜ AnswersFrom (now (table .entry)) from sizes r (now (inherited .entry)) (now (synthesized .entry)) (now (rows .exit)) (now (offsets .exit)) ⌝ }
+    requires { ⌜ Begun (now table) from sizes (now inherited) (now synthesized) × (length (now rows) ≡ 2048) × (length (now offsets) ≡ 128) × (length (now words) ≡ 128) ⌝ }
+    ensures read { λ r. ⌜ AnswersFrom (now (table .entry)) from sizes r (now (inherited .entry)) (now (synthesized .entry)) (now (rows .exit)) (now (offsets .exit)) ⌝ }
+    ensures words { λ r. ⌜ Worded r (now (rows .exit)) (now (words .exit)) ⌝ }
 {
     let mut done = Items {
         number: 0,
@@ -44,7 +46,7 @@ fn read_productions(
     };
     let mut p: usize = 0;
     while done.at < table.len() {
-        done = read_production(table, done, p, sizes, inherited, synthesized, rows, offsets);
+        done = read_production(table, done, p, sizes, inherited, synthesized, rows, offsets, words);
         if done.number != 0 {
             return refused(done.number, done.at);
         }
@@ -66,9 +68,11 @@ fn read_after_counts(
     synthesized: &[u8; 48],
     rows: &mut [u8; 2048],
     offsets: &mut [u32; 128],
+    words: &mut [u64; 128],
 ) -> Reading
-    requires { ⌜ HeaderRead (now table) sizes (now inherited) (now synthesized) × (length (now rows) ≡ 2048) × (length (now offsets) ≡ 128) ⌝ }
-    ensures { λ r. ⌜ Answers r (now (inherited .entry)) (now (synthesized .entry)) (now (rows .exit)) (now (offsets .exit)) (rest (now (table .entry)) (counted (now (table .entry)) (now (inherited .entry)) (now (synthesized .entry)) (sizes .nonterminals)) (7 + 5 * sizes .nonterminals)) ⌝ }
+    requires { ⌜ HeaderRead (now table) sizes (now inherited) (now synthesized) × (length (now rows) ≡ 2048) × (length (now offsets) ≡ 128) × (length (now words) ≡ 128) ⌝ }
+    ensures read { λ r. ⌜ Answers r (now (inherited .entry)) (now (synthesized .entry)) (now (rows .exit)) (now (offsets .exit)) (rest (now (table .entry)) (counted (now (table .entry)) (now (inherited .entry)) (now (synthesized .entry)) (sizes .nonterminals)) (7 + 5 * sizes .nonterminals)) ⌝ }
+    ensures words { λ r. ⌜ Worded r (now (rows .exit)) (now (words .exit)) ⌝ }
 {
     let from = 7 + 5 * sizes.nonterminals;
     let c = table_carriers::read_carriers(table, from, sizes.terminals);
@@ -84,7 +88,7 @@ fn read_after_counts(
         productions: 0,
         carrying,
     };
-    read_productions(table, c.at, known, inherited, synthesized, rows, offsets)
+    read_productions(table, c.at, known, inherited, synthesized, rows, offsets, words)
 }
 
 // The numbers of the header, whose field is good; those of the productions and of the terminals with a value are not known yet.
@@ -107,7 +111,7 @@ fn header_sizes(table: &[u8]) -> Sizes
 }
 
 // Reads a table. The lent arrays hold the outline of a table that is well formed: the counts of each nonterminal, a row of
-// 16 bytes for each production (left side, length of the right side, symbols) and the offset of its field.
+// 16 bytes for each production (left side, length of the right side, symbols), the offset of its field and the word of its right side.
 // After a refusal they are scratch.
 pub fn read_table(
     table: &[u8],
@@ -115,9 +119,11 @@ pub fn read_table(
     synthesized: &mut [u8; 48],
     rows: &mut [u8; 2048],
     offsets: &mut [u32; 128],
+    words: &mut [u64; 128],
 ) -> Reading
-    requires { ⌜ (length (now inherited) ≡ 48) × (length (now synthesized) ≡ 48) × (length (now rows) ≡ 2048) × (length (now offsets) ≡ 128) ⌝ }
-    ensures { λ r. ⌜ Answers r (now (inherited .exit)) (now (synthesized .exit)) (now (rows .exit)) (now (offsets .exit)) (readTable (now (table .entry))) ⌝ }
+    requires { ⌜ (length (now inherited) ≡ 48) × (length (now synthesized) ≡ 48) × (length (now rows) ≡ 2048) × (length (now offsets) ≡ 128) × (length (now words) ≡ 128) ⌝ }
+    ensures read { λ r. ⌜ Answers r (now (inherited .exit)) (now (synthesized .exit)) (now (rows .exit)) (now (offsets .exit)) (readTable (now (table .entry))) ⌝ }
+    ensures words { λ r. ⌜ Worded r (now (rows .exit)) (now (words .exit)) ⌝ }
 {
     if 32768 < table.len() {
         return refused(1, 0);
@@ -138,5 +144,5 @@ pub fn read_table(
     if counted.number != 0 {
         return refused(counted.number, counted.offset);
     }
-    read_after_counts(table, sizes, inherited, synthesized, rows, offsets)
+    read_after_counts(table, sizes, inherited, synthesized, rows, offsets, words)
 }

@@ -1,13 +1,14 @@
 -- Loops that write counts and rows.
 use Prim.Native.Nat.{ℕ, zero, suc, _+_, _≤_, _<_}
-use mathlib.Core.Path.{_≡_, refl, sym, _∙_, ap}
-use mathlib.Core.List.{List}
+use mathlib.Core.Path.{_≡_, refl, sym, _∙_, ap, subst}
+use mathlib.Core.List.{List, [], _∷_, map}
 use mathlib.Core.Logic.{⊎-elim}
 use native.Mathlib.Omega.{arith}
 use native.Mathlib.Nat.{not-suc-le-zero}
-use lib.ListN.{length, getD, set, length-set}
-use lib.Seq.{getD-set-same, getD-set-other}
-use Rattle.meaning.specs.Table.{byte}
+use native.Mathlib.Numerals.{add-one}
+use lib.ListN.{length, getD, set, drop, length-set, drop-of-length-le}
+use lib.Seq.{getD-set-same, getD-set-other, drop-cons}
+use Rattle.meaning.specs.Table.{byte, symbolOf}
 use Rattle.outline.specs.Rows.{rowStart}
 use Rattle.table_rows.specs.RowWritten.{symbolByte, Copied}
 use Rattle.table_fields.proofs.Cases.{lt-or-le}
@@ -68,3 +69,24 @@ copying-more rows₀ p b rows k c room =
         ap (λ (i : ℕ). getD (set rows (rowStart p + k) (byte b k)) (rowStart p + i) 0) q
         ∙ getD-set-same rows (rowStart p + k) (byte b k) 0 (omega (arith, c .kept)) ∙ ap (byte b) (sym q))
         (lt-or-le j k)
+
+-- the same where the row's place is another number's name
+pub copying-at :
+    (rows₀ : List ℕ) (p : ℕ) (b rows : List ℕ) (k start : ℕ) → start ≡ rowStart p → Copied rows₀ p b rows k → rowStart p + k < 2048
+    → Copied rows₀ p b (set rows (start + k) (byte b k)) (k + 1)
+copying-at rows₀ p b rows k start e c room = rw e (copying-more rows₀ p b rows k c room)
+
+-- its first two bytes, which are no symbols
+pub copying-two : (rows : List ℕ) (p : ℕ) (b : List ℕ) → length rows ≡ 2048 → p < 128 → Copied rows p b (set (set rows (rowStart p) (byte b 0)) (rowStart p + 1) (byte b 1)) 2
+copying-two rows p b l h =
+    let e : rowStart p + 0 ≡ rowStart p = omega arith in
+    copying-more rows p b (set rows (rowStart p) (byte b 0)) 1
+    (subst (λ (i : ℕ). Copied rows p b (set rows i (byte b 0)) 1) e (copying-more rows p b rows 0 (copying-start rows p b l) (omega arith)))
+    (omega arith)
+
+-- the symbols of a body from one on
+pub symbols-from : (b : List ℕ) (k : ℕ) → k < length b → map symbolOf (drop k b) ≡ symbolOf (byte b k) ∷ map symbolOf (drop (k + 1) b)
+symbols-from b k h = ap (map symbolOf) (drop-cons b k 0 h ∙ ap (λ (n : ℕ). byte b k ∷ drop n b) (sym (add-one k)))
+
+pub symbols-none : (b : List ℕ) (k : ℕ) → length b ≤ k → map symbolOf (drop k b) ≡ []
+symbols-none b k h = ap (map symbolOf) (drop-of-length-le b {i = k} h)

@@ -3,7 +3,9 @@ ghost use mathlib.Core.Path.{_≡_};
 ghost use Prim.Native.Nat.{_+_, _<_, _≤_};
 ghost use lib.ListN.{length};
 ghost use Rattle.outline.specs.Counts.{countAt, synthesizedAt};
-ghost use Rattle.table_rows.specs.RowWritten.{Written, Copied};
+ghost use Rattle.table_rows.specs.RowWritten.{Written, Copied, SymbolsSmall, RightWord};
+use analysis_rights::symbol_bit;
+use nonterminal_set::NonterminalSet;
 use token_set::TokenSet;
 
 // The counts at the positions of a production, by its body.
@@ -31,15 +33,22 @@ pub fn place_counts(
     }
 }
 
-// The row of production p, its body as it stands in the table.
-pub fn copy_row(rows: &mut [u8; 2048], p: usize, body: &[u8])
-    requires { ⌜ (p < 128) × (length (now body) ≤ 14) × (length (now rows) ≡ 2048) ⌝ }
-    ensures { λ r. ⌜ Copied (now (rows .entry)) p (now (body .entry)) (now (rows .exit)) (length (now (body .entry))) ⌝ }
+// The row of production p, its body as it stands in the table; and the word of its right side.
+pub fn copy_row(rows: &mut [u8; 2048], p: usize, body: &[u8]) -> NonterminalSet
+    requires { ⌜ (p < 128) × (2 ≤ length (now body)) × (length (now body) ≤ 14) × (length (now rows) ≡ 2048) × SymbolsSmall (now body) ⌝ }
+    ensures copied { λ r. ⌜ Copied (now (rows .entry)) p (now (body .entry)) (now (rows .exit)) (length (now (body .entry))) ⌝ }
+    ensures word { λ r. ⌜ RightWord (now (body .entry)) (r .0) ⌝ }
 {
     let start = outline::row_start(p);
-    let mut k: usize = 0;
+    rows[start] = body[0];
+    rows[start + 1] = body[1];
+    let mut word = NonterminalSet::EMPTY;
+    let mut k: usize = 2;
     while k < body.len() {
-        rows[start + k] = body[k];
+        let symbol = body[k];
+        rows[start + k] = symbol;
+        word = word.union(symbol_bit(symbol));
         k += 1;
     }
+    word
 }

@@ -51,7 +51,7 @@ returns c =
     heading-token _ _ _ _ (lp .before .loop .inv) _ _ _ (next-token row _ _ (inside lp) (so .symbol-of .ensures) (th .if1 .taken)) (c .of-token .ensures)
 
 of-nonterminal-requires : tie.Need-of-nonterminal-requires Inv-loop μ-loop
-of-nonterminal-requires c κs = search needs
+of-nonterminal-requires c κs = omega (arith, symbol (c .before))
 
 union-requires : tie.Need-union-requires Inv-loop μ-loop
 union-requires c κs = search needs

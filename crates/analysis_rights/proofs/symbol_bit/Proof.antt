@@ -1,4 +1,4 @@
-use borrow.Author.Needs.{needs}
+use native.Mathlib.Omega.{arith}
 use Rattle.analysis.specs.Reaching.{token-bit, nonterminal-bit}
 use Rattle.analysis_rights.proofs.symbol_bit.Statement.{statement}
 use Rattle.analysis_rights.proofs.symbol_bit.Tie as tie
@@ -7,7 +7,7 @@ returns : tie.Need-returns
 returns c = λ n. token-bit (c .before .args .s) n (c .if1 .taken)
 
 of-nonterminal-requires : tie.Need-of-nonterminal-requires
-of-nonterminal-requires c κs = search needs
+of-nonterminal-requires c κs = omega (arith, c .before .pre)
 
 returns-2 : tie.Need-returns-2
 returns-2 c =

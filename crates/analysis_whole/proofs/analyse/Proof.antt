@@ -10,7 +10,7 @@ useless-requires : tie.Need-useless-requires
 useless-requires c κs = search needs
 
 returns : tie.Need-returns
-returns c = λ g r n s. found-useless g _ _ (c .before .useless .ensures .1 g r n s) (rw n at (c .if1 .taken))
+returns c = λ g r n s. found-useless g _ _ (c .before .useless .ensures g r n s) (rw n at (c .if1 .taken))
 
 nullable-requires : tie.Need-nullable-requires
 nullable-requires c κs = search needs
@@ -28,7 +28,7 @@ returns-2 c =
     let cl = fr .before .before .before in
     let el = cl .before .before in
     λ g r n s.
-    found-recursive g _ _ (el .before .useless .ensures .1 g r n s) (rw n at (el .if1 .left)) _
+    found-recursive g _ _ (el .before .useless .ensures g r n s) (rw n at (el .if1 .left)) _
     (recursive-found r _ _ _ (nullable-marks r _ (cl .nullable .ensures)) (fr .fronts .ensures .0 (rw n (below r))) (rw n at (lr .left-recursive .ensures))) (rw n at (c .if2 .taken))
 
 starting-requires : tie.Need-starting-requires
@@ -43,7 +43,7 @@ returns-3 c =
     let el = cl .before .before in
     λ g r n s.
     let m = nullable-marks r _ (cl .nullable .ensures) in
-    found-neither g _ _ (el .before .useless .ensures .1 g r n s) (rw n at (el .if1 .left)) _
+    found-neither g _ _ (el .before .useless .ensures g r n s) (rw n at (el .if1 .left)) _
     (recursive-found r _ _ _ m (fr .fronts .ensures .0 (rw n (below r))) (rw n at (lr .left-recursive .ensures))) (rw n at (e2 .if2 .left)) (c .starting .ensures g r n s m (fr .fronts .ensures .1 (rw n (below r))))
 
 pub analyse-spec : {M : Type 1} → statement M

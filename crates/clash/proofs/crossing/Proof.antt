@@ -7,7 +7,7 @@ meets-requires : tie.Need-meets-requires
 meets-requires c κs = search needs
 
 of-nonterminal-requires : tie.Need-of-nonterminal-requires
-of-nonterminal-requires c κs = search needs
+of-nonterminal-requires c κs = c .before .before .pre
 
 returns : tie.Need-returns
 returns c = let m = c .before .before in crossing-met _ _ _ (m .before .pre) _ (m .meets .ensures) (c .before .if1 .taken) _ (c .of-nonterminal .ensures)

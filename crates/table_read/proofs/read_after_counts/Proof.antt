@@ -18,18 +18,18 @@ refused-requires c κs = let rc = c .before .before in omega (arith, rc .read-ca
 returns : tie.Need-returns
 returns c =
     let rc = c .before .before .before in
-    rw (c .refused .ensures) (carriers-refused _ _ _ _ (rc .before .before .before .pre .0) _ (rc .read-carriers .ensures) (c .before .if1 .taken))
+    rw (c .refused .ensures) (carriers-refused _ _ _ _ (rc .before .before .before .pre .0) _ (rc .read-carriers .ensures) (c .before .if1 .taken), tt)
 
 read-productions-requires : tie.Need-read-productions-requires
 read-productions-requires c κs =
-    let rc = c .before .before .before .before .before in
+    let rc = c .before .before .before .before .before .before in
     let st = rc .before .before .before in
-    (begun _ _ _ _ (st .pre .0) _ (rc .read-carriers .ensures) (omega arith), st .pre .1, st .pre .2)
+    (begun _ _ _ _ (st .pre .0) _ (rc .read-carriers .ensures) (omega arith), st .pre .1, st .pre .2, st .pre .3)
 
 returns-2 : tie.Need-returns-2
 returns-2 c =
-    let rc = c .before .before .before .before .before .before in
-    carriers-answer _ _ _ _ (rc .before .before .before .pre .0) _ (rc .read-carriers .ensures) (c .read-productions .result) _ _ (omega arith) (c .read-productions .ensures)
+    let rc = c .before .before .before .before .before .before .before in
+    (carriers-answer _ _ _ _ (rc .before .before .before .pre .0) _ (rc .read-carriers .ensures) (c .read-productions .result) _ _ (omega arith) (c .read-productions .ensures .0), c .read-productions .ensures .1)
 
 pub read-after-counts-spec : {M : Type 1} → statement M
 read-after-counts-spec =

@@ -9,7 +9,7 @@ refused-requires : tie.Need-refused-requires
 refused-requires c κs = omega arith
 
 returns : tie.Need-returns
-returns c = rw (c .refused .ensures) (table-long (c .before .before .before .args .table .now) (c .before .if1 .taken))
+returns c = rw (c .refused .ensures) (table-long (c .before .before .before .args .table .now) (c .before .if1 .taken), tt)
 
 header-number-requires : tie.Need-header-number-requires
 header-number-requires c κs = search needs
@@ -18,7 +18,7 @@ refused-requires-2 : tie.Need-refused-requires-2
 refused-requires-2 c κs = omega arith
 
 returns-2 : tie.Need-returns-2
-returns-2 c = rw (c .refused2 .ensures) (header-answer _ (omega arith) _ (c .before .before .header-number .ensures) (c .before .if2 .taken))
+returns-2 c = rw (c .refused2 .ensures) (header-answer _ (omega arith) _ (c .before .before .header-number .ensures) (c .before .if2 .taken), tt)
 
 header-sizes-requires : tie.Need-header-sizes-requires
 header-sizes-requires c κs = omega (arith, c .before .header-number .ensures .long (omega arith))
@@ -39,11 +39,11 @@ returns-3 : tie.Need-returns-3
 returns-3 c =
     let rc = c .before .before .before in
     let fine = rc .before .before .before .before in
-    rw (c .refused3 .ensures) (counts-answer _ (omega arith) _ (fine .before .header-number .ensures) (fine .if2 .left) _ _ _ _ (rc .read-counts .ensures .0) (c .before .if3 .taken))
+    rw (c .refused3 .ensures) (counts-answer _ (omega arith) _ (fine .before .header-number .ensures) (fine .if2 .left) _ _ _ _ (rc .read-counts .ensures .0) (c .before .if3 .taken), tt)
 
 read-after-counts-requires : tie.Need-read-after-counts-requires
 read-after-counts-requires c κs =
-    let counted = c .before .before .before .before in
+    let counted = c .before .before .before .before .before in
     let rc = counted .before .before in
     let head = rc .before .before .before in
     let sizes = head .header-sizes .ensures in
@@ -66,14 +66,15 @@ read-after-counts-requires c κs =
       },
       st .pre .2,
       st .pre .3,
+      st .pre .4,
     )
 
 returns-4 : tie.Need-returns-4
 returns-4 c =
-    let counted = c .before .before .before .before .before in
+    let counted = c .before .before .before .before .before .before in
     let rc = counted .before .before in
     let fine = rc .before .before .before .before in
-    productions-answer _ (omega arith) _ (fine .before .header-number .ensures) (fine .if2 .left) _ _ _ _ (rc .read-counts .ensures .0) (c .read-after-counts .result) _ _ (omega arith) (c .read-after-counts .ensures)
+    (productions-answer _ (omega arith) _ (fine .before .header-number .ensures) (fine .if2 .left) _ _ _ _ (rc .read-counts .ensures .0) (c .read-after-counts .result) _ _ (omega arith) (c .read-after-counts .ensures .0), c .read-after-counts .ensures .1)
 
 pub read-table-spec : {M : Type 1} → statement M
 read-table-spec =

@@ -1,31 +1,66 @@
 use native.Mathlib.Omega.{arith}
-use Prim.Native.Nat.{_-_, _≤_}
-use lib.ListN.{length}
+use borrow.Author.Needs.{needs}
+use Prim.Native.Nat.{_+_, _-_, _≤_}
+use mathlib.Core.Path.{refl, _∙_}
+use mathlib.Core.List.{map}
+use lib.ListN.{length, drop, set}
+use Rattle.meaning.specs.Table.{byte, symbolOf}
+use Rattle.analysis.specs.Views.{symbolBit}
+use Rattle.analysis.specs.Reaching.{Gathered, gathered-start, gathered-next, gathered-end}
 use Rattle.table_rows.specs.RowWritten.{Copied}
-use Rattle.table_rows.proofs.Placing.{copying-start, copying-more}
+use Rattle.table_rows.proofs.Placing.{copying-two, copying-at, symbols-from, symbols-none}
 use Rattle.table_rows.proofs.copy_row.Statement.{statement}
 use Rattle.table_rows.proofs.copy_row.Tie as tie
 
 abbrev Inv-loop : tie.InvT-loop
-Inv-loop rows₀ p body start k₀ rows k = (k ≤ length body) × Copied rows₀ p body rows k
+Inv-loop rows₀ p body start word₀ k₀ rows word k =
+    (2 ≤ k) × (k ≤ length body) × Copied rows₀ p body rows k × Gathered symbolBit (map symbolOf (drop 2 body)) (word .0) (map symbolOf (drop k body))
 
 abbrev μ-loop : tie.MeasureT-loop
-μ-loop rows₀ p body start k₀ rows k = length body - k
+μ-loop rows₀ p body start word₀ k₀ rows word k = length body - k
+
+-- the first two bytes copied
+two : (c : tie.After-shared-slice-known3 Inv-loop μ-loop)
+    → (let st = c .before .before .before .before in
+    let at = c .before .before .row-start .result in
+    Copied (st .args .rows .now) (st .args .p) (st .args .body .now) (set (set (st .args .rows .now) at (byte (st .args .body .now) 0)) (at + 1) (byte (st .args .body .now) 1)) 2)
+two c = let st = c .before .before .before .before in rw (c .before .before .row-start .ensures) (copying-two _ _ _ (st .pre .3) (st .pre .0))
 
 row-start-requires : tie.Need-row-start-requires Inv-loop μ-loop
 row-start-requires c κs = omega arith
 
-loop-holds : tie.Need-loop-holds Inv-loop μ-loop
-loop-holds c = (omega arith, copying-start _ _ _ (omega arith))
-
 shared-slice-read-rows : tie.Need-shared-slice-read-rows Inv-loop μ-loop
 shared-slice-read-rows c = omega arith
+
+element-write-rows : tie.Need-element-write-rows Inv-loop μ-loop
+element-write-rows c = omega arith
+
+shared-slice-read-rows-2 : tie.Need-shared-slice-read-rows-2 Inv-loop μ-loop
+shared-slice-read-rows-2 c = omega arith
 
 add-rows : tie.Need-add-rows Inv-loop μ-loop
 add-rows c = omega arith
 
-element-write-rows : tie.Need-element-write-rows Inv-loop μ-loop
-element-write-rows c = omega arith
+element-write-rows-2 : tie.Need-element-write-rows-2 Inv-loop μ-loop
+element-write-rows-2 c = omega arith
+
+loop-holds : tie.Need-loop-holds Inv-loop μ-loop
+loop-holds c = let done = two c in (omega arith, omega arith, record { before = λ i h. refl; row = done .row; kept = done .kept }, gathered-start _ _)
+
+shared-slice-read-symbol : tie.Need-shared-slice-read-symbol Inv-loop μ-loop
+shared-slice-read-symbol c = omega arith
+
+add-rows-2 : tie.Need-add-rows-2 Inv-loop μ-loop
+add-rows-2 c = omega arith
+
+element-write-rows-3 : tie.Need-element-write-rows-3 Inv-loop μ-loop
+element-write-rows-3 c = omega arith
+
+symbol-bit-requires : tie.Need-symbol-bit-requires Inv-loop μ-loop
+symbol-bit-requires c κs = let lp = c .before .before in lp .before .before .before .before .before .pre .4 _ (lp .loop .inv .0) (omega arith)
+
+union-requires : tie.Need-union-requires Inv-loop μ-loop
+union-requires c κs = search needs
 
 add-k : tie.Need-add-k Inv-loop μ-loop
 add-k c = omega arith
@@ -34,10 +69,21 @@ loop-less : tie.Need-loop-less Inv-loop μ-loop
 loop-less c = omega arith
 
 loop-again : tie.Need-loop-again Inv-loop μ-loop
-loop-again c = (omega arith, rw (c .before .before .before .row-start .ensures) (copying-more _ _ _ _ _ (c .before .before .loop .inv .1) (omega arith)))
+loop-again c =
+    let lp = c .before .before .before .before in
+    let iv = lp .loop .inv in (
+      omega arith,
+      omega arith,
+      copying-at _ _ _ _ _ _ (lp .before .before .before .row-start .ensures) (iv .2) (omega arith),
+      rw (c .union .ensures .1) (gathered-next _ _ _ _ _ _ _ (iv .3) (symbols-from (lp .before .before .before .before .before .args .body .now) (lp .loop .k) (omega arith)) (c .before .symbol-bit .ensures)),
+    )
 
 returns : tie.Need-returns Inv-loop μ-loop
-returns c = record { before = c .before .loop .inv .1 .before; row = λ k h. c .before .loop .inv .1 .row k (omega arith); kept = c .before .loop .inv .1 .kept }
+returns c =
+    let lp = c .before in
+    let iv = lp .loop .inv in
+    let done = two (lp .before) in
+    (record { before = λ i h. iv .2 .before i h ∙ done .before i h; row = λ k h. iv .2 .row k (omega arith); kept = iv .2 .kept }, gathered-end _ _ _ _ (iv .3) (symbols-none (lp .before .before .before .before .before .args .body .now) (lp .loop .k) (omega arith)))
 
 pub copy-row-spec : {M : Type 1} → statement M
 copy-row-spec =
@@ -46,10 +92,17 @@ copy-row-spec =
     Inv-loop
     μ-loop
     row-start-requires
-    loop-holds
     shared-slice-read-rows
-    add-rows
     element-write-rows
+    shared-slice-read-rows-2
+    add-rows
+    element-write-rows-2
+    loop-holds
+    shared-slice-read-symbol
+    add-rows-2
+    element-write-rows-3
+    symbol-bit-requires
+    union-requires
     add-k
     loop-less
     loop-again

@@ -25,7 +25,9 @@ left-of-requires c κs =
     row-inside (row .image) _ (row .listed)
 
 of-nonterminal-requires : tie.Need-of-nonterminal-requires
-of-nonterminal-requires c κs = search needs
+of-nonterminal-requires c κs =
+    let row = c .before .before .before .before .before .before .pre .0 .0 in
+    omega (arith, c .left-of .ensures, row .image .lefts _ (row .listed))
 
 union-requires-2 : tie.Need-union-requires-2
 union-requires-2 c κs = search needs

@@ -1,0 +1,10 @@
+-- The words of the right sides of the productions read so far.
+use Prim.Native.Nat.{ℕ, _≤_, _<_}
+use mathlib.Core.List.{List}
+use Rattle.outline.specs.Rows.{sizeAt}
+use Rattle.analysis.specs.Views.{rightBy}
+use Rattle.analysis.specs.Growth.{SetsTo}
+
+pub record RightsTo (rows : List ℕ) (k : ℕ) (words : List ℕ) : Type 0 where
+  pub short : (p : ℕ) → p < k → sizeAt rows p ≤ 12
+  pub told : SetsTo (rightBy rows) k words
