@@ -1,5 +1,5 @@
 -- One loop over the moves for all that comes: what is left after each of its turns, and what ends it.
-use Prim.Native.Nat.{ℕ, zero, suc, _+_, _-_, _≤_}
+use Prim.Native.Nat.{ℕ, zero, suc, _+_, _-_, _≤_, _<_}
 use native.Mathlib.Omega.{arith}
 use mathlib.Core.Path.{_≡_, refl, sym, ap, _∙_, subst}
 use mathlib.Core.List.{List}
@@ -10,7 +10,7 @@ use Rattle.meaning.specs.Calls.{tokensFrom}
 use Rattle.meaning.specs.Machine.{Config, Lent, Settled, movesLimit}
 use Rattle.run_looking.specs.Judging.{judgedOf}
 use Rattle.run_moves.specs.declared.Run.{Run}
-use Rattle.run_moves.specs.declared.Step.the-variants.{Moved, Blocked}
+use Rattle.run_moves.specs.declared.Step.the-variants.{Moved}
 use Rattle.run_machine.specs.declared.Ended as Ended
 use Rattle.run_machine.specs.declared.Ended.the-variants.{Stopped, Failed}
 use Rattle.run_moves.specs.Held.{Held}
@@ -19,6 +19,7 @@ use Rattle.run_machine.specs.Feeding.{TakesAll}
 use Rattle.run_next_token.specs.Operations.{Running}
 use Rattle.run_next_token.specs.Coming.{takeLooks}
 use Rattle.run_next_token.specs.Turns.{SettlesBy, Left, ahead, refused, Turned}
+use Rattle.run_turn.specs.Stages.{Ends}
 
 -- number 0 is a stop, any other a refusal
 abbrev pub endedBy : Run → ℕ → Ended.Ended
@@ -47,7 +48,7 @@ module _ {bound most : ℕ} {ws us : List ℕ} {vs m₀ : List ℤ} {ps₀ : Lis
   pub flows-held : Running ws m₀ ps₀ run₀ → Running ws m ps run
   flows-held r = let q = k .from (r .grammar) (r .lent) (r .config) (r .held) in record { grammar = r .grammar; lent = r .lent; config = q .0; held = q .1 }
 
-  pub flows-counts : {m′ : List ℤ} {ps′ : List ℕ} {run′ : Run} → Running ws m₀ ps₀ run₀ → Turned bound most ws us vs i m ps run m′ ps′ (Moved run′) → (run′ .moves ≡ suc (run .moves)) × (run′ .moves ≤ movesLimit) × (run .tokens ≤ run′ .tokens)
+  pub flows-counts : {m′ : List ℤ} {ps′ : List ℕ} {run′ : Run} → Running ws m₀ ps₀ run₀ → Turned bound most ws us vs i m ps run m′ ps′ (Moved run′) → (run .moves < run′ .moves) × (run′ .moves ≤ movesLimit) × (run .tokens ≤ run′ .tokens)
   flows-counts {run′ = run′} r a =
       let q = k .from (r .grammar) (r .lent) (r .config) (r .held) in
       let s = a (r .grammar) (r .lent) (q .0) (takeLooks bound most (r .grammar) (r .lent) (tokensFrom us vs) (r .config)) (q .1) (q .2) in
@@ -64,8 +65,8 @@ module _ {bound most : ℕ} {ws us : List ℕ} {vs m₀ : List ℤ} {ps₀ : Lis
             (s .0, s .1, subst (λ x. Left bound most us vs g lent x (s .0) o) (sym z) (s .4));
       }
 
-  pub flows-ended : (m′ : List ℤ) (ps′ : List ℕ) (n : ℕ) → Turned bound most ws us vs i m ps run m′ ps′ (Blocked n) → TakesAll bound most ws us vs m₀ ps₀ run₀ m′ ps′ (endedBy run n)
-  flows-ended m′ ps′ n a g lent c h =
+  pub flows-ended : (m′ : List ℤ) (ps′ : List ℕ) (run′ : Run) (n : ℕ) → Ends bound most ws us vs i m ps run m′ ps′ run′ n → TakesAll bound most ws us vs m₀ ps₀ run₀ m′ ps′ (endedBy run′ n)
+  flows-ended m′ ps′ run′ n a g lent c h =
       let q = k .from g lent c h in
       let o = takeLooks bound most g lent (tokensFrom us vs) c in
-      settles-by g ws lent o m′ ps′ run n (a g lent (q .0) o (q .1) (q .2))
+      settles-by g ws lent o m′ ps′ run′ n (a g lent (q .0) o (q .1) (q .2))

@@ -8,7 +8,7 @@ ghost use Rattle.run_machine.specs.Flows.{endedBy};
 use limits::TOKENS_BEFORE;
 use run_looking::Limits;
 use run_moves::Run;
-use run_moves::Step;
+use run_turn::Onward;
 
 // What moves lead to until one needs what comes next: a stop, or the number that refuses the move at hand.
 pub enum Ended {
@@ -52,11 +52,11 @@ fn take_all(
     let mut state = run;
     loop {
         match run_turn::turn(registers, places, program, state, kinds, values, limits) {
-            Step::Moved(next) => {
+            Onward::Going(next) => {
                 state = next;
             }
-            Step::Blocked(n) => {
-                return ending(state, n);
+            Onward::Over(at, n) => {
+                return ending(at, n);
             }
         }
     }

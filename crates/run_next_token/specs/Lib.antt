@@ -4,3 +4,5 @@ pub mod Operations
 pub mod Coming
 -- One turn of the loop over the moves: what is left after it, and what it answers
 pub mod Turns
+-- Moves one after the other, and reads that follow one another, of tokens that bring no value: when one is at hand, and what they lead to
+pub mod Reading

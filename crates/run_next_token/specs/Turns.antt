@@ -147,9 +147,9 @@ pub record Fed (bound : ℕ) (ws : List ℕ) (m : List ℤ) (ps : List ℕ) (run
   pub even : length us ≡ length vs
   pub alone : bound ≡ 64 → length us ≤ 1
 
--- a move, one read more where it counts a token; or what all settles in
+-- at least one move, as many reads more as tokens are counted; or what all settles in
 abbrev pub Goes : ℕ → ℕ → List ℕ → List ℕ → List ℤ → ℕ → Run → Grammar → Lent → Settled → List ℤ → List ℕ → Step → Type 0
-Goes bound most ws us vs i run g lent o m ps (Moved run′) = (f : Config) × Held g ws lent m ps run′ f × (run′ .moves ≡ suc (run .moves)) × (run .tokens ≤ run′ .tokens) × Left bound most us vs g lent (i + (run′ .tokens - run .tokens)) f o
+Goes bound most ws us vs i run g lent o m ps (Moved run′) = (f : Config) × Held g ws lent m ps run′ f × (run .moves < run′ .moves) × (run .tokens ≤ run′ .tokens) × Left bound most us vs g lent (i + (run′ .tokens - run .tokens)) f o
 Goes bound most ws us vs i run g lent o m ps (Blocked k) = SettlesBy g ws lent o m ps run k
 
 abbrev pub Turned : ℕ → ℕ → List ℕ → List ℕ → List ℤ → ℕ → List ℤ → List ℕ → Run → List ℤ → List ℕ → Step → Type 0

@@ -24,12 +24,18 @@ use Rattle.theory_program.specs.Search.{firstNumber, first-none, first-some, di
 use Rattle.run_registers.specs.Stack.{stack}
 use Rattle.run_registers.specs.Laid.{laid-stack, laid-push}
 use Rattle.run_moves.specs.declared.Run.{Run}
+use Rattle.run_moves.specs.declared.Step.{Step}
 use Rattle.run_moves.specs.declared.Step.the-variants.{Moved, Blocked}
 use Rattle.run_moves.specs.Laid.{LaidIn, laid-size}
 use Rattle.run_moves.specs.Ahead.{Ahead, ahead-scheme, place-begins}
 use Rattle.run_moves.specs.Held.{Held, Made, Hand, hand-nonterminal, hand-proper, next-is}
 use Rattle.run_moves.specs.Passing.{lookOf, look-number}
 use Rattle.run_alternatives.specs.Predicting.{recordOf, holdsAt, holds-here, at-record, at-scheme, Leads, Led}
+
+-- the tokens that are counted after a step: a predict counts none
+abbrev pub tokensOf : Run → Step → ℕ
+tokensOf run (Moved run′) = run′ .tokens
+tokensOf run (Blocked k) = run .tokens
 
 empty-push : (g : Grammar) (lent : Lent) (c : Config) (ps : List ℕ) → isEmpty ps ≡ true → push g lent c ps ≡ blocked 22
 empty-push g lent c [] e = refl

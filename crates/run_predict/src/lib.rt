@@ -4,6 +4,7 @@ ghost use mathlib.Core.Path.{_≡_};
 ghost use Rattle.meaning.specs.Machine.{Coming, asLook};
 ghost use Rattle.run_moves.specs.Held.{ReadyForMove, Answers};
 ghost use Rattle.run_moves.specs.Passing.{lookOf};
+ghost use Rattle.run_predict.specs.Entering.{tokensOf};
 use run_moves::Run;
 use run_moves::Step;
 
@@ -16,7 +17,7 @@ pub fn predict(
     look: usize,
 ) -> Step
     requires { ⌜ ReadyForMove (now program) (now registers) (now places) run 3 × (look < 64) ⌝ }
-    ensures { λ r. ⌜ ((ahead : Coming) → asLook ahead ≡ lookOf look → Answers (now (program .entry)) (now (registers .entry)) (now (places .entry)) run ahead (now (registers .entry)) (now (places .exit)) r) ⌝ }
+    ensures { λ r. ⌜ ((ahead : Coming) → asLook ahead ≡ lookOf look → Answers (now (program .entry)) (now (registers .entry)) (now (places .entry)) run ahead (now (registers .entry)) (now (places .exit)) r) × (tokensOf run r ≡ run .tokens) ⌝ }
 {
     let n = program_parts::operand(run_moves::word_at(program, run.at));
     let first = run_moves::word_at(

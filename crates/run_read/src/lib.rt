@@ -1,11 +1,14 @@
 // The read of a token, on lent stacks.
 ghost use Prim.Native.Nat.{_/_};
 ghost use mathlib.Core.Path.{_≡_};
-ghost use mathlib.Core.Bool.{false};
+ghost use mathlib.Core.Bool.{true, false};
+ghost use mathlib.Core.List.{List};
+ghost use lib.IntN.{ℤ};
 ghost use lib.ListN.{getD};
 ghost use Rattle.meaning.specs.Calls.{isMark};
 ghost use Rattle.run_moves.specs.Held.{ReadyForMove, Answers};
 ghost use Rattle.run_moves.specs.Passing.{comingOf};
+ghost use Rattle.run_moves.specs.declared.Step.the-variants.{Moved};
 use run_moves::Run;
 use run_moves::Step;
 
@@ -32,6 +35,17 @@ fn read_value(
     Step::Moved(after)
 }
 
+// The token that is expected, which carries no value.
+pub fn read_plain(places: &mut [u32], program: &[u32], run: Run) -> Run
+    requires { ⌜ ((rs : List ℤ) × ReadyForMove (now program) rs (now places) run 2) ⌝ }
+    ensures { λ r. ⌜ ((rs : List ℤ) (value : ℤ) → isMark value ≡ true → Answers (now (program .entry)) rs (now (places .entry)) run (comingOf (getD (now (program .entry)) (run .at) 0 / 8) value) rs (now (places .exit)) (Moved r)) ⌝ }
+{
+    run_moves::pass(places, run.places, program, run.at + 1);
+    let mut after = run_moves::counted(run, run.at + 1);
+    after.tokens = run.tokens + 1;
+    after
+}
+
 // The token that is expected; the mark for the value of one that carries none.
 pub fn read(
     registers: &mut [i64],
@@ -50,8 +64,5 @@ pub fn read(
     if !value::is_mark(value) {
         return read_value(registers, places, program, run, value);
     }
-    run_moves::pass(places, run.places, program, run.at + 1);
-    let mut after = run_moves::counted(run, run.at + 1);
-    after.tokens = run.tokens + 1;
-    Step::Moved(after)
+    Step::Moved(read_plain(places, program, run))
 }

@@ -1,18 +1,72 @@
-// The move at hand, by the operation's number in the program's word.
-ghost use Prim.Native.Nat.{_-_, _%_, _≤_, _<_};
+// A turn of the loop over the moves: the add and the evaluate at hand, then the move behind them, with reads that follow it.
+ghost use Prim.Native.Nat.{ℕ, _-_, _%_, _≤_, _<_};
 ghost use mathlib.Core.Path.{_≡_};
 ghost use mathlib.Core.List.{List};
 ghost use lib.IntN.{ℤ};
 ghost use lib.ListN.{getD, length};
 ghost use Rattle.meaning.specs.Machine as Machine;
+ghost use Rattle.run_next_token.specs.Operations.{Running};
 ghost use Rattle.run_next_token.specs.Turns.{Fed, Turned};
+ghost use Rattle.run_turn.specs.Stages.{Passes, Low, Stage, Prepared, TurnsOn};
 use limits::MOVES_LIMIT;
 use run_looking::Limits;
 use run_moves::Run;
 use run_moves::Step;
 use run_next_token::read_next;
 
-// The predict for the token at hand.
+// What a turn leads to: the run after its moves, or the run at which they end and the number that ends them, 0 for a stop.
+pub enum Onward {
+    Going(Run),
+    Over(Run, u32),
+}
+
+// ---- moves that look at nothing
+
+// The add, where it is at hand.
+fn adds(registers: &[i64], program: &[u32], run: Run) -> Step
+    requires { ⌜ ((ps : List ℕ) × Running (now program) (now registers) ps run) ⌝ }
+    ensures { λ r. ⌜ Stage (now (program .entry)) (now (registers .entry)) run 0 (now (registers .entry)) r ⌝ }
+{
+    if program_parts::operation(run_moves::word_at(program, run.at)) != operations::ADD {
+        return Step::Moved(run);
+    }
+    if run.moves == MOVES_LIMIT {
+        return Step::Blocked(35);
+    }
+    run_rules::add(registers, program, run)
+}
+
+// The evaluate, where it is at hand.
+fn evaluates(registers: &mut [i64], program: &[u32], run: Run) -> Step
+    requires { ⌜ ((ps : List ℕ) × Running (now program) (now registers) ps run) ⌝ }
+    ensures { λ r. ⌜ Stage (now (program .entry)) (now (registers .entry)) run 1 (now (registers .exit)) r ⌝ }
+{
+    if program_parts::operation(run_moves::word_at(program, run.at)) != operations::EVALUATE {
+        return Step::Moved(run);
+    }
+    if run.moves == MOVES_LIMIT {
+        return Step::Blocked(35);
+    }
+    run_rules::evaluate(registers, program, run)
+}
+
+// Both, one after the other.
+fn prepared(registers: &mut [i64], program: &[u32], run: Run) -> Onward
+    requires { ⌜ ((ps : List ℕ) × Running (now program) (now registers) ps run) ⌝ }
+    ensures { λ r. ⌜ Prepared (now (program .entry)) (now (registers .entry)) run (now (registers .exit)) r ⌝ }
+{
+    match adds(registers, program, run) {
+        Step::Blocked(n) => Onward::Over(run, n),
+        Step::Moved(next) => match evaluates(registers, program, next) {
+            Step::Blocked(n) => Onward::Over(next, n),
+            Step::Moved(after) => Onward::Going(after),
+        },
+    }
+}
+
+// ---- moves that look at what comes next
+
+// The predict for the token at hand, and its read where that comes next.
 fn predict_next(
     registers: &[i64],
     places: &mut [u32],
@@ -29,11 +83,15 @@ fn predict_next(
         return Step::Blocked(k);
     }
     let i = (run.tokens - limits.from) as usize;
-    run_predict::predict(registers, places, program, run, kinds[i] as usize)
+    let look = kinds[i] as usize;
+    match run_predict::predict(registers, places, program, run, look) {
+        Step::Blocked(n) => Step::Blocked(n),
+        Step::Moved(next) => Step::Moved(run_next_token::read_on(places, program, next, look)),
+    }
 }
 
-// The move at hand; 0 where it stops for want of what comes next.
-pub fn turn(
+// The move at hand; 0 where it stops for want of what comes next. An add or an evaluate is left for the next turn.
+fn last(
     registers: &mut [i64],
     places: &mut [u32],
     program: &[u32],
@@ -43,23 +101,20 @@ pub fn turn(
     limits: Limits,
 ) -> Step
     requires { ⌜ Fed (limits .bound) (now program) (now registers) (now places) run (now kinds) (now values) × (limits .from ≤ run .tokens) ⌝ }
-    ensures { λ r. ⌜ Turned (limits .bound) (limits .most) (now (program .entry)) (now (kinds .entry)) (now (values .entry)) (run .tokens - limits .from) (now (registers .entry)) (now (places .entry)) run (now (registers .exit)) (now (places .exit)) r ⌝ }
+    ensures { λ r. ⌜ Passes (Low (now (program .entry))) (limits .bound) (limits .most) (now (program .entry)) (now (kinds .entry)) (now (values .entry)) (run .tokens - limits .from) (now (registers .entry)) (now (places .entry)) run (now (registers .exit)) (now (places .exit)) r ⌝ }
 {
     let operation = program_parts::operation(run_moves::word_at(program, run.at));
     if run.moves == MOVES_LIMIT {
         return run_next_token::at_limit(operation, run, kinds, limits);
     }
-    if operation < operations::READ {
-        if operation == operations::ADD {
-            return run_rules::add(registers, program, run);
-        }
-        return run_rules::evaluate(registers, program, run);
-    }
-    if operation < operations::TEST {
-        if operation == operations::READ {
-            return read_next(registers, places, program, run, kinds, values, limits);
-        }
+    if operation == operations::PREDICT {
         return predict_next(registers, places, program, run, kinds, limits);
+    }
+    if operation == operations::READ {
+        return read_next(registers, places, program, run, kinds, values, limits);
+    }
+    if operation < operations::READ {
+        return Step::Moved(run);
     }
     if operation == operations::TEST {
         return run_remove::test(registers, places, program, run);
@@ -68,4 +123,26 @@ pub fn turn(
         return run_remove::remove(registers, places, program, run);
     }
     run_next_token::nothing_next(run, kinds, limits)
+}
+
+// The add and the evaluate at hand, and the move behind them.
+pub fn turn(
+    registers: &mut [i64],
+    places: &mut [u32],
+    program: &[u32],
+    run: Run,
+    kinds: &[u8],
+    values: &[i32],
+    limits: Limits,
+) -> Onward
+    requires { ⌜ Fed (limits .bound) (now program) (now registers) (now places) run (now kinds) (now values) × (limits .from ≤ run .tokens) ⌝ }
+    ensures { λ r. ⌜ TurnsOn (limits .bound) (limits .most) (now (program .entry)) (now (kinds .entry)) (now (values .entry)) (run .tokens - limits .from) (now (registers .entry)) (now (places .entry)) run (now (registers .exit)) (now (places .exit)) r ⌝ }
+{
+    match prepared(registers, program, run) {
+        Onward::Over(at, n) => Onward::Over(at, n),
+        Onward::Going(next) => match last(registers, places, program, next, kinds, values, limits) {
+            Step::Blocked(n) => Onward::Over(next, n),
+            Step::Moved(after) => Onward::Going(after),
+        },
+    }
 }

@@ -7,11 +7,11 @@ use lib.ListN.{length}
 use borrow.Author.Needs.{needs}
 use denote.Ref.{now}
 use Rattle.meaning.specs.Machine.{movesLimit}
-use Rattle.run_moves.specs.declared.Step.{Step}
-use Rattle.run_moves.specs.declared.Step.the-variants.{Moved, Blocked}
+use Rattle.run_turn.specs.declared.Onward.{Onward}
+use Rattle.run_turn.specs.declared.Onward.the-variants.{Going, Over}
+use Rattle.run_turn.specs.Stages.{TurnsOn}
 use Rattle.run_machine.specs.declared.Ended as Ended
 use Rattle.run_machine.specs.Feeding.{TakesAll}
-use Rattle.run_next_token.specs.Turns.{Turned}
 use Rattle.run_machine.specs.Flows.{Flows, flows-start, not-begun, flows-held, flows-counts, flows-on, flows-ended}
 use Rattle.run_machine.proofs.take_all.Statement.{statement}
 use Rattle.run_machine.proofs.take_all.Tie as tie
@@ -28,13 +28,13 @@ abbrev start : tie.After-turn Inv-loop μ-loop → tie.Start Inv-loop μ-loop
 start c = c .before .before .before .before .before .before .before .before .before
 
 -- what it answers, where it leaves memory as m and ps
-abbrev Answered : tie.After-turn Inv-loop μ-loop → List ℤ → List ℕ → Step → Type 0
+abbrev Answered : tie.After-turn Inv-loop μ-loop → List ℤ → List ℕ → Onward → Type 0
 Answered c m ps t =
     let l = c .before .before .before .loop in
     let a = start c .args in
-    Turned (a .bound) (a .most) (now (a .program)) (now (a .kinds)) (now (a .values)) (l .state .tokens - a .run .tokens) (l .registers) (l .places) (l .state) m ps t
+    TurnsOn (a .bound) (a .most) (now (a .program)) (now (a .kinds)) (now (a .values)) (l .state .tokens - a .run .tokens) (l .registers) (l .places) (l .state) m ps t
 
-answered : (c : tie.After-turn Inv-loop μ-loop) (t : Step) → c .turn .result ≡ t → Answered c (c .turn .last .0) (c .turn .last .1 .0) t
+answered : (c : tie.After-turn Inv-loop μ-loop) (t : Onward) → c .turn .result ≡ t → Answered c (c .turn .last .0) (c .turn .last .1 .0) t
 answered c t e = subst (Answered c (c .turn .last .0) (c .turn .last .1 .0)) e (c .turn .ensures)
 
 -- what all is to be
@@ -77,7 +77,7 @@ loop-less : tie.Need-loop-less Inv-loop μ-loop
 loop-less c =
     let t = c .before .before .before .before .before .before in
     let n = c .before .next .given in
-    let k = flows-counts (t .before .before .before .loop .inv .0) (start t .pre .running) (answered t (Moved (n .0 .0)) (n .1)) in
+    let k = flows-counts (t .before .before .before .loop .inv .0) (start t .pre .running) (answered t (Going (n .0 .0)) (n .1)) in
     omega (arith, k .0, k .1)
 
 loop-again : tie.Need-loop-again Inv-loop μ-loop
@@ -85,13 +85,13 @@ loop-again c =
     let t = c .before .before .before .before .before .before in
     let i = t .before .before .before .loop .inv in
     let n = c .before .next .given in
-    let m = answered t (Moved (n .0 .0)) (n .1) in
+    let m = answered t (Going (n .0 .0)) (n .1) in
     let k = flows-counts (i .0) (start t .pre .running) m in
     let kept = t .turn .kept in
     (flows-on (i .0) (n .0 .0 .tokens - start t .args .run .tokens) (omega (arith, k .2, i .1)) m, omega (arith, k .2, i .1), kept .0 ∙ i .2, kept .1 .0 ∙ i .3)
 
-enum-known-n : tie.Need-enum-known-n Inv-loop μ-loop
-enum-known-n c = search needs
+enum-known-at : tie.Need-enum-known-at Inv-loop μ-loop
+enum-known-at c = search needs
 
 ending-requires-2 : tie.Need-ending-requires-2 Inv-loop μ-loop
 ending-requires-2 c κs = search needs
@@ -107,8 +107,8 @@ returns-2 c =
     let t = c .before .before .before .before .before .before .before in
     let m = t .turn .last .0 in
     let ps = t .turn .last .1 .0 in
-    let n = c .before .before .n .given in
-    subst (All (start t) m ps) (sym (c .ending2 .ensures)) (flows-ended (t .before .before .before .loop .inv .0) m ps (n .0 .0) (answered t (Blocked (n .0 .0)) (n .1)))
+    let n = c .before .before .at .given in
+    subst (All (start t) m ps) (sym (c .ending2 .ensures)) (flows-ended (t .before .before .before .loop .inv .0) m ps (n .0 .0) (n .0 .1 .0) (answered t (Over (n .0 .0) (n .0 .1 .0)) (n .1)))
 
 pub take-all-spec : {M : Type 1} → statement M
 take-all-spec =
@@ -124,7 +124,7 @@ take-all-spec =
     enum-known-next
     loop-less
     loop-again
-    enum-known-n
+    enum-known-at
     ending-requires-2
     same-length
     same-length-2

@@ -65,7 +65,7 @@ same-length-6 : tie.Need-same-length-6
 same-length-6 c = search needs
 
 returns-4 : tie.Need-returns-4
-returns-4 c = let a = c .before .before .before .before .before .before .before .before .before .before .args in c .before .before .predict .ensures (comingOf (a .look) (a .value)) (coming-look (a .look) (a .value))
+returns-4 c = let a = c .before .before .before .before .before .before .before .before .before .before .args in c .before .before .predict .ensures .0 (comingOf (a .look) (a .value)) (coming-look (a .look) (a .value))
 
 same-length-7 : tie.Need-same-length-7
 same-length-7 c = search needs

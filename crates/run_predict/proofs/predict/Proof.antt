@@ -61,7 +61,9 @@ unexpected-requires : tie.Need-unexpected-requires
 unexpected-requires c κs = search needs
 
 returns : tie.Need-returns
-returns c = λ a q g lent d h ok. let b = c .before .before .before .before .before .before .before in rw (c .unexpected .ensures) (blocked-unexpected h (b .pre .0 .operation) (b .args .look) (b .pre .1) a q (b .pre .0 .limit) (sym (first (c .before .before)) ∙ c .before .if1 .taken))
+returns c =
+    let b = c .before .before .before .before .before .before .before in
+    ((λ a q g lent d h ok. rw (c .unexpected .ensures) (blocked-unexpected h (b .pre .0 .operation) (b .args .look) (b .pre .1) a q (b .pre .0 .limit) (sym (first (c .before .before)) ∙ c .before .if1 .taken))), refl)
 
 find-requires : tie.Need-find-requires
 find-requires c κs =
@@ -72,20 +74,24 @@ find-requires c κs =
 returns-2 : tie.Need-returns-2
 returns-2 c =
     let s = c .before .before .before in
-    let b = c .before .before .before .before .before .before .before .before in
-    λ a q g lent d h ok.
-    blocked-none h (b .pre .0 .operation) (b .args .look) (b .pre .1) a q (b .pre .0 .limit) (λ e. c .before .before .if1 .left (first s ∙ e)) (c .before .find .result)
-    (found-first h (b .pre .0 .operation) (b .args .look) (b .pre .1) (c .before .find .result) (c .before .before .before .word-at2 .result) (first s) (c .before .find .ensures)) (c .if2 .taken)
+    let b = c .before .before .before .before .before .before .before .before in (
+      (λ a q g lent d h ok.
+          blocked-none h (b .pre .0 .operation) (b .args .look) (b .pre .1) a q (b .pre .0 .limit) (λ e. c .before .before .if1 .left (first s ∙ e)) (c .before .find .result)
+          (found-first h (b .pre .0 .operation) (b .args .look) (b .pre .1) (c .before .find .result) (c .before .before .before .word-at2 .result) (first s) (c .before .find .ensures)) (c .if2 .taken)),
+      refl,
+    )
 
 returns-3 : tie.Need-returns-3
 returns-3 c =
     let find = c .before .before .find in
     let s = c .before .before .before .before in
     let word-at2 = c .before .before .before .before .word-at2 in
-    let b = c .before .before .before .before .before .before .before .before .before in
-    λ a q g lent d h ok.
-    blocked-full h (b .pre .0 .operation) (b .args .look) (b .pre .1) a q (b .pre .0 .limit) (λ e. c .before .before .before .if1 .left (first s ∙ e)) (find .result)
-    (found-first h (b .pre .0 .operation) (b .args .look) (b .pre .1) (find .result) (word-at2 .result) (first s) (find .ensures)) (c .before .if2 .left) (c .if3 .taken)
+    let b = c .before .before .before .before .before .before .before .before .before in (
+      (λ a q g lent d h ok.
+          blocked-full h (b .pre .0 .operation) (b .args .look) (b .pre .1) a q (b .pre .0 .limit) (λ e. c .before .before .before .if1 .left (first s ∙ e)) (find .result)
+          (found-first h (b .pre .0 .operation) (b .args .look) (b .pre .1) (find .result) (word-at2 .result) (first s) (find .ensures)) (c .before .if2 .left) (c .if3 .taken)),
+      refl,
+    )
 
 sub-places : tie.Need-sub-places
 sub-places c = search needs
@@ -127,12 +133,14 @@ returns-4 c =
     let if1 = c .before .before .before .before .before .before .if1 in
     let s = c .before .before .before .before .before .before .before in
     let word-at2 = c .before .before .before .before .before .before .before .word-at2 in
-    let b = c .before .before .before .before .before .before .before .before .before .before .before .before in
-    λ a q g lent d h ok.
-    rw (c .counted .ensures, c .before .word-at3 .ensures .0, c .before .before .record-of .ensures)
-    (made-predict h (b .pre .0 .operation) (b .args .look) (b .pre .1) a q (b .pre .0 .limit) (λ e. if1 .left (first s ∙ e)) (find .result)
-    (found-first h (b .pre .0 .operation) (b .args .look) (b .pre .1) (find .result) (word-at2 .result) (first s) (find .ensures)) (if2 .left) ok
-    (omega (arith, bounds h .places, c .before .before .before .if3 .left)) _ refl)
+    let b = c .before .before .before .before .before .before .before .before .before .before .before .before in (
+      (λ a q g lent d h ok.
+          rw (c .counted .ensures, c .before .word-at3 .ensures .0, c .before .before .record-of .ensures)
+          (made-predict h (b .pre .0 .operation) (b .args .look) (b .pre .1) a q (b .pre .0 .limit) (λ e. if1 .left (first s ∙ e)) (find .result)
+          (found-first h (b .pre .0 .operation) (b .args .look) (b .pre .1) (find .result) (word-at2 .result) (first s) (find .ensures)) (if2 .left) ok
+          (omega (arith, bounds h .places, c .before .before .before .if3 .left)) _ refl)),
+      ap (λ z. z .tokens) (c .counted .ensures),
+    )
 
 operand-requires : tie.Need-operand-requires
 operand-requires c κs = search needs

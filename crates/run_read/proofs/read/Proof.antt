@@ -9,7 +9,7 @@ use borrow.Author.Tests.{not-true, not-false}
 use mir.Facts.{toZ-ofZ}
 use Rattle.meaning.specs.Calls.{isMark}
 use Rattle.run_moves.specs.Held.{bounds}
-use Rattle.run_moves.specs.Passing.{top-small, read-inside, made-read, blocked-read}
+use Rattle.run_moves.specs.Passing.{blocked-read}
 use Rattle.run_read.proofs.read.Statement.{statement}
 use Rattle.run_read.proofs.read.Tie as tie
 
@@ -51,35 +51,18 @@ returns-2 c =
     let e : getD (now (s .args .program)) (s .args .run .at) 0 / 8 ≡ s .args .look = omega (arith, operand-is (k .before .before), k .before .if1 .left) in
     rw (toZ-ofZ (s .fits .value), e) at (c .before .before .before .read-value .ensures)
 
-add-pass : tie.Need-add-pass
-add-pass c = let b = c .before .before .before .before .before .before .before .before .before .pre in omega (arith, read-inside (b .held) (b .limit) (b .operation))
-
-pass-requires : tie.Need-pass-requires
-pass-requires c κs =
-    let b = c .before .before .before .before .before .before .before .before .before .pre in
-    let k = bounds (b .held) in
-    ((k .somePlace, k .places, top-small (b .held)), read-inside (b .held) (b .limit) (b .operation))
-
-add-counted : tie.Need-add-counted
-add-counted c = let b = c .before .before .before .before .before .before .before .before .before .before .before .before .before .pre in omega (arith, read-inside (b .held) (b .limit) (b .operation))
-
-counted-requires : tie.Need-counted-requires
-counted-requires c κs = search needs
-
-add-after : tie.Need-add-after
-add-after c = search needs
+read-plain-requires : tie.Need-read-plain-requires
+read-plain-requires c κs = let s = c .before .before .before .before .before .before .before .before in (now (s .args .registers), s .pre)
 
 same-length-3 : tie.Need-same-length-3
 same-length-3 c = search needs
 
 returns-3 : tie.Need-returns-3
-returns-3 c = λ g lent d h ok.
-    let k = c .before .before .before .before .before .before .before .before .before in
+returns-3 c =
+    let k = c .before .before .before .before .before in
     let s = k .before .before .before .before .before .before in
-    let b = s .pre in
-    rw (c .before .counted .ensures, c .before .before .before .before .before .pass .ensures)
-    (made-read h (s .args .look) (s .args .value) ok (b .limit) (b .operation) (omega (arith, k .before .if1 .left, operand-is (k .before .before)))
-    (ap isMark (sym (toZ-ofZ (s .fits .value))) ∙ (sym (k .is-mark .ensures) ∙ not-false (k .is-mark .result) (c .before .before .before .before .before .before .before .before .if2 .left))))
+    let e : getD (now (s .args .program)) (s .args .run .at) 0 / 8 ≡ s .args .look = omega (arith, operand-is (k .before .before), k .before .if1 .left) in
+    rw (e) at (c .before .before .read-plain .ensures (now (s .args .registers)) (s .args .value) (ap isMark (sym (toZ-ofZ (s .fits .value))) ∙ (sym (k .is-mark .ensures) ∙ not-false (k .is-mark .result) (c .before .before .before .before .if2 .left))))
 
 operand-requires : tie.Need-operand-requires
 operand-requires c κs = search needs
@@ -97,10 +80,6 @@ read-spec =
     same-length
     same-length-2
     returns-2
-    add-pass
-    pass-requires
-    add-counted
-    counted-requires
-    add-after
+    read-plain-requires
     same-length-3
     returns-3)

@@ -1,12 +1,19 @@
-use Prim.Native.Nat.{ℕ, _-_, _≤_, _<_}
+use Prim.Native.Nat.{ℕ, _+_, _-_, _≤_, _<_}
 use native.Mathlib.Omega.{arith}
-use mathlib.Core.Path.{_≡_, sym, ap, _∙_}
+use mathlib.Core.Path.{_≡_, refl, sym, ap, _∙_, subst}
+use mathlib.Core.List.{List}
+use lib.IntN.{ℤ}
 use lib.ListN.{length, getD}
 use borrow.Author.Needs.{needs}
 use denote.Ref.{now}
-use Rattle.run_looking.specs.Judging.{looks}
-use Rattle.run_looking.specs.Judging.{judgedOf, taken-of}
-use Rattle.run_next_token.specs.Turns.{turned-judged, turned-predict}
+use Rattle.run_looking.specs.Judging.{looks, judgedOf, taken-of}
+use Rattle.run_moves.specs.declared.Run.{Run}
+use Rattle.run_moves.specs.declared.Step.{Step}
+use Rattle.run_moves.specs.declared.Step.the-variants.{Moved, Blocked}
+use Rattle.run_next_token.specs.Operations.{Running}
+use Rattle.run_next_token.specs.Turns.{Turned, turned-judged, turned-predict}
+use Rattle.run_next_token.specs.Reading.{turned-after, turned-then}
+use Rattle.run_predict.specs.Entering.{tokensOf}
 use Rattle.run_turn.proofs.predict_next.Statement.{statement}
 use Rattle.run_turn.proofs.predict_next.Tie as tie
 
@@ -40,29 +47,80 @@ returns c = λ vs even.
 sub-i : tie.Need-sub-i
 sub-i c = c .before .before .before .before .before .before .before .pre .3
 
-shared-slice-read-predict : tie.Need-shared-slice-read-predict
-shared-slice-read-predict c = here (c .before .before .before .before) .0
+shared-slice-read-look : tie.Need-shared-slice-read-look
+shared-slice-read-look c = here (c .before .before .before) .0
 
-cast-predict : tie.Need-cast-predict
-cast-predict c = omega (arith, c .shared-slice-known3 .given (index (c .before .before .before .before .before .before .before .before .before)) .fits)
+cast-look : tie.Need-cast-look
+cast-look c = omega (arith, c .shared-slice-known3 .given (index (c .before .before .before .before .before .before .before .before)) .fits)
 
 predict-requires : tie.Need-predict-requires
 predict-requires c κs =
-    let p = c .before .before .before .before .before .before .before .before .before .pre in
+    let e = c .before .before .before .before in
+    let p = e .before .before .before .before .before .pre in
     let r = p .0 .1 .running in
-    (record { grammar = r .grammar; lent = r .lent; config = r .config; held = r .held; limit = p .2; operation = p .1 }, small (c .before .before .before .before))
+    (record { grammar = r .grammar; lent = r .lent; config = r .config; held = r .held; limit = p .2; operation = p .1 }, small e)
+
+-- where the token was taken
+abbrev else-of : tie.After-predict → tie.Else1
+else-of c = c .before .before .before .before .before
+
+abbrev start : tie.After-predict → tie.Start
+start c = else-of c .before .before .before .before .before
+
+-- what the predict answers
+abbrev Answered : tie.After-predict → List ℤ → Step → Type 0
+Answered c vs t =
+    let s = start c in
+    let a = s .args in
+    Turned (a .limits .bound) (a .limits .most) (now (a .program)) (now (a .kinds)) vs (index s) (now (a .registers)) (now (a .places)) (a .run) (now (a .registers)) (c .predict .last .1 .0) t
+
+predicted : (c : tie.After-predict) (vs : List ℤ) → length (now (start c .args .kinds)) ≡ length vs → (t : Step) → c .predict .result ≡ t → Answered c vs t
+predicted c vs even t e =
+    let k = else-of c in
+    let s = start c in
+    let a = s .args in
+    subst (Answered c vs) e
+    (turned-predict (a .limits .bound) (a .limits .most) (now (a .program)) (now (a .kinds)) vs (now (a .registers)) (now (a .places)) (a .run) (index s) even (taken k)
+    (now (a .registers)) (c .predict .last .1 .0) (c .predict .result) (s .pre .1) (small k) (c .predict .ensures .0))
+
+-- what it counts, and that a configuration is held
+after : (c : tie.After-predict) (next : Run) → c .predict .result ≡ Moved next → (let a = start c .args in (a .run .moves < next .moves) × (a .run .tokens ≤ next .tokens) × Running (now (a .program)) (now (a .registers)) (c .predict .last .1 .0) next)
+after c next e = let p = start c .pre .0 in turned-after (taken (else-of c)) (p .1 .running) (predicted c (p .0) (p .1 .even) (Moved next) e)
+
+enum-known-n : tie.Need-enum-known-n
+enum-known-n c = search needs
+
+enum-known-next : tie.Need-enum-known-next
+enum-known-next c = search needs
+
+read-on-requires : tie.Need-read-on-requires
+read-on-requires c κs =
+    let n = c .before .before .next .given in
+    let r = c .before .before .before .before .before .before in
+    ((now (start r .args .registers), after r (n .0 .0) (n .1) .2), small (else-of r))
 
 same-length : tie.Need-same-length
 same-length c = search needs
 
 returns-2 : tie.Need-returns-2
 returns-2 c = λ vs even.
-    let t = c .before .before .before .before .before .before .before in
-    let s = t .before .before .before .before .before in
+    let n = c .before .n .given in
+    predicted (c .before .before .before .before .before) vs even (Blocked (n .0 .0)) (n .1)
+
+same-length-2 : tie.Need-same-length-2
+same-length-2 c = search needs
+
+returns-3 : tie.Need-returns-3
+returns-3 c = λ vs even.
+    let m = c .before .before in
+    let n = m .before .before .before .next .given in
+    let r = m .before .before .before .before .before .before .before in
+    let s = start r in
     let a = s .args in
-    let r = c .before .before .predict in
-    turned-predict (a .limits .bound) (a .limits .most) (now (a .program)) (now (a .kinds)) vs (now (a .registers)) (now (a .places)) (a .run) (index s) even (taken t)
-    (now (a .registers)) (r .last .1 .0) (r .result) (s .pre .1) (small t) (r .ensures)
+    let same : n .0 .0 .tokens ≡ a .run .tokens = ap (tokensOf (a .run)) (sym (n .1)) ∙ r .predict .ensures .1 in
+    let here : index s ≡ index s + (n .0 .0 .tokens - a .run .tokens) = omega (arith, same) in
+    let on = m .read-on .ensures (a .limits .bound) (a .limits .most) (now (a .kinds)) vs (now (a .registers)) (index s) even (taken (else-of r) ∙ ap (judgedOf (a .limits .bound) (a .limits .most) (now (a .kinds)) (index s)) (sym same)) refl in
+    turned-then here on (predicted r vs even (Moved (n .0 .0)) (n .1))
 
 pub predict-next-spec : {M : Type 1} → statement M
 predict-next-spec =
@@ -71,8 +129,13 @@ predict-next-spec =
     judged-requires
     returns
     sub-i
-    shared-slice-read-predict
-    cast-predict
+    shared-slice-read-look
+    cast-look
     predict-requires
+    enum-known-n
+    enum-known-next
+    read-on-requires
     same-length
-    returns-2)
+    returns-2
+    same-length-2
+    returns-3)
