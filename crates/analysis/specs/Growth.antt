@@ -94,6 +94,10 @@ module _ {C : (ℕ → Bool) → Type 0} (s : ℕ) where
   pub settled : (r q : ℕ) → Rising C s r → Grown C C r q → q ≡ r → Settled C s r
   settled r q a b e = record { keeps = a .keeps; closed = b .stuck e; least = a .least }
 
+  -- before the steps change nothing, where it is closed for another reason
+  pub settled-soon : (r : ℕ) → Rising C s r → C (members r) → Settled C s r
+  settled-soon r a c = record { keeps = a .keeps; closed = c; least = a .least }
+
 -- ---- a word for each of the first k productions
 pub record SetsTo (f : ℕ → ℕ → Bool) (k : ℕ) (sets : List ℕ) : Type 0 where
   pub size : length sets ≡ 128

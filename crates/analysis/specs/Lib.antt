@@ -26,6 +26,8 @@ pub mod RecursionAgreeing
 pub mod Numbers
 -- FIRST-then-FOLLOW over the tables that the code keeps
 pub mod Starts
+-- The first n numbers as one word, and words that have all that stands in the productions
+pub mod Firsts
 -- Refusals 11 to 13 of a grammar as one finding, and the verdict that a table gets from it
 pub mod Finding
 -- What the code finds is what 01's definitions compute: the lowest useless and left recursive nonterminal, and the sets of the productions

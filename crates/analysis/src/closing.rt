@@ -3,12 +3,14 @@ use nonterminal_set::NonterminalSet;
 use outline::left_of;
 ghost use mathlib.Core.Path.{_≡_};
 ghost use mathlib.Core.Bool.{true, false};
-ghost use Prim.Native.Nat.{ℕ, _<_};
+ghost use Prim.Native.Nat.{ℕ, _≤_, _<_};
+ghost use lib.Dec.{T};
 ghost use lib.ListN.{getD};
 ghost use Rattle.outline.specs.Rows.{Image};
 ghost use Rattle.analysis.specs.Views.{members, rightBy, ClosedAt, Imaged, Within};
 ghost use Rattle.analysis.specs.Growth.{Grown, Settled, SetsTo};
 ghost use Rattle.analysis.specs.Bits.{Covers};
+ghost use Rattle.analysis.specs.Firsts.{LeftsIn};
 ghost use Rattle.analysis.specs.Closing.{Narrow, Free, tokensIn};
 
 // Whether a set lies in another.
@@ -78,22 +80,35 @@ fn close_round_back(
     next
 }
 
+// The first n numbers.
+pub fn first_of(n: usize) -> NonterminalSet
+    requires { ⌜ n ≤ 48 ⌝ }
+    ensures { λ r. ⌜ ((a : ℕ) → a < n → T (members (r .0) a)) ⌝ }
+{
+    NonterminalSet((1u64 << n) - 1)
+}
+
 // The least set closed under the productions, from the words of the right sides; in these the bit of the tokens is free to stand or not.
-// The rounds go both ways in turn, so that a chain is closed in three whether it is declared from its start or from its end.
+// The rounds go both ways in turn, so that a chain is closed in three whether it is declared from its start or from its end. A set that has
+// all left sides is closed without another round.
 fn closure(
     rows: &[u8; 2048],
     count: usize,
     rights: &[u64; 128],
     free: NonterminalSet,
+    all: NonterminalSet,
 ) -> NonterminalSet
     requires { ⌜ Image (now rows) count × SetsTo (rightBy (now rows)) count (now rights) × Free (free .0) ⌝ }
-    ensures { λ r. ⌜ Settled (Within (ClosedAt (tokensIn (free .0)) (now (rows .entry))) 0 count) 0 (r .0) ⌝ }
+    ensures { λ r. ⌜ (LeftsIn (now (rows .entry)) count (all .0) → Settled (Within (ClosedAt (tokensIn (free .0)) (now (rows .entry))) 0 count) 0 (r .0)) ⌝ }
 {
     let mut set = NonterminalSet::EMPTY;
     loop {
         let next = close_round(rows, count, rights, set, free);
         if next.same(set) {
             return set;
+        }
+        if next.same(all) {
+            return next;
         }
         let last = close_round_back(rows, count, rights, next, free);
         if last.same(next) {
@@ -108,13 +123,19 @@ pub fn nullable(rows: &[u8; 2048], count: usize, rights: &[u64; 128]) -> Nonterm
     requires { ⌜ Image (now rows) count × SetsTo (rightBy (now rows)) count (now rights) ⌝ }
     ensures { λ r. ⌜ Settled (Within (ClosedAt false (now (rows .entry))) 0 count) 0 (r .0) ⌝ }
 {
-    closure(rows, count, rights, NonterminalSet::EMPTY)
+    let all = NonterminalSet(0xFFFF_FFFF_FFFF_FFFF);
+    closure(rows, count, rights, NonterminalSet::EMPTY, all)
 }
 
-// The nonterminals that derive some string of tokens.
-pub fn productive(rows: &[u8; 2048], count: usize, rights: &[u64; 128]) -> NonterminalSet
+// The nonterminals that derive some string of tokens; `all` are those that there are.
+pub fn productive(
+    rows: &[u8; 2048],
+    count: usize,
+    rights: &[u64; 128],
+    all: NonterminalSet,
+) -> NonterminalSet
     requires { ⌜ Image (now rows) count × SetsTo (rightBy (now rows)) count (now rights) ⌝ }
-    ensures { λ r. ⌜ Settled (Within (ClosedAt true (now (rows .entry))) 0 count) 0 (r .0) ⌝ }
+    ensures { λ r. ⌜ (LeftsIn (now (rows .entry)) count (all .0) → Settled (Within (ClosedAt true (now (rows .entry))) 0 count) 0 (r .0)) ⌝ }
 {
-    closure(rows, count, rights, NonterminalSet::TOKENS)
+    closure(rows, count, rights, NonterminalSet::TOKENS, all)
 }

@@ -1,4 +1,5 @@
 // 11: the nonterminals that the start symbol reaches, and the lowest that is unreachable or derives no token string.
+use analysis::closing::first_of;
 use analysis::closing::productive;
 use analysis::judging::lowest_useless;
 use nonterminal_set::NonterminalSet;
@@ -10,6 +11,7 @@ ghost use Rattle.meaning.specs.Grammar.{Grammar, nonterminalCount};
 ghost use Rattle.outline.specs.Rows.{Image, Rows};
 ghost use Rattle.analysis.specs.Views.{members, rightBy, ReachAt, Imaged, Within};
 ghost use Rattle.analysis.specs.Growth.{Grown, Settled, SetsTo};
+ghost use Rattle.analysis.specs.Firsts.{RightsIn};
 ghost use Rattle.analysis.specs.Numbers.{Found};
 ghost use Rattle.analysis.specs.Finding.{isUseless};
 
@@ -63,21 +65,26 @@ fn reach_round_back(
     next
 }
 
-// The nonterminals that those of a set reach, and the bit of the end where they reach a token; from the words of the right sides.
+// The nonterminals that those of a set reach, and the bit of the end where they reach a token; from the words of the right sides. A set that has
+// all symbols needs no other round.
 pub fn reach(
     rows: &[u8; 2048],
     count: usize,
     rights: &[u64; 128],
     first: NonterminalSet,
+    all: NonterminalSet,
 ) -> NonterminalSet
     requires { ⌜ Image (now rows) count × SetsTo (rightBy (now rows)) count (now rights) ⌝ }
-    ensures { λ r. ⌜ Settled (Within (ReachAt (now (rows .entry))) 0 count) (first .0) (r .0) ⌝ }
+    ensures { λ r. ⌜ (RightsIn (now (rows .entry)) count (all .0) → Settled (Within (ReachAt (now (rows .entry))) 0 count) (first .0) (r .0)) ⌝ }
 {
     let mut set = first;
     loop {
         let next = reach_round(rows, count, rights, set);
         if next.same(set) {
             return set;
+        }
+        if next.same(all) {
+            return next;
         }
         let last = reach_round_back(rows, count, rights, next);
         if last.same(next) {
@@ -100,8 +107,10 @@ pub fn useless(
     ensures { λ r. ⌜ ((g : Grammar) → Rows (now (rows .entry)) count g → nonterminals ≡ nonterminalCount g → start ≡ g .start
         → Found (isUseless g) (nonterminalCount g) r) ⌝ }
 {
-    let live = productive(rows, count, rights);
+    let all = first_of(nonterminals);
+    let live = productive(rows, count, rights, all);
     let first = NonterminalSet::of_nonterminal(start);
-    let reached = reach(rows, count, rights, first);
+    let every = all.union(NonterminalSet::TOKENS);
+    let reached = reach(rows, count, rights, first, every);
     lowest_useless(reached, live, nonterminals)
 }

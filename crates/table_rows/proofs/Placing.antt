@@ -3,13 +3,21 @@ use Prim.Native.Nat.{ℕ, zero, suc, _+_, _≤_, _<_}
 use mathlib.Core.Path.{_≡_, refl, sym, _∙_, ap, subst}
 use mathlib.Core.List.{List, [], _∷_, map}
 use mathlib.Core.Logic.{⊎-elim}
+use mathlib.Core.Bool.{Bool, true, false, _||_}
 use native.Mathlib.Omega.{arith}
 use native.Mathlib.Nat.{not-suc-le-zero}
 use native.Mathlib.Numerals.{add-one}
+use lib.Bits.{bitOr}
+use lib.Dec.{T}
 use lib.ListN.{length, getD, set, drop, length-set, drop-of-length-le}
 use lib.Seq.{getD-set-same, getD-set-other, drop-cons}
+use Rattle.meaning.specs.Base.{any}
+use Rattle.meaning.specs.Grammar.{Symbol}
 use Rattle.meaning.specs.Table.{byte, symbolOf}
 use Rattle.outline.specs.Rows.{rowStart}
+use Rattle.analysis.specs.Views.{members, symbolBit}
+use Rattle.analysis.specs.Growth.{or-right}
+use Rattle.analysis.specs.Reaching.{Gathered}
 use Rattle.table_rows.specs.RowWritten.{symbolByte, Copied}
 use Rattle.table_fields.proofs.Cases.{lt-or-le}
 
@@ -90,3 +98,25 @@ symbols-from b k h = ap (map symbolOf) (drop-cons b k 0 h ∙ ap (λ (n : ℕ). 
 
 pub symbols-none : (b : List ℕ) (k : ℕ) → length b ≤ k → map symbolOf (drop k b) ≡ []
 symbols-none b k h = ap (map symbolOf) (drop-of-length-le b {i = k} h)
+
+-- ---- the word of the symbols
+
+absorbed : (a b c : Bool) → (T b → T a) → (a || (b || c)) ≡ (a || c)
+absorbed true b c h = refl
+absorbed false true c h = absurd (h tt)
+absorbed false false c h = refl
+
+-- one that is in already
+pub gathered-again : (xs : List Symbol) (out : ℕ) (s : Symbol) (ys rest : List Symbol) → Gathered symbolBit xs out ys → ys ≡ s ∷ rest → ((n : ℕ) → T (symbolBit n s) → T (members out n)) → Gathered symbolBit xs out rest
+gathered-again xs out s ys rest g e in-it =
+    record { is = λ n. g .is n ∙ ap (λ (l : List Symbol). members out n || any (symbolBit n) l) e ∙ absorbed (members out n) (symbolBit n s) (any (symbolBit n) rest) (in-it n) }
+
+-- the last one, where there is one, is in
+pub record LastIn (last word : ℕ) : Type 0 where
+  pub has : last < 176 → (n : ℕ) → T (symbolBit n (symbolOf last)) → T (members word n)
+
+pub last-none : (word : ℕ) → LastIn 255 word
+last-none word = record { has = λ l. absurd (omega arith) }
+
+pub last-new : (s word x : ℕ) → ((n : ℕ) → members x n ≡ symbolBit n (symbolOf s)) → LastIn s (bitOr word x)
+last-new s word x is = record { has = λ l n t. or-right word x n (rw (is n) t) }

@@ -33,7 +33,7 @@ pub fn place_counts(
     }
 }
 
-// The row of production p, its body as it stands in the table; and the word of its right side.
+// The row of production p, its body as it stands in the table; and the word of its right side. The same symbol often stands many times in a row.
 pub fn copy_row(rows: &mut [u8; 2048], p: usize, body: &[u8]) -> NonterminalSet
     requires { ⌜ (p < 128) × (2 ≤ length (now body)) × (length (now body) ≤ 14) × (length (now rows) ≡ 2048) × SymbolsSmall (now body) ⌝ }
     ensures copied { λ r. ⌜ Copied (now (rows .entry)) p (now (body .entry)) (now (rows .exit)) (length (now (body .entry))) ⌝ }
@@ -43,12 +43,17 @@ pub fn copy_row(rows: &mut [u8; 2048], p: usize, body: &[u8]) -> NonterminalSet
     rows[start] = body[0];
     rows[start + 1] = body[1];
     let mut word = NonterminalSet::EMPTY;
+    let mut last: u8 = 255;
     let mut k: usize = 2;
     while k < body.len() {
         let symbol = body[k];
         rows[start + k] = symbol;
-        word = word.union(symbol_bit(symbol));
         k += 1;
+        if symbol == last {
+            continue;
+        }
+        last = symbol;
+        word = word.union(symbol_bit(symbol));
     }
     word
 }

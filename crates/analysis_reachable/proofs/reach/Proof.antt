@@ -4,15 +4,15 @@ use mathlib.Core.Path.{_≡_}
 use borrow.Author.Needs.{needs}
 use Rattle.nonterminal_set.specs.Same.{same-words, other-words}
 use Rattle.analysis.specs.Views.{Within, ReachAt}
-use Rattle.analysis.specs.Growth.{Rising, rising-start, rising-on, settled}
+use Rattle.analysis.specs.Growth.{Rising, rising-start, rising-on, settled, settled-soon}
 use Rattle.analysis_reachable.proofs.reach.Statement.{statement}
 use Rattle.analysis_reachable.proofs.reach.Tie as tie
 
 abbrev Inv-loop : tie.InvT-loop
-Inv-loop rows count rights set₀ set = (set .0 < 2 ^ 64) × Rising (Within (ReachAt rows) 0 count) (set₀ .0) (set .0)
+Inv-loop rows count rights all set₀ set = (set .0 < 2 ^ 64) × Rising (Within (ReachAt rows) 0 count) (set₀ .0) (set .0)
 
 abbrev μ-loop : tie.MeasureT-loop
-μ-loop rows count rights set₀ set = 2 ^ 64 - set .0
+μ-loop rows count rights all set₀ set = 2 ^ 64 - set .0
 
 loop-holds : tie.Need-loop-holds Inv-loop μ-loop
 loop-holds c = (search needs, rising-start _)
@@ -26,34 +26,43 @@ same-requires c κs = search needs
 returns : tie.Need-returns Inv-loop μ-loop
 returns c =
     let round = c .before .before in
-    settled _ _ _ (round .before .loop .inv .1) (round .reach-round .ensures) (same-words _ _ (c .before .same .ensures) (c .if1 .taken))
-
-reach-round-back-requires : tie.Need-reach-round-back-requires Inv-loop μ-loop
-reach-round-back-requires c κs = c .before .before .before .before .pre
+    λ rights. settled _ _ _ (round .before .loop .inv .1) (round .reach-round .ensures) (same-words _ _ (c .before .same .ensures) (c .if1 .taken))
 
 same-requires-2 : tie.Need-same-requires-2 Inv-loop μ-loop
 same-requires-2 c κs = search needs
 
 returns-2 : tie.Need-returns-2 Inv-loop μ-loop
 returns-2 c =
+    let round = c .before .before .before .before in
+    let e = same-words (round .reach-round .result .0) (round .before .before .args .all .0) (c .before .same2 .ensures) (c .if2 .taken) in
+    λ rights. settled-soon _ _ (rising-on _ _ _ (round .before .loop .inv .1) (round .reach-round .ensures)) (record { at = λ p l m t n a. rw e (rights .right p n m a) })
+
+reach-round-back-requires : tie.Need-reach-round-back-requires Inv-loop μ-loop
+reach-round-back-requires c κs = c .before .before .before .before .before .before .pre
+
+same-requires-3 : tie.Need-same-requires-3 Inv-loop μ-loop
+same-requires-3 c κs = search needs
+
+returns-3 : tie.Need-returns-3 Inv-loop μ-loop
+returns-3 c =
     let back = c .before .before in
-    let round = back .before .before .before in
-    settled _ _ _ (rising-on _ _ _ (round .before .loop .inv .1) (round .reach-round .ensures)) (back .reach-round-back .ensures) (same-words _ _ (c .before .same2 .ensures) (c .if2 .taken))
+    let round = back .before .before .before .before .before in
+    λ rights. settled _ _ _ (rising-on _ _ _ (round .before .loop .inv .1) (round .reach-round .ensures)) (back .reach-round-back .ensures) (same-words _ _ (c .before .same3 .ensures) (c .if3 .taken))
 
 loop-less : tie.Need-loop-less Inv-loop μ-loop
 loop-less c =
     let back = c .before .before in
-    let round = back .before .before .before in
-    let apart : (back .reach-round-back .result .0 ≡ round .reach-round .result .0 → ⊥) = other-words _ _ (c .before .same2 .ensures) (c .if2 .left) in
+    let round = back .before .before .before .before .before in
+    let apart : (back .reach-round-back .result .0 ≡ round .reach-round .result .0 → ⊥) = other-words _ _ (c .before .same3 .ensures) (c .if3 .left) in
     omega (arith, round .reach-round .ensures .grows, back .reach-round-back .ensures .grows, apart)
 
 loop-again : tie.Need-loop-again Inv-loop μ-loop
 loop-again c =
     let back = c .before .before in
-    let round = back .before .before .before in
+    let round = back .before .before .before .before .before in
     (search needs, rising-on _ _ _ (rising-on _ _ _ (round .before .loop .inv .1) (round .reach-round .ensures)) (back .reach-round-back .ensures))
 
 pub reach-spec : {M : Type 1} → statement M
 reach-spec =
     tie.close
-    (tie.spec Inv-loop μ-loop loop-holds reach-round-requires same-requires returns reach-round-back-requires same-requires-2 returns-2 loop-less loop-again)
+    (tie.spec Inv-loop μ-loop loop-holds reach-round-requires same-requires returns same-requires-2 returns-2 reach-round-back-requires same-requires-3 returns-3 loop-less loop-again)

@@ -8,16 +8,16 @@ use Rattle.meaning.specs.Table.{byte, symbolOf}
 use Rattle.analysis.specs.Views.{symbolBit}
 use Rattle.analysis.specs.Reaching.{Gathered, gathered-start, gathered-next, gathered-end}
 use Rattle.table_rows.specs.RowWritten.{Copied}
-use Rattle.table_rows.proofs.Placing.{copying-two, copying-at, symbols-from, symbols-none}
+use Rattle.table_rows.proofs.Placing.{copying-two, copying-at, symbols-from, symbols-none, gathered-again, LastIn, last-none, last-new}
 use Rattle.table_rows.proofs.copy_row.Statement.{statement}
 use Rattle.table_rows.proofs.copy_row.Tie as tie
 
 abbrev Inv-loop : tie.InvT-loop
-Inv-loop rows₀ p body start word₀ k₀ rows word k =
-    (2 ≤ k) × (k ≤ length body) × Copied rows₀ p body rows k × Gathered symbolBit (map symbolOf (drop 2 body)) (word .0) (map symbolOf (drop k body))
+Inv-loop rows₀ p body start word₀ last₀ k₀ rows word last k =
+    (2 ≤ k) × (k ≤ length body) × Copied rows₀ p body rows k × Gathered symbolBit (map symbolOf (drop 2 body)) (word .0) (map symbolOf (drop k body)) × LastIn last (word .0)
 
 abbrev μ-loop : tie.MeasureT-loop
-μ-loop rows₀ p body start word₀ k₀ rows word k = length body - k
+μ-loop rows₀ p body start word₀ last₀ k₀ rows word last k = length body - k
 
 -- the first two bytes copied
 two : (c : tie.After-shared-slice-known3 Inv-loop μ-loop)
@@ -45,7 +45,7 @@ element-write-rows-2 : tie.Need-element-write-rows-2 Inv-loop μ-loop
 element-write-rows-2 c = omega arith
 
 loop-holds : tie.Need-loop-holds Inv-loop μ-loop
-loop-holds c = let done = two c in (omega arith, omega arith, record { before = λ i h. refl; row = done .row; kept = done .kept }, gathered-start _ _)
+loop-holds c = let done = two c in (omega arith, omega arith, record { before = λ i h. refl; row = done .row; kept = done .kept }, gathered-start _ _, last-none _)
 
 shared-slice-read-symbol : tie.Need-shared-slice-read-symbol Inv-loop μ-loop
 shared-slice-read-symbol c = omega arith
@@ -57,7 +57,7 @@ element-write-rows-3 : tie.Need-element-write-rows-3 Inv-loop μ-loop
 element-write-rows-3 c = omega arith
 
 symbol-bit-requires : tie.Need-symbol-bit-requires Inv-loop μ-loop
-symbol-bit-requires c κs = let lp = c .before .before in lp .before .before .before .before .before .pre .4 _ (lp .loop .inv .0) (omega arith)
+symbol-bit-requires c κs = let lp = c .before .before .before in lp .before .before .before .before .before .pre .4 _ (lp .loop .inv .0) (omega arith)
 
 union-requires : tie.Need-union-requires Inv-loop μ-loop
 union-requires c κs = search needs
@@ -70,12 +70,31 @@ loop-less c = omega arith
 
 loop-again : tie.Need-loop-again Inv-loop μ-loop
 loop-again c =
-    let lp = c .before .before .before .before in
-    let iv = lp .loop .inv in (
+    let lp = c .before .before .before in
+    let iv = lp .loop .inv in
+    let st = lp .before .before .before .before .before in
+    let e = c .if1 .taken in
+    let small = st .pre .4 (lp .loop .k) (iv .0) (omega arith) in (
       omega arith,
       omega arith,
       copying-at _ _ _ _ _ _ (lp .before .before .before .row-start .ensures) (iv .2) (omega arith),
-      rw (c .union .ensures .1) (gathered-next _ _ _ _ _ _ _ (iv .3) (symbols-from (lp .before .before .before .before .before .args .body .now) (lp .loop .k) (omega arith)) (c .before .symbol-bit .ensures)),
+      gathered-again _ _ _ _ _ (iv .3) (symbols-from (st .args .body .now) (lp .loop .k) (omega arith)) (λ n t. iv .4 .has (omega (arith, small, e)) n (rw e at t)),
+      iv .4,
+    )
+
+loop-less-2 : tie.Need-loop-less-2 Inv-loop μ-loop
+loop-less-2 c = omega arith
+
+loop-again-2 : tie.Need-loop-again-2 Inv-loop μ-loop
+loop-again-2 c =
+    let lp = c .before .before .before .before .before in
+    let iv = lp .loop .inv in
+    let st = lp .before .before .before .before .before in (
+      omega arith,
+      omega arith,
+      copying-at _ _ _ _ _ _ (lp .before .before .before .row-start .ensures) (iv .2) (omega arith),
+      rw (c .union .ensures .1) (gathered-next _ _ _ _ _ _ _ (iv .3) (symbols-from (st .args .body .now) (lp .loop .k) (omega arith)) (c .before .symbol-bit .ensures)),
+      rw (c .union .ensures .1) (last-new _ (lp .loop .word .0) _ (c .before .symbol-bit .ensures)),
     )
 
 returns : tie.Need-returns Inv-loop μ-loop
@@ -101,9 +120,11 @@ copy-row-spec =
     shared-slice-read-symbol
     add-rows-2
     element-write-rows-3
-    symbol-bit-requires
-    union-requires
     add-k
     loop-less
     loop-again
+    symbol-bit-requires
+    union-requires
+    loop-less-2
+    loop-again-2
     returns)

@@ -3,17 +3,17 @@ use native.Mathlib.Omega.{arith}
 use mathlib.Core.Path.{_≡_}
 use borrow.Author.Needs.{needs}
 use Rattle.analysis.specs.Views.{Within, ClosedAt}
-use Rattle.analysis.specs.Growth.{Rising, rising-start, rising-on, settled}
+use Rattle.analysis.specs.Growth.{Rising, rising-start, rising-on, settled, settled-soon}
 use Rattle.nonterminal_set.specs.Same.{same-words, other-words}
 use Rattle.analysis.specs.Closing.{tokensIn, narrow-rising}
 use Rattle.analysis.proofs.closing.closure.Statement.{statement}
 use Rattle.analysis.proofs.closing.closure.Tie as tie
 
 abbrev Inv-loop : tie.InvT-loop
-Inv-loop rows count rights free set₀ set = (set .0 < 2 ^ 64) × Rising (Within (ClosedAt (tokensIn (free .0)) rows) 0 count) 0 (set .0)
+Inv-loop rows count rights free all set₀ set = (set .0 < 2 ^ 64) × Rising (Within (ClosedAt (tokensIn (free .0)) rows) 0 count) 0 (set .0)
 
 abbrev μ-loop : tie.MeasureT-loop
-μ-loop rows count rights free set₀ set = 2 ^ 64 - set .0
+μ-loop rows count rights free all set₀ set = 2 ^ 64 - set .0
 
 loop-holds : tie.Need-loop-holds Inv-loop μ-loop
 loop-holds c = (omega arith, rising-start _)
@@ -27,38 +27,47 @@ same-requires c κs = search needs
 returns : tie.Need-returns Inv-loop μ-loop
 returns c =
     let round = c .before .before in
-    settled _ _ _ (round .before .loop .inv .1) (round .close-round .ensures) (same-words _ _ (c .before .same .ensures) (c .if1 .taken))
-
-close-round-back-requires : tie.Need-close-round-back-requires Inv-loop μ-loop
-close-round-back-requires c κs =
-    let round = c .before .before in
-    let at = round .before in
-    let st = at .before in
-    (st .pre .0, st .pre .1, narrow-rising _ (st .pre .0) _ (rising-on _ _ _ (at .loop .inv .1) (round .close-round .ensures)), st .pre .2)
+    λ lefts. settled _ _ _ (round .before .loop .inv .1) (round .close-round .ensures) (same-words _ _ (c .before .same .ensures) (c .if1 .taken))
 
 same-requires-2 : tie.Need-same-requires-2 Inv-loop μ-loop
 same-requires-2 c κs = search needs
 
 returns-2 : tie.Need-returns-2 Inv-loop μ-loop
 returns-2 c =
+    let round = c .before .before .before .before in
+    let e = same-words (round .close-round .result .0) (round .before .before .args .all .0) (c .before .same2 .ensures) (c .if2 .taken) in
+    λ lefts. settled-soon _ _ (rising-on _ _ _ (round .before .loop .inv .1) (round .close-round .ensures)) (record { at = λ p l m t. rw e (lefts .left p m) })
+
+close-round-back-requires : tie.Need-close-round-back-requires Inv-loop μ-loop
+close-round-back-requires c κs =
+    let round = c .before .before .before .before in
+    let at = round .before in
+    let st = at .before in
+    (st .pre .0, st .pre .1, narrow-rising _ (st .pre .0) _ (rising-on _ _ _ (at .loop .inv .1) (round .close-round .ensures)), st .pre .2)
+
+same-requires-3 : tie.Need-same-requires-3 Inv-loop μ-loop
+same-requires-3 c κs = search needs
+
+returns-3 : tie.Need-returns-3 Inv-loop μ-loop
+returns-3 c =
     let back = c .before .before in
-    let round = back .before .before .before in
-    settled _ _ _ (rising-on _ _ _ (round .before .loop .inv .1) (round .close-round .ensures)) (back .close-round-back .ensures) (same-words _ _ (c .before .same2 .ensures) (c .if2 .taken))
+    let round = back .before .before .before .before .before in
+    λ lefts. settled _ _ _ (rising-on _ _ _ (round .before .loop .inv .1) (round .close-round .ensures)) (back .close-round-back .ensures) (same-words _ _ (c .before .same3 .ensures) (c .if3 .taken))
 
 loop-less : tie.Need-loop-less Inv-loop μ-loop
 loop-less c =
     let back = c .before .before in
-    let round = back .before .before .before in
-    let apart : (back .close-round-back .result .0 ≡ round .close-round .result .0 → ⊥) = other-words _ _ (c .before .same2 .ensures) (c .if2 .left) in
+    let round = back .before .before .before .before .before in
+    let apart : (back .close-round-back .result .0 ≡ round .close-round .result .0 → ⊥) = other-words _ _ (c .before .same3 .ensures) (c .if3 .left) in
     omega (arith, round .close-round .ensures .grows, back .close-round-back .ensures .grows, apart)
 
 loop-again : tie.Need-loop-again Inv-loop μ-loop
 loop-again c =
     let back = c .before .before in
-    let round = back .before .before .before in
+    let round = back .before .before .before .before .before in
     (search needs, rising-on _ _ _ (rising-on _ _ _ (round .before .loop .inv .1) (round .close-round .ensures)) (back .close-round-back .ensures))
 
 pub closure-spec : {M : Type 1} → statement M
 closure-spec =
     tie.close
-    (tie.spec Inv-loop μ-loop loop-holds close-round-requires same-requires returns close-round-back-requires same-requires-2 returns-2 loop-less loop-again)
+    (tie.spec Inv-loop μ-loop loop-holds close-round-requires same-requires returns same-requires-2 returns-2 close-round-back-requires same-requires-3 returns-3 loop-less loop-again)
