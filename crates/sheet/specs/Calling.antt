@@ -24,7 +24,8 @@ use Rattle.prepare.specs.Making.{MadeAs, Case, ProgramStands}
 use Rattle.sheet_moves.specs.NodeInMemory.{tokensAs}
 use Rattle.sheet.specs.declared.Answer as Answer
 use Rattle.sheet.specs.declared.Answer.the-variants.{TableRefused}
-use Rattle.sheet.specs.Segments.{sheetIs, SegmentDone, Under}
+use Rattle.sheet.specs.Answers.{sheetIs}
+use Rattle.sheet.specs.Segments.{SegmentDone, Under}
 
 -- ---- values, one after the other
 
