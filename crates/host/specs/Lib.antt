@@ -6,3 +6,5 @@ pub mod Listed
 pub mod Housed
 -- What an inner call hands back as numbers, by what it answers and leaves
 pub mod Both
+-- What a finish hands out as numbers is brought to a window as its answer
+pub mod Finished

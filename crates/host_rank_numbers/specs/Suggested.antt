@@ -5,7 +5,7 @@ use mathlib.Core.List.{List}
 use lib.IntN.{ℤ, pos}
 use Rattle.meaning.specs.PublicCalls.{stacksOf}
 use Rattle.meaning_ranking.specs.RankCall.{RankAnswer, ranked, unranked, RankEffect}
-use Rattle.rank.specs.Answers.{rankAnswerIs, rankIs}
+use Rattle.rank_report.specs.Answers.{rankAnswerIs, rankIs}
 use Rattle.rank_report.specs.declared.Ranked.{Ranked}
 
 -- the answer as five numbers: how many were valued, their total, the entries, with 0 and 0; or 0, 0 and 0, with the refusal's number and offset

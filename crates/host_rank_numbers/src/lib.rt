@@ -1,5 +1,5 @@
 // The answer of a ranking as lent numbers.
-ghost use Rattle.rank.specs.Answers.{rankAnswerIs};
+ghost use Rattle.rank_report.specs.Answers.{rankAnswerIs};
 ghost use Rattle.host_rank_numbers.specs.Suggested.{suggested};
 use rank_report::Ranked;
 

@@ -4,9 +4,9 @@ use mathlib.Core.Path.{_≡_, sym, subst}
 use mathlib.Core.List.{List, []}
 use lib.IntN.{ℤ, pos}
 use Rattle.meaning_sheet.specs.SheetCalls.{SheetAnswer, sheeted, turnedBack, tableTurned, sheetEffect, Sheets}
-use Rattle.sheet.specs.Answers.{sheetIs}
-use Rattle.sheet.specs.declared.Answer as Answer
-use Rattle.sheet.specs.declared.Answer.the-variants.{Value, Refused, TableRefused}
+use Rattle.sheet_answers.specs.Answers.{sheetIs}
+use Rattle.sheet_answers.specs.declared.Answer as Answer
+use Rattle.sheet_answers.specs.declared.Answer.the-variants.{Value, Refused, TableRefused}
 
 -- the answer without the sheet's bytes
 abbrev pub answerOf : Answer.Answer → SheetAnswer

@@ -1,6 +1,6 @@
 // The answer of the call that writes a tree's sheet as lent numbers.
 ghost use Rattle.host_sheet_numbers.specs.SheetLent.{answerOf, lentAs};
-use sheet::Answer;
+use sheet_answers::Answer;
 
 // 0, the value, the moves and the sheet's length. On a refusal the number is the refusal's, the count its tokens read or the table's offset,
 // and value and length are 0.

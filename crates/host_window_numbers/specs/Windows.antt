@@ -1,30 +1,17 @@
 -- A window's answer and a finish's answer as the numbers that a host lends.
-use Prim.Native.Nat.{ℕ, _<_}
-use native.Mathlib.Omega.{arith}
-use mathlib.Core.Path.{_≡_, refl, ap, _∙_}
+use Prim.Native.Nat.{ℕ}
+use mathlib.Core.Path.{_≡_, ap, _∙_}
 use mathlib.Core.Bool.{cond}
 use mathlib.Core.List.{List}
-use borrow.Author.Tests.{ne-eqb}
 use lib.Dec.{eqb}
 use lib.IntN.{ℤ, pos}
-use Rattle.meaning.specs.Calls.{Answer, value, refused, tableRefused}
-use Rattle.meaning_window.specs.Window.{WindowAnswer, stands, empty, turnedBack, windowNumber, Outcome, outcome, bringsAnswer}
-use Rattle.host_numbers.specs.Lent.{answerNumber, answerCount, answerValue}
+use Rattle.meaning.specs.Calls.{Answer, value, refused}
+use Rattle.meaning_window.specs.Window.{WindowAnswer, stands, empty, turnedBack, windowNumber, Outcome, outcome}
 
 -- ---- a finish's answer, from the numbers that the host's finish hands out
 
 abbrev pub finishedAs : ℕ → ℤ → ℕ → Answer
 finishedAs n v k = cond (eqb n 0) (value v k) (refused n k)
-
--- what is handed out by a finish is brought as its answer
-pub brought-value : (v : ℤ) (k : ℕ) (b : List ℤ) → bringsAnswer (finishedAs (answerNumber (value v k)) (answerValue (value v k)) (answerCount (value v k))) b ≡ bringsAnswer (value v k) b
-brought-value v k b = refl
-
-pub brought-refusal : (n k : ℕ) → 0 < n → (b : List ℤ) → bringsAnswer (finishedAs (answerNumber (refused n k)) (answerValue (refused n k)) (answerCount (refused n k))) b ≡ bringsAnswer (refused n k) b
-brought-refusal n k l b = ap (λ t. bringsAnswer (cond t (value (pos 0) k) (refused n k)) b) (ne-eqb n 0 (λ z. omega arith))
-
-pub brought-table : (n k : ℕ) → 0 < n → (b : List ℤ) → bringsAnswer (finishedAs (answerNumber (tableRefused n k)) (answerValue (tableRefused n k)) (answerCount (tableRefused n k))) b ≡ bringsAnswer (tableRefused n k) b
-brought-table n k l b = ap (λ t. bringsAnswer (cond t (value (pos 0) k) (refused n k)) b) (ne-eqb n 0 (λ z. omega arith))
 
 -- ---- a window's answer as four numbers: 42 or 0, the total, the largest, and 1 or 0 where there is none
 

@@ -1,5 +1,3 @@
--- 02 (i)'s answers for those of the code
-pub mod Answers
 -- Stacks that are opened hold the opening's configuration
 pub mod Opening
 -- A segment walked from its opening to its end: its value and its tree's records, or its refusal

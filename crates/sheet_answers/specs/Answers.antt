@@ -2,8 +2,8 @@
 use Prim.Native.Nat.{ℕ}
 use mathlib.Core.List.{List}
 use Rattle.meaning_sheet.specs.SheetCalls.{SheetEffect, sheetEffect, sheeted, turnedBack, tableTurned}
-use Rattle.sheet.specs.declared.Answer.{Answer}
-use Rattle.sheet.specs.declared.Answer.the-variants.{Value, Refused, TableRefused}
+use Rattle.sheet_answers.specs.declared.Answer.{Answer}
+use Rattle.sheet_answers.specs.declared.Answer.the-variants.{Value, Refused, TableRefused}
 
 -- with the sheet's bytes afterwards
 abbrev pub sheetIs : Answer → List ℕ → SheetEffect
