@@ -4,12 +4,11 @@ ghost use Rattle.meaning.specs.Program.{programOf};
 ghost use Rattle.meaning.specs.PublicCalls as Public;
 ghost use Rattle.meaning.specs.PublicCalls.{performs, stacksOf};
 ghost use Rattle.engine.specs.Records.{recordIs, effectIs};
-ghost use Rattle.host_numbers.specs.Lent.{broughtIn, PassedOn};
 use engine::Called;
 use engine::Record;
 
 // A record by value, lent to the call.
-fn fed(
+pub fn fed(
     record: Record,
     table: &[u8],
     registers: &mut [i64],
@@ -35,24 +34,4 @@ fn fed(
         record: held,
         answer,
     }
-}
-
-// Feeds tokens, as a list of kinds and one of values.
-pub fn feed(
-    table: &[u8],
-    record: &mut [u64; 8],
-    registers: &mut [i64],
-    places: &mut [u32],
-    program: &mut [u32],
-    kinds: &[u8],
-    values: &[i32],
-    number: &mut u32,
-    count: &mut u64,
-)
-    ensures { λ r. ⌜ PassedOn (now («record» .exit)) (now (number .exit)) (now (count .exit)) (now (registers .exit)) (now (places .exit)) (now (program .exit))
-        (performs programOf (now (table .entry)) (now (program .entry)) (broughtIn (now («record» .entry))) (stacksOf (now (registers .entry)) (now (places .entry))) (Public.feed (now (kinds .entry)) (now (values .entry)))) ⌝ }
-{
-    let brought = host_numbers::brought(record);
-    let called = fed(brought, table, registers, places, program, kinds, values);
-    host_numbers::pass_on(called, record, number, count);
 }

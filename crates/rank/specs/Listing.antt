@@ -22,7 +22,7 @@ use Rattle.rank_candidates.specs.Each.{AllDone}
 use Rattle.rank_report.specs.declared.Ranked.{Ranked}
 use Rattle.rank_report.specs.declared.Ranked.the-variants.{Done, Refused}
 use Rattle.rank_report.specs.Report.{Reported}
-use Rattle.rank.specs.Answers.{rankAnswerIs, rankIs}
+use Rattle.rank_report.specs.Answers.{rankAnswerIs, rankIs}
 
 -- ---- under a grammar
 

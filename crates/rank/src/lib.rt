@@ -6,7 +6,7 @@ ghost use Rattle.meaning.specs.Program.{programOf};
 ghost use Rattle.meaning.specs.PublicCalls.{stacksOf};
 ghost use Rattle.meaning_ranking.specs.RankCall.{inOrder, rankOf};
 ghost use Rattle.run_fit.specs.HasProgram.{Readable};
-ghost use Rattle.rank.specs.Answers.{rankIs};
+ghost use Rattle.rank_report.specs.Answers.{rankIs};
 ghost use Rattle.rank.specs.Listing.{ListedAs};
 use prepare::Made;
 use rank_report::Ranked;

@@ -1,2 +1,4 @@
+-- 02's numbers and values for the answers of the code
+pub mod Answers
 -- What the list comes to
 pub mod Report

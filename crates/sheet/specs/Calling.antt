@@ -22,9 +22,10 @@ use Rattle.prepare.specs.declared.Made as Made
 use Rattle.prepare.specs.declared.Made.the-variants as M
 use Rattle.prepare.specs.Making.{MadeAs, Case, ProgramStands}
 use Rattle.sheet_moves.specs.NodeInMemory.{tokensAs}
-use Rattle.sheet.specs.declared.Answer as Answer
-use Rattle.sheet.specs.declared.Answer.the-variants.{TableRefused}
-use Rattle.sheet.specs.Segments.{sheetIs, SegmentDone, Under}
+use Rattle.sheet_answers.specs.declared.Answer as Answer
+use Rattle.sheet_answers.specs.declared.Answer.the-variants.{TableRefused}
+use Rattle.sheet_answers.specs.Answers.{sheetIs}
+use Rattle.sheet.specs.Segments.{SegmentDone, Under}
 
 -- ---- values, one after the other
 

@@ -23,7 +23,7 @@ use Rattle.meaning.specs.Value.{mark, inRange}
 use Rattle.meaning.specs.Calls.{openOf, value, refused, tokensFrom, lentOf, result}
 use Rattle.meaning.specs.PublicCalls.{stacksOf}
 use Rattle.meaning_sheet.specs.Sheet.{sheetOf}
-use Rattle.meaning_sheet.specs.SheetCalls.{SheetEffect, sheetEffect, sheeted, turnedBack, tableTurned, stacksFor, stackRun, AfterRun, WhenEven}
+use Rattle.meaning_sheet.specs.SheetCalls.{SheetEffect, sheetEffect, sheeted, turnedBack, stacksFor, stackRun, AfterRun, WhenEven}
 use Rattle.theory_base.specs.Members.{true→T}
 use Rattle.theory_base.specs.Feeds.{leaves-of}
 use Rattle.theory_answers.specs.ShapeMemory.{result-ranged}
@@ -44,15 +44,10 @@ use Rattle.run_moves.specs.Held.{Held, AtHand, some, nothing, at-hand, bounds}
 use Rattle.sheet_moves.specs.NodeInMemory.{tokensAs, isInside, at-look, leafHere, none-left, one-left}
 use Rattle.sheet_steps.specs.Numbers as Walked
 use Rattle.sheet_steps.specs.Cycle.{NodeAt, NodeDone, Listed, none-listed, list-more, rests-look}
-use Rattle.sheet.specs.declared.Answer as Answer
-use Rattle.sheet.specs.declared.Answer.the-variants.{Value, Refused, TableRefused}
+use Rattle.sheet_answers.specs.declared.Answer as Answer
+use Rattle.sheet_answers.specs.declared.Answer.the-variants.{Value, Refused, TableRefused}
+use Rattle.sheet_answers.specs.Answers.{sheetIs}
 use Rattle.sheet.specs.Opening.{firstRun, start-size, opened-held}
-
--- 02 (i)'s answers
-abbrev pub sheetIs : Answer.Answer → List ℕ → SheetEffect
-sheetIs (Value v moves size) out = sheetEffect (sheeted v moves size) out
-sheetIs (Refused number tokens) out = sheetEffect (turnedBack number tokens) out
-sheetIs (TableRefused number offset) out = sheetEffect (tableTurned number offset) out
 
 -- ---- the whole segment's node, when its child is left
 

@@ -15,8 +15,8 @@ use Rattle.run_fit.specs.HasProgram.{Readable}
 use Rattle.sheet_steps.specs.Numbers.{runIn, walkedIn, low, Fits, kept-fits}
 use Rattle.sheet_steps.specs.Cycle.{NodeAt, NodeDone}
 use Rattle.sheet_steps.specs.Walks.{NodeIn, NodeOut}
-use Rattle.sheet.specs.declared.Answer as Answer
-use Rattle.sheet.specs.declared.Answer.the-variants.{Refused}
+use Rattle.sheet_answers.specs.declared.Answer as Answer
+use Rattle.sheet_answers.specs.declared.Answer.the-variants.{Refused}
 use Rattle.sheet.specs.Opening.{firstRun}
 use Rattle.sheet.specs.Segments.{Cells, Opens, Ended, Ends, SegmentDone, segment-31, segment-32, first-at, segment-failed, segment-ended, segment-over}
 

@@ -9,21 +9,14 @@ ghost use Rattle.meaning_sheet.specs.SheetCalls.{Sheets};
 ghost use Rattle.run_fit.specs.HasProgram.{Readable};
 ghost use Rattle.sheet_steps.specs.Numbers.{low, runIn};
 ghost use Rattle.sheet.specs.Starting.{Lacking};
-ghost use Rattle.sheet.specs.Segments.{Opens, Cells, Ends, Ended, SegmentDone, Under, sheetIs};
+ghost use Rattle.sheet_answers.specs.Answers.{sheetIs};
+ghost use Rattle.sheet.specs.Segments.{Opens, Cells, Ends, Ended, SegmentDone, Under};
 use limits::PLACES;
 use limits::REGISTERS;
 use limits::TOKENS_BEFORE;
 use prepare::Made;
 use run_moves::Run;
-
-pub enum Answer {
-    // The segment's value, the moves, and the length of the sheet.
-    Value(i64, u64, u64),
-    // One of 20 to 24, 31, 32 or 35 with the tokens read; 38 or 41 with 0.
-    Refused { number: u32, tokens: u64 },
-    // One of 1 to 13, with the field's offset.
-    TableRefused { number: u32, offset: u64 },
-}
+use sheet_answers::Answer;
 
 // The start symbol is left: the segment is over, or a token follows. 35 and 20 come before the 21.
 fn ended(registers: &[i64], program: &[u32], kinds: &[u8], run: Run, end: usize) -> Answer

@@ -5,7 +5,7 @@ use mathlib.Core.List.{[], _++_}
 use lib.ListN.{length, drop}
 use denote.Ref.{now}
 use Rattle.sheet_room.specs.Room.{is-short, has-room}
-use Rattle.sheet.specs.declared.Answer.the-variants.{Value, Refused, TableRefused}
+use Rattle.sheet_answers.specs.declared.Answer.the-variants.{Value, Refused, TableRefused}
 use Rattle.sheet.specs.Segments.{SegmentDone, Under, none-written, under-uneven, under-refused, under-table, under-short, under-written}
 use borrow.Author.Needs.{needs}
 use Rattle.sheet.proofs.sheet_under.Statement.{statement}

@@ -1,2 +1,0 @@
--- What the writer of house order passes on, in lent numbers
-pub mod Housed
