@@ -184,18 +184,6 @@ pub fn build(table: &[u8], o: &Outline, sets: &Sets, area: &mut [u32]) -> usize 
         o.carriers as u32,
         (o.carriers >> 32) as u32,
     ]);
-    area[WHOLE..records].fill(0);
-    let mut next = [0u32; 48];
-    for p in (0..o.productions).rev() {
-        let left = o.rows[p][0] as usize;
-        area[records + 8 * p + 1] = next[left];
-        next[left] = p as u32 + 1;
-        let mut set = sets.starts[p];
-        while set != 0 {
-            area[WHOLE + 64 * left + set.trailing_zeros() as usize] = p as u32 + 1;
-            set &= set - 1;
-        }
-    }
     let mut w = Writer { words: area, at: waits + 12 * o.productions };
     for p in 0..o.productions {
         write_waits(o, p, &mut w.words[waits + 12 * p..waits + 12 * p + 12]);
@@ -211,5 +199,25 @@ pub fn build(table: &[u8], o: &Outline, sets: &Sets, area: &mut [u32]) -> usize 
         w.words[r + 7] = o.rows[p][1] as u32;
     }
     debug_assert!(END >> 63 == 1);
-    w.at
+    let end = w.at;
+    write_directory(o, sets, area);
+    end
+}
+
+/// The directory and the next-words, the last production first; the records stand already.
+fn write_directory(o: &Outline, sets: &Sets, area: &mut [u32]) {
+    let records = records(o);
+    area[WHOLE..records].fill(0);
+    let mut next = [0u32; 48];
+    for p in (0..o.productions).rev() {
+        let (left, r) = (o.rows[p][0] as usize, records + 8 * p);
+        area[r + 1] = next[left];
+        next[left] = p as u32 + 1;
+        let scheme = if area[r + 5] == 0 { area[r + 6] } else { 0 };
+        let mut set = sets.starts[p];
+        while set != 0 {
+            area[WHOLE + 64 * left + set.trailing_zeros() as usize] = p as u32 + 1 + 256 * scheme;
+            set &= set - 1;
+        }
+    }
 }

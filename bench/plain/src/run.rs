@@ -142,7 +142,7 @@ impl<'a> Machine<'a> {
     }
 
     fn predict(&mut self, n: usize, look: usize) -> Result<(), u32> {
-        let mut p = self.program[WHOLE + 64 * n + look];
+        let mut p = self.program[WHOLE + 64 * n + look] % 256;
         if p == 0 {
             return Err(if look == 63 { 24 } else { 21 });
         }

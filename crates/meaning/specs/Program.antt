@@ -4,11 +4,11 @@ use Prim.Native.Nat.{ℕ, zero, suc, _+_, _-_, _*_}
 use mathlib.Core.Bool.{Bool, true, false, _&&_, cond}
 use mathlib.Core.List.{List, [], _∷_, _++_, map}
 use mathlib.Core.Option.{none, some}
-use lib.ListN.{length, replicate}
+use lib.ListN.{length, take, replicate}
 use lib.Dec.{eqb}
-use Rattle.meaning.specs.Base.{any, countFrom}
+use Rattle.meaning.specs.Base.{any, countFrom, total}
 use Rattle.meaning.specs.Limits.{symbolsLimit}
-use Rattle.meaning.specs.Grammar.{Symbol, terminal, nonterminal, Function, const, copy, binary, binaryNumber, addc, quot, Rule, Condition, range, atmost, Production, Grammar, inh, syn, markedFor, nonterminalCount, ProgramWords, ProgramBuilder}
+use Rattle.meaning.specs.Grammar.{Symbol, terminal, nonterminal, Function, const, copy, binary, binaryNumber, addc, quot, Rule, Condition, range, atmost, Production, Grammar, inh, syn, markedFor, nonterminalCount, productionAt, ProgramWords, ProgramBuilder}
 use Rattle.meaning.specs.Scheme.{Instruction, add, evaluate, expect, test, remove, scheme, entryTests}
 use Rattle.meaning.specs.Sets.{TokenSet, setSize, has, starts}
 use Rattle.meaning.specs.Layout.{unsigned, symbolByte}
@@ -129,19 +129,7 @@ waitRow g p = waitsFrom g (p .left) 0 (p .right) ++ replicate (symbolsLimit - le
 abbrev pub waits : Grammar → ProgramWords
 waits g = concat (map (waitRow g) (g .productions))
 
--- ---- the directory: for a nonterminal and what comes next (63: the end), the first production whose set holds it
-
-abbrev pub directoryWord : Grammar → ℕ → ℕ → ℕ
-directoryWord g n u = firstOf (λ p. eqb (p .left) n && has (starts g p) u) 0 (g .productions)
-
-abbrev pub directory : Grammar → ProgramWords
-directory g = concat (map (λ n. map (directoryWord g n) (countFrom 0 setSize)) (countFrom 0 (nonterminalCount g)))
-
--- ---- the whole
-
--- 02 (e): the terminals that tag 6 names
-abbrev pub carriers : Grammar → TokenSet
-carriers g = map (λ t. any (eqb t) (g .carrying)) (countFrom 0 setSize)
+-- ---- where the sections begin, and a production's body and scheme
 
 abbrev pub directoryAddress : ℕ
 directoryAddress = 9
@@ -154,6 +142,39 @@ waitsAddress g = recordsAddress g + 8 * length (g .productions)
 
 abbrev pub bodiesAddress : Grammar → ℕ
 bodiesAddress g = waitsAddress g + symbolsLimit * length (g .productions)
+
+-- how many words the bodies before the p-th have
+abbrev pub bodiesBefore : Grammar → ℕ → List Production → ℕ
+bodiesBefore g p ps = total (map (bodySize g) (take p ps))
+
+abbrev pub bodyAddress : Grammar → ℕ → ℕ
+bodyAddress g p = bodiesAddress g + bodiesBefore g p (g .productions)
+
+abbrev pub schemeAddress : Grammar → ℕ → ℕ
+schemeAddress g p = bodyAddress g p + schemeOffset g (productionAt g p)
+
+-- ---- the directory: for a nonterminal and what comes next (63: the end), the first production whose set holds it
+
+-- its number plus 1, or 0
+abbrev pub firstAlternative : Grammar → ℕ → ℕ → ℕ
+firstAlternative g n u = firstOf (λ p. eqb (p .left) n && has (starts g p) u) 0 (g .productions)
+
+-- what is said of a production by its number plus 1: that, and 256 times the address of its scheme where it has no entry tests
+abbrev pub entryOf : Grammar → ℕ → ℕ
+entryOf g zero = 0
+entryOf g (suc p) = suc p + 256 * cond (eqb (length (entryTests g (productionAt g p))) 0) (schemeAddress g p) 0
+
+abbrev pub directoryWord : Grammar → ℕ → ℕ → ℕ
+directoryWord g n u = entryOf g (firstAlternative g n u)
+
+abbrev pub directory : Grammar → ProgramWords
+directory g = concat (map (λ n. map (directoryWord g n) (countFrom 0 setSize)) (countFrom 0 (nonterminalCount g)))
+
+-- ---- the whole
+
+-- 02 (e): the terminals that tag 6 names
+abbrev pub carriers : Grammar → TokenSet
+carriers g = map (λ t. any (eqb t) (g .carrying)) (countFrom 0 setSize)
 
 -- the whole segment's scheme: its expect, and a word that says that nothing is left; where the records begin; the number of terminals; the start symbol's registers; the result attribute; the number of productions; the terminals that carry a value, as two words
 abbrev pub segmentWords : Grammar → ProgramWords

@@ -10,8 +10,8 @@ use Rattle.meaning.specs.Program.{programOf}
 segmentRow : take 9 (programOf words) ≡ 3 ∷ 6 ∷ 137 ∷ 3 ∷ 1 ∷ 1 ∷ 4 ∷ 0 ∷ 0 ∷ []
 segmentRow = refl
 
--- L: on word production 1, on open production 2, on close and at the end production 3
-directoryRow : take 3 (drop 73 (programOf words)) ++ drop 136 (take 137 (programOf words)) ≡ 2 ∷ 3 ∷ 4 ∷ 4 ∷ []
+-- L: on word production 1, whose scheme begins at 229, on open production 2, which has an entry test, on close and at the end production 3, whose scheme begins at 262
+directoryRow : take 3 (drop 73 (programOf words)) ++ drop 136 (take 137 (programOf words)) ≡ (2 + 256 * 229) ∷ 3 ∷ (4 + 256 * 262) ∷ (4 + 256 * 262) ∷ []
 directoryRow = refl
 
 -- S to L: left side 0, no other production of it, word, open and the end, body at 217, no entry test, scheme at 218, one symbol

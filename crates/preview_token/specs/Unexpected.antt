@@ -17,7 +17,7 @@ use Rattle.run_moves.specs.declared.Run.{Run}
 use Rattle.run_moves.specs.Held.{Held, bounds, hand-terminal, next-is}
 use Rattle.run_moves.specs.Moves.{after}
 use Rattle.run_moves.specs.Passing.{lookIf}
-use Rattle.run_predict.specs.Entering.{directory-inside, blocked-unexpected}
+use Rattle.run_predict.specs.Entering.{directory-inside, first-zero, blocked-unexpected}
 use Rattle.run_machine.specs.Advancing.{Running, blocked-over, blocked-limit}
 use Rattle.preview_expected.specs.Expected.{expectedBy, expectedAt, Legible}
 use Rattle.preview_token.specs.Passing.{isStopped, letsThrough, PassesAs}
@@ -52,7 +52,7 @@ module _ {g : Grammar} {ws : List ℕ} {lent : Lent} {m : List ℤ} {ps : List �
         (21, next-is h (comes leaf) x limit ∙ ap (λ b. cond b taken (blocked 21)) (ne-eqb operand u z))
 
     no-alternative : u < 63 → number ≡ 3 → getD ws (9 + 64 * operand + u) 0 ≡ 0 → Refuses
-    no-alternative l o z = (_, blocked-unexpected h o u (omega arith) (comes leaf) (sym (ap (λ b. lookIf b u) (ne-eqb u 63 (λ e. omega arith)))) limit z .0)
+    no-alternative l o z = (_, blocked-unexpected h o u (omega arith) (comes leaf) (sym (ap (λ b. lookIf b u) (ne-eqb u 63 (λ e. omega arith)))) limit (first-zero h o u (omega arith) z) .0)
 
   -- its first move is refused: the terminal is another, no alternative holds it, nothing is left; or no move is
   refuses : u < 63 → expectedAt ws (run .at) u ≡ false → Refuses

@@ -20,8 +20,7 @@ pub fn build(
     ensures { λ r. ⌜ ProgramWrote (grammarIn (now (table .entry))) (now (area .entry)) (now (area .exit)) r ⌝ }
 {
     program_segment::write_segment(synthesized, sizes, area);
-    program_directory::write_directory(rows, sets, sizes.nonterminals, sizes.productions, area);
-    program_productions::write_productions(
+    let end = program_productions::write_productions(
         table,
         rows,
         inherited,
@@ -30,5 +29,7 @@ pub fn build(
         sets,
         sizes,
         area,
-    )
+    );
+    program_directory::write_directory(rows, sets, sizes.nonterminals, sizes.productions, area);
+    end
 }

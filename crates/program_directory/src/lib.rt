@@ -3,10 +3,12 @@ ghost use Prim.Native.Nat.{_+_, _≤_, _<_};
 ghost use mathlib.Core.Path.{_≡_};
 ghost use lib.ListN.{length, getD};
 ghost use Rattle.program_block_words.specs.Patch.{Wrote};
-ghost use Rattle.program_words.specs.Directory.{Alternatives, Marked};
+ghost use Rattle.program_words.specs.Directory.{Alternatives, Marked, Recorded, entryAt};
 ghost use Rattle.meaning.specs.Program.{directory};
 use program_parts::DIRECTORY;
 use program_parts::DIRECTORY_WORDS;
+use program_parts::ENTRY_SCHEME;
+use program_parts::RECORD_WORDS;
 use token_set::TokenSet;
 
 // The set whose word stands at an index; none past the end.
@@ -35,7 +37,18 @@ fn mark(set: TokenSet, number: u32, area: &mut [u32], from: usize)
     }
 }
 
-// The last production first, so that the first one of a token stays.
+// What the directory says of a production, by its number plus 1 and the address of its record: the number, and where its scheme begins if it has no entry tests.
+fn entry(area: &[u32], at: usize, number: u32) -> u32
+    requires { ⌜ (at + 8 ≤ length (now area)) × (number ≤ 128) × (getD (now area) (at + 6) 0 ≤ 16384) ⌝ }
+    ensures { λ r. ⌜ r ≡ entryAt (now (area .entry)) at number ⌝ }
+{
+    if area[at + program_parts::TESTS] == 0 {
+        return number + ENTRY_SCHEME as u32 * area[at + program_parts::SCHEME];
+    }
+    number
+}
+
+// Behind the records, which it reads. The last production first, so that the first one of a token stays.
 pub fn write_directory(
     rows: &[u8],
     sets: &[u64],
@@ -43,17 +56,18 @@ pub fn write_directory(
     count: usize,
     area: &mut [u32],
 ) -> usize
-    requires { ⌜ Alternatives (now rows) (now sets) nonterminals count × (16384 ≤ length (now area)) ⌝ }
-    ensures { λ r. ⌜ ((x : Alternatives (now (rows .entry)) (now (sets .entry)) nonterminals count) → Wrote (now (area .entry)) (now (area .exit)) 9 r (directory (x .grammar))) ⌝ }
+    requires { ⌜ ((x : Alternatives (now rows) (now sets) nonterminals count) × Recorded (x .grammar) (now area)) × (16384 ≤ length (now area)) ⌝ }
+    ensures { λ r. ⌜ ((x : Alternatives (now (rows .entry)) (now (sets .entry)) nonterminals count) → Recorded (x .grammar) (now (area .entry)) → Wrote (now (area .entry)) (now (area .exit)) 9 r (directory (x .grammar))) ⌝ }
 {
     let end = DIRECTORY + DIRECTORY_WORDS * nonterminals;
     program_body_counts::clear(area, DIRECTORY, end);
     let mut p = count;
     while 0 < p {
         let left = outline::left_of(rows, p - 1) as usize;
+        let said = entry(area, end + RECORD_WORDS * (p - 1), p as u32);
         mark(
             set_at(sets, p - 1),
-            p as u32,
+            said,
             area,
             DIRECTORY + DIRECTORY_WORDS * left,
         );

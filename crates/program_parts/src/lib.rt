@@ -34,6 +34,9 @@ pub const DIRECTORY: usize = 9;
 // What the directory says of a nonterminal.
 pub const DIRECTORY_WORDS: usize = 64;
 
+// How much the scheme's address counts in a word of the directory; below it stands the production's number plus 1.
+pub const ENTRY_SCHEME: usize = 256;
+
 // A production's record.
 pub const RECORD_WORDS: usize = 8;
 

@@ -1,11 +1,11 @@
--- The directory: zeros, then each production's number plus 1 at the tokens of its set, the last production first, so that the first one stays.
+-- The directory: zeros, then what is said of each production at the tokens of its set, the last production first, so that the first one stays.
 use Prim.Native.Nat.{ℕ, zero, suc, _+_, _-_, _*_, _/_, _%_, _^_, _≤_, _<_}
 use native.Mathlib.Nat.{div-eq-of-lt, div-one, zero-div, lt-of-lt-of-le, not-suc-le-zero, pow-suc}
 use native.Mathlib.Numerals.{one-add}
 use lib.Count.{trailingZeros, under}
 use native.Mathlib.Omega.{arith}
 use native.Mathlib.Decide.{decLt, ℕ-discrete}
-use mathlib.Core.Path.{_≡_, refl, sym, ap, _∙_, subst}
+use mathlib.Core.Path.{_≡_, refl, sym, ap, ap₂, _∙_, subst}
 use mathlib.Core.Logic.{_⊎_, inl, inr}
 use mathlib.Core.Bool.{Bool, true, false, _&&_, cond}
 use mathlib.Core.List.{List, _∷_}
@@ -16,13 +16,14 @@ use lib.Dec.{eqb, ltb}
 use borrow.Author.Tests.{lt-ltb, le-ltb, eq-eqb, ne-eqb}
 use Rattle.meaning.specs.Grammar.{Production, Grammar, wholeProduction, nonterminalCount, productionAt}
 use Rattle.meaning.specs.Sets.{has, starts}
-use Rattle.meaning.specs.Program.{firstOf, directory, directoryWord}
+use Rattle.meaning.specs.Scheme.{entryTests}
+use Rattle.meaning.specs.Program.{firstOf, directory, directoryWord, entryOf, schemeAddress}
 use Rattle.theory_base.specs.WellFormed.{listed-at, well-formed-at}
 use Rattle.token_set.specs.SetBits.{bit, has-bit}
 use Rattle.outline.specs.declared.Sizes.{Sizes}
 use Rattle.outline.specs.Rows.{Rows, leftAt}
 use Rattle.outline.specs.Outline.{grammarIn, Starting, Outlined}
-use Rattle.theory_program.specs.Addresses.{row-at, directory-length}
+use Rattle.theory_program.specs.Addresses.{row-at, directory-length, recordAddress}
 use Rattle.program_block_words.specs.Patch.{patch, Wrote, patch-length, patch-before, patch-inside, patch-behind}
 
 -- what is brought of the productions as alternatives of their left sides
@@ -136,7 +137,7 @@ startsOf g n u q = eqb (q .left) n && has (starts g q) u
 
 pub record Filled (g : Grammar) (old area : List ℕ) (p : ℕ) : Type 0 where
   pub size : length area ≡ length old
-  pub words : (n u : ℕ) → n < nonterminalCount g → u < 64 → getD area (9 + 64 * n + u) 0 ≡ firstOf (startsOf g n u) p (drop p (g .productions))
+  pub words : (n u : ℕ) → n < nonterminalCount g → u < 64 → getD area (9 + 64 * n + u) 0 ≡ entryOf g (firstOf (startsOf g n u) p (drop p (g .productions)))
   pub outside : (i : ℕ) → (i < 9) ⊎ (9 + 64 * nonterminalCount g ≤ i) → getD area i 0 ≡ getD old i 0
 
 module _ (g : Grammar) (old : List ℕ) (room : 9 + 64 * nonterminalCount g ≤ length old) where
@@ -146,7 +147,7 @@ module _ (g : Grammar) (old : List ℕ) (room : 9 + 64 * nonterminalCount g ≤ 
     words = λ n u m h.
         ap (λ i. getD (patch old 9 (zeros (64 * nonterminalCount g))) i 0) (place n u)
         ∙ (patch-inside old 9 (zeros (64 * nonterminalCount g)) (64 * n + u) (omega (arith, wide)) (omega (arith, wide))
-        ∙ (getD-replicate (64 * nonterminalCount g) (64 * n + u) nought 0 (omega arith) ∙ sym (ap (firstOf (startsOf g n u) p) (drop-of-length-le (g .productions) {i = p} l))));
+        ∙ (getD-replicate (64 * nonterminalCount g) (64 * n + u) nought 0 (omega arith) ∙ sym (ap (λ qs. entryOf g (firstOf (startsOf g n u) p qs)) (drop-of-length-le (g .productions) {i = p} l))));
     outside = go;
   }
     where
@@ -184,7 +185,7 @@ module _ (g : Grammar) (old : List ℕ) (room : 9 + 64 * nonterminalCount g ≤ 
 
 -- one production more
 pub filled-turn : {rows sets : List ℕ} {nonterminals count : ℕ} (x : Alternatives rows sets nonterminals count) {old area new : List ℕ} (p b : ℕ)
-    → p < count → b ≡ leftAt rows p → Filled (x .grammar) old area (p + 1) → Marked area new (9 + 64 * b) (getD sets p 0) (p + 1) 64 → Filled (x .grammar) old new p
+    → p < count → b ≡ leftAt rows p → Filled (x .grammar) old area (p + 1) → Marked area new (9 + 64 * b) (getD sets p 0) (entryOf (x .grammar) (p + 1)) 64 → Filled (x .grammar) old new p
 filled-turn {rows} {sets} {nonterminals} {count} x {old} {area} {new} p b l eb f m = record { size = m .size ∙ f .size; words = λ n u k h. go n u k h (ℕ-discrete n b); outside = λ i k. m .outside i (beyond i k) ∙ f .outside i k }
   where
     g : Grammar
@@ -213,10 +214,10 @@ filled-turn {rows} {sets} {nonterminals} {count} x {old} {area} {new} p b l eb f
     next = omega arith
 
     -- the word by whether the production starts with u
-    word : (n u : ℕ) → firstOf (startsOf g n u) p (drop p (g .productions)) ≡ cond (startsOf g n u pr) (p + 1) (firstOf (startsOf g n u) (p + 1) (drop (p + 1) (g .productions)))
-    word n u = rw (here, next) (by (startsOf g n u pr))
+    word : (n u : ℕ) → entryOf g (firstOf (startsOf g n u) p (drop p (g .productions))) ≡ cond (startsOf g n u pr) (entryOf g (p + 1)) (entryOf g (firstOf (startsOf g n u) (p + 1) (drop (p + 1) (g .productions))))
+    word n u = ap (λ qs. entryOf g (firstOf (startsOf g n u) p qs)) here ∙ (by (startsOf g n u pr) ∙ ap (λ k. cond (startsOf g n u pr) (entryOf g k) (entryOf g (firstOf (startsOf g n u) k (drop k (g .productions))))) (sym next))
       where
-        by : (c : Bool) → _≡_ {A = ℕ} (elim c [ true ↦ suc p | false ↦ firstOf (startsOf g n u) (suc p) (drop (suc p) (g .productions)) ]) (cond c (suc p) (firstOf (startsOf g n u) (suc p) (drop (suc p) (g .productions))))
+        by : (c : Bool) → _≡_ {A = ℕ} (entryOf g (elim c [ true ↦ suc p | false ↦ firstOf (startsOf g n u) (suc p) (drop (suc p) (g .productions)) ])) (cond c (entryOf g (suc p)) (entryOf g (firstOf (startsOf g n u) (suc p) (drop (suc p) (g .productions)))))
         by true = refl
         by false = refl
 
@@ -224,10 +225,32 @@ filled-turn {rows} {sets} {nonterminals} {count} x {old} {area} {new} p b l eb f
     away n u h d (yes k) = inl (omega arith)
     away n u h d (no k) = inr (omega arith)
 
-    go : (n u : ℕ) → n < nonterminalCount g → u < 64 → Dec (n ≡ b) → getD new (9 + 64 * n + u) 0 ≡ firstOf (startsOf g n u) p (drop p (g .productions))
+    go : (n u : ℕ) → n < nonterminalCount g → u < 64 → Dec (n ≡ b) → getD new (9 + 64 * n + u) 0 ≡ entryOf g (firstOf (startsOf g n u) p (drop p (g .productions)))
     go n u k h (yes e) =
-        let c : startsOf g n u pr ≡ eqb (getD sets p 0 / 2 ^ u % 2) 1 = rw (eq-eqb (pr .left) n (sym left-is ∙ sym e)) (sym (start-bit (x .grammar) count sets (x .starting) p u l h)) in
-        rw (word n u, c) (ap (λ j. getD new (9 + 64 * j + u) 0) e ∙ (m .inside u h ∙ (rw (lt-ltb u 64 h) (ap (cond (eqb (getD sets p 0 / 2 ^ u % 2) 1) (p + 1)) (ap (λ j. getD area (9 + 64 * j + u) 0) (sym e) ∙ f .words n u k h)))))
+        let z : Bool = eqb (getD sets p 0 / 2 ^ u % 2) 1 in
+        let rest : ℕ = entryOf g (firstOf (startsOf g n u) (p + 1) (drop (p + 1) (g .productions))) in
+        let c : z ≡ startsOf g n u pr = sym (rw (eq-eqb (pr .left) n (sym left-is ∙ sym e)) (sym (start-bit (x .grammar) count sets (x .starting) p u l h))) in
+        let was : getD area (9 + 64 * b + u) 0 ≡ rest = ap (λ j. getD area (9 + 64 * j + u) 0) (sym e) ∙ f .words n u k h in
+        let made : getD new (9 + 64 * b + u) 0 ≡ cond z (entryOf g (p + 1)) rest = m .inside u h ∙ (ap (λ v. cond (v && z) (entryOf g (p + 1)) (getD area (9 + 64 * b + u) 0)) (lt-ltb u 64 h) ∙ ap (cond z (entryOf g (p + 1))) was) in
+        ap (λ j. getD new (9 + 64 * j + u) 0) e ∙ (made ∙ (ap (λ v. cond v (entryOf g (p + 1)) rest) c ∙ sym (word n u)))
     go n u k h (no d) =
+        let rest : ℕ = entryOf g (firstOf (startsOf g n u) (p + 1) (drop (p + 1) (g .productions))) in
         let c : startsOf g n u pr ≡ false = rw (ne-eqb (pr .left) n (λ q. d (sym q ∙ sym left-is))) refl in
-        rw (word n u, c) (m .outside (9 + 64 * n + u) (away n u h d (decLt n b)) ∙ f .words n u k h)
+        m .outside (9 + 64 * n + u) (away n u h d (decLt n b)) ∙ (f .words n u k h ∙ (sym (ap (λ v. cond v (entryOf g (p + 1)) rest) c) ∙ sym (word n u)))
+
+-- ---- what the records say of a production
+
+-- its number of entry tests and where its scheme begins stand in its record
+abbrev pub Recorded : Grammar → List ℕ → Type 0
+Recorded g area = (p : ℕ) → p < length (g .productions) → (getD area (recordAddress g p + 5) 0 ≡ length (entryTests g (productionAt g p))) × (getD area (recordAddress g p + 6) 0 ≡ schemeAddress g p)
+
+-- what the directory says of it, by the address of its record and its number plus 1
+abbrev pub entryAt : List ℕ → ℕ → ℕ → ℕ
+entryAt area r k = k + 256 * cond (eqb (getD area (r + 5) 0) 0) (getD area (r + 6) 0) 0
+
+pub entry-recorded : (g : Grammar) (area : List ℕ) → Recorded g area → (p : ℕ) → p < length (g .productions) → entryAt area (recordAddress g p) (suc p) ≡ entryOf g (suc p)
+entry-recorded g area r p l = let k = r p l in ap₂ (λ t a. suc p + 256 * cond (eqb t 0) a 0) (k .0) (k .1)
+
+-- the directory is written in front of the records
+pub recorded-kept : {g : Grammar} {old area : List ℕ} {p : ℕ} → Filled g old area p → Recorded g old → Recorded g area
+recorded-kept {g} f r q l = (f .outside (recordAddress g q + 5) (inr (omega arith)) ∙ r q l .0, f .outside (recordAddress g q + 6) (inr (omega arith)) ∙ r q l .1)

@@ -1,6 +1,6 @@
 -- The fields of one production: its row, where its rules and conditions stand in the table, and what the outline says of both
 pub mod Fields
--- The directory: zeros, then each production's number plus 1 at the tokens of its set, the last production first, so that the first one stays
+-- The directory: zeros, then what is said of each production at the tokens of its set, the last production first, so that the first one stays
 pub mod Directory
 -- The records and the bodies, one production after the other
 pub mod Records

@@ -5,20 +5,22 @@ use mathlib.Core.Path.{_≡_, refl, sym, ap, ap₂, _∙_, subst}
 use mathlib.Core.Bool.{Bool, false}
 use mathlib.Core.List.{List, [], _∷_, _++_, append-assoc}
 use lib.ListN.{length, getD, drop, length-append, length-drop, length-take}
-use Rattle.meaning.specs.Grammar.{Production, Grammar, nonterminalCount, productionAt}
+use Rattle.meaning.specs.Grammar.{Production, Grammar, nonterminalCount, productionAt, wholeProduction}
 use Rattle.meaning.specs.Layout.{Bytes}
 use Rattle.meaning.specs.Rules.{WellFormed}
 use Rattle.meaning.specs.PublicCalls.{written}
 use Rattle.meaning.specs.Scheme.{entryTests}
 use Rattle.meaning.specs.Sets.{has, starts}
 use lib.Dec.{eqb}
-use Rattle.meaning.specs.Program.{firstOf, setBits, schemeOffset, waitRow, recordsFrom, bodiesFrom, bodySize, waits, directory, recordsAddress, waitsAddress, bodiesAddress, segmentWords, programOf}
-use Rattle.theory_base.specs.WellFormed.{well-formed-at}
-use Rattle.theory_program.specs.Addresses.{records-length, body-length, bodies-length, wait-row-length, waits-length, directory-length, short-productions}
+use Rattle.meaning.specs.Program.{firstOf, entryOf, setBits, schemeOffset, bodyAddress, recordWords, waitRow, recordsFrom, bodiesFrom, bodySize, waits, directory, recordsAddress, waitsAddress, bodiesAddress, segmentWords, programOf}
+use Rattle.theory_base.specs.WellFormed.{listed-at, well-formed-at}
+use Rattle.theory_program.specs.WordsStand.{stands-word}
+use Rattle.theory_program.specs.SmallWords.{scheme-below}
+use Rattle.theory_program.specs.Addresses.{recordAddress, record-in, records-length, body-length, bodies-length, wait-row-length, waits-length, directory-length, short-productions}
 use Rattle.theory_program.specs.Code.{conditions-length}
 use Rattle.theory_program.specs.Proper.{production-in}
 use Rattle.theory_program.specs.Sizes.{program-length, program-fits}
-use Rattle.program_block_words.specs.Patch.{patch, patch-none, patch-length, patch-append, patch-swap, Wrote, wrote-as, wrote-then, wrote-ahead, wrote-length, patch-written}
+use Rattle.program_block_words.specs.Patch.{patch, patch-none, patch-length, patch-before, patch-inside, patch-append, patch-swap, Wrote, wrote-as, wrote-then, wrote-ahead, wrote-length, patch-written}
 use Rattle.program_block_words.specs.Chains.{Listing, Found}
 use Rattle.program_body_words.specs.OfProduction.{OfProduction, listedOf, BodyFits, BodyWrote}
 use Rattle.program_body_words.specs.Laws.{patch-beside}
@@ -29,7 +31,7 @@ use Rattle.outline.specs.Rows.{Rows, HasRow, rowAt, leftAt, sizeAt, size-is, im
 use Rattle.outline.specs.Outline.{grammarIn, Productions, Outlined}
 use Rattle.program_words.specs.Most.{rules-most, conditions-most, fields-long}
 use Rattle.program_words.specs.Fields.{stretchEnd, fieldsFrom, fieldsAt, fields-place, given-at}
-use Rattle.program_words.specs.Directory.{Alternatives, start-bit, zeros, Marked, Filled, filled-start, filled-turn, filled-end}
+use Rattle.program_words.specs.Directory.{Alternatives, Recorded, entryAt, entry-recorded, recorded-kept, start-bit, zeros, Marked, Filled, filled-start, filled-turn, filled-end}
 use Rattle.program_words.specs.Records.{two-words, sameLeft, NextOf, Growing, growing-start, growing-as, growing-turn, growing-end, restRecords, restBodies, recordAt, bodyAt, records-turn, bodies-turn, records-end, bodies-end}
 use Rattle.program_words.specs.Waits.{waitFrom, waitAt, restWaits, waits-turn, waits-end}
 use Rattle.program_words.specs.Built.{well-formed, count-is, LinksFit, RecordFits, ProductionFits, ProductionWrote, ProductionsWrote}
@@ -39,7 +41,7 @@ use Rattle.program_words.specs.Built.{well-formed, count-is, LinksFit, R
 module _ (rows sets : List ℕ) (nonterminals count : ℕ) (old : List ℕ) where
   -- the productions from p on stand in the directory
   pub record DirectoryGo (p : ℕ) (area : List ℕ) : Type 0 where
-    pub go : (x : Alternatives rows sets nonterminals count) → Filled (x .grammar) old area p
+    pub go : (x : Alternatives rows sets nonterminals count) → Recorded (x .grammar) old → Filled (x .grammar) old area p
 
 module _ {rows sets : List ℕ} {nonterminals count : ℕ} (x : Alternatives rows sets nonterminals count) where
   pub nonterminals-few : nonterminals ≤ 48
@@ -55,26 +57,42 @@ module _ {rows : List ℕ} {count : ℕ} {g : Grammar} (x : Rows rows count g) w
 module _ {rows sets : List ℕ} {nonterminals count : ℕ} {old : List ℕ} (long : 16384 ≤ length old) where
   pub directory-start : {area : List ℕ} → area ≡ patch old 9 (zeros (9 + 64 * nonterminals - 9)) → DirectoryGo rows sets nonterminals count old count area
   directory-start e = record {
-    go = λ x.
+    go = λ x r.
         let same : 9 + 64 * nonterminals - 9 ≡ 64 * nonterminalCount (x .grammar) = omega (arith, x .isNonterminals) in
         subst (λ z. Filled (x .grammar) old z count) (sym (e ∙ ap (λ z. patch old 9 (zeros z)) same)) (filled-start (x .grammar) old (omega (arith, long, x .rowsOf .sound .nonterminals .1)) count (omega (arith, x .rowsOf .counted)));
   }
 
   module _ {p : ℕ} {area : List ℕ} (d : DirectoryGo rows sets nonterminals count old p area) where
-    pub directory-size : Alternatives rows sets nonterminals count → length area ≡ length old
-    directory-size x = d .go x .size
+    module _ (x : Alternatives rows sets nonterminals count) (r : Recorded (x .grammar) old) where
+      pub directory-size : length area ≡ length old
+      directory-size = d .go x r .size
 
-    pub directory-turn : {new : List ℕ} {b s : ℕ} → 0 < p → p ≤ count → b ≡ leftAt rows (p - 1) → s ≡ getD sets (p - 1) 0 → Marked area new (9 + 64 * b) s p 64 → DirectoryGo rows sets nonterminals count old (p - 1) new
-    directory-turn {new} {b} {s} l m eb es k = record {
-      go = λ x.
+      -- what is said of the production at hand
+      pub directory-entry : 0 < p → p ≤ count → entryAt area (9 + 64 * nonterminals + 8 * (p - 1)) p ≡ entryOf (x .grammar) p
+      directory-entry l m =
+          let at : 9 + 64 * nonterminals + 8 * (p - 1) ≡ recordAddress (x .grammar) (p - 1) = omega (arith, x .isNonterminals) in
+          let e : suc (p - 1) ≡ p = omega arith in
+          subst (λ k. entryAt area (9 + 64 * nonterminals + 8 * (p - 1)) k ≡ entryOf (x .grammar) k) e
+          (ap (λ a. entryAt area a (suc (p - 1))) at ∙ entry-recorded (x .grammar) area (recorded-kept (d .go x r) r) (p - 1) (omega (arith, x .rowsOf .counted)))
+
+      pub directory-scheme : 0 < p → p ≤ count → getD area (9 + 64 * nonterminals + 8 * (p - 1) + 6) 0 ≤ 16384
+      directory-scheme l m =
+          let at : 9 + 64 * nonterminals + 8 * (p - 1) + 6 ≡ recordAddress (x .grammar) (p - 1) + 6 = omega (arith, x .isNonterminals) in
+          let listed : p - 1 < length (x .grammar .productions) = omega (arith, x .rowsOf .counted) in
+          omega (arith, ap (λ a. getD area a 0) at, recorded-kept (d .go x r) r (p - 1) listed .1, scheme-below (x .grammar) (x .rowsOf .sound) (p - 1) listed)
+
+    pub directory-turn : {new : List ℕ} {b s n : ℕ} → 0 < p → p ≤ count → b ≡ leftAt rows (p - 1) → s ≡ getD sets (p - 1) 0 → n ≡ entryAt area (9 + 64 * nonterminals + 8 * (p - 1)) p → Marked area new (9 + 64 * b) s n 64 → DirectoryGo rows sets nonterminals count old (p - 1) new
+    directory-turn {new} {b} {s} {n} l m eb es en k = record {
+      go = λ x r.
           let e : p ≡ p - 1 + 1 = omega arith in
-          filled-turn x (p - 1) b (omega arith) eb (subst (λ z. Filled (x .grammar) old area z) e (d .go x)) (subst (λ z. Marked area new (9 + 64 * b) (getD sets (p - 1) 0) z 64) e (subst (λ z. Marked area new (9 + 64 * b) z p 64) es k));
+          let said : n ≡ entryOf (x .grammar) (p - 1 + 1) = en ∙ (directory-entry x r l m ∙ ap (entryOf (x .grammar)) e) in
+          filled-turn x (p - 1) b (omega arith) eb (subst (λ z. Filled (x .grammar) old area z) e (d .go x r)) (subst (λ z. Marked area new (9 + 64 * b) (getD sets (p - 1) 0) z 64) said (subst (λ z. Marked area new (9 + 64 * b) z n 64) es k));
     }
 
-    pub directory-end : p ≡ 0 → (x : Alternatives rows sets nonterminals count) → Wrote old area 9 (9 + 64 * nonterminals) (directory (x .grammar))
-    directory-end z x =
+    pub directory-end : p ≡ 0 → (x : Alternatives rows sets nonterminals count) → Recorded (x .grammar) old → Wrote old area 9 (9 + 64 * nonterminals) (directory (x .grammar))
+    directory-end z x r =
         let e : 9 + 64 * nonterminalCount (x .grammar) ≡ 9 + 64 * nonterminals = omega (arith, x .isNonterminals) in
-        subst (λ n. Wrote old area 9 n (directory (x .grammar))) e (filled-end (x .grammar) old (omega (arith, long, x .rowsOf .sound .nonterminals .1)) (subst (λ n. Filled (x .grammar) old area n) z (d .go x)))
+        subst (λ n. Wrote old area 9 n (directory (x .grammar))) e (filled-end (x .grammar) old (omega (arith, long, x .rowsOf .sound .nonterminals .1)) (subst (λ n. Filled (x .grammar) old area n) z (d .go x r)))
 
 -- ---- a record
 
@@ -377,16 +395,39 @@ module _ {table : List ℕ} {sizes : Sizes} {inherited synthesized rows offsets 
 pub productions-length : (g : Grammar) (old : List ℕ) {new : List ℕ} {next : ℕ} → ProductionsWrote g (withWaits g old) new next → length new ≡ length old
 productions-length g old w = wrote-length (w .bodied) ∙ (wrote-length (w .recorded) ∙ patch-length old (waitsAddress g) (waits g))
 
+-- what the records say of a production, for the directory
+pub productions-recorded : (g : Grammar) (old : List ℕ) {new : List ℕ} {next : ℕ} → WellFormed g → 16384 ≤ length old → ProductionsWrote g (withWaits g old) new next → Recorded g new
+productions-recorded g old {new} w long k p l = (word 5 (omega arith) ∙ ap (λ q. length (entryTests g q)) same, word 6 (omega arith) ∙ ap (λ q. bodyAddress g p + schemeOffset g q) same)
+  where
+    same : getD (g .productions) p (wholeProduction g) ≡ productionAt g p
+    same = sym (listed-at g w p l)
+
+    words : List ℕ
+    words = recordWords g (bodyAddress g p) p (getD (g .productions) p (wholeProduction g)) (drop (suc p) (g .productions))
+
+    room : recordsAddress g + length (allRecords g) ≤ length (withWaits g old)
+    room = omega (arith, records-length g (bodiesAddress g) 0 (g .productions), patch-length old (waitsAddress g) (waits g), w .nonterminals .1, w .productions .1, long)
+
+    word : (i : ℕ) → i < 8 → getD new (recordAddress g p + i) 0 ≡ getD words i 0
+    word i m =
+        let stands = record-in g (bodiesAddress g) 0 (g .productions) p (wholeProduction g) (bodyAddress g p) p l refl (omega arith) in
+        let at : recordAddress g p + i ≡ recordsAddress g + (8 * p + i) = omega arith in
+        ap (λ z. getD z (recordAddress g p + i) 0) (k .bodied .memory)
+        ∙ (patch-before (k .between) (bodiesAddress g) (allBodies g) (recordAddress g p + i) (omega arith)
+        ∙ (ap₂ (λ z j. getD z j 0) (k .recorded .memory) at
+        ∙ (patch-inside (withWaits g old) (recordsAddress g) (allRecords g) (8 * p + i) room (omega (arith, records-length g (bodiesAddress g) 0 (g .productions)))
+        ∙ stands-word stands i m)))
+
 -- ---- the whole
 
 pub program-written : {table : List ℕ} {sizes : Sizes} {inherited synthesized rows offsets sets : List ℕ} (x : Outlined table sizes inherited synthesized rows offsets sets) {old a b new : List ℕ} {s d r : ℕ} → 16384 ≤ length old
-    → Wrote old a 0 s (segmentWords (grammarIn table)) → Wrote a b 9 d (directory (grammarIn table)) → ProductionsWrote (grammarIn table) (withWaits (grammarIn table) b) new r
+    → Wrote old a 0 s (segmentWords (grammarIn table)) → ProductionsWrote (grammarIn table) (withWaits (grammarIn table) a) b r → Wrote b new 9 d (directory (grammarIn table))
     → (new ≡ written (programOf (grammarIn table)) old) × (r ≡ length (programOf (grammarIn table)))
-program-written {table} x {old} {a} {b} {new} {s} {d} {r} long f h k =
+program-written {table} x {old} {a} {b} {new} {s} {d} {r} long f k h =
     let g = grammarIn table in
     let f′ : Wrote old a 0 9 (segmentWords g) = record { memory = f .memory; address = refl } in
-    let h′ : Wrote a b 9 (recordsAddress g) (directory g) = record { memory = h .memory; address = omega (arith, directory-length g) } in
-    let v′ : Wrote b (withWaits g b) (waitsAddress g) (bodiesAddress g) (waits g) = record { memory = refl; address = omega (arith, waits-length g (g .productions) (short-productions (well-formed (x .outline)))) } in
+    let h′ : Wrote b new 9 (recordsAddress g) (directory g) = record { memory = h .memory; address = omega (arith, directory-length g) } in
+    let v′ : Wrote a (withWaits g a) (waitsAddress g) (bodiesAddress g) (waits g) = record { memory = refl; address = omega (arith, waits-length g (g .productions) (short-productions (well-formed (x .outline)))) } in
     let behind = wrote-as (append-assoc (allRecords g) (waits g) (allBodies g)) (wrote-then (wrote-ahead v′ (k .recorded)) (k .bodied)) in
-    let all = wrote-then f′ (wrote-then h′ behind) in
+    let all = wrote-then f′ (wrote-ahead behind h′) in
     (all .memory ∙ patch-written old (programOf g) (omega (arith, program-fits g (well-formed (x .outline)), long)), all .address ∙ omega arith)

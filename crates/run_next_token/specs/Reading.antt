@@ -12,12 +12,12 @@ use Rattle.meaning.specs.Base.{any}
 use Rattle.meaning.specs.Grammar.{Grammar, carried}
 use Rattle.meaning.specs.Value.{mark}
 use Rattle.meaning.specs.Calls.{isMark, tokensFrom}
-use Rattle.meaning.specs.Machine.{Config, Lent, Coming, comes, Settled, next, movesLimit}
+use Rattle.meaning.specs.Machine.{Config, Lent, comes, Settled, next, movesLimit}
 use Rattle.theory_base.specs.Members.{true→T, both}
 use Rattle.theory_answers.specs.ShapeMoves.{IsAhead}
 use Rattle.theory_program.specs.Addresses.{Begins}
 use Rattle.theory_program.specs.Records.{carrier-word}
-use Rattle.run_looking.specs.Judging.{looks, judgedOf, carriesAt, valueAt, value-none}
+use Rattle.run_looking.specs.Judging.{looks, judgedOf, carriesAt, value-none}
 use Rattle.run_moves.specs.declared.Run.{Run}
 use Rattle.run_moves.specs.declared.Step.the-variants.{Moved}
 use Rattle.run_moves.specs.Held.{Held, Made, Answers}

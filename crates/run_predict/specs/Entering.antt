@@ -3,24 +3,25 @@ use Prim.Native.Nat.{ℕ, zero, suc, _+_, _-_, _*_, _/_, _%_, _≤_, _<_}
 use native.Mathlib.Omega.{arith}
 use mathlib.Core.Path.{_≡_, refl, sym, ap, ap₂, _∙_, subst}
 use mathlib.Core.Logic.{inl}
-use mathlib.Core.Bool.{Bool, true, false, cond}
+use mathlib.Core.Bool.{Bool, true, false, _&&_, cond}
 use mathlib.Core.List.{List, [], _∷_, map}
 use lib.ListN.{length, getD, set, length-map}
-use lib.Dec.{T}
+use lib.Dec.{T, eqb, eqb→eq}
 use lib.IntN.{ℤ}
-use borrow.Author.Tests.{lt-ltb, le-ltb}
-use Rattle.meaning.specs.Base.{In, keep, isEmpty, countFrom}
-use Rattle.meaning.specs.Grammar.{Grammar, nonterminal, productionAt}
-use Rattle.meaning.specs.Scheme.{expect}
+use borrow.Author.Tests.{lt-ltb, le-ltb, eq-eqb}
+use Rattle.meaning.specs.Base.{In, all, keep, isEmpty, countFrom}
+use Rattle.meaning.specs.Grammar.{Grammar, Condition, nonterminal, productionAt}
+use Rattle.meaning.specs.Value.{holds}
+use Rattle.meaning.specs.Scheme.{expect, entryTests}
 use Rattle.meaning.specs.Sets.{has, starts}
-use Rattle.meaning.specs.Machine.{Config, Lent, Coming, asLook, predict, lookNumber, moved, blocked, step, next, push, unexpected, isOf, alternatives, entered, placeOf, schemeAt, movesLimit}
+use Rattle.meaning.specs.Machine.{Config, Lent, Coming, asLook, predict, lookNumber, moved, blocked, step, next, push, unexpected, isOf, alternatives, entered, placeOf, schemeAt, movesLimit, readRegister}
 use Rattle.meaning.specs.Part.{frame, config}
-use Rattle.meaning.specs.Program.{directoryWord}
-use Rattle.theory_base.specs.Members.{T→true, in-keep, from-in}
+use Rattle.meaning.specs.Program.{firstAlternative, entryOf, directoryWord}
+use Rattle.theory_base.specs.Members.{T→true, true→T, in-keep, from-in}
 use Rattle.theory_answers.specs.ShapeMoves.{IsAhead, shape-move}
 use Rattle.theory_program.specs.WordsStand.{stands-within}
 use Rattle.theory_program.specs.Addresses.{record-at, directory-at, schemeAddress}
-use Rattle.theory_program.specs.Search.{firstNumber, first-none, first-some, directory-none, directory-listed, found, found-start}
+use Rattle.theory_program.specs.Search.{firstNumber, first-none, first-some, directory-none, directory-listed, entry-number, entry-high, passes, found, found-start, found-stop}
 use Rattle.run_registers.specs.Stack.{stack}
 use Rattle.run_registers.specs.Laid.{laid-stack, laid-push}
 use Rattle.run_moves.specs.declared.Run.{Run}
@@ -37,6 +38,24 @@ abbrev pub tokensOf : Run → Step → ℕ
 tokensOf run (Moved run′) = run′ .tokens
 tokensOf run (Blocked k) = run .tokens
 
+-- the step by whether all places are taken, and the places after it: that of production p - 1 is pushed
+abbrev pub stepBy : Bool → Run → ℕ → Step
+stepBy true run a = Blocked 32
+stepBy false run a = Moved (record { tokens = run .tokens; moves = run .moves + 1; registers = run .registers; places = run .places + 1; at = a })
+
+abbrev pub enteredBy : Run → ℕ → ℕ → Step
+enteredBy run a n = stepBy (eqb (run .places) n) run a
+
+abbrev pub placed : ℕ → ℕ → List ℕ → List ℕ
+placed k p ps = cond (eqb k (length ps)) ps (set ps k (256 * (p - 1)))
+
+pub entered-tokens : (run : Run) (a n : ℕ) → tokensOf run (enteredBy run a n) ≡ run .tokens
+entered-tokens run a n = go (eqb (run .places) n)
+  where
+    go : (b : Bool) → tokensOf run (stepBy b run a) ≡ run .tokens
+    go true = refl
+    go false = refl
+
 empty-push : (g : Grammar) (lent : Lent) (c : Config) (ps : List ℕ) → isEmpty ps ≡ true → push g lent c ps ≡ blocked 22
 empty-push g lent c [] e = refl
 empty-push g lent c (p ∷ ps) e = let z : _≡_ {A = ℕ} 0 1 = cc in absurd (omega arith)
@@ -45,8 +64,12 @@ module _ {g : Grammar} {ws : List ℕ} {lent : Lent} {m : List ℤ} {ps : List �
   abbrev wanted : ℕ
   wanted = getD ws (run .at) 0 / 8
 
+  -- the directory's word, and the number in it
+  abbrev entry : ℕ
+  entry = getD ws (9 + 64 * wanted + u) 0
+
   abbrev first : ℕ
-  first = getD ws (9 + 64 * wanted + u) 0
+  first = entry % 256
 
   hand : Hand g ws (run .at) c (expect (nonterminal wanted))
   hand = hand-nonterminal h o
@@ -54,8 +77,25 @@ module _ {g : Grammar} {ws : List ℕ} {lent : Lent} {m : List ℤ} {ps : List �
   pub directory-inside : 9 + 64 * wanted + u < length ws
   directory-inside = omega (arith, hand-proper h hand, stands-within (record-at (h .begins) (h .wellFormed) 0 (h .wellFormed .productions .0)))
 
-  first-is : first ≡ directoryWord g wanted (lookNumber (lookOf u))
-  first-is = directory-at (h .begins) wanted u (hand-proper h hand) small ∙ ap (directoryWord g wanted) (sym (look-number u))
+  abbrev alternative : ℕ
+  alternative = firstAlternative g wanted (lookNumber (lookOf u))
+
+  alternative-small : alternative < 256
+  alternative-small = go alternative refl
+    where
+      go : (k : ℕ) → alternative ≡ k → k < 256
+      go zero e = omega arith
+      go (suc q) e = omega (arith, directory-listed g (h .wellFormed) wanted (lookOf u) q e .0, h .wellFormed .productions .1)
+
+  entry-is : entry ≡ entryOf g alternative
+  entry-is = directory-at (h .begins) wanted u (hand-proper h hand) small ∙ ap (directoryWord g wanted) (sym (look-number u))
+
+  first-is : first ≡ alternative
+  first-is = ap (λ w. w % 256) entry-is ∙ entry-number g alternative alternative-small
+
+  -- a word that says 0
+  pub first-zero : entry ≡ 0 → first ≡ 0
+  first-zero e = ap (λ w. w % 256) e
 
   pub first-leads : Leads g ws (stack (run .registers) m) wanted first
   first-leads =
@@ -81,6 +121,34 @@ module _ {g : Grammar} {ws : List ℕ} {lent : Lent} {m : List ℤ} {ps : List �
   -- what a search from there finds
   pub found-first : (p f : ℕ) → f ≡ first → ((g : Grammar) (n : ℕ) → Leads g ws (stack (run .registers) m) n f → p ≡ found g (stack (run .registers) m) n (lookOf u) f) → p ≡ found g (stack (run .registers) m) wanted (lookOf u) first
   found-first p f e k = k g wanted (subst (Leads g ws (stack (run .registers) m) wanted) (sym e) first-leads) ∙ ap (found g (stack (run .registers) m) wanted (lookOf u)) e
+
+  -- a word that says where the scheme begins: the production has no entry tests
+  module _ (high : 256 ≤ entry) where
+    abbrev told : (q : ℕ) × (alternative ≡ suc q) × (length (entryTests g (productionAt g q)) ≡ 0) × (entryOf g alternative / 256 ≡ schemeAddress g q)
+    told = entry-high g alternative alternative-small (omega (arith, entry-is, high))
+
+    is-told : first ≡ suc (told .0)
+    is-told = first-is ∙ told .1
+
+    told-listed : (told .0 < length (g .productions)) × (productionAt g (told .0) .left ≡ wanted) × T (has (starts g (productionAt g (told .0))) (lookNumber (lookOf u)))
+    told-listed = directory-listed g (h .wellFormed) wanted (lookOf u) (told .0) (told .1)
+
+    pub told-found : first ≡ found g (stack (run .registers) m) wanted (lookOf u) first
+    told-found =
+        let rs = stack (run .registers) m in
+        let k = told-listed in
+        let passed : passes g rs (lookOf u) (told .0) ≡ true = ap₂ _&&_ (T→true (has (starts g (productionAt g (told .0))) (lookNumber (lookOf u))) (k .2)) (none-hold (entryTests g (productionAt g (told .0))) (told .2)) in
+        sym (ap (found g rs wanted (lookOf u)) is-told ∙ (found-stop g (h .wellFormed) rs wanted (lookOf u) (told .0) (k .0) (k .1) passed ∙ sym is-told))
+      where
+        none-hold : (cs : List (Condition ℕ)) → length cs ≡ 0 → all (holds (readRegister (stack (run .registers) m))) cs ≡ true
+        none-hold [] e = refl
+        none-hold (x ∷ xs) e = absurd (omega arith)
+
+    pub told-scheme : entry / 256 ≡ getD ws (recordOf ws first + 6) 0
+    told-scheme = ap (λ w. w / 256) entry-is ∙ (told .3 ∙ sym (ap (λ j. getD ws (recordOf ws j + 6) 0) is-told ∙ at-scheme (h .begins) (h .wellFormed) (c .registers) (told .0) (told-listed .0)))
+
+    pub told-some : first ≡ 0 → ⊥
+    told-some e = omega (arith, is-told, e)
 
   -- ---- the outcome
 
@@ -174,3 +242,18 @@ module _ {g : Grammar} {ws : List ℕ} {lent : Lent} {m : List ℤ} {ps : List �
                 fewTokens = omega arith;
               },
             )
+
+        pub made-entering : IsAhead g ahead → (a : ℕ) → a ≡ getD ws (recordOf ws p + 6) 0 → run .places ≤ length ps → Made g ws lent (next g lent ahead c) m ps m (placed (run .places) p ps) (enteredBy run a (length ps))
+        made-entering ok a e l = go (eqb (run .places) (length ps)) refl
+          where
+            go : (b : Bool) → eqb (run .places) (length ps) ≡ b → Made g ws lent (next g lent ahead c) m ps m (cond b ps (set ps (run .places) (256 * (p - 1)))) (stepBy b run a)
+            go true z = blocked-full (eqb→eq (run .places) (length ps) (true→T (eqb (run .places) (length ps)) z))
+            go false z =
+                let room : run .places < length ps = below (λ y. differs (sym (eq-eqb (run .places) (length ps) y) ∙ z)) in
+                subst (λ k. Made g ws lent (next g lent ahead c) m ps m (set ps (run .places) (256 * (p - 1))) (stepBy false run k)) (sym e) (made-predict ok room (256 * (p - 1)) refl)
+              where
+                differs : true ≡ false → ⊥
+                differs y = subst T y tt
+
+                below : (run .places ≡ length ps → ⊥) → run .places < length ps
+                below y = omega (arith, l, y)

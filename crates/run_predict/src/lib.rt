@@ -1,14 +1,53 @@
 // The predict: the place of the alternative that is entered is pushed.
-ghost use Prim.Native.Nat.{_<_};
+ghost use Prim.Native.Nat.{_+_, _*_, _/_, _%_, _≤_, _<_};
 ghost use mathlib.Core.Path.{_≡_};
-ghost use Rattle.meaning.specs.Machine.{Coming, asLook};
+ghost use lib.ListN.{length, getD};
+ghost use Rattle.meaning.specs.Machine.{Coming, asLook, movesLimit};
 ghost use Rattle.run_moves.specs.Held.{ReadyForMove, Answers};
 ghost use Rattle.run_moves.specs.Passing.{lookOf};
-ghost use Rattle.run_predict.specs.Entering.{tokensOf};
+ghost use Rattle.run_predict.specs.Entering.{tokensOf, enteredBy, placed};
 use run_moves::Run;
 use run_moves::Step;
 
-// Pushes the place of the alternative found. 01: "22 .. when alternatives hold the token or the end but none has its entry conditions met".
+// The place of production p - 1 is pushed; its scheme begins at `at`.
+fn enter(places: &mut [u32], run: Run, p: usize, at: usize) -> Step
+    requires { ⌜ (1 ≤ p) × (p ≤ 128) × (run .places ≤ length (now places)) × (run .moves < movesLimit) ⌝ }
+    ensures { λ r. ⌜ (r ≡ enteredBy run at (length (now (places .entry)))) × (now (places .exit) ≡ placed (run .places) p (now (places .entry))) ⌝ }
+{
+    let height = run.places;
+    if height == places.len() {
+        return Step::Blocked(32);
+    }
+    places[height] = (256 * (p - 1)) as u32;
+    let mut next = run_moves::counted(run, at);
+    next.places = height + 1;
+    Step::Moved(next)
+}
+
+// The alternative that is entered, from the one on that the directory names. 01: "22 .. when alternatives hold the token or the end but none has its entry conditions met".
+fn search(
+    registers: &[i64],
+    places: &mut [u32],
+    program: &[u32],
+    run: Run,
+    look: usize,
+    first: usize,
+) -> Step
+    requires { ⌜ (ReadyForMove (now program) (now registers) (now places) run 3 × (look < 64)) × ((first ≡ getD (now program) (9 + 64 * (getD (now program) (run .at) 0 / 8) + look) 0 % 256) × (first ≡ 0 → ⊥)) ⌝ }
+    ensures { λ r. ⌜ ((ahead : Coming) → asLook ahead ≡ lookOf look → Answers (now (program .entry)) (now (registers .entry)) (now (places .entry)) run ahead (now (registers .entry)) (now (places .exit)) r) × (tokensOf run r ≡ run .tokens) ⌝ }
+{
+    let p = run_alternatives::find(registers, run.registers, program, look, first);
+    if p == 0 {
+        return Step::Blocked(22);
+    }
+    let at = run_moves::word_at(
+        program,
+        run_alternatives::record_of(program, p) + program_parts::SCHEME,
+    );
+    enter(places, run, p, at)
+}
+
+// Pushes the place of the alternative that the directory names; where that has entry tests, of the one found.
 pub fn predict(
     registers: &[i64],
     places: &mut [u32],
@@ -20,29 +59,20 @@ pub fn predict(
     ensures { λ r. ⌜ ((ahead : Coming) → asLook ahead ≡ lookOf look → Answers (now (program .entry)) (now (registers .entry)) (now (places .entry)) run ahead (now (registers .entry)) (now (places .exit)) r) × (tokensOf run r ≡ run .tokens) ⌝ }
 {
     let n = program_parts::operand(run_moves::word_at(program, run.at));
-    let first = run_moves::word_at(
+    let entry = run_moves::word_at(
         program,
         program_parts::DIRECTORY + program_parts::DIRECTORY_WORDS * n + look,
     );
-    if first == 0 {
+    if program_parts::ENTRY_SCHEME <= entry {
+        return enter(
+            places,
+            run,
+            entry % program_parts::ENTRY_SCHEME,
+            entry / program_parts::ENTRY_SCHEME,
+        );
+    }
+    if entry == 0 {
         return Step::Blocked(run_moves::unexpected(look));
     }
-    let p = run_alternatives::find(registers, run.registers, program, look, first);
-    if p == 0 {
-        return Step::Blocked(22);
-    }
-    let height = run.places;
-    if height == places.len() {
-        return Step::Blocked(32);
-    }
-    places[height] = (256 * (p - 1)) as u32;
-    let mut next = run_moves::counted(
-        run,
-        run_moves::word_at(
-            program,
-            run_alternatives::record_of(program, p) + program_parts::SCHEME,
-        ),
-    );
-    next.places = height + 1;
-    Step::Moved(next)
+    search(registers, places, program, run, look, entry)
 }

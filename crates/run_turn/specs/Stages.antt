@@ -1,7 +1,7 @@
 -- The stages of a turn: what each leads to, perhaps to nothing, and what all lead to one after the other.
 use Prim.Native.Nat.{ℕ, _+_, _-_, _%_, _≤_, _<_}
 use native.Mathlib.Omega.{arith}
-use mathlib.Core.Path.{_≡_, refl, sym, ap, _∙_, subst, subst₂}
+use mathlib.Core.Path.{_≡_, sym, ap, _∙_, subst, subst₂}
 use mathlib.Core.List.{List, [], _∷_}
 use lib.ListN.{length, getD}
 use lib.IntN.{ℤ}
@@ -102,7 +102,8 @@ module _ {I : Run → Type 0} {bound most : ℕ} {ws us : List ℕ} {vs : List �
       t g lent (s .0) o (s .1) (subst (λ n. Left bound most us vs g lent n (s .0) o) (sym e) (s .4))
 
 -- some stage makes a move
-pub went-turns : {bound most : ℕ} {ws us : List ℕ} {vs : List ℤ} {i : ℕ} {m : List ℤ} {ps : List ℕ} {run : Run} {m′ : List ℤ} {ps′ : List ℕ} {run′ : Run} → Went (λ r. (Other ws 0 r × Other ws 1 r) × Low ws r) bound most ws us vs i m ps run m′ ps′ run′ → Turned bound most ws us vs i m ps run m′ ps′ (Moved run′)
+pub went-turns : {bound most : ℕ} {ws us : List ℕ} {vs : List ℤ} {i : ℕ} {m : List ℤ} {ps : List ℕ} {run : Run} {m′ : List ℤ} {ps′ : List ℕ} {run′ : Run}
+    → Went (λ r. (Other ws 0 r × Other ws 1 r) × Low ws r) bound most ws us vs i m ps run m′ ps′ run′ → Turned bound most ws us vs i m ps run m′ ps′ (Moved run′)
 went-turns (some t) = t
 went-turns {ws = ws} {run = run} (none z x y p) = absurd (below (getD ws (run .at) 0 % 8) (p .0 .0) (p .0 .1) (p .1))
   where

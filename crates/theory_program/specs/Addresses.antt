@@ -5,7 +5,7 @@ use mathlib.Core.Path.{_≡_, refl, sym, ap, _∙_, subst}
 use mathlib.Core.Bool.{not}
 use mathlib.Core.Logic.{inl, inr}
 use mathlib.Core.List.{List, [], _∷_, _++_, map}
-use lib.ListN.{length, getD, take, drop, length-append, length-map, length-replicate, replicate, List·getD-append}
+use lib.ListN.{length, getD, drop, length-append, length-map, length-replicate, replicate, List·getD-append}
 use lib.Seq.{getD-append-add}
 use Rattle.meaning.specs.Base.{In, countFrom, total, isEmpty}
 use Rattle.meaning.specs.Grammar.{Symbol, nonterminal, syn, Production, Grammar, nonterminalCount, productionAt, whole, wholeProduction}
@@ -15,6 +15,7 @@ use Rattle.meaning.specs.Machine.{expects, schemeAt}
 use Rattle.meaning.specs.Calls.{fromExpect}
 use Rattle.meaning.specs.PublicCalls.{written}
 use Rattle.meaning.specs.Program.{concat, schemeWords, expectsAt, entryWords, schemeOffset, bodyWords, bodySize, bodiesFrom, recordWords, recordsFrom, waitsFrom, waitRow, waits, directoryWord, directory, recordsAddress, waitsAddress, bodiesAddress, segmentWords, programOf, symbolHead}
+pub use Rattle.meaning.specs.Program.{bodiesBefore, bodyAddress, schemeAddress}
 use Rattle.theory_base.specs.WellFormed.{listed-at, well-formed-at}
 use Rattle.theory_base.specs.Frames.{expects-skip, expects-symbols}
 use Rattle.theory_sets.specs.Tests.{tabled, length-countFrom}
@@ -23,10 +24,6 @@ use Rattle.theory_program.specs.Code.{CodeAt, ConditionsAt, conditions-l
 
 -- ---- addresses
 
--- how many words the bodies before the p-th have
-abbrev pub bodiesBefore : Grammar → ℕ → List Production → ℕ
-bodiesBefore g p ps = total (map (bodySize g) (take p ps))
-
 abbrev pub recordAddress : Grammar → ℕ → ℕ
 recordAddress g p = recordsAddress g + 8 * p
 
@@ -34,14 +31,8 @@ recordAddress g p = recordsAddress g + 8 * p
 abbrev pub waitAddress : Grammar → ℕ → ℕ
 waitAddress g p = waitsAddress g + 12 * p
 
-abbrev pub bodyAddress : Grammar → ℕ → ℕ
-bodyAddress g p = bodiesAddress g + bodiesBefore g p (g .productions)
-
 abbrev pub entryAddress : Grammar → ℕ → ℕ
 entryAddress g p = bodyAddress g p + length (productionAt g p .right)
-
-abbrev pub schemeAddress : Grammar → ℕ → ℕ
-schemeAddress g p = bodyAddress g p + schemeOffset g (productionAt g p)
 
 -- of the expect of the symbol after the first k
 abbrev pub expectAddress : Grammar → ℕ → ℕ → ℕ
@@ -120,7 +111,7 @@ directory-length g = rows-length (directoryWord g) 64 0 (nonterminalCount g)
 
 -- ---- the p-th record, the p-th row of what places wait at, and the p-th body
 
-record-in : (g : Grammar) (a i : ℕ) (ps : List Production) (p : ℕ) (d : Production) (b j : ℕ) → p < length ps → a + bodiesBefore g p ps ≡ b → i + p ≡ j → WordsStand (recordsFrom g a i ps) (8 * p) (recordWords g b j (getD ps p d) (drop (suc p) ps))
+pub record-in : (g : Grammar) (a i : ℕ) (ps : List Production) (p : ℕ) (d : Production) (b j : ℕ) → p < length ps → a + bodiesBefore g p ps ≡ b → i + p ≡ j → WordsStand (recordsFrom g a i ps) (8 * p) (recordWords g b j (getD ps p d) (drop (suc p) ps))
 record-in g a i [] p d b j l e q = absurd (omega arith)
 record-in g a i (r ∷ ps) zero d b j l e q =
     let x : a ≡ b = omega arith in

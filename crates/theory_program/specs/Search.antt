@@ -1,5 +1,5 @@
 -- The search along the program's words finds the production that the machine predicts: the directory and the next-words lead through the productions of a nonterminal in their order.
-use Prim.Native.Nat.{ℕ, zero, suc, _+_, _-_, _≤_, _<_}
+use Prim.Native.Nat.{ℕ, zero, suc, _+_, _-_, _*_, _/_, _%_, _≤_, _<_}
 use native.Mathlib.Omega.{arith}
 use mathlib.Core.Path.{_≡_, refl, sym, ap, _∙_, subst}
 use mathlib.Core.Logic.{_↔_}
@@ -14,8 +14,9 @@ use Rattle.meaning.specs.Grammar.{Production, Grammar, productionAt, wholeProdu
 use Rattle.meaning.specs.Rules.{WellFormed}
 use Rattle.meaning.specs.Sets.{has, starts, lookNumber}
 use Rattle.meaning.specs.Machine.{isOf, alternatives, entered}
-use Rattle.meaning.specs.Program.{firstOf, directoryWord}
-use Rattle.theory_base.specs.Members.{T→true, both}
+use Rattle.meaning.specs.Scheme.{entryTests}
+use Rattle.meaning.specs.Program.{firstOf, firstAlternative, entryOf, schemeAddress}
+use Rattle.theory_base.specs.Members.{T→true, true→T, both}
 use Rattle.theory_base.specs.WellFormed.{listed-at}
 use Rattle.theory_sets.specs.Alternatives.{keep-keep}
 
@@ -97,18 +98,18 @@ module _ (g : Grammar) (w : WellFormed g) where
       ∙ ap (firstFrom (λ k. f (productionAt g k)) i) (length-drop i (g .productions))
 
   -- the directory names the first alternative
-  pub directory-is : (n : ℕ) (look : Look) → directoryWord g n (lookNumber look) ≡ firstNumber (alternatives g n look)
+  pub directory-is : (n : ℕ) (look : Look) → firstAlternative g n (lookNumber look) ≡ firstNumber (alternatives g n look)
   directory-is n look =
       let z : length (g .productions) - 0 ≡ length (g .productions) = omega arith in
       first-listed (λ p. eqb (p .left) n && has (starts g p) (lookNumber look)) 0 ∙ ap (firstFrom (isOf g n look) 0) z
 
-  pub directory-none : (n : ℕ) (look : Look) → (directoryWord g n (lookNumber look) ≡ 0) ↔ (isEmpty (alternatives g n look) ≡ true)
+  pub directory-none : (n : ℕ) (look : Look) → (firstAlternative g n (lookNumber look) ≡ 0) ↔ (isEmpty (alternatives g n look) ≡ true)
   directory-none n look =
       let k = first-none (alternatives g n look) in
       let e = directory-is n look in
       ((λ h. k .0 (sym e ∙ h)), (λ h. e ∙ k .1 h))
 
-  pub directory-listed : (n : ℕ) (look : Look) (p : ℕ) → directoryWord g n (lookNumber look) ≡ suc p → (p < length (g .productions)) × (productionAt g p .left ≡ n) × T (has (starts g (productionAt g p)) (lookNumber look))
+  pub directory-listed : (n : ℕ) (look : Look) (p : ℕ) → firstAlternative g n (lookNumber look) ≡ suc p → (p < length (g .productions)) × (productionAt g p .left ≡ n) × T (has (starts g (productionAt g p)) (lookNumber look))
   directory-listed n look p e =
       let h = first-passes (isOf g n look) 0 (length (g .productions)) p (sym (directory-is n look) ∙ e) in
       let k = both (isLeft g n p) (has (starts g (productionAt g p)) (lookNumber look)) (h .2) in
@@ -122,6 +123,27 @@ module _ (g : Grammar) (w : WellFormed g) where
   next-listed p q l e =
       let h = first-passes (isLeft g (productionAt g p .left)) (suc p) (length (g .productions) - suc p) q (sym (next-is p) ∙ e) in
       (h .0, omega (arith, h .1), eqb→eq (productionAt g q .left) (productionAt g p .left) (h .2))
+
+-- ---- what the directory says of a production
+
+pub entry-number : (g : Grammar) (k : ℕ) → k < 256 → entryOf g k % 256 ≡ k
+entry-number g zero l = refl
+entry-number g (suc p) l = let x : ℕ = cond (eqb (length (entryTests g (productionAt g p))) 0) (schemeAddress g p) 0 in omega (arith, l)
+
+-- where its scheme begins, if it has no entry tests
+pub entry-high : (g : Grammar) (k : ℕ) → k < 256 → 256 ≤ entryOf g k → (q : ℕ) × (k ≡ suc q) × (length (entryTests g (productionAt g q)) ≡ 0) × (entryOf g k / 256 ≡ schemeAddress g q)
+entry-high g zero l h = absurd (omega arith)
+entry-high g (suc p) l h = go (eqb tests 0) refl h
+  where
+    tests : ℕ
+    tests = length (entryTests g (productionAt g p))
+
+    go : (b : Bool) → eqb tests 0 ≡ b → 256 ≤ suc p + 256 * cond b (schemeAddress g p) 0 → (q : ℕ) × (suc p ≡ suc q) × (length (entryTests g (productionAt g q)) ≡ 0) × (entryOf g (suc p) / 256 ≡ schemeAddress g q)
+    go true e m =
+        let a : ℕ = schemeAddress g p in
+        let z : (suc p + 256 * a) / 256 ≡ a = omega (arith, l) in
+        (p, refl, eqb→eq tests 0 (true→T (eqb tests 0) e), ap (λ b. (suc p + 256 * cond b a 0) / 256) e ∙ z)
+    go false e m = absurd (omega (arith, l, m))
 
 -- ---- the search
 
@@ -137,7 +159,7 @@ searchFrom (suc steps) g rs look (suc p) = cond (passes g rs look p) (suc p) (se
 
 -- the number plus 1 of the production found, or 0
 abbrev pub search : Grammar → List ℤ → ℕ → Look → ℕ
-search g rs n look = searchFrom (length (g .productions)) g rs look (directoryWord g n (lookNumber look))
+search g rs n look = searchFrom (length (g .productions)) g rs look (firstAlternative g n (lookNumber look))
 
 -- what the search finds from a word on: the first production from there on that the machine may enter
 abbrev pub found : Grammar → List ℤ → ℕ → Look → ℕ → ℕ
@@ -166,7 +188,7 @@ module _ (g : Grammar) (w : WellFormed g) (rs : List ℤ) (n : ℕ) (look : Look
       ∙ ap (cond (passes g rs look p) (suc p)) (skips ∙ (ap (λ k. resumed wanted k (firstFrom (isLeft g n) (suc p) (m - suc p))) y ∙ ap (resumed wanted m) next))))
 
   -- start, turn and stop of the search
-  pub found-start : found g rs n look (directoryWord g n (lookNumber look)) ≡ firstNumber (keep (entered g rs) (alternatives g n look))
+  pub found-start : found g rs n look (firstAlternative g n (lookNumber look)) ≡ firstNumber (keep (entered g rs) (alternatives g n look))
   found-start =
       let m = length (g .productions) in
       let z : 0 + m ≡ m = omega arith in
@@ -197,9 +219,9 @@ module _ (g : Grammar) (w : WellFormed g) (rs : List ℤ) (n : ℕ) (look : Look
 
   -- the search finds the first alternative that is entered, or none
   pub search-is : search g rs n look ≡ firstNumber (keep (entered g rs) (alternatives g n look))
-  search-is = searches (length (g .productions)) (directoryWord g n (lookNumber look)) leads ∙ found-start
+  search-is = searches (length (g .productions)) (firstAlternative g n (lookNumber look)) leads ∙ found-start
     where
-      leads : Leads (length (g .productions)) (directoryWord g n (lookNumber look))
+      leads : Leads (length (g .productions)) (firstAlternative g n (lookNumber look))
       leads p e = let h = directory-listed g w n look p e in (h .0, h .1, omega arith)
 
   pub search-finds : (p : ℕ) → (search g rs n look ≡ suc p) ↔ ((ps : List ℕ) × (keep (entered g rs) (alternatives g n look) ≡ p ∷ ps))

@@ -3,21 +3,23 @@ use Prim.Native.Nat.{ℕ, zero, suc, _+_, _-_, _*_, _≤_, _<_}
 use native.Mathlib.Omega.{arith}
 use mathlib.Core.Path.{refl}
 use mathlib.Core.Logic.{_⊎_, inl, inr}
-use mathlib.Core.Bool.{Bool, true, false, _&&_}
+use mathlib.Core.Bool.{Bool, true, false, _&&_, cond}
 use mathlib.Core.List.{List, [], _∷_, _++_, map}
 use mathlib.Core.Option.{none, some}
-use lib.ListN.{length, replicate}
+use lib.ListN.{length, replicate, length-append}
 use lib.Dec.{eqb}
 use Rattle.meaning.specs.Base.{In, countFrom, total}
-use Rattle.meaning.specs.Grammar.{Symbol, terminal, nonterminal, Function, const, copy, binary, binaryNumber, addc, quot, Condition, range, atmost, Production, Grammar, syn, nonterminalCount}
+use Rattle.meaning.specs.Grammar.{Symbol, terminal, nonterminal, Function, const, copy, binary, binaryNumber, addc, quot, Condition, range, atmost, Production, Grammar, syn, nonterminalCount, productionAt}
 use Rattle.meaning.specs.Rules.{Known, WellFormed}
 use Rattle.meaning.specs.Scheme.{Instruction, add, evaluate, expect, test, remove, scheme, entryTests}
 use Rattle.meaning.specs.Sets.{has, starts}
 use Rattle.meaning.specs.Program.{concat, packed, functionWords, ruleWords, conditionWords, symbolHead, instructionWords, schemeWords, expectsAt, entryWords, schemeOffset, bodyWords, bodySize, bodiesFrom, firstOf, recordWords}
-use Rattle.meaning.specs.Program.{recordsFrom, waitWord, waitsFrom, waitRow, waits, directoryWord, directory, bodiesAddress, segmentWords, programOf, carriers}
+use Rattle.meaning.specs.Program.{recordsFrom, waitWord, waitsFrom, waitRow, waits, firstAlternative, entryOf, directoryWord, directory, bodiesAddress, bodyAddress, schemeAddress, segmentWords, programOf, carriers}
 use Rattle.theory_base.specs.Members.{map-in, in-append}
 use Rattle.theory_table.specs.Numbers.{unsigned-small, divisor-in, binary-most}
+use Rattle.theory_program.specs.WordsStand.{stands-first, stands-within}
 use Rattle.theory_program.specs.Code.{expects-below}
+use Rattle.theory_program.specs.Addresses.{Begins, body-at, body-length}
 use Rattle.theory_program.specs.Proper.{ProperRule, ProperCondition, ProperInstruction, att-most, added-most, scheme-proper, entry-proper, entry-most}
 use Rattle.theory_program.specs.SetWords.{bits-small}
 use Rattle.theory_program.specs.Sizes.{program-length, program-most}
@@ -144,8 +146,24 @@ module _ (g : Grammar) (w : WellFormed g) where
       let f = w .each p i in
       small-append (waitsFrom g (p .left) 0 (p .right)) (replicate (12 - length (p .right)) 0) (waits-small (p .left) 0 (p .right) (f .left) (f .symbols) (omega (arith, f .short))) (none-small (12 - length (p .right)))
 
+  -- where a scheme begins is inside the program
+  pub scheme-below : (p : ℕ) → p < length (g .productions) → schemeAddress g p ≤ 16384
+  scheme-below p l =
+      let b : Begins g (programOf g ++ []) = record { words = stands-first (programOf g) [] } in
+      omega (arith, stands-within (body-at b w p l), body-length g (bodyAddress g p) (productionAt g p), length-append (programOf g) [], program-most g w)
+
+  pub entry-below : (k : ℕ) → k ≤ length (g .productions) → entryOf g k < 4294967296
+  entry-below zero l = omega arith
+  entry-below (suc p) l = go (eqb (length (entryTests g (productionAt g p))) 0)
+    where
+      go : (b : Bool) → suc p + 256 * cond b (schemeAddress g p) 0 < 4294967296
+      go true = omega (arith, scheme-below p (omega arith), w .productions .1)
+      go false = omega (arith, w .productions .1)
+
   directory-small : Small (directory g)
-  directory-small = small-concat (λ n. map (directoryWord g n) (countFrom 0 64)) (countFrom 0 (nonterminalCount g)) (λ n i. small-map (directoryWord g n) (λ u. omega (arith, first-below (λ p. eqb (p .left) n && has (starts g p) u) 0 (g .productions), w .productions .1)) (countFrom 0 64))
+  directory-small =
+      let most : (n u : ℕ) → firstAlternative g n u ≤ length (g .productions) = λ n u. omega (arith, first-below (λ p. eqb (p .left) n && has (starts g p) u) 0 (g .productions)) in
+      small-concat (λ n. map (directoryWord g n) (countFrom 0 64)) (countFrom 0 (nonterminalCount g)) (λ n i. small-map (directoryWord g n) (λ u. entry-below (firstAlternative g n u) (most n u)) (countFrom 0 64))
 
   segment-small : Small (segmentWords g)
   segment-small =
