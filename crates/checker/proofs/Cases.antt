@@ -12,7 +12,7 @@ use Rattle.meaning.specs.Table.{State, Read, wellFormed, malformed, readTable}
 use Rattle.meaning.specs.Judgement as Judgement
 use Rattle.meaning.specs.Judgement.{accepted, rejected, entryOffset}
 use Rattle.meaning.specs.Decide.{judge, verdictOf}
-use Rattle.meaning.specs.PublicCalls.{Checked, usable, unusable, checkedAs, check, cut, stretchEnd, stretchOf}
+use Rattle.meaning.specs.PublicCalls.{Checked, usable, unusable, check, cut, stretchEnd, stretchOf}
 use Rattle.theory_table.specs.Places.{Places, read-places}
 use Rattle.theory_table.specs.Reading.{table-reads}
 use Rattle.outline.specs.declared.Sizes.{Sizes}

@@ -40,7 +40,13 @@ pub fn check(table: &[u8]) -> Verdict
             number: number as u32,
             offset,
         },
-        Reading::WellFormed(sizes) => match judge_grammar(table, sizes, &rows, &offsets, &mut sets) {
+        Reading::WellFormed(sizes) => match judge_grammar(
+            table,
+            sizes,
+            &rows,
+            &offsets,
+            &mut sets,
+        ) {
             Judged::Usable(_) => Verdict::Accepted,
             Judged::Unusable { number, offset } => Verdict::Refused { number, offset },
         },

@@ -1,5 +1,4 @@
 // Refusals 11 to 13: the analysis of the grammar, then the clash test.
-ghost use mathlib.Core.Path.{_≡_};
 ghost use Rattle.meaning.specs.Decide.{judge};
 ghost use Rattle.outline.specs.Outline.{stateIn, grammarIn, NumbersOf, Productions};
 ghost use Rattle.analysis.specs.Views.{rightBy};

@@ -23,6 +23,18 @@ fn refused(number: u8, at: usize) -> Reading
     Reading::Malformed { number, offset }
 }
 
+// Where the productions begin: no rule and no condition is read.
+fn none_read(from: usize) -> Items
+    ensures { λ r. ⌜ (r .at ≡ from) × (r .rules ≡ 0) × (r .conditions ≡ 0) ⌝ }
+{
+    Items {
+        number: 0,
+        at: from,
+        rules: 0,
+        conditions: 0,
+    }
+}
+
 // All productions, from an offset on.
 fn read_productions(
     table: &[u8],
@@ -35,18 +47,22 @@ fn read_productions(
     words: &mut [u64; 128],
 ) -> Reading
     requires { ⌜ Begun (now table) from sizes (now inherited) (now synthesized) × (length (now rows) ≡ 2048) × (length (now offsets) ≡ 128) × (length (now words) ≡ 128) ⌝ }
-    ensures read { λ r. ⌜ AnswersFrom (now (table .entry)) from sizes r (now (inherited .entry)) (now (synthesized .entry)) (now (rows .exit)) (now (offsets .exit)) ⌝ }
-    ensures words { λ r. ⌜ Worded r (now (rows .exit)) (now (words .exit)) ⌝ }
+    ensures { λ r. ⌜ AnswersFrom (now (table .entry)) from sizes r (now (inherited .entry)) (now (synthesized .entry)) (now (rows .exit)) (now (offsets .exit)) × Worded r (now (rows .exit)) (now (words .exit)) ⌝ }
 {
-    let mut done = Items {
-        number: 0,
-        at: from,
-        rules: 0,
-        conditions: 0,
-    };
+    let mut done = none_read(from);
     let mut p: usize = 0;
     while done.at < table.len() {
-        done = read_production(table, done, p, sizes, inherited, synthesized, rows, offsets, words);
+        done = read_production(
+            table,
+            done,
+            p,
+            sizes,
+            inherited,
+            synthesized,
+            rows,
+            offsets,
+            words,
+        );
         if done.number != 0 {
             return refused(done.number, done.at);
         }
@@ -88,7 +104,16 @@ fn read_after_counts(
         productions: 0,
         carrying,
     };
-    read_productions(table, c.at, known, inherited, synthesized, rows, offsets, words)
+    read_productions(
+        table,
+        c.at,
+        known,
+        inherited,
+        synthesized,
+        rows,
+        offsets,
+        words,
+    )
 }
 
 // The numbers of the header, whose field is good; those of the productions and of the terminals with a value are not known yet.

@@ -21,9 +21,9 @@ returns c =
     let pre = judged .before .before .pre in
     let some = c .before .if1 .taken in (
       subst
-      (ProductionRead _ _ _ _ _ _ _ _ _ _ _ _ _ _)
-      (sym (c .refused-after .ensures))
-      (production-refused _ _ _ _ _ _ _ _ _ _ _ _ _ (judged .production-number .ensures) (pre .8) some (omega arith) (pre .7)),
+          (ProductionRead _ _ _ _ _ _ _ _ _ _ _ _ _ _)
+          (sym (c .refused-after .ensures))
+          (production-refused _ _ _ _ _ _ _ _ _ _ _ _ _ (judged .production-number .ensures) (pre .8) some (omega arith) (pre .7)),
       (pre .11, λ z. absurd (some (sym (ap (λ u. u .number) (c .refused-after .ensures)) ∙ z))),
     )
 
