@@ -72,34 +72,26 @@ fn operand(registers: &[i64], height: usize, selector: u32, constant: u32) -> i6
     run_registers::read(registers, height, selector)
 }
 
-// The value of a rule by its two words; the mark where it is out of range.
-fn result(registers: &[i64], height: usize, word: u32, constant: u32) -> i64
-    requires { ⌜ (height ≤ length (now registers)) × Applies (stack height (now registers)) word constant ⌝ }
-    ensures { λ r. ⌜ r ≡ ranged (apply (readRegister (stack height (now (registers .entry)))) (ruleFrom word constant .function)) ⌝ }
+// Whether the function of a rule, by its first word, is a common one: a constant, a copy, a sum, or a sum with a constant.
+fn common_word(word: u32) -> bool
+    ensures { λ r. ⌜ r ≡ common word ⌝ }
 {
-    let a = operand(registers, height, program_parts::rule_first(word), constant);
-    let b = operand(
-        registers,
-        height,
-        program_parts::rule_second(word),
-        constant,
-    );
-    value_functions::compute(program_parts::rule_function(word), a, b)
-}
-
-// Whether the function of the rule at `at` is a common one: a constant, a copy, a sum, or a sum with a constant.
-pub fn is_common(program: &[u32], at: usize) -> bool
-    requires { ⌜ at < length (now program) ⌝ }
-    ensures { λ r. ⌜ r ≡ common (getD (now (program .entry)) at 0) ⌝ }
-{
-    let function = program_parts::rule_function(program[at]);
+    let function = program_parts::rule_function(word);
     if function < 3 {
         return true;
     }
     function == 7
 }
 
-// The value of a rule of a common function, as `result` has it.
+// The same of the rule at `at`.
+pub fn is_common(program: &[u32], at: usize) -> bool
+    requires { ⌜ at < length (now program) ⌝ }
+    ensures { λ r. ⌜ r ≡ common (getD (now (program .entry)) at 0) ⌝ }
+{
+    common_word(program[at])
+}
+
+// The value of a rule of a common function by its two words; the mark where it is out of range.
 fn direct(registers: &[i64], height: usize, word: u32, constant: u32) -> i64
     requires { ⌜ (height ≤ length (now registers)) × Applies (stack height (now registers)) word constant × (common word ≡ true) ⌝ }
     ensures { λ r. ⌜ r ≡ ranged (apply (readRegister (stack height (now (registers .entry)))) (ruleFrom word constant .function)) ⌝ }
@@ -117,6 +109,32 @@ fn direct(registers: &[i64], height: usize, word: u32, constant: u32) -> i64
         return value_functions::sum(a, b);
     }
     value_functions::sum(a, value::constant(constant))
+}
+
+// The same of a rule of any function.
+fn general(registers: &[i64], height: usize, word: u32, constant: u32) -> i64
+    requires { ⌜ (height ≤ length (now registers)) × Applies (stack height (now registers)) word constant ⌝ }
+    ensures { λ r. ⌜ r ≡ ranged (apply (readRegister (stack height (now (registers .entry)))) (ruleFrom word constant .function)) ⌝ }
+{
+    let a = operand(registers, height, program_parts::rule_first(word), constant);
+    let b = operand(
+        registers,
+        height,
+        program_parts::rule_second(word),
+        constant,
+    );
+    value_functions::compute(program_parts::rule_function(word), a, b)
+}
+
+// The value of a rule: where its function is a common one, only the operands that it has are fetched.
+fn result(registers: &[i64], height: usize, word: u32, constant: u32) -> i64
+    requires { ⌜ (height ≤ length (now registers)) × Applies (stack height (now registers)) word constant ⌝ }
+    ensures { λ r. ⌜ r ≡ ranged (apply (readRegister (stack height (now (registers .entry)))) (ruleFrom word constant .function)) ⌝ }
+{
+    if common_word(word) {
+        return direct(registers, height, word, constant);
+    }
+    general(registers, height, word, constant)
 }
 
 // Evaluates one rule of a common function, whose words stand at `at`: its value is written at once.
