@@ -21,7 +21,7 @@ use Rattle.theory_sets.specs.LeastSets.{nullable-least, productive-least, reach
 use Rattle.theory_sets.specs.TokenSets.{single-has, single-only}
 use Rattle.theory_sets.specs.Widths.{both-true}
 use Rattle.token_set.specs.SetBits.{setOf}
-use Rattle.outline.specs.Rows.{Rows}
+use Rattle.outline.specs.Images.{ImageOf}
 use Rattle.analysis.specs.Views.{members, Within, fit, symbolBit, ClosedAt, ReachAt}
 use Rattle.analysis.specs.Growth.{Settled, none-in}
 
@@ -66,7 +66,7 @@ bit-of n [] t = absurd t
 bit-of n (terminal s ∷ xs) t = or-right (eqb endNumber n) (any (symbolBit n) xs) (bit-of n xs t)
 bit-of n (nonterminal m ∷ xs) t = ⊎-elim (or-left (eqb m n) (any (symbolBit n) xs)) (λ h. or-right (eqb m n) (any (symbolBit n) xs) (bit-of n xs h)) (or-cases (eqb m n) (any (isNonterminal n) xs) t)
 
-module _ {rows : List ℕ} {count : ℕ} {g : Grammar} (r : Rows rows count g) where
+module _ {rows : List ℕ} {count : ℕ} {g : Grammar} (r : ImageOf rows count g) where
   pub listed : (p : ℕ) → p < count → Listed g p
   listed p l = rw (r .counted) l
 

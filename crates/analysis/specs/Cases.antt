@@ -2,9 +2,9 @@
 use Prim.Native.Nat.{ℕ}
 use mathlib.Core.Path.{_≡_, refl}
 use mathlib.Core.List.{List, [], _∷_}
-use Rattle.meaning.specs.Examples.Words.{words}
+use Rattle.meaning.specs.Examples.WordsAndTags.{words}
 use Rattle.meaning.specs.Grammar.{nonterminal, terminal}
-use Rattle.outline.specs.Rows.{leftAt, rightAt}
+use Rattle.outline.specs.Images.{leftAt, rightAt}
 use Rattle.analysis.specs.Finding.{finding, flaw, lowestClash, fine}
 
 -- 01's production 2, L to open L close L, as the second of two rows

@@ -17,7 +17,7 @@ use Rattle.theory_base.specs.Members.{T→true, and, both, or-cases, or-left, o
 use Rattle.theory_sets.specs.Tests.{all-map}
 use Rattle.theory_sets.specs.TokenSets.{single-has, single-only}
 use Rattle.token_set.specs.SetBits.{setOf, set-end}
-use Rattle.outline.specs.Rows.{Image, leftAt, rightAt, byteAt, sizeAt, right-length, right-at, symbol-terminal, symbol-nonterminal}
+use Rattle.outline.specs.Images.{Image, leftAt, rightAt, byteAt, sizeAt, right-length, right-at, symbol-terminal, symbol-nonterminal}
 use Rattle.analysis.specs.Views.{members, Inside, Within, fit, fit-more, symbolBit, rightBy, ClosedAt}
 use Rattle.analysis.specs.Growth.{Grown, grown-none, grown-or, Rising, or-is, none-in}
 

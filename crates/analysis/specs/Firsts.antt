@@ -16,7 +16,7 @@ use Rattle.meaning.specs.Sets.{endNumber}
 use Rattle.theory_base.specs.Members.{both, or-cases}
 use Rattle.theory_sets.specs.TokenSets.{single-has}
 use Rattle.token_set.specs.SetBits.{bit, has-bit, set-end}
-use Rattle.outline.specs.Rows.{Image, leftAt, rightAt}
+use Rattle.outline.specs.Images.{Image, leftAt, rightAt}
 use Rattle.analysis.specs.Views.{members, symbolBit, rightBy, Below}
 use Rattle.analysis.specs.Growth.{or-left, or-right}
 

@@ -16,7 +16,7 @@ use Rattle.meaning.specs.Table.{symbolOf}
 use Rattle.token_set.specs.SetBits.{setOf, set-end}
 use Rattle.theory_base.specs.Members.{both}
 use Rattle.theory_sets.specs.TokenSets.{or-false, single-has, single-only}
-use Rattle.outline.specs.Rows.{Image, leftAt, sizeAt, byteAt, rightAt, right-back, right-end, symbol-terminal, symbol-nonterminal}
+use Rattle.outline.specs.Images.{Image, leftAt, sizeAt, byteAt, rightAt, right-back, right-end, symbol-terminal, symbol-nonterminal}
 use Rattle.analysis.specs.Views.{members, sees, Inside, fit, turn, opens, Below}
 use Rattle.analysis.specs.Growth.{or-is, none-in}
 use Rattle.analysis.specs.Tables.{Added, Short, zeros-none}

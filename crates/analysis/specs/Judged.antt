@@ -11,7 +11,7 @@ use Rattle.meaning.specs.Sets.{emptySet, has, singleton, nullable, emptyString,
 use Rattle.meaning.specs.Decide.{isLeftRecursive}
 use Rattle.theory_sets.specs.Nullable.{nullable-closed}
 use Rattle.token_set.specs.SetBits.{setOf}
-use Rattle.outline.specs.Rows.{Rows, leftAt}
+use Rattle.outline.specs.Images.{ImageOf, leftAt}
 use Rattle.analysis.specs.Views.{members, sees, Within, WithinAll, ClosedAt, ReachAt, FrontAt, LeadAt}
 use Rattle.analysis.specs.Growth.{Settled, SetsTo, none-in}
 use Rattle.analysis.specs.Tables.{SettledTable}
@@ -23,7 +23,7 @@ use Rattle.analysis.specs.TokenAgreeing.{first-holds, follow-holds, star
 use Rattle.analysis.specs.RecursionAgreeing.{recursive-is}
 use Rattle.analysis.specs.Finding.{isUseless}
 
-module _ {rows : List ℕ} {count : ℕ} {g : Grammar} (r : Rows rows count g) where
+module _ {rows : List ℕ} {count : ℕ} {g : Grammar} (r : ImageOf rows count g) where
   pub useless-found :
       (x reached live n : ℕ) → setOf x ≡ singleton (g .start) → Settled (Within (ReachAt rows) 0 count) x reached → Settled (Within (ClosedAt true rows) 0 count) 0 live
       → Found (λ i. not (members reached i && members live i)) (nonterminalCount g) n → Found (isUseless g) (nonterminalCount g) n

@@ -13,7 +13,7 @@ use Rattle.meaning.specs.Table.{symbolOf}
 use Rattle.theory_base.specs.Members.{true→T}
 use Rattle.theory_sets.specs.TokenSets.{or-false}
 use Rattle.token_set.specs.SetBits.{setOf, set-end}
-use Rattle.outline.specs.Rows.{leftAt, symbol-terminal, symbol-nonterminal}
+use Rattle.outline.specs.Images.{leftAt, symbol-terminal, symbol-nonterminal}
 use Rattle.analysis.specs.Views.{members, Within, symbolBit, rightBy, ReachAt}
 use Rattle.analysis.specs.Growth.{Grown, grown-none, grown-or, or-is, or-assoc, none-in, single-is}
 

@@ -20,7 +20,7 @@ use Rattle.theory_sets.specs.SpreadByRounds.{spread-grows, spread-closed}
 use Rattle.theory_sets.specs.LeftRecursion.{recursive→LeftRecursive}
 use Rattle.theory_sets.specs.LeastSets.{led-least}
 use Rattle.theory_sets.specs.Widths.{both-true}
-use Rattle.outline.specs.Rows.{Rows, leftAt}
+use Rattle.outline.specs.Images.{ImageOf, leftAt}
 use Rattle.analysis.specs.Views.{members, sees, WithinAll, opens, LeadAt}
 use Rattle.analysis.specs.Tables.{SettledTable, zeros-none}
 use Rattle.analysis.specs.Agreeing.{Marks, listed, counted}
@@ -47,7 +47,7 @@ known-lead g e m (x ∷ xs) k t = go x (both (known g x) (all (known g) xs) k .0
     go (nonterminal n) q (inl h) j = rw (sym (eqb→eq n m h)) (ltb→lt n (nonterminalCount g) q)
     go y q (inr h) j = j (both (emptySymbol e y) (leads e m xs) h .1)
 
-module _ {rows : List ℕ} {count : ℕ} {g : Grammar} (r : Rows rows count g) (null : ℕ) (gone : Marks null (nullable g)) where
+module _ {rows : List ℕ} {count : ℕ} {g : Grammar} (r : ImageOf rows count g) (null : ℕ) (gone : Marks null (nullable g)) where
   abbrev led : ℕ → List Bool
   led n = rounds (nonterminalCount g) (leadsOn g) (leadsTo g n)
 

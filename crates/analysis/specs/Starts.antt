@@ -2,7 +2,7 @@
 use Prim.Native.Nat.{ℕ}
 use mathlib.Core.Bool.{Bool, true}
 use mathlib.Core.List.{List}
-use Rattle.outline.specs.Rows.{leftAt, rightAt}
+use Rattle.outline.specs.Images.{leftAt, rightAt}
 use Rattle.analysis.specs.Views.{sees, opens}
 
 -- that of production p, by tables of FIRST and FOLLOW

@@ -20,7 +20,7 @@ use Rattle.theory_sets.specs.LeastSets.{first-least, follow-least}
 use Rattle.theory_sets.specs.TokenSets.{or-false, has-union, has-empty}
 use Rattle.theory_sets.specs.Widths.{both-true, same-set, starts-wide}
 use Rattle.token_set.specs.SetBits.{setOf, set-empty, setOf-wide}
-use Rattle.outline.specs.Rows.{Rows, rightAt}
+use Rattle.outline.specs.Images.{ImageOf, rightAt}
 use Rattle.analysis.specs.Views.{members, sees, WithinAll, fit, opens, FrontAt, Below}
 use Rattle.analysis.specs.Tables.{SettledTable, zeros-none}
 use Rattle.analysis.specs.Follows.{FollowClosed, Followed}
@@ -72,14 +72,14 @@ known-head g n j xs rest k e =
     ltb→lt n (nonterminalCount g) (both (known g (nonterminal n)) (all (known g) rest) (rw e at d) .0)
 
 -- the nonterminals of the rows are those of the grammar
-pub below : {rows : List ℕ} {count : ℕ} {g : Grammar} → Rows rows count g → Below (nonterminalCount g) rows count
+pub below : {rows : List ℕ} {count : ℕ} {g : Grammar} → ImageOf rows count g → Below (nonterminalCount g) rows count
 below {g = g} r =
     record {
       lefts = λ p l. rw (r .left p l) (lefts (r .sound) p (listed r p l));
       rights = λ p j m rest l e. known-head g m j (productionAt g p .right) rest (symbols (r .sound) p (listed r p l)) (rw (r .right p l) at e);
     }
 
-module _ {rows : List ℕ} {count : ℕ} {g : Grammar} (r : Rows rows count g) (null : ℕ) (gone : Marks null (nullable g)) where
+module _ {rows : List ℕ} {count : ℕ} {g : Grammar} (r : ImageOf rows count g) (null : ℕ) (gone : Marks null (nullable g)) where
   pub first-holds : (t : List ℕ) → SettledTable (WithinAll (FrontAt true (members null) rows) 0 count) (replicate 48 0) t → Holds t (first g)
   first-holds t st = record { is = λ n u. both-true (sees t u n) (has (getD (first g) n emptySet) u) (to u n) (back u n) }
     where

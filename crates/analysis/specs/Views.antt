@@ -13,7 +13,7 @@ use Rattle.meaning.specs.Grammar.{Symbol, terminal, nonterminal}
 use Rattle.meaning.specs.Table.{symbolOf}
 use Rattle.meaning.specs.Sets.{has, singleton, endNumber}
 use Rattle.token_set.specs.SetBits.{setOf}
-use Rattle.outline.specs.Rows.{Image, leftAt, sizeAt, byteAt, rightAt, right-cons, symbol-terminal, symbol-nonterminal}
+use Rattle.outline.specs.Images.{Image, leftAt, sizeAt, byteAt, rightAt, right-cons, symbol-terminal, symbol-nonterminal}
 use Rattle.theory_base.specs.Members.{and, both, or-cases, or-left, or-right}
 
 -- the view of a word

@@ -6,7 +6,7 @@ ghost use mathlib.Core.Bool.{true, false};
 ghost use Prim.Native.Nat.{ℕ, _≤_, _<_};
 ghost use lib.Dec.{T};
 ghost use lib.ListN.{getD};
-ghost use Rattle.outline.specs.Rows.{Image};
+ghost use Rattle.outline.specs.Images.{Image};
 ghost use Rattle.analysis.specs.Views.{members, rightBy, ClosedAt, Imaged, Within};
 ghost use Rattle.analysis.specs.Growth.{Grown, Settled, SetsTo};
 ghost use Rattle.analysis.specs.Bits.{Covers};

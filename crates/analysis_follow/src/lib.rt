@@ -12,7 +12,7 @@ ghost use Rattle.meaning.specs.Grammar.{Grammar, productionAt, nonterminalCount
 ghost use Rattle.meaning.specs.Derivation.{Listed};
 ghost use Rattle.meaning.specs.Sets.{nullable, starts};
 ghost use Rattle.token_set.specs.SetBits.{setOf};
-ghost use Rattle.outline.specs.Rows.{Image, Rows};
+ghost use Rattle.outline.specs.Images.{Image, ImageOf};
 ghost use Rattle.analysis.specs.Views.{members, WithinAll, FrontAt, Below};
 ghost use Rattle.analysis.specs.Tables.{SettledTable};
 ghost use Rattle.analysis.specs.Follows.{Followed};
@@ -48,7 +48,7 @@ pub fn starting(
     sets: &mut [u64; 128],
 )
     requires { ⌜ Image (now rows) count × (n ≤ 48) × (start < 48) × (length (now sets) ≡ 128) ⌝ }
-    ensures { λ r. ⌜ ((g : Grammar) → Rows (now (rows .entry)) count g → n ≡ nonterminalCount g → start ≡ g .start → Marks (null .0) (nullable g)
+    ensures { λ r. ⌜ ((g : Grammar) → ImageOf (now (rows .entry)) count g → n ≡ nonterminalCount g → start ≡ g .start → Marks (null .0) (nullable g)
         → SettledTable (WithinAll (FrontAt true (members (null .0)) (now (rows .entry))) 0 count) (replicate 48 0) (now (first .entry))
         → (p : ℕ) → Listed g p → setOf (getD (now (sets .exit)) p 0) ≡ starts g (productionAt g p)) ⌝ }
 {

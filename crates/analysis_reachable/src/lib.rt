@@ -8,7 +8,7 @@ ghost use mathlib.Core.Path.{_≡_};
 ghost use Prim.Native.Nat.{ℕ, _<_, _≤_};
 ghost use lib.ListN.{getD};
 ghost use Rattle.meaning.specs.Grammar.{Grammar, nonterminalCount};
-ghost use Rattle.outline.specs.Rows.{Image, Rows};
+ghost use Rattle.outline.specs.Images.{Image, ImageOf};
 ghost use Rattle.analysis.specs.Views.{members, rightBy, ReachAt, Imaged, Within};
 ghost use Rattle.analysis.specs.Growth.{Grown, Settled, SetsTo};
 ghost use Rattle.analysis.specs.Firsts.{RightsIn};
@@ -104,7 +104,7 @@ pub fn useless(
     rights: &[u64; 128],
 ) -> usize
     requires { ⌜ Image (now rows) count × (nonterminals ≤ 48) × (start < 48) × SetsTo (rightBy (now rows)) count (now rights) ⌝ }
-    ensures { λ r. ⌜ ((g : Grammar) → Rows (now (rows .entry)) count g → nonterminals ≡ nonterminalCount g → start ≡ g .start
+    ensures { λ r. ⌜ ((g : Grammar) → ImageOf (now (rows .entry)) count g → nonterminals ≡ nonterminalCount g → start ≡ g .start
         → Found (isUseless g) (nonterminalCount g) r) ⌝ }
 {
     let all = first_of(nonterminals);

@@ -5,7 +5,7 @@ use outline::left_of;
 use token_set::TokenSet;
 ghost use mathlib.Core.Path.{_≡_};
 ghost use lib.ListN.{length};
-ghost use Rattle.outline.specs.Rows.{Image};
+ghost use Rattle.outline.specs.Images.{Image};
 ghost use Rattle.analysis.specs.Views.{members};
 ghost use Rattle.analysis.specs.Growth.{SetsTo};
 ghost use Rattle.analysis.specs.Starts.{startsBy};

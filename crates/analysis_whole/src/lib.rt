@@ -1,4 +1,4 @@
-// Refusals 11 and 12, and FIRST-then-FOLLOW of each production, on the image of a table's productions (outline `Rows`).
+// Refusals 11 and 12, and FIRST-then-FOLLOW of each production, on the image of a table's productions (outline `ImageOf`).
 use analysis::closing::nullable;
 use analysis_first::fronts;
 use analysis_follow::starting;
@@ -7,7 +7,7 @@ use analysis_recursion::left_recursive;
 ghost use mathlib.Core.Path.{_≡_};
 ghost use Prim.Native.Nat.{_<_, _≤_};
 ghost use Rattle.meaning.specs.Grammar.{Grammar, nonterminalCount};
-ghost use Rattle.outline.specs.Rows.{Image, Rows};
+ghost use Rattle.outline.specs.Images.{Image, ImageOf};
 ghost use Rattle.analysis.specs.Views.{rightBy};
 ghost use Rattle.analysis.specs.Growth.{SetsTo};
 ghost use Rattle.analysis.specs.Finding.{Analysed};
@@ -27,7 +27,7 @@ pub fn analyse(
     sets: &mut [u64; 128],
 ) -> Analysis
     requires { ⌜ Image (now rows) count × (nonterminals ≤ 48) × (start < 48) × SetsTo (rightBy (now rows)) count (now sets) ⌝ }
-    ensures { λ r. ⌜ ((g : Grammar) → Rows (now (rows .entry)) count g → nonterminals ≡ nonterminalCount g → start ≡ g .start
+    ensures { λ r. ⌜ ((g : Grammar) → ImageOf (now (rows .entry)) count g → nonterminals ≡ nonterminalCount g → start ≡ g .start
         → Analysed g (r .number) (r .index) (now (sets .exit))) ⌝ }
 {
     let useless_at = useless(rows, count, nonterminals, start, sets);

@@ -16,7 +16,7 @@ use Rattle.meaning.specs.Decide.{meet}
 use Rattle.meaning.specs.Differences.{constrained, matrixOf, closed, noneNegative, solvable}
 use Rattle.theory_sets.specs.Intervals.{entry}
 use Rattle.token_set.specs.SetBits.{setOf}
-use Rattle.outline.specs.Rows.{leftAt}
+use Rattle.outline.specs.Images.{leftAt}
 use Rattle.analysis.specs.Views.{members}
 use Rattle.analysis.specs.Growth.{none-in, single-is}
 use Rattle.analysis.specs.Numbers.{Clear, clear-none}

@@ -20,7 +20,7 @@ use Rattle.theory_sets.specs.Intervals.{entry}
 use Rattle.theory_sets.specs.Satisfiable.{satisfiable-eight}
 use Rattle.theory_sets.specs.Clashes.{meet-cases, meet-at}
 use Rattle.token_set.specs.SetBits.{setOf}
-use Rattle.outline.specs.Rows.{leftAt}
+use Rattle.outline.specs.Images.{leftAt}
 use Rattle.outline.specs.Outline.{grammarIn, Starting, Productions}
 use Rattle.analysis.specs.Views.{members, sees}
 use Rattle.analysis.specs.Growth.{or-left, or-right, or-members}

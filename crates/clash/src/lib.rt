@@ -17,7 +17,7 @@ ghost use lib.ListN.{getD};
 ghost use Rattle.meaning.specs.Decide as Decide;
 ghost use Rattle.meaning.specs.Decide.{meet};
 ghost use Rattle.token_set.specs.SetBits.{setOf};
-ghost use Rattle.outline.specs.Rows.{Image};
+ghost use Rattle.outline.specs.Images.{Image};
 ghost use Rattle.analysis.specs.Views.{members};
 ghost use Rattle.analysis.specs.Numbers.{Found};
 ghost use Rattle.clash_rivals.specs.Rivals.{rival};

@@ -12,7 +12,7 @@ use lib.ListN.{getD}
 use Rattle.meaning.specs.Decide.{meet}
 use Rattle.theory_base.specs.Members.{both, true→T}
 use Rattle.token_set.specs.SetBits.{setOf}
-use Rattle.outline.specs.Rows.{leftAt}
+use Rattle.outline.specs.Images.{leftAt}
 use Rattle.clash_intervals.specs.Intervals.{leaveValues}
 
 -- one left side and sets that meet

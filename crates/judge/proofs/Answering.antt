@@ -13,7 +13,7 @@ use Rattle.meaning.specs.Grammar.{Grammar, productionAt}
 use Rattle.meaning.specs.Table.{symbolOf}
 use Rattle.theory_base.specs.Members.{same-true, differ-false}
 use Rattle.outline.specs.declared.Sizes.{Sizes}
-use Rattle.outline.specs.Rows.{Rows, rowStart, sizeAt, right-is, size-is, symbol-is}
+use Rattle.outline.specs.Images.{ImageOf, rowStart, sizeAt, right-is, size-is, symbol-is}
 use Rattle.outline.specs.Outline.{grammarIn, Productions, Outline}
 use Rattle.checker.specs.Judging.{Accepts, Judges}
 use Rattle.checker.proofs.Cases.{accepted-case, refused-case}
@@ -30,7 +30,7 @@ use Rattle.judge_sheet.specs.Judged.{judgementIs, SheetReady, SheetSettled}
 
 -- the rows of the productions and nothing else
 module _ {t rows offsets : List ℕ} {count : ℕ} (x : Productions t rows offsets count) where
-  abbrev r : Rows rows count (grammarIn t)
+  abbrev r : ImageOf rows count (grammarIn t)
   r = x .rowsOf
 
   abbrev cut : List ℕ
@@ -45,7 +45,7 @@ module _ {t rows offsets : List ℕ} {count : ℕ} (x : Productions t rows offse
   cut-size : (p : ℕ) → p < count → sizeAt cut p ≡ sizeAt rows p
   cut-size p l = cut-byte (rowStart p + 1) (omega arith)
 
-  cut-rows : Rows cut count (grammarIn t)
+  cut-rows : ImageOf cut count (grammarIn t)
   cut-rows = record {
     sound = r .sound;
     narrow = r .narrow;
@@ -61,7 +61,7 @@ module _ {t rows offsets : List ℕ} {count : ℕ} (x : Productions t rows offse
   pub productions-cut : Productions t cut offsets (length cut / 16)
   productions-cut =
       let e : count ≡ length cut / 16 = omega (arith, cut-long) in
-      record { isRead = x .isRead; rowsOf = subst (λ n. Rows cut n (grammarIn t)) e cut-rows; offset = λ p l. x .offset p (omega (arith, e)) }
+      record { isRead = x .isRead; rowsOf = subst (λ n. ImageOf cut n (grammarIn t)) e cut-rows; offset = λ p l. x .offset p (omega (arith, e)) }
 
 -- ---- the call
 

@@ -7,7 +7,7 @@ use mathlib.Core.List.{List}
 use lib.ListN.{length}
 use Rattle.meaning.specs.Base.{all}
 use Rattle.meaning.specs.Table.{byte}
-use Rattle.outline.specs.Rows.{rowCount, leftAt}
+use Rattle.outline.specs.Images.{rowCount, leftAt}
 use Rattle.meaning.specs.Value.{inRange}
 use Rattle.theory_base.specs.Members.{apart}
 use Rattle.value.specs.Constants.{wordAt}

@@ -6,7 +6,7 @@ use mathlib.Core.List.{List}
 use lib.ListN.{length}
 use Rattle.meaning.specs.Base.{all}
 use Rattle.meaning.specs.Table.{byte}
-use Rattle.outline.specs.Rows.{HasRow, leftAt}
+use Rattle.outline.specs.Images.{HasRow, leftAt}
 use Rattle.meaning.specs.Value.{inRange}
 use Rattle.value.specs.Constants.{wordAt}
 use Rattle.theory_judge.specs.Longs.{longs}

@@ -10,7 +10,7 @@ use Rattle.meaning.specs.Layout.{Bytes}
 use Rattle.meaning.specs.Table.{symbolOf}
 use Rattle.meaning.specs.Calls.{tokensFrom}
 use Rattle.outline.specs.Outline.{grammarIn, CountsOf, Productions}
-use Rattle.outline.specs.Rows.{rowCount}
+use Rattle.outline.specs.Images.{rowCount}
 use Rattle.program_words.specs.Fields.{fieldsFrom, stretchEnd, fieldsAt}
 use Rattle.theory_judge.specs.Described.{Described, DescribedAll}
 use Rattle.theory_judge.specs.Passing.{Only, None, Marked, Upto}

@@ -16,8 +16,8 @@ use Rattle.theory_base.specs.Members.{T→true, true→T, getD-in}
 use Rattle.theory_base.specs.WellFormed.{well-formed-at, counts-most}
 use Rattle.value.specs.Constants.{wordAt}
 use Rattle.program_block_words.specs.Fields.{Listed}
-use Rattle.outline.specs.Rows as R
-use Rattle.outline.specs.Rows.{Rows, HasRow, rowCount, sizeAt, byteAt, symbol-terminal, symbol-nonterminal}
+use Rattle.outline.specs.Images as R
+use Rattle.outline.specs.Images.{ImageOf, HasRow, rowCount, sizeAt, byteAt, symbol-terminal, symbol-nonterminal}
 use Rattle.outline.specs.Outline.{grammarIn}
 use Rattle.program_words.specs.Fields.{fieldsFrom, stretchEnd, fields-place, fields-own}
 use Rattle.theory_judge.specs.Longs.{longs}
@@ -83,7 +83,7 @@ module _ {table rows inherited synthesized offsets ks : List ℕ} {vs : List ℤ
   abbrev g : Grammar
   g = grammarIn table
 
-  abbrev rowsOf : Rows rows (rowCount rows) g
+  abbrev rowsOf : ImageOf rows (rowCount rows) g
   rowsOf = b .productions .rowsOf
 
   many : length (leavesIn g ks vs) ≡ length ks

@@ -3,7 +3,7 @@ ghost use Prim.Native.Nat.{_+_, _<_, _≤_};
 ghost use mathlib.Core.Path.{_≡_};
 ghost use lib.ListN.{length};
 ghost use Rattle.meaning.specs.Table.{symbolOf};
-ghost use Rattle.outline.specs.Rows.{HasRow, rowCount};
+ghost use Rattle.outline.specs.Images.{HasRow, rowCount};
 ghost use Rattle.program_words.specs.Fields.{fieldsFrom, stretchEnd};
 ghost use Rattle.program_block_words.specs.Fields.{Listed};
 ghost use Rattle.theory_judge.specs.Marks.{readAt, markOf};

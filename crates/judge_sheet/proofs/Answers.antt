@@ -14,7 +14,7 @@ use Rattle.theory_judge.specs.Marks.{readMark, leaves-many}
 use Rattle.theory_judge.specs.Passing.{Only}
 use Rattle.theory_judge.specs.Described.{Described}
 use Rattle.theory_judge.specs.Whole.{none-wrong, none-longer, none-tokens, settles-worth, settles-none}
-use Rattle.outline.specs.Rows.{symbol-nonterminal}
+use Rattle.outline.specs.Images.{symbol-nonterminal}
 use Rattle.outline.specs.Outline.{grammarIn}
 use Rattle.judge_parts.specs.Checked.{leavesIn, EndsOrNone, NodeReady, NodeEnds}
 use Rattle.judge_parts.specs.Laws.{ends-of-fits, none-of-wrong}

@@ -1,6 +1,6 @@
 -- Examples, computed from the definitions: they hold each definition in place. Here are the grammars that they use and the rows that the must-fail edits need, few and quick, since each edit checks them again; the other rows are the crate meaning_rows.
 -- ---- the grammars: 01's words and tags, and others; what stands on the stacks for them
-pub mod Words
+pub mod WordsAndTags
 pub mod Samples
 pub mod Pictures
 -- ---- tables, their rules and limits; sets and clashes

@@ -7,7 +7,7 @@ use lib.IntN.{ℤ, pos}
 use Rattle.meaning.specs.Calls.{Status, running, waiting, closed, outer, inner, Record, Stacks, Answer, more, refused, closedRecord}
 use Rattle.meaning.specs.PublicCalls.{Call, feed}
 use Rattle.meaning_inner.specs.Inner.{above, InnerCalled, InnerCall, engine, giveUp, innerOpenOf, innerOf, InnerEffect, whenOuterFits}
-use Rattle.meaning.specs.Examples.Words.{words}
+use Rattle.meaning.specs.Examples.WordsAndTags.{words}
 use Rattle.meaning.specs.Examples.CallRows.{m, record-of, stacks, used}
 
 abbrev pub at-outer : Status → Record

@@ -11,7 +11,7 @@ use Rattle.meaning.specs.Grammar.{Grammar, Leaf, leaves}
 use Rattle.meaning.specs.Calls.{tokensFrom}
 use Rattle.meaning.specs.Tree.{Tree, leaf, node, noTrees, treeAnd, TreeOf, valueOf}
 use Rattle.meaning.specs.Drawn.{depth}
-use Rattle.meaning.specs.Examples.Words.{words}
+use Rattle.meaning.specs.Examples.WordsAndTags.{words}
 use Rattle.meaning.specs.Examples.TableRows.{bytes}
 use Rattle.meaning_judge.specs.Judge.{Describes, JudgeAnswer, worth, turnedBack, Settles, JudgedAs}
 use Rattle.meaning_judge.specs.JudgeStatements.{AtFault}

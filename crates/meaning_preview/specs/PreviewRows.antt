@@ -9,7 +9,7 @@ use Rattle.meaning.specs.Grammar.{Grammar}
 use Rattle.meaning.specs.Sets.{TokenSet, emptySet, singleton, _∪_, has, endNumber}
 use Rattle.meaning.specs.Calls.{Status, running, waiting, closed, outer, inner, Record, Stacks, Called, Answer, more, value, refused, tableRefused, openOf, feedOf}
 use Rattle.meaning.specs.PublicCalls.{Effect}
-use Rattle.meaning.specs.Examples.Words.{words}
+use Rattle.meaning.specs.Examples.WordsAndTags.{words}
 use Rattle.meaning.specs.Examples.TokenRows.{lengths}
 use Rattle.meaning.specs.Examples.TableRows.{bytes}
 use Rattle.meaning.specs.Examples.CallRows.{m, state, record-of, stacks, used, called, thenFeed}

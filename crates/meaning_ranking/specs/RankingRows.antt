@@ -9,7 +9,7 @@ use lib.IntN.{pos, negsuc}
 use Rattle.meaning.specs.Grammar.{Grammar}
 use Rattle.meaning.specs.Calls.{value, refused}
 use Rattle.meaning.specs.PublicCalls.{areaLength, written}
-use Rattle.meaning.specs.Examples.Words.{words}
+use Rattle.meaning.specs.Examples.WordsAndTags.{words}
 use Rattle.meaning.specs.Examples.TableRows.{bytes}
 use Rattle.meaning.specs.Examples.CallRows.{m, state, stacks, used, called}
 use Rattle.meaning_ranking.specs.Ranking.{entry, before, place, rankedOnto, ranking, cellsOf, totalOf, valuedOf}

@@ -5,7 +5,7 @@ use mathlib.Core.List.{[], _∷_}
 use lib.ListN.{replicate, drop}
 use lib.IntN.{pos}
 use Rattle.meaning.specs.Calls.{value, lentOf, openOf}
-use Rattle.meaning.specs.Examples.Words.{words}
+use Rattle.meaning.specs.Examples.WordsAndTags.{words}
 use Rattle.meaning.specs.Examples.SchemeRows.{wide}
 use Rattle.meaning.specs.Examples.CallRows.{m, state, stacks, called, used, thenFeed, thenFinish}
 

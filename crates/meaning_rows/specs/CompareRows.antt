@@ -19,7 +19,7 @@ use Rattle.meaning.specs.Machine.{Settled, stopped, failed, opening, feedAll, f
 use Rattle.meaning.specs.Program.{conditionWords}
 use Rattle.meaning.specs.Listing.{conditionText}
 use Rattle.meaning.specs.Examples.ListingRows.{codes}
-use Rattle.meaning.specs.Examples.Words.{occ, rule, lent, plain}
+use Rattle.meaning.specs.Examples.WordsAndTags.{occ, rule, lent, plain}
 use Rattle.meaning.specs.Examples.Samples.{handDown, handUp, inFirst}
 use Rattle.meaning.specs.Examples.SetRows.{low-high, entries}
 use Rattle.meaning_statements.specs.CompareStatementRows.{far}

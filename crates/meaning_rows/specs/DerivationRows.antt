@@ -6,7 +6,7 @@ use lib.IntN.{ℤ, pos}
 use lib.Dec.{lit<}
 use Rattle.meaning.specs.Grammar.{Symbol, terminal, nonterminal, token, over, const, copy, range, Grammar}
 use Rattle.meaning.specs.Derivation.{itself, step, Reachable, Productive, LeftRecursive, First, Follow, Starts, Clash}
-use Rattle.meaning.specs.Examples.Words.{words, p1, occ, rule}
+use Rattle.meaning.specs.Examples.WordsAndTags.{words, p1, occ, rule}
 
 abbrev L : Symbol
 L = nonterminal 1

@@ -11,7 +11,7 @@ use lib.Dec.{lit<, lit≤}
 use Rattle.meaning.specs.Grammar.{nonterminal}
 use Rattle.meaning.specs.Calls.{more, refused, stacksFit, openOf, finishOf}
 use Rattle.meaning.specs.Fit.{Fit, segment, inside}
-use Rattle.meaning.specs.Examples.Words.{words}
+use Rattle.meaning.specs.Examples.WordsAndTags.{words}
 use Rattle.meaning.specs.Examples.SchemeRows.{wide}
 use Rattle.meaning.specs.Examples.CallRows.{m, state, stacks, called, feedKinds}
 

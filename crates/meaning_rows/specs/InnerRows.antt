@@ -11,7 +11,7 @@ use Rattle.meaning.specs.Calls.{running, waiting, closed, outer, inner, Stacks,
 use Rattle.meaning.specs.PublicCalls.{feed, finish, areaLength, written, performs}
 use Rattle.meaning.specs.PublicCalls as PublicCalls
 use Rattle.meaning_inner.specs.Inner.{above, paste, InnerCalled, InnerCall, engine, giveUp, innerOf, innerOpens, innerPerforms}
-use Rattle.meaning.specs.Examples.Words.{words}
+use Rattle.meaning.specs.Examples.WordsAndTags.{words}
 use Rattle.meaning.specs.Examples.Samples.{small}
 use Rattle.meaning.specs.Examples.TokenRows.{lengths}
 use Rattle.meaning.specs.Examples.TableRows.{bytes}

@@ -15,7 +15,7 @@ use Rattle.meaning.specs.PublicCalls.{feed, finish, written}
 use Rattle.meaning_inner.specs.Inner.{registerBase, placeBase, giveUp}
 use Rattle.meaning_statements.specs.CallStatements.{Met, Case, isWaiting, isInner, whichCase}
 use Rattle.meaning_statements.specs.InnerStatements.{bothBack, outerClosed, isThird, badInner, openingEffect, Belongs, eitherClosed, apart, innerCallEffect, Kept, InsideHistory, begins, passes, feeds, finishes}
-use Rattle.meaning.specs.Examples.Words.{words}
+use Rattle.meaning.specs.Examples.WordsAndTags.{words}
 use Rattle.meaning.specs.Examples.TableRows.{bytes}
 use Rattle.meaning.specs.Examples.Samples.{small}
 use Rattle.meaning.specs.Examples.CallRows.{m, record-of, stacks}

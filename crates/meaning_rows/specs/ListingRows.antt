@@ -6,7 +6,7 @@ use Rattle.meaning.specs.Listing.{number, integer, refusalLine, productionLines
 use Rattle.meaning.specs.PublicCalls.{joined, printed}
 use Rattle.meaning.specs.Examples.Samples.{functions, small}
 use Rattle.meaning.specs.Examples.SchemeRows.{wide, wide1}
-use Rattle.meaning.specs.Examples.Words.{words}
+use Rattle.meaning.specs.Examples.WordsAndTags.{words}
 use Rattle.meaning.specs.Examples.ListingRows.{codes}
 
 codes-are-bytes : codes "0 A1 -2\n" ≡ 48 ∷ 32 ∷ 65 ∷ 49 ∷ 32 ∷ 45 ∷ 50 ∷ 10 ∷ []

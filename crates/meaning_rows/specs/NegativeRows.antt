@@ -16,7 +16,7 @@ use Rattle.meaning.specs.Part.{fresh, added, valued, left, closing, Ancestor, c
 use Rattle.meaning.specs.Selectors.{partAt, Found}
 use Rattle.meaning_statements.specs.CallStatements.{Handles}
 use Rattle.meaning_statements.specs.Statements.{Returned}
-use Rattle.meaning.specs.Examples.Words.{occ, rule, bare}
+use Rattle.meaning.specs.Examples.WordsAndTags.{occ, rule, bare}
 use Rattle.meaning.specs.Examples.SchemeRows.{wide, wide1}
 use Rattle.meaning.specs.Examples.WalkRows.{wideTree}
 use Rattle.meaning.specs.Examples.CallRows.{m}

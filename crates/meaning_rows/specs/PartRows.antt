@@ -10,7 +10,7 @@ use Rattle.meaning.specs.Machine.{Config, moved, blocked, opening, next, lookAt
 use Rattle.meaning.specs.Tree.{Tree, leaf, node, noTrees, treeAnd}
 use Rattle.meaning.specs.Part.{fresh, added, valued, left, closing, Part, yieldPart, valueIn, drawFrames, drawRegisters, drawPart, forestOnto, Good, PartOf}
 use Rattle.meaning.specs.Selectors.{partAt, partNames, FindsTarget}
-use Rattle.meaning.specs.Examples.Words.{words, bare, plain, occ, lent}
+use Rattle.meaning.specs.Examples.WordsAndTags.{words, bare, plain, occ, lent}
 use Rattle.meaning.specs.Examples.SchemeRows.{wide}
 use Rattle.meaning.specs.Examples.WalkRows.{wideTree, wideSegment}
 use Rattle.meaning.specs.Examples.CallRows.{m}

@@ -3,7 +3,7 @@ use Prim.Native.Nat.{_+_, _*_}
 use mathlib.Core.Path.{_≡_, refl}
 use mathlib.Core.List.{[], _∷_, _++_}
 use lib.ListN.{length, take, drop, replicate}
-use Rattle.meaning.specs.Examples.Words.{words}
+use Rattle.meaning.specs.Examples.WordsAndTags.{words}
 use Rattle.meaning.specs.Program.{programOf}
 
 -- expect S, nothing left, records at 137, 3 terminals, 1 register, result 1, 4 productions, no terminal with a value

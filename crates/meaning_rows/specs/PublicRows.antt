@@ -10,7 +10,7 @@ use Rattle.meaning.specs.Value.{quotient, floored}
 use Rattle.meaning.specs.Calls.{more, value, refused, tableRefused, closedRecord}
 use Rattle.meaning.specs.PublicCalls.{called, feed, finish, areaLength, written, opens, performs, stretchOf, turned, programmed, made, madeOf}
 use Rattle.meaning.specs.Program.{programOf}
-use Rattle.meaning.specs.Examples.Words.{words}
+use Rattle.meaning.specs.Examples.WordsAndTags.{words}
 use Rattle.meaning.specs.Examples.Samples.{small, functions}
 use Rattle.meaning.specs.Examples.TableRows.{bytes}
 use Rattle.meaning.specs.Examples.CallRows.{m, state, stacks, used}

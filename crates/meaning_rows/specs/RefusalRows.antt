@@ -7,7 +7,7 @@ use lib.ListN.{replicate}
 use lib.IntN.{ℤ, pos}
 use Rattle.meaning.specs.Grammar.{terminal, nonterminal, const, copy, range, Grammar}
 use Rattle.meaning.specs.Calls.{Called, more, value, refused, openOf, finishOf}
-use Rattle.meaning.specs.Examples.Words.{words, p0, p1, p2, occ, rule}
+use Rattle.meaning.specs.Examples.WordsAndTags.{words, p0, p1, p2, occ, rule}
 use Rattle.meaning.specs.Examples.SchemeRows.{wide}
 use Rattle.meaning.specs.Examples.CallRows.{m, state, stacks, called, used, feedKinds, thenFeed, thenFinish}
 use Rattle.meaning.specs.Examples.RefusalRows.{sums}

@@ -10,7 +10,7 @@ use Rattle.meaning.specs.Table.{readTable}
 use Rattle.meaning.specs.Judgement.{Verdict, accepted, rejected}
 use Rattle.meaning.specs.Decide.{verdictOf}
 use Rattle.meaning.specs.Layout.{field}
-use Rattle.meaning.specs.Examples.Words.{occ, rule}
+use Rattle.meaning.specs.Examples.WordsAndTags.{occ, rule}
 use Rattle.meaning.specs.Examples.TableRows.{grammar}
 use Rattle.meaning.specs.Examples.Samples.{header, counts, handDown, handUp, firstProduction, aToToken, inFirst, inLast, functions}
 

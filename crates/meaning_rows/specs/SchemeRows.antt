@@ -4,7 +4,7 @@ use mathlib.Core.List.{[], _∷_, map}
 use lib.IntN.{pos, negsuc}
 use Rattle.meaning.specs.Grammar.{terminal, nonterminal, range, conditionPosition, productionAt, symbolAt, att}
 use Rattle.meaning.specs.Scheme.{expect, remove, scheme, entryTests, selectInherited, selectAfter}
-use Rattle.meaning.specs.Examples.Words.{words, occ}
+use Rattle.meaning.specs.Examples.WordsAndTags.{words, occ}
 use Rattle.meaning.specs.Examples.SchemeRows.{X, Y, wide1, wide}
 
 -- ---- symbols and positions

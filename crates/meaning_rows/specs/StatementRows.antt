@@ -20,7 +20,7 @@ use Rattle.meaning_inner.specs.Inner.{isClosed, InnerCall, engine, giveUp}
 use Rattle.meaning_inner.specs.InnerLists.{CallWithTable, innerRun}
 use Rattle.meaning_statements.specs.CallStatements.{handedBack, Refuses, tooMany, notToken, atToken, atEnd, between, MovesTo, CallsMoveOf}
 use Rattle.meaning_statements.specs.Statements.{History, opened, countsForNothing, innerEnded, fed, finished}
-use Rattle.meaning.specs.Examples.Words.{words, plain}
+use Rattle.meaning.specs.Examples.WordsAndTags.{words, plain}
 use Rattle.meaning.specs.Examples.TableRows.{bytes}
 use Rattle.meaning.specs.Examples.CallRows.{m, state, stacks, used}
 use Rattle.meaning_statements.specs.StatementRows.{program, area, long, feedKinds, stuck, fresh, Answered, lent, not-by}

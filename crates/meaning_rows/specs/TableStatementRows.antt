@@ -14,7 +14,7 @@ use Rattle.meaning.specs.Layout.{field, ruleBytes, conditionBytes, RulesAndCond
 use Rattle.meaning.specs.Scheme.{Instruction, add, evaluate, expect, test, remove}
 use Rattle.meaning_statements.specs.TableStatements.{StretchIn, SameProduction}
 use Rattle.meaning.specs.Examples.Samples.{small, sToA, handDown, handUp, aToToken, aIsZero}
-use Rattle.meaning.specs.Examples.Words.{words, occ, rule, p0, p1, p3}
+use Rattle.meaning.specs.Examples.WordsAndTags.{words, occ, rule, p0, p1, p3}
 
 -- ---- the stretch
 

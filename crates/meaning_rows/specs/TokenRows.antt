@@ -23,7 +23,7 @@ use Rattle.meaning.specs.Fit.{Fit, segment, inside}
 use Rattle.meaning.specs.PublicCalls.{printed}
 use Rattle.meaning.specs.Program.{programOf}
 use Rattle.meaning.specs.Table.{readTable}
-use Rattle.meaning.specs.Examples.Words.{words, occ, bare, lent}
+use Rattle.meaning.specs.Examples.WordsAndTags.{words, occ, bare, lent}
 use Rattle.meaning.specs.Examples.TableRows.{grammar}
 use Rattle.meaning.specs.Examples.ListingRows.{codes}
 use Rattle.meaning.specs.Examples.CallRows.{m, state, stacks, called, used, thenFeed, thenFinish}

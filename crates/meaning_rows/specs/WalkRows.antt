@@ -14,7 +14,7 @@ use Rattle.meaning.specs.Tree.{Tree, leaf, node, noTrees, treeAnd, valueOf}
 use Rattle.meaning.specs.Walk.{Act, predicts, reads, performs, walk, walkTo, actBy, Makes, nothing, andThen}
 use Rattle.meaning.specs.Drawn.{registersFor, depth, WalkFits, drawnRecord, drawnStacks, drawnMoves}
 use Rattle.meaning.specs.Calls.{Called, more, value, refused, openOf}
-use Rattle.meaning.specs.Examples.Words.{words, bare, plain, lent}
+use Rattle.meaning.specs.Examples.WordsAndTags.{words, bare, plain, lent}
 use Rattle.meaning.specs.Examples.Pictures.{tree, segment}
 use Rattle.meaning.specs.Examples.SchemeRows.{wide}
 use Rattle.meaning.specs.Examples.CallRows.{m, called, used, thenFeed, thenFinish}

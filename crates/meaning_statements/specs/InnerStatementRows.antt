@@ -13,7 +13,7 @@ use Rattle.meaning.specs.PublicCalls.{areaLength, written}
 use Rattle.meaning_inner.specs.Inner.{registerBase}
 use Rattle.meaning_inner.specs.InnerLists.{Both}
 use Rattle.meaning_statements.specs.InnerStatements.{bothBack, isThird, openingEffect, Belongs, Kept}
-use Rattle.meaning.specs.Examples.Words.{words}
+use Rattle.meaning.specs.Examples.WordsAndTags.{words}
 use Rattle.meaning.specs.Examples.TableRows.{bytes}
 use Rattle.meaning.specs.Examples.Samples.{small}
 use Rattle.meaning.specs.Examples.CallRows.{m, record-of, stacks}

@@ -17,7 +17,7 @@ use Rattle.meaning_inner.specs.Inner.{giveUp, innerOpens, innerPerforms}
 use Rattle.meaning_inner.specs.InnerLists.{innerRun, Both}
 use Rattle.meaning_statements.specs.CallStatements.{handedBack, OpeningOf, Refuses, tooMany, notToken, atToken, atEnd, between, MovesTo}
 use Rattle.meaning_statements.specs.Statements.{History, countsForNothing, innerEnded, Reached}
-use Rattle.meaning.specs.Examples.Words.{words, bare, plain}
+use Rattle.meaning.specs.Examples.WordsAndTags.{words, bare, plain}
 use Rattle.meaning.specs.Examples.TableRows.{bytes}
 use Rattle.meaning.specs.Examples.CallRows.{m, state, stacks, used}
 use Rattle.meaning.specs.Examples.Samples.{small}

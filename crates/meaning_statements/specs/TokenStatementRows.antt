@@ -15,7 +15,7 @@ use Rattle.meaning.specs.PublicCalls.{feed}
 use Rattle.meaning_statements.specs.CallStatements.{Even, tokensOf}
 use Rattle.meaning_statements.specs.TableStatements.{StretchIn, SameScheme}
 use Rattle.meaning_statements.specs.TokenStatements.{SameWhereCarried}
-use Rattle.meaning.specs.Examples.Words.{words, p0, p2, p3, occ, rule}
+use Rattle.meaning.specs.Examples.WordsAndTags.{words, p0, p2, p3, occ, rule}
 use Rattle.meaning.specs.Examples.TokenRows.{lengths, lengthsTable}
 
 -- ---- the lists of a feed

@@ -12,7 +12,7 @@ use Rattle.meaning.specs.Sets.{has, starts}
 use Rattle.meaning.specs.Table.{State, Read, wellFormed, malformed, nothingRead, readTable, productionOf, grammarOf}
 use Rattle.token_set.specs.SetBits.{setOf}
 use Rattle.outline.specs.declared.Sizes.{Sizes}
-use Rattle.outline.specs.Rows.{Rows}
+use Rattle.outline.specs.Images.{ImageOf}
 
 -- ---- what is read of a table; of a malformed one nothing
 
@@ -62,7 +62,7 @@ Starting g count sets = (p : ℕ) → p < count → setOf (getD sets p 0) ≡ st
 -- the productions of a table: their rows, and the offsets of their fields
 pub record Productions (t rows offsets : List ℕ) (count : ℕ) : Type 0 where
   pub isRead : readTable t ≡ wellFormed (stateIn t)
-  pub rowsOf : Rows rows count (grammarIn t)
+  pub rowsOf : ImageOf rows count (grammarIn t)
   pub offset : (p : ℕ) → p < count → getD offsets p 0 ≡ entryOffset (stateIn t) p
 
 pub record Outline (t : List ℕ) (sizes : Sizes) (inherited synthesized rows offsets : List ℕ) : Type 0 where

@@ -3,7 +3,7 @@
 ghost use Prim.Native.Nat.{_≤_, _<_};
 ghost use mathlib.Core.Path.{_≡_};
 ghost use Rattle.outline.specs.Counts.{countAt, synthesizedAt};
-ghost use Rattle.outline.specs.Rows.{HasRow, rowCount, rowStart, rowAt, leftAt, sizeAt, byteAt, leftIn, sizeIn, symbolIn};
+ghost use Rattle.outline.specs.Images.{HasRow, rowCount, rowStart, rowAt, leftAt, sizeAt, byteAt, leftIn, sizeIn, symbolIn};
 use token_set::TokenSet;
 
 // The numbers of a table that is well formed.

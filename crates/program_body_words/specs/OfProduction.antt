@@ -17,7 +17,7 @@ use Rattle.meaning.specs.Table.{byte, symbolOf}
 use Rattle.theory_base.specs.Members.{getD-in}
 use Rattle.theory_program.specs.Code.{conditions-length}
 use Rattle.token_set.specs.SetBits.{setOf}
-use Rattle.outline.specs.Rows.{leftIn, sizeIn, symbolIn}
+use Rattle.outline.specs.Images.{leftIn, sizeIn, symbolIn}
 use Rattle.outline.specs.Outline.{CountsOf}
 use Rattle.outline.specs.Counts.{countAt, synthesizedAt}
 use Rattle.program_block_words.specs.Patch.{patch, Wrote}

@@ -3,7 +3,7 @@ ghost use Prim.Native.Nat.{_≤_, _<_};
 ghost use mathlib.Core.Path.{_≡_};
 ghost use lib.ListN.{length};
 ghost use Rattle.program_words.specs.Fields.{fieldsFrom, stretchEnd, fieldsAt};
-ghost use Rattle.outline.specs.Rows.{HasRow};
+ghost use Rattle.outline.specs.Images.{HasRow};
 
 // Where they begin.
 pub fn fields_from(rows: &[u8], offsets: &[u32], p: usize) -> usize

@@ -4,7 +4,7 @@ ghost use lib.ListN.{length};
 ghost use Rattle.program_block_words.specs.Patch.{Wrote};
 ghost use Prim.Native.Nat.{_≤_, _<_};
 ghost use Rattle.meaning.specs.Grammar.{Grammar};
-ghost use Rattle.outline.specs.Rows.{Rows};
+ghost use Rattle.outline.specs.Images.{ImageOf};
 ghost use Rattle.outline.specs.Outline.{grammarIn};
 ghost use Rattle.program_words.specs.Records.{Nexts, recordAt};
 ghost use Rattle.program_words.specs.Waits.{waitFrom};
@@ -15,7 +15,7 @@ use program_fields::fields_of;
 // For each production the number plus 1 of the next one with the same left side, or 0: the last production first, with the first
 // one so far of each nonterminal.
 pub fn find_nexts(rows: &[u8], count: usize) -> [u8; 128]
-    requires { ⌜ ((g : Grammar) × Rows (now rows) count g) ⌝ }
+    requires { ⌜ ((g : Grammar) × ImageOf (now rows) count g) ⌝ }
     ensures { λ r. ⌜ Nexts (now (rows .entry)) count r ⌝ }
 {
     let mut nexts = [0u8; 128];

@@ -9,7 +9,7 @@ use Rattle.meaning.specs.Scheme.{entryTests}
 use Rattle.meaning.specs.Program.{waitRow, waits, recordsFrom, bodiesFrom, recordsAddress, waitsAddress, bodiesAddress, schemeOffset, bodySize}
 use Rattle.program_block_words.specs.Patch.{patch, Wrote}
 use Rattle.outline.specs.declared.Sizes.{Sizes}
-use Rattle.outline.specs.Rows.{Rows}
+use Rattle.outline.specs.Images.{ImageOf}
 use Rattle.outline.specs.Outline.{grammarIn, Starting, Outline, Outlined}
 use Rattle.program_words.specs.Records.{NextOf, recordAt, bodyAt}
 use Rattle.program_words.specs.Waits.{waitAt}
@@ -28,7 +28,7 @@ LinksFit bytes nodes = (nodes ≤ 1023) × ((n : ℕ) → n ≤ 616 → 8 * n �
 pub record RecordFits (rows sets : List ℕ) (p body entries next : ℕ) (area : List ℕ) (at : ℕ) : Type 0 where
   pub count : ℕ
   pub grammar : Grammar
-  pub rowsOf : Rows rows count grammar
+  pub rowsOf : ImageOf rows count grammar
   pub starting : Starting grammar count sets
   pub here : p < count
   pub tests : entries ≡ length (entryTests grammar (productionAt grammar p))

@@ -21,7 +21,7 @@ use Rattle.meaning.specs.Program.{firstOf, directory, directoryWord, entryOf, s
 use Rattle.theory_base.specs.WellFormed.{listed-at, well-formed-at}
 use Rattle.token_set.specs.SetBits.{bit, has-bit}
 use Rattle.outline.specs.declared.Sizes.{Sizes}
-use Rattle.outline.specs.Rows.{Rows, leftAt}
+use Rattle.outline.specs.Images.{ImageOf, leftAt}
 use Rattle.outline.specs.Outline.{grammarIn, Starting, Outlined}
 use Rattle.theory_program.specs.Addresses.{row-at, directory-length, recordAddress}
 use Rattle.program_block_words.specs.Patch.{patch, Wrote, patch-length, patch-before, patch-inside, patch-behind}
@@ -29,7 +29,7 @@ use Rattle.program_block_words.specs.Patch.{patch, Wrote, patch-length, patch-b
 -- what is brought of the productions as alternatives of their left sides
 pub record Alternatives (rows sets : List ℕ) (nonterminals count : ℕ) : Type 0 where
   pub grammar : Grammar
-  pub rowsOf : Rows rows count grammar
+  pub rowsOf : ImageOf rows count grammar
   pub isNonterminals : nonterminals ≡ nonterminalCount grammar
   pub starting : Starting grammar count sets
 

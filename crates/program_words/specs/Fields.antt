@@ -19,7 +19,7 @@ use Rattle.theory_table.specs.Places.{read-places}
 use Rattle.theory_table.specs.ReadLaidOut.{read-stretch}
 use Rattle.theory_table.specs.Reading.{table-reads}
 use Rattle.theory_table.specs.Stretches.{StretchAt}
-use Rattle.outline.specs.Rows.{rowStart, rowAt, sizeAt, size-is, symbol-is}
+use Rattle.outline.specs.Images.{rowStart, rowAt, sizeAt, size-is, symbol-is}
 use Rattle.outline.specs.Outline.{stateIn, grammarIn, CountsOf, Productions, entries-are}
 use Rattle.program_body_words.specs.OfProduction.{OfProduction}
 

@@ -8,15 +8,15 @@ use lib.ListN.{length, getD, set, drop, replicate, length-set, getD-replicate}
 use lib.Seq.{getD-set-same, getD-set-other}
 use Rattle.meaning.specs.Grammar.{Grammar}
 use Rattle.meaning.specs.Program.{firstOf}
-use Rattle.outline.specs.Rows.{Rows, leftAt}
+use Rattle.outline.specs.Images.{ImageOf, leftAt}
 use Rattle.program_words.specs.Records.{sameLeft, Nexts, next-found, next-passed, next-none}
 
 -- those of the productions from i on, and the first production from i on of each nonterminal
 pub record NextsGo (rows : List ℕ) (count i : ℕ) (nexts firsts : List ℕ) : Type 0 where
   pub size : length nexts ≡ 128
   pub wide : length firsts ≡ 48
-  pub done : (g : Grammar) → Rows rows count g → (p : ℕ) → i ≤ p → p < count → getD nexts p 0 ≡ firstOf (sameLeft (leftAt rows p)) (p + 1) (drop (p + 1) (g .productions))
-  pub first : (g : Grammar) → Rows rows count g → (n : ℕ) → n < 48 → getD firsts n 0 ≡ firstOf (sameLeft n) i (drop i (g .productions))
+  pub done : (g : Grammar) → ImageOf rows count g → (p : ℕ) → i ≤ p → p < count → getD nexts p 0 ≡ firstOf (sameLeft (leftAt rows p)) (p + 1) (drop (p + 1) (g .productions))
+  pub first : (g : Grammar) → ImageOf rows count g → (n : ℕ) → n < 48 → getD firsts n 0 ≡ firstOf (sameLeft n) i (drop i (g .productions))
 
 module _ {rows : List ℕ} {count : ℕ} where
   pub nexts-start : NextsGo rows count count (replicate 128 0) (replicate 48 0)
@@ -47,7 +47,7 @@ module _ {rows : List ℕ} {count : ℕ} where
           first = λ g x n l. first g x n l (ℕ-discrete n b);
         }
       where
-        done : (g : Grammar) → Rows rows count g → (q : ℕ) → p - 1 ≤ q → q < count → Dec (q ≡ p - 1) → getD (set nexts (p - 1) (getD firsts b 0)) q 0 ≡ firstOf (sameLeft (leftAt rows q)) (q + 1) (drop (q + 1) (g .productions))
+        done : (g : Grammar) → ImageOf rows count g → (q : ℕ) → p - 1 ≤ q → q < count → Dec (q ≡ p - 1) → getD (set nexts (p - 1) (getD firsts b 0)) q 0 ≡ firstOf (sameLeft (leftAt rows q)) (q + 1) (drop (q + 1) (g .productions))
         done g x q l m (yes h) =
             rw h
             (getD-set-same nexts (p - 1) (getD firsts b 0) 0 (omega (arith, o .size))
@@ -55,7 +55,7 @@ module _ {rows : List ℕ} {count : ℕ} where
             ∙ ap₂ (λ y z. firstOf (sameLeft y) z (drop z (g .productions))) e again))
         done g x q l m (no h) = getD-set-other nexts (p - 1) q (getD firsts b 0) 0 h ∙ o .done g x q (omega arith) m
 
-        first : (g : Grammar) → Rows rows count g → (n : ℕ) → n < 48 → Dec (n ≡ b) → getD (set firsts b (p - 1 + 1)) n 0 ≡ firstOf (sameLeft n) (p - 1) (drop (p - 1) (g .productions))
+        first : (g : Grammar) → ImageOf rows count g → (n : ℕ) → n < 48 → Dec (n ≡ b) → getD (set firsts b (p - 1 + 1)) n 0 ≡ firstOf (sameLeft n) (p - 1) (drop (p - 1) (g .productions))
         first g x n l (yes h) = rw h (getD-set-same firsts b (p - 1 + 1) 0 (omega (arith, o .wide)) ∙ next-found x b (p - 1) (omega arith) b e refl)
         first g x n l (no h) =
             getD-set-other firsts b n (p - 1 + 1) 0 h

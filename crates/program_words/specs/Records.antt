@@ -17,7 +17,7 @@ use Rattle.meaning.specs.Sets.{TokenSet, has}
 use Rattle.meaning.specs.Program.{setBits, firstOf, recordWords, recordsFrom, bodyWords, bodySize, bodiesFrom}
 use Rattle.theory_base.specs.WellFormed.{listed-at}
 use Rattle.theory_program.specs.SetWords.{bits-step, bits-small, both-words}
-use Rattle.outline.specs.Rows.{Rows, leftAt}
+use Rattle.outline.specs.Images.{ImageOf, leftAt}
 use Rattle.program_block_words.specs.Patch.{patch, Wrote, patch-none, patch-length, patch-append, patch-swap}
 
 -- ---- a set's two words
@@ -65,7 +65,7 @@ module _ (s : TokenSet) where
 abbrev pub sameLeft : ℕ → Production → Bool
 sameLeft n q = eqb (q .left) n
 
-module _ {rows : List ℕ} {count : ℕ} {g : Grammar} (x : Rows rows count g) (n i : ℕ) where
+module _ {rows : List ℕ} {count : ℕ} {g : Grammar} (x : ImageOf rows count g) (n i : ℕ) where
   abbrev ps : List Production
   ps = g .productions
 
@@ -86,7 +86,7 @@ module _ {rows : List ℕ} {count : ℕ} {g : Grammar} (x : Rows rows count g) (
 
 -- the number plus 1 of the production that follows p among those of its left side, or 0
 abbrev pub NextOf : List ℕ → ℕ → ℕ → ℕ → Type 0
-NextOf rows count p next = (g : Grammar) → Rows rows count g → next ≡ firstOf (sameLeft (leftAt rows p)) (p + 1) (drop (p + 1) (g .productions))
+NextOf rows count p next = (g : Grammar) → ImageOf rows count g → next ≡ firstOf (sameLeft (leftAt rows p)) (p + 1) (drop (p + 1) (g .productions))
 
 -- that of each production
 abbrev pub Nexts : List ℕ → ℕ → List ℕ → Type 0

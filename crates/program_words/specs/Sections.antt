@@ -27,7 +27,7 @@ use Rattle.program_body_words.specs.Laws.{patch-beside}
 use Rattle.program_body_words.specs.Symbols.{tests-count}
 use Rattle.table.specs.CarriedSet.{carried-count}
 use Rattle.outline.specs.declared.Sizes.{Sizes}
-use Rattle.outline.specs.Rows.{Rows, HasRow, rowAt, leftAt, sizeAt, size-is, image-of}
+use Rattle.outline.specs.Images.{ImageOf, HasRow, rowAt, leftAt, sizeAt, size-is, image-of}
 use Rattle.outline.specs.Outline.{grammarIn, Productions, Outlined}
 use Rattle.program_words.specs.Most.{rules-most, conditions-most, fields-long}
 use Rattle.program_words.specs.Fields.{stretchEnd, fieldsFrom, fieldsAt, fields-place, given-at}
@@ -47,7 +47,7 @@ module _ {rows sets : List ℕ} {nonterminals count : ℕ} (x : Alternatives row
   pub nonterminals-few : nonterminals ≤ 48
   nonterminals-few = omega (arith, x .isNonterminals, x .rowsOf .sound .nonterminals .1)
 
-module _ {rows : List ℕ} {count : ℕ} {g : Grammar} (x : Rows rows count g) where
+module _ {rows : List ℕ} {count : ℕ} {g : Grammar} (x : ImageOf rows count g) where
   pub count-few : count ≤ 128
   count-few = image-of x .few
 

@@ -5,7 +5,7 @@ use mathlib.Core.Bool.{true, false}
 use mathlib.Core.List.{List, [], _∷_, _++_}
 use lib.IntN.{ℤ, pos}
 use Rattle.meaning.specs.Value.{mark}
-use Rattle.meaning.specs.Examples.Words.{words}
+use Rattle.meaning.specs.Examples.WordsAndTags.{words}
 use Rattle.meaning.specs.Calls.{stacksFit, valued, marked}
 use Rattle.theory_program.specs.Parts.{waitSymbol}
 use Rattle.run_fit_past.specs.Passing.{fitsFrom}

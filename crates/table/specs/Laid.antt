@@ -5,7 +5,7 @@ use mathlib.Core.List.{List, [], _∷_}
 use lib.ListN.{getD, length}
 use Rattle.meaning.specs.Grammar.{terminal}
 use Rattle.meaning.specs.Table.{State, Entry, symbolOf}
-use Rattle.outline.specs.Rows.{leftAt, sizeAt, byteAt}
+use Rattle.outline.specs.Images.{leftAt, sizeAt, byteAt}
 use Rattle.table_fields.specs.Reads.{stateOf}
 use Rattle.table_counts.specs.Counted.{headerIn, countsUpTo, offsetsUpTo}
 

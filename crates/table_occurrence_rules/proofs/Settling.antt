@@ -14,7 +14,7 @@ use borrow.Author.Tests.{eq-eqb, ne-eqb}
 use Rattle.meaning.specs.Table.{byte}
 use Rattle.table_fields.proofs.Cases.{lt-or-le}
 use Rattle.table_fields.proofs.Demands.{equal-yes, equal-no, below-yes, below-no}
-use Rattle.table_rules.specs.Rule.{bit, classAt, classIn, operandCount, OperandsFit, ruleUses}
+use Rattle.table_rules.specs.Rule.{bit, classAt, classIn, operandCount, OperandsFit, ruleItems}
 use Rattle.table_rules.proofs.Laws.{class-first}
 use Rattle.table_rule_note.proofs.Bits.{bit-set, one-bit}
 use Rattle.table_rule_fields.proofs.Sound.{class-bytes, note-bytes, sound-left, sound-right}
@@ -111,7 +111,7 @@ module _ (width : ℕ) (inh syn note b : List ℕ) (p a : ℕ) (is-place : p ≡
   -- the rule of a target that is settled
   pub settle-sound :
       (limit n : ℕ) → 2 ≡ classAt width inh syn p a → bit (getD note p 0) (a - 1) ≡ false → OperandsFit limit width inh syn b n → ((p ≡ 0 → ⊥) → limit ≡ p)
-      → 0 ≡ ruleUses width inh syn note b n
+      → 0 ≡ ruleItems width inh syn note b n
   settle-sound limit n out free fit lim = go (ℕ-discrete p 0)
     where
       target : 2 ≡ classIn width inh syn b 0
@@ -120,7 +120,7 @@ module _ (width : ℕ) (inh syn note b : List ℕ) (p a : ℕ) (is-place : p ≡
       unnoted : bit (getD note (byte b 0) 0) (byte b 1 - 1) ≡ false
       unnoted = note-bytes note b p a is-place is-attribute refl free
 
-      go : Dec (p ≡ 0) → 0 ≡ ruleUses width inh syn note b n
+      go : Dec (p ≡ 0) → 0 ≡ ruleItems width inh syn note b n
       go (yes z) = sound-left limit width inh syn note b n target unnoted fit (sym is-place ∙ z)
       go (no m) = sound-right limit width inh syn note b n target unnoted fit (λ q. m (is-place ∙ q)) (lim m ∙ is-place)
 

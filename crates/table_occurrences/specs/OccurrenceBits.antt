@@ -8,7 +8,7 @@ use lib.ListN.{getD, length, set}
 use Rattle.meaning.specs.Grammar.{Rule, Occurrence}
 use Rattle.meaning.specs.Table.{byte}
 use Rattle.table_fields.specs.Demand.{ifEqual}
-use Rattle.table_rules.specs.Rule.{Small, bit, classAt, operandCount, ruleUses}
+use Rattle.table_rules.specs.Rule.{Small, bit, classAt, operandCount, ruleItems}
 use Rattle.table_rules.specs.Note.{Notes}
 
 -- the attributes above one number up to another
@@ -51,7 +51,7 @@ notedBy note b = set note (byte b 0) (bitOr (getD note (byte b 0) 0) (2 ^ (byte 
 abbrev pub RuleSettled : List ℕ → List ℕ → List ℕ → List ℕ → ℕ → Type 0
 RuleSettled inputs words words′ b f =
     (width : ℕ) (inh syn note : List ℕ) → Small width inh syn → Inputs width inh syn inputs → Settled width inh syn note words
-    → (0 ≡ ruleUses width inh syn note b (operandCount f)) × Settled width inh syn (notedBy note b) words′
+    → (0 ≡ ruleItems width inh syn note b (operandCount f)) × Settled width inh syn (notedBy note b) words′
 
 -- the byte of a note at a position, by the word there and the counts of its symbol: the outputs that are settled
 abbrev pub notedIn : ℕ → ℕ → ℕ → ℕ → ℕ

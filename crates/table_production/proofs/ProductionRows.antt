@@ -8,7 +8,7 @@ use lib.ListN.{length, getD, drop, set, length-set, length-map, length-drop}
 use lib.Seq.{getD-set-same, getD-set-other}
 use Rattle.meaning.specs.Grammar.{Counts, Symbol, terminal}
 use Rattle.meaning.specs.Table.{byte, State, Entry, noEntry, wellFormed, malformed, stage, atAny, atFirst, lastComplete, symbolOf, current}
-use Rattle.outline.specs.Rows.{rowStart}
+use Rattle.outline.specs.Images.{rowStart}
 use Rattle.table_fields.specs.Field.{rest}
 use Rattle.table_fields.specs.Reads.{stateOf, entryOf}
 use Rattle.table_fields.proofs.Rest.{rest-end, judged-fine, judged-refused, body-byte}

@@ -9,7 +9,7 @@ use lib.ListN.{length, getD, set, drop, length-map, length-drop, List·getD-map}
 use lib.Seq.{getD-drop}
 use Rattle.meaning.specs.Base.{any}
 use Rattle.meaning.specs.Table.{byte, symbolOf}
-use Rattle.outline.specs.Rows.{rowStart, sizeAt, rightAt, right-length, right-at, right-is}
+use Rattle.outline.specs.Images.{rowStart, sizeAt, rightAt, right-length, right-at, right-is}
 use Rattle.analysis.specs.Views.{symbolBit, rightBy}
 use Rattle.analysis.specs.Growth.{SetsTo, sets-none, sets-next}
 use Rattle.table_fields.specs.Judge.{symbolKnown}

@@ -1,7 +1,7 @@
 -- The words of the right sides of the productions read so far.
 use Prim.Native.Nat.{ℕ, _≤_, _<_}
 use mathlib.Core.List.{List}
-use Rattle.outline.specs.Rows.{sizeAt}
+use Rattle.outline.specs.Images.{sizeAt}
 use Rattle.analysis.specs.Views.{rightBy}
 use Rattle.analysis.specs.Growth.{SetsTo}
 

@@ -10,7 +10,7 @@ use Rattle.meaning.specs.Table.{State, Entry, noEntry, wellFormed, readTable, p
 use Rattle.theory_table.specs.Places.{read-places}
 use Rattle.theory_table.specs.ReadWellFormed.{read-well-formed}
 use Rattle.outline.specs.declared.Sizes.{Sizes}
-use Rattle.outline.specs.Rows.{Rows, sizeAt, rightAt, right-is, rowStart}
+use Rattle.outline.specs.Images.{ImageOf, sizeAt, rightAt, right-is, rowStart}
 use Rattle.outline.specs.Outline.{grammarIn, stateIn, state-read, grammar-read, Carries, Outline}
 use Rattle.table_fields.specs.Reads.{stateOf}
 use Rattle.table_counts.specs.Counted.{headerIn, countsUpTo, offsetsUpTo}
@@ -62,7 +62,7 @@ module _ (t : List ℕ) (from : ℕ) (sizes : Sizes) (inherited synthesized rows
       right : (i : ℕ) → i < p → rightAt rows i ≡ productionAt g i .right
       right i l = right-is rows p room i l (short i l) (entry i .right) (row i l .size) (row i l .symbols) ∙ sym (ap (λ q. q .right) (entry-is i l))
 
-      rows-of : Rows rows p g
+      rows-of : ImageOf rows p g
       rows-of = record {
         sound = read-well-formed u s h;
         narrow = read-well-formed u s h .nonterminals .1;
@@ -83,7 +83,7 @@ module _ (t : List ℕ) (from : ℕ) (sizes : Sizes) (inherited synthesized rows
       outline = record {
         productions = record {
           isRead = h ∙ ap wellFormed (sym state-is);
-          rowsOf = subst (Rows rows p) grammar-is rows-of;
+          rowsOf = subst (ImageOf rows p) grammar-is rows-of;
           offset = λ i l. row i l .offset ∙ ap (λ z. entryOffset z i) (sym state-is);
         };
         numbers = record {

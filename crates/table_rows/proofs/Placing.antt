@@ -14,7 +14,7 @@ use lib.Seq.{getD-set-same, getD-set-other, drop-cons}
 use Rattle.meaning.specs.Base.{any}
 use Rattle.meaning.specs.Grammar.{Symbol}
 use Rattle.meaning.specs.Table.{byte, symbolOf}
-use Rattle.outline.specs.Rows.{rowStart}
+use Rattle.outline.specs.Images.{rowStart}
 use Rattle.analysis.specs.Views.{members, symbolBit}
 use Rattle.analysis.specs.Growth.{or-right}
 use Rattle.analysis.specs.Reaching.{Gathered}

@@ -5,7 +5,7 @@ use mathlib.Core.List.{List, map}
 use lib.ListN.{getD, length, drop}
 use Rattle.meaning.specs.Base.{any}
 use Rattle.meaning.specs.Table.{byte, symbolOf}
-use Rattle.outline.specs.Rows.{rowStart}
+use Rattle.outline.specs.Images.{rowStart}
 use Rattle.analysis.specs.Views.{members, symbolBit}
 
 -- the byte of the symbol at a position of a production, by its body

@@ -15,7 +15,7 @@ use Rattle.meaning.specs.Table.{byte, constantAt, State, Entry, Header, rule, o
 use Rattle.table_fields.specs.Demand.{ifEqual, ifBelow, below, lacks, holds, equal, atMost}
 use Rattle.table_fields.proofs.Rest.{fieldOf}
 use Rattle.table_fields.proofs.Judged.{judge-stands}
-use Rattle.table_rules.specs.Rule.{Small, bit, classIn, fourAt, lengthOf, operandCount, operandClass, operandPlace, divisorFits, ruleOrder, ruleUses, ruleFault}
+use Rattle.table_rules.specs.Rule.{Small, bit, classIn, fourAt, lengthOf, operandCount, operandClass, operandPlace, divisorFits, ruleOrder, ruleItems, ruleFault}
 use Rattle.table_rules.specs.Note.{Placed, Notes, occurrence, isSet}
 use Rattle.table_rules.proofs.Laws.{ap3, class-inside, class-first, class-last}
 use Rattle.table_rule_note.proofs.Noting.{notes-bit}
@@ -162,8 +162,8 @@ module _ (h : Header) (cs : List Counts) (os ws : List ℕ) (es : List Entry) (r
       f ≤ 8
       → lowestOf ((K (occurrenceAt b 0) && all K (operands (functionOf b)), 5) ∷ (true, 6) ∷ (not (I (occurrenceAt b 0)) && all I (operands (functionOf b)), 7)
       ∷ (not (hasRule e (occurrenceAt b 0)), 8) ∷ (eqb (byte b 0) 0 || all (λ x. ltb (x .position) (byte b 0)) (operands (functionOf b)), 9) ∷ (true, 10) ∷ [])
-      ≡ ruleUses width inh syn note b (operandCount f)
-  unfolding ruleUses ruleOrder operandPlace lacks below ifEqual ifBelow
+      ≡ ruleItems width inh syn note b (operandCount f)
+  unfolding ruleItems ruleOrder operandPlace lacks below ifEqual ifBelow
   uses-judged u =
       ap3
       (λ x y z. lowestOf ((K (occurrenceAt b 0) && x, 5) ∷ (true, 6) ∷ (not (I (occurrenceAt b 0)) && y, 7) ∷ (not (hasRule e (occurrenceAt b 0)), 8) ∷ (eqb (byte b 0) 0 || z, 9) ∷ (true, 10) ∷ []))
@@ -201,14 +201,14 @@ module _ (h : Header) (cs : List Counts) (os ws : List ℕ) (es : List Entry) (r
 
   abbrev fault : Bool → ℕ
   fault u =
-      cond (leb 3 (length b)) (cond (ltb r 1024) (cond u (cond (eqb (length b) (lengthOf f)) (cond (divisorFits f b) (ruleUses width inh syn note b (operandCount f)) 4) 4) 5) 4) 4
+      cond (leb 3 (length b)) (cond (ltb r 1024) (cond u (cond (eqb (length b) (lengthOf f)) (cond (divisorFits f b) (ruleItems width inh syn note b (operandCount f)) 4) 4) 5) 4) 4
 
   by-function : (u : Bool) → leb f 8 ≡ u → whole (ltb 8 f) (eqb f 8) (leb f 8) ≡ fault (leb f 8)
   unfolding divisorFits ifEqual ifBelow
   by-function true w =
       let k : f ≤ 8 = leb-true f 8 w in
       ap₂ (λ x u. whole x (eqb f 8) u) (le-ltb 8 f k) w
-      ∙ rule-by (leb 3 (length b)) (ltb r 1024) (eqb (length b) (ruleLength f)) (eqb (length b) (lengthOf f)) (not (eqb f 8) || divisor) (divisorFits f b) ((K (occurrenceAt b 0) && all K (operands (functionOf b)), 5) ∷ rest) (ruleUses width inh syn note b (operandCount f))
+      ∙ rule-by (leb 3 (length b)) (ltb r 1024) (eqb (length b) (ruleLength f)) (eqb (length b) (lengthOf f)) (not (eqb f 8) || divisor) (divisorFits f b) ((K (occurrenceAt b 0) && all K (operands (functionOf b)), 5) ∷ rest) (ruleItems width inh syn note b (operandCount f))
       (ap (λ (x : ℕ). eqb (length b) x) (length-by f k))
       (divisor-in b (eqb f 8))
       (uses-judged k)

@@ -9,7 +9,7 @@ use lib.ListN.{getD}
 use Rattle.meaning.specs.Table.{byte}
 use Rattle.table_fields.specs.Demand.{ifEqual, ifBelow, differs}
 use Rattle.table_fields.proofs.Demands.{lacks-met, below-met, equal-yes, equal-no, below-yes, below-no}
-use Rattle.table_rules.specs.Rule.{Small, bit, classAt, classIn, lengthOf, operandCount, operandClass, operandPlace, OperandsFit, classFault, ruleOrder, ruleUses}
+use Rattle.table_rules.specs.Rule.{Small, bit, classAt, classIn, lengthOf, operandCount, operandClass, operandPlace, OperandsFit, classFault, ruleOrder, ruleItems}
 use Rattle.table_rules.proofs.Laws.{ap3, else-second, class-inside, class-first, class-last}
 use Rattle.table_fields.proofs.Cases.{nonzero}
 
@@ -118,15 +118,15 @@ unfolding classFault differs
 fault-none t x y e f g = ap3 classFault {x = 2} {y = 1} {z = 1} e f g
 
 module _ (limit width : ℕ) (inh syn note b : List ℕ) (n : ℕ) (target : 2 ≡ classIn width inh syn b 0) (free : bit (getD note (byte b 0) 0) (byte b 1 - 1) ≡ false) (fit : OperandsFit limit width inh syn b n) where
-  sound-by : 0 ≡ ruleOrder note n b → 0 ≡ ruleUses width inh syn note b n
-  unfolding ruleUses
+  sound-by : 0 ≡ ruleOrder note n b → 0 ≡ ruleItems width inh syn note b n
+  unfolding ruleItems
   sound-by q = else-second _ _ 0 (fault-none _ _ _ target (fit .first) (fit .second)) refl q
 
-  pub sound-left : byte b 0 ≡ 0 → 0 ≡ ruleUses width inh syn note b n
+  pub sound-left : byte b 0 ≡ 0 → 0 ≡ ruleItems width inh syn note b n
   unfolding ruleOrder
   sound-left e = sound-by (lacks-met _ _ _ free (equal-yes _ _ _ _ e refl))
 
-  pub sound-right : (byte b 0 ≡ 0 → ⊥) → limit ≡ byte b 0 → 0 ≡ ruleUses width inh syn note b n
+  pub sound-right : (byte b 0 ≡ 0 → ⊥) → limit ≡ byte b 0 → 0 ≡ ruleItems width inh syn note b n
   unfolding ruleOrder
   sound-right e l =
       let x : operandPlace b n 0 < byte b 0 = omega (arith, fit .firstPlace) in

@@ -6,7 +6,7 @@ ghost use Prim.Native.Nat.{ℕ, _+_, _*_, _<_, _≤_};
 ghost use lib.ListN.{length};
 ghost use Rattle.meaning.specs.Grammar.{Rule, Occurrence};
 ghost use Rattle.meaning.specs.Table.{byte};
-ghost use Rattle.table_rules.specs.Rule.{Small, classAt, classIn, lengthOf, operandCount, OperandsFit, divisorFits, ruleUses, ruleFault};
+ghost use Rattle.table_rules.specs.Rule.{Small, classAt, classIn, lengthOf, operandCount, OperandsFit, divisorFits, ruleItems, ruleFault};
 ghost use Rattle.table_rules.specs.Note.{Notes, rulesAfter};
 
 // The length of a rule's body by its function.
@@ -132,7 +132,7 @@ fn is_sound(
     n: usize,
 ) -> bool
     requires { ⌜ Small width (now inh) (now syn) × (3 + 2 * n ≤ length (now body)) ⌝ }
-    ensures { λ r. ⌜ (r ≡ true → 0 ≡ ruleUses width (now (inh .entry)) (now (syn .entry)) (now (note .entry)) (now (body .entry)) n) ⌝ }
+    ensures { λ r. ⌜ (r ≡ true → 0 ≡ ruleItems width (now (inh .entry)) (now (syn .entry)) (now (note .entry)) (now (body .entry)) n) ⌝ }
 {
     let position = table_fields::wide(body[0]);
     let attribute = table_fields::wide(body[1]);
@@ -158,7 +158,7 @@ pub fn judge_rule_items(
     n: usize,
 ) -> u8
     requires { ⌜ Small width (now inh) (now syn) × (3 + 2 * n ≤ length (now body)) ⌝ }
-    ensures { λ r. ⌜ r ≡ ruleUses width (now (inh .entry)) (now (syn .entry)) (now (note .entry)) (now (body .entry)) n ⌝ }
+    ensures { λ r. ⌜ r ≡ ruleItems width (now (inh .entry)) (now (syn .entry)) (now (note .entry)) (now (body .entry)) n ⌝ }
 {
     if is_sound(width, inh, syn, note, body, n) {
         return 0;

@@ -13,7 +13,7 @@ use Rattle.meaning.specs.Table.{byte}
 use Rattle.table_fields.specs.Demand.{ifEqual}
 use Rattle.table_fields.proofs.Fine.{equal-fine, atMost-fine, below-fine, holds-fine}
 use Rattle.table_fields.proofs.Demands.{differs-not, equal-yes, equal-no, below-yes, below-no}
-use Rattle.table_rules.specs.Rule.{Small, classAt, classIn, classFault, orElse, lengthOf, operandCount, operandClass, divisorFits, ruleOrder, ruleUses, ruleFault, atMostFault, allCount}
+use Rattle.table_rules.specs.Rule.{Small, classAt, classIn, classFault, orElse, lengthOf, operandCount, operandClass, divisorFits, ruleOrder, ruleItems, ruleFault, atMostFault, allCount}
 use Rattle.table_fields.proofs.Cases.{lt-or-le, nonzero}
 
 pub else-first : (x y : ℕ) {z : ℕ} → z ≡ x → (z ≡ 0 → ⊥) → z ≡ orElse x y
@@ -39,8 +39,8 @@ pub compared-at : (width : ℕ) (inh syn b : List ℕ) {k l r : ℕ} → r ≡ a
 compared-at width inh syn b e q = e ∙ ap (λ (x : ℕ). atMostFault (4 * x + 1) width inh syn b) q
 
 pub uses-at :
-    (width : ℕ) (inh syn note b : List ℕ) {n m r : ℕ} → r ≡ ruleUses width inh syn note b n → n ≡ m → r ≡ ruleUses width inh syn note b m
-uses-at width inh syn note b e q = e ∙ ap (λ (x : ℕ). ruleUses width inh syn note b x) q
+    (width : ℕ) (inh syn note b : List ℕ) {n m r : ℕ} → r ≡ ruleItems width inh syn note b n → n ≡ m → r ≡ ruleItems width inh syn note b m
+uses-at width inh syn note b e q = e ∙ ap (λ (x : ℕ). ruleItems width inh syn note b x) q
 
 module _ (width : ℕ) (inh syn : List ℕ) (p a : ℕ) (known : classAt width inh syn p a ≡ 0 → ⊥) where
   pub class-inside : p ≤ width
@@ -86,7 +86,7 @@ else-fine x y e = go (eqb x 0) refl
 pub rule-fine :
     (r width : ℕ) (inh syn note b : List ℕ) → Small width inh syn → ruleFault r width inh syn note b ≡ 0
     → (3 ≤ length b) × (byte b 0 < 13) × (1 ≤ byte b 1) × (byte b 1 ≤ 8)
-unfolding ruleFault ruleUses
+unfolding ruleFault ruleItems
 rule-fine r width inh syn note b small e =
     let q = atMost-fine (nonzero 3) 3 (length b) e in
     let u = below-fine (nonzero 3) r 1024 (q .1) in

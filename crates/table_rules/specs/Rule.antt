@@ -114,8 +114,8 @@ ruleOrder note n b =
 unfoldable pub orElse : ℕ → ℕ → ℕ
 orElse x y = ifEqual x 0 y x
 
-unfoldable pub ruleUses : ℕ → List ℕ → List ℕ → List ℕ → List ℕ → ℕ → ℕ
-ruleUses width inh syn note b n =
+unfoldable pub ruleItems : ℕ → List ℕ → List ℕ → List ℕ → List ℕ → ℕ → ℕ
+ruleItems width inh syn note b n =
     orElse
     (classFault (classIn width inh syn b 0) (operandClass width inh syn b n 0) (operandClass width inh syn b n 1))
     (ruleOrder note n b)
@@ -128,7 +128,7 @@ ruleFault r width inh syn note b =
     (atMost (byte b 2) 8 5
     (equal (length b) (lengthOf (byte b 2)) 4
     (holds (divisorFits (byte b 2) b) 4
-    (ruleUses width inh syn note b (operandCount (byte b 2)))))))
+    (ruleItems width inh syn note b (operandCount (byte b 2)))))))
 
 -- ---- conditions
 

@@ -10,7 +10,7 @@ use Rattle.meaning.specs.Table.{byte}
 use Rattle.table_fields.specs.Field.{Whole, lengthAt, bodyAt}
 use Rattle.table_fields.proofs.Rest.{body-length, body-byte}
 use Rattle.table_fields.proofs.Demands.{holds-met, equal-met, differs-met, atMost-met, below-met, equal-yes, equal-no, below-yes, below-no}
-use Rattle.table_rules.specs.Rule.{classIn, inOrder, fourAt, lengthOf, operandCount, divisorFits, ruleUses, ruleFault, rangeFault, atMostFault, conditionFault}
+use Rattle.table_rules.specs.Rule.{classIn, inOrder, fourAt, lengthOf, operandCount, divisorFits, ruleItems, ruleFault, rangeFault, atMostFault, conditionFault}
 use Rattle.table_rule_fields.proofs.Sound.{length-is}
 
 -- ---- a field and its body
@@ -42,14 +42,14 @@ operands-inside f l = length-is f (lengthOf f) refl .1
 
 pub rule-none :
     (r width : ℕ) (inh syn note b : List ℕ) (f : ℕ) → f ≡ byte b 2 → r < 1024 → byte b 2 ≤ 8 → 5 ≤ length b → length b ≡ lengthOf (byte b 2)
-    → divisorFits f b ≡ true → 0 ≡ ruleUses width inh syn note b (operandCount f) → 0 ≡ ruleFault r width inh syn note b
+    → divisorFits f b ≡ true → 0 ≡ ruleItems width inh syn note b (operandCount f) → 0 ≡ ruleFault r width inh syn note b
 unfolding ruleFault
 rule-none r width inh syn note b f e l m n q d u =
     atMost-met _ _ _ _ (omega arith)
     (below-met _ _ _ _ l
     (atMost-met _ _ _ _ m
     (equal-met _ _ _ _ q
-    (holds-met _ _ _ (ap (λ (x : ℕ). divisorFits x b) (sym e) ∙ d) (u ∙ ap (λ (x : ℕ). ruleUses width inh syn note b (operandCount x)) e)))))
+    (holds-met _ _ _ (ap (λ (x : ℕ). divisorFits x b) (sym e) ∙ d) (u ∙ ap (λ (x : ℕ). ruleItems width inh syn note b (operandCount x)) e)))))
 
 -- ---- conditions
 

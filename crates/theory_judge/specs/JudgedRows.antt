@@ -12,7 +12,7 @@ use Rattle.meaning.specs.Decide.{verdictOf}
 use Rattle.meaning.specs.Table.{State, Read, wellFormed, malformed, nothingRead, readTable, grammarOf}
 use Rattle.meaning.specs.Calls as Calls
 use Rattle.meaning.specs.PublicCalls.{areaLength}
-use Rattle.meaning.specs.Examples.Words.{words}
+use Rattle.meaning.specs.Examples.WordsAndTags.{words}
 use Rattle.meaning.specs.Examples.TableRows.{bytes}
 use Rattle.theory_sets.specs.Accepted.{verdict→accepted}
 use Rattle.theory_complete.specs.CompleteUnique.{only}

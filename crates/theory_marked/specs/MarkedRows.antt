@@ -9,7 +9,7 @@ use lib.Dec.{T, eqb, eqb→eq, eqb-refl}
 use lib.IntN.{ℤ, pos}
 use Rattle.meaning.specs.Base.{all, countFrom}
 use Rattle.meaning.specs.Grammar.{Grammar, Symbol, terminal, nonterminal, const, range, productionAt}
-use Rattle.meaning.specs.Examples.Words.{occ, rule, words, p0, p1, p2, p3}
+use Rattle.meaning.specs.Examples.WordsAndTags.{occ, rule, words, p0, p1, p2, p3}
 use Rattle.meaning.specs.Value.{mark}
 use Rattle.meaning.specs.Table.{State, Read, wellFormed, malformed, readTable, nothingRead}
 use Rattle.meaning.specs.Examples.TableRows.{bytes}

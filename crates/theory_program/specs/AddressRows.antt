@@ -3,7 +3,7 @@ use mathlib.Core.Path.{_≡_, refl}
 use mathlib.Core.List.{[], _∷_}
 use lib.IntN.{pos, negsuc}
 use Rattle.meaning.specs.Grammar.{addc, copy, const, range, token, over}
-use Rattle.meaning.specs.Examples.Words.{words}
+use Rattle.meaning.specs.Examples.WordsAndTags.{words}
 use Rattle.theory_program.specs.Addresses.{recordAddress, bodyAddress, entryAddress, schemeAddress, expectAddress}
 use Rattle.theory_program.specs.Unpacked.{ruleFrom, conditionFrom}
 use Rattle.theory_program.specs.Search.{nextWord, search}

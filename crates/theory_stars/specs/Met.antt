@@ -7,7 +7,7 @@ use mathlib.Core.List.{[], _∷_}
 use lib.ListN.{replicate, length-replicate}
 use Rattle.meaning_statements.specs.CallStatements.{Met}
 use Rattle.meaning.specs.Examples.TableRows.{bytes}
-use Rattle.meaning.specs.Examples.Words.{words}
+use Rattle.meaning.specs.Examples.WordsAndTags.{words}
 use Rattle.meaning.specs.Examples.CallRows.{m, state, stacks}
 use Rattle.theory_answers.specs.FitTest.{fit-exactly}
 use Rattle.theory_stars.specs.Runs.{words-accepted}

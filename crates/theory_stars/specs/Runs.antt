@@ -11,7 +11,7 @@ use Rattle.meaning.specs.Judgement.{accepted, Accepted}
 use Rattle.meaning.specs.Calls.{Called, Stacks, closedRecord, openOf}
 use Rattle.meaning.specs.PublicCalls.{Call, feed, finish, callOf, areaLength, written, Effect, effect, opens, performs}
 use Rattle.meaning.specs.Examples.TableRows.{bytes}
-use Rattle.meaning.specs.Examples.Words.{words}
+use Rattle.meaning.specs.Examples.WordsAndTags.{words}
 use Rattle.theory_sets.specs.Accepted.{judged-is}
 use Rattle.theory_answers.specs.Called.{called-is}
 

@@ -10,7 +10,7 @@ use Rattle.meaning.specs.Judgement.{accepted, rejected}
 use Rattle.meaning.specs.Calls.{running, outer, Called, Stacks, Answer, more, value, refused}
 use Rattle.meaning.specs.PublicCalls.{areaLength, Effect, printed}
 use Rattle.meaning.specs.Examples.TableRows.{bytes}
-use Rattle.meaning.specs.Examples.Words.{words}
+use Rattle.meaning.specs.Examples.WordsAndTags.{words}
 use Rattle.meaning.specs.Examples.ListingRows.{codes, listing-of-words}
 use Rattle.theory_stars.specs.Ranges.{twoRanges, Verdicts, verdicts, apart, touching}
 use Rattle.theory_stars.specs.Runs.{fed, finished, fedBy, finishedBy, fed-words, finished-words}

@@ -8,7 +8,7 @@ use Rattle.meaning.specs.Rules.{WellFormed}
 use Rattle.meaning.specs.Layout.{LaidOut}
 use Rattle.meaning.specs.Layout as Layout
 use Rattle.meaning.specs.Table.{Read, wellFormed, malformed, readTable}
-use Rattle.meaning.specs.Examples.Words.{occ, rule, p0, p1, p2, p3, words}
+use Rattle.meaning.specs.Examples.WordsAndTags.{occ, rule, p0, p1, p2, p3, words}
 use Rattle.meaning.specs.Examples.TableRows.{bytes, grammar, read}
 use Rattle.theory_table.specs.ReadWellFormed.{read-well-formed}
 

@@ -3,7 +3,7 @@ use Prim.Native.Nat.{ℕ, _≤_, _<_}
 use denote.Ref.{now}
 use mathlib.Core.List.{List}
 use Rattle.outline.specs.declared.Sizes.{Sizes}
-use Rattle.outline.specs.Rows.{image-of}
+use Rattle.outline.specs.Images.{image-of}
 use Rattle.outline.specs.Outline.{grammarIn, NumbersOf, Productions}
 use Rattle.analysis.specs.Finding.{Analysed}
 use Rattle.clash.specs.Placing.{bytes-of}

@@ -2,7 +2,7 @@ use Prim.Native.Nat.{_≤_, _<_, _-_}
 use native.Mathlib.Omega.{arith}
 use borrow.Author.Needs.{needs}
 use mathlib.Core.Path.{sym, _∙_}
-use Rattle.outline.specs.Rows.{leftAt, row-inside}
+use Rattle.outline.specs.Images.{leftAt, row-inside}
 use Rattle.clash.specs.Clashing.{Seen, seen-none, seen-next, Apart, apart-none, apart-next, crossed}
 use Rattle.clash.proofs.first_crossing.Statement.{statement}
 use Rattle.clash.proofs.first_crossing.Tie as tie

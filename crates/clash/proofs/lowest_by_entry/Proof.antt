@@ -4,7 +4,7 @@ use borrow.Author.Needs.{needs}
 use mathlib.Core.Path.{_≡_, refl}
 use mathlib.Core.Bool.{true}
 use Rattle.meaning.specs.Decide.{clashes}
-use Rattle.outline.specs.Rows.{leftAt, image-of, row-inside}
+use Rattle.outline.specs.Images.{leftAt, image-of, row-inside}
 use Rattle.analysis.specs.Numbers.{Clear, clear-none, clear-more, found-here, found-none}
 use Rattle.clash_rivals.specs.Rivals.{startTogether, rival, rival-starts}
 use Rattle.outline.specs.Outline.{grammarIn}

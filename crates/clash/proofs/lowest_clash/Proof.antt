@@ -1,7 +1,7 @@
 use mathlib.Core.Path.{_≡_, refl, sym, _∙_}
 use native.Mathlib.Omega.{arith}
 use borrow.Author.Tests.{eqb-true, not-true, not-false}
-use Rattle.outline.specs.Rows.{image-of}
+use Rattle.outline.specs.Images.{image-of}
 use Rattle.analysis.specs.Numbers.{found-none, found-here}
 use Rattle.clash.specs.Clashing.{given-place, crossing-clear, crossing-clashes}
 use borrow.Author.Needs.{needs}

@@ -2,7 +2,7 @@ use Prim.Native.Nat.{_≤_, _<_, _-_}
 use native.Mathlib.Omega.{arith}
 use borrow.Author.Needs.{needs}
 use mathlib.Core.Path.{_≡_}
-use Rattle.outline.specs.Rows.{leftAt, row-inside}
+use Rattle.outline.specs.Images.{leftAt, row-inside}
 use Rattle.clash.specs.Clashing.{Seen, seen-none, seen-next, Meeting, meeting-none, meeting-next}
 use Rattle.clash.proofs.meeting.Statement.{statement}
 use Rattle.clash.proofs.meeting.Tie as tie

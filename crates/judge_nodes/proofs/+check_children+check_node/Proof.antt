@@ -2,7 +2,7 @@ use Prim.Native.Nat.{_+_, _-_, _*_, _≤_}
 use mathlib.Core.Path.{_≡_, refl, sym}
 use native.Mathlib.Omega.{arith}
 use borrow.Author.Needs.{needs}
-use Rattle.outline.specs.Rows.{sizeAt}
+use Rattle.outline.specs.Images.{sizeAt}
 use Rattle.judge_parts.specs.Checked.{ChildrenPassed}
 use Rattle.judge_parts.specs.Laws as L
 use Prim.Native.Nat.{ℕ, _<_}

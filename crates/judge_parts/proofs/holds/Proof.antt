@@ -3,7 +3,7 @@ use mathlib.Core.Path.{_≡_, sym, ap, _∙_, subst₂}
 use denote.Ref.{now}
 use Rattle.program_block_words.specs.Fields.{Listed}
 use Rattle.program_words.specs.Fields.{fieldsAt, fieldsFrom, stretchEnd}
-use Rattle.outline.specs.Rows.{rowCount}
+use Rattle.outline.specs.Images.{rowCount}
 use Rattle.theory_judge.specs.Holding.{listedTrue}
 use Rattle.theory_judge.specs.Marks.{readAt}
 use borrow.Author.Needs.{needs}

@@ -8,7 +8,7 @@ use lib.IntN.{ℤ, pos}
 use Rattle.meaning.specs.Grammar.{Grammar}
 use Rattle.meaning.specs.Value.{mark}
 use Rattle.meaning.specs.Calls.{Called, Status, Kind, Record, outer, statusOf, Stacks, Answer, more, value, lentOf, lay, openOf, feedOf, finishOf}
-use Rattle.meaning.specs.Examples.Words.{words}
+use Rattle.meaning.specs.Examples.WordsAndTags.{words}
 use Rattle.meaning.specs.Examples.SchemeRows.{wide}
 
 abbrev pub m : ℤ

@@ -8,7 +8,7 @@ use Rattle.meaning.specs.Scheme.{Instruction}
 use Rattle.meaning.specs.Machine.{Config}
 use Rattle.meaning.specs.Part.{PartOf}
 use Rattle.meaning.specs.Selectors.{partAt, Finds, SelectorsFind}
-use Rattle.meaning.specs.Examples.Words.{occ, plain}
+use Rattle.meaning.specs.Examples.WordsAndTags.{occ, plain}
 use Rattle.meaning.specs.Examples.SchemeRows.{wide}
 use Rattle.meaning.specs.Examples.WalkRows.{wideTree, wide-tree}
 use Rattle.meaning.specs.Examples.PartRows.{last-added}

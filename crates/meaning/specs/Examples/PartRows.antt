@@ -8,7 +8,7 @@ use Rattle.meaning.specs.Grammar.{Symbol, nonterminal, whole}
 use Rattle.meaning.specs.Tree.{Tree, leaf, node, noTrees, treeAnd}
 use Rattle.meaning.specs.Part.{Open, Point, added, Ancestor, Part}
 use Rattle.meaning.specs.Selectors.{partAt, Finds}
-use Rattle.meaning.specs.Examples.Words.{bare, occ}
+use Rattle.meaning.specs.Examples.WordsAndTags.{bare, occ}
 use Rattle.meaning.specs.Examples.SchemeRows.{wide}
 
 abbrev pub open-node : ℕ → List ℤ → List Tree → Open

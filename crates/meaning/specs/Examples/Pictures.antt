@@ -8,7 +8,7 @@ use lib.Dec.{lit<}
 use Rattle.meaning.specs.Grammar.{TokenKinds}
 use Rattle.meaning.specs.Tree.{Tree, leaf, node, noTrees, treeAnd, picture, valueOf, TreeOf}
 use Rattle.meaning.specs.Walk.{walk, walkTo}
-use Rattle.meaning.specs.Examples.Words.{words, bare, plain, RunState, after-feed, lent}
+use Rattle.meaning.specs.Examples.WordsAndTags.{words, bare, plain, RunState, after-feed, lent}
 
 abbrev pub tree : Tree
 tree =

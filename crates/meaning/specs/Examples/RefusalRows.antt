@@ -6,7 +6,7 @@ use lib.ListN.{replicate}
 use lib.IntN.{ℤ, pos, negsuc}
 use Rattle.meaning.specs.Grammar.{terminal, nonterminal, const, addc, Grammar}
 use Rattle.meaning.specs.Calls.{running, waiting, outer, inner, Record, Answer, value, refused, closedRecord, openOf, feedOf, finishOf}
-use Rattle.meaning.specs.Examples.Words.{words, occ, rule}
+use Rattle.meaning.specs.Examples.WordsAndTags.{words, occ, rule}
 use Rattle.meaning.specs.Examples.SchemeRows.{wide}
 use Rattle.meaning.specs.Examples.CallRows.{m, state, record-of, stacks, called, used, feedKinds, thenFeed, thenFinish}
 

@@ -6,7 +6,7 @@ use mathlib.Core.Option.{none}
 use lib.IntN.{pos, negsuc}
 use Rattle.meaning.specs.Grammar.{Symbol, terminal, nonterminal, Function, const, copy, binary, sum, diff, addc, Rule, range, atmost, Production, Grammar}
 use Rattle.meaning.specs.Scheme.{add, evaluate, expect, test, remove, scheme}
-use Rattle.meaning.specs.Examples.Words.{occ, rule}
+use Rattle.meaning.specs.Examples.WordsAndTags.{occ, rule}
 
 abbrev pub X : Symbol
 X = nonterminal 1

@@ -8,7 +8,7 @@ use Rattle.meaning.specs.Judgement.{accepted, rejected}
 use Rattle.meaning.specs.Decide.{verdictOf}
 use Rattle.meaning.specs.Grammar.{Grammar}
 use Rattle.meaning.specs.Layout.{field}
-use Rattle.meaning.specs.Examples.Words.{words}
+use Rattle.meaning.specs.Examples.WordsAndTags.{words}
 use Rattle.meaning.specs.Examples.Samples.{header, counts, heads, handDown, handUp, small, inFirst, inLast}
 
 unfoldable pub bytes : List ℕ

@@ -9,7 +9,7 @@ use Rattle.meaning.specs.Grammar.{Symbol, terminal, nonterminal, Functio
 use Rattle.meaning.specs.Scheme.{evaluate, expect, test, remove, scheme}
 use Rattle.meaning.specs.Tree.{Tree, leaf, node, noTrees, treeAnd, picture}
 use Rattle.meaning.specs.Calls.{Called, refused, tokensFrom, openOf, feedOf}
-use Rattle.meaning.specs.Examples.Words.{words, p0, p2, p3, occ, rule, bare}
+use Rattle.meaning.specs.Examples.WordsAndTags.{words, p0, p2, p3, occ, rule, bare}
 use Rattle.meaning.specs.Examples.CallRows.{m, state, stacks, called, used}
 
 -- a call with values, on what the call before left

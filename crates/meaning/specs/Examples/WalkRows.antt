@@ -5,7 +5,7 @@ use mathlib.Core.List.{List, [], _∷_}
 use lib.IntN.{pos, negsuc}
 use lib.Dec.{lit<}
 use Rattle.meaning.specs.Tree.{Tree, leaf, node, noTrees, treeAnd, TreeOf}
-use Rattle.meaning.specs.Examples.Words.{bare, plain}
+use Rattle.meaning.specs.Examples.WordsAndTags.{bare, plain}
 use Rattle.meaning.specs.Examples.SchemeRows.{wide}
 
 abbrev pub wideTree : Tree

@@ -2,7 +2,7 @@ use native.Mathlib.Omega.{arith}
 use borrow.Author.Needs.{needs}
 use Prim.Native.Nat.{_+_, _*_, _<_}
 use mathlib.Core.Path.{refl}
-use Rattle.outline.specs.Rows.{sizeAt}
+use Rattle.outline.specs.Images.{sizeAt}
 use Rattle.outline.proofs.size_of.Statement.{statement}
 use Rattle.outline.proofs.size_of.Tie as tie
 

@@ -1,7 +1,7 @@
 use mathlib.Core.Path.{_∙_}
 use native.Mathlib.Omega.{arith}
 use borrow.Author.Needs.{needs}
-use Rattle.table_rules.specs.Rule.{classFault, ruleUses}
+use Rattle.table_rules.specs.Rule.{classFault, ruleItems}
 use Rattle.table_rules.proofs.Laws.{ap3, else-first, else-second, uses-ready}
 use borrow.Author.Needs.{needs}
 use Rattle.table_rule_fields.proofs.judge_rule_items.Statement.{statement}
@@ -26,7 +26,7 @@ class-fault-requires : tie.Need-class-fault-requires
 class-fault-requires c κs = search needs
 
 returns-2 : tie.Need-returns-2
-unfolding ruleUses
+unfolding ruleItems
 returns-2 c = else-first _ _ (c .before .class-fault .ensures ∙ ap3 classFault (c .before .before .before .before .class-in .ensures) (c .before .before .before .operand-class .ensures) (c .before .before .operand-class2 .ensures)) (c .if2 .taken)
 
 rule-order-requires : tie.Need-rule-order-requires
@@ -36,7 +36,7 @@ rule-order-requires c κs =
     uses-ready _ _ _ _ _ _ _ _ (s .pre .0) (s .pre .1) (class-in .ensures) (c .before .class-fault .ensures) (omega arith)
 
 returns-3 : tie.Need-returns-3
-unfolding ruleUses
+unfolding ruleItems
 returns-3 c =
     let operand-class = c .before .before .before .before .operand-class in
     let class-in = c .before .before .before .before .before .class-in in

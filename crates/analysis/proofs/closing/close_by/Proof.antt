@@ -2,7 +2,7 @@ use mathlib.Core.Path.{ap, _∙_}
 use native.Mathlib.Omega.{arith}
 use borrow.Author.Needs.{needs}
 use Rattle.meaning.specs.Sets.{singleton}
-use Rattle.outline.specs.Rows.{row-inside}
+use Rattle.outline.specs.Images.{row-inside}
 use Rattle.analysis.specs.Closing.{closes-not, closes-new, knows}
 use Rattle.analysis.proofs.closing.close_by.Statement.{statement}
 use Rattle.analysis.proofs.closing.close_by.Tie as tie

@@ -3,7 +3,7 @@ use native.Mathlib.Omega.{arith}
 use mathlib.Core.Path.{_≡_, refl, ap, _∙_}
 use lib.ListN.{length}
 use Rattle.meaning.specs.Sets.{singleton}
-use Rattle.outline.specs.Rows.{Image, sizeAt, row-inside, symbol-inside}
+use Rattle.outline.specs.Images.{Image, sizeAt, row-inside, symbol-inside}
 use Rattle.analysis.specs.Views.{members, next-small}
 use Rattle.analysis.specs.Tables.{Got, got-none}
 use Rattle.analysis.specs.Follows.{BaseFrom, EdgeFrom, Behind, filled-none, filled-then, filled-join, Rest, rest-start, rest-step, base-fine, base-more, base-end, Upward, up-start, up-step, edge-fine, edge-more, edge-end}

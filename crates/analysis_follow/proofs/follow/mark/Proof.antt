@@ -1,7 +1,7 @@
 use native.Mathlib.Omega.{arith}
 use borrow.Author.Needs.{needs}
 use mathlib.Core.Path.{sym, _∙_}
-use Rattle.outline.specs.Rows.{symbol-terminal, symbol-nonterminal}
+use Rattle.outline.specs.Images.{symbol-terminal, symbol-nonterminal}
 use Rattle.analysis.specs.Tables.{added-none, got-none, got-same, got-next}
 use Rattle.analysis_follow.proofs.follow.mark.Statement.{statement}
 use Rattle.analysis_follow.proofs.follow.mark.Tie as tie

@@ -61,7 +61,7 @@ pub record Image (rows : List ℕ) (count : ℕ) : Type 0 where
   pub symbols : (p i : ℕ) → p < count → i < sizeAt rows p → byteAt rows p i < 176
 
 -- the rows are those of the productions of g
-pub record Rows (rows : List ℕ) (count : ℕ) (g : Grammar) : Type 0 where
+pub record ImageOf (rows : List ℕ) (count : ℕ) (g : Grammar) : Type 0 where
   pub sound : WellFormed g
   pub narrow : nonterminalCount g ≤ 48
   pub counted : length (g .productions) ≡ count
@@ -94,7 +94,7 @@ module _ (rows : List ℕ) (count : ℕ) (room : count * 16 ≤ length rows) (p 
   right-is xs e f = ext-getD (terminal 0) (rightAt rows p) xs (right-length ∙ e) (λ i m. right-at i (omega (arith, right-length)) ∙ f i (omega (arith, right-length, e)))
 
 -- the length and the symbols of a production by its row
-module _ {rows : List ℕ} {count : ℕ} {g : Grammar} (r : Rows rows count g) (p : ℕ) (lt : p < count) where
+module _ {rows : List ℕ} {count : ℕ} {g : Grammar} (r : ImageOf rows count g) (p : ℕ) (lt : p < count) where
   pub size-is : sizeAt rows p ≡ length (productionAt g p .right)
   size-is = sym (right-length rows count (r .room) p lt (r .sizes p lt)) ∙ ap length (r .right p lt)
 
@@ -125,7 +125,7 @@ module _ {rows : List ℕ} {count : ℕ} (image : Image rows count) (p : ℕ) (l
   right-end i h = drop-of-length-le (rightAt rows p) {i = i} (rw (right-length rows count (image .room) p lt (image .sizes p lt)) h)
 
 -- the image of a grammar's productions has its numbers in their limits
-pub image-of : {rows : List ℕ} {count : ℕ} {g : Grammar} → Rows rows count g → Image rows count
+pub image-of : {rows : List ℕ} {count : ℕ} {g : Grammar} → ImageOf rows count g → Image rows count
 image-of {rows} {count} {g} r =
     record {
       few = let a = r .sound .productions .1 in let e = r .counted in omega arith;
