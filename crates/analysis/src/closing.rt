@@ -1,4 +1,6 @@
 // The nonterminals with a production whose symbols are all in: those that derive nothing, or some token string.
+use limits::PRODUCTIONS;
+use limits::ROWS;
 use nonterminal_set::NonterminalSet;
 use outline::left_of;
 ghost use mathlib.Core.Path.{_≡_};
@@ -22,8 +24,8 @@ fn lies_in(part: NonterminalSet, whole: NonterminalSet) -> bool
 
 // The set, with the left side of production k where all its symbols are in the set, or tokens that are free to stand.
 fn close_by(
-    rows: &[u8; 2048],
-    rights: &[u64; 128],
+    rows: &[u8; ROWS],
+    rights: &[u64; PRODUCTIONS],
     k: usize,
     set: NonterminalSet,
     free: NonterminalSet,
@@ -42,9 +44,9 @@ fn close_by(
 
 // One round over the productions, the last first.
 fn close_round(
-    rows: &[u8; 2048],
+    rows: &[u8; ROWS],
     count: usize,
-    rights: &[u64; 128],
+    rights: &[u64; PRODUCTIONS],
     set: NonterminalSet,
     free: NonterminalSet,
 ) -> NonterminalSet
@@ -62,9 +64,9 @@ fn close_round(
 
 // One round the other way, the first production first.
 fn close_round_back(
-    rows: &[u8; 2048],
+    rows: &[u8; ROWS],
     count: usize,
-    rights: &[u64; 128],
+    rights: &[u64; PRODUCTIONS],
     set: NonterminalSet,
     free: NonterminalSet,
 ) -> NonterminalSet
@@ -92,9 +94,9 @@ pub fn first_of(n: usize) -> NonterminalSet
 // The rounds go both ways in turn, so that a chain is closed in three whether it is declared from its start or from its end. A set that has
 // all left sides is closed without another round.
 fn closure(
-    rows: &[u8; 2048],
+    rows: &[u8; ROWS],
     count: usize,
-    rights: &[u64; 128],
+    rights: &[u64; PRODUCTIONS],
     free: NonterminalSet,
     all: NonterminalSet,
 ) -> NonterminalSet
@@ -119,7 +121,7 @@ fn closure(
 }
 
 // The nonterminals that derive nothing.
-pub fn nullable(rows: &[u8; 2048], count: usize, rights: &[u64; 128]) -> NonterminalSet
+pub fn nullable(rows: &[u8; ROWS], count: usize, rights: &[u64; PRODUCTIONS]) -> NonterminalSet
     requires { ⌜ Image (now rows) count × SetsTo (rightBy (now rows)) count (now rights) ⌝ }
     ensures { λ r. ⌜ Settled (Within (ClosedAt false (now (rows .entry))) 0 count) 0 (r .0) ⌝ }
 {
@@ -129,9 +131,9 @@ pub fn nullable(rows: &[u8; 2048], count: usize, rights: &[u64; 128]) -> Nonterm
 
 // The nonterminals that derive some string of tokens; `all` are those that there are.
 pub fn productive(
-    rows: &[u8; 2048],
+    rows: &[u8; ROWS],
     count: usize,
-    rights: &[u64; 128],
+    rights: &[u64; PRODUCTIONS],
     all: NonterminalSet,
 ) -> NonterminalSet
     requires { ⌜ Image (now rows) count × SetsTo (rightBy (now rows)) count (now rights) ⌝ }

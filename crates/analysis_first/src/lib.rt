@@ -1,6 +1,8 @@
 // What a right side begins with, FIRST of each nonterminal, and which nonterminals lead to which: come to begin with them.
 use analysis_spreading::add;
 use analysis_spreading::spread;
+use limits::NONTERMINALS;
+use limits::ROWS;
 use nonterminal_set::NonterminalSet;
 use outline::left_of;
 use outline::size_of;
@@ -17,10 +19,10 @@ ghost use Rattle.analysis.specs.Fronts.{FrontOf, Gathers, headsBy, leadingBy};
 
 // What the right side of production k begins with by the table, and where it derives nothing also what comes after.
 pub fn begins(
-    rows: &[u8; 2048],
+    rows: &[u8; ROWS],
     k: usize,
     null: NonterminalSet,
-    table: &[u64; 48],
+    table: &[u64; NONTERMINALS],
     after: TokenSet,
 ) -> TokenSet
     requires { ⌜ Imaged (now rows) k ⌝ }
@@ -52,7 +54,7 @@ pub struct Front {
 }
 
 // That of production k.
-fn front_of(rows: &[u8; 2048], k: usize, null: NonterminalSet) -> Front
+fn front_of(rows: &[u8; ROWS], k: usize, null: NonterminalSet) -> Front
     requires { ⌜ Imaged (now rows) k ⌝ }
     ensures { λ r. ⌜ FrontOf (members (null .0)) (rightAt (now (rows .entry)) k) (r .token .0) (r .heads .0) ⌝ }
 {
@@ -84,11 +86,11 @@ fn front_of(rows: &[u8; 2048], k: usize, null: NonterminalSet) -> Front
 
 // Both of all productions, by left sides: the nonterminals as edges, the tokens as sets.
 fn edges_of(
-    rows: &[u8; 2048],
+    rows: &[u8; ROWS],
     count: usize,
     null: NonterminalSet,
-    edges: &mut [u64; 48],
-    sets: &mut [u64; 48],
+    edges: &mut [u64; NONTERMINALS],
+    sets: &mut [u64; NONTERMINALS],
 )
     requires { ⌜ Image (now rows) count × (now edges ≡ replicate 48 0) × (now sets ≡ replicate 48 0) ⌝ }
     ensures edges { λ r. ⌜ Gathers (headsBy (members (null .0)) (now (rows .entry))) (now (rows .entry)) count (now (edges .exit)) ⌝ }
@@ -106,12 +108,12 @@ fn edges_of(
 
 // Which nonterminals lead to which, and FIRST, from the set of those that derive nothing; n is how many there are.
 pub fn fronts(
-    rows: &[u8; 2048],
+    rows: &[u8; ROWS],
     count: usize,
     n: usize,
     null: NonterminalSet,
-    led: &mut [u64; 48],
-    first: &mut [u64; 48],
+    led: &mut [u64; NONTERMINALS],
+    first: &mut [u64; NONTERMINALS],
 )
     requires { ⌜ Image (now rows) count × (n ≤ 48) × (now led ≡ replicate 48 0) × (now first ≡ replicate 48 0) ⌝ }
     ensures led { λ r. ⌜ (Below n (now (rows .entry)) count → SettledTable (WithinAll (LeadAt (members (null .0)) (now (rows .entry))) 0 count) (replicate 48 0) (now (led .exit))) ⌝ }

@@ -1,6 +1,8 @@
 // FOLLOW: what comes after a nonterminal from the rest of a right side, then along the edges from the tails of right sides to left sides.
 use analysis_spreading::add;
 use analysis_spreading::spread;
+use limits::NONTERMINALS;
+use limits::ROWS;
 use nonterminal_set::NonterminalSet;
 use outline::left_of;
 use outline::size_of;
@@ -18,7 +20,7 @@ ghost use Rattle.analysis.specs.Tables.{Added, Got};
 ghost use Rattle.analysis.specs.Follows.{BaseFrom, BasesTo, EdgeFrom, EdgesTo, Behind, Followed};
 
 // What a string begins with whose first symbol is s, from what the rest begins with.
-fn begin_with(s: u8, null: NonterminalSet, first: &[u64; 48], rest: TokenSet) -> TokenSet
+fn begin_with(s: u8, null: NonterminalSet, first: &[u64; NONTERMINALS], rest: TokenSet) -> TokenSet
     requires { ⌜ s < 176 ⌝ }
     ensures { λ r. ⌜ ((u : ℕ) → members (r .0) u ≡ turn true (members (null .0)) (sees (now (first .entry)) u) u (symbolOf s) (members (rest .0) u)) ⌝ }
 {
@@ -36,8 +38,8 @@ fn begin_with(s: u8, null: NonterminalSet, first: &[u64; 48], rest: TokenSet) ->
 // Adds a set to the entry of a symbol in a table, and another to its entry in the edges, unless it is one of those that have got both: these, and
 // the symbol. A token has no entry. The same nonterminal often stands many times on a right side.
 fn mark(
-    table: &mut [u64; 48],
-    edges: &mut [u64; 48],
+    table: &mut [u64; NONTERMINALS],
+    edges: &mut [u64; NONTERMINALS],
     s: u8,
     rest: u64,
     up: u64,
@@ -95,12 +97,12 @@ fn still(
 // One walk along the right side of production k, from its end: adds what comes after each nonterminal from the symbols behind it, and the left
 // side to the edges of those behind which all derives nothing.
 fn behind_by(
-    rows: &[u8; 2048],
+    rows: &[u8; ROWS],
     k: usize,
     null: NonterminalSet,
-    first: &[u64; 48],
-    table: &mut [u64; 48],
-    edges: &mut [u64; 48],
+    first: &[u64; NONTERMINALS],
+    table: &mut [u64; NONTERMINALS],
+    edges: &mut [u64; NONTERMINALS],
 )
     requires { ⌜ Imaged (now rows) k × (length (now table) ≡ 48) × (length (now edges) ≡ 48) ⌝ }
     ensures { λ r. ⌜ ((count : ℕ) → Image (now (rows .entry)) count → k < count
@@ -126,12 +128,12 @@ fn behind_by(
 
 // The same for all productions.
 fn behinds(
-    rows: &[u8; 2048],
+    rows: &[u8; ROWS],
     count: usize,
     null: NonterminalSet,
-    first: &[u64; 48],
-    table: &mut [u64; 48],
-    edges: &mut [u64; 48],
+    first: &[u64; NONTERMINALS],
+    table: &mut [u64; NONTERMINALS],
+    edges: &mut [u64; NONTERMINALS],
 )
     requires { ⌜ Image (now rows) count × (length (now table) ≡ 48) × (length (now edges) ≡ 48) ⌝ }
     ensures { λ r. ⌜ Behind (members (null .0)) (now (first .entry)) (now (rows .entry)) count (BasesTo (members (null .0)) (now (first .entry)) (now (rows .entry)) count) (EdgesTo (members (null .0)) (now (rows .entry)) count)
@@ -146,18 +148,18 @@ fn behinds(
 
 // FOLLOW of each nonterminal, into a table of empty sets; n is how many there are.
 pub fn follow(
-    rows: &[u8; 2048],
+    rows: &[u8; ROWS],
     count: usize,
     n: usize,
     start: usize,
     null: NonterminalSet,
-    first: &[u64; 48],
-    table: &mut [u64; 48],
+    first: &[u64; NONTERMINALS],
+    table: &mut [u64; NONTERMINALS],
 )
     requires { ⌜ Image (now rows) count × (n ≤ 48) × (start < 48) × (now table ≡ replicate 48 0) ⌝ }
     ensures { λ r. ⌜ (Below n (now (rows .entry)) count → start < n → Followed (members (null .0)) (now (first .entry)) (now (rows .entry)) count start (now (table .exit))) ⌝ }
 {
-    let mut edges = [0u64; 48];
+    let mut edges = [0u64; NONTERMINALS];
     add(table, start, TokenSet::END.0);
     behinds(rows, count, null, first, table, &mut edges);
     spread(&mut edges, table, n);

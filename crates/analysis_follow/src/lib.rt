@@ -3,6 +3,9 @@ pub mod follow;
 
 use crate::follow::follow;
 use analysis_starts::all_starts;
+use limits::NONTERMINALS;
+use limits::PRODUCTIONS;
+use limits::ROWS;
 use nonterminal_set::NonterminalSet;
 ghost use mathlib.Core.Path.{_≡_};
 ghost use mathlib.Core.Bool.{true};
@@ -20,13 +23,13 @@ ghost use Rattle.analysis.specs.Agreeing.{Marks};
 
 // FOLLOW into a table of empty sets, where some nonterminal derives nothing. Nothing else needs it.
 fn follow_where(
-    rows: &[u8; 2048],
+    rows: &[u8; ROWS],
     count: usize,
     n: usize,
     start: u8,
     null: NonterminalSet,
-    first: &[u64; 48],
-    table: &mut [u64; 48],
+    first: &[u64; NONTERMINALS],
+    table: &mut [u64; NONTERMINALS],
 )
     requires { ⌜ Image (now rows) count × (n ≤ 48) × (start < 48) × (now table ≡ replicate 48 0) ⌝ }
     ensures { λ r. ⌜ ((null .0 ≡ 0 → ⊥) → Below n (now (rows .entry)) count → start < n → Followed (members (null .0)) (now (first .entry)) (now (rows .entry)) count start (now (table .exit))) ⌝ }
@@ -39,20 +42,20 @@ fn follow_where(
 
 // FIRST-then-FOLLOW of each production, from the set of the nonterminals that derive nothing and from FIRST; n is how many nonterminals there are.
 pub fn starting(
-    rows: &[u8; 2048],
+    rows: &[u8; ROWS],
     count: usize,
     n: usize,
     start: u8,
     null: NonterminalSet,
-    first: &[u64; 48],
-    sets: &mut [u64; 128],
+    first: &[u64; NONTERMINALS],
+    sets: &mut [u64; PRODUCTIONS],
 )
     requires { ⌜ Image (now rows) count × (n ≤ 48) × (start < 48) × (length (now sets) ≡ 128) ⌝ }
     ensures { λ r. ⌜ ((g : Grammar) → ImageOf (now (rows .entry)) count g → n ≡ nonterminalCount g → start ≡ g .start → Marks (null .0) (nullable g)
         → SettledTable (WithinAll (FrontAt true (members (null .0)) (now (rows .entry))) 0 count) (replicate 48 0) (now (first .entry))
         → (p : ℕ) → Listed g p → setOf (getD (now (sets .exit)) p 0) ≡ starts g (productionAt g p)) ⌝ }
 {
-    let mut after = [0u64; 48];
+    let mut after = [0u64; NONTERMINALS];
     follow_where(rows, count, n, start, null, first, &mut after);
     all_starts(rows, count, null, first, &after, sets);
 }

@@ -2,6 +2,8 @@
 use analysis::closing::first_of;
 use analysis::closing::productive;
 use analysis::judging::lowest_useless;
+use limits::PRODUCTIONS;
+use limits::ROWS;
 use nonterminal_set::NonterminalSet;
 use outline::left_of;
 ghost use mathlib.Core.Path.{_≡_};
@@ -16,7 +18,12 @@ ghost use Rattle.analysis.specs.Numbers.{Found};
 ghost use Rattle.analysis.specs.Finding.{isUseless};
 
 // The set, with the symbols on the right of production k where its left side is in.
-fn reach_by(rows: &[u8; 2048], rights: &[u64; 128], k: usize, set: NonterminalSet) -> NonterminalSet
+fn reach_by(
+    rows: &[u8; ROWS],
+    rights: &[u64; PRODUCTIONS],
+    k: usize,
+    set: NonterminalSet,
+) -> NonterminalSet
     requires { ⌜ Imaged (now rows) k × ((n : ℕ) → members (getD (now rights) k 0) n ≡ rightBy (now rows) k n) ⌝ }
     ensures { λ r. ⌜ ((count : ℕ) → k < count → Grown (Within (ReachAt (now (rows .entry))) 0 count) (ReachAt (now (rows .entry)) k) (set .0) (r .0)) ⌝ }
 {
@@ -29,9 +36,9 @@ fn reach_by(rows: &[u8; 2048], rights: &[u64; 128], k: usize, set: NonterminalSe
 
 // One round over the productions.
 fn reach_round(
-    rows: &[u8; 2048],
+    rows: &[u8; ROWS],
     count: usize,
-    rights: &[u64; 128],
+    rights: &[u64; PRODUCTIONS],
     set: NonterminalSet,
 ) -> NonterminalSet
     requires { ⌜ Image (now rows) count × SetsTo (rightBy (now rows)) count (now rights) ⌝ }
@@ -48,9 +55,9 @@ fn reach_round(
 
 // One round the other way, the last production first.
 fn reach_round_back(
-    rows: &[u8; 2048],
+    rows: &[u8; ROWS],
     count: usize,
-    rights: &[u64; 128],
+    rights: &[u64; PRODUCTIONS],
     set: NonterminalSet,
 ) -> NonterminalSet
     requires { ⌜ Image (now rows) count × SetsTo (rightBy (now rows)) count (now rights) ⌝ }
@@ -68,9 +75,9 @@ fn reach_round_back(
 // The nonterminals that those of a set reach, and the bit of the end where they reach a token; from the words of the right sides. A set that has
 // all symbols needs no other round.
 pub fn reach(
-    rows: &[u8; 2048],
+    rows: &[u8; ROWS],
     count: usize,
-    rights: &[u64; 128],
+    rights: &[u64; PRODUCTIONS],
     first: NonterminalSet,
     all: NonterminalSet,
 ) -> NonterminalSet
@@ -97,11 +104,11 @@ pub fn reach(
 // 11: the lowest nonterminal that is unreachable or derives no token string; `nonterminals` where there is none. From the words of the right
 // sides.
 pub fn useless(
-    rows: &[u8; 2048],
+    rows: &[u8; ROWS],
     count: usize,
     nonterminals: usize,
     start: u8,
-    rights: &[u64; 128],
+    rights: &[u64; PRODUCTIONS],
 ) -> usize
     requires { ⌜ Image (now rows) count × (nonterminals ≤ 48) × (start < 48) × SetsTo (rightBy (now rows)) count (now rights) ⌝ }
     ensures { λ r. ⌜ ((g : Grammar) → ImageOf (now (rows .entry)) count g → nonterminals ≡ nonterminalCount g → start ≡ g .start

@@ -1,11 +1,12 @@
 // 12: left recursion, the nonterminals that can come to begin with themselves.
+use limits::NONTERMINALS;
 use nonterminal_set::NonterminalSet;
 ghost use Prim.Native.Nat.{_≤_};
 ghost use Rattle.analysis.specs.Numbers.{Found};
 ghost use Rattle.analysis.specs.Views.{sees};
 
 // 12: the lowest of the first n nonterminals that leads to itself, by the table of which lead to which; n where there is none.
-pub fn left_recursive(led: &[u64; 48], n: usize) -> usize
+pub fn left_recursive(led: &[u64; NONTERMINALS], n: usize) -> usize
     requires { ⌜ n ≤ 48 ⌝ }
     ensures { λ r. ⌜ Found (λ i. sees (now (led .entry)) i i) n r ⌝ }
 {

@@ -1,5 +1,6 @@
 // Sets that spread along edges: where entry a of the edges has b, a has what b has. Closed one nonterminal after the other, so that the cost
 // is bounded whatever the order of the productions.
+use limits::NONTERMINALS;
 use nonterminal_set::NonterminalSet;
 ghost use mathlib.Core.Path.{_≡_};
 ghost use Prim.Native.Nat.{_<_, _≤_};
@@ -9,7 +10,7 @@ ghost use Rattle.analysis.specs.Tables.{Added};
 ghost use Rattle.analysis.specs.Spreading.{United, Turned, Spreads};
 
 // Adds a set, of tokens or of nonterminals, to entry a of a table.
-pub fn add(table: &mut [u64; 48], a: usize, more: u64)
+pub fn add(table: &mut [u64; NONTERMINALS], a: usize, more: u64)
     requires { ⌜ (a < 48) × (length (now table) ≡ 48) ⌝ }
     ensures { λ r. ⌜ Added (now (table .entry)) (nonterminal a) more (now (table .exit)) ⌝ }
 {
@@ -17,7 +18,7 @@ pub fn add(table: &mut [u64; 48], a: usize, more: u64)
 }
 
 // All that the first n entries of a table of nonterminals have.
-fn union_of(table: &[u64; 48], n: usize) -> NonterminalSet
+fn union_of(table: &[u64; NONTERMINALS], n: usize) -> NonterminalSet
     requires { ⌜ n ≤ 48 ⌝ }
     ensures { λ r. ⌜ United (now (table .entry)) n (r .0) ⌝ }
 {
@@ -32,7 +33,7 @@ fn union_of(table: &[u64; 48], n: usize) -> NonterminalSet
 }
 
 // Gives what entry k has, edges and set, to the entries with an edge to k.
-fn spread_by(edges: &mut [u64; 48], sets: &mut [u64; 48], n: usize, k: usize)
+fn spread_by(edges: &mut [u64; NONTERMINALS], sets: &mut [u64; NONTERMINALS], n: usize, k: usize)
     requires { ⌜ (length (now edges) ≡ 48) × (length (now sets) ≡ 48) × (n ≤ 48) × (k < 48) ⌝ }
     ensures edges { λ r. ⌜ Turned k (now (edges .entry)) (now (edges .entry)) (now (edges .exit)) n ⌝ }
     ensures sets { λ r. ⌜ Turned k (now (edges .entry)) (now (sets .entry)) (now (sets .exit)) n ⌝ }
@@ -52,7 +53,7 @@ fn spread_by(edges: &mut [u64; 48], sets: &mut [u64; 48], n: usize, k: usize)
 }
 
 // The edges closed, and the sets spread along them. Only nonterminals that some edge goes to can pass anything on.
-pub fn spread(edges: &mut [u64; 48], sets: &mut [u64; 48], n: usize)
+pub fn spread(edges: &mut [u64; NONTERMINALS], sets: &mut [u64; NONTERMINALS], n: usize)
     requires { ⌜ (length (now edges) ≡ 48) × (length (now sets) ≡ 48) × (n ≤ 48) ⌝ }
     ensures { λ r. ⌜ Spreads n (now (edges .entry)) (now (sets .entry)) (now (edges .exit)) (now (sets .exit)) ⌝ }
 {

@@ -1,5 +1,8 @@
 // FIRST-then-FOLLOW of each production.
 use analysis_first::begins;
+use limits::NONTERMINALS;
+use limits::PRODUCTIONS;
+use limits::ROWS;
 use nonterminal_set::NonterminalSet;
 use outline::left_of;
 use token_set::TokenSet;
@@ -11,12 +14,12 @@ ghost use Rattle.analysis.specs.Growth.{SetsTo};
 ghost use Rattle.analysis.specs.Starts.{startsBy};
 
 pub fn all_starts(
-    rows: &[u8; 2048],
+    rows: &[u8; ROWS],
     count: usize,
     null: NonterminalSet,
-    first: &[u64; 48],
-    follow: &[u64; 48],
-    sets: &mut [u64; 128],
+    first: &[u64; NONTERMINALS],
+    follow: &[u64; NONTERMINALS],
+    sets: &mut [u64; PRODUCTIONS],
 )
     requires { ⌜ Image (now rows) count × (length (now sets) ≡ 128) ⌝ }
     ensures { λ r. ⌜ SetsTo (startsBy (members (null .0)) (now (first .entry)) (now (follow .entry)) (now (rows .entry))) count (now (sets .exit)) ⌝ }

@@ -4,6 +4,9 @@ use analysis_first::fronts;
 use analysis_follow::starting;
 use analysis_reachable::useless;
 use analysis_recursion::left_recursive;
+use limits::NONTERMINALS;
+use limits::PRODUCTIONS;
+use limits::ROWS;
 ghost use mathlib.Core.Path.{_≡_};
 ghost use Prim.Native.Nat.{_<_, _≤_};
 ghost use Rattle.meaning.specs.Grammar.{Grammar, nonterminalCount};
@@ -20,11 +23,11 @@ pub struct Analysis {
 
 // The lent array holds the words of the right sides; at the end, where the number is 0, FIRST-then-FOLLOW of each production.
 pub fn analyse(
-    rows: &[u8; 2048],
+    rows: &[u8; ROWS],
     count: usize,
     nonterminals: usize,
     start: u8,
-    sets: &mut [u64; 128],
+    sets: &mut [u64; PRODUCTIONS],
 ) -> Analysis
     requires { ⌜ Image (now rows) count × (nonterminals ≤ 48) × (start < 48) × SetsTo (rightBy (now rows)) count (now sets) ⌝ }
     ensures { λ r. ⌜ ((g : Grammar) → ImageOf (now (rows .entry)) count g → nonterminals ≡ nonterminalCount g → start ≡ g .start
@@ -38,8 +41,8 @@ pub fn analyse(
         };
     }
     let null = nullable(rows, count, sets);
-    let mut led = [0u64; 48];
-    let mut first = [0u64; 48];
+    let mut led = [0u64; NONTERMINALS];
+    let mut first = [0u64; NONTERMINALS];
     fronts(rows, count, nonterminals, null, &mut led, &mut first);
     let recursive_at = left_recursive(&led, nonterminals);
     if recursive_at < nonterminals {

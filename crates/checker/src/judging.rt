@@ -3,17 +3,20 @@ ghost use mathlib.Core.Path.{_≡_};
 ghost use lib.ListN.{length};
 ghost use Rattle.checker.specs.Judging.{Judges};
 use checker_grammar::Judged;
+use limits::NONTERMINALS;
+use limits::PRODUCTIONS;
+use limits::ROWS;
 use table::Reading;
 
 // Judges a table. The lent arrays then hold, of an accepted one, its outline and FIRST-then-FOLLOW of each production;
 // after a refusal they are scratch.
 pub fn judge_table(
     table: &[u8],
-    inherited: &mut [u8; 48],
-    synthesized: &mut [u8; 48],
-    rows: &mut [u8; 2048],
-    offsets: &mut [u32; 128],
-    sets: &mut [u64; 128],
+    inherited: &mut [u8; NONTERMINALS],
+    synthesized: &mut [u8; NONTERMINALS],
+    rows: &mut [u8; ROWS],
+    offsets: &mut [u32; PRODUCTIONS],
+    sets: &mut [u64; PRODUCTIONS],
 ) -> Judged
     requires { ⌜ (length (now inherited) ≡ 48) × (length (now synthesized) ≡ 48) × (length (now rows) ≡ 2048) × (length (now offsets) ≡ 128) × (length (now sets) ≡ 128) ⌝ }
     ensures { λ r. ⌜ Judges (now (table .entry)) (now (inherited .exit)) (now (synthesized .exit)) (now (rows .exit)) (now (offsets .exit)) (now (sets .exit)) r ⌝ }

@@ -7,6 +7,9 @@ ghost use Rattle.checker.specs.Verdicts.{verdictIs};
 use crate::spans::span_of;
 use checker_grammar::Judged;
 use checker_grammar::judge_grammar;
+use limits::NONTERMINALS;
+use limits::PRODUCTIONS;
+use limits::ROWS;
 use table::Reading;
 use table_read::read_table;
 
@@ -23,11 +26,11 @@ pub enum Verdict {
 pub fn check(table: &[u8]) -> Verdict
     ensures { λ r. ⌜ verdictIs r ≡ verdictOf (now (table .entry)) ⌝ }
 {
-    let mut inherited = [0u8; 48];
-    let mut synthesized = [0u8; 48];
-    let mut rows = [0u8; 2048];
-    let mut offsets = [0u32; 128];
-    let mut sets = [0u64; 128];
+    let mut inherited = [0u8; NONTERMINALS];
+    let mut synthesized = [0u8; NONTERMINALS];
+    let mut rows = [0u8; ROWS];
+    let mut offsets = [0u32; PRODUCTIONS];
+    let mut sets = [0u64; PRODUCTIONS];
     match read_table(
         table,
         &mut inherited,

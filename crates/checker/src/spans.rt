@@ -5,17 +5,20 @@ ghost use Rattle.checker.specs.Verdicts.{spanOf};
 use crate::judging::judge_table;
 use checker_grammar::Judged;
 use checker_span::Span;
+use limits::NONTERMINALS;
+use limits::PRODUCTIONS;
+use limits::ROWS;
 
 // The span of production p of any bytes as a table.
 pub fn span_of(table: &[u8], p: usize) -> Span
     ensures said { λ r. ⌜ r ≡ spanOf (now (table .entry)) p ⌝ }
     ensures inside { λ r. ⌜ Inside (now (table .entry)) r ⌝ }
 {
-    let mut inherited = [0u8; 48];
-    let mut synthesized = [0u8; 48];
-    let mut rows = [0u8; 2048];
-    let mut offsets = [0u32; 128];
-    let mut sets = [0u64; 128];
+    let mut inherited = [0u8; NONTERMINALS];
+    let mut synthesized = [0u8; NONTERMINALS];
+    let mut rows = [0u8; ROWS];
+    let mut offsets = [0u32; PRODUCTIONS];
+    let mut sets = [0u64; PRODUCTIONS];
     match judge_table(
         table,
         &mut inherited,

@@ -4,6 +4,8 @@ ghost use Rattle.outline.specs.Outline.{stateIn, grammarIn, NumbersOf, Producti
 ghost use Rattle.analysis.specs.Views.{rightBy};
 ghost use Rattle.analysis.specs.Growth.{SetsTo};
 ghost use Rattle.checker_grammar.specs.Concludes.{Concludes};
+use limits::PRODUCTIONS;
+use limits::ROWS;
 use outline::Sizes;
 
 // A table judged: accepted, with its numbers, or refused.
@@ -16,9 +18,9 @@ pub enum Judged {
 pub fn judge_grammar(
     table: &[u8],
     sizes: Sizes,
-    rows: &[u8; 2048],
-    offsets: &[u32; 128],
-    sets: &mut [u64; 128],
+    rows: &[u8; ROWS],
+    offsets: &[u32; PRODUCTIONS],
+    sets: &mut [u64; PRODUCTIONS],
 ) -> Judged
     requires { ⌜ Productions (now table) (now rows) (now offsets) (sizes .productions) × NumbersOf sizes (grammarIn (now table)) × SetsTo (rightBy (now rows)) (sizes .productions) (now sets) ⌝ }
     ensures { λ r. ⌜ Concludes (now (table .entry)) sizes (now (sets .exit)) r (judge (stateIn (now (table .entry)))) ⌝ }

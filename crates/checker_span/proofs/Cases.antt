@@ -4,6 +4,7 @@ use mathlib.Core.Path.{_≡_, refl, sym, ap, ap₂, subst}
 use mathlib.Core.List.{List, []}
 use borrow.Author.Tests.{lt-ltb, le-ltb}
 use lib.ListN.{length}
+use Rattle.meaning.specs.Limits.{tableLimit}
 use Rattle.meaning.specs.PublicCalls.{cut}
 use Rattle.table_reader.specs.Fields.{nthProduction}
 use Rattle.checker_span.specs.Spans.{stretchBy, stretchIs, Inside, spanIn}
@@ -19,7 +20,7 @@ module _ (t : List ℕ) (n p : ℕ) where
   unfolding spanIn
   span-found l from to d e = rw (spanIn, lt-ltb p n l) (ap₂ Within d e)
 
-pub inside-within : (t : List ℕ) (r : Span) (from to : ℕ) → r ≡ Within from to → Inside t r → (from < to) × (to ≤ length t) × (to ≤ 32768)
+pub inside-within : (t : List ℕ) (r : Span) (from to : ℕ) → r ≡ Within from to → Inside t r → (from < to) × (to ≤ length t) × (to ≤ tableLimit)
 inside-within t r from to e i = subst (Inside t) e i
 
 pub part-within : (t : List ℕ) (r : Span) (from to : ℕ) → r ≡ Within from to → (n o : ℕ) → stretchIs (cut t from to) n o ≡ stretchBy t r n o

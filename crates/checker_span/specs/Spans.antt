@@ -4,6 +4,7 @@ use mathlib.Core.Bool.{true, false}
 use mathlib.Core.List.{List, []}
 use lib.Dec.{ltb}
 use lib.ListN.{length}
+use Rattle.meaning.specs.Limits.{tableLimit}
 use Rattle.meaning.specs.PublicCalls.{Stretch, cut}
 use Rattle.table_reader.specs.Fields.{nthProduction}
 use Rattle.checker_span.specs.declared.Span.{Span}
@@ -20,7 +21,7 @@ stretchBy t (Nowhere number offset) n o = stretchIs [] number offset
 
 -- a span lies in the table, which is no longer than 01 allows, and is not empty
 abbrev pub Inside : List ℕ → Span → Type 0
-Inside t (Within from to) = (from < to) × (to ≤ length t) × (to ≤ 32768)
+Inside t (Within from to) = (from < to) × (to ≤ length t) × (to ≤ tableLimit)
 Inside t (Nowhere number offset) = Unit {0}
 
 -- the span of production p of n, by the tag 3 fields

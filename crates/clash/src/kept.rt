@@ -12,9 +12,12 @@ ghost use Rattle.clash_conditions.specs.Walk.{afterAll};
 ghost use Rattle.clash.specs.Kept.{Stored};
 ghost use Rattle.clash.specs.Placing.{Placed};
 ghost use Rattle.clash.specs.Clashing.{KeepsIf};
+use limits::ATTRIBUTES;
+use limits::BOUNDS;
+use limits::PRODUCTIONS;
 
 // Production p's ends among those of all.
-fn store(ends: &mut [u32; 1024], p: usize, own: &[u32; 8])
+fn store(ends: &mut [u32; BOUNDS], p: usize, own: &[u32; ATTRIBUTES])
     requires { ⌜ (p < 128) × (length (now ends) ≡ 1024) ⌝ }
     ensures { λ r. ⌜ Stored 8 (now (own .entry)) p (now (ends .entry)) (now (ends .exit)) ⌝ }
 {
@@ -26,12 +29,12 @@ fn store(ends: &mut [u32; 1024], p: usize, own: &[u32; 8])
 }
 
 // Whether production p has entry conditions.
-pub fn has_entry(table: &[u8], offsets: &[u32; 128], p: usize) -> bool
+pub fn has_entry(table: &[u8], offsets: &[u32; PRODUCTIONS], p: usize) -> bool
     requires { ⌜ (p < 128) × Placed (now table) (now offsets) p ⌝ }
     ensures { λ r. ⌜ r ≡ not (eqb (afterAll rankBy (productionAt (grammarIn (now (table .entry))) p) 0) 0) ⌝ }
 {
-    let mut low = [0u32; 8];
-    let mut high = [4294967295u32; 8];
+    let mut low = [0u32; ATTRIBUTES];
+    let mut high = [4294967295u32; ATTRIBUTES];
     let from = offsets[p] as usize;
     let rank = clash_conditions::entry::narrow_by(&table[from..], &mut low, &mut high);
     rank != 0
@@ -40,12 +43,12 @@ pub fn has_entry(table: &[u8], offsets: &[u32; 128], p: usize) -> bool
 // One pass over the fields of production p, if it is wanted.
 pub fn keep(
     table: &[u8],
-    offsets: &[u32; 128],
+    offsets: &[u32; PRODUCTIONS],
     p: usize,
     wanted: bool,
-    lows: &mut [u32; 1024],
-    highs: &mut [u32; 1024],
-    ranks: &mut [u8; 128],
+    lows: &mut [u32; BOUNDS],
+    highs: &mut [u32; BOUNDS],
+    ranks: &mut [u8; PRODUCTIONS],
 )
     requires { ⌜ (p < 128) × Placed (now table) (now offsets) p × (length (now lows) ≡ 1024) × (length (now highs) ≡ 1024) ⌝ }
     ensures { λ r. ⌜ KeepsIf wanted (now (table .entry)) p (now (lows .entry)) (now (highs .entry)) (now (ranks .entry)) (now (lows .exit)) (now (highs .exit)) (now (ranks .exit)) ⌝ }
@@ -53,8 +56,8 @@ pub fn keep(
     if !wanted {
         return;
     }
-    let mut low = [0u32; 8];
-    let mut high = [4294967295u32; 8];
+    let mut low = [0u32; ATTRIBUTES];
+    let mut high = [4294967295u32; ATTRIBUTES];
     let from = offsets[p] as usize;
     ranks[p] = clash_conditions::entry::narrow_by(&table[from..], &mut low, &mut high);
     store(lows, p, &low);

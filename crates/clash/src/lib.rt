@@ -6,6 +6,10 @@ use crate::kept::has_entry;
 use crate::kept::keep;
 use crate::together::enters_together;
 use clash_rivals::next_rival;
+use limits::BOUNDS;
+use limits::NONTERMINALS;
+use limits::PRODUCTIONS;
+use limits::ROWS;
 use nonterminal_set::NonterminalSet;
 use outline::left_of;
 use token_set::TokenSet;
@@ -26,11 +30,11 @@ ghost use Rattle.clash.specs.Clashing.{Given, Meeting, FirstRival, First
 
 // The first rival of `later` among the productions before it; `later` where its set meets nothing that they have.
 fn first_rival(
-    rows: &[u8; 2048],
-    sets: &[u64; 128],
-    lows: &[u32; 1024],
-    highs: &[u32; 1024],
-    ranks: &[u8; 128],
+    rows: &[u8; ROWS],
+    sets: &[u64; PRODUCTIONS],
+    lows: &[u32; BOUNDS],
+    highs: &[u32; BOUNDS],
+    ranks: &[u8; PRODUCTIONS],
     later: usize,
     seen: TokenSet,
 ) -> usize
@@ -56,11 +60,11 @@ fn crossing(seen: TokenSet, set: TokenSet, left: u8) -> NonterminalSet
 }
 
 // The lowest production whose set meets that of an earlier one with its left side; `count` where there is none.
-fn first_crossing(rows: &[u8; 2048], sets: &[u64; 128], count: usize) -> usize
+fn first_crossing(rows: &[u8; ROWS], sets: &[u64; PRODUCTIONS], count: usize) -> usize
     requires { ⌜ Image (now rows) count ⌝ }
     ensures { λ r. ⌜ FirstCrossing (now (rows .entry)) (now (sets .entry)) count r ⌝ }
 {
-    let mut seen = [0u64; 48];
+    let mut seen = [0u64; NONTERMINALS];
     let mut k: usize = 0;
     while k < count {
         let at = left_of(rows, k) as usize;
@@ -76,11 +80,11 @@ fn first_crossing(rows: &[u8; 2048], sets: &[u64; 128], count: usize) -> usize
 }
 
 // The left sides with productions whose sets meet.
-fn meeting(rows: &[u8; 2048], sets: &[u64; 128], count: usize) -> NonterminalSet
+fn meeting(rows: &[u8; ROWS], sets: &[u64; PRODUCTIONS], count: usize) -> NonterminalSet
     requires { ⌜ Image (now rows) count ⌝ }
     ensures { λ r. ⌜ Meeting (now (rows .entry)) (now (sets .entry)) count (r .0) ⌝ }
 {
-    let mut seen = [0u64; 48];
+    let mut seen = [0u64; NONTERMINALS];
     let mut met = NonterminalSet::EMPTY;
     let mut k: usize = 0;
     while k < count {
@@ -98,19 +102,19 @@ fn meeting(rows: &[u8; 2048], sets: &[u64; 128], count: usize) -> NonterminalSet
 // The lowest clash, where sets of productions with left sides `met` meet. Their entry conditions are read once.
 fn lowest_by_entry(
     table: &[u8],
-    rows: &[u8; 2048],
-    offsets: &[u32; 128],
-    sets: &[u64; 128],
+    rows: &[u8; ROWS],
+    offsets: &[u32; PRODUCTIONS],
+    sets: &[u64; PRODUCTIONS],
     count: usize,
     met: NonterminalSet,
 ) -> usize
     requires { ⌜ Given (now table) (now rows) (now offsets) (now sets) count × Meeting (now rows) (now sets) count (met .0) ⌝ }
     ensures { λ r. ⌜ Found (Decide.clashes (grammarIn (now (table .entry)))) count r ⌝ }
 {
-    let mut lows = [0u32; 1024];
-    let mut highs = [0u32; 1024];
-    let mut ranks = [0u8; 128];
-    let mut seen = [0u64; 48];
+    let mut lows = [0u32; BOUNDS];
+    let mut highs = [0u32; BOUNDS];
+    let mut ranks = [0u8; PRODUCTIONS];
+    let mut seen = [0u64; NONTERMINALS];
     let mut later: usize = 0;
     'pairs: while later < count {
         let left = left_of(rows, later);
@@ -136,9 +140,9 @@ fn lowest_by_entry(
 // Entry conditions are read only of nonterminals with productions whose sets meet; where the first such production has none, it clashes.
 pub fn lowest_clash(
     table: &[u8],
-    rows: &[u8; 2048],
-    offsets: &[u32; 128],
-    sets: &[u64; 128],
+    rows: &[u8; ROWS],
+    offsets: &[u32; PRODUCTIONS],
+    sets: &[u64; PRODUCTIONS],
     count: usize,
 ) -> usize
     requires { ⌜ Given (now table) (now rows) (now offsets) (now sets) count ⌝ }

@@ -1,6 +1,7 @@
 // Whether two rivals can be entered with the same values: where one of them compares, by the differences of both, read from the
 // table.
 use clash_entries::constrain_by;
+use limits::PRODUCTIONS;
 ghost use mathlib.Core.Path.{_≡_};
 ghost use mathlib.Core.Bool.{true};
 ghost use mathlib.Core.List.{_++_};
@@ -14,7 +15,12 @@ ghost use Rattle.clash.specs.Placing.{Placed};
 ghost use Rattle.clash.specs.Clashing.{Ranked, enterIn};
 
 // Whether some values meet all entry conditions of both.
-fn leaves_differences(table: &[u8], offsets: &[u32; 128], later: usize, earlier: usize) -> bool
+fn leaves_differences(
+    table: &[u8],
+    offsets: &[u32; PRODUCTIONS],
+    later: usize,
+    earlier: usize,
+) -> bool
     requires { ⌜ (later < 128) × (earlier < 128) × Placed (now table) (now offsets) later × Placed (now table) (now offsets) earlier ⌝ }
     ensures { λ r. ⌜ r ≡ solvable 8 (atEntry (productionAt (grammarIn (now (table .entry))) later .conditions) ++ atEntry (productionAt (grammarIn (now (table .entry))) earlier .conditions)) ⌝ }
 {
@@ -30,8 +36,8 @@ fn leaves_differences(table: &[u8], offsets: &[u32; 128], later: usize, earlier:
 // condition, and where both have ranges only, since their intervals do not keep rivals apart.
 pub fn enters_together(
     table: &[u8],
-    offsets: &[u32; 128],
-    ranks: &[u8; 128],
+    offsets: &[u32; PRODUCTIONS],
+    ranks: &[u8; PRODUCTIONS],
     later: usize,
     earlier: usize,
 ) -> bool

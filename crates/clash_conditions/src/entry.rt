@@ -10,6 +10,7 @@ ghost use Rattle.theory_sets.specs.Intervals.{entry};
 ghost use Rattle.clash_conditions.specs.BoundWords.{biased};
 ghost use Rattle.clash_conditions.specs.Entry.{fieldSize, entryHere, conditionHere, afterField, raiseBy, lowerBy, rankBy, Stretch};
 ghost use Rattle.clash_conditions.specs.Walk.{afterAll};
+use limits::ATTRIBUTES;
 
 // A bound's word that orders as the bounds do.
 fn biased_word(word: u32) -> u32
@@ -18,7 +19,7 @@ fn biased_word(word: u32) -> u32
     std::num::wrapping_add_u32(word, 2147483648)
 }
 
-fn raise(ends: &mut [u32; 8], i: usize, v: u32)
+fn raise(ends: &mut [u32; ATTRIBUTES], i: usize, v: u32)
     requires { ⌜ i < 8 ⌝ }
     ensures { λ r. ⌜ now (ends .exit) ≡ set (now (ends .entry)) i (max v (getD (now (ends .entry)) i 0)) ⌝ }
 {
@@ -27,7 +28,7 @@ fn raise(ends: &mut [u32; 8], i: usize, v: u32)
     }
 }
 
-fn lower(ends: &mut [u32; 8], i: usize, v: u32)
+fn lower(ends: &mut [u32; ATTRIBUTES], i: usize, v: u32)
     requires { ⌜ i < 8 ⌝ }
     ensures { λ r. ⌜ now (ends .exit) ≡ set (now (ends .entry)) i (min v (getD (now (ends .entry)) i 0)) ⌝ }
 {
@@ -63,7 +64,12 @@ pub fn is_entry(field: &[u8]) -> bool
 
 // The intervals narrowed by the field at the front, if it is a range and an entry condition; what entry conditions there
 // have been so far: 0 none, 1 ranges, 2 a comparison.
-fn narrow(field: &[u8], found: u8, lows: &mut [u32; 8], highs: &mut [u32; 8]) -> u8
+fn narrow(
+    field: &[u8],
+    found: u8,
+    lows: &mut [u32; ATTRIBUTES],
+    highs: &mut [u32; ATTRIBUTES],
+) -> u8
     requires { ⌜ (entryHere (now field) ≡ true → T (entry 8 (conditionHere (now field)))) ⌝ }
     ensures said { λ r. ⌜ r ≡ afterField rankBy (now (field .entry)) found ⌝ }
     ensures low { λ r. ⌜ now (lows .exit) ≡ afterField raiseBy (now (field .entry)) (now (lows .entry)) ⌝ }
@@ -85,7 +91,7 @@ fn narrow(field: &[u8], found: u8, lows: &mut [u32; 8], highs: &mut [u32; 8]) ->
 }
 
 // The intervals narrowed by all entry conditions of the production whose stretch is at the front; what it has of them.
-pub fn narrow_by(stretch: &[u8], lows: &mut [u32; 8], highs: &mut [u32; 8]) -> u8
+pub fn narrow_by(stretch: &[u8], lows: &mut [u32; ATTRIBUTES], highs: &mut [u32; ATTRIBUTES]) -> u8
     requires { ⌜ ((p : Production) × Stretch (now stretch) p) ⌝ }
     ensures said { λ r. ⌜ ((p : Production) → Stretch (now (stretch .entry)) p → r ≡ afterAll rankBy p 0) ⌝ }
     ensures low { λ r. ⌜ ((p : Production) → Stretch (now (stretch .entry)) p → now (lows .exit) ≡ afterAll raiseBy p (now (lows .entry))) ⌝ }

@@ -2,9 +2,10 @@
 ghost use mathlib.Core.Path.{_≡_};
 ghost use Prim.Native.Nat.{_<_};
 ghost use Rattle.clash_intervals.specs.Intervals.{leaveValues};
+use limits::BOUNDS;
 
 // Whether p and q leave some value to each attribute.
-pub fn leaves_values(lows: &[u32; 1024], highs: &[u32; 1024], p: usize, q: usize) -> bool
+pub fn leaves_values(lows: &[u32; BOUNDS], highs: &[u32; BOUNDS], p: usize, q: usize) -> bool
     requires { ⌜ (p < 128) × (q < 128) ⌝ }
     ensures { λ r. ⌜ r ≡ leaveValues (now (lows .entry)) (now (highs .entry)) p q ⌝ }
 {

@@ -1,5 +1,8 @@
 // Which earlier productions have to be compared with a later one: those with its left side and a set that meets its own, unless
 // the intervals that are kept of both keep them apart. The loop over them calls nothing else, so that a pair costs little.
+use limits::BOUNDS;
+use limits::PRODUCTIONS;
+use limits::ROWS;
 use outline::left_of;
 use token_set::TokenSet;
 ghost use mathlib.Core.Path.{_≡_};
@@ -7,7 +10,7 @@ ghost use Prim.Native.Nat.{_<_, _≤_};
 ghost use Rattle.clash_rivals.specs.Rivals.{startTogether, rival, NextRival};
 
 // Whether productions p and q have one left side and sets that meet.
-fn starts_together(rows: &[u8; 2048], sets: &[u64; 128], p: usize, q: usize) -> bool
+fn starts_together(rows: &[u8; ROWS], sets: &[u64; PRODUCTIONS], p: usize, q: usize) -> bool
     requires { ⌜ (p < 128) × (q < 128) ⌝ }
     ensures { λ r. ⌜ r ≡ startTogether (now (rows .entry)) (now (sets .entry)) p q ⌝ }
 {
@@ -21,11 +24,11 @@ fn starts_together(rows: &[u8; 2048], sets: &[u64; 128], p: usize, q: usize) -> 
 
 // Whether they start together and their intervals do not keep them apart: those tell only where both have ranges and no comparison.
 fn is_rival(
-    rows: &[u8; 2048],
-    sets: &[u64; 128],
-    lows: &[u32; 1024],
-    highs: &[u32; 1024],
-    ranks: &[u8; 128],
+    rows: &[u8; ROWS],
+    sets: &[u64; PRODUCTIONS],
+    lows: &[u32; BOUNDS],
+    highs: &[u32; BOUNDS],
+    ranks: &[u8; PRODUCTIONS],
     p: usize,
     q: usize,
 ) -> bool
@@ -46,11 +49,11 @@ fn is_rival(
 
 // The first rival of `later` from `from` on; `later` where there is none.
 pub fn next_rival(
-    rows: &[u8; 2048],
-    sets: &[u64; 128],
-    lows: &[u32; 1024],
-    highs: &[u32; 1024],
-    ranks: &[u8; 128],
+    rows: &[u8; ROWS],
+    sets: &[u64; PRODUCTIONS],
+    lows: &[u32; BOUNDS],
+    highs: &[u32; BOUNDS],
+    ranks: &[u8; PRODUCTIONS],
     later: usize,
     from: usize,
 ) -> usize

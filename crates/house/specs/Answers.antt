@@ -3,6 +3,7 @@ use Prim.Native.Nat.{ℕ, _≤_, _<_}
 use mathlib.Core.Path.{_≡_}
 use mathlib.Core.List.{List, _++_}
 use lib.ListN.{length, getD, take}
+use Rattle.meaning.specs.Limits.{tableLimit}
 use Rattle.meaning_house.specs.House.{writing}
 use Rattle.theory_order.specs.Planning.{Planned, copied}
 use Rattle.house_write.specs.declared.Written.{Written}
@@ -18,7 +19,7 @@ pub record PlanReady (t offsets : List ℕ) (count size : ℕ) : Type 0 where
   pub some : 0 < count
   pub listed : count ≤ length offsets
   pub inside : getD offsets 0 0 ≤ length t
-  pub short : length t ≤ 32768
+  pub short : length t ≤ tableLimit
 
 -- what stands before the first production, then the planned fields
 abbrev pub Writes : List ℕ → List ℕ → ℕ → ℕ → List ℕ → List ℕ → Written → Type 0

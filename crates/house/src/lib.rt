@@ -7,6 +7,9 @@ ghost use Rattle.house_write.specs.Answers.{houseIs};
 ghost use Rattle.house.specs.Answers.{PlanReady, Writes};
 use checker_grammar::Judged;
 use house_write::Written;
+use limits::NONTERMINALS;
+use limits::PRODUCTIONS;
+use limits::ROWS;
 
 // Writes a table whose productions begin at these offsets.
 fn write_house(
@@ -28,11 +31,11 @@ fn write_house(
 pub fn house(table: &[u8], out: &mut [u8]) -> Written
     ensures { λ r. ⌜ houseIs r (now (out .exit)) ≡ houseOf (now (table .entry)) (now (out .entry)) ⌝ }
 {
-    let mut inherited = [0u8; 48];
-    let mut synthesized = [0u8; 48];
-    let mut rows = [0u8; 2048];
-    let mut offsets = [0u32; 128];
-    let mut sets = [0u64; 128];
+    let mut inherited = [0u8; NONTERMINALS];
+    let mut synthesized = [0u8; NONTERMINALS];
+    let mut rows = [0u8; ROWS];
+    let mut offsets = [0u32; PRODUCTIONS];
+    let mut sets = [0u64; PRODUCTIONS];
     match checker::judging::judge_table(
         table,
         &mut inherited,

@@ -4,12 +4,13 @@ ghost use mathlib.Core.List.{_++_};
 ghost use Prim.Native.Nat.{_+_, _≤_};
 ghost use lib.ListN.{length, take};
 ghost use lib.Seq.{paste};
+ghost use Rattle.meaning.specs.Limits.{tableLimit};
 ghost use Rattle.meaning.specs.PublicCalls.{written};
 ghost use Rattle.theory_order.specs.Planning.{copied};
 
 // How many bytes the fields at these offsets have.
 pub fn planned_length(table: &[u8], order: &[u32]) -> usize
-    requires { ⌜ (length (now table) ≤ 32768) × (length (now order) ≤ 1664) ⌝ }
+    requires { ⌜ (length (now table) ≤ tableLimit) × (length (now order) ≤ 1664) ⌝ }
     ensures { λ r. ⌜ (r ≡ length (copied (now (table .entry)) (now (order .entry)))) × (r ≤ 54525952) ⌝ }
 {
     let mut sum: usize = 0;

@@ -3,6 +3,7 @@ ghost use mathlib.Core.Path.{_≡_};
 ghost use mathlib.Core.List.{_++_};
 ghost use Prim.Native.Nat.{_≤_};
 ghost use lib.ListN.{length, take};
+ghost use Rattle.meaning.specs.Limits.{tableLimit};
 ghost use Rattle.meaning_house.specs.House.{writing};
 ghost use Rattle.theory_order.specs.Planning.{copied};
 ghost use Rattle.house_write.specs.Answers.{houseIs};
@@ -16,7 +17,7 @@ pub enum Written {
 
 // Writes everything before the first production and then the fields at these offsets, or nothing where the buffer is too short.
 pub fn write_planned(table: &[u8], order: &[u32], first: usize, out: &mut [u8]) -> Written
-    requires { ⌜ (length (now table) ≤ 32768) × (first ≤ length (now table)) × (length (now order) ≤ 1664) ⌝ }
+    requires { ⌜ (length (now table) ≤ tableLimit) × (first ≤ length (now table)) × (length (now order) ≤ 1664) ⌝ }
     ensures { λ r. ⌜ houseIs r (now (out .exit)) ≡ writing (take first (now (table .entry)) ++ copied (now (table .entry)) (now (order .entry))) (now (out .entry)) ⌝ }
 {
     let length = first + house_copy::planned_length(table, order);

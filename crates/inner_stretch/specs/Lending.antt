@@ -8,6 +8,7 @@ use borrow.Rule.Slice.PartMut.{putMid, post-is}
 use lib.ListN.{length, take, drop, replicate}
 use lib.Dec.{T, ltb}
 use lib.IntN.{ℤ}
+use Rattle.meaning.specs.Limits.{registersLimit, placesLimit}
 use Rattle.meaning.specs.Grammar.{Grammar}
 use Rattle.meaning.specs.Value.{mark}
 use Rattle.meaning.specs.Machine.{opening}
@@ -31,15 +32,15 @@ use Rattle.inner_records.specs.Records.{innerHandedIs, callIs, apartBy, apartNu
 -- ---- the cells
 
 -- n and k cells are lent, the stretch begins at h and p, or where nothing is left
-module _ (h p : ℕ) (vs : List ℤ) (ps : List ℕ) (n k a b : ℕ) (en : n ≡ min (length vs) 4096) (ek : k ≡ min (length ps) 1024) (ea : a ≡ min h n) (eb : b ≡ min p k) where
+module _ (h p : ℕ) (vs : List ℤ) (ps : List ℕ) (n k a b : ℕ) (en : n ≡ min (length vs) registersLimit) (ek : k ≡ min (length ps) placesLimit) (ea : a ≡ min h n) (eb : b ≡ min p k) where
   abbrev m : Stacks
   m = stacksOf vs ps
 
   abbrev rb : ℕ
-  rb = min h (min (length vs) 4096)
+  rb = min h (min (length vs) registersLimit)
 
   abbrev pb : ℕ
-  pb = min p (min (length ps) 1024)
+  pb = min p (min (length ps) placesLimit)
 
   starts : a ≡ rb
   starts = ea ∙ ap (min h) en
@@ -93,7 +94,7 @@ module _ (g : Grammar) (o : Brought.State) (m : Stacks) where
           let kept : stacksOf vs ps ≡ above from m = ap (λ (k : Called). k .stacks) e ∙ open-kept g (above from m) (ap (λ (k : Called). isOpen (k .state)) (sym e) ∙ d) in
           ap (handedBack _ _ _) (q ∙ (ap (λ part. paste from part m) kept ∙ paste-same from m))
 
-module _ (g : Grammar) (o : Brought.State) (vs : List ℤ) (ps : List ℕ) (n k a b : ℕ) (en : n ≡ min (length vs) 4096) (ek : k ≡ min (length ps) 1024) (ea : a ≡ min (o .registers) n) (eb : b ≡ min (o .places) k) where
+module _ (g : Grammar) (o : Brought.State) (vs : List ℤ) (ps : List ℕ) (n k a b : ℕ) (en : n ≡ min (length vs) registersLimit) (ek : k ≡ min (length ps) placesLimit) (ea : a ≡ min (o .registers) n) (eb : b ≡ min (o .places) k) where
   pub open-is : (r : Code.Handed) (ws : List ℤ) (qs : List ℕ) → handedIs r ws qs ≡ openOf g (stacksOf (take (n - a) (drop a vs)) (take (k - b) (drop b ps))) → (z : Handed.InnerHanded) → z ≡ openedFrom o r
       → innerHandedIs z (putMid a (n - a) vs ws) (putMid b (k - b) ps qs) ≡ innerOpenOf g (stateIs o) (stacksOf vs ps)
   open-is r ws qs e z q =
@@ -200,7 +201,7 @@ module _ (g : Grammar) (o i : Record) (m : Stacks) (c : InnerCall) where
   begins-is e = belongs-is o i (together e .1) .begins
 
 module _ (g : Grammar) (o i : Brought.State) (c : InnerCall) (number : 0 ≡ apartNumber (stateIs o) (stateIs i)) (vs : List ℤ) (ps : List ℕ) (n k a b : ℕ)
-    (en : n ≡ min (length vs) 4096) (ek : k ≡ min (length ps) 1024) (ea : a ≡ min (o .registers) n) (eb : b ≡ min (o .places) k) where
+    (en : n ≡ min (length vs) registersLimit) (ek : k ≡ min (length ps) placesLimit) (ea : a ≡ min (o .registers) n) (eb : b ≡ min (o .places) k) where
   pub call-is : (z : Handed.InnerHanded) (ws : List ℤ) (qs : List ℕ) → innerHandedIs z ws qs ≡ stretchCalled g (stateIs o) (stateIs i) (stacksOf (take (n - a) (drop a vs)) (take (k - b) (drop b ps))) c
       → innerHandedIs z (putMid a (n - a) vs ws) (putMid b (k - b) ps qs) ≡ innerOf g (stateIs o) (stateIs i) (stacksOf vs ps) c
   call-is z ws qs e =

@@ -3,6 +3,9 @@ ghost use Rattle.meaning_judge.specs.Judge.{JudgedAs};
 ghost use Rattle.judge_sheet.specs.Judged.{judgementIs};
 use checker_grammar::Judged;
 use judge_sheet::Judgement;
+use limits::NONTERMINALS;
+use limits::PRODUCTIONS;
+use limits::ROWS;
 
 // Tokens are counted in four bytes of a record.
 const COUNTED: usize = 4294967296;
@@ -11,11 +14,11 @@ const COUNTED: usize = 4294967296;
 pub fn judge(table: &[u8], kinds: &[u8], values: &[i32], sheet: &[u8]) -> Judgement
     ensures { λ r. ⌜ JudgedAs (now (table .entry)) (now (kinds .entry)) (now (values .entry)) (now (sheet .entry)) (judgementIs r) ⌝ }
 {
-    let mut inherited = [0u8; 48];
-    let mut synthesized = [0u8; 48];
-    let mut rows = [0u8; 2048];
-    let mut offsets = [0u32; 128];
-    let mut sets = [0u64; 128];
+    let mut inherited = [0u8; NONTERMINALS];
+    let mut synthesized = [0u8; NONTERMINALS];
+    let mut rows = [0u8; ROWS];
+    let mut offsets = [0u32; PRODUCTIONS];
+    let mut sets = [0u64; PRODUCTIONS];
     match checker::judging::judge_table(
         table,
         &mut inherited,

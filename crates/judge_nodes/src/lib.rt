@@ -4,6 +4,7 @@ ghost use lib.ListN.{length};
 ghost use Rattle.judge_parts.specs.Checked.{NodeReady, NodeEnds, ChildrenReady, ChildrenEnds};
 use judge_head::Head;
 use judge_parts::Answer;
+use limits::POSITIONS;
 
 // Whether the sheet from `at` on describes a tree of the symbol over the tokens from `from` on, of depth at most `depth_left`;
 // with where both go on after it.
@@ -38,7 +39,7 @@ pub fn check_node(
             behind,
             covered,
         } => {
-            let mut marks = [at; 13];
+            let mut marks = [at; POSITIONS];
             match check_children(
                 table,
                 rows,
@@ -83,7 +84,7 @@ pub fn check_children(
     at: usize,
     from: usize,
     depth_left: usize,
-    marks: &mut [usize; 13],
+    marks: &mut [usize; POSITIONS],
 ) -> Answer
     requires { ⌜ ChildrenReady (now table) (now rows) (now inherited) (now synthesized) (now offsets) (now kinds) (now values) (now sheet) p from × (length (now marks) ≡ 13) ⌝ }
     ensures { λ r. ⌜ ChildrenEnds (now (table .entry)) (now (rows .entry)) (now (inherited .entry)) (now (synthesized .entry)) (now (offsets .entry)) (now (kinds .entry)) (now (values .entry)) (now (sheet .entry)) p at from «depth_left» (now (marks .entry)) (now (marks .exit)) r ⌝ }

@@ -3,6 +3,8 @@ ghost use Prim.Native.Nat.{_≤_};
 ghost use lib.ListN.{length};
 use libc::STDIN_FILENO;
 use libc::STDOUT_FILENO;
+use limits::AREA;
+use limits::TABLE;
 use listing_text::Cursor;
 
 // Writes the first bytes of `out`; answers whether all of them could be written.
@@ -32,7 +34,7 @@ fn print_rest(program: &[u32], from: Cursor, out: &mut [u8])
 
 // Prints the listing of a table, or the line of its refusal.
 fn print(table: &[u8]) {
-    let mut program = [0u32; 16384];
+    let mut program = [0u32; AREA];
     let mut out = io::buffer();
     let page = listing_first::first_page(table, &mut program, &mut out);
     if !put(&out, page.length) {
@@ -44,7 +46,7 @@ fn print(table: &[u8]) {
 }
 
 // One byte more than a table may have: a longer one is refused by its length, whatever follows.
-const ROOM: usize = 32769;
+const ROOM: usize = TABLE + 1;
 
 // 01: "The listing program reads a table from standard input and prints".
 fn main() {

@@ -4,6 +4,7 @@ use mathlib.Core.Bool.{Bool, true, false, _&&_, not}
 use mathlib.Core.List.{List, [], _∷_}
 use lib.ListN.{getD}
 use lib.Dec.{eqb, ltb, leb}
+use Rattle.meaning.specs.Limits.{areaLength}
 use Rattle.meaning.specs.Listing.{Text}
 use Rattle.theory_program.specs.Parts.{headOperation, headOperand}
 use Rattle.theory_program.specs.Unpacked.{ruleFrom, conditionFrom}
@@ -34,7 +35,7 @@ abbrev pub goOn : Cursor → ℕ → Bool → ℕ → ℕ → Cursor
 goOn c k r n a = record { production = c .production; passed = k; rules = r; left = n; at = a }
 
 abbrev pub insideOf : List ℕ → Cursor → Bool
-insideOf ws c = ltb (c .production) (wordAt ws 6) && (ltb (c .at) 16384 && leb (c .passed) 12)
+insideOf ws c = ltb (c .production) (wordAt ws 6) && (ltb (c .at) areaLength && leb (c .passed) 12)
 
 -- an evaluate, an expect or a test stands there: it has no line of its own
 abbrev pub silent : ℕ → Bool
@@ -111,7 +112,7 @@ linesWithin (suc f) ws c = followed (stepOf ws c) (λ d. linesWithin f ws d)
 
 -- each step is to a later production, or to a later address in the same one
 abbrev pub ahead : List ℕ → Cursor → ℕ
-ahead ws c = (wordAt ws 6 - c .production) * 16385 + (16384 - c .at)
+ahead ws c = (wordAt ws 6 - c .production) * 16385 + (areaLength - c .at)
 
 unfoldable pub linesLeft : List ℕ → Cursor → List Text
 linesLeft ws c = linesWithin (suc (ahead ws c)) ws c

@@ -9,6 +9,7 @@ use mathlib.Core.List.{List, [], _∷_, _++_, append-assoc}
 use borrow.Author.Tests.{eq-eqb, ne-eqb}
 use lib.ListN.{length, length-append}
 use lib.Dec.{T}
+use Rattle.meaning.specs.Limits.{areaLength}
 use Rattle.meaning.specs.Grammar.{Symbol, terminal, nonterminal, Grammar}
 use Rattle.meaning.specs.Scheme.{Instruction, add, evaluate, expect, test, remove}
 use Rattle.meaning.specs.Machine.{expects}
@@ -27,7 +28,7 @@ use Rattle.listing_text.specs.Cursors.{wordAt, operationAt, operandAt, g
 pub record AtHead (g : Grammar) (ws : List ℕ) (c : Cursor) (is : List Instruction) (ls : List Text) : Type 0 where
   pub unread : Unread g (c .production) (c .passed) is
   pub code : CodeAt ws (c .at) is
-  pub fits : c .at + length (schemeWords is) ≤ 16384
+  pub fits : c .at + length (schemeWords is) ≤ areaLength
   pub lines : ls ≡ codeLines (c .production) (symbols g c) (c .passed) is ++ later g c
 
 code-at : {ws : List ℕ} {a : ℕ} {is : List Instruction} (b : ℕ) → a ≡ b → CodeAt ws a is → CodeAt ws b is

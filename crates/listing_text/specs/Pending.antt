@@ -5,6 +5,7 @@ use mathlib.Core.Bool.{Bool, true, false}
 use mathlib.Core.List.{List, [], _∷_, _++_}
 use lib.ListN.{length, drop}
 use lib.Dec.{ltb}
+use Rattle.meaning.specs.Limits.{areaLength}
 use Rattle.meaning.specs.Base.{In}
 use Rattle.meaning.specs.Grammar.{Rule, Condition, Grammar, productionAt}
 use Rattle.meaning.specs.Scheme.{Instruction, add, evaluate, expect, test, remove}
@@ -84,7 +85,7 @@ pub record Inside (g : Grammar) (ws : List ℕ) (c : Cursor) (items : Items) (is
   pub here : ItemsAt ws (c .at) items
   pub behind : CodeAt ws (c .at + itemSize items) is
   pub properItems : ProperItems items
-  pub fits : c .at + itemSize items + length (schemeWords is) ≤ 16384
+  pub fits : c .at + itemSize items + length (schemeWords is) ≤ areaLength
   pub lines : ls ≡ itemLines (c .production) (symbols g c) (c .passed) items ++ (codeLines (c .production) (symbols g c) (c .passed) is ++ later g c)
 
 -- `ls` are the lines still to come at c, in words that begin with the program of g

@@ -6,6 +6,7 @@ use mathlib.Core.Bool.{Bool, true, false, _&&_, not}
 use mathlib.Core.List.{List}
 use borrow.Author.Tests.{ltb-true, ltb-false, leb-true, not-true, lt-ltb, le-ltb, eq-eqb, ne-eqb}
 use lib.Dec.{T, eqb, ltb, leb}
+use Rattle.meaning.specs.Limits.{areaLength}
 use Rattle.theory_program.specs.Parts.{headOperation, headOperand}
 use Rattle.listing_text.specs.declared.Cursor.{Cursor}
 use Rattle.listing_text.specs.Cursors.{wordAt, operationAt, operandAt, goOn, insideOf, silent, skipsOf, skippedBy, skipped}
@@ -19,11 +20,11 @@ not-both true b e f = f
 not-both false b e f = absurd (subst T (sym e) tt)
 
 -- what is known inside
-pub inside-facts : (ws : List ℕ) (c : Cursor) → insideOf ws c ≡ true → (c .production < wordAt ws 6) × (c .at < 16384) × (c .passed ≤ 12)
+pub inside-facts : (ws : List ℕ) (c : Cursor) → insideOf ws c ≡ true → (c .production < wordAt ws 6) × (c .at < areaLength) × (c .passed ≤ 12)
 inside-facts ws c e =
-    let h = both (ltb (c .production) (wordAt ws 6)) (ltb (c .at) 16384 && leb (c .passed) 12) e in
-    let k = both (ltb (c .at) 16384) (leb (c .passed) 12) (h .1) in
-    (ltb-true (c .production) (wordAt ws 6) (h .0), ltb-true (c .at) 16384 (k .0), leb-true (c .passed) 12 (k .1))
+    let h = both (ltb (c .production) (wordAt ws 6)) (ltb (c .at) areaLength && leb (c .passed) 12) e in
+    let k = both (ltb (c .at) areaLength) (leb (c .passed) 12) (h .1) in
+    (ltb-true (c .production) (wordAt ws 6) (h .0), ltb-true (c .at) areaLength (k .0), leb-true (c .passed) 12 (k .1))
 
 pub record Skips (ws : List ℕ) (c : Cursor) : Type 0 where
   pub none : c .left ≡ 0
@@ -51,11 +52,11 @@ module _ (ws : List ℕ) (c : Cursor) where
   pub outside-last : wordAt ws 6 ≤ c .production → false ≡ insideOf ws c
   outside-last h = rw (le-ltb (c .production) (wordAt ws 6) h)
 
-  pub outside-area : c .production < wordAt ws 6 → 16384 ≤ c .at → false ≡ insideOf ws c
-  outside-area h k = rw (lt-ltb (c .production) (wordAt ws 6) h, le-ltb (c .at) 16384 k)
+  pub outside-area : c .production < wordAt ws 6 → areaLength ≤ c .at → false ≡ insideOf ws c
+  outside-area h k = rw (lt-ltb (c .production) (wordAt ws 6) h, le-ltb (c .at) areaLength k)
 
-  pub inside-area : c .production < wordAt ws 6 → c .at < 16384 → leb (c .passed) 12 ≡ insideOf ws c
-  inside-area h k = rw (lt-ltb (c .production) (wordAt ws 6) h, lt-ltb (c .at) 16384 k)
+  pub inside-area : c .production < wordAt ws 6 → c .at < areaLength → leb (c .passed) 12 ≡ insideOf ws c
+  inside-area h k = rw (lt-ltb (c .production) (wordAt ws 6) h, lt-ltb (c .at) areaLength k)
 
   pub stays-items : 0 < c .left → false ≡ skipsOf ws c
   unfolding skipsOf

@@ -3,6 +3,7 @@ ghost use Prim.Native.Nat.{_+_, _<_, _≤_};
 ghost use mathlib.Core.Path.{_≡_};
 ghost use mathlib.Core.Bool.{true, false};
 ghost use lib.ListN.{length};
+ghost use Rattle.meaning.specs.Limits.{areaLength};
 ghost use Rattle.listing_lines.specs.Line.{addLine, removeLine};
 ghost use Rattle.listing_text.specs.Cursors.{wordAt, recordWord, startOf, goOn, insideOf, skipsOf, skipped, positionOf, ruleHere, behindRule, conditionHere, behindCondition, behindAdd, linesLeft};
 ghost use Rattle.listing_text.specs.LineOut.{Emits, FirstLineOrOver, BeforeAll};
@@ -132,7 +133,7 @@ fn is_silent(program: &[u32], c: Cursor) -> bool
 
 // Behind that instruction: at its items, or past its symbol.
 fn pass(program: &[u32], c: Cursor) -> Cursor
-    requires { ⌜ (c .at < 16384) × (c .passed ≤ 12) ⌝ }
+    requires { ⌜ (c .at < areaLength) × (c .passed ≤ 12) ⌝ }
     ensures { λ r. ⌜ r ≡ skipped (now (program .entry)) c ⌝ }
 {
     let head = wide(word(program, c.at));
@@ -172,7 +173,7 @@ fn position(program: &[u32], c: Cursor) -> u32
 }
 
 fn rule(program: &[u32], c: Cursor, out: &mut [u8]) -> Line
-    requires { ⌜ (c .at < 16384) × (0 < c .left) × (64 ≤ length (now out)) ⌝ }
+    requires { ⌜ (c .at < areaLength) × (0 < c .left) × (64 ≤ length (now out)) ⌝ }
     ensures { λ r. ⌜ Emits (now (out .entry)) (now (out .exit)) r (ruleHere (now (program .entry)) c) (behindRule c) ⌝ }
 {
     let k = position(program, c);
@@ -194,7 +195,7 @@ fn rule(program: &[u32], c: Cursor, out: &mut [u8]) -> Line
 }
 
 fn condition(program: &[u32], c: Cursor, out: &mut [u8]) -> Line
-    requires { ⌜ (c .at < 16384) × (0 < c .left) × (64 ≤ length (now out)) ⌝ }
+    requires { ⌜ (c .at < areaLength) × (0 < c .left) × (64 ≤ length (now out)) ⌝ }
     ensures { λ r. ⌜ Emits (now (out .entry)) (now (out .exit)) r (conditionHere (now (program .entry)) c) (behindCondition c) ⌝ }
 {
     let w = word(program, c.at);
@@ -216,7 +217,7 @@ fn condition(program: &[u32], c: Cursor, out: &mut [u8]) -> Line
 }
 
 fn add(c: Cursor, registers: u32, out: &mut [u8]) -> Line
-    requires { ⌜ (c .at < 16384) × (c .passed ≤ 12) × (64 ≤ length (now out)) ⌝ }
+    requires { ⌜ (c .at < areaLength) × (c .passed ≤ 12) × (64 ≤ length (now out)) ⌝ }
     ensures { λ r. ⌜ Emits (now (out .entry)) (now (out .exit)) r (addLine (c .production) (c .passed + 1) registers) (behindAdd c) ⌝ }
 {
     let length = listing_lines::add_line(out, c.production, c.passed + 1, registers);

@@ -5,6 +5,9 @@ ghost use Rattle.prepare.specs.Making.{madeIs, MadeAs};
 ghost use Rattle.prepare.specs.Beginning.{BegunAs};
 use checker_grammar::Judged;
 use limits::AREA;
+use limits::NONTERMINALS;
+use limits::PRODUCTIONS;
+use limits::ROWS;
 use records::Answer;
 
 // The area is too short (30), the table is refused, or its program is written, with its length.
@@ -22,11 +25,11 @@ pub fn program_of(table: &[u8], program: &mut [u32]) -> Made
     if program.len() < AREA {
         return Made::Short;
     }
-    let mut rows = [0u8; 2048];
-    let mut inherited = [0u8; 48];
-    let mut synthesized = [0u8; 48];
-    let mut offsets = [0u32; 128];
-    let mut sets = [0u64; 128];
+    let mut rows = [0u8; ROWS];
+    let mut inherited = [0u8; NONTERMINALS];
+    let mut synthesized = [0u8; NONTERMINALS];
+    let mut offsets = [0u32; PRODUCTIONS];
+    let mut sets = [0u64; PRODUCTIONS];
     match checker::judging::judge_table(
         table,
         &mut inherited,

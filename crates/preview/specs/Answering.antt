@@ -6,6 +6,7 @@ use mathlib.Core.Bool.{_&&_}
 use lib.ListN.{length, take, drop}
 use lib.IntN.{ℤ}
 use lib.Dec.{ltb}
+use Rattle.meaning.specs.Limits.{registersLimit, placesLimit}
 use Rattle.meaning.specs.Grammar.{Grammar, leaves}
 use Rattle.meaning.specs.Sets.{TokenSet}
 use Rattle.meaning.specs.Calls.{asBrought, Record, Stacks, refused, Called, lentOf, configOf, tokensFrom, afterFeed, feedOf}
@@ -58,7 +59,7 @@ module _ {ws : List ℕ} {vs : List ℤ} {ps : List ℕ} {r : Record} (j : Judge
 
 -- ---- on cells of any length
 
-module _ (g : Grammar) (r : Record) (vs rs : List ℤ) (ps qs : List ℕ) (n k : ℕ) (en : n ≡ min (length vs) 4096) (ek : k ≡ min (length ps) 1024) where
+module _ (g : Grammar) (r : Record) (vs rs : List ℤ) (ps qs : List ℕ) (n k : ℕ) (en : n ≡ min (length vs) registersLimit) (ek : k ≡ min (length ps) placesLimit) where
   abbrev own : Stacks
   own = stacksOf vs ps
 
@@ -79,7 +80,7 @@ module _ (g : Grammar) (r : Record) (vs rs : List ℤ) (ps qs : List ℕ) (n k :
       same [] = refl
       same (t ∷ ts) = ap₂ (λ x xs. x ∷ xs) (ap (λ b. ltb t (g .terminals) && b) (one t)) (same ts)
 
-module _ {ws : List ℕ} (r : Record) (vs rs : List ℤ) (ps qs : List ℕ) (n k : ℕ) (en : n ≡ min (length vs) 4096) (ek : k ≡ min (length ps) 1024)
+module _ {ws : List ℕ} (r : Record) (vs rs : List ℤ) (ps qs : List ℕ) (n k : ℕ) (en : n ≡ min (length vs) registersLimit) (ek : k ≡ min (length ps) placesLimit)
     (number : (g : Grammar) → HasProgram g ws → 0 ≡ copyNumber g r (stacksOf vs ps) (stacksOf rs qs)) where
   pub may-made : (v : ℤ) (set : Code.TokenSet) (area : List ℕ) (rs′ : List ℤ) (qs′ : List ℕ) → ((g : Grammar) → HasProgram g ws → SetAnswered g r (take n vs) (take k ps) (take n rs) (take k qs) v (set .0) rs′ qs′)
       → (g : Grammar) → HasProgram g ws → mayEffectIs (Tokens set) (rs′ ++ drop n rs) (qs′ ++ drop k qs) area ≡ mayOf g r (stacksOf vs ps) (stacksOf rs qs) v area

@@ -7,6 +7,7 @@ use mathlib.Core.List.{List, [], _∷_, _++_, append-nil}
 use lib.ListN.{length, take, drop, replicate, length-take, drop-of-length-le}
 use lib.Seq.{length-take-le}
 use lib.IntN.{ℤ}
+use Rattle.meaning.specs.Limits.{registersLimit, placesLimit}
 use Rattle.meaning.specs.Grammar.{Grammar}
 use Rattle.meaning.specs.Value.{mark}
 use Rattle.meaning.specs.Calls.{Record, Stacks, Called, feedOf, refused, asBrought}
@@ -24,7 +25,7 @@ use Rattle.preview_lent.specs.Answering.{LentAlike}
 
 -- ---- on cells of any length
 
-module _ (g : Grammar) (r : Record) (vs rs : List ℤ) (ps qs : List ℕ) (n k : ℕ) (en : n ≡ min (length vs) 4096) (ek : k ≡ min (length ps) 1024) where
+module _ (g : Grammar) (r : Record) (vs rs : List ℤ) (ps qs : List ℕ) (n k : ℕ) (en : n ≡ min (length vs) registersLimit) (ek : k ≡ min (length ps) placesLimit) where
   abbrev own : Stacks
   own = stacksOf vs ps
 
@@ -50,8 +51,8 @@ module _ (g : Grammar) (r : Record) (vs rs : List ℤ) (ps qs : List ℕ) (n k :
 
   pub tidied-whole : stacksOf (tidied cells part .registers ++ drop n rs) (tidied cells part .places ++ drop k qs) ≡ tidied own scratch
   tidied-whole =
-      ap₂ stacksOf (one-tidied mark rs (min (length (take n vs)) 4096) n (omega (arith, length-take n vs)) ∙ ap (λ i. replicate i mark ++ drop i rs) en)
-      (one-tidied 0 qs (min (length (take k ps)) 1024) k (omega (arith, length-take k ps)) ∙ ap (λ i. replicate i 0 ++ drop i qs) ek)
+      ap₂ stacksOf (one-tidied mark rs (min (length (take n vs)) registersLimit) n (omega (arith, length-take n vs)) ∙ ap (λ i. replicate i mark ++ drop i rs) en)
+      (one-tidied 0 qs (min (length (take k ps)) placesLimit) k (omega (arith, length-take k ps)) ∙ ap (λ i. replicate i 0 ++ drop i qs) ek)
 
   pub tried-whole : (t : ℕ) (v : ℤ) (c : Handed.Handed) (rs′ : List ℤ) (qs′ : List ℕ) → handedIs c rs′ qs′ ≡ tried g r cells part t v → handedIs c (rs′ ++ drop n rs) (qs′ ++ drop k qs) ≡ tried g r own scratch t v
   tried-whole t v c rs′ qs′ e =
@@ -63,7 +64,7 @@ module _ (g : Grammar) (r : Record) (vs rs : List ℤ) (ps qs : List ℕ) (n k :
 
 -- ---- by the judgement
 
-module _ {ws : List ℕ} (readable : Readable ws) (r : Record) (vs rs : List ℤ) (ps qs : List ℕ) (n k : ℕ) (en : n ≡ min (length vs) 4096) (ek : k ≡ min (length ps) 1024)
+module _ {ws : List ℕ} (readable : Readable ws) (r : Record) (vs rs : List ℤ) (ps qs : List ℕ) (n k : ℕ) (en : n ≡ min (length vs) registersLimit) (ek : k ≡ min (length ps) placesLimit)
     (number : (g : Grammar) → HasProgram g ws → 0 ≡ copyNumber g r (stacksOf vs ps) (stacksOf rs qs)) where
   on : (g : Grammar) → HasProgram g ws → (numberFor 34 g r (stacksOf vs ps) ≡ 0) × (isShort (stacksOf vs ps) (stacksOf rs qs) ≡ false)
   on g s = copy-passed g r (stacksOf vs ps) (stacksOf rs qs) (sym (number g s))

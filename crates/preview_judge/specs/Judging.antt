@@ -8,6 +8,7 @@ use lib.ListN.{length}
 use lib.Dec.{T, ltb}
 use lib.IntN.{ℤ}
 use borrow.Author.Tests.{lt-ltb, le-ltb, ltb-false}
+use Rattle.meaning.specs.Limits.{registersLimit, placesLimit}
 use Rattle.meaning.specs.Grammar.{Grammar}
 use Rattle.meaning.specs.Calls.{Gate, admitted, turnedBack, Record, Stacks, stacksFit}
 use Rattle.meaning.specs.PublicCalls.{stacksOf}
@@ -77,20 +78,20 @@ module _ (g : Grammar) (r : Record) (m s : Stacks) where
 
 -- ---- by the lengths
 
-module _ (vs rs : List ℤ) (ps qs : List ℕ) (n k : ℕ) (en : n ≡ min (length vs) 4096) (ek : k ≡ min (length ps) 1024) where
+module _ (vs rs : List ℤ) (ps qs : List ℕ) (n k : ℕ) (en : n ≡ min (length vs) registersLimit) (ek : k ≡ min (length ps) placesLimit) where
   pub short-registers : length rs < n → isShort (stacksOf vs ps) (stacksOf rs qs) ≡ true
-  short-registers l = ap (λ b. b || ltb (length qs) (min (length ps) 1024)) (lt-ltb (length rs) (min (length vs) 4096) (omega (arith, en)))
+  short-registers l = ap (λ b. b || ltb (length qs) (min (length ps) placesLimit)) (lt-ltb (length rs) (min (length vs) registersLimit) (omega (arith, en)))
 
   pub short-places : n ≤ length rs → length qs < k → isShort (stacksOf vs ps) (stacksOf rs qs) ≡ true
-  short-places a l = ap₂ _||_ (le-ltb (length rs) (min (length vs) 4096) (omega (arith, en))) (lt-ltb (length qs) (min (length ps) 1024) (omega (arith, ek)))
+  short-places a l = ap₂ _||_ (le-ltb (length rs) (min (length vs) registersLimit) (omega (arith, en))) (lt-ltb (length qs) (min (length ps) placesLimit) (omega (arith, ek)))
 
   pub not-short : n ≤ length rs → k ≤ length qs → isShort (stacksOf vs ps) (stacksOf rs qs) ≡ false
-  not-short a b = ap₂ _||_ (le-ltb (length rs) (min (length vs) 4096) (omega (arith, en))) (le-ltb (length qs) (min (length ps) 1024) (omega (arith, ek)))
+  not-short a b = ap₂ _||_ (le-ltb (length rs) (min (length vs) registersLimit) (omega (arith, en))) (le-ltb (length qs) (min (length ps) placesLimit) (omega (arith, ek)))
 
   pub long-both : isShort (stacksOf vs ps) (stacksOf rs qs) ≡ false → (n ≤ length rs) × (k ≤ length qs)
-  long-both e = go (ltb (length rs) (min (length vs) 4096)) (ltb (length qs) (min (length ps) 1024)) refl refl e
+  long-both e = go (ltb (length rs) (min (length vs) registersLimit)) (ltb (length qs) (min (length ps) placesLimit)) refl refl e
     where
-      go : (a b : Bool) → ltb (length rs) (min (length vs) 4096) ≡ a → ltb (length qs) (min (length ps) 1024) ≡ b → (a || b) ≡ false → (n ≤ length rs) × (k ≤ length qs)
+      go : (a b : Bool) → ltb (length rs) (min (length vs) registersLimit) ≡ a → ltb (length qs) (min (length ps) placesLimit) ≡ b → (a || b) ≡ false → (n ≤ length rs) × (k ≤ length qs)
       go true b x y z = absurd (subst T z tt)
       go false true x y z = absurd (subst T z tt)
-      go false false x y z = (omega (arith, en, ltb-false (length rs) (min (length vs) 4096) x), omega (arith, ek, ltb-false (length qs) (min (length ps) 1024) y))
+      go false false x y z = (omega (arith, en, ltb-false (length rs) (min (length vs) registersLimit) x), omega (arith, ek, ltb-false (length qs) (min (length ps) placesLimit) y))

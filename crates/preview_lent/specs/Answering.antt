@@ -5,6 +5,7 @@ use mathlib.Core.Path.{_≡_, refl, sym, ap, ap₂, _∙_}
 use mathlib.Core.List.{List, [], _∷_, _++_, append-nil}
 use lib.ListN.{length, drop, replicate, drop-of-length-le}
 use lib.IntN.{ℤ}
+use Rattle.meaning.specs.Limits.{registersLimit, placesLimit}
 use Rattle.meaning.specs.Grammar.{Grammar}
 use Rattle.meaning.specs.Value.{mark}
 use Rattle.meaning.specs.Calls.{Record, Called}
@@ -29,11 +30,11 @@ alike-cleared a rs₁ qs₁ e d = record { registers = e ∙ ap (λ n. replicate
 
 -- ---- on exactly the lent cells: vs and ps the caller's, rs and qs the scratch's
 
-module _ {vs : List ℤ} {ps : List ℕ} (few : length vs ≤ 4096) (little : length ps ≤ 1024) (rs : List ℤ) (qs : List ℕ) (er : length rs ≡ length vs) (eq : length qs ≡ length ps) where
+module _ {vs : List ℤ} {ps : List ℕ} (few : length vs ≤ registersLimit) (little : length ps ≤ placesLimit) (rs : List ℤ) (qs : List ℕ) (er : length rs ≡ length vs) (eq : length qs ≡ length ps) where
   pub tidied-is : (rs′ : List ℤ) (qs′ : List ℕ) → Cleared vs ps rs′ qs′ → stacksOf rs′ qs′ ≡ tidied (stacksOf vs ps) (stacksOf rs qs)
   tidied-is rs′ qs′ c =
-      let n : length vs ≡ min (length vs) 4096 = omega arith in
-      let k : length ps ≡ min (length ps) 1024 = omega arith in
+      let n : length vs ≡ min (length vs) registersLimit = omega arith in
+      let k : length ps ≡ min (length ps) placesLimit = omega arith in
       let a : replicate (length vs) mark ++ drop (length vs) rs ≡ replicate (length vs) mark = ap (λ z. replicate (length vs) mark ++ z) (drop-of-length-le rs {i = length vs} (omega arith)) ∙ append-nil _ in
       let b : replicate (length ps) 0 ++ drop (length ps) qs ≡ replicate (length ps) 0 = ap (λ z. replicate (length ps) 0 ++ z) (drop-of-length-le qs {i = length ps} (omega arith)) ∙ append-nil _ in
       ap₂ stacksOf (c .registers ∙ (sym a ∙ ap (λ i. replicate i mark ++ drop i rs) n)) (c .places ∙ (sym b ∙ ap (λ i. replicate i 0 ++ drop i qs) k))

@@ -1,22 +1,26 @@
 // The builder: it writes the program of an accepted table, in the layout of docs/PROGRAM.md.
 ghost use Prim.Native.Nat.{_≤_};
 ghost use lib.ListN.{length};
+ghost use Rattle.meaning.specs.Limits.{areaLength};
 ghost use Rattle.outline.specs.Outline.{grammarIn, Outlined};
 ghost use Rattle.program.specs.Building.{ProgramWrote};
+use limits::NONTERMINALS;
+use limits::PRODUCTIONS;
+use limits::ROWS;
 use outline::Sizes;
 
 // Writes the program; answers its length. Words beyond it stay as they are.
 pub fn build(
     table: &[u8],
-    rows: &[u8; 2048],
-    inherited: &[u8; 48],
-    synthesized: &[u8; 48],
-    offsets: &[u32; 128],
-    sets: &[u64; 128],
+    rows: &[u8; ROWS],
+    inherited: &[u8; NONTERMINALS],
+    synthesized: &[u8; NONTERMINALS],
+    offsets: &[u32; PRODUCTIONS],
+    sets: &[u64; PRODUCTIONS],
     sizes: Sizes,
     area: &mut [u32],
 ) -> usize
-    requires { ⌜ Outlined (now table) sizes (now inherited) (now synthesized) (now rows) (now offsets) (now sets) × (16384 ≤ length (now area)) ⌝ }
+    requires { ⌜ Outlined (now table) sizes (now inherited) (now synthesized) (now rows) (now offsets) (now sets) × (areaLength ≤ length (now area)) ⌝ }
     ensures { λ r. ⌜ ProgramWrote (grammarIn (now (table .entry))) (now (area .entry)) (now (area .exit)) r ⌝ }
 {
     program_segment::write_segment(synthesized, sizes, area);

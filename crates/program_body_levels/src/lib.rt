@@ -5,6 +5,7 @@ ghost use mathlib.Core.List.{List};
 ghost use lib.ListN.{length};
 ghost use Rattle.program_body_words.specs.OfProduction.{OfProduction, Carried};
 ghost use Rattle.program_body_words.specs.Waits.{LeveledAndWaiting};
+use limits::POSITIONS;
 use outline::count_of;
 use outline::synthesized_of;
 use program_body_counts::clear;
@@ -18,11 +19,11 @@ pub fn find_levels(
     carrying: TokenSet,
     area: &mut [u32],
     wait: usize,
-) -> [u32; 13]
+) -> [u32; POSITIONS]
     requires { ⌜ ((fs : List ℕ) × OfProduction (now row) fs (now inherited) (now synthesized)) × (wait + 12 ≤ length (now area)) ⌝ }
     ensures { λ r. ⌜ (length r ≡ 13) × ((fs : List ℕ) (x : OfProduction (now (row .entry)) fs (now (inherited .entry)) (now (synthesized .entry))) → Carried (carrying .0) (x .grammar) → LeveledAndWaiting x r (now (area .entry)) (now (area .exit)) wait) ⌝ }
 {
-    let mut levels = [0u32; 13];
+    let mut levels = [0u32; POSITIONS];
     let left = outline::row_left(row);
     let size = outline::row_size(row) as usize;
     let mut sum = 0u32;

@@ -5,6 +5,7 @@ use mathlib.Core.Path.{_≡_, refl, sym, ap, _∙_, subst}
 use mathlib.Core.Bool.{false}
 use mathlib.Core.List.{List, _++_, append-assoc}
 use lib.ListN.{length, getD}
+use Rattle.meaning.specs.Limits.{areaLength}
 use Rattle.meaning.specs.Grammar.{Production, Grammar}
 use Rattle.meaning.specs.Scheme.{scheme, entryTests}
 use Rattle.meaning.specs.Program.{waitRow, entryWords, schemeOffset, bodyWords}
@@ -50,7 +51,7 @@ module _ {row fields inherited synthesized marks links area : List ℕ} {carryin
     prepared : Prepared row fields inherited synthesized marks links levels
     prepared = record { given = x .given; found = x .found; leveled = el }
 
-    long : 16384 ≤ length m0
+    long : areaLength ≤ length m0
     long = omega (arith, x .long, wrote-length waited)
 
     count-is : tests ≡ itemCount false 0 (listedOf (x .given))

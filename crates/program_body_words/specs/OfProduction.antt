@@ -7,6 +7,7 @@ use mathlib.Core.List.{List, [], _∷_, _++_, append-assoc}
 use lib.ListN.{length, set, drop, length-append, drop-of-length-le}
 use lib.Seq.{drop-cons}
 use lib.Dec.{ltb}
+use Rattle.meaning.specs.Limits.{areaLength, tableLimit}
 use Rattle.meaning.specs.Grammar.{Symbol, terminal, nonterminal, Production, Grammar, inh, syn, markedFor, attributeIf, symbolAt, nonterminalCount}
 use Rattle.meaning.specs.Rules.{Known, WellFormed, WellFormedProduction}
 use Rattle.meaning.specs.Layout.{RulesAndConditions}
@@ -36,7 +37,7 @@ pub record OfProduction (row fields inherited synthesized : List ℕ) : Type 0 w
   pub symbols : (k : ℕ) → k < length (production .right) → symbolOf (symbolIn row k) ≡ symbolAt production (suc k)
   pub counts : CountsOf inherited synthesized grammar
   pub own : RulesAndConditions (production .rules) (production .conditions) fields
-  pub short : length fields ≤ 32768
+  pub short : length fields ≤ tableLimit
 
 abbrev pub rightOf : {row fields inherited synthesized : List ℕ} → OfProduction row fields inherited synthesized → List Symbol
 rightOf x = x .production .right
@@ -123,8 +124,8 @@ aheadAt x k = aheadSize (x .grammar) (x .production) (suc k) (symbolAt (x .produ
 pub record SymbolFits (row fields inherited synthesized marks links levels : List ℕ) (k : ℕ) (area : List ℕ) (a e : ℕ) : Type 0 where
   pub prepared : Prepared row fields inherited synthesized marks links levels
   pub here : k < length (rightOf (prepared .given))
-  pub room : a + length (wordsAt (prepared .given) k) ≤ 16384
-  pub long : 16384 ≤ length area
+  pub room : a + length (wordsAt (prepared .given) k) ≤ areaLength
+  pub long : areaLength ≤ length area
   pub apart : e + k < a
 
 -- they are written, and the address of the expect
@@ -147,8 +148,8 @@ restExpects g p k a = expectsAt a (symbolsScheme g p (suc k) (drop k (p .right))
 
 pub record SymbolsFit (row fields inherited synthesized marks links levels area : List ℕ) (a e : ℕ) : Type 0 where
   pub prepared : Prepared row fields inherited synthesized marks links levels
-  pub room : a + length (restWords (prepared .given .grammar) (prepared .given .production) 0) ≤ 16384
-  pub long : 16384 ≤ length area
+  pub room : a + length (restWords (prepared .given .grammar) (prepared .given .production) 0) ≤ areaLength
+  pub long : areaLength ≤ length area
   pub apart : e + length (restExpects (prepared .given .grammar) (prepared .given .production) 0 a) ≤ a
 
 -- the words of all symbols are written, and the addresses of their expects
@@ -159,8 +160,8 @@ SymbolsWrote {area = area} {a = a} {e = e} x new next =
 pub record EndFits (row fields inherited marks links levels area : List ℕ) (a : ℕ) : Type 0 where
   pub synthesized : List ℕ
   pub prepared : Prepared row fields inherited synthesized marks links levels
-  pub room : a + length (endWords (prepared .given .grammar) (prepared .given .production)) ≤ 16384
-  pub long : 16384 ≤ length area
+  pub room : a + length (endWords (prepared .given .grammar) (prepared .given .production)) ≤ areaLength
+  pub long : areaLength ≤ length area
 
 -- ---- the whole body
 
@@ -168,8 +169,8 @@ pub record BodyFits (row fields inherited synthesized : List ℕ) (carrying : �
   pub given : OfProduction row fields inherited synthesized
   pub carried : Carried carrying (given .grammar)
   pub found : Found fields links marks (listedOf given)
-  pub room : a + bodySize (given .grammar) (given .production) ≤ 16384
-  pub long : 16384 ≤ length area
+  pub room : a + bodySize (given .grammar) (given .production) ≤ areaLength
+  pub long : areaLength ≤ length area
   pub apart : wait + 12 ≤ a
 
 -- it is written, and what the places wait at

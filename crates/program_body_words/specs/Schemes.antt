@@ -5,6 +5,7 @@ use mathlib.Core.Path.{_≡_, sym, ap, ap₂, _∙_}
 use mathlib.Core.Bool.{true}
 use mathlib.Core.List.{List, [], _∷_}
 use lib.ListN.{length, set, getD, length-append}
+use Rattle.meaning.specs.Limits.{areaLength}
 use Rattle.meaning.specs.Grammar.{Production, Grammar, nonterminal, inh, symbolAt}
 use Rattle.meaning.specs.Scheme.{synBetween, removed, synthesizedRules}
 use Rattle.meaning.specs.Table.{byte}
@@ -167,7 +168,7 @@ module _ {row fields inherited marks links levels area : List ℕ} {a : ℕ} (x 
       unfolding end-block
       so-far = wrote-as (ap₂ (λ y z. block true y z) (sym rules-length) (ap (λ y. wordsOf true y levels 0 (pr .rules) (pr .conditions)) (f (x .prepared)) ∙ synthesized-words gr pr (given .ofGrammar) levels (x .prepared .leveled))) (q end-block)
 
-      pub next-small : next < 16384
+      pub next-small : next < areaLength
       next-small = omega (arith, so-far .address, evaluate-length (synthesizedRules gr pr), x .room, end-size)
 
       pub next-inside : next < length mid

@@ -5,6 +5,7 @@ use mathlib.Core.Path.{_≡_, sym, ap, ap₂, _∙_, subst}
 use mathlib.Core.Bool.{Bool, true, false}
 use mathlib.Core.List.{List, _∷_, _++_, append-assoc}
 use lib.ListN.{length, set, getD, length-append, length-map, length-set}
+use Rattle.meaning.specs.Limits.{areaLength, tableLimit}
 use Rattle.meaning.specs.Grammar.{Production, Grammar, inh, addedFor, symbolAt, mapRule, mapCondition, conditionsAt}
 use Rattle.meaning.specs.Scheme.{synBetween, selectInherited, selectAfter, rulesFor, inheritedRules, synthesizedRules, testsAfter}
 use Rattle.meaning.specs.Program.{symbolHead}
@@ -37,7 +38,7 @@ module _ (g : Grammar) (p : Production) where
 
 -- ---- a block finds room
 
-abbrev pub block-fits : {fields links marks : List ℕ} (x : Listed fields) (found : Found fields links marks x) (short : length fields ≤ 32768) (rules : Bool) (k : ℕ) {area : List ℕ} {a : ℕ}
+abbrev pub block-fits : {fields links marks : List ℕ} (x : Listed fields) (found : Found fields links marks x) (short : length fields ≤ tableLimit) (rules : Bool) (k : ℕ) {area : List ℕ} {a : ℕ}
     → k < 13 → a + blockSize rules (itemCount rules k x) ≤ length area → BlockFits fields links marks rules k area a
 block-fits {fields} x found short rules k h l = record { listed = x; found = found; here = h; few = omega (arith, count-few fields x rules k); room = λ some. omega (arith, size-some rules (itemCount rules k x) (omega arith)) }
 
@@ -58,7 +59,7 @@ module _ {row fields inherited synthesized marks links levels : List ℕ} {k : �
   unfolding aheadSize
   words-size = symbol-length g p (suc k) (symbolAt p (suc k))
 
-  pub note-inside : (e + k < 16384) × (e + k < length area)
+  pub note-inside : (e + k < areaLength) × (e + k < length area)
   note-inside = (omega (arith, x .apart, x .room), omega (arith, x .apart, x .room, x .long))
 
   pub index-small : k < 12
@@ -107,7 +108,7 @@ module _ {row fields inherited synthesized marks links levels : List ℕ} {k : �
           next-is : next ≡ a + (addSize (addedFor g (symbolAt p (suc k))) + blockSize true (length (inheritedRules g p (suc k))))
           next-is = omega (arith, so-far .address, length-append (addWords (addedFor g (symbolAt p (suc k)))) (evaluateWords (inheritedRules g p (suc k))), add-length (addedFor g (symbolAt p (suc k))), evaluate-length (inheritedRules g p (suc k)))
 
-          pub next-small : next < 16384
+          pub next-small : next < areaLength
           next-small = omega (arith, next-is, words-size, x .room)
 
           pub note-there : e + k < length then

@@ -2,6 +2,7 @@
 ghost use Prim.Native.Nat.{_+_, _≤_, _<_};
 ghost use mathlib.Core.Path.{_≡_};
 ghost use lib.ListN.{length, getD};
+ghost use Rattle.meaning.specs.Limits.{areaLength};
 ghost use Rattle.program_block_words.specs.Patch.{Wrote};
 ghost use Rattle.program_words.specs.Directory.{Alternatives, Marked, Recorded, entryAt};
 ghost use Rattle.meaning.specs.Program.{directory};
@@ -39,7 +40,7 @@ fn mark(set: TokenSet, number: u32, area: &mut [u32], from: usize)
 
 // What the directory says of a production, by its number plus 1 and the address of its record: the number, and where its scheme begins if it has no entry tests.
 fn entry(area: &[u32], at: usize, number: u32) -> u32
-    requires { ⌜ (at + 8 ≤ length (now area)) × (number ≤ 128) × (getD (now area) (at + 6) 0 ≤ 16384) ⌝ }
+    requires { ⌜ (at + 8 ≤ length (now area)) × (number ≤ 128) × (getD (now area) (at + 6) 0 ≤ areaLength) ⌝ }
     ensures { λ r. ⌜ r ≡ entryAt (now (area .entry)) at number ⌝ }
 {
     if area[at + program_parts::TESTS] == 0 {
@@ -56,7 +57,7 @@ pub fn write_directory(
     count: usize,
     area: &mut [u32],
 ) -> usize
-    requires { ⌜ ((x : Alternatives (now rows) (now sets) nonterminals count) × Recorded (x .grammar) (now area)) × (16384 ≤ length (now area)) ⌝ }
+    requires { ⌜ ((x : Alternatives (now rows) (now sets) nonterminals count) × Recorded (x .grammar) (now area)) × (areaLength ≤ length (now area)) ⌝ }
     ensures { λ r. ⌜ ((x : Alternatives (now (rows .entry)) (now (sets .entry)) nonterminals count) → Recorded (x .grammar) (now (area .entry)) → Wrote (now (area .entry)) (now (area .exit)) 9 r (directory (x .grammar))) ⌝ }
 {
     let end = DIRECTORY + DIRECTORY_WORDS * nonterminals;

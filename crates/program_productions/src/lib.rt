@@ -1,24 +1,28 @@
 // The records and the bodies of all productions, and between them what the places wait at.
 ghost use Prim.Native.Nat.{_≤_};
 ghost use lib.ListN.{length};
+ghost use Rattle.meaning.specs.Limits.{areaLength};
 ghost use Rattle.outline.specs.Outline.{grammarIn, Outlined};
 ghost use Rattle.program_words.specs.Built.{LinksFit, AllWrote};
+use limits::NONTERMINALS;
+use limits::PRODUCTIONS;
+use limits::ROWS;
 use outline::Sizes;
 
 // All records and bodies, and what all places wait at; answers the address behind the last body. The chains of each production's
 // rules and conditions are made in `links`.
 fn write_each(
     table: &[u8],
-    rows: &[u8; 2048],
-    inherited: &[u8; 48],
-    synthesized: &[u8; 48],
-    offsets: &[u32; 128],
-    sets: &[u64; 128],
+    rows: &[u8; ROWS],
+    inherited: &[u8; NONTERMINALS],
+    synthesized: &[u8; NONTERMINALS],
+    offsets: &[u32; PRODUCTIONS],
+    sets: &[u64; PRODUCTIONS],
     sizes: Sizes,
     links: &mut [u32],
     area: &mut [u32],
 ) -> usize
-    requires { ⌜ Outlined (now table) sizes (now inherited) (now synthesized) (now rows) (now offsets) (now sets) × (16384 ≤ length (now area)) × LinksFit (length (now table)) (length (now links)) ⌝ }
+    requires { ⌜ Outlined (now table) sizes (now inherited) (now synthesized) (now rows) (now offsets) (now sets) × (areaLength ≤ length (now area)) × LinksFit (length (now table)) (length (now links)) ⌝ }
     ensures { λ r. ⌜ AllWrote (grammarIn (now (table .entry))) (now (area .entry)) (now (area .exit)) r ⌝ }
 {
     let count = sizes.productions;
@@ -52,15 +56,15 @@ fn write_each(
 // bytes of the table at least, so that a short table does with a short array.
 pub fn write_productions(
     table: &[u8],
-    rows: &[u8; 2048],
-    inherited: &[u8; 48],
-    synthesized: &[u8; 48],
-    offsets: &[u32; 128],
-    sets: &[u64; 128],
+    rows: &[u8; ROWS],
+    inherited: &[u8; NONTERMINALS],
+    synthesized: &[u8; NONTERMINALS],
+    offsets: &[u32; PRODUCTIONS],
+    sets: &[u64; PRODUCTIONS],
     sizes: Sizes,
     area: &mut [u32],
 ) -> usize
-    requires { ⌜ Outlined (now table) sizes (now inherited) (now synthesized) (now rows) (now offsets) (now sets) × (16384 ≤ length (now area)) ⌝ }
+    requires { ⌜ Outlined (now table) sizes (now inherited) (now synthesized) (now rows) (now offsets) (now sets) × (areaLength ≤ length (now area)) ⌝ }
     ensures { λ r. ⌜ AllWrote (grammarIn (now (table .entry))) (now (area .entry)) (now (area .exit)) r ⌝ }
 {
     if table.len() <= 512 {

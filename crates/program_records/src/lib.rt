@@ -9,17 +9,19 @@ ghost use Rattle.outline.specs.Outline.{grammarIn};
 ghost use Rattle.program_words.specs.Records.{Nexts, recordAt};
 ghost use Rattle.program_words.specs.Waits.{waitFrom};
 ghost use Rattle.program_words.specs.Built.{LinksFit, RecordFits, ProductionFits, ProductionWrote};
+use limits::NONTERMINALS;
+use limits::PRODUCTIONS;
 use outline::Sizes;
 use program_fields::fields_of;
 
 // For each production the number plus 1 of the next one with the same left side, or 0: the last production first, with the first
 // one so far of each nonterminal.
-pub fn find_nexts(rows: &[u8], count: usize) -> [u8; 128]
+pub fn find_nexts(rows: &[u8], count: usize) -> [u8; PRODUCTIONS]
     requires { ⌜ ((g : Grammar) × ImageOf (now rows) count g) ⌝ }
     ensures { λ r. ⌜ Nexts (now (rows .entry)) count r ⌝ }
 {
-    let mut nexts = [0u8; 128];
-    let mut firsts = [0u8; 48];
+    let mut nexts = [0u8; PRODUCTIONS];
+    let mut firsts = [0u8; NONTERMINALS];
     let mut p = count;
     while 0 < p {
         p -= 1;

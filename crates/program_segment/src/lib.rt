@@ -2,6 +2,7 @@
 ghost use Prim.Native.Nat.{ℕ, _+_, _≤_};
 ghost use mathlib.Core.List.{List, [], _∷_};
 ghost use lib.ListN.{length};
+ghost use Rattle.meaning.specs.Limits.{areaLength};
 ghost use Rattle.meaning.specs.Program.{segmentWords};
 ghost use Rattle.program_block_words.specs.Patch.{Wrote};
 ghost use Rattle.outline.specs.Outline.{grammarIn, Outline};
@@ -25,7 +26,7 @@ const NOTHING: u32 = operations::NOTHING as u32;
 
 // The words on the whole segment.
 pub fn write_segment(synthesized: &[u8], sizes: Sizes, area: &mut [u32]) -> usize
-    requires { ⌜ ((table inherited rows offsets : List ℕ) × Outline table sizes inherited (now synthesized) rows offsets) × (16384 ≤ length (now area)) ⌝ }
+    requires { ⌜ ((table inherited rows offsets : List ℕ) × Outline table sizes inherited (now synthesized) rows offsets) × (areaLength ≤ length (now area)) ⌝ }
     ensures { λ r. ⌜ ((table inherited rows offsets : List ℕ) → Outline table sizes inherited (now (synthesized .entry)) rows offsets → Wrote (now (area .entry)) (now (area .exit)) 0 r (segmentWords (grammarIn table))) ⌝ }
 {
     let start = sizes.start as u32;

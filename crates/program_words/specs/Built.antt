@@ -3,6 +3,7 @@ use Prim.Native.Nat.{ℕ, _+_, _*_, _≤_, _<_}
 use mathlib.Core.Path.{_≡_, sym}
 use mathlib.Core.List.{List}
 use lib.ListN.{length}
+use Rattle.meaning.specs.Limits.{areaLength}
 use Rattle.meaning.specs.Grammar.{Grammar, productionAt}
 use Rattle.meaning.specs.Rules.{WellFormed}
 use Rattle.meaning.specs.Scheme.{entryTests}
@@ -33,16 +34,16 @@ pub record RecordFits (rows sets : List ℕ) (p body entries next : ℕ) (area :
   pub here : p < count
   pub tests : entries ≡ length (entryTests grammar (productionAt grammar p))
   pub following : NextOf rows count p next
-  pub behind : body + schemeOffset grammar (productionAt grammar p) ≤ 16384
+  pub behind : body + schemeOffset grammar (productionAt grammar p) ≤ areaLength
   pub room : at + 8 ≤ length area
-  pub low : at ≤ 16384
+  pub low : at ≤ areaLength
 
 pub record ProductionFits (table : List ℕ) (sizes : Sizes) (inherited synthesized rows offsets sets : List ℕ) (p : ℕ) (area : List ℕ) (at body : ℕ) : Type 0 where
   pub outlined : Outlined table sizes inherited synthesized rows offsets sets
   pub here : p < sizes .productions
-  pub behind : body + bodySize (grammarIn table) (productionAt (grammarIn table) p) ≤ 16384
+  pub behind : body + bodySize (grammarIn table) (productionAt (grammarIn table) p) ≤ areaLength
   pub low : at + 8 ≤ body
-  pub long : 16384 ≤ length area
+  pub long : areaLength ≤ length area
   pub apart : waitAt (grammarIn table) p + 12 ≤ body
 
 -- the record is written, then what the places wait at and the body

@@ -7,6 +7,7 @@ use mathlib.Core.Bool.{Bool, true, false, not}
 use mathlib.Core.List.{List, [], _∷_, map}
 use lib.ListN.{length, length-append}
 use lib.Dec.{T, eqb, eqb→eq, eqb-refl, T-not}
+use Rattle.meaning.specs.Limits.{conditionsLimit}
 use Rattle.meaning.specs.Base.{In, keep, consIf, total}
 use Rattle.meaning.specs.Grammar.{nonterminal, Occurrence, Rule, Condition, Production, Grammar, symbolAt}
 use Rattle.meaning.specs.Rules.{OutputAt, Distinct, WellFormed}
@@ -61,7 +62,7 @@ module _ (g : Grammar) (w : WellFormed g) (p : Production) where
       let f = w .each p i in
       omega (arith, rules-below 13 (p .rules) (f .distinct) (λ r j. output-small (f .short) (r .target .position) (r .target .attribute) (f .targets r j)))
 
-  pub conditions-most : In p (g .productions) → length (p .conditions) ≤ 512
+  pub conditions-most : In p (g .productions) → length (p .conditions) ≤ conditionsLimit
   conditions-most i = omega (arith, in-total (λ q. length (q .conditions)) (g .productions) p i, w .conditions)
 
 -- each takes eight bytes of the table at least

@@ -5,6 +5,7 @@ use mathlib.Core.Path.{_≡_, refl, sym, ap, ap₂, _∙_, subst}
 use mathlib.Core.Bool.{Bool, false}
 use mathlib.Core.List.{List, [], _∷_, _++_, append-assoc}
 use lib.ListN.{length, getD, drop, length-append, length-drop, length-take}
+use Rattle.meaning.specs.Limits.{areaLength}
 use Rattle.meaning.specs.Grammar.{Production, Grammar, nonterminalCount, productionAt, wholeProduction}
 use Rattle.meaning.specs.Layout.{Bytes}
 use Rattle.meaning.specs.Rules.{WellFormed}
@@ -54,7 +55,7 @@ module _ {rows : List ℕ} {count : ℕ} {g : Grammar} (x : ImageOf rows count g
   pub left-few : (p b : ℕ) → p < count → b ≡ leftAt rows p → b < 48
   left-few p b l e = omega (arith, e, image-of x .lefts p l)
 
-module _ {rows sets : List ℕ} {nonterminals count : ℕ} {old : List ℕ} (long : 16384 ≤ length old) where
+module _ {rows sets : List ℕ} {nonterminals count : ℕ} {old : List ℕ} (long : areaLength ≤ length old) where
   pub directory-start : {area : List ℕ} → area ≡ patch old 9 (zeros (9 + 64 * nonterminals - 9)) → DirectoryGo rows sets nonterminals count old count area
   directory-start e = record {
     go = λ x r.
@@ -75,7 +76,7 @@ module _ {rows sets : List ℕ} {nonterminals count : ℕ} {old : List ℕ} (lon
           subst (λ k. entryAt area (9 + 64 * nonterminals + 8 * (p - 1)) k ≡ entryOf (x .grammar) k) e
           (ap (λ a. entryAt area a (suc (p - 1))) at ∙ entry-recorded (x .grammar) area (recorded-kept (d .go x r) r) (p - 1) (omega (arith, x .rowsOf .counted)))
 
-      pub directory-scheme : 0 < p → p ≤ count → getD area (9 + 64 * nonterminals + 8 * (p - 1) + 6) 0 ≤ 16384
+      pub directory-scheme : 0 < p → p ≤ count → getD area (9 + 64 * nonterminals + 8 * (p - 1) + 6) 0 ≤ areaLength
       directory-scheme l m =
           let at : 9 + 64 * nonterminals + 8 * (p - 1) + 6 ≡ recordAddress (x .grammar) (p - 1) + 6 = omega (arith, x .isNonterminals) in
           let listed : p - 1 < length (x .grammar .productions) = omega (arith, x .rowsOf .counted) in
@@ -109,7 +110,7 @@ module _ {rows sets : List ℕ} {p body entries next : ℕ} {area : List ℕ} {a
   right-long : sizeAt rows p ≡ length (pr .right)
   right-long = size-is (x .rowsOf) p (x .here)
 
-  pub scheme-small : (size : ℕ) → size ≡ sizeAt rows p → body + size + 3 * entries ≤ 16384
+  pub scheme-small : (size : ℕ) → size ≡ sizeAt rows p → body + size + 3 * entries ≤ areaLength
   scheme-small size e = omega (arith, e, right-long, x .tests, x .behind, conditions-length (entryTests g pr))
 
   pub record-written : {mid new : List ℕ} {half end : ℕ} {left size set : ℕ} → left ≡ leftAt rows p → size ≡ sizeAt rows p → set ≡ getD sets p 0 → set < 18446744073709551616
@@ -292,7 +293,7 @@ module _ {table : List ℕ} {sizes : Sizes} {inherited synthesized rows offsets 
   abbrev tg : Grammar
   tg = grammarIn table
 
-  module _ {old : List ℕ} (long : 16384 ≤ length old) where
+  module _ {old : List ℕ} (long : areaLength ≤ length old) where
     pub productions-start : ProductionsPart tg old 0 old (9 + 64 * sizes .nonterminals) (9 + 64 * sizes .nonterminals + 20 * sizes .productions)
     unfolding restRecords restBodies restWaits
     productions-start =
@@ -336,7 +337,7 @@ module _ {table : List ℕ} {sizes : Sizes} {inherited synthesized rows offsets 
               apart = omega (arith, s .above, counted);
             }
 
-        pub record-low : at + 8 ≤ 16384
+        pub record-low : at + 8 ≤ areaLength
         record-low = let f = production-fits in omega (arith, f .low, f .behind)
 
         module _ {new : List ℕ} {end : ℕ} (wrote : ProductionWrote tg p area new at body end) where
@@ -396,7 +397,7 @@ pub productions-length : (g : Grammar) (old : List ℕ) {new : List ℕ} {next :
 productions-length g old w = wrote-length (w .bodied) ∙ (wrote-length (w .recorded) ∙ patch-length old (waitsAddress g) (waits g))
 
 -- what the records say of a production, for the directory
-pub productions-recorded : (g : Grammar) (old : List ℕ) {new : List ℕ} {next : ℕ} → WellFormed g → 16384 ≤ length old → ProductionsWrote g (withWaits g old) new next → Recorded g new
+pub productions-recorded : (g : Grammar) (old : List ℕ) {new : List ℕ} {next : ℕ} → WellFormed g → areaLength ≤ length old → ProductionsWrote g (withWaits g old) new next → Recorded g new
 productions-recorded g old {new} w long k p l = (word 5 (omega arith) ∙ ap (λ q. length (entryTests g q)) same, word 6 (omega arith) ∙ ap (λ q. bodyAddress g p + schemeOffset g q) same)
   where
     same : getD (g .productions) p (wholeProduction g) ≡ productionAt g p
@@ -420,7 +421,7 @@ productions-recorded g old {new} w long k p l = (word 5 (omega arith) ∙ ap (λ
 
 -- ---- the whole
 
-pub program-written : {table : List ℕ} {sizes : Sizes} {inherited synthesized rows offsets sets : List ℕ} (x : Outlined table sizes inherited synthesized rows offsets sets) {old a b new : List ℕ} {s d r : ℕ} → 16384 ≤ length old
+pub program-written : {table : List ℕ} {sizes : Sizes} {inherited synthesized rows offsets sets : List ℕ} (x : Outlined table sizes inherited synthesized rows offsets sets) {old a b new : List ℕ} {s d r : ℕ} → areaLength ≤ length old
     → Wrote old a 0 s (segmentWords (grammarIn table)) → ProductionsWrote (grammarIn table) (withWaits (grammarIn table) a) b r → Wrote b new 9 d (directory (grammarIn table))
     → (new ≡ written (programOf (grammarIn table)) old) × (r ≡ length (programOf (grammarIn table)))
 program-written {table} x {old} {a} {b} {new} {s} {d} {r} long f k h =

@@ -8,6 +8,7 @@ use lib.ListN.{length, getD, set, take, drop, length-append, length-take, length
 use lib.Seq.{drop-cons, drop-drop, drop-append-add, drop-at, take-at, length-take-le}
 use lib.Dec.{T}
 use lib.IntN.{ℤ, pos}
+use Rattle.meaning.specs.Limits.{registersLimit, placesLimit}
 use Rattle.meaning.specs.Base.{total}
 use Rattle.meaning.specs.Grammar.{Grammar}
 use Rattle.meaning.specs.Value as Value
@@ -56,11 +57,11 @@ pub record DoneTo (ws lengths ks : List ℕ) (us l₀ vs₀ : List ℤ) (ps₀ :
   pub counted : countedFrom 0 entries
 
 module _ (ws lengths ks : List ℕ) (us l₀ vs₀ : List ℤ) (ps₀ : List ℕ) where
-  pub done-start : total lengths ≡ length ks → (a b : ℕ) → a ≡ min (length vs₀) 4096 → b ≡ min (length ps₀) 1024 → DoneTo ws lengths ks us l₀ vs₀ ps₀ 0 0 l₀ vs₀ ps₀ a b
+  pub done-start : total lengths ≡ length ks → (a b : ℕ) → a ≡ min (length vs₀) registersLimit → b ≡ min (length ps₀) placesLimit → DoneTo ws lengths ks us l₀ vs₀ ps₀ 0 0 l₀ vs₀ ps₀ a b
   unfolding cellsOf
   done-start e a b p q =
-      let x : length (take (min (length vs₀) 4096) vs₀) ≡ a = length-take-le (min (length vs₀) 4096) vs₀ (omega arith) ∙ sym p in
-      let y : length (take (min (length ps₀) 1024) ps₀) ≡ b = length-take-le (min (length ps₀) 1024) ps₀ (omega arith) ∙ sym q in
+      let x : length (take (min (length vs₀) registersLimit) vs₀) ≡ a = length-take-le (min (length vs₀) registersLimit) vs₀ (omega arith) ∙ sym p in
+      let y : length (take (min (length ps₀) placesLimit) ps₀) ≡ b = length-take-le (min (length ps₀) placesLimit) ps₀ (omega arith) ∙ sym q in
       record {
         entries = [];
         size = refl;
@@ -68,7 +69,7 @@ module _ (ws lengths ks : List ℕ) (us l₀ vs₀ : List ℤ) (ps₀ : List ℕ
         rest = λ g s. refl;
         left = omega arith;
         few = omega arith;
-        clean = subst (λ z. LentClean vs₀ ps₀ z b) x (subst (λ z. LentClean vs₀ ps₀ (length (take (min (length vs₀) 4096) vs₀)) z) y (clean-unknown (take (min (length vs₀) 4096) vs₀) (take (min (length ps₀) 1024) ps₀)));
+        clean = subst (λ z. LentClean vs₀ ps₀ z b) x (subst (λ z. LentClean vs₀ ps₀ (length (take (min (length vs₀) registersLimit) vs₀)) z) y (clean-unknown (take (min (length vs₀) registersLimit) vs₀) (take (min (length ps₀) placesLimit) ps₀)));
         ranged = tt;
         counted = tt;
       }

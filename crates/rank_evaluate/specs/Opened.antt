@@ -6,7 +6,8 @@ use mathlib.Core.Bool.{true}
 use mathlib.Core.List.{List, [], _∷_}
 use lib.ListN.{length, getD, set, replicate, length-replicate}
 use lib.IntN.{ℤ}
-use Rattle.meaning.specs.Grammar.{Grammar, nonterminal, syn}
+use Rattle.meaning.specs.Limits.{registersLimit, placesLimit}
+use Rattle.meaning.specs.Grammar.{Grammar, nonterminal, syn, segmentPlace}
 use Rattle.meaning.specs.Value.{mark}
 use Rattle.meaning.specs.Machine.{opening}
 use Rattle.meaning.specs.Calls.{lentOf, layAll, recordOf, configOf}
@@ -27,9 +28,9 @@ use Rattle.run_opening.specs.Opening.{open-made}
 -- what an opening leaves in exactly the lent cells
 pub record Opened (ws : List ℕ) (vs : List ℤ) (ps : List ℕ) : Type 0 where
   pub registers : vs ≡ replicate (length vs) mark
-  pub places : ps ≡ set (replicate (length ps) 0) 0 32768
-  pub few : length vs ≤ 4096
-  pub little : length ps ≤ 1024
+  pub places : ps ≡ set (replicate (length ps) 0) 0 segmentPlace
+  pub few : length vs ≤ registersLimit
+  pub little : length ps ≤ placesLimit
   pub room : getD ws 4 0 ≤ length vs
   pub some : 1 ≤ length ps
 
@@ -41,14 +42,14 @@ module _ (g : Grammar) (ws : List ℕ) (s : HasProgram g ws) where
   opening-count = length-replicate (syn g (nonterminal (g .start))) mark ∙ sym (segment-words (s .begins) .registers)
 
   -- opening lays the opening configuration
-  module _ (vs : List ℤ) (ps : List ℕ) (few : length vs ≤ 4096) (little : length ps ≤ 1024) (room : getD ws 4 0 ≤ length vs) (some : 1 ≤ length ps) where
+  module _ (vs : List ℤ) (ps : List ℕ) (few : length vs ≤ registersLimit) (little : length ps ≤ placesLimit) (room : getD ws 4 0 ≤ length vs) (some : 1 ≤ length ps) where
     pub roomy : length (opening g .registers) ≤ lentOf (stacksOf vs ps) .maxRegisters
     roomy = omega (arith, opening-count)
 
     pub placed : 1 ≤ lentOf (stacksOf vs ps) .maxPlaces
     placed = omega arith
 
-    pub opened-lays : (vs₁ : List ℤ) (ps₁ : List ℕ) → vs₁ ≡ replicate (length vs) mark → ps₁ ≡ set (replicate (length ps) 0) 0 32768 → stacksOf vs₁ ps₁ ≡ layAll g (opening g) (stacksOf vs ps)
+    pub opened-lays : (vs₁ : List ℤ) (ps₁ : List ℕ) → vs₁ ≡ replicate (length vs) mark → ps₁ ≡ set (replicate (length ps) 0) 0 segmentPlace → stacksOf vs₁ ps₁ ≡ layAll g (opening g) (stacksOf vs ps)
     opened-lays vs₁ ps₁ e d =
         ap₂ stacksOf e d
         ∙ (ap (λ k. k .stacks) (open-made g ws (s .begins) vs ps few little room (λ z. omega arith) (getD ws 4 0) (replicate (length vs) mark) (replicate (length ps) 0) refl refl refl)
@@ -81,10 +82,10 @@ module _ (g : Grammar) (ws : List ℕ) (s : HasProgram g ws) where
         let h = opening-sound g (s .formed) (stacksOf vs ps) enough one in
         ap (configOf g (recordOf true (opening g))) opened-same ∙ read-back g true (opening g) (stacksOf vs ps) (at-stop g (s .formed) (opening g .frames) (opening g .registers) (h .0 .shaped) (h .1)) within
 
-    first-place : getD ps 0 0 ≡ 32768
+    first-place : getD ps 0 0 ≡ segmentPlace
     first-place = ap (λ z. getD z 0 0) (o .places) ∙ go ps (o .some)
       where
-        go : (qs : List ℕ) → 1 ≤ length qs → getD (set (replicate {A = ℕ} (length qs) 0) 0 32768) 0 0 ≡ 32768
+        go : (qs : List ℕ) → 1 ≤ length qs → getD (set (replicate {A = ℕ} (length qs) 0) 0 segmentPlace) 0 0 ≡ segmentPlace
         go [] l = absurd (omega arith)
         go (q ∷ qs) l = refl
 

@@ -8,8 +8,9 @@ use lib.Dec.{T}
 use lib.ListN.{length, getD, set, take, drop, replicate, length-replicate, length-append, length-drop, length-set, drop-of-length-le}
 use lib.Seq.{take-at}
 use lib.IntN.{ℤ}
+use Rattle.meaning.specs.Limits.{registersLimit, placesLimit}
 use Rattle.meaning.specs.Value.{mark, inRange}
-use Rattle.meaning.specs.Grammar.{Grammar, leaves}
+use Rattle.meaning.specs.Grammar.{Grammar, leaves, segmentPlace}
 use Rattle.meaning.specs.Machine.{Config, Lent, Settled, stopped, failed, opening, feedAll, finishAll}
 use Rattle.meaning.specs.Calls as Calls
 use Rattle.meaning.specs.Calls.{Stacks, lentOf, refused, tokensFrom, afterFeed, afterFinish}
@@ -148,7 +149,7 @@ module _ {ws : List ℕ} {vs : List ℤ} {ps : List ℕ} (b : Readable ws) (o : 
 
 -- ---- on exactly the lent cells
 
-module _ (ws ks : List ℕ) (us vs : List ℤ) (ps : List ℕ) (few : length vs ≤ 4096) (little : length ps ≤ 1024) where
+module _ (ws ks : List ℕ) (us vs : List ℤ) (ps : List ℕ) (few : length vs ≤ registersLimit) (little : length ps ≤ placesLimit) where
   module _ {a b : ℕ} (k : Clean vs ps a b) (r : Candidate) where
     pub narrow-as : length vs < getD ws 4 0 → r ≡ unopenedFrom 31 a b → CandidateAs ws ks us vs ps vs ps r
     narrow-as l e = subst (CandidateAs ws ks us vs ps vs ps) (sym e) (record { goes = λ g s. narrow (omega (arith, opening-count g ws s)); clean = k; ranged = tt })
@@ -156,18 +157,18 @@ module _ (ws ks : List ℕ) (us vs : List ℤ) (ps : List ℕ) (few : length vs 
     pub flat-as : getD ws 4 0 ≤ length vs → length ps ≡ 0 → r ≡ unopenedFrom 32 a b → CandidateAs ws ks us vs ps vs ps r
     flat-as m l e = subst (CandidateAs ws ks us vs ps vs ps) (sym e) (record { goes = λ g s. flat (omega (arith, opening-count g ws s)) (omega arith); clean = k; ranged = tt })
 
-  module _ (room : getD ws 4 0 ≤ length vs) (some : 1 ≤ length ps) (vs₁ : List ℤ) (ps₁ : List ℕ) (e : vs₁ ≡ replicate (length vs) mark) (d : ps₁ ≡ set (replicate (length ps) 0) 0 32768) where
+  module _ (room : getD ws 4 0 ≤ length vs) (some : 1 ≤ length ps) (vs₁ : List ℤ) (ps₁ : List ℕ) (e : vs₁ ≡ replicate (length vs) mark) (d : ps₁ ≡ set (replicate (length ps) 0) 0 segmentPlace) where
     same-size : length vs₁ ≡ length vs
     same-size = ap length e ∙ length-replicate (length vs) mark
 
     same-size′ : length ps₁ ≡ length ps
-    same-size′ = ap length d ∙ (length-set (replicate (length ps) 0) 0 32768 ∙ length-replicate {A = ℕ} (length ps) 0)
+    same-size′ = ap length d ∙ (length-set (replicate (length ps) 0) 0 segmentPlace ∙ length-replicate {A = ℕ} (length ps) 0)
 
     pub opened-as : Opened ws vs₁ ps₁
     opened-as =
         record {
           registers = e ∙ ap (λ n. replicate n mark) (sym same-size);
-          places = d ∙ ap (λ n. set (replicate {A = ℕ} n 0) 0 32768) (sym same-size′);
+          places = d ∙ ap (λ n. set (replicate {A = ℕ} n 0) 0 segmentPlace) (sym same-size′);
           few = omega (arith, same-size);
           little = omega (arith, same-size′);
           room = omega (arith, same-size);
@@ -223,16 +224,16 @@ taken-back cap xs ys e =
     ap (λ i. take i (ys ++ drop (min (length xs) cap) xs)) s ∙ take-at ys (drop (min (length xs) cap) xs) (length ys) refl
 
 module _ (ws ks : List ℕ) (us vs : List ℤ) (ps : List ℕ) (even : length ks ≡ length us) where
-  whole′ : (vs′ : List ℤ) (ps′ : List ℕ) (r : Candidate) → length vs′ ≡ min (length vs) 4096 → length ps′ ≡ min (length ps) 1024
-      → CandidateAs ws ks us (take (min (length vs) 4096) vs) (take (min (length ps) 1024) ps) vs′ ps′ r → EvaluatedAs ws ks us vs ps (vs′ ++ drop (min (length vs) 4096) vs) (ps′ ++ drop (min (length ps) 1024) ps) r
+  whole′ : (vs′ : List ℤ) (ps′ : List ℕ) (r : Candidate) → length vs′ ≡ min (length vs) registersLimit → length ps′ ≡ min (length ps) placesLimit
+      → CandidateAs ws ks us (take (min (length vs) registersLimit) vs) (take (min (length ps) placesLimit) ps) vs′ ps′ r → EvaluatedAs ws ks us vs ps (vs′ ++ drop (min (length vs) registersLimit) vs) (ps′ ++ drop (min (length ps) placesLimit) ps) r
   whole′ vs′ ps′ r a b c =
       record {
         outcomeIs = λ g s. goes-evaluated g (s .formed) (stacksOf vs ps) ks us even (goes-cut g vs ps ks us (c .goes g s));
-        clean = subst₂ (λ x y. Clean x y (r .registers) (r .places)) (sym (taken-back 4096 vs vs′ a)) (sym (taken-back 1024 ps ps′ b)) (c .clean);
+        clean = subst₂ (λ x y. Clean x y (r .registers) (r .places)) (sym (taken-back registersLimit vs vs′ a)) (sym (taken-back placesLimit ps ps′ b)) (c .clean);
         ranged = c .ranged;
       }
 
-  pub evaluated-as : (i j : ℕ) → i ≡ min (length vs) 4096 → j ≡ min (length ps) 1024 → (vs′ : List ℤ) (ps′ : List ℕ) (r : Candidate) → length vs′ ≡ i → length ps′ ≡ j
+  pub evaluated-as : (i j : ℕ) → i ≡ min (length vs) registersLimit → j ≡ min (length ps) placesLimit → (vs′ : List ℤ) (ps′ : List ℕ) (r : Candidate) → length vs′ ≡ i → length ps′ ≡ j
       → CandidateAs ws ks us (take i vs) (take j ps) vs′ ps′ r → EvaluatedAs ws ks us vs ps (vs′ ++ drop i vs) (ps′ ++ drop j ps) r
   evaluated-as i j e d vs′ ps′ r a b c =
       subst₂ (λ x y. EvaluatedAs ws ks us vs ps (vs′ ++ drop x vs) (ps′ ++ drop y ps) r) (sym e) (sym d)

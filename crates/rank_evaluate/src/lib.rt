@@ -2,6 +2,7 @@
 ghost use Prim.Native.Nat.{_≤_};
 ghost use mathlib.Core.Path.{_≡_};
 ghost use lib.ListN.{length};
+ghost use Rattle.meaning.specs.Limits.{registersLimit, placesLimit};
 ghost use Rattle.run_fit.specs.HasProgram.{Readable};
 ghost use Rattle.rank_open.specs.Opening.{Clean, LentClean};
 ghost use Rattle.rank_evaluate.specs.Opened.{Opened};
@@ -50,7 +51,7 @@ fn on_lent(
     kinds: &[u8],
     values: &[i32],
 ) -> Candidate
-    requires { ⌜ (length (now registers) ≤ 4096) × (length (now places) ≤ 1024) × Readable (now program) × (length (now kinds) ≡ length (now values)) × Clean (now registers) (now places) a b ⌝ }
+    requires { ⌜ (length (now registers) ≤ registersLimit) × (length (now places) ≤ placesLimit) × Readable (now program) × (length (now kinds) ≡ length (now values)) × Clean (now registers) (now places) a b ⌝ }
     ensures { λ r. ⌜ CandidateAs (now (program .entry)) (now (kinds .entry)) (now (values .entry)) (now (registers .entry)) (now (places .entry)) (now (registers .exit)) (now (places .exit)) r ⌝ }
 {
     if registers.len() < run_moves::word_at(program, program_parts::REGISTERS) {

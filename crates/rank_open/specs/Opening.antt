@@ -5,6 +5,7 @@ use mathlib.Core.Path.{_≡_, sym, ap, _∙_}
 use mathlib.Core.List.{List, _∷_, _++_}
 use lib.ListN.{length, take, drop, replicate, drop-of-length-le}
 use lib.IntN.{ℤ}
+use Rattle.meaning.specs.Limits.{registersLimit, placesLimit}
 use Rattle.meaning.specs.Value.{mark}
 use Rattle.records.specs.declared.Handed.{Handed}
 use Rattle.records.specs.declared.Answer.the-variants.{Refused}
@@ -19,7 +20,7 @@ pub record Clean (vs : List ℤ) (ps : List ℕ) (a b : ℕ) : Type 0 where
 
 -- of the lent ones
 abbrev pub LentClean : List ℤ → List ℕ → ℕ → ℕ → Type 0
-LentClean vs ps a b = Clean (take (min (length vs) 4096) vs) (take (min (length ps) 1024) ps) a b
+LentClean vs ps a b = Clean (take (min (length vs) registersLimit) vs) (take (min (length ps) placesLimit) ps) a b
 
 -- nothing is known of any cell
 pub clean-unknown : (vs : List ℤ) (ps : List ℕ) → Clean vs ps (length vs) (length ps)

@@ -2,6 +2,7 @@
 ghost use Prim.Native.Nat.{_≤_};
 ghost use mathlib.Core.Path.{_≡_};
 ghost use lib.ListN.{length, replicate, set};
+ghost use Rattle.meaning.specs.Grammar.{segmentPlace};
 ghost use Rattle.meaning.specs.Value.{mark};
 ghost use Rattle.rank_open.specs.Opening.{Clean, unopenedFrom, leftFrom};
 use limits::SEGMENT;
@@ -18,7 +19,7 @@ pub struct Candidate {
 // 01: "Opening clears registers to the mark and places to 0". All from a and b on are clear already.
 pub fn open_again(registers: &mut [i64], places: &mut [u32], a: usize, b: usize)
     requires { ⌜ Clean (now registers) (now places) a b × (1 ≤ length (now places)) ⌝ }
-    ensures { λ r. ⌜ (now (registers .exit) ≡ replicate (length (now (registers .entry))) mark) × (now (places .exit) ≡ set (replicate (length (now (places .entry))) 0) 0 32768) ⌝ }
+    ensures { λ r. ⌜ (now (registers .exit) ≡ replicate (length (now (registers .entry))) mark) × (now (places .exit) ≡ set (replicate (length (now (places .entry))) 0) 0 segmentPlace) ⌝ }
 {
     run_cells::clear_registers(&mut registers[..a]);
     run_cells::clear_places(&mut places[..b]);

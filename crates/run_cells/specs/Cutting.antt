@@ -7,6 +7,7 @@ use mathlib.Core.List.{List, [], _++_, append-nil, map, reverse}
 use lib.ListN.{length, take, drop, replicate, length-take, take-append-drop, drop-of-length-le}
 use lib.Dec.{ltb}
 use lib.IntN.{ℤ}
+use Rattle.meaning.specs.Limits.{registersLimit, placesLimit}
 use Rattle.meaning.specs.Grammar.{Grammar}
 use Rattle.meaning.specs.Value.{mark}
 use Rattle.meaning.specs.Machine.{Config, Lent, Settled, stopped, failed, opening, placeOf}
@@ -86,7 +87,7 @@ module _ (g : Grammar) (vs : List ℤ) (ps : List ℕ) where
   finished-cut (failed c j) = ap (asBrought (refused j (c .tokens)) (recordOf false c)) (lay-all-cut c)
 
 -- what is made on the first n and k cells, where these are the lent ones
-pub made-whole : (made : Stacks → Called) (vs : List ℤ) (ps : List ℕ) (n k : ℕ) → n ≡ min (length vs) 4096 → k ≡ min (length ps) 1024 → (c : Called) → c ≡ made (stacksOf (take n vs) (take k ps))
-    → uncut (min (length vs) 4096) (min (length ps) 1024) vs ps (made (stacksOf (take (min (length vs) 4096) vs) (take (min (length ps) 1024) ps))) ≡ made (stacksOf vs ps)
+pub made-whole : (made : Stacks → Called) (vs : List ℤ) (ps : List ℕ) (n k : ℕ) → n ≡ min (length vs) registersLimit → k ≡ min (length ps) placesLimit → (c : Called) → c ≡ made (stacksOf (take n vs) (take k ps))
+    → uncut (min (length vs) registersLimit) (min (length ps) placesLimit) vs ps (made (stacksOf (take (min (length vs) registersLimit) vs) (take (min (length ps) placesLimit) ps))) ≡ made (stacksOf vs ps)
     → uncut n k vs ps c ≡ made (stacksOf vs ps)
 made-whole made vs ps n k e d c q h = ap (uncut n k vs ps) q ∙ (ap₂ (λ x y. uncut x y vs ps (made (stacksOf (take x vs) (take y ps)))) e d ∙ h)

@@ -10,7 +10,7 @@ use lib.IntN.{ℤ}
 use lib.Dec.{eqb}
 use lib.ListN.{length, getD, drop, replicate, drop-of-length-le, replicate-append-replicate}
 use lib.Seq.{drop-cons}
-use Rattle.meaning.specs.Grammar.{Symbol, nonterminal, Grammar, syn}
+use Rattle.meaning.specs.Grammar.{Symbol, nonterminal, Grammar, syn, segmentPlace}
 use Rattle.meaning.specs.Table.{symbolOf}
 use Rattle.meaning.specs.Calls.{Cell, valued, marked, cellsFit, awaited}
 use Rattle.theory_program.specs.Parts.{headOperand, waitLeft, waitPassed, waitMarked, waitInherited, waitSymbol}
@@ -153,11 +153,11 @@ module _ {g : Grammar} {ws : List ℕ} (s : HasProgram g ws) (vs : List ℤ) (pl
     unfolding above
     split = drop-cons places 0 0 some
 
-    pub bottom-other : (getD places 0 0 ≡ 32769 → ⊥) → (getD places 0 0 ≡ 32768 → ⊥) → standsFit g places vs ≡ false
+    pub bottom-other : (getD places 0 0 ≡ 32769 → ⊥) → (getD places 0 0 ≡ segmentPlace → ⊥) → standsFit g places vs ≡ false
     unfolding standsFit
-    bottom-other m n = ap (λ ps. standsFit g ps vs) split ∙ rw (ne-eqb (getD places 0 0) 32768 n, ne-eqb (getD places 0 0) 32769 m) refl
+    bottom-other m n = ap (λ ps. standsFit g ps vs) split ∙ rw (ne-eqb (getD places 0 0) segmentPlace n, ne-eqb (getD places 0 0) 32769 m) refl
 
-    pub bottom-waits : {n r : ℕ} {b : Bool} → getD places 0 0 ≡ 32768 → n ≡ getD ws 4 0 → Passes vs (replicate n marked) 0 r → b ≡ stands g (nonterminal (g .start)) (drop 1 places) vs r → b ≡ standsFit g places vs
+    pub bottom-waits : {n r : ℕ} {b : Bool} → getD places 0 0 ≡ segmentPlace → n ≡ getD ws 4 0 → Passes vs (replicate n marked) 0 r → b ≡ stands g (nonterminal (g .start)) (drop 1 places) vs r → b ≡ standsFit g places vs
     unfolding standsFit above
     bottom-waits {n} {r} {b} e d p q =
         let k : n ≡ syn g (nonterminal (g .start)) = d ∙ start-count s in

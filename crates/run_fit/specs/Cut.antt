@@ -9,6 +9,7 @@ use lib.ListN.{length, take, drop, length-take}
 use lib.IntN.{ℤ}
 use lib.Seq.{take-take}
 use lib.Dec.{eqb, leb}
+use Rattle.meaning.specs.Limits.{registersLimit, placesLimit}
 use Rattle.meaning.specs.Base.{all}
 use Rattle.meaning.specs.Grammar.{Grammar}
 use Rattle.meaning.specs.Rules.{WellFormed}
@@ -51,7 +52,7 @@ fits-cut g r m =
     let k : ℕ = lentOf m .maxPlaces in
     let h : ℕ = r .registerHeight in
     let j : ℕ = r .placeHeight in
-    rw (lent-cut (m .registers) 4096, lent-cut (m .places) 1024)
+    rw (lent-cut (m .registers) registersLimit, lent-cut (m .places) placesLimit)
     (same-tests (leb (r .tokens) tokensLimit) (leb (r .moves) movesLimit) (leb h n) (leb j k)
     (stackFits g (reverse (take j (m .places))) (reverse (take h (m .registers))))
     (stackFits g (reverse (take j (take k (m .places)))) (reverse (take h (take n (m .registers)))))
@@ -68,7 +69,7 @@ abbrev pub numbers : (tokens moves registerHeight placeHeight : ℕ) → Record
 numbers tokens moves registerHeight placeHeight = record { status = running; kind = outer; tokens = tokens; moves = moves; registerHeight = registerHeight; placeHeight = placeHeight }
 
 -- where all cells are lent: the tests in their order, each by its outcome
-module _ (g : Grammar) (w : WellFormed g) (r : Record) (vs : List ℤ) (ps : List ℕ) (few : length vs ≤ 4096) (low : length ps ≤ 1024) where
+module _ (g : Grammar) (w : WellFormed g) (r : Record) (vs : List ℤ) (ps : List ℕ) (few : length vs ≤ registersLimit) (low : length ps ≤ placesLimit) where
   pub fits-by : {t m a b s x y : Bool}
       → leb (r .tokens) tokensLimit ≡ t
       → leb (r .moves) movesLimit ≡ m
@@ -79,6 +80,6 @@ module _ (g : Grammar) (w : WellFormed g) (r : Record) (vs : List ℤ) (ps : Lis
       → all (λ p. eqb p 0) (take (length ps - r .placeHeight) (drop (r .placeHeight) ps)) ≡ y
       → stacksFit g r (stacksOf vs ps) ≡ t && m && a && b && s && x && y
   fits-by et em ea eb es ex ey =
-      let n : min (length vs) 4096 ≡ length vs = omega arith in
-      let k : min (length ps) 1024 ≡ length ps = omega arith in
+      let n : min (length vs) registersLimit ≡ length vs = omega arith in
+      let k : min (length ps) placesLimit ≡ length ps = omega arith in
       rw (n, k, stack-fits-up g w (take (r .placeHeight) ps) (take (r .registerHeight) vs), et, em, ea, eb, es, ex, ey) refl

@@ -7,6 +7,7 @@ use mathlib.Core.List.{List, _++_}
 use borrow.Author.Tests.{lt-ltb, le-ltb, ltb-true, ltb-false, eq-eqb, ne-eqb, eqb-true, eqb-false}
 use lib.ListN.{getD, length, replicate}
 use lib.Dec.{T, eqb, ltb, ltb→lt}
+use Rattle.meaning.specs.Limits.{registersLimit}
 use Rattle.meaning.specs.Grammar.{terminal, nonterminal, Grammar, productionAt, syn, isNonterminal, placeProduction, placePassed}
 use Rattle.meaning.specs.Rules.{WellFormed}
 use Rattle.meaning.specs.Table.{symbolOf}
@@ -158,7 +159,7 @@ module _ {g : Grammar} {ws : List ℕ} (s : HasProgram g ws) where
   pub start-count : getD ws 4 0 ≡ syn g (nonterminal (g .start))
   start-count = segment-words (s .begins) .registers
 
-  pub start-small : getD ws 4 0 ≤ 4096
+  pub start-small : getD ws 4 0 ≤ registersLimit
   start-small = omega (arith, start-count, att-most g (s .formed) (nonterminal (g .start)))
 
   -- a word that has the start symbol alone

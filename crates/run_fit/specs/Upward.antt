@@ -9,7 +9,7 @@ use lib.ListN.{length, take, replicate, length-reverseAux, replicate-append-repl
 use lib.Dec.{eqb, ltb}
 use lib.IntN.{ℤ}
 use Rattle.meaning.specs.Base.{total, isEmpty}
-use Rattle.meaning.specs.Grammar.{Symbol, nonterminal, Grammar, productionAt, inh, syn, markedFor, isNonterminal, whole, placeProduction, placePassed}
+use Rattle.meaning.specs.Grammar.{Symbol, nonterminal, Grammar, productionAt, inh, syn, markedFor, isNonterminal, whole, placeProduction, placePassed, segmentPlace}
 use Rattle.meaning.specs.Rules.{WellFormed}
 use Rattle.meaning.specs.Calls.{Cell, valued, marked, cellFits, cellsFit, waitingCells, awaited, placesFit, placeCells, stackFits}
 use Rattle.theory_answers.specs.FitTest.{syn-cells, alone}
@@ -73,7 +73,7 @@ startCells c g = replicate (syn g (nonterminal (g .start))) c
 unfoldable pub standsFit : Grammar → List ℕ → List ℤ → Bool
 standsFit g [] vs = false
 standsFit g (p ∷ ps) vs =
-    (eqb p 32768 && (placesAbove g (nonterminal (g .start)) ps && cellsFit (startCells marked g ++ cellsAbove g ps) vs))
+    (eqb p segmentPlace && (placesAbove g (nonterminal (g .start)) ps && cellsFit (startCells marked g ++ cellsAbove g ps) vs))
     || (eqb p 32769 && (isEmpty ps && cellsFit (startCells valued g) vs))
 
 module _ (g : Grammar) where
@@ -113,7 +113,7 @@ module _ (g : Grammar) where
   cells-up [] qs = sym (append-nil (reverse (placeCells g qs)))
   cells-up (p ∷ ps) qs = cells-up ps (p ∷ qs) ∙ (ap (λ z. z ++ cellsAbove g ps) (cells-place p qs) ∙ append-assoc (reverse (placeCells g qs)) (cellsOf g p) (cellsAbove g ps))
 
-  start-cells : inh g (nonterminal (g .start)) ≡ 0 → cellsOf g 32768 ≡ startCells marked g
+  start-cells : inh g (nonterminal (g .start)) ≡ 0 → cellsOf g segmentPlace ≡ startCells marked g
   start-cells e = rw e (append-nil (startCells marked g))
 
   alone-many : (ps : List ℕ) → 1 < length ps → alone ps ≡ false
@@ -130,14 +130,14 @@ module _ (g : Grammar) where
   stack-fits-up w [] vs = refl
   stack-fits-up w (p ∷ ps) vs = ap₂ (λ a b. a || b) waits left
     where
-      at-bottom : (b : Bool) → eqb p 32768 ≡ b → (b && placesAbove g (awaited g p) ps) && cellsFit (cellsOf g p ++ cellsAbove g ps) vs ≡ b && (placesAbove g (nonterminal (g .start)) ps && cellsFit (startCells marked g ++ cellsAbove g ps) vs)
-      at-bottom true e = rw (eqb-true p 32768 e) (ap (λ z. placesAbove g (nonterminal (g .start)) ps && cellsFit (z ++ cellsAbove g ps) vs) (start-cells (w .startAlone)))
+      at-bottom : (b : Bool) → eqb p segmentPlace ≡ b → (b && placesAbove g (awaited g p) ps) && cellsFit (cellsOf g p ++ cellsAbove g ps) vs ≡ b && (placesAbove g (nonterminal (g .start)) ps && cellsFit (startCells marked g ++ cellsAbove g ps) vs)
+      at-bottom true e = rw (eqb-true p segmentPlace e) (ap (λ z. placesAbove g (nonterminal (g .start)) ps && cellsFit (z ++ cellsAbove g ps) vs) (start-cells (w .startAlone)))
       at-bottom false e = refl
 
-      waits : placesFit g (reverse (p ∷ ps)) && cellsFit (placeCells g (reverse (p ∷ ps))) (reverse vs) ≡ eqb p 32768 && (placesAbove g (nonterminal (g .start)) ps && cellsFit (startCells marked g ++ cellsAbove g ps) vs)
+      waits : placesFit g (reverse (p ∷ ps)) && cellsFit (placeCells g (reverse (p ∷ ps))) (reverse vs) ≡ eqb p segmentPlace && (placesAbove g (nonterminal (g .start)) ps && cellsFit (startCells marked g ++ cellsAbove g ps) vs)
       waits =
           ap₂ (λ a b. a && b) (places-up ps p []) (fit-reverse (placeCells g (reverseAux ps (p ∷ []))) vs ∙ ap (λ z. cellsFit z vs) (cells-up ps (p ∷ []) ∙ ap (λ z. z ++ cellsAbove g ps) (cells-place p [])))
-          ∙ at-bottom (eqb p 32768) refl
+          ∙ at-bottom (eqb p segmentPlace) refl
 
       left : alone (reverse (p ∷ ps)) && cellsFit (startCells valued g) (reverse vs) ≡ eqb p 32769 && (isEmpty ps && cellsFit (startCells valued g) vs)
       left =

@@ -5,6 +5,7 @@ ghost use mathlib.Core.Bool.{_&&_};
 ghost use mathlib.Core.List.{_++_};
 ghost use lib.ListN.{length, drop, replicate};
 ghost use lib.Dec.{eqb};
+ghost use Rattle.meaning.specs.Limits.{registersLimit, placesLimit};
 ghost use Rattle.meaning.specs.Grammar.{Grammar, nonterminal};
 ghost use Rattle.meaning.specs.Calls.{stacksFit};
 ghost use Rattle.theory_program.specs.Parts.{waitLeft, waitSymbol};
@@ -158,7 +159,7 @@ pub fn fits(
     place_height: u64,
     program: &[u32],
 ) -> bool
-    requires { ⌜ (length (now registers) ≤ 4096) × (length (now places) ≤ 1024) × Readable (now program) ⌝ }
+    requires { ⌜ (length (now registers) ≤ registersLimit) × (length (now places) ≤ placesLimit) × Readable (now program) ⌝ }
     ensures { λ r. ⌜ ((g : Grammar) → HasProgram g (now (program .entry)) → r ≡ stacksFit g (numbers tokens moves «register_height» «place_height») (stacksOf (now (registers .entry)) (now (places .entry)))) ⌝ }
 {
     if TOKENS_LIMIT < tokens {

@@ -1,6 +1,7 @@
 // Where the registers end that a place tells, from the bottom up.
 ghost use Prim.Native.Nat.{_+_, _≤_};
 ghost use lib.ListN.{length, replicate};
+ghost use Rattle.meaning.specs.Limits.{registersLimit};
 ghost use Rattle.meaning.specs.Calls.{valued, marked};
 ghost use Rattle.run_fit_past.specs.Passing.{Passes, valuedThenMarked, repeated, cellsBetween};
 use program_parts::wait_inherited;
@@ -9,7 +10,7 @@ use program_parts::wait_passed;
 
 // Where `count` registers with values end that stand from `at` on; past the end of the registers where they do not stand.
 pub fn past_valued(registers: &[i64], at: usize, count: usize) -> usize
-    requires { ⌜ (at ≤ length (now registers) + 1) × (count ≤ 4096) ⌝ }
+    requires { ⌜ (at ≤ length (now registers) + 1) × (count ≤ registersLimit) ⌝ }
     ensures { λ r. ⌜ Passes (now (registers .entry)) (replicate count valued) at r ⌝ }
 {
     let end = at + count;
@@ -24,7 +25,7 @@ pub fn past_valued(registers: &[i64], at: usize, count: usize) -> usize
 
 // Where `count` registers that are marked end that stand from `at` on; past the end of the registers where they do not stand.
 pub fn past_marked(registers: &[i64], at: usize, count: usize) -> usize
-    requires { ⌜ (at ≤ length (now registers) + 1) × (count ≤ 4096) ⌝ }
+    requires { ⌜ (at ≤ length (now registers) + 1) × (count ≤ registersLimit) ⌝ }
     ensures { λ r. ⌜ Passes (now (registers .entry)) (replicate count marked) at r ⌝ }
 {
     let end = at + count;
@@ -39,7 +40,7 @@ pub fn past_marked(registers: &[i64], at: usize, count: usize) -> usize
 
 // Where `valued` registers with values and `marked` ones above them end; past the end of the registers where they do not stand.
 fn past_both(registers: &[i64], at: usize, valued: usize, marked: usize) -> usize
-    requires { ⌜ (at ≤ length (now registers) + 1) × (valued ≤ 4096) × (marked ≤ 4096) ⌝ }
+    requires { ⌜ (at ≤ length (now registers) + 1) × (valued ≤ registersLimit) × (marked ≤ registersLimit) ⌝ }
     ensures { λ r. ⌜ Passes (now (registers .entry)) (valuedThenMarked valued marked) at r ⌝ }
 {
     let from = at + valued;

@@ -7,6 +7,7 @@ use mathlib.Core.List.{List}
 use lib.ListN.{length, take}
 use lib.Dec.{T}
 use lib.IntN.{ℤ}
+use Rattle.meaning.specs.Limits.{registersLimit, placesLimit}
 use Rattle.meaning.specs.Grammar.{Grammar}
 use Rattle.meaning.specs.Fit.{Fit}
 use Rattle.meaning.specs.Calls.{Status, running, waiting, closed, Kind, outer, inner, Gate, admitted, turnedBack, gate, Record, Stacks, Called, refused, asBrought, whenFit, stacksFit}
@@ -86,5 +87,5 @@ pub not-turned : (g : Grammar) (r : Record) (m : Stacks) → numberFor 34 g r m 
 not-turned g r m e = fit-exactly g r m .0 (passed 34 g r m (omega arith) e .1)
 
 -- by the lent cells alone
-pub number-cut : (k : ℕ) (g : Grammar) (r : Record) (vs : List ℤ) (ps : List ℕ) (i j : ℕ) → i ≡ min (length vs) 4096 → j ≡ min (length ps) 1024 → (n : ℕ) → n ≡ numberFor k g r (stacksOf (take i vs) (take j ps)) → n ≡ numberFor k g r (stacksOf vs ps)
+pub number-cut : (k : ℕ) (g : Grammar) (r : Record) (vs : List ℤ) (ps : List ℕ) (i j : ℕ) → i ≡ min (length vs) registersLimit → j ≡ min (length ps) placesLimit → (n : ℕ) → n ≡ numberFor k g r (stacksOf (take i vs) (take j ps)) → n ≡ numberFor k g r (stacksOf vs ps)
 number-cut k g r vs ps i j e d n q = q ∙ (ap₂ (λ x y. numberFor k g r (stacksOf (take x vs) (take y ps))) e d ∙ ap (numberBy (gateOf k r)) (sym (fits-cut g r (stacksOf vs ps))))

@@ -4,6 +4,7 @@ use mathlib.Core.Path.{_≡_, sym, ap, _∙_}
 use mathlib.Core.List.{List}
 use lib.ListN.{length, getD}
 use lib.IntN.{ℤ}
+use Rattle.meaning.specs.Limits.{registersLimit, placesLimit}
 use Rattle.meaning.specs.Grammar.{Grammar, leaves}
 use Rattle.meaning.specs.Rules.{WellFormed}
 use Rattle.meaning.specs.Fit.{Fit}
@@ -33,7 +34,7 @@ callIs Finish ks us = finish
 
 -- the run that the code starts with holds what the record and the stacks say
 abbrev pub Starts : List ℕ → List ℕ → Record → Run → Type 0
-Starts ws ps r run = (g : Grammar) (vs : List ℤ) → Begins g ws → WellFormed g → length vs ≤ 4096 → length ps ≤ 1024 → Fit g r (stacksOf vs ps) → Held g ws (lentOf (stacksOf vs ps)) vs ps run (configOf g r (stacksOf vs ps))
+Starts ws ps r run = (g : Grammar) (vs : List ℤ) → Begins g ws → WellFormed g → length vs ≤ registersLimit → length ps ≤ placesLimit → Fit g r (stacksOf vs ps) → Held g ws (lentOf (stacksOf vs ps)) vs ps run (configOf g r (stacksOf vs ps))
 
 -- 33, 40 or 34: nothing is done
 pub call-turned : (g : Grammar) (r : Record) (m : Stacks) (n : ℕ) → n ≡ numberFor 34 g r m → (n ≡ 0 → ⊥) → (c : Call) → asBrought (refused n 0) r m ≡ callOf g r m c
@@ -42,8 +43,8 @@ call-turned g r m n e z finish = sym (when-turned g r m _ n e z)
 
 -- what the code has judged is 01's judgement
 pub record Judged (ws : List ℕ) (vs : List ℤ) (ps : List ℕ) (r : Record) : Type 0 where
-  pub few : length vs ≤ 4096
-  pub little : length ps ≤ 1024
+  pub few : length vs ≤ registersLimit
+  pub little : length ps ≤ placesLimit
   pub brought : Readable ws
   pub passed : (g : Grammar) → HasProgram g ws → 0 ≡ numberFor 34 g r (stacksOf vs ps)
 

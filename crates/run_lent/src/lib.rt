@@ -2,6 +2,7 @@
 ghost use Prim.Native.Nat.{_≤_};
 ghost use mathlib.Core.Path.{_≡_};
 ghost use lib.ListN.{length};
+ghost use Rattle.meaning.specs.Limits.{registersLimit, placesLimit};
 ghost use Rattle.meaning.specs.Grammar.{Grammar};
 ghost use Rattle.meaning.specs.Calls.{feedOf, finishOf};
 ghost use Rattle.meaning.specs.PublicCalls.{stacksOf, callOf};
@@ -31,7 +32,7 @@ fn turned_back(
     program: &[u32],
     brought: State,
 ) -> u32
-    requires { ⌜ (1 ≤ other) × (length (now registers) ≤ 4096) × (length (now places) ≤ 1024) × Readable (now program) ⌝ }
+    requires { ⌜ (1 ≤ other) × (length (now registers) ≤ registersLimit) × (length (now places) ≤ placesLimit) × Readable (now program) ⌝ }
     ensures { λ r. ⌜ ((g : Grammar) → HasProgram g (now (program .entry)) → r ≡ numberFor other g (stateIs brought) (stacksOf (now (registers .entry)) (now (places .entry)))) ⌝ }
 {
     let number = brought.gate(other);
@@ -97,7 +98,7 @@ fn call_lent(
     kinds: &[u8],
     values: &[i32],
 ) -> Handed
-    requires { ⌜ (length (now registers) ≤ 4096) × (length (now places) ≤ 1024) × Readable (now program) ⌝ }
+    requires { ⌜ (length (now registers) ≤ registersLimit) × (length (now places) ≤ placesLimit) × Readable (now program) ⌝ }
     ensures { λ r. ⌜ ((g : Grammar) → HasProgram g (now (program .entry)) → handedIs r (now (registers .exit)) (now (places .exit)) ≡ callOf g (stateIs brought) (stacksOf (now (registers .entry)) (now (places .entry))) (callIs call (now (kinds .entry)) (now (values .entry)))) ⌝ }
 {
     let number = turned_back(UNFIT, registers, places, program, brought);

@@ -8,7 +8,8 @@ use lib.ListN.{length, getD, set, drop, replicate, length-replicate, drop-of-len
 use lib.Dec.{ltb}
 use lib.IntN.{ℤ}
 use borrow.Author.Tests.{lt-ltb, le-ltb}
-use Rattle.meaning.specs.Grammar.{Grammar, nonterminal, syn}
+use Rattle.meaning.specs.Limits.{registersLimit, placesLimit}
+use Rattle.meaning.specs.Grammar.{Grammar, nonterminal, syn, segmentPlace}
 use Rattle.meaning.specs.Value.{mark}
 use Rattle.meaning.specs.Machine.{opening, placeOf}
 use Rattle.meaning.specs.Calls as Calls
@@ -24,7 +25,7 @@ cleared clear n mem e =
     let size : n - 0 ≡ length mem = omega arith in
     ap (λ y. replicate (n - 0) clear ++ y) (drop-of-length-le mem {i = n} (omega arith)) ∙ (append-nil (replicate (n - 0) clear) ∙ ap (λ j. replicate j clear) size)
 
-module _ (g : Grammar) (ws : List ℕ) (b : Begins g ws) (vs : List ℤ) (ps : List ℕ) (few : length vs ≤ 4096) (little : length ps ≤ 1024) where
+module _ (g : Grammar) (ws : List ℕ) (b : Begins g ws) (vs : List ℤ) (ps : List ℕ) (few : length vs ≤ registersLimit) (little : length ps ≤ placesLimit) where
   abbrev opened : Calls.Called
   opened = record { answer = more 0; state = recordOf true (opening g); stacks = layAll g (opening g) (stacksOf vs ps) }
 
@@ -60,16 +61,16 @@ module _ (g : Grammar) (ws : List ℕ) (b : Begins g ws) (vs : List ℤ) (ps : L
           ∙ (sym (lay-add n mark [] vs k (omega (arith, marked, length-replicate k mark)))
           ∙ ap (λ y. lay n mark y vs) (append-nil (replicate k mark)))
 
-      places-are : set (replicate (length ps) 0) 0 32768 ≡ lay (lentOf (stacksOf vs ps) .maxPlaces) 0 (map (placeOf g) (opening g .frames)) ps
+      places-are : set (replicate (length ps) 0) 0 segmentPlace ≡ lay (lentOf (stacksOf vs ps) .maxPlaces) 0 (map (placeOf g) (opening g .frames)) ps
       places-are =
           let n : ℕ = lentOf (stacksOf vs ps) .maxPlaces in
-          ap (λ y. set y 0 32768) (sym (cleared 0 n ps (omega arith)))
-          ∙ sym (lay-push n 0 [] ps 32768 (omega (arith, z)))
+          ap (λ y. set y 0 segmentPlace) (sym (cleared 0 n ps (omega arith)))
+          ∙ sym (lay-push n 0 [] ps segmentPlace (omega (arith, z)))
 
       pub open-made : (count : ℕ) (vs′ : List ℤ) (ps′ : List ℕ) → count ≡ getD ws 4 0 → vs′ ≡ replicate (length vs) mark → ps′ ≡ replicate (length ps) 0
-          → record { answer = more 0; state = record { status = running; kind = outer; tokens = 0; moves = 0; registerHeight = count; placeHeight = 1 }; stacks = stacksOf vs′ (set ps′ 0 32768) } ≡ openOf g (stacksOf vs ps)
+          → record { answer = more 0; state = record { status = running; kind = outer; tokens = 0; moves = 0; registerHeight = count; placeHeight = 1 }; stacks = stacksOf vs′ (set ps′ 0 segmentPlace) } ≡ openOf g (stacksOf vs ps)
       open-made count vs′ ps′ e d f =
           let a : count ≡ length (opening g .registers) = e ∙ sym marked in
           let x : vs′ ≡ lay (lentOf (stacksOf vs ps) .maxRegisters) mark (opening g .registers) vs = d ∙ registers-are in
-          let y : set ps′ 0 32768 ≡ lay (lentOf (stacksOf vs ps) .maxPlaces) 0 (map (placeOf g) (opening g .frames)) ps = ap (λ z. set z 0 32768) f ∙ places-are in
+          let y : set ps′ 0 segmentPlace ≡ lay (lentOf (stacksOf vs ps) .maxPlaces) 0 (map (placeOf g) (opening g .frames)) ps = ap (λ z. set z 0 segmentPlace) f ∙ places-are in
           (λ i. record { answer = more 0; state = record { status = running; kind = outer; tokens = 0; moves = 0; registerHeight = a i; placeHeight = 1 }; stacks = stacksOf (x i) (y i) }) ∙ sym is-open

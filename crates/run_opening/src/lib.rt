@@ -2,6 +2,7 @@
 ghost use Prim.Native.Nat.{_≤_, _<_};
 ghost use mathlib.Core.Path.{_≡_};
 ghost use lib.ListN.{length};
+ghost use Rattle.meaning.specs.Limits.{registersLimit, placesLimit};
 ghost use Rattle.meaning.specs.Grammar.{Grammar};
 ghost use Rattle.meaning.specs.Calls.{openOf};
 ghost use Rattle.meaning.specs.PublicCalls.{stacksOf};
@@ -15,7 +16,7 @@ use records::not_opened;
 
 // On exactly the lent cells. 01: "At opening 31 precedes 32, no stack is written".
 fn open_lent(registers: &mut [i64], places: &mut [u32], program: &[u32]) -> Handed
-    requires { ⌜ (length (now registers) ≤ 4096) × (length (now places) ≤ 1024) × (4 < length (now program)) ⌝ }
+    requires { ⌜ (length (now registers) ≤ registersLimit) × (length (now places) ≤ placesLimit) × (4 < length (now program)) ⌝ }
     ensures { λ r. ⌜ ((g : Grammar) → Begins g (now (program .entry)) → handedIs r (now (registers .exit)) (now (places .exit)) ≡ openOf g (stacksOf (now (registers .entry)) (now (places .entry)))) ⌝ }
 {
     let count = run_moves::word_at(program, program_parts::REGISTERS);

@@ -8,6 +8,7 @@ use lib.ListN.{length, getD, length-map, List·getD-eq-default}
 use lib.Dec.{T, leb}
 use borrow.Author.Tests.{leb-true, leb-false}
 use lib.IntN.{ℤ}
+use Rattle.meaning.specs.Limits.{registersLimit, placesLimit}
 use Rattle.meaning.specs.Grammar.{Grammar}
 use Rattle.meaning.specs.Value.{mark, inRange}
 use Rattle.meaning.specs.Machine.{Config, readRegister, Settled, stopped, failed, placeOf, isFinished, finishAll, movesLimit}
@@ -71,7 +72,7 @@ pub record Ending (ws : List ℕ) (vs : List ℤ) (e : Ended.Ended) : Type 0 whe
   pub some : (run : Run) → e ≡ Stopped run → (run .registers ≤ length vs) × (1 ≤ getD ws 5 0) × (getD ws 5 0 ≤ run .registers)
   pub long : 5 < length ws
 
-module _ (g : Grammar) (ws : List ℕ) (vs₀ : List ℤ) (ps₀ : List ℕ) (few : length vs₀ ≤ 4096) (little : length ps₀ ≤ 1024) where
+module _ (g : Grammar) (ws : List ℕ) (vs₀ : List ℤ) (ps₀ : List ℕ) (few : length vs₀ ≤ registersLimit) (little : length ps₀ ≤ placesLimit) where
   module _ (vs : List ℤ) (ps : List ℕ) (run : Run) (d : Config) (h : Held g ws (lentOf (stacksOf vs₀ ps₀)) vs ps run d) where
     record-is : (s : Status) (o : Bool) → statusIs s ≡ statusOf o → stateIs (withStatus s (openFrom run)) ≡ recordOf o d
     record-is s o e =

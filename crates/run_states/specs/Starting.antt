@@ -9,7 +9,8 @@ use lib.ListN.{length, getD, drop, replicate, length-replicate, drop-of-length-l
 use lib.Dec.{T, ltb}
 use lib.IntN.{ℤ}
 use borrow.Author.Tests.{lt-ltb}
-use Rattle.meaning.specs.Grammar.{Grammar, Symbol, whole, productionAt, placeProduction, placePassed}
+use Rattle.meaning.specs.Limits.{registersLimit, placesLimit}
+use Rattle.meaning.specs.Grammar.{Grammar, Symbol, whole, productionAt, placeProduction, placePassed, segmentPlace}
 use Rattle.meaning.specs.Value.{mark}
 use Rattle.meaning.specs.Rules.{WellFormed}
 use Rattle.meaning.specs.Machine.{Config, placeOf}
@@ -30,7 +31,7 @@ use Rattle.meaning.specs.PublicCalls.{stacksOf}
 abbrev pub Stood : Grammar → ℕ → Type 0
 Stood g p = T (placeWaits g p) ⊎ (p ≡ 32769)
 
-segment-waits : (g : Grammar) → T (placeWaits g 32768)
+segment-waits : (g : Grammar) → T (placeWaits g segmentPlace)
 segment-waits g = go (ltb whole (length (g .productions)))
   where
     go : (b : Bool) → T ((b || true) && true)
@@ -40,10 +41,10 @@ segment-waits g = go (ltb whole (length (g .productions)))
 -- where the code of either begins
 pub ahead-stood : {g : Grammar} {ws : List ℕ} → Begins g ws → WellFormed g → (p : ℕ) → Stood g p → Ahead g ws (placeAddress g p) (frameOf g p)
 ahead-stood b w p (inl t) = ahead-place b w p t
-ahead-stood {g} {ws} b w p (inr e) = subst (λ q. Ahead g ws (placeAddress g q) (frameOf g q)) (sym e) (ahead-next whole _ [] (ahead-place b w 32768 (segment-waits g)))
+ahead-stood {g} {ws} b w p (inr e) = subst (λ q. Ahead g ws (placeAddress g q) (frameOf g q)) (sym e) (ahead-next whole _ [] (ahead-place b w segmentPlace (segment-waits g)))
 
 waits-stood : (g : Grammar) {ps : List ℕ} {rs : List ℤ} {x : Symbol} → WaitsAt g ps rs x → (p : ℕ) × (qs : List ℕ) × (ps ≡ p ∷ qs) × T (placeWaits g p)
-waits-stood g (segment vs v) = (32768, [], refl, segment-waits g)
+waits-stood g (segment vs v) = (segmentPlace, [], refl, segment-waits g)
 waits-stood g (inside p k vs ss {ps} {rs} l s m v u w) =
     let q : placeProduction (p * 256 + k) ≡ p = omega arith in
     let r : placePassed (p * 256 + k) ≡ k = omega arith in
@@ -97,7 +98,7 @@ module _ {g : Grammar} {ws : List ℕ} (b : Begins g ws) (w : WellFormed g) (vs 
   pub top-stands : Stood g top
   top-stands = subst (Stood g) (sym top-is) (stood .3)
 
-  module _ (few : length vs ≤ 4096) (little : length ps ≤ 1024) where
+  module _ (few : length vs ≤ registersLimit) (little : length ps ≤ placesLimit) where
     abbrev m : Stacks
     m = stacksOf vs ps
 

@@ -4,6 +4,7 @@ ghost use mathlib.Core.Path.{_≡_};
 ghost use mathlib.Core.List.{List};
 ghost use lib.IntN.{ℤ};
 ghost use lib.ListN.{length, getD};
+ghost use Rattle.meaning.specs.Limits.{registersLimit, placesLimit};
 ghost use Rattle.meaning.specs.Rules.{WellFormed};
 ghost use Rattle.meaning.specs.Grammar.{Grammar};
 ghost use Rattle.meaning.specs.Fit.{Fit};
@@ -39,7 +40,7 @@ fn address_of(program: &[u32], place: usize) -> usize
 
 pub fn run_of(places: &[u32], program: &[u32], brought: State) -> Run
     requires { ⌜ ((vs : List ℤ) × Fitting (now program) vs (now places) (stateIs brought)) ⌝ }
-    ensures { λ r. ⌜ ((g : Grammar) (vs : List ℤ) → Begins g (now (program .entry)) → WellFormed g → length vs ≤ 4096 → length (now (places .entry)) ≤ 1024 → Fit g (stateIs brought) (stacksOf vs (now (places .entry)))
+    ensures { λ r. ⌜ ((g : Grammar) (vs : List ℤ) → Begins g (now (program .entry)) → WellFormed g → length vs ≤ registersLimit → length (now (places .entry)) ≤ placesLimit → Fit g (stateIs brought) (stacksOf vs (now (places .entry)))
         → Held g (now (program .entry)) (lentOf (stacksOf vs (now (places .entry)))) vs (now (places .entry)) r (configOf g (stateIs brought) (stacksOf vs (now (places .entry))))) ⌝ }
 {
     let height = brought.places as usize;

@@ -8,7 +8,8 @@ use lib.ListN.{length, getD, length-replicate}
 use lib.Dec.{ltb}
 use lib.IntN.{ℤ}
 use borrow.Author.Tests.{le-ltb}
-use Rattle.meaning.specs.Grammar.{Grammar, nonterminal, syn}
+use Rattle.meaning.specs.Limits.{registersLimit, placesLimit}
+use Rattle.meaning.specs.Grammar.{Grammar, nonterminal, syn, segmentPlace}
 use Rattle.meaning.specs.Rules.{WellFormed}
 use Rattle.meaning.specs.Value.{mark}
 use Rattle.meaning.specs.Machine.{opening}
@@ -29,7 +30,7 @@ use Rattle.run_states.specs.Starting.{held-start}
 abbrev pub firstRun : ℕ → Run
 firstRun n = record { tokens = 0; moves = 0; registers = n; places = 1; at = 0 }
 
-module _ (g : Grammar) (ws : List ℕ) (b : Begins g ws) (f : WellFormed g) (vs : List ℤ) (ps : List ℕ) (few : length vs ≤ 4096) (little : length ps ≤ 1024) where
+module _ (g : Grammar) (ws : List ℕ) (b : Begins g ws) (f : WellFormed g) (vs : List ℤ) (ps : List ℕ) (few : length vs ≤ registersLimit) (little : length ps ≤ placesLimit) where
   abbrev m : Stacks
   m = stacksOf vs ps
 
@@ -61,7 +62,7 @@ module _ (g : Grammar) (ws : List ℕ) (b : Begins g ws) (f : WellFormed g) (vs 
         let fit : Fit g (recordOf true (opening g)) (stacksOf vs′ ps′) = subst (Fit g (recordOf true (opening g))) laid (laid-fits g true (opening g) m stop within (omega arith)) in
         let lent : lentOf (stacksOf vs′ ps′) ≡ lentOf m = ap lentOf (sym laid) ∙ lent-kept g (opening g) m within in
         let back : configOf g (recordOf true (opening g)) (stacksOf vs′ ps′) ≡ opening g = ap (configOf g (recordOf true (opening g))) (sym laid) ∙ read-back g true (opening g) m stop within in
-        let top : 32768 ≡ getD ps′ 0 0 = ap (λ x. getD (x .places) 0 0) laid in
+        let top : segmentPlace ≡ getD ps′ 0 0 = ap (λ x. getD (x .places) 0 0) laid in
         let h = held-start b f vs′ ps′ (recordOf true (opening g)) fit (omega (arith, d)) (omega (arith, e)) 0 (ap (placeAddress g) top) in
         subst (λ n. Held g ws (lentOf m) vs′ ps′ (firstRun n) (opening g)) start-size
         (subst (λ c. Held g ws (lentOf m) vs′ ps′ (firstRun (length (opening g .registers))) c) back (subst (λ l. Held g ws l vs′ ps′ (firstRun (length (opening g .registers))) (configOf g (recordOf true (opening g)) (stacksOf vs′ ps′))) lent h))

@@ -8,6 +8,7 @@ use lib.ListN.{length, getD, take, drop, length-replicate, List·getD-eq-default
 use lib.Dec.{T, eqb, ltb, leb}
 use lib.IntN.{ℤ, pos}
 use borrow.Author.Tests.{lt-ltb, le-ltb, leb-true, leb-false, eq-eqb, ne-eqb}
+use Rattle.meaning.specs.Limits.{registersLimit, placesLimit}
 use Rattle.meaning.specs.Base.{all}
 use Rattle.meaning.specs.Grammar.{Grammar, Leaf, leaves, whole}
 use Rattle.meaning.specs.Rules.{WellFormed, fourBytes}
@@ -142,10 +143,10 @@ ended-result {ws} {m} {run} d =
 
 -- the cells of which the first n and k are lent
 pub record Cells (m : List ℤ) (ps : List ℕ) (n k : ℕ) : Type 0 where
-  pub registers : length m ≡ 4096
-  pub places : length ps ≡ 1024
-  pub few : n ≤ 4096
-  pub little : k ≤ 1024
+  pub registers : length m ≡ registersLimit
+  pub places : length ps ≡ placesLimit
+  pub few : n ≤ registersLimit
+  pub little : k ≤ placesLimit
 
 -- opening writes those alone
 pub record Opens (ws : List ℕ) (n k : ℕ) (m₀ : List ℤ) (ps₀ : List ℕ) (m : List ℤ) (ps : List ℕ) : Type 0 where
@@ -173,14 +174,14 @@ SegmentAs g lent us sheet₀ sheet (TableRefused number offset) = ⊥
 abbrev pub SegmentDone : List ℕ → List ℕ → List ℤ → ℕ → ℕ → List ℕ → List ℕ → Answer.Answer → Type 0
 SegmentDone ws ks vs n k sheet₀ sheet r = (g : Grammar) → Begins g ws → WellFormed g → SegmentAs g (record { maxRegisters = n; maxPlaces = k }) (tokensAs g ks vs) sheet₀ sheet r
 
-module _ (ws ks : List ℕ) (vs m : List ℤ) (ps sheet₀ : List ℕ) (few : length m ≤ 4096) (little : length ps ≤ 1024) where
+module _ (ws ks : List ℕ) (vs m : List ℤ) (ps sheet₀ : List ℕ) (few : length m ≤ registersLimit) (little : length ps ≤ placesLimit) where
   abbrev lentHere : Lent
   lentHere = record { maxRegisters = length m; maxPlaces = length ps }
 
   lent-is : lentOf (stacksOf m ps) ≡ lentHere
   lent-is =
-      let a : min (length m) 4096 ≡ length m = omega arith in
-      let b : min (length ps) 1024 ≡ length ps = omega arith in
+      let a : min (length m) registersLimit ≡ length m = omega arith in
+      let b : min (length ps) placesLimit ≡ length ps = omega arith in
       λ i. record { maxRegisters = a i; maxPlaces = b i }
 
   pub segment-31 : (sheet : List ℕ) → length m < getD ws 4 0 → SegmentDone ws ks vs (length m) (length ps) sheet₀ sheet (Refused 31 0)
@@ -268,12 +269,12 @@ under-uneven ws ks vs n k sheet z g b f only = subst (λ x. WhenEven x g n k ks 
 
 module _ (ws ks : List ℕ) (vs : List ℤ) (n k : ℕ) (sheet₀ : List ℕ) (even : length ks ≡ length vs) (four : T (all fourBytes vs)) where
   abbrev Walks : List ℕ → List ℕ → Answer.Answer → Type 0
-  Walks before after r = SegmentDone ws ks vs (min n 4096) (min k 1024) before after r
+  Walks before after r = SegmentDone ws ks vs (min n registersLimit) (min k placesLimit) before after r
 
-  runs : (g : Grammar) → WellFormed g → stackRun g (stacksFor n k) ks vs ≡ segmentRun g (record { maxRegisters = min n 4096; maxPlaces = min k 1024 }) (tokensAs g ks vs)
+  runs : (g : Grammar) → WellFormed g → stackRun g (stacksFor n k) ks vs ≡ segmentRun g (record { maxRegisters = min n registersLimit; maxPlaces = min k placesLimit }) (tokensAs g ks vs)
   runs g f =
-      let a : lentOf (stacksFor n k) .maxRegisters ≡ min n 4096 = omega (arith, length-replicate (min n 4096) (pos 0)) in
-      let c : lentOf (stacksFor n k) .maxPlaces ≡ min k 1024 = omega (arith, length-replicate {A = ℕ} (min k 1024) 0) in
+      let a : lentOf (stacksFor n k) .maxRegisters ≡ min n registersLimit = omega (arith, length-replicate (min n registersLimit) (pos 0)) in
+      let c : lentOf (stacksFor n k) .maxPlaces ≡ min k placesLimit = omega (arith, length-replicate {A = ℕ} (min k placesLimit) 0) in
       stack-run g f (stacksFor n k) ks vs even four ∙ ap₂ (λ x y. segmentRun g (record { maxRegisters = x; maxPlaces = y }) (tokensAs g ks vs)) a c
 
   -- by what the stack run answers
@@ -301,7 +302,7 @@ module _ (ws ks : List ℕ) (vs : List ℤ) (n k : ℕ) (sheet₀ : List ℕ) (e
         not-refused : {A : Type 0} {j i : ℕ} → value v moves ≡ refused j i → A
         not-refused e = absurd (let z : _≡_ {A = ℕ} 0 1 = cc in omega arith)
 
-        go : (r : Answer.Answer) → SegmentAs g (record { maxRegisters = min n 4096; maxPlaces = min k 1024 }) (tokensAs g ks vs) sheet₀ sheet r → WhenEven (eqb (length ks) (length vs)) g n k ks vs sheet₀ (sheetIs r sheet)
+        go : (r : Answer.Answer) → SegmentAs g (record { maxRegisters = min n registersLimit; maxPlaces = min k placesLimit }) (tokensAs g ks vs) sheet₀ sheet r → WhenEven (eqb (length ks) (length vs)) g n k ks vs sheet₀ (sheetIs r sheet)
         go (TableRefused number offset) z = absurd z
         go (Refused number tokens) z = not-refused (sym (w g b f .2) ∙ z)
         go (Value v₂ moves₂ size₂) z =

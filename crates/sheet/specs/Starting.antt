@@ -9,6 +9,7 @@ use lib.Seq.{length-take-le}
 use lib.Dec.{T}
 use lib.IntN.{ℤ}
 use native.Mathlib.Decide.{decLt}
+use Rattle.meaning.specs.Limits.{registersLimit, placesLimit}
 use Rattle.meaning.specs.Base.{all}
 use Rattle.meaning.specs.Rules.{fourBytes}
 use Rattle.run_fit.specs.HasProgram.{Readable}
@@ -43,10 +44,10 @@ module _ (ws ks : List ℕ) (vs m₀ : List ℤ) (ps₀ : List ℕ) (n k : ℕ) 
   manyPlaces : length (take k ps₀) ≡ k
   manyPlaces = length-take-le k ps₀ (omega (arith, x .places, x .little))
 
-  few : length (take n m₀) ≤ 4096
+  few : length (take n m₀) ≤ registersLimit
   few = omega (arith, many, x .few)
 
-  little : length (take k ps₀) ≤ 1024
+  little : length (take k ps₀) ≤ placesLimit
   little = omega (arith, manyPlaces, x .little)
 
   -- as many are lent

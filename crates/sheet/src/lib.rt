@@ -2,6 +2,7 @@
 ghost use Prim.Native.Nat.{_≤_, _<_, min};
 ghost use mathlib.Core.Path.{_≡_};
 ghost use lib.ListN.{length, getD};
+ghost use Rattle.meaning.specs.Limits.{registersLimit, placesLimit};
 ghost use Rattle.meaning.specs.Base.{all};
 ghost use Rattle.meaning.specs.Rules.{fourBytes};
 ghost use lib.Dec.{T};
@@ -11,6 +12,7 @@ ghost use Rattle.sheet_steps.specs.Numbers.{low, runIn};
 ghost use Rattle.sheet.specs.Starting.{Lacking};
 ghost use Rattle.sheet_answers.specs.Answers.{sheetIs};
 ghost use Rattle.sheet.specs.Segments.{Opens, Cells, Ends, Ended, SegmentDone, Under};
+use limits::AREA;
 use limits::PLACES;
 use limits::REGISTERS;
 use limits::TOKENS_BEFORE;
@@ -80,8 +82,8 @@ fn lacking(count: usize, n: usize, k: usize) -> u32
 
 // A segment from its opening to its end, with so many registers and places: the start symbol's node.
 fn segment(
-    registers: &mut [i64; 4096],
-    places: &mut [u32; 1024],
+    registers: &mut [i64; REGISTERS],
+    places: &mut [u32; PLACES],
     program: &[u32],
     kinds: &[u8],
     values: &[i32],
@@ -130,10 +132,10 @@ fn walk(
     sheet: &mut [u8],
 ) -> Answer
     requires { ⌜ Readable (now program) × (length (now kinds) ≡ length (now values)) × T (all fourBytes (now values)) ⌝ }
-    ensures { λ r. ⌜ SegmentDone (now (program .entry)) (now (kinds .entry)) (now (values .entry)) (min registers 4096) (min places 1024) (now (sheet .entry)) (now (sheet .exit)) r ⌝ }
+    ensures { λ r. ⌜ SegmentDone (now (program .entry)) (now (kinds .entry)) (now (values .entry)) (min registers registersLimit) (min places placesLimit) (now (sheet .entry)) (now (sheet .exit)) r ⌝ }
 {
-    let mut cells = [0i64; 4096];
-    let mut waiting = [0u32; 1024];
+    let mut cells = [0i64; REGISTERS];
+    let mut waiting = [0u32; PLACES];
     let n = run_cells::smaller(registers, REGISTERS);
     let k = run_cells::smaller(places, PLACES);
     segment(
@@ -209,7 +211,7 @@ pub fn sheet(
 ) -> Answer
     ensures { λ r. ⌜ Sheets (now (table .entry)) registers places (now (kinds .entry)) (now (values .entry)) (now (sheet .entry)) (sheetIs r (now (sheet .exit))) ⌝ }
 {
-    let mut program = [0u32; 16384];
+    let mut program = [0u32; AREA];
     match prepare::program_of(table, &mut program) {
         Made::Short => Answer::Refused {
             number: 30,

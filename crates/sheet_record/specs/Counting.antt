@@ -6,7 +6,7 @@ use mathlib.Core.Logic.{_⊎_, inl, inr}
 use mathlib.Core.List.{List, [], _∷_, map}
 use lib.ListN.{length, getD, drop, length-map}
 use lib.IntN.{ℤ}
-use Rattle.meaning.specs.Grammar.{Grammar, Leaf, Symbol, terminal, nonterminal, inh, syn, att, markedFor, productionAt, symbolAt, whole, placeProduction, placePassed}
+use Rattle.meaning.specs.Grammar.{Grammar, Leaf, Symbol, terminal, nonterminal, inh, syn, att, markedFor, productionAt, symbolAt, whole, placeProduction, placePassed, segmentPlace}
 use Rattle.meaning.specs.Machine.{Config, Lent, placeOf}
 use Rattle.meaning.specs.Part.{Open, Ancestor, Stands}
 use Rattle.theory_base.specs.Values.{drop-head}
@@ -65,20 +65,20 @@ module _ {g : Grammar} {ws : List ℕ} {lent : Lent} {tokens : List Leaf} {m : L
       ∙ (ap (λ fs. getD (map (placeOf g) fs) 1 0) (sym (s .frames))
       ∙ place-waits g (b .node .production) (length (b .node .children)) (b .symbol) (b .ahead) waits-at)
 
-  parent-is : ((b .node .production ≡ whole) × (place ≡ 32768)) ⊎ ((b .node .production < length (g .productions)) × (place < 32768))
+  parent-is : ((b .node .production ≡ whole) × (place ≡ segmentPlace)) ⊎ ((b .node .production < length (g .productions)) × (place < segmentPlace))
   parent-is = go bs (s .good .stands .3)
     where
-      go : (bs : List Ancestor) → Stands g (b .node .production) (b .node .inherited) bs → ((b .node .production ≡ whole) × (place ≡ 32768)) ⊎ ((b .node .production < length (g .productions)) × (place < 32768))
+      go : (bs : List Ancestor) → Stands g (b .node .production) (b .node .inherited) bs → ((b .node .production ≡ whole) × (place ≡ segmentPlace)) ⊎ ((b .node .production < length (g .productions)) × (place < segmentPlace))
       go [] t =
           let one : length (productionAt g (b .node .production) .right) ≡ 1 = ap (λ p. length (productionAt g p .right)) (t .0) in
           inl (t .0, omega (arith, place-is, few-passed, one, t .0))
       go (a ∷ as′) t = inr (t .0, omega (arith, place-is, few-passed, t .0, h .wellFormed .productions .1, well-formed-at g (h .wellFormed) (b .node .production) (t .0) .short))
 
   -- on the whole segment
-  pub segment-counts : place ≡ 32768 → (0 ≡ inh g (leftOf g o)) × (getD ws 4 0 ≡ att g (leftOf g o))
+  pub segment-counts : place ≡ segmentPlace → (0 ≡ inh g (leftOf g o)) × (getD ws 4 0 ≡ att g (leftOf g o))
   segment-counts e = go parent-is
     where
-      go : ((b .node .production ≡ whole) × (place ≡ 32768)) ⊎ ((b .node .production < length (g .productions)) × (place < 32768)) → (0 ≡ inh g (leftOf g o)) × (getD ws 4 0 ≡ att g (leftOf g o))
+      go : ((b .node .production ≡ whole) × (place ≡ segmentPlace)) ⊎ ((b .node .production < length (g .productions)) × (place < segmentPlace)) → (0 ≡ inh g (leftOf g o)) × (getD ws 4 0 ≡ att g (leftOf g o))
       go (inr p) = absurd (omega (arith, e, p .1))
       go (inl p) =
           let none : length (b .node .children) ≡ 0 = omega (arith, few-passed, ap (λ q. length (productionAt g q .right)) (p .0)) in
@@ -87,14 +87,14 @@ module _ {g : Grammar} {ws : List ℕ} {lent : Lent} {tokens : List Leaf} {m : L
           (sym z, segment-words (h .begins) .registers ∙ (ap (syn g) x ∙ omega (arith, z)))
 
   -- on another node
-  module _ (e : place ≡ 32768 → ⊥) where
+  module _ (e : place ≡ segmentPlace → ⊥) where
     abbrev address : ℕ
     address = getD ws 2 0 + 8 * getD ws 6 0 + 12 * placeProduction place + placePassed place
 
     listed : b .node .production < length (g .productions)
     listed = go parent-is
       where
-        go : ((b .node .production ≡ whole) × (place ≡ 32768)) ⊎ ((b .node .production < length (g .productions)) × (place < 32768)) → b .node .production < length (g .productions)
+        go : ((b .node .production ≡ whole) × (place ≡ segmentPlace)) ⊎ ((b .node .production < length (g .productions)) × (place < segmentPlace)) → b .node .production < length (g .productions)
         go (inl p) = absurd (e (p .1))
         go (inr p) = p .0
 

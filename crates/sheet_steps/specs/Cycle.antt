@@ -8,6 +8,7 @@ use mathlib.Core.List.{List, [], _∷_, _++_, append-nil}
 use lib.ListN.{length, getD, drop, length-append, length-map, length-take, length-drop}
 use lib.Dec.{T, eqb}
 use lib.IntN.{ℤ}
+use Rattle.meaning.specs.Limits.{registersLimit}
 use Rattle.meaning.specs.Base.{all}
 use Rattle.meaning.specs.Grammar.{Grammar, Leaf, Symbol, nonterminal, inh, att, productionAt}
 use Rattle.meaning.specs.Rules.{fourBytes}
@@ -85,14 +86,14 @@ pub record ListAt (ws ks : List ℕ) (vs m : List ℤ) (ps : List ℕ) (run : Ru
   pub walking : Walking ws ks vs m ps run
   pub symbols : length (productionAt (walking .grammar) (walking .node .production) .right) ≤ length (walking .node .children) + symbolsLeft
   pub room : k ≤ 76 * run .moves
-  pub few : length m ≤ 4096
+  pub few : length m ≤ registersLimit
 
 -- which waits at a nonterminal
 pub record NodeAt (ws ks : List ℕ) (vs m : List ℤ) (ps : List ℕ) (run : Run) (k : ℕ) : Type 0 where
   pub walking : Walking ws ks vs m ps run
   pub three : headOperation (getD ws (run .at) 0) ≡ 3
   pub room : k ≤ 76 * run .moves
-  pub few : length m ≤ 4096
+  pub few : length m ≤ registersLimit
 
 -- ---- a list: a child, then the rest
 

@@ -7,6 +7,7 @@ use mathlib.Core.List.{List, _++_}
 use lib.ListN.{length, getD, set, take, drop}
 use lib.Seq.{getD-set-same}
 use lib.IntN.{ℤ}
+use Rattle.meaning.specs.Limits.{registersLimit}
 use Rattle.theory_program.specs.Parts.{headOperation}
 use Rattle.theory_program.specs.Proper.{att-most}
 use Rattle.run_moves.specs.Held.{bounds}
@@ -52,7 +53,7 @@ pub record LeaveAt (ws : List ℕ) (m : List ℤ) (ps s : List ℕ) (at before :
   pub five : handIn ws s ≡ 5
   pub room : at < 800000000000
   pub earlier : before ≤ getD s 0 0
-  pub few : length (low 6 s m) ≤ 4096
+  pub few : length (low 6 s m) ≤ registersLimit
   pub fits : Fits m ps s
 
 pub record LeftBy (ws : List ℕ) (m₀ : List ℤ) (ps₀ s₀ : List ℕ) (at before : ℕ) (sheet₀ : List ℕ) (m : List ℤ) (ps sheet : List ℕ) (r : Bool) (s : List ℕ) : Type 0 where

@@ -2,12 +2,14 @@
 // The run's numbers are in lent cells, and the moves in functions that both evaluators call: so the frames of the two that call each other are small (docs/SHEETS.md).
 // The depth left, which is how many of the lent places do not wait yet, and the symbols left of a right side fall together.
 ghost use Rattle.sheet_steps.specs.Walks.{NodeIn, NodeOut, ListIn, ListOut};
+use limits::PLACES;
+use limits::REGISTERS;
 use limits::SYMBOLS;
 
 // A node: it is predicted, goes through its children, and is left. Answers whether no move was refused.
 pub fn node(
-    registers: &mut [i64; 4096],
-    places: &mut [u32; 1024],
+    registers: &mut [i64; REGISTERS],
+    places: &mut [u32; PLACES],
     program: &[u32],
     kinds: &[u8],
     values: &[i32],
@@ -41,8 +43,8 @@ pub fn node(
 
 // The children that are left, at least one: the first, a node or a token, then the rest.
 fn children(
-    registers: &mut [i64; 4096],
-    places: &mut [u32; 1024],
+    registers: &mut [i64; REGISTERS],
+    places: &mut [u32; PLACES],
     program: &[u32],
     kinds: &[u8],
     values: &[i32],

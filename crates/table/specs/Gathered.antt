@@ -8,6 +8,7 @@ use native.Mathlib.Omega.{arith}
 use lib.Dec.{eqb, ltb, leb}
 use lib.ListN.{length, drop, take}
 use borrow.Author.Tests.{eqb-true}
+use Rattle.meaning.specs.Limits.{tableLimit}
 use Rattle.meaning.specs.Base.{all, any, countFrom}
 use Rattle.meaning.specs.Grammar.{Occurrence, Rule, Counts}
 use Rattle.meaning.specs.Table.{byte, Header, headerOf, Field, Entry, State, nothingRead, current, isSome, atHeader, atCounts, atFirst, atAny, stage, tagStands, Kind, header, counts, production, rule, condition, carrier, kindOf}
@@ -92,7 +93,7 @@ readAllBy (suc n) s note o (t ∷ bs) =
     ]
 
 abbrev pub readGathered : List ℕ → Read
-readGathered bs = elim (leb (length bs) 32768) [ false ↦ malformed 1 0 | true ↦ readAllBy (suc (length bs)) nothingRead [] 0 bs ]
+readGathered bs = elim (leb (length bs) tableLimit) [ false ↦ malformed 1 0 | true ↦ readAllBy (suc (length bs)) nothingRead [] 0 bs ]
 
 -- ---- it reads as `readTable` does
 
@@ -226,7 +227,7 @@ read-same (suc n) s o (t ∷ bs) =
 
 -- 02: "Every table keeps its number and offset."
 pub gathered : (bs : List ℕ) → readGathered bs ≡ readTable bs
-gathered bs = ap (λ x. elim (leb (length bs) 32768) [ false ↦ malformed 1 0 | true ↦ x ]) (read-same (suc (length bs)) nothingRead 0 bs)
+gathered bs = ap (λ x. elim (leb (length bs) tableLimit) [ false ↦ malformed 1 0 | true ↦ x ]) (read-same (suc (length bs)) nothingRead 0 bs)
 
 -- ---- and so does the code
 

@@ -31,7 +31,7 @@ pub fn carrier_number(table: &[u8], at: usize, terminals: usize, least: usize) -
     ensures { λ r. ⌜ CarrierJudged (now (table .entry)) at terminals least r ⌝ }
 {
     let size = table_fields::size_at(table, at);
-    if 65535 < size {
+    if table_fields::LARGEST < size {
         return 2;
     }
     let from = at + 3;

@@ -4,6 +4,7 @@ ghost use Prim.Native.Nat.{_≤_};
 ghost use lib.ListN.{length};
 ghost use Rattle.meaning.specs.Table.{byte};
 ghost use Rattle.table_counts.specs.Counted.{CountsJudged, CountsRead, HeaderJudged};
+use limits::NONTERMINALS;
 
 // A refusal by its number and offset; 0 for none.
 pub struct Refusal {
@@ -19,7 +20,7 @@ pub fn header_number(table: &[u8]) -> u8
         return 3;
     }
     let size = table_fields::size_at(table, 0);
-    if 65535 < size {
+    if table_fields::LARGEST < size {
         return 2;
     }
     if table_fields::wide(table[0]) != 1 {
@@ -38,7 +39,7 @@ pub fn counts_number(table: &[u8], at: usize, n: usize, start: usize, result: us
         return 3;
     }
     let size = table_fields::size_at(table, at);
-    if 65535 < size {
+    if table_fields::LARGEST < size {
         return 2;
     }
     if table_fields::wide(table[at]) != 2 {
@@ -55,8 +56,8 @@ pub fn read_counts(
     nonterminals: usize,
     start: usize,
     result: usize,
-    inherited: &mut [u8; 48],
-    synthesized: &mut [u8; 48],
+    inherited: &mut [u8; NONTERMINALS],
+    synthesized: &mut [u8; NONTERMINALS],
 ) -> Refusal
     requires { ⌜ (nonterminals ≡ byte (now table) 4) × (start ≡ byte (now table) 5) × (result ≡ byte (now table) 6) × (nonterminals ≤ 48) × (7 ≤ length (now table)) × (length (now inherited) ≡ 48) × (length (now synthesized) ≡ 48) ⌝ }
     ensures read { λ r. ⌜ CountsRead (now (table .entry)) nonterminals (now (inherited .exit)) (now (synthesized .exit)) r ⌝ }

@@ -1,6 +1,9 @@
 // The faults of tags 1, 2 and 6: header, counts, and terminals that carry a value.
 ghost use mathlib.Core.Path.{_≡_};
 ghost use Rattle.table_fields.specs.Judge.{headerFault, countsFault, carrierFault};
+use limits::ATTRIBUTES;
+use limits::NONTERMINALS;
+use limits::TERMINALS;
 
 // The lowest number that applies to the body of a tag 1 field, or 0.
 pub fn header_fault(body: &[u8]) -> u8
@@ -13,14 +16,14 @@ pub fn header_fault(body: &[u8]) -> u8
     if terminals < 1 {
         return 4;
     }
-    if 63 < terminals {
+    if TERMINALS < terminals {
         return 4;
     }
     let nonterminals = table_fields::wide(body[1]);
     if nonterminals < 1 {
         return 4;
     }
-    if 48 < nonterminals {
+    if NONTERMINALS < nonterminals {
         return 4;
     }
     let start = table_fields::wide(body[2]);
@@ -39,7 +42,7 @@ pub fn counts_fault(n: usize, start: usize, result: usize, body: &[u8]) -> u8
     }
     let inherited = table_fields::wide(body[0]);
     let synthesized = table_fields::wide(body[1]);
-    if 8 < inherited + synthesized {
+    if ATTRIBUTES < inherited + synthesized {
         return 4;
     }
     if n != start {

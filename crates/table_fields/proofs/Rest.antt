@@ -8,6 +8,7 @@ use lib.Dec.{eqb, leb}
 use lib.ListN.{length, getD, take, drop, length-drop, drop-of-length-le}
 use lib.Seq.{drop-cons, getD-drop, getD-take, drop-drop, length-take-le}
 use borrow.Author.Tests.{le-leb, lt-leb, leb-true, eqb-true, eq-eqb, ne-eqb}
+use Rattle.meaning.specs.Limits.{tableLimit}
 use Rattle.meaning.specs.Table.{byte, State, Field, Read, malformed, readAll, readTable, atEnd, lastComplete, current, judgeField, readField, kindOf, nothingRead}
 use Rattle.theory_table.specs.Reading.{read-enough}
 use Rattle.table_fields.specs.Field.{lengthAt, bodyAt, Whole, Short, rest, judged}
@@ -29,12 +30,12 @@ module _ (s : State) (o x : ℕ) (bs : List ℕ) where
   abbrev nextState : State
   nextState = readField s o (kindOf x) (take (sizeIn bs) (drop 2 bs))
 
-pub rest-table : (t : List ℕ) → length t ≤ 32768 → readTable t ≡ rest t nothingRead 0
+pub rest-table : (t : List ℕ) → length t ≤ tableLimit → readTable t ≡ rest t nothingRead 0
 unfolding rest
-rest-table t h = rw (le-leb (length t) 32768 h, readTable) (ap (λ (n : ℕ). readAll (suc n) nothingRead 0 t) {x = length t} {y = length t - 0} (omega arith))
+rest-table t h = rw (le-leb (length t) tableLimit h, readTable) (ap (λ (n : ℕ). readAll (suc n) nothingRead 0 t) {x = length t} {y = length t - 0} (omega arith))
 
-pub table-long : (t : List ℕ) → 32768 < length t → readTable t ≡ malformed 1 0
-table-long t h = rw (lt-leb (length t) 32768 h, readTable) refl
+pub table-long : (t : List ℕ) → tableLimit < length t → readTable t ≡ malformed 1 0
+table-long t h = rw (lt-leb (length t) tableLimit h, readTable) refl
 
 pub rest-end : (t : List ℕ) (s : State) (at : ℕ) → length t ≤ at → rest t s at ≡ atEnd s at
 unfolding rest

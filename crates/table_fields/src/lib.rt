@@ -4,12 +4,19 @@ ghost use Prim.Native.Nat.{_+_, _<_, _≤_};
 ghost use lib.ListN.{length};
 ghost use Rattle.table_fields.specs.Field.{Whole, Short};
 ghost use Rattle.table_fields.specs.Judge.{symbolsKnown, productionFault};
+use limits::PRODUCTIONS;
+use limits::SYMBOLS;
 
 pub fn wide(x: u8) -> usize
     ensures { λ r. ⌜ (r ≡ x) × (r < 256) ⌝ }
 {
     x as usize
 }
+
+// The largest size that the two bytes of a field can say; CUT_SHORT stands for that of a field cut short.
+pub const LARGEST: usize = 65535;
+
+const CUT_SHORT: usize = LARGEST + 1;
 
 // The size of the body of the field at an offset; 65,536 where the field is cut short.
 pub fn size_at(table: &[u8], at: usize) -> usize
@@ -19,11 +26,11 @@ pub fn size_at(table: &[u8], at: usize) -> usize
 {
     let left = table.len() - at;
     if left < 3 {
-        return 65536;
+        return CUT_SHORT;
     }
     let size = wide(table[at + 1]) * 256 + wide(table[at + 2]);
     if left - 3 < size {
-        return 65536;
+        return CUT_SHORT;
     }
     size
 }
@@ -58,13 +65,13 @@ pub fn production_fault(terminals: usize, nonterminals: usize, p: usize, body: &
         return 4;
     }
     let right = wide(body[1]);
-    if 12 < right {
+    if SYMBOLS < right {
         return 4;
     }
     if body.len() != 2 + right {
         return 4;
     }
-    if 128 <= p {
+    if PRODUCTIONS <= p {
         return 4;
     }
     let left = wide(body[0]);

@@ -6,6 +6,7 @@ ghost use lib.ListN.{length};
 ghost use Rattle.meaning.specs.Table.{byte};
 ghost use Rattle.table_rules.specs.Rule.{Small};
 ghost use Rattle.table_items.specs.Progress.{Sized, Over, settingOf, ItemTaken, ItemsReadFrom, ItemRead, refusedAfter, Next, endOf};
+use limits::POSITIONS;
 use table_rule_conditions::condition_fault;
 use table_rule_fields::take_rule;
 
@@ -35,14 +36,14 @@ pub fn take_item(
     done: Items,
     size: usize,
     width: usize,
-    inh: &[u8; 13],
-    syn: &[u8; 13],
-    note: &mut [u8; 13],
+    inh: &[u8; POSITIONS],
+    syn: &[u8; POSITIONS],
+    note: &mut [u8; POSITIONS],
 ) -> u8
     requires { ⌜ (done .at < length (now table)) × (byte (now table) (done .at) ≡ 3 → ⊥) × Sized (now table) (done .at) size × Small width (now inh) (now syn) ⌝ }
     ensures { λ q. ⌜ ItemTaken (now (table .entry)) (done .at) size (done .rules) (done .conditions) width (now (inh .entry)) (now (syn .entry)) (now (note .entry)) (now (note .exit)) q ⌝ }
 {
-    if 65535 < size {
+    if table_fields::LARGEST < size {
         return 2;
     }
     let at = done.at;
@@ -75,9 +76,9 @@ fn read_item(
     table: &[u8],
     done: Items,
     width: usize,
-    inh: &[u8; 13],
-    syn: &[u8; 13],
-    note: &mut [u8; 13],
+    inh: &[u8; POSITIONS],
+    syn: &[u8; POSITIONS],
+    note: &mut [u8; POSITIONS],
 ) -> Items
     requires { ⌜ (done .at < length (now table)) × (byte (now table) (done .at) ≡ 3 → ⊥) × Small width (now inh) (now syn) × (done .rules ≤ done .at) × (done .conditions ≤ done .at) ⌝ }
     ensures { λ u. ⌜ ItemRead (now (table .entry)) done width (now (inh .entry)) (now (syn .entry)) (now (note .entry)) (now (note .exit)) u ⌝ }
@@ -134,9 +135,9 @@ pub fn read_items(
     before: Items,
     offset: usize,
     width: usize,
-    inh: &[u8; 13],
-    syn: &[u8; 13],
-    note: &mut [u8; 13],
+    inh: &[u8; POSITIONS],
+    syn: &[u8; POSITIONS],
+    note: &mut [u8; POSITIONS],
 ) -> Items
     requires { ⌜ Small width (now inh) (now syn) × (before .at ≤ length (now table)) × (offset ≤ length (now table)) × (before .rules ≤ before .at) × (before .conditions ≤ before .at) ⌝ }
     ensures read { λ u. ⌜ ItemsReadFrom (settingOf (now (table .entry)) offset width (now (inh .entry)) (now (syn .entry))) (now (note .entry)) (before .at) (before .rules) (before .conditions) u ⌝ }

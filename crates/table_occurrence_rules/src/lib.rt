@@ -7,6 +7,7 @@ ghost use lib.ListN.{length};
 ghost use Rattle.meaning.specs.Table.{byte};
 ghost use Rattle.table_rules.specs.Rule.{bit, classIn, operandCount, OperandsFit};
 ghost use Rattle.table_occurrences.specs.OccurrenceBits.{Inputs, RuleSettled};
+use limits::POSITIONS;
 
 pub fn bit_of(word: u16, attribute: usize) -> bool
     requires { ⌜ attribute < 16 ⌝ }
@@ -16,7 +17,7 @@ pub fn bit_of(word: u16, attribute: usize) -> bool
 }
 
 // True only of an input, in two bytes of a body, at a position below a limit.
-pub fn is_input(inputs: &[u16; 13], limit: usize, body: &[u8], at: usize) -> bool
+pub fn is_input(inputs: &[u16; POSITIONS], limit: usize, body: &[u8], at: usize) -> bool
     requires { ⌜ (limit ≤ 13) × (at + 2 ≤ length (now body)) ⌝ }
     ensures { λ r. ⌜ ((width : ℕ) (inh syn : List ℕ) → Inputs width inh syn (now (inputs .entry)) → r ≡ true → (1 ≡ classIn width inh syn (now (body .entry)) at) × (byte (now (body .entry)) at < limit)) ⌝ }
 {
@@ -32,7 +33,7 @@ pub fn is_input(inputs: &[u16; 13], limit: usize, body: &[u8], at: usize) -> boo
 }
 
 // True only where all operands of a rule by function f are inputs at positions below a limit.
-fn are_inputs(inputs: &[u16; 13], limit: usize, body: &[u8], f: usize) -> bool
+fn are_inputs(inputs: &[u16; POSITIONS], limit: usize, body: &[u8], f: usize) -> bool
     requires { ⌜ (1 ≤ limit) × (limit ≤ 13) × (f ≤ 8) × (3 + 2 * operandCount f ≤ length (now body)) ⌝ }
     ensures { λ r. ⌜ ((width : ℕ) (inh syn : List ℕ) → Inputs width inh syn (now (inputs .entry)) → r ≡ true → OperandsFit limit width inh syn (now (body .entry)) (operandCount f)) ⌝ }
 {
@@ -63,7 +64,12 @@ fn limit_of(position: usize) -> usize
 }
 
 // True only of a rule by function f that none of 5 to 9 applies to; then its target is settled. Else the words stay as they were.
-pub fn settle(inputs: &[u16; 13], settled: &mut [u16; 13], body: &[u8], f: usize) -> bool
+pub fn settle(
+    inputs: &[u16; POSITIONS],
+    settled: &mut [u16; POSITIONS],
+    body: &[u8],
+    f: usize,
+) -> bool
     requires { ⌜ (f ≤ 8) × (3 + 2 * operandCount f ≤ length (now body)) ⌝ }
     ensures settled { λ r. ⌜ (r ≡ true → RuleSettled (now (inputs .entry)) (now (settled .entry)) (now (settled .exit)) (now (body .entry)) f) ⌝ }
     ensures same { λ r. ⌜ (r ≡ false → now (settled .exit) ≡ now (settled .entry)) ⌝ }

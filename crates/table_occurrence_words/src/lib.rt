@@ -6,6 +6,8 @@ ghost use lib.ListN.{length, replicate};
 ghost use Rattle.table_rows.specs.RowWritten.{symbolByte};
 ghost use Rattle.outline.specs.Counts.{countAt, synthesizedAt};
 ghost use Rattle.table_occurrences.specs.OccurrenceBits.{inputWord, otherWord, Filled};
+use limits::NONTERMINALS;
+use limits::POSITIONS;
 use token_set::TokenSet;
 
 // The inputs of a token, which has no outputs: its value, where it carries one.
@@ -23,10 +25,10 @@ fn token_word(carrying: TokenSet, symbol: usize) -> u16
 pub fn place_words(
     body: &[u8],
     carrying: TokenSet,
-    inherited: &[u8; 48],
-    synthesized: &[u8; 48],
-    inputs: &mut [u16; 13],
-    settled: &mut [u16; 13],
+    inherited: &[u8; NONTERMINALS],
+    synthesized: &[u8; NONTERMINALS],
+    inputs: &mut [u16; POSITIONS],
+    settled: &mut [u16; POSITIONS],
 )
     requires { ⌜ (2 ≤ length (now body)) × (length (now body) ≤ 14) × (length (now inherited) ≡ 48) × (length (now synthesized) ≡ 48) × (now inputs ≡ replicate 13 0)
         × (now settled ≡ replicate 13 65535) × ((k : ℕ) → k + 1 < length (now body) → countAt (now inherited) (symbolByte (now body) k) + synthesizedAt (carrying .0) (now synthesized) (symbolByte (now body) k) ≤ 8) ⌝ }

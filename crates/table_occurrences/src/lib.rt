@@ -5,6 +5,7 @@ ghost use Prim.Native.Nat.{_+_, _/_, _<_, _≤_};
 ghost use lib.Bits.{bitAnd};
 ghost use Rattle.table_rules.specs.Rule.{Small};
 ghost use Rattle.table_occurrences.specs.OccurrenceBits.{rangeWord, outputWord, NoteOf};
+use limits::POSITIONS;
 
 // The attributes above one number up to another.
 pub fn range_word(low: usize, high: usize) -> u16
@@ -34,7 +35,12 @@ fn note_byte(word: u16, outputs: u16) -> u8
 }
 
 // The note of the rules whose targets are settled, by the counts at the positions of their production.
-pub fn note_of(width: usize, inh: &[u8; 13], syn: &[u8; 13], settled: &[u16; 13]) -> [u8; 13]
+pub fn note_of(
+    width: usize,
+    inh: &[u8; POSITIONS],
+    syn: &[u8; POSITIONS],
+    settled: &[u16; POSITIONS],
+) -> [u8; POSITIONS]
     requires { ⌜ Small width (now inh) (now syn) ⌝ }
     ensures { λ r. ⌜ NoteOf width (now (inh .entry)) (now (syn .entry)) (now (settled .entry)) r ⌝ }
 {

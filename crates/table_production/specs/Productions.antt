@@ -4,6 +4,7 @@ use mathlib.Core.Path.{_≡_}
 use mathlib.Core.Bool.{true}
 use mathlib.Core.List.{List, [], _∷_, map, reverse}
 use lib.ListN.{length, drop}
+use Rattle.meaning.specs.Limits.{tableLimit}
 use Rattle.meaning.specs.Grammar.{Counts, Symbol, Rule, Condition, Occurrence, countsIn}
 use Rattle.meaning.specs.Table.{byte, Header, Entry, lastComplete, symbolOf}
 use Rattle.table_fields.specs.Field.{rest, judged, bodyAt}
@@ -94,7 +95,7 @@ pub record HeaderRead (t : List ℕ) (sizes : Sizes) (inherited synthesized : Li
   pub few : sizes .nonterminals ≤ 48
   pub tokens : sizes .terminals ≤ 63
   pub long : 7 + 5 * sizes .nonterminals ≤ length t
-  pub short : length t ≤ 32768
+  pub short : length t ≤ tableLimit
   pub small : SmallCounts inherited synthesized (sizes .nonterminals)
   pub first : length inherited ≡ 48
   pub second : length synthesized ≡ 48

@@ -2,12 +2,17 @@
 ghost use mathlib.Core.Path.{_≡_};
 ghost use Prim.Native.Nat.{ℕ, _+_, _<_, _≤_};
 ghost use lib.ListN.{length};
+ghost use Rattle.meaning.specs.Limits.{tableLimit};
 ghost use Rattle.meaning.specs.Table.{byte};
 ghost use Rattle.table_counts.specs.Counted.{SmallCounts};
 ghost use Rattle.table_items.specs.Progress.{Next};
 ghost use Rattle.table_sound_items.specs.Sound.{BodyTaken};
 ghost use Rattle.table_production.specs.Productions.{widthIn, ProductionJudged, SmallBody, BodyRead, ProductionRead};
 ghost use Rattle.table_production.specs.Rights.{RightsTo};
+use limits::NONTERMINALS;
+use limits::POSITIONS;
+use limits::PRODUCTIONS;
+use limits::ROWS;
 use outline::Sizes;
 use table_items::Items;
 use table_items::read_items;
@@ -22,7 +27,7 @@ fn production_number(table: &[u8], at: usize, p: usize, terminals: usize, nonter
     ensures { λ r. ⌜ ProductionJudged (now (table .entry)) at p terminals nonterminals r ⌝ }
 {
     let size = table_fields::size_at(table, at);
-    if 65535 < size {
+    if table_fields::LARGEST < size {
         return 2;
     }
     if table_fields::wide(table[at]) != 3 {
@@ -39,9 +44,9 @@ fn judge_body(
     table: &[u8],
     at: usize,
     carrying: TokenSet,
-    inherited: &[u8; 48],
-    synthesized: &[u8; 48],
-    settled: &[u16; 13],
+    inherited: &[u8; NONTERMINALS],
+    synthesized: &[u8; NONTERMINALS],
+    settled: &[u16; POSITIONS],
     sound: Items,
 ) -> Items
     requires { ⌜ (at + 5 + widthIn (now table) at ≤ sound .at) × SmallBody (now table) at (carrying .0) (now inherited) (now synthesized)
@@ -55,8 +60,8 @@ fn judge_body(
     let from = at + 3;
     let end = at + 5 + width;
     let body = &table[from..end];
-    let mut inh = [0u8; 13];
-    let mut syn = [0u8; 13];
+    let mut inh = [0u8; POSITIONS];
+    let mut syn = [0u8; POSITIONS];
     place_counts(body, carrying, inherited, synthesized, &mut inh, &mut syn);
     let mut note = table_occurrences::note_of(width, &inh, &syn, settled);
     read_items(table, sound, at, width, &inh, &syn, &mut note)
@@ -68,8 +73,8 @@ fn read_body(
     table: &[u8],
     before: Items,
     carrying: TokenSet,
-    inherited: &[u8; 48],
-    synthesized: &[u8; 48],
+    inherited: &[u8; NONTERMINALS],
+    synthesized: &[u8; NONTERMINALS],
 ) -> Items
     requires { ⌜ (before .at + 5 + widthIn (now table) (before .at) ≤ length (now table)) × SmallBody (now table) (before .at) (carrying .0) (now inherited) (now synthesized)
         × (length (now inherited) ≡ 48) × (length (now synthesized) ≡ 48) × (before .rules ≤ before .at) × (before .conditions ≤ before .at) ⌝ }
@@ -78,7 +83,7 @@ fn read_body(
     ensures inside { λ u. ⌜ u .at ≤ length (now (table .entry)) ⌝ }
 {
     let at = before.at;
-    let mut settled = [65535u16; 13];
+    let mut settled = [65535u16; POSITIONS];
     let s = table_sound_items::read_sound(
         table,
         at,
@@ -108,13 +113,13 @@ pub fn read_production(
     before: Items,
     p: usize,
     sizes: Sizes,
-    inherited: &[u8; 48],
-    synthesized: &[u8; 48],
-    rows: &mut [u8; 2048],
-    offsets: &mut [u32; 128],
-    words: &mut [u64; 128],
+    inherited: &[u8; NONTERMINALS],
+    synthesized: &[u8; NONTERMINALS],
+    rows: &mut [u8; ROWS],
+    offsets: &mut [u32; PRODUCTIONS],
+    words: &mut [u64; PRODUCTIONS],
 ) -> Items
-    requires { ⌜ (before .at < length (now table)) × (length (now table) ≤ 32768) × (0 < p → byte (now table) (before .at) ≡ 3) × (byte (now table) (before .at) ≡ 6 → ⊥)
+    requires { ⌜ (before .at < length (now table)) × (length (now table) ≤ tableLimit) × (0 < p → byte (now table) (before .at) ≡ 3) × (byte (now table) (before .at) ≡ 6 → ⊥)
         × SmallCounts (now inherited) (now synthesized) (sizes .nonterminals) × (length (now inherited) ≡ 48) × (length (now synthesized) ≡ 48)
         × (length (now rows) ≡ 2048) × (length (now offsets) ≡ 128) × (before .rules ≤ before .at) × (before .conditions ≤ before .at) × (length (now words) ≡ 128)
         × (sizes .nonterminals ≤ 48) ⌝ }

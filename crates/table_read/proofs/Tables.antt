@@ -4,6 +4,7 @@ use mathlib.Core.Path.{_≡_, sym, _∙_, subst}
 use mathlib.Core.List.{List}
 use native.Mathlib.Omega.{arith}
 use lib.ListN.{length}
+use Rattle.meaning.specs.Limits.{tableLimit}
 use Rattle.meaning.specs.Table.{malformed, readTable}
 use Rattle.table_fields.specs.Field.{rest, judged}
 use Rattle.table_fields.proofs.Rest.{rest-table, judged-fine, judged-refused}
@@ -18,7 +19,7 @@ use Rattle.table_production.specs.Productions.{HeaderRead, Begun}
 use Rattle.table.specs.Answer.{Answers, AnswersFrom}
 use Rattle.table_counts.proofs.Counting.{length-counts}
 
-module _ (t : List ℕ) (short : length t ≤ 32768) (number : ℕ) (h : HeaderJudged t number) where
+module _ (t : List ℕ) (short : length t ≤ tableLimit) (number : ℕ) (h : HeaderJudged t number) where
   pub header-answer : (number ≡ 0 → ⊥) → readTable t ≡ malformed number 0
   header-answer n = rest-table t short ∙ h .read ∙ judged-refused number 0 _ n
 

@@ -2,12 +2,17 @@
 ghost use mathlib.Core.Path.{_≡_};
 ghost use Prim.Native.Nat.{_+_, _*_, _≤_};
 ghost use lib.ListN.{length};
+ghost use Rattle.meaning.specs.Limits.{tableLimit};
 ghost use Rattle.meaning.specs.Table.{byte, readTable};
 ghost use Rattle.table_fields.specs.Field.{rest};
 ghost use Rattle.table_counts.specs.Counted.{counted};
 ghost use Rattle.table.specs.declared.Reading.the-variants.{Malformed};
 ghost use Rattle.table.specs.Answer.{Answers, AnswersFrom, Worded};
 ghost use Rattle.table_production.specs.Productions.{HeaderRead, Begun};
+use limits::NONTERMINALS;
+use limits::PRODUCTIONS;
+use limits::ROWS;
+use limits::TABLE;
 use outline::Sizes;
 use table::Reading;
 use table_items::Items;
@@ -16,7 +21,7 @@ use token_set::TokenSet;
 
 // A refusal, with its number and its offset.
 fn refused(number: u8, at: usize) -> Reading
-    requires { ⌜ at ≤ 32768 ⌝ }
+    requires { ⌜ at ≤ tableLimit ⌝ }
     ensures { λ r. ⌜ r ≡ Malformed number at ⌝ }
 {
     let offset = at as u32;
@@ -40,11 +45,11 @@ fn read_productions(
     table: &[u8],
     from: usize,
     sizes: Sizes,
-    inherited: &[u8; 48],
-    synthesized: &[u8; 48],
-    rows: &mut [u8; 2048],
-    offsets: &mut [u32; 128],
-    words: &mut [u64; 128],
+    inherited: &[u8; NONTERMINALS],
+    synthesized: &[u8; NONTERMINALS],
+    rows: &mut [u8; ROWS],
+    offsets: &mut [u32; PRODUCTIONS],
+    words: &mut [u64; PRODUCTIONS],
 ) -> Reading
     requires { ⌜ Begun (now table) from sizes (now inherited) (now synthesized) × (length (now rows) ≡ 2048) × (length (now offsets) ≡ 128) × (length (now words) ≡ 128) ⌝ }
     ensures { λ r. ⌜ AnswersFrom (now (table .entry)) from sizes r (now (inherited .entry)) (now (synthesized .entry)) (now (rows .exit)) (now (offsets .exit)) × Worded r (now (rows .exit)) (now (words .exit)) ⌝ }
@@ -80,11 +85,11 @@ fn read_productions(
 fn read_after_counts(
     table: &[u8],
     sizes: Sizes,
-    inherited: &[u8; 48],
-    synthesized: &[u8; 48],
-    rows: &mut [u8; 2048],
-    offsets: &mut [u32; 128],
-    words: &mut [u64; 128],
+    inherited: &[u8; NONTERMINALS],
+    synthesized: &[u8; NONTERMINALS],
+    rows: &mut [u8; ROWS],
+    offsets: &mut [u32; PRODUCTIONS],
+    words: &mut [u64; PRODUCTIONS],
 ) -> Reading
     requires { ⌜ HeaderRead (now table) sizes (now inherited) (now synthesized) × (length (now rows) ≡ 2048) × (length (now offsets) ≡ 128) × (length (now words) ≡ 128) ⌝ }
     ensures read { λ r. ⌜ Answers r (now (inherited .entry)) (now (synthesized .entry)) (now (rows .exit)) (now (offsets .exit)) (rest (now (table .entry)) (counted (now (table .entry)) (now (inherited .entry)) (now (synthesized .entry)) (sizes .nonterminals)) (7 + 5 * sizes .nonterminals)) ⌝ }
@@ -140,17 +145,17 @@ fn header_sizes(table: &[u8]) -> Sizes
 // After a refusal they are scratch.
 pub fn read_table(
     table: &[u8],
-    inherited: &mut [u8; 48],
-    synthesized: &mut [u8; 48],
-    rows: &mut [u8; 2048],
-    offsets: &mut [u32; 128],
-    words: &mut [u64; 128],
+    inherited: &mut [u8; NONTERMINALS],
+    synthesized: &mut [u8; NONTERMINALS],
+    rows: &mut [u8; ROWS],
+    offsets: &mut [u32; PRODUCTIONS],
+    words: &mut [u64; PRODUCTIONS],
 ) -> Reading
     requires { ⌜ (length (now inherited) ≡ 48) × (length (now synthesized) ≡ 48) × (length (now rows) ≡ 2048) × (length (now offsets) ≡ 128) × (length (now words) ≡ 128) ⌝ }
     ensures read { λ r. ⌜ Answers r (now (inherited .exit)) (now (synthesized .exit)) (now (rows .exit)) (now (offsets .exit)) (readTable (now (table .entry))) ⌝ }
     ensures words { λ r. ⌜ Worded r (now (rows .exit)) (now (words .exit)) ⌝ }
 {
-    if 32768 < table.len() {
+    if TABLE < table.len() {
         return refused(1, 0);
     }
     let number = table_counts::header_number(table);

@@ -23,7 +23,7 @@ pub fn past_field(table: &[u8], at: usize) -> usize
         return table.len();
     }
     let size = table_fields::size_at(table, at);
-    if 65535 < size {
+    if table_fields::LARGEST < size {
         return table.len();
     }
     at + 3 + size

@@ -5,6 +5,9 @@ ghost use lib.ListN.{length};
 ghost use Rattle.outline.specs.Counts.{countAt, synthesizedAt};
 ghost use Rattle.table_rows.specs.RowWritten.{Written, Copied, SymbolsSmall, RightWord};
 use analysis_rights::symbol_bit;
+use limits::NONTERMINALS;
+use limits::POSITIONS;
+use limits::ROWS;
 use nonterminal_set::NonterminalSet;
 use token_set::TokenSet;
 
@@ -12,10 +15,10 @@ use token_set::TokenSet;
 pub fn place_counts(
     body: &[u8],
     carrying: TokenSet,
-    inherited: &[u8; 48],
-    synthesized: &[u8; 48],
-    inh: &mut [u8; 13],
-    syn: &mut [u8; 13],
+    inherited: &[u8; NONTERMINALS],
+    synthesized: &[u8; NONTERMINALS],
+    inh: &mut [u8; POSITIONS],
+    syn: &mut [u8; POSITIONS],
 )
     requires { ⌜ (2 ≤ length (now body)) × (length (now body) ≤ 14) × (length (now inherited) ≡ 48) × (length (now synthesized) ≡ 48) × (length (now inh) ≡ 13) × (length (now syn) ≡ 13) ⌝ }
     ensures inherits { λ r. ⌜ Written (countAt (now (inherited .entry))) (now (body .entry)) (now (inh .exit)) ⌝ }
@@ -34,7 +37,7 @@ pub fn place_counts(
 }
 
 // The row of production p, its body as it stands in the table; and the word of its right side. The same symbol often stands many times in a row.
-pub fn copy_row(rows: &mut [u8; 2048], p: usize, body: &[u8]) -> NonterminalSet
+pub fn copy_row(rows: &mut [u8; ROWS], p: usize, body: &[u8]) -> NonterminalSet
     requires { ⌜ (p < 128) × (2 ≤ length (now body)) × (length (now body) ≤ 14) × (length (now rows) ≡ 2048) × SymbolsSmall (now body) ⌝ }
     ensures copied { λ r. ⌜ Copied (now (rows .entry)) p (now (body .entry)) (now (rows .exit)) (length (now (body .entry))) ⌝ }
     ensures word { λ r. ⌜ RightWord (now (body .entry)) (r .0) ⌝ }

@@ -8,6 +8,7 @@ use lib.Dec.{eqb, leb, ltb}
 use lib.Signed.{leZ}
 use lib.ListN.{length}
 use borrow.Author.Tests.{leb-true, leb-false, le-ltb, lt-ltb, eqb-true, eqb-false}
+use Rattle.meaning.specs.Limits.{conditionsLimit}
 use Rattle.meaning.specs.Base.{all}
 use Rattle.meaning.specs.Grammar.{Symbol, Occurrence, Rule, Condition, range, atmost, Counts}
 use Rattle.meaning.specs.Table.{byte, constantAt, State, Entry, Header, condition, occurrenceAt, offsetOf, occurrenceKnown, isInput, conditionLength, reads, lowestOf, judgeField, tagStands, stage, atAny}
@@ -90,10 +91,10 @@ module _ (h : Header) (cs : List Counts) (os ws : List ℕ) (es : List Entry) (r
 
   -- w is "the kind is above 2", u "it is at most 2", x "it is 0", v "the length is right"
   abbrev whole : Bool → Bool → Bool → Bool → ℕ
-  whole w u x v = lowestOf ((leb 1 (length b) && ltb c 512 && (w || v), 4) ∷ (u && all K (reads (conditionBy x)), 5) ∷ rest x)
+  whole w u x v = lowestOf ((leb 1 (length b) && ltb c conditionsLimit && (w || v), 4) ∷ (u && all K (reads (conditionBy x)), 5) ∷ rest x)
 
   abbrev fault : Bool → Bool → ℕ
-  fault u x = cond (leb 1 (length b)) (cond (ltb c 512) (cond u (cond x (rangeFault width inh syn b) (atMostFault (4 * kind + 1) width inh syn b)) 5) 4) 4
+  fault u x = cond (leb 1 (length b)) (cond (ltb c conditionsLimit) (cond u (cond x (rangeFault width inh syn b) (atMostFault (4 * kind + 1) width inh syn b)) 5) 4) 4
 
   range-judged : lowestOf ((eqb (length b) 11, 4) ∷ (all K (reads (conditionBy true)), 5) ∷ rest true) ≡ rangeFault width inh syn b
   unfolding rangeFault equal differs holds inOrder fourAt
@@ -117,17 +118,17 @@ module _ (h : Header) (cs : List Counts) (os ws : List ℕ) (es : List Entry) (r
   by-kind true true w z =
       let k : kind ≡ 0 = eqb-true kind 0 z in
       whole-same (le-ltb 2 kind (omega arith)) w z (ap (λ (n : ℕ). eqb (length b) (conditionLength n)) k)
-      ∙ near-by (leb 1 (length b)) (ltb c 512) (eqb (length b) 11) ((all K (reads (conditionBy true)), 5) ∷ rest true) (rangeFault width inh syn b) range-judged
+      ∙ near-by (leb 1 (length b)) (ltb c conditionsLimit) (eqb (length b) 11) ((all K (reads (conditionBy true)), 5) ∷ rest true) (rangeFault width inh syn b) range-judged
       ∙ sym (ap₂ fault w z)
   by-kind true false w z =
       let few : kind ≤ 2 = leb-true kind 2 w in
       let k = let n = eqb-false kind 0 z in compared-length kind (omega arith) few in
       whole-same (le-ltb 2 kind (omega arith)) w z (ap (λ (n : ℕ). eqb (length b) n) k)
-      ∙ near-by (leb 1 (length b)) (ltb c 512) (eqb (length b) (4 * kind + 1)) ((all K (reads (conditionBy false)), 5) ∷ rest false) (atMostFault (4 * kind + 1) width inh syn b) (at-most-judged (4 * kind + 1))
+      ∙ near-by (leb 1 (length b)) (ltb c conditionsLimit) (eqb (length b) (4 * kind + 1)) ((all K (reads (conditionBy false)), 5) ∷ rest false) (atMostFault (4 * kind + 1) width inh syn b) (at-most-judged (4 * kind + 1))
       ∙ sym (ap₂ fault w z)
   by-kind false x w z =
       ap₂ (λ p u. whole p u (eqb kind 0) (eqb (length b) (conditionLength kind))) (lt-ltb 2 kind (leb-false kind 2 w)) w
-      ∙ far-by (leb 1 (length b)) (ltb c 512) (eqb (length b) (conditionLength kind)) (all K (reads (conditionBy (eqb kind 0)))) (rest (eqb kind 0))
+      ∙ far-by (leb 1 (length b)) (ltb c conditionsLimit) (eqb (length b) (conditionLength kind)) (all K (reads (conditionBy (eqb kind 0)))) (rest (eqb kind 0))
       ∙ sym (ap (λ u. fault u (eqb kind 0)) w)
 
   pub condition-judged : (at : ℕ) → stage s ≡ atAny → judgeField s (fieldOf at 5 b) ≡ conditionFault c width inh syn b

@@ -2,6 +2,8 @@
 ghost use mathlib.Core.Path.{_≡_};
 ghost use Prim.Native.Nat.{_<_, _≤_};
 ghost use Rattle.table_rules.specs.Rule.{inOrder, rangeFault, atMostFault, conditionFault};
+use limits::CONDITIONS;
+use limits::POSITIONS;
 
 // Whether the first of two numbers in two's complement is at most the second.
 pub fn in_order(x: usize, y: usize) -> bool
@@ -11,7 +13,7 @@ pub fn in_order(x: usize, y: usize) -> bool
     (x + 2147483648) % 4294967296 <= (y + 2147483648) % 4294967296
 }
 
-pub fn range_fault(width: usize, inh: &[u8; 13], syn: &[u8; 13], body: &[u8]) -> u8
+pub fn range_fault(width: usize, inh: &[u8; POSITIONS], syn: &[u8; POSITIONS], body: &[u8]) -> u8
     requires { ⌜ width ≤ 12 ⌝ }
     ensures { λ r. ⌜ r ≡ rangeFault width (now (inh .entry)) (now (syn .entry)) (now (body .entry)) ⌝ }
 {
@@ -34,7 +36,13 @@ pub fn range_fault(width: usize, inh: &[u8; 13], syn: &[u8; 13], body: &[u8]) ->
 }
 
 // A comparison, whose body has the length `size`.
-pub fn at_most_fault(size: usize, width: usize, inh: &[u8; 13], syn: &[u8; 13], body: &[u8]) -> u8
+pub fn at_most_fault(
+    size: usize,
+    width: usize,
+    inh: &[u8; POSITIONS],
+    syn: &[u8; POSITIONS],
+    body: &[u8],
+) -> u8
     requires { ⌜ (5 ≤ size) × (width ≤ 12) ⌝ }
     ensures { λ r. ⌜ r ≡ atMostFault size width (now (inh .entry)) (now (syn .entry)) (now (body .entry)) ⌝ }
 {
@@ -59,14 +67,20 @@ pub fn at_most_fault(size: usize, width: usize, inh: &[u8; 13], syn: &[u8; 13], 
 }
 
 // The lowest number that applies to the body of a tag 5 field after c others, or 0.
-pub fn condition_fault(c: usize, width: usize, inh: &[u8; 13], syn: &[u8; 13], body: &[u8]) -> u8
+pub fn condition_fault(
+    c: usize,
+    width: usize,
+    inh: &[u8; POSITIONS],
+    syn: &[u8; POSITIONS],
+    body: &[u8],
+) -> u8
     requires { ⌜ width ≤ 12 ⌝ }
     ensures { λ r. ⌜ r ≡ conditionFault c width (now (inh .entry)) (now (syn .entry)) (now (body .entry)) ⌝ }
 {
     if body.len() < 1 {
         return 4;
     }
-    if 512 <= c {
+    if CONDITIONS <= c {
         return 4;
     }
     let kind = table_fields::wide(body[0]);

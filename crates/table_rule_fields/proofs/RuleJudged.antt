@@ -9,6 +9,7 @@ use lib.IntN.{pos}
 use lib.Signed.{leZ}
 use lib.ListN.{getD, length, take}
 use borrow.Author.Tests.{leb-true, leb-false, le-ltb, lt-ltb, eqb-false, ne-eqb}
+use Rattle.meaning.specs.Limits.{rulesLimit}
 use Rattle.meaning.specs.Base.{all}
 use Rattle.meaning.specs.Grammar.{Symbol, Occurrence, Function, const, functionsOf, Rule, Condition, Counts}
 use Rattle.meaning.specs.Table.{byte, constantAt, State, Entry, Header, rule, occurrenceAt, occurrenceKnown, isInput, hasRule, functionOf, operands, ruleLength, lowestOf, judgeField, tagStands, stage, atAny}
@@ -194,21 +195,21 @@ module _ (h : Header) (cs : List Counts) (os ws : List ℕ) (es : List Entry) (r
   abbrev whole : Bool → Bool → Bool → ℕ
   whole x y u =
       lowestOf
-      ((leb 3 (length b) && ltb r 1024 && (x || eqb (length b) (ruleLength f)) && (not y || divisor), 4)
+      ((leb 3 (length b) && ltb r rulesLimit && (x || eqb (length b) (ruleLength f)) && (not y || divisor), 4)
       ∷ (u && K (occurrenceAt b 0) && all K (operands (functionOf b)), 5)
       ∷ rest
       )
 
   abbrev fault : Bool → ℕ
   fault u =
-      cond (leb 3 (length b)) (cond (ltb r 1024) (cond u (cond (eqb (length b) (lengthOf f)) (cond (divisorFits f b) (ruleItems width inh syn note b (operandCount f)) 4) 4) 5) 4) 4
+      cond (leb 3 (length b)) (cond (ltb r rulesLimit) (cond u (cond (eqb (length b) (lengthOf f)) (cond (divisorFits f b) (ruleItems width inh syn note b (operandCount f)) 4) 4) 5) 4) 4
 
   by-function : (u : Bool) → leb f 8 ≡ u → whole (ltb 8 f) (eqb f 8) (leb f 8) ≡ fault (leb f 8)
   unfolding divisorFits ifEqual ifBelow
   by-function true w =
       let k : f ≤ 8 = leb-true f 8 w in
       ap₂ (λ x u. whole x (eqb f 8) u) (le-ltb 8 f k) w
-      ∙ rule-by (leb 3 (length b)) (ltb r 1024) (eqb (length b) (ruleLength f)) (eqb (length b) (lengthOf f)) (not (eqb f 8) || divisor) (divisorFits f b) ((K (occurrenceAt b 0) && all K (operands (functionOf b)), 5) ∷ rest) (ruleItems width inh syn note b (operandCount f))
+      ∙ rule-by (leb 3 (length b)) (ltb r rulesLimit) (eqb (length b) (ruleLength f)) (eqb (length b) (lengthOf f)) (not (eqb f 8) || divisor) (divisorFits f b) ((K (occurrenceAt b 0) && all K (operands (functionOf b)), 5) ∷ rest) (ruleItems width inh syn note b (operandCount f))
       (ap (λ (x : ℕ). eqb (length b) x) (length-by f k))
       (divisor-in b (eqb f 8))
       (uses-judged k)
@@ -216,7 +217,7 @@ module _ (h : Header) (cs : List Counts) (os ws : List ℕ) (es : List Entry) (r
   by-function false w =
       let k : 8 < f = leb-false f 8 w in
       ap3 whole (lt-ltb 8 f k) (ne-eqb f 8 (λ q. omega arith)) w
-      ∙ far-by (leb 3 (length b)) (ltb r 1024) (eqb (length b) (ruleLength f)) divisor (K (occurrenceAt b 0)) (all K (operands (functionOf b))) rest
+      ∙ far-by (leb 3 (length b)) (ltb r rulesLimit) (eqb (length b) (ruleLength f)) divisor (K (occurrenceAt b 0)) (all K (operands (functionOf b))) rest
       ∙ sym (ap fault w)
 
   pub rule-judged : (at : ℕ) → stage s ≡ atAny → judgeField s (fieldOf at 4 b) ≡ ruleFault r width inh syn note b

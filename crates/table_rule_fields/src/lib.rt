@@ -8,6 +8,9 @@ ghost use Rattle.meaning.specs.Grammar.{Rule, Occurrence};
 ghost use Rattle.meaning.specs.Table.{byte};
 ghost use Rattle.table_rules.specs.Rule.{Small, classAt, classIn, lengthOf, operandCount, OperandsFit, divisorFits, ruleItems, ruleFault};
 ghost use Rattle.table_rules.specs.Note.{Notes, rulesAfter};
+use limits::DIVISOR;
+use limits::POSITIONS;
+use limits::RULES;
 
 // The length of a rule's body by its function.
 fn length_of(f: usize) -> usize
@@ -52,14 +55,14 @@ pub fn divisor_fits(f: usize, body: &[u8]) -> bool
     if c < 1 {
         return false;
     }
-    c <= 1000000
+    c <= DIVISOR
 }
 
 // True only of an output.
 fn is_output(
     width: usize,
-    inh: &[u8; 13],
-    syn: &[u8; 13],
+    inh: &[u8; POSITIONS],
+    syn: &[u8; POSITIONS],
     position: usize,
     attribute: usize,
 ) -> bool
@@ -83,7 +86,13 @@ fn is_output(
 }
 
 // True only of an input, in two bytes of a body, at a position below a limit.
-fn is_operand(limit: usize, inh: &[u8; 13], syn: &[u8; 13], body: &[u8], at: usize) -> bool
+fn is_operand(
+    limit: usize,
+    inh: &[u8; POSITIONS],
+    syn: &[u8; POSITIONS],
+    body: &[u8],
+    at: usize,
+) -> bool
     requires { ⌜ (limit ≤ 13) × (at + 2 ≤ length (now body)) ⌝ }
     ensures { λ r. ⌜ ((width : ℕ) → limit ≤ width + 1 → r ≡ true → (1 ≡ classIn width (now (inh .entry)) (now (syn .entry)) (now (body .entry)) at) × (byte (now (body .entry)) at < limit)) ⌝ }
 {
@@ -106,7 +115,13 @@ fn is_operand(limit: usize, inh: &[u8; 13], syn: &[u8; 13], body: &[u8], at: usi
 }
 
 // True only where all n operands are inputs at positions below a limit.
-fn are_operands(limit: usize, inh: &[u8; 13], syn: &[u8; 13], body: &[u8], n: usize) -> bool
+fn are_operands(
+    limit: usize,
+    inh: &[u8; POSITIONS],
+    syn: &[u8; POSITIONS],
+    body: &[u8],
+    n: usize,
+) -> bool
     requires { ⌜ (1 ≤ limit) × (limit ≤ 13) × (3 + 2 * n ≤ length (now body)) ⌝ }
     ensures { λ r. ⌜ ((width : ℕ) → limit ≤ width + 1 → r ≡ true → OperandsFit limit width (now (inh .entry)) (now (syn .entry)) (now (body .entry)) n) ⌝ }
 {
@@ -125,9 +140,9 @@ fn are_operands(limit: usize, inh: &[u8; 13], syn: &[u8; 13], body: &[u8], n: us
 // True only of a rule that none of 5 to 9 applies to.
 fn is_sound(
     width: usize,
-    inh: &[u8; 13],
-    syn: &[u8; 13],
-    note: &[u8; 13],
+    inh: &[u8; POSITIONS],
+    syn: &[u8; POSITIONS],
+    note: &[u8; POSITIONS],
     body: &[u8],
     n: usize,
 ) -> bool
@@ -151,9 +166,9 @@ fn is_sound(
 // The lowest of 5 to 9 that applies to a rule with n operands, or 0. Most rules are sound, so that is asked first.
 pub fn judge_rule_items(
     width: usize,
-    inh: &[u8; 13],
-    syn: &[u8; 13],
-    note: &[u8; 13],
+    inh: &[u8; POSITIONS],
+    syn: &[u8; POSITIONS],
+    note: &[u8; POSITIONS],
     body: &[u8],
     n: usize,
 ) -> u8
@@ -177,9 +192,9 @@ pub fn judge_rule_items(
 pub fn rule_fault(
     r: usize,
     width: usize,
-    inh: &[u8; 13],
-    syn: &[u8; 13],
-    note: &[u8; 13],
+    inh: &[u8; POSITIONS],
+    syn: &[u8; POSITIONS],
+    note: &[u8; POSITIONS],
     body: &[u8],
 ) -> u8
     requires { ⌜ Small width (now inh) (now syn) ⌝ }
@@ -188,7 +203,7 @@ pub fn rule_fault(
     if body.len() < 3 {
         return 4;
     }
-    if 1024 <= r {
+    if RULES <= r {
         return 4;
     }
     let f = table_fields::wide(body[2]);
@@ -208,9 +223,9 @@ pub fn rule_fault(
 pub fn take_rule(
     r: usize,
     width: usize,
-    inh: &[u8; 13],
-    syn: &[u8; 13],
-    note: &mut [u8; 13],
+    inh: &[u8; POSITIONS],
+    syn: &[u8; POSITIONS],
+    note: &mut [u8; POSITIONS],
     body: &[u8],
 ) -> u8
     requires { ⌜ Small width (now inh) (now syn) ⌝ }

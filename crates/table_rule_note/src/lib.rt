@@ -8,16 +8,17 @@ ghost use lib.Bits.{bitOr};
 ghost use lib.ListN.{getD, set, replicate};
 ghost use Rattle.table_rules.specs.Rule.{Small, ones, filledAt, completeNote};
 ghost use Rattle.table_rules.specs.Note.{Notes, GapsAnswered};
+use limits::POSITIONS;
 
 // The note of a production without rules.
-pub fn begin() -> [u8; 13]
+pub fn begin() -> [u8; POSITIONS]
     ensures none { λ r. ⌜ Notes r [] ⌝ }
     ensures zeros { λ r. ⌜ r ≡ replicate 13 0 ⌝ }
 {
-    [0u8; 13]
+    [0u8; POSITIONS]
 }
 
-pub fn note_down(note: &mut [u8; 13], position: usize, attribute: usize)
+pub fn note_down(note: &mut [u8; POSITIONS], position: usize, attribute: usize)
     requires { ⌜ (position < 13) × (1 ≤ attribute) × (attribute ≤ 8) ⌝ }
     ensures { λ r. ⌜ now (note .exit) ≡ set (now (note .entry)) position (bitOr (getD (now (note .entry)) position 0) (2 ^ (attribute - 1))) ⌝ }
 {
@@ -47,7 +48,12 @@ pub fn is_filled(position: usize, inherited: usize, synthesized: usize, byte: us
     all_ones(byte, inherited)
 }
 
-pub fn is_complete(width: usize, inh: &[u8; 13], syn: &[u8; 13], note: &[u8; 13]) -> bool
+pub fn is_complete(
+    width: usize,
+    inh: &[u8; POSITIONS],
+    syn: &[u8; POSITIONS],
+    note: &[u8; POSITIONS],
+) -> bool
     requires { ⌜ Small width (now inh) (now syn) ⌝ }
     ensures { λ r. ⌜ r ≡ completeNote width (now (inh .entry)) (now (syn .entry)) (now (note .entry)) ⌝ }
 {
@@ -65,7 +71,12 @@ pub fn is_complete(width: usize, inh: &[u8; 13], syn: &[u8; 13], note: &[u8; 13]
 }
 
 // Whether an output of a production has no rule, by the counts of its symbols and the note.
-pub fn has_gap(width: usize, inh: &[u8; 13], syn: &[u8; 13], note: &[u8; 13]) -> bool
+pub fn has_gap(
+    width: usize,
+    inh: &[u8; POSITIONS],
+    syn: &[u8; POSITIONS],
+    note: &[u8; POSITIONS],
+) -> bool
     requires { ⌜ Small width (now inh) (now syn) ⌝ }
     ensures answer { λ r. ⌜ r ≡ not (completeNote width (now (inh .entry)) (now (syn .entry)) (now (note .entry))) ⌝ }
     ensures gap { λ r. ⌜ GapsAnswered width (now (inh .entry)) (now (syn .entry)) (now (note .entry)) r ⌝ }

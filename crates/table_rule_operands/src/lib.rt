@@ -4,12 +4,13 @@ ghost use Prim.Native.Nat.{_+_, _*_, _<_, _≤_};
 ghost use lib.ListN.{length};
 ghost use Rattle.meaning.specs.Table.{byte};
 ghost use Rattle.table_rules.specs.Rule.{operandClass, operandPlace, classFault, ruleOrder};
+use limits::POSITIONS;
 
 // The class of the k-th of n operands; one past them counts as an input.
 pub fn operand_class(
     width: usize,
-    inh: &[u8; 13],
-    syn: &[u8; 13],
+    inh: &[u8; POSITIONS],
+    syn: &[u8; POSITIONS],
     body: &[u8],
     n: usize,
     k: usize,
@@ -60,7 +61,7 @@ pub fn class_fault(target: usize, first: usize, second: usize) -> u8
 }
 
 // The lowest of 8 and 9 that applies to a rule with n operands, or 0.
-pub fn rule_order(note: &[u8; 13], n: usize, body: &[u8]) -> u8
+pub fn rule_order(note: &[u8; POSITIONS], n: usize, body: &[u8]) -> u8
     requires { ⌜ (3 + 2 * n ≤ length (now body)) × (byte (now body) 0 < 13) × (1 ≤ byte (now body) 1) × (byte (now body) 1 ≤ 8) ⌝ }
     ensures { λ r. ⌜ r ≡ ruleOrder (now (note .entry)) n (now (body .entry)) ⌝ }
 {

@@ -8,6 +8,7 @@ use native.Mathlib.Omega.{arith}
 use lib.Dec.{eqb}
 use lib.ListN.{getD, length}
 use borrow.Author.Tests.{eqb-true}
+use Rattle.meaning.specs.Limits.{rulesLimit}
 use Rattle.meaning.specs.Base.{all, countFrom}
 use Rattle.meaning.specs.Table.{byte}
 use Rattle.table_fields.specs.Demand.{ifEqual}
@@ -89,7 +90,7 @@ pub rule-fine :
 unfolding ruleFault ruleItems
 rule-fine r width inh syn note b small e =
     let q = atMost-fine (nonzero 3) 3 (length b) e in
-    let u = below-fine (nonzero 3) r 1024 (q .1) in
+    let u = below-fine (nonzero 3) r rulesLimit (q .1) in
     let v = atMost-fine (nonzero 4) (byte b 2) 8 (u .1) in
     let w = equal-fine (nonzero 3) (length b) (lengthOf (byte b 2)) (v .1) in
     let x = holds-fine (nonzero 3) (divisorFits (byte b 2) b) (w .1) in

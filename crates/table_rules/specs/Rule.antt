@@ -7,6 +7,7 @@ use mathlib.Core.List.{List}
 use lib.ListN.{getD, length}
 use lib.Dec.{eqb, leb}
 use lib.Signed.{leZ}
+use Rattle.meaning.specs.Limits.{rulesLimit}
 use Rattle.meaning.specs.Base.{all, countFrom}
 use Rattle.meaning.specs.Table.{byte, signed}
 use Rattle.table_fields.specs.Demand.{holds, lacks, equal, differs, atMost, below, ifEqual, ifBelow}
@@ -124,7 +125,7 @@ ruleItems width inh syn note b n =
 unfoldable pub ruleFault : ℕ → ℕ → List ℕ → List ℕ → List ℕ → List ℕ → ℕ
 ruleFault r width inh syn note b =
     atMost 3 (length b) 4
-    (below r 1024 4
+    (below r rulesLimit 4
     (atMost (byte b 2) 8 5
     (equal (length b) (lengthOf (byte b 2)) 4
     (holds (divisorFits (byte b 2) b) 4

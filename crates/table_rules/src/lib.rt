@@ -4,12 +4,13 @@ ghost use mathlib.Core.Path.{_≡_};
 ghost use Prim.Native.Nat.{_+_, _-_, _<_, _≤_};
 ghost use lib.ListN.{length, getD};
 ghost use Rattle.table_rules.specs.Rule.{classAt, classIn, fourAt, bit};
+use limits::POSITIONS;
 
 // What an occurrence is in its production. 0: unknown; 1: an input; 2: an output.
 pub fn class_of(
     width: usize,
-    inh: &[u8; 13],
-    syn: &[u8; 13],
+    inh: &[u8; POSITIONS],
+    syn: &[u8; POSITIONS],
     position: usize,
     attribute: usize,
 ) -> usize
@@ -40,7 +41,13 @@ pub fn class_of(
 }
 
 // The class of the occurrence in two bytes of a body.
-pub fn class_in(width: usize, inh: &[u8; 13], syn: &[u8; 13], body: &[u8], at: usize) -> usize
+pub fn class_in(
+    width: usize,
+    inh: &[u8; POSITIONS],
+    syn: &[u8; POSITIONS],
+    body: &[u8],
+    at: usize,
+) -> usize
     requires { ⌜ (width ≤ 12) × (at + 2 ≤ length (now body)) ⌝ }
     ensures { λ r. ⌜ r ≡ classIn width (now (inh .entry)) (now (syn .entry)) (now (body .entry)) at ⌝ }
 {
@@ -61,7 +68,7 @@ pub fn four_at(body: &[u8], at: usize) -> usize
     ((a * 256 + b) * 256 + c) * 256 + d
 }
 
-pub fn is_noted(note: &[u8; 13], position: usize, attribute: usize) -> bool
+pub fn is_noted(note: &[u8; POSITIONS], position: usize, attribute: usize) -> bool
     requires { ⌜ (position < 13) × (1 ≤ attribute) × (attribute ≤ 8) ⌝ }
     ensures { λ r. ⌜ r ≡ bit (getD (now (note .entry)) position 0) (attribute - 1) ⌝ }
 {

@@ -6,6 +6,7 @@ use mathlib.Core.List.{List}
 use native.Mathlib.Omega.{arith}
 use native.Mathlib.Decide.{ℕ-discrete}
 use lib.ListN.{length}
+use Rattle.meaning.specs.Limits.{rulesLimit, conditionsLimit}
 use Rattle.meaning.specs.Table.{byte}
 use Rattle.table_fields.specs.Field.{Whole, lengthAt, bodyAt}
 use Rattle.table_fields.proofs.Rest.{body-length, body-byte}
@@ -41,7 +42,7 @@ pub operands-inside : (f : ℕ) → f ≤ 8 → 3 + 2 * operandCount f ≤ lengt
 operands-inside f l = length-is f (lengthOf f) refl .1
 
 pub rule-none :
-    (r width : ℕ) (inh syn note b : List ℕ) (f : ℕ) → f ≡ byte b 2 → r < 1024 → byte b 2 ≤ 8 → 5 ≤ length b → length b ≡ lengthOf (byte b 2)
+    (r width : ℕ) (inh syn note b : List ℕ) (f : ℕ) → f ≡ byte b 2 → r < rulesLimit → byte b 2 ≤ 8 → 5 ≤ length b → length b ≡ lengthOf (byte b 2)
     → divisorFits f b ≡ true → 0 ≡ ruleItems width inh syn note b (operandCount f) → 0 ≡ ruleFault r width inh syn note b
 unfolding ruleFault
 rule-none r width inh syn note b f e l m n q d u =
@@ -53,7 +54,7 @@ rule-none r width inh syn note b f e l m n q d u =
 
 -- ---- conditions
 
-module _ (c width : ℕ) (inh syn b : List ℕ) (few : c < 512) where
+module _ (c width : ℕ) (inh syn b : List ℕ) (few : c < conditionsLimit) where
   pub range-none : length b ≡ 11 → byte b 0 ≡ 0 → 1 ≡ classIn width inh syn b 1 → inOrder (fourAt b 3) (fourAt b 7) ≡ true → 0 ≡ conditionFault c width inh syn b
   unfolding conditionFault rangeFault
   range-none l z e o =

@@ -3,6 +3,7 @@ use Prim.Native.Nat.{ℕ, _+_, _≤_, _<_}
 use mathlib.Core.Path.{_≡_}
 use mathlib.Core.List.{List}
 use lib.ListN.{getD, length, replicate}
+use Rattle.meaning.specs.Limits.{rulesLimit, conditionsLimit}
 use Rattle.meaning.specs.Table.{byte}
 use Rattle.table_fields.specs.Field.{Whole, bodyAt}
 use Rattle.table_rules.specs.Rule.{Small, ruleFault, conditionFault}
@@ -15,22 +16,22 @@ use Rattle.table_occurrences.specs.OccurrenceBits.{Inputs, Settled, notedBy}
 -- a rule after any that are fewer than the most: nothing applies, and its target is settled
 abbrev pub RuleSound : List ℕ → List ℕ → List ℕ → List ℕ → Type 0
 RuleSound inputs words words′ b =
-    (width : ℕ) (inh syn note : List ℕ) (r : ℕ) → Small width inh syn → Inputs width inh syn inputs → Settled width inh syn note words → r < 1024
+    (width : ℕ) (inh syn note : List ℕ) (r : ℕ) → Small width inh syn → Inputs width inh syn inputs → Settled width inh syn note words → r < rulesLimit
     → (0 ≡ ruleFault r width inh syn note b) × Settled width inh syn (notedBy note b) words′
 
 -- the same of the field at an offset, after r rules, which ends at another
 pub record RuleStands (t : List ℕ) (at r : ℕ) (inputs words words′ : List ℕ) (end : ℕ) : Type 0 where
-  pub few : r < 1024
+  pub few : r < rulesLimit
   pub size : ℕ
   pub whole : Whole t at size
   pub ends : end ≡ at + 3 + size
   pub sound : RuleSound inputs words words′ (bodyAt t at size)
 
 abbrev pub ConditionSound : List ℕ → List ℕ → Type 0
-ConditionSound inputs b = (width : ℕ) (inh syn : List ℕ) (c : ℕ) → Inputs width inh syn inputs → c < 512 → 0 ≡ conditionFault c width inh syn b
+ConditionSound inputs b = (width : ℕ) (inh syn : List ℕ) (c : ℕ) → Inputs width inh syn inputs → c < conditionsLimit → 0 ≡ conditionFault c width inh syn b
 
 pub record ConditionStands (t : List ℕ) (at c : ℕ) (inputs : List ℕ) (end : ℕ) : Type 0 where
-  pub few : c < 512
+  pub few : c < conditionsLimit
   pub size : ℕ
   pub whole : Whole t at size
   pub ends : end ≡ at + 3 + size

@@ -8,6 +8,10 @@ ghost use Rattle.meaning.specs.Table.{byte};
 ghost use Rattle.table_fields.specs.Field.{Whole};
 ghost use Rattle.table_rules.specs.Rule.{lengthOf};
 ghost use Rattle.table_sound_items.specs.Sound.{RuleSound, RuleStands, ConditionSound, ConditionStands, Sounding, WordsSettled, Over, BodyTaken, SmallPlaces};
+use limits::CONDITIONS;
+use limits::NONTERMINALS;
+use limits::POSITIONS;
+use limits::RULES;
 use token_set::TokenSet;
 
 // The end of a production's rules and conditions, where they are sound; else the field that is to be judged.
@@ -64,7 +68,7 @@ fn stands(table: &[u8], at: usize, size: usize) -> bool
 }
 
 // True only of the body of a rule that nothing is wrong with but perhaps its number; then its target is settled. Else the words stay as they were.
-fn is_rule(inputs: &[u16; 13], settled: &mut [u16; 13], body: &[u8]) -> bool
+fn is_rule(inputs: &[u16; POSITIONS], settled: &mut [u16; POSITIONS], body: &[u8]) -> bool
     requires { ⌜ (byte (now body) 2 ≤ 8) × (5 ≤ length (now body)) × (length (now body) ≡ lengthOf (byte (now body) 2)) ⌝ }
     ensures sound { λ r. ⌜ (r ≡ true → RuleSound (now (inputs .entry)) (now (settled .entry)) (now (settled .exit)) (now (body .entry))) ⌝ }
     ensures same { λ r. ⌜ (r ≡ false → now (settled .exit) ≡ now (settled .entry)) ⌝ }
@@ -82,14 +86,14 @@ fn past_rule(
     table: &[u8],
     at: usize,
     r: usize,
-    inputs: &[u16; 13],
-    settled: &mut [u16; 13],
+    inputs: &[u16; POSITIONS],
+    settled: &mut [u16; POSITIONS],
 ) -> usize
     requires { ⌜ at ≤ length (now table) ⌝ }
     ensures stands { λ end. ⌜ ((end ≡ 0 → ⊥) → RuleStands (now (table .entry)) at r (now (inputs .entry)) (now (settled .entry)) (now (settled .exit)) end) ⌝ }
     ensures same { λ end. ⌜ (end ≡ 0 → now (settled .exit) ≡ now (settled .entry)) ⌝ }
 {
-    if 1024 <= r {
+    if RULES <= r {
         return 0;
     }
     if table.len() - at < 8 {
@@ -111,7 +115,7 @@ fn past_rule(
 }
 
 // True only of the body of a range that nothing is wrong with but perhaps its number.
-fn is_range(inputs: &[u16; 13], body: &[u8]) -> bool
+fn is_range(inputs: &[u16; POSITIONS], body: &[u8]) -> bool
     requires { ⌜ (length (now body) ≡ 11) × (byte (now body) 0 ≡ 0) ⌝ }
     ensures { λ r. ⌜ (r ≡ true → ConditionSound (now (inputs .entry)) (now (body .entry))) ⌝ }
 {
@@ -122,7 +126,7 @@ fn is_range(inputs: &[u16; 13], body: &[u8]) -> bool
 }
 
 // The same of a comparison, of kind 1 or 2.
-fn is_comparison(inputs: &[u16; 13], body: &[u8]) -> bool
+fn is_comparison(inputs: &[u16; POSITIONS], body: &[u8]) -> bool
     requires { ⌜ (1 ≤ byte (now body) 0) × (byte (now body) 0 ≤ 2) × (length (now body) ≡ 4 * byte (now body) 0 + 1) ⌝ }
     ensures { λ r. ⌜ (r ≡ true → ConditionSound (now (inputs .entry)) (now (body .entry))) ⌝ }
 {
@@ -133,11 +137,11 @@ fn is_comparison(inputs: &[u16; 13], body: &[u8]) -> bool
 }
 
 // The offset behind the condition at an offset, after c conditions of the table; 0 where something may be wrong with it.
-fn past_condition(table: &[u8], at: usize, c: usize, inputs: &[u16; 13]) -> usize
+fn past_condition(table: &[u8], at: usize, c: usize, inputs: &[u16; POSITIONS]) -> usize
     requires { ⌜ at ≤ length (now table) ⌝ }
     ensures { λ r. ⌜ ((r ≡ 0 → ⊥) → ConditionStands (now (table .entry)) at c (now (inputs .entry)) r) ⌝ }
 {
-    if 512 <= c {
+    if CONDITIONS <= c {
         return 0;
     }
     if table.len() - at < 8 {
@@ -176,7 +180,7 @@ fn wide_word(x: u16) -> usize
 }
 
 // True only where every output up to a position is settled: then the words have the largest sum that they can have.
-pub fn all_settled(settled: &[u16; 13], width: usize) -> bool
+pub fn all_settled(settled: &[u16; POSITIONS], width: usize) -> bool
     requires { ⌜ width ≤ 12 ⌝ }
     ensures { λ r. ⌜ (r ≡ true → WordsSettled (now (settled .entry)) width) ⌝ }
 {
@@ -193,8 +197,8 @@ pub fn all_settled(settled: &[u16; 13], width: usize) -> bool
 fn walk(
     table: &[u8],
     from: usize,
-    inputs: &[u16; 13],
-    settled: &mut [u16; 13],
+    inputs: &[u16; POSITIONS],
+    settled: &mut [u16; POSITIONS],
     rules: usize,
     conditions: usize,
 ) -> Sound
@@ -235,9 +239,9 @@ pub fn read_sound(
     table: &[u8],
     at: usize,
     carrying: TokenSet,
-    inherited: &[u8; 48],
-    synthesized: &[u8; 48],
-    settled: &mut [u16; 13],
+    inherited: &[u8; NONTERMINALS],
+    synthesized: &[u8; NONTERMINALS],
+    settled: &mut [u16; POSITIONS],
     rules: usize,
     conditions: usize,
 ) -> Sound
@@ -249,7 +253,7 @@ pub fn read_sound(
     let width = table_fields::wide(table[at + 4]);
     let from = at + 3;
     let end = at + 5 + width;
-    let mut inputs = [0u16; 13];
+    let mut inputs = [0u16; POSITIONS];
     table_occurrence_words::place_words(
         &table[from..end],
         carrying,

@@ -10,7 +10,7 @@ use lib.Seq.{getD-take, getD-drop}
 use lib.Dec.{T, eqb, eqb→eq, eqb-refl, ltb, ltb→lt, lt→ltb, leb, leb→le, le→leb}
 use lib.IntN.{ℤ, pos, negsuc}
 use Rattle.meaning.specs.Base.{all, total}
-use Rattle.meaning.specs.Grammar.{Symbol, terminal, nonterminal, Grammar, productionAt, symbolAt, inh, syn, markedFor, isNonterminal, whole, placeProduction, placePassed}
+use Rattle.meaning.specs.Grammar.{Symbol, terminal, nonterminal, Grammar, productionAt, symbolAt, inh, syn, markedFor, isNonterminal, whole, placeProduction, placePassed, segmentPlace}
 use Rattle.meaning.specs.Value.{inRange, mark}
 use Rattle.meaning.specs.Machine.{movesLimit, tokensLimit}
 use Rattle.meaning.specs.Calls.{Record, Stacks, lentOf, Cell, valued, marked, isMark, cellFits, cellsFit, synCells, waitingCells, isListed, placeWaits, awaited, placesFit, placeCells, stackFits, stacksFit}
@@ -176,16 +176,16 @@ module _ (g : Grammar) (p k : ℕ) (cells : List Cell) where
 
 fit-waits : (g : Grammar) (ps : List ℕ) (rs : List ℤ) → T (placesFit g ps) → T (cellsFit (placeCells g ps) rs) → WaitsAt g ps rs (awaitedTop g ps)
 fit-waits g [] rs t u = absurd t
-fit-waits g (p ∷ []) rs t u = bottom p rs (eqb→eq p 32768 t) u
+fit-waits g (p ∷ []) rs t u = bottom p rs (eqb→eq p segmentPlace t) u
   where
-    bottom : (p : ℕ) (rs : List ℤ) → p ≡ 32768 → T (cellsFit (placeCells g (p ∷ [])) rs) → WaitsAt g (p ∷ []) rs (awaited g p)
+    bottom : (p : ℕ) (rs : List ℤ) → p ≡ segmentPlace → T (cellsFit (placeCells g (p ∷ [])) rs) → WaitsAt g (p ∷ []) rs (awaited g p)
     bottom p rs e u =
         let a = fit-parts (replicate (inh g (nonterminal (g .start))) valued) (replicate (syn g (nonterminal (g .start))) marked) rs (subst (λ z. T (cellsFit z rs)) (ap (λ n. placeCells g (n ∷ [])) e ∙ nothing-below) u) in
         subst (λ n. WaitsAt g (n ∷ []) rs (awaited g n)) (sym e)
-        (subst (λ z. WaitsAt g (32768 ∷ []) z (nonterminal (g .start))) (sym (a .joined ∙ ap (λ z. a .upper ++ z) (fit-marks (syn g (nonterminal (g .start))) (a .lower) (a .second))))
+        (subst (λ z. WaitsAt g (segmentPlace ∷ []) z (nonterminal (g .start))) (sym (a .joined ∙ ap (λ z. a .upper ++ z) (fit-marks (syn g (nonterminal (g .start))) (a .lower) (a .second))))
         (segment (a .upper) (fit-values (inh g (nonterminal (g .start))) (a .upper) (a .first))))
       where
-        nothing-below : placeCells g (32768 ∷ []) ≡ waitingCells g (nonterminal (g .start))
+        nothing-below : placeCells g (segmentPlace ∷ []) ≡ waitingCells g (nonterminal (g .start))
         nothing-below = append-nil (waitingCells g (nonterminal (g .start)))
 fit-waits g (p ∷ q ∷ qs) rs t u =
     let o = place-on g p q qs t in

@@ -8,6 +8,7 @@ use mathlib.Core.List.{List, [], _++_, map, reverse, append-nil}
 use lib.ListN.{getD, length, take, drop, replicate, length-append, length-replicate, length-reverse, length-take, length-drop, length-map}
 use lib.Seq.{take-take, drop-drop, take-append-add, drop-append-add, getD-take}
 use lib.Dec.{T, eqb, ltb, nltb→le}
+use Rattle.meaning.specs.Limits.{registersLimit, placesLimit}
 use Rattle.meaning.specs.Grammar.{Grammar, Symbol, Leaf, leaves}
 use Rattle.meaning.specs.Value.{mark}
 use Rattle.meaning.specs.Rules.{WellFormed}
@@ -54,8 +55,8 @@ places-fit g c m w = omega (arith, length-map (c .frames) (placeOf g), w .places
 
 laid-past : (g : Grammar) (c : Config) (m : Stacks) → Within (lentOf m) c → pastLent (layAll g c m) ≡ pastLent m
 laid-past g c m w =
-    let a = lay-past 4096 mark (c .registers) (m .registers) (w .registers) in
-    let b = lay-past 1024 0 (map (placeOf g) (c .frames)) (m .places) (places-fit g c m w) in
+    let a = lay-past registersLimit mark (c .registers) (m .registers) (w .registers) in
+    let b = lay-past placesLimit 0 (map (placeOf g) (c .frames)) (m .places) (places-fit g c m w) in
     λ i. record { registers = a i; places = b i }
 
 -- ---- not written
@@ -160,27 +161,27 @@ same-bool false true f g = absurd (g tt)
 same-bool false false f g = refl
 
 module _ (m n : Stacks) (same : lentPart m ≡ lentPart n) where
-  registers-same : take 4096 (m .registers) ≡ take 4096 (n .registers)
+  registers-same : take registersLimit (m .registers) ≡ take registersLimit (n .registers)
   registers-same = ap (λ z. z .registers) same
 
-  places-same : take 1024 (m .places) ≡ take 1024 (n .places)
+  places-same : take placesLimit (m .places) ≡ take placesLimit (n .places)
   places-same = ap (λ z. z .places) same
 
   lent-same : lentOf m ≡ lentOf n
-  lent-same = ap₂ (λ x y. record { maxRegisters = x; maxPlaces = y }) (same-count 4096 (m .registers) (n .registers) registers-same) (same-count 1024 (m .places) (n .places) places-same)
+  lent-same = ap₂ (λ x y. record { maxRegisters = x; maxPlaces = y }) (same-count registersLimit (m .registers) (n .registers) registers-same) (same-count placesLimit (m .places) (n .places) places-same)
 
   laid-same : (g : Grammar) (c : Config) → Within (lentOf m) c → lentPart (layAll g c m) ≡ lentPart (layAll g c n)
   laid-same g c w =
-      let a = same-laid 4096 mark (c .registers) (m .registers) (n .registers) registers-same (w .registers) in
-      let b = same-laid 1024 0 (map (placeOf g) (c .frames)) (m .places) (n .places) places-same (places-fit g c m w) in
+      let a = same-laid registersLimit mark (c .registers) (m .registers) (n .registers) registers-same (w .registers) in
+      let b = same-laid placesLimit 0 (map (placeOf g) (c .frames)) (m .places) (n .places) places-same (places-fit g c m w) in
       λ i. record { registers = a i; places = b i }
 
   module _ (g : Grammar) (r : Record) where
     low-registers : r .registerHeight ≤ lentOf m .maxRegisters → take (r .registerHeight) (m .registers) ≡ take (r .registerHeight) (n .registers)
-    low-registers l = same-low 4096 (r .registerHeight) (m .registers) (n .registers) registers-same (omega arith)
+    low-registers l = same-low registersLimit (r .registerHeight) (m .registers) (n .registers) registers-same (omega arith)
 
     low-places : r .placeHeight ≤ lentOf m .maxPlaces → take (r .placeHeight) (m .places) ≡ take (r .placeHeight) (n .places)
-    low-places l = same-low 1024 (r .placeHeight) (m .places) (n .places) places-same (omega arith)
+    low-places l = same-low placesLimit (r .placeHeight) (m .places) (n .places) places-same (omega arith)
 
     fit-same : Fit g r m → Fit g r n
     fit-same f =
@@ -191,8 +192,8 @@ module _ (m n : Stacks) (same : lentPart m ≡ lentPart n) where
           registerHeight = subst (λ l. r .registerHeight ≤ l .maxRegisters) e (f .registerHeight);
           placeHeight = subst (λ l. r .placeHeight ≤ l .maxPlaces) e (f .placeHeight);
           stands = subst₂ (λ ps rs. ((x : Symbol) × WaitsAt g (reverse ps) (reverse rs) x) ⊎ Left g (reverse ps) (reverse rs)) (low-places (f .placeHeight)) (low-registers (f .registerHeight)) (f .stands);
-          registersCleared = λ i a b. same-cell 4096 i (m .registers) (n .registers) mark registers-same (omega arith) ∙ f .registersCleared i a (subst (λ l. i < l .maxRegisters) (sym e) b);
-          placesCleared = λ i a b. same-cell 1024 i (m .places) (n .places) 0 places-same (omega arith) ∙ f .placesCleared i a (subst (λ l. i < l .maxPlaces) (sym e) b);
+          registersCleared = λ i a b. same-cell registersLimit i (m .registers) (n .registers) mark registers-same (omega arith) ∙ f .registersCleared i a (subst (λ l. i < l .maxRegisters) (sym e) b);
+          placesCleared = λ i a b. same-cell placesLimit i (m .places) (n .places) 0 places-same (omega arith) ∙ f .placesCleared i a (subst (λ l. i < l .maxPlaces) (sym e) b);
         }
 
     config-same : Fit g r m → configOf g r m ≡ configOf g r n

@@ -9,6 +9,7 @@ use mathlib.Core.List.{List, [], _∷_, _++_, map, reverse, append-assoc, revers
 use lib.ListN.{getD, length, take, drop, replicate, length-append, length-replicate, length-drop, length-take, length-reverse, length-map, getD-replicate, take-append-drop, List·getD-append}
 use lib.Seq.{take-at, drop-at, getD-take, getD-drop, drop-drop, drop-cons}
 use lib.IntN.{ℤ}
+use Rattle.meaning.specs.Limits.{registersLimit, placesLimit}
 use Rattle.meaning.specs.Grammar.{Symbol, terminal, Grammar, productionAt, symbolAt}
 use Rattle.meaning.specs.Value.{mark}
 use Rattle.meaning.specs.Rules.{WellFormed}
@@ -75,7 +76,7 @@ pub lent-kept : (g : Grammar) (c : Config) (m : Stacks) → Within (lentOf m) c 
 lent-kept g c m w =
     let a : length (layAll g c m .registers) ≡ length (m .registers) = lay-length (lentOf m .maxRegisters) mark (c .registers) (m .registers) (w .registers) (omega arith) in
     let b : length (layAll g c m .places) ≡ length (m .places) = lay-length (lentOf m .maxPlaces) 0 (map (placeOf g) (c .frames)) (m .places) (omega (arith, length-map (c .frames) (placeOf g), w .places)) (omega arith) in
-    ap₂ (λ x y. record { maxRegisters = min x 4096; maxPlaces = min y 1024 }) a b
+    ap₂ (λ x y. record { maxRegisters = min x registersLimit; maxPlaces = min y placesLimit }) a b
 
 module _ (g : Grammar) (o : Bool) (c : Config) (m : Stacks) (s : AtStop g (c .frames) (c .registers)) (w : Within (lentOf m) c) where
   abbrev placed : List ℕ

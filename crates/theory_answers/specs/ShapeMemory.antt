@@ -10,7 +10,7 @@ use lib.Seq.{drop-cons}
 use lib.Dec.{T, eqb}
 use lib.IntN.{ℤ}
 use Rattle.meaning.specs.Base.{total, isEmpty}
-use Rattle.meaning.specs.Grammar.{Symbol, terminal, nonterminal, Production, Grammar, inh, syn, markedFor, productionAt, symbolAt, whole, wholeProduction}
+use Rattle.meaning.specs.Grammar.{Symbol, terminal, nonterminal, Production, Grammar, inh, syn, markedFor, productionAt, symbolAt, whole, wholeProduction, segmentPlace}
 use Rattle.meaning.specs.Value.{inRange, mark}
 use Rattle.meaning.specs.Scheme.{Instruction, synBetween}
 use Rattle.meaning.specs.Rules.{WellFormed}
@@ -194,9 +194,9 @@ segment-waits g wf zero vs ss nd x xs e is v =
     let noSyn : ss ≡ [] = none-of (synBetween g (productionAt g whole) 0 0) ss (syn-from g (productionAt g whole) 0) (nd .passed) in
     let noInh : vs ≡ [] = none-of (inhLeft g whole) vs (whole-inh g wf) (nd .inherited) in
     let own : nodeRegisters ss vs (marks (synLeft g whole)) [] ≡ [] = ap₂ (λ a b. a ++ (b ++ (marks (synLeft g whole) ++ []))) noSyn noInh ∙ ap (λ n. marks n ++ []) (whole-syn g wf) in
-    let place : 32768 ≡ placeOf g (frame whole (waitRest g whole 0 x xs)) = sym (place-waits g whole 0 x xs e) in
+    let place : segmentPlace ≡ placeOf g (frame whole (waitRest g whole 0 x xs)) = sym (place-waits g whole 0 x xs e) in
     let registers : is ++ marks (markedFor g x) ≡ (is ++ marks (markedFor g x)) ++ nodeRegisters ss vs (marks (synLeft g whole)) [] = sym (append-nil (is ++ marks (markedFor g x))) ∙ ap (λ z. (is ++ marks (markedFor g x)) ++ z) (sym own) in
-    subst₂ (λ n z. WaitsAt g (n ∷ []) z x) place registers (subst (λ y. Values (inh g y) is → WaitsAt g (32768 ∷ []) (is ++ marks (markedFor g y)) y) named (Fit.segment is) v)
+    subst₂ (λ n z. WaitsAt g (n ∷ []) z x) place registers (subst (λ y. Values (inh g y) is → WaitsAt g (segmentPlace ∷ []) (is ++ marks (markedFor g y)) y) named (Fit.segment is) v)
 
 waits-on : (g : Grammar) → WellFormed g → {p : ℕ} {fs : List Frame} {base : List ℤ} → StandsOnFrames g p fs base → (k : ℕ) (vs ss : List ℤ) → Node g p k vs ss → (x : Symbol) (xs : List Symbol) → drop k (productionAt g p .right) ≡ x ∷ xs → (is : List ℤ) → Values (inh g x) is
     → Waits g (frame p (waitRest g p k x xs) ∷ fs) ((is ++ marks (markedFor g x)) ++ nodeRegisters ss vs (marks (synLeft g p)) base) x

@@ -7,6 +7,7 @@ use mathlib.Core.Option.{Option, none, some}
 use mathlib.Core.List.{List, [], _∷_}
 use lib.ListN.{getD, length, take, drop}
 use lib.Dec.{T, eqb, leb}
+use Rattle.meaning.specs.Limits.{tableLimit}
 use Rattle.meaning.specs.Base.{all, countFrom}
 use Rattle.meaning.specs.Grammar.{Grammar, nonterminalCount}
 use Rattle.meaning.specs.Table.{State, Field, Read, wellFormed, malformed, Stage, atHeader, atCounts, atFirst, atAny, stage, kindOf, byte, current, lastComplete, tagStands, limitsHold, known, startRight, directionsRight, setOnce}
@@ -94,7 +95,7 @@ read-number (suc n) s o (t ∷ bs) = go (eqb t 3 && not (lastComplete s)) (leb 2
     go false true r = judged-number number o rest (field-number s (record { offset = o; tag = t; body = body })) r
 
 table-number : (bs : List ℕ) → Numbered (readTable bs)
-table-number bs = go (leb (length bs) 32768) (read-number (suc (length bs)) nothingRead 0 bs)
+table-number bs = go (leb (length bs) tableLimit) (read-number (suc (length bs)) nothingRead 0 bs)
   where
     go : (b : Bool) → Numbered (readAll (suc (length bs)) nothingRead 0 bs) → Numbered (elim b [ false ↦ malformed 1 0 | true ↦ readAll (suc (length bs)) nothingRead 0 bs ])
     go false r = tt

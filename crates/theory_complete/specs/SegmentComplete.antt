@@ -10,7 +10,7 @@ use lib.ListN.{length, replicate, length-append, length-replicate}
 use lib.Seq.{drop-append-seam}
 use lib.Dec.{nltb→le, T}
 use lib.IntN.{ℤ}
-use Rattle.meaning.specs.Grammar.{Symbol, nonterminal, Grammar, syn, productionAt, whole, Leaf}
+use Rattle.meaning.specs.Grammar.{Symbol, nonterminal, Grammar, syn, productionAt, whole, Leaf, segmentPlace}
 use Rattle.meaning.specs.Value.{mark}
 use Rattle.meaning.specs.Scheme.{expect}
 use Rattle.meaning.specs.Machine.{Config, Lent, stopped, waits, opening, feedAll, finishAll, placeOf}
@@ -168,8 +168,8 @@ module _ (g : Grammar) (formed : WellFormed g) (lent : Lent) (t : Tree) (o : For
           at = config (q .frames) (draw g j 0 t (below g (frame whole (expect S ∷ []) ∷ []) (waiting g t ++ [])) .registers) (0 + (j - 0)) (0 + movesOf g j 0 t);
           stops = feeds g lent (suc (length us)) ts us (restart (sym e) (opening-expects g formed t w) (q .run)) refl refl (q .rests) known (omega arith) (omega arith);
           rests = q .rests;
-          registers = rw (l, h) (ap (λ (r : List ℤ). draw g j 0 t (record { places = 32768 ∷ []; registers = r }) .registers) (append-nil (waiting g t)));
-          places = q .places ∙ rw (l, h) (ap (λ (r : List ℤ). draw g j 0 t (record { places = 32768 ∷ []; registers = r }) .places) (append-nil (waiting g t)));
+          registers = rw (l, h) (ap (λ (r : List ℤ). draw g j 0 t (record { places = segmentPlace ∷ []; registers = r }) .registers) (append-nil (waiting g t)));
+          places = q .places ∙ rw (l, h) (ap (λ (r : List ℤ). draw g j 0 t (record { places = segmentPlace ∷ []; registers = r }) .places) (append-nil (waiting g t)));
           tokens = omega arith;
           moves = omega arith;
         }

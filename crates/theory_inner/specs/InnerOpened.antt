@@ -6,6 +6,7 @@ use mathlib.Core.Bool.{true}
 use mathlib.Core.List.{List, _++_, map, reverse}
 use lib.ListN.{getD, length, take, drop, replicate, length-drop, length-take, drop-of-length-le}
 use lib.Seq.{getD-take, getD-drop}
+use Rattle.meaning.specs.Limits.{registersLimit, placesLimit}
 use Rattle.meaning.specs.Grammar.{Grammar, syn, nonterminal}
 use Rattle.meaning.specs.Judgement.{Accepted}
 use Rattle.meaning.specs.Value.{mark}
@@ -87,7 +88,7 @@ module _ (t n rh ph : ℕ) (m m₀ : Stacks) (l : length (m₀ .registers) ≡ l
   room = above (inner rh ph) m
 
   same-lent : lentOf m₀ ≡ lentOf room
-  same-lent = ap₂ (λ x y. record { maxRegisters = min x 4096; maxPlaces = min y 1024 }) (l ∙ sym (above-registers (inner rh ph) m)) (k ∙ sym (above-places (inner rh ph) m))
+  same-lent = ap₂ (λ x y. record { maxRegisters = min x registersLimit; maxPlaces = min y placesLimit }) (l ∙ sym (above-registers (inner rh ph) m)) (k ∙ sym (above-places (inner rh ph) m))
 
   same-laid : (g : Grammar) (c : Config) → layAll g c m₀ ≡ layAll g c room
   same-laid g c =

@@ -6,6 +6,7 @@ use mathlib.Core.Path.{_≡_, refl, sym, ap, ap₂, _∙_, subst}
 use mathlib.Core.Bool.{Bool, true, false}
 use mathlib.Core.List.{List}
 use lib.ListN.{length, drop, length-replicate, drop-of-length-le}
+use Rattle.meaning.specs.Limits.{registersLimit, placesLimit}
 use Rattle.meaning.specs.Grammar.{Grammar}
 use Rattle.meaning.specs.Judgement.{Accepted}
 use Rattle.meaning.specs.Value.{mark}
@@ -65,8 +66,8 @@ module _ (k : Kind) (m part : Stacks) (z : SameSize (above k m) part) where
   pub put-past : pastLent (paste k part m) ≡ pastLent m
   put-past =
       let f = fills k m part z in
-      let a = past-cap 4096 (m .registers) (now .registers) (pasted-size (lentOf m .maxRegisters) (registerBase c) (m .registers) (part .registers) (omega arith) (f .registerRoom) (f .registers)) (past-registers c m part f) in
-      let b = past-cap 1024 (m .places) (now .places) (pasted-size (lentOf m .maxPlaces) (placeBase c) (m .places) (part .places) (omega arith) (f .placeRoom) (f .places)) (past-places c m part f) in
+      let a = past-cap registersLimit (m .registers) (now .registers) (pasted-size (lentOf m .maxRegisters) (registerBase c) (m .registers) (part .registers) (omega arith) (f .registerRoom) (f .registers)) (past-registers c m part f) in
+      let b = past-cap placesLimit (m .places) (now .places) (pasted-size (lentOf m .maxPlaces) (placeBase c) (m .places) (part .places) (omega arith) (f .placeRoom) (f .places)) (past-places c m part f) in
       ap pastLent (sym now-is) ∙ ap₂ (λ x y. record { registers = x; places = y }) a b
 
 -- ---- what a call leaves: the stacks as they were, or with a part put back

@@ -5,6 +5,7 @@ use mathlib.Core.Path.{_≡_, sym, ap, ap₂, _∙_}
 use mathlib.Core.List.{List, _++_, append-assoc}
 use lib.ListN.{length, take, drop, length-append, length-drop, length-take, take-append-drop}
 use lib.Seq.{take-at, drop-at}
+use Rattle.meaning.specs.Limits.{registersLimit, placesLimit}
 use Rattle.meaning.specs.Machine.{Lent}
 use Rattle.meaning.specs.Calls.{Kind, Stacks, lentOf}
 use Rattle.meaning_inner.specs.Inner.{registerBase, placeBase, above, below, paste}
@@ -68,7 +69,7 @@ module _ (k : Kind) (m part : Stacks) (f : Fills k m part) where
   p-lent = omega arith
 
   pub paste-lent : lentOf (paste k part m) ≡ lentOf m
-  paste-lent = ap₂ (λ x y. record { maxRegisters = min x 4096; maxPlaces = min y 1024 }) (pasted-size rn (registerBase k) (m .registers) (part .registers) r-lent (f .registerRoom) (f .registers)) (pasted-size pn (placeBase k) (m .places) (part .places) p-lent (f .placeRoom) (f .places))
+  paste-lent = ap₂ (λ x y. record { maxRegisters = min x registersLimit; maxPlaces = min y placesLimit }) (pasted-size rn (registerBase k) (m .registers) (part .registers) r-lent (f .registerRoom) (f .registers)) (pasted-size pn (placeBase k) (m .places) (part .places) p-lent (f .placeRoom) (f .places))
 
   pub paste-above : above k (paste k part m) ≡ part
   paste-above =

@@ -7,6 +7,7 @@ use mathlib.Core.List.{List, [], _∷_}
 use lib.ListN.{length, take, drop}
 use lib.Seq.{take-append-seam, drop-append-seam}
 use lib.Dec.{lt→ltb, ltb, ltb→lt, nltb→le}
+use Rattle.meaning.specs.Limits.{tableLimit}
 use Rattle.meaning.specs.Grammar.{Grammar, Production}
 use Rattle.meaning.specs.Rules.{WellFormed}
 use Rattle.meaning.specs.Table.{State, Read, wellFormed, malformed, readTable, grammarOf}
@@ -52,7 +53,7 @@ same-but-trans g h k s t = record {
 -- ---- accepted
 
 -- a table of a grammar that is the same but for order, in at most 32,768 bytes with at most 512 conditions, is accepted too
-pub accepted-same : (bs cs : List ℕ) (g h : Grammar) → Bytes bs → Bytes cs → Accepted bs g → SameButOrder g h → LaidOut h cs → length cs ≤ 32768 → FewConditions h → Accepted cs h
+pub accepted-same : (bs cs : List ℕ) (g h : Grammar) → Bytes bs → Bytes cs → Accepted bs g → SameButOrder g h → LaidOut h cs → length cs ≤ tableLimit → FewConditions h → Accepted cs h
 accepted-same bs cs g h b c a s l n few =
     let m = accepted-exactly bs b g .0 a in
     let v = accepts-same g h s few (record { wellFormed = m .wellFormed; useful = m .useful; noRecursion = m .noRecursion; noClash = m .noClash }) in

@@ -8,6 +8,7 @@ use mathlib.Core.Option.{none, some}
 use mathlib.Core.List.{List, [], _∷_, map}
 use lib.ListN.{length, take, drop, length-map, length-take, length-drop}
 use lib.Dec.{T, eqb, ltb, ltb→lt, eqb·suc-zero}
+use Rattle.meaning.specs.Limits.{conditionsLimit}
 use Rattle.meaning.specs.Base.{In, keep, consIf, total, isEmpty, any}
 use Rattle.meaning.specs.Grammar.{Symbol, terminal, nonterminal, Occurrence, Function, const, copy, binary, addc, quot, Rule, Condition, range, atmost, Production, Grammar}
 use Rattle.meaning.specs.Grammar.{syn, att, symbolAt, productionAt, wholeProduction, conditionPosition, addedFor, attributeIf, mapFunction, mapCondition, mapRule, conditionsAt}
@@ -45,7 +46,7 @@ abbrev pub ProperInstruction : Grammar → Instruction → Type 0
 ProperInstruction g (add n) = (1 ≤ n) × (n ≤ 8)
 ProperInstruction g (evaluate rs) = (1 ≤ length rs) × (length rs ≤ 8) × ((r : Rule ℕ) → In r rs → ProperRule r)
 ProperInstruction g (expect x) = Known g x
-ProperInstruction g (test cs) = (1 ≤ length cs) × (length cs ≤ 512) × ((c : Condition ℕ) → In c cs → ProperCondition c)
+ProperInstruction g (test cs) = (1 ≤ length cs) × (length cs ≤ conditionsLimit) × ((c : Condition ℕ) → In c cs → ProperCondition c)
 ProperInstruction g (remove n) = n ≤ 104
 
 abbrev pub AllProper : Grammar → List Instruction → Type 0
@@ -210,7 +211,7 @@ module _ (g : Grammar) (w : WellFormed g) (p : Production) (listed : In p (g .pr
   formed : WellFormedProduction g p
   formed = w .each p listed
 
-  conditions-most : length (p .conditions) ≤ 512
+  conditions-most : length (p .conditions) ≤ conditionsLimit
   conditions-most = omega (arith, in-total (λ q. length (q .conditions)) (g .productions) p listed, w .conditions)
 
   evaluate-proper : (rs : List (Rule ℕ)) → length rs ≤ 8 → ((r : Rule ℕ) → In r rs → ProperRule r) → T (not (isEmpty rs)) → ProperInstruction g (evaluate rs)
@@ -241,5 +242,5 @@ module _ (g : Grammar) (w : WellFormed g) (p : Production) (listed : In p (g .pr
   pub entry-proper : (c : Condition ℕ) → In c (entryTests g p) → ProperCondition c
   entry-proper = tests-proper g w p formed 0
 
-  pub entry-most : length (entryTests g p) ≤ 512
+  pub entry-most : length (entryTests g p) ≤ conditionsLimit
   entry-most = omega (arith, tests-most g w p formed 0, conditions-most)

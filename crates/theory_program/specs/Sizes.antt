@@ -7,6 +7,7 @@ use mathlib.Core.Bool.{Bool, true, false, not}
 use mathlib.Core.List.{List, [], _∷_, _++_, map}
 use lib.ListN.{length, length-append, length-map}
 use lib.Dec.{T, eqb, ltb, leb, leb→le, le→leb, eqb→eq}
+use Rattle.meaning.specs.Limits.{areaLength}
 use Rattle.meaning.specs.Base.{In, keep, consIf, total, isEmpty}
 use Rattle.meaning.specs.Grammar.{Symbol, Occurrence, Rule, Condition, Production, Grammar, addedFor, productionAt, conditionPosition, mapRule, mapCondition, conditionsAt}
 use Rattle.meaning.specs.Rules.{WellFormed}
@@ -128,7 +129,7 @@ program-most g w =
     omega (arith, program-length g w, bodies-most g (g .productions) (λ p i. w .each p i .short), w .nonterminals .1, w .productions .1, w .rules, w .conditions)
 
 -- the shortest area that a call takes is long enough
-pub program-fits : (g : Grammar) → WellFormed g → length (programOf g) ≤ 16384
+pub program-fits : (g : Grammar) → WellFormed g → length (programOf g) ≤ areaLength
 program-fits g w = omega (arith, program-most g w)
 
 -- ---- every address is in the program

@@ -8,6 +8,7 @@ use mathlib.Core.List.{List, [], _∷_, _++_, map}
 use mathlib.Core.Option.{none, some}
 use lib.ListN.{length, replicate, length-append}
 use lib.Dec.{eqb}
+use Rattle.meaning.specs.Limits.{areaLength}
 use Rattle.meaning.specs.Base.{In, countFrom, total}
 use Rattle.meaning.specs.Grammar.{Symbol, terminal, nonterminal, Function, const, copy, binary, binaryNumber, addc, quot, Condition, range, atmost, Production, Grammar, syn, nonterminalCount, productionAt}
 use Rattle.meaning.specs.Rules.{Known, WellFormed}
@@ -104,7 +105,7 @@ first-below f i (p ∷ ps) = go (f p) (first-below f (suc i) ps)
 -- ---- bodies and records
 
 module _ (g : Grammar) (w : WellFormed g) where
-  body-small : (a : ℕ) (p : Production) → In p (g .productions) → a + bodySize g p ≤ 16384 → Small (bodyWords g a p)
+  body-small : (a : ℕ) (p : Production) → In p (g .productions) → a + bodySize g p ≤ areaLength → Small (bodyWords g a p)
   body-small a p i l =
       let s = a + schemeOffset g p in
       small-append (expectsAt s (scheme g p)) (entryWords g p ++ schemeWords (scheme g p))
@@ -113,11 +114,11 @@ module _ (g : Grammar) (w : WellFormed g) where
       (small-concat conditionWords (entryTests g p) (λ c j. condition-small c (entry-proper g w p i c j)))
       (small-concat instructionWords (scheme g p) (λ x j. instruction-small g w x (scheme-proper g w p i x j))))
 
-  bodies-small : (a : ℕ) (ps : List Production) → ((p : Production) → In p ps → In p (g .productions)) → a + total (map (bodySize g) ps) ≤ 16384 → Small (bodiesFrom g a ps)
+  bodies-small : (a : ℕ) (ps : List Production) → ((p : Production) → In p ps → In p (g .productions)) → a + total (map (bodySize g) ps) ≤ areaLength → Small (bodiesFrom g a ps)
   bodies-small a [] h l = small-nil
   bodies-small a (p ∷ ps) h l = small-append (bodyWords g a p) (bodiesFrom g (a + bodySize g p) ps) (body-small a p (h p (inl refl)) (omega arith)) (bodies-small (a + bodySize g p) ps (λ q i. h q (inr i)) (omega arith))
 
-  record-small : (a i : ℕ) (p : Production) (later : List Production) → In p (g .productions) → a + bodySize g p ≤ 16384 → suc i + length later ≤ 128 → Small (recordWords g a i p later)
+  record-small : (a i : ℕ) (p : Production) (later : List Production) → In p (g .productions) → a + bodySize g p ≤ areaLength → suc i + length later ≤ 128 → Small (recordWords g a i p later)
   record-small a i p later j l m =
       let f = w .each p j in
       let next = first-below (λ q. eqb (q .left) (p .left)) (suc i) later in
@@ -125,7 +126,7 @@ module _ (g : Grammar) (w : WellFormed g) where
       each-small (recordWords g a i p later)
       (omega (arith, f .left, w .nonterminals .1), (omega (arith, next), (bits-small (starts g p) 0 32, (bits-small (starts g p) 32 32, (omega arith, (omega (arith, tests), (omega arith, (omega (arith, f .short), tt))))))))
 
-  records-small : (a i : ℕ) (ps : List Production) → ((p : Production) → In p ps → In p (g .productions)) → a + total (map (bodySize g) ps) ≤ 16384 → i + length ps ≤ 128 → Small (recordsFrom g a i ps)
+  records-small : (a i : ℕ) (ps : List Production) → ((p : Production) → In p ps → In p (g .productions)) → a + total (map (bodySize g) ps) ≤ areaLength → i + length ps ≤ 128 → Small (recordsFrom g a i ps)
   records-small a i [] h l m = small-nil
   records-small a i (p ∷ ps) h l m = small-append (recordWords g a i p ps) (recordsFrom g (a + bodySize g p) (suc i) ps) (record-small a i p ps (h p (inl refl)) (omega arith) (omega arith)) (records-small (a + bodySize g p) (suc i) ps (λ q j. h q (inr j)) (omega arith) (omega arith))
 
@@ -147,7 +148,7 @@ module _ (g : Grammar) (w : WellFormed g) where
       small-append (waitsFrom g (p .left) 0 (p .right)) (replicate (12 - length (p .right)) 0) (waits-small (p .left) 0 (p .right) (f .left) (f .symbols) (omega (arith, f .short))) (none-small (12 - length (p .right)))
 
   -- where a scheme begins is inside the program
-  pub scheme-below : (p : ℕ) → p < length (g .productions) → schemeAddress g p ≤ 16384
+  pub scheme-below : (p : ℕ) → p < length (g .productions) → schemeAddress g p ≤ areaLength
   scheme-below p l =
       let b : Begins g (programOf g ++ []) = record { words = stands-first (programOf g) [] } in
       omega (arith, stands-within (body-at b w p l), body-length g (bodyAddress g p) (productionAt g p), length-append (programOf g) [], program-most g w)
@@ -177,7 +178,7 @@ module _ (g : Grammar) (w : WellFormed g) where
   program-small =
       let records = recordsFrom g (bodiesAddress g) 0 (g .productions) in
       let bodies = bodiesFrom g (bodiesAddress g) (g .productions) in
-      let l : bodiesAddress g + total (map (bodySize g) (g .productions)) ≤ 16384 = omega (arith, program-length g w, program-most g w) in
+      let l : bodiesAddress g + total (map (bodySize g) (g .productions)) ≤ areaLength = omega (arith, program-length g w, program-most g w) in
       small-append (segmentWords g) (directory g ++ (records ++ (waits g ++ bodies))) segment-small
       (small-append (directory g) (records ++ (waits g ++ bodies)) directory-small
       (small-append records (waits g ++ bodies)

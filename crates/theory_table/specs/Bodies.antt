@@ -9,6 +9,7 @@ use lib.ListN.{length, drop, length-map}
 use lib.IntN.{pos}
 use lib.Signed.{leZ}
 use lib.Dec.{T, eqb, ltb, leb, eqb→eq, leb→le, ltb→lt}
+use Rattle.meaning.specs.Limits.{rulesLimit, conditionsLimit}
 use Rattle.meaning.specs.Base.{all}
 use Rattle.meaning.specs.Layout.{field, symbolByte, ruleBytes, conditionBytes, Bytes}
 use Rattle.meaning.specs.Table.{State, production, rule, condition, byte, within, symbolOf, ruleOf, conditionOf, ruleLength, conditionLength, constantAt, operands, reads, occurrenceKnown, current}
@@ -42,7 +43,7 @@ rule-body s b h p =
     divides = not (eqb (byte b 2) 8) || (leZ (pos 1) (constantAt b 5) && leZ (constantAt b 5) (pos 1000000))
 
     fits : T right
-    fits = both (leb 3 (length b) && ltb (s .rules) 1024) right (both (leb 3 (length b) && ltb (s .rules) 1024 && right) divides (p .limits) .0) .1
+    fits = both (leb 3 (length b) && ltb (s .rules) rulesLimit) right (both (leb 3 (length b) && ltb (s .rules) rulesLimit && right) divides (p .limits) .0) .1
 
     go : byte b 2 ≤ 8 → T (ltb 8 (byte b 2)) ⊎ T (eqb (length b) (ruleLength (byte b 2))) → length b ≡ ruleLength (byte b 2)
     go n (inl t) = absurd (omega (arith, ltb→lt 8 (byte b 2) t))
@@ -51,7 +52,7 @@ rule-body s b h p =
 pub condition-body : (s : State) (b : List ℕ) → Bytes b → Faultless s condition b → b ≡ conditionBytes (conditionOf b)
 condition-body s b h p =
     let n = leb→le (byte b 0) 2 (both (leb (byte b 0) 2) (all (occurrenceKnown s (current s)) (reads (conditionOf b))) (p .named) .0) in
-    condition-bytes b h n (go n (or-cases (ltb 2 (byte b 0)) (eqb (length b) (conditionLength (byte b 0))) (both (leb 1 (length b) && ltb (s .conditions) 512) (ltb 2 (byte b 0) || eqb (length b) (conditionLength (byte b 0))) (p .limits) .1)))
+    condition-bytes b h n (go n (or-cases (ltb 2 (byte b 0)) (eqb (length b) (conditionLength (byte b 0))) (both (leb 1 (length b) && ltb (s .conditions) conditionsLimit) (ltb 2 (byte b 0) || eqb (length b) (conditionLength (byte b 0))) (p .limits) .1)))
   where
     go : byte b 0 ≤ 2 → T (ltb 2 (byte b 0)) ⊎ T (eqb (length b) (conditionLength (byte b 0))) → length b ≡ conditionLength (byte b 0)
     go n (inl t) = absurd (omega (arith, ltb→lt 2 (byte b 0) t))

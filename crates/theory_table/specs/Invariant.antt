@@ -11,6 +11,7 @@ use lib.Seq.{getD-at}
 use lib.IntN.{ℤ, pos, negsuc}
 use lib.Signed.{leZ}
 use lib.Dec.{T, eqb, ltb, leb, eqb→eq, eqb-refl, leb→le, le→leb, ltb→lt, nltb→le, T-not}
+use Rattle.meaning.specs.Limits.{rulesLimit, conditionsLimit}
 use Rattle.meaning.specs.Base.{all, In, total}
 use Rattle.meaning.specs.Grammar.{Symbol, terminal, nonterminal, Occurrence, Function, const, functionsOf, Rule, Condition, range, atmost, Production, Counts, noCounts, Grammar}
 use Rattle.meaning.specs.Rules.{Operands, Reads, Input, Output, Operand, Distinct, Constant, Proper, InFourBytes}
@@ -181,8 +182,8 @@ pub record Inv (s : State) : Type 0 where
   pub entries : (e : Entry) → In e (s .entries) → EntryOk (headerOf s) (s .counts) (s .carrying) e
   -- all but the latest
   pub completes : (e : Entry) → In e (drop 1 (s .entries)) → T (complete s e)
-  pub rules : (ruleCount (s .entries) ≡ s .rules) × (s .rules ≤ 1024)
-  pub conditions : (conditionCount (s .entries) ≡ s .conditions) × (s .conditions ≤ 512)
+  pub rules : (ruleCount (s .entries) ≡ s .rules) × (s .rules ≤ rulesLimit)
+  pub conditions : (conditionCount (s .entries) ≡ s .conditions) × (s .conditions ≤ conditionsLimit)
 
 pub nothing-yet : Inv nothingRead
 nothing-yet =
@@ -389,7 +390,7 @@ module _ (hd : Option Header) (cs : List Counts) (co ws : List ℕ) (rn cn o : �
   -- another latest production, with the table's counts of rules and conditions
   with-latest :
       (e e′ : Entry) (es : List Entry) (rn′ cn′ : ℕ) → Inv (mk hd cs co ws (e ∷ es) rn cn) → EntryOk (headerOf (mk hd cs co ws (e ∷ es) rn cn)) cs ws e′
-      → (ruleCount (e′ ∷ es) ≡ rn′) × (rn′ ≤ 1024) → (conditionCount (e′ ∷ es) ≡ cn′) × (cn′ ≤ 512) → Inv (mk hd cs co ws (e′ ∷ es) rn′ cn′)
+      → (ruleCount (e′ ∷ es) ≡ rn′) × (rn′ ≤ rulesLimit) → (conditionCount (e′ ∷ es) ≡ cn′) × (cn′ ≤ conditionsLimit) → Inv (mk hd cs co ws (e′ ∷ es) rn′ cn′)
   with-latest e e′ es rn′ cn′ v k few little =
       record {
         header = v .header;
@@ -415,9 +416,9 @@ module _ (hd : Option Header) (cs : List Counts) (co ws : List ℕ) (rn cn o : �
       let a = both (leb (byte b 2) 8 && occurrenceKnown s e (r .target)) (all (occurrenceKnown s e) (Table.operands (r .function))) (p .named) in
       let c = both (leb (byte b 2) 8) (occurrenceKnown s e (r .target)) (a .0) in
       let d = both (not (isInput s e (r .target))) (all (isInput s e) (Table.operands (r .function))) (p .directions) in
-      let m = both (leb 3 (length b) && ltb rn 1024 && (ltb 8 (byte b 2) || eqb (length b) (Table.ruleLength (byte b 2)))) (not (eqb (byte b 2) 8) || divisor (constantAt b 5)) (p .limits) in
-      let m′ = both (leb 3 (length b) && ltb rn 1024) (ltb 8 (byte b 2) || eqb (length b) (Table.ruleLength (byte b 2))) (m .0) in
-      let room = ltb→lt rn 1024 (both (leb 3 (length b)) (ltb rn 1024) (m′ .0) .1) in
+      let m = both (leb 3 (length b) && ltb rn rulesLimit && (ltb 8 (byte b 2) || eqb (length b) (Table.ruleLength (byte b 2)))) (not (eqb (byte b 2) 8) || divisor (constantAt b 5)) (p .limits) in
+      let m′ = both (leb 3 (length b) && ltb rn rulesLimit) (ltb 8 (byte b 2) || eqb (length b) (Table.ruleLength (byte b 2))) (m .0) in
+      let room = ltb→lt rn rulesLimit (both (leb 3 (length b)) (ltb rn rulesLimit) (m′ .0) .1) in
       let k = with-rule s (headerOf s) e (v .entries e (inl refl)) r (c .1) (a .1) (d .0) (d .1) (p .once) (p .leftward) (constant-of b (m .1)) in
       with-latest e (withRule e r) es (suc rn) cn v k (omega (arith, v .rules .0), room) (v .conditions)
 
@@ -427,8 +428,8 @@ module _ (hd : Option Header) (cs : List Counts) (co ws : List ℕ) (rn cn o : �
       let s : State = mk hd cs co ws (e ∷ es) rn cn in
       let c : Condition Occurrence = conditionOf b in
       let a = both (leb (byte b 0) 2) (all (occurrenceKnown s e) (Table.reads c)) (p .named) in
-      let m = both (leb 1 (length b) && ltb cn 512) (ltb 2 (byte b 0) || eqb (length b) (Table.conditionLength (byte b 0))) (p .limits) in
-      let room = ltb→lt cn 512 (both (leb 1 (length b)) (ltb cn 512) (m .0) .1) in
+      let m = both (leb 1 (length b) && ltb cn conditionsLimit) (ltb 2 (byte b 0) || eqb (length b) (Table.conditionLength (byte b 0))) (p .limits) in
+      let room = ltb→lt cn conditionsLimit (both (leb 1 (length b)) (ltb cn conditionsLimit) (m .0) .1) in
       let k = with-condition s (headerOf s) e (v .entries e (inl refl)) c (a .1) (p .directions) (proper-from c (ends-in b) (p .bounds)) in
       with-latest e (withCondition e c) es rn (suc cn) v k (v .rules) (omega (arith, v .conditions .0), room)
 

@@ -11,6 +11,7 @@ use lib.Seq.{getD-at}
 use lib.Signed.{leZ}
 use lib.IntN.{pos}
 use lib.Dec.{T, eqb, ltb, leb, eqb→eq, eqb-refl, le→leb, lt→ltb}
+use Rattle.meaning.specs.Limits.{rulesLimit, conditionsLimit, tableLimit}
 use Rattle.meaning.specs.Base.{In, all, total}
 use Rattle.meaning.specs.Grammar.{Symbol, terminal, nonterminal, Occurrence, Function, Rule, Condition, range, atmost, Production, Counts, noCounts, Grammar, nonterminalCount}
 use Rattle.meaning.specs.Rules.{Operands, Operand, Distinct, Rising, Proper, Known, WellFormed, WellFormedProduction}
@@ -71,7 +72,7 @@ module _ (g : Grammar) (wf : WellFormed g) where
     abbrev s : State
     s = st co (e ∷ es) rn cn
 
-    rule-passed : (r : Rule Occurrence) → In r (p .rules) → ((q : Rule Occurrence) → In q (e .rules) → q .target ≡ r .target → ⊥) → rn < 1024 → Faultless s rule (ruleBytes r)
+    rule-passed : (r : Rule Occurrence) → In r (p .rules) → ((q : Rule Occurrence) → In q (e .rules) → q .target ≡ r .target → ⊥) → rn < rulesLimit → Faultless s rule (ruleBytes r)
     rule-passed r i once room =
         let b : List ℕ = ruleBytes r in
         let k : ℕ = r .target .position in
@@ -83,7 +84,7 @@ module _ (g : Grammar) (wf : WellFormed g) where
         let fits : Bool = ltb 8 (byte b 2) || eqb (length b) (ruleLength (byte b 2)) in
         let divides : Bool = not (eqb (byte b 2) 8) || (leZ (pos 1) (constantAt b 5) && leZ (constantAt b 5) (pos 1000000)) in
         record {
-          limits = and (leb 3 (length b) && ltb rn 1024 && fits) divides (and (leb 3 (length b) && ltb rn 1024) fits (and (leb 3 (length b)) (ltb rn 1024) (q .long) (lt→ltb rn 1024 room)) (q .right)) (q .divides);
+          limits = and (leb 3 (length b) && ltb rn rulesLimit && fits) divides (and (leb 3 (length b) && ltb rn rulesLimit) fits (and (leb 3 (length b)) (ltb rn rulesLimit) (q .long) (lt→ltb rn rulesLimit room)) (q .right)) (q .divides);
           named = subst (λ z. T (leb (byte b 2) 8 && occurrenceKnown s e (z .target) && all (occurrenceKnown s e) (operands (z .function)))) (sym (q .same))
               (and (leb (byte b 2) 8 && occurrenceKnown s e (r .target)) (all (occurrenceKnown s e) (operands f))
               (and (leb (byte b 2) 8) (occurrenceKnown s e (r .target)) (q .named) (o .0)) (ins .0));
@@ -94,14 +95,14 @@ module _ (g : Grammar) (wf : WellFormed g) where
           bounds = tt;
         }
 
-    condition-passed : (c : Condition Occurrence) → In c (p .conditions) → cn < 512 → Faultless s condition (conditionBytes c)
+    condition-passed : (c : Condition Occurrence) → In c (p .conditions) → cn < conditionsLimit → Faultless s condition (conditionBytes c)
     condition-passed c i room =
         let b : List ℕ = conditionBytes c in
         let q = condition-read c (w .proper c i) in
         let ins = reads-inputs s e c (reads-map (λ o u. input-over g (grammarOf s) p (productionOf e) (sym back) (sym carried-back) (sym el) (sym er) (o .position) (o .attribute) u) c (w .reads c i)) in
         let fits : Bool = ltb 2 (byte b 0) || eqb (length b) (conditionLength (byte b 0)) in
         record {
-          limits = and (leb 1 (length b) && ltb cn 512) fits (and (leb 1 (length b)) (ltb cn 512) (q .long) (lt→ltb cn 512 room)) (q .right);
+          limits = and (leb 1 (length b) && ltb cn conditionsLimit) fits (and (leb 1 (length b)) (ltb cn conditionsLimit) (q .long) (lt→ltb cn conditionsLimit room)) (q .right);
           named = subst (λ z. T (leb (byte b 0) 2 && all (occurrenceKnown s e) (reads z))) (sym (q .same)) (and (leb (byte b 0) 2) (all (occurrenceKnown s e) (reads c)) (q .named) (ins .0));
           start = tt;
           directions = subst (λ z. T (all (isInput s e) (reads z))) (sym (q .same)) (ins .1);
@@ -154,7 +155,7 @@ module _ (g : Grammar) (wf : WellFormed g) where
 
   in-production : {rs : List (Rule Occurrence)} {cs : List (Condition Occurrence)} {body : List ℕ} → RulesAndConditions rs cs body → (p : Production) → WellFormedProduction g p
       → (e : Entry) → e .left ≡ p .left → e .right ≡ p .right → reverse (e .rules) ++ rs ≡ p .rules → reverse (e .conditions) ++ cs ≡ p .conditions
-      → (co : List ℕ) (es : List Entry) (rn cn rn′ cn′ o : ℕ) (rest : List ℕ) → rn + length rs ≡ rn′ → rn′ ≤ 1024 → cn + length cs ≡ cn′ → cn′ ≤ 512
+      → (co : List ℕ) (es : List Entry) (rn cn rn′ cn′ o : ℕ) (rest : List ℕ) → rn + length rs ≡ rn′ → rn′ ≤ rulesLimit → cn + length cs ≡ cn′ → cn′ ≤ conditionsLimit
       → Onward p co es rn′ cn′ rest → Found (st co (e ∷ es) rn cn) o (body ++ rest)
   in-production Layout.nothing p w e el er re ce co es rn cn rn′ cn′ o rest a b c d k =
       let x : rn ≡ rn′ = omega arith in
@@ -185,7 +186,7 @@ module _ (g : Grammar) (wf : WellFormed g) where
   conditionTotal ps = total (map (λ p. length (p .conditions)) ps)
 
   productions-read : {ps : List Production} {bs : List ℕ} → Productions ps bs → (co : List ℕ) (es : List Entry) (rn cn o : ℕ) → map productionOf (reverse es) ++ ps ≡ g .productions
-      → T (lastComplete (st co es rn cn)) → rn + ruleTotal ps ≤ 1024 → cn + conditionTotal ps ≤ 512 → Found (st co es rn cn) o bs
+      → T (lastComplete (st co es rn cn)) → rn + ruleTotal ps ≤ rulesLimit → cn + conditionTotal ps ≤ conditionsLimit → Found (st co es rn cn) o bs
   productions-read Layout.nothing co es rn cn o q t a b =
       let e : map productionOf (reverse es) ≡ g .productions = sym (append-nil (map productionOf (reverse es))) ∙ q in
       let l : 0 < length es = omega (arith, ap length e, length-map (reverse es) productionOf, length-reverse es, wf .productions .0) in
@@ -278,5 +279,5 @@ module _ (g : Grammar) (wf : WellFormed g) where
   table-found : (bs : List ℕ) → LaidOut g bs → Found nothingRead 0 bs
   table-found bs l = subst (Found nothingRead 0) (sym (l .isTable)) (found-field nothingRead 0 header (headerBytes g) (countsFields (g .counts) ++ (carryingFields (g .carrying) ++ l .rest)) tt header-passed (counts-read (g .counts) [] [] 7 (l .rest) refl (l .productions)))
 
-pub laid-out-read : (bs : List ℕ) (g : Grammar) → LaidOut g bs → WellFormed g → length bs ≤ 32768 → (s : State) × (readTable bs ≡ wellFormed s) × (grammarOf s ≡ g)
+pub laid-out-read : (bs : List ℕ) (g : Grammar) → LaidOut g bs → WellFormed g → length bs ≤ tableLimit → (s : State) × (readTable bs ≡ wellFormed s) × (grammarOf s ≡ g)
 laid-out-read bs g l w n = let f = table-found g w bs l in (f .0, reads-table bs (f .0) n (f .1), f .2)

@@ -8,6 +8,7 @@ use mathlib.Core.List.{List, [], _∷_, _++_}
 use lib.ListN.{length, take, drop, length-append, length-drop, take-append-drop}
 use lib.Seq.{length-take-le, take-append-seam, drop-append-seam}
 use lib.Dec.{T, eqb, ltb, leb, eqb→eq, leb→le, le→leb, ltb→lt, lt→ltb, nltb→le}
+use Rattle.meaning.specs.Limits.{tableLimit}
 use Rattle.meaning.specs.Table.{State, Kind, header, counts, production, rule, condition, carrier, Stage, atHeader, atCounts, atFirst, atAny, stage, tagStands, kindOf, isSome, headerOf, byte, limitsHold, known, startRight}
 use Rattle.meaning.specs.Table.{directionsRight, setOnce, leftToRight, boundsRight, lowestOf, judgeField, current, lastComplete, readField, Read, wellFormed, malformed, atEnd, readAll, readTable, nothingRead}
 use Rattle.theory_base.specs.Members.{both, and, or-cases, not-not}
@@ -335,15 +336,15 @@ read-all {s} {u} (more {o = o} k high low body {rest} e m p r) (suc n) h =
     let c = chooses (eqb (tagOf k) 3 && not (lastComplete s)) (current s .offset) (leb 2 (length bs) && leb size (length bs - 2)) 2 o (eqb number 0) number o others (st .1) fits passes in
     c ∙ rw (w, d, kind-of-tag k, e) (read-all r n (omega arith))
 
-pub table-reads : (bs : List ℕ) (u : State) → readTable bs ≡ wellFormed u → (length bs ≤ 32768) × Reads nothingRead 0 bs u
-table-reads bs u e = go (leb (length bs) 32768) refl e
+pub table-reads : (bs : List ℕ) (u : State) → readTable bs ≡ wellFormed u → (length bs ≤ tableLimit) × Reads nothingRead 0 bs u
+table-reads bs u e = go (leb (length bs) tableLimit) refl e
   where
-    go : (c : Bool) → leb (length bs) 32768 ≡ c → _≡_ {A = Read} (elim c as (λ x. Read) [ false ↦ malformed 1 0 | true ↦ readAll (suc (length bs)) nothingRead 0 bs ]) (wellFormed u) → (length bs ≤ 32768) × Reads nothingRead 0 bs u
-    go true f e = (leb→le (length bs) 32768 (rw f tt), reads (suc (length bs)) nothingRead 0 bs u e)
+    go : (c : Bool) → leb (length bs) tableLimit ≡ c → _≡_ {A = Read} (elim c as (λ x. Read) [ false ↦ malformed 1 0 | true ↦ readAll (suc (length bs)) nothingRead 0 bs ]) (wellFormed u) → (length bs ≤ tableLimit) × Reads nothingRead 0 bs u
+    go true f e = (leb→le (length bs) tableLimit (rw f tt), reads (suc (length bs)) nothingRead 0 bs u e)
     go false f e = refused e
 
-pub reads-table : (bs : List ℕ) (u : State) → length bs ≤ 32768 → Reads nothingRead 0 bs u → readTable bs ≡ wellFormed u
-reads-table bs u l r = go (leb (length bs) 32768) (le→leb (length bs) 32768 l)
+pub reads-table : (bs : List ℕ) (u : State) → length bs ≤ tableLimit → Reads nothingRead 0 bs u → readTable bs ≡ wellFormed u
+reads-table bs u l r = go (leb (length bs) tableLimit) (le→leb (length bs) tableLimit l)
   where
     go : (c : Bool) → T c → _≡_ {A = Read} (elim c as (λ x. Read) [ false ↦ malformed 1 0 | true ↦ readAll (suc (length bs)) nothingRead 0 bs ]) (wellFormed u)
     go true t = read-all r (suc (length bs)) (omega arith)

@@ -4,13 +4,14 @@ use mathlib.Core.Path.{_≡_, sym, ap, _∙_}
 use denote.Ref.{now}
 use lib.ListN.{length, take}
 use lib.Seq.{take-all}
+use Rattle.meaning.specs.Limits.{tableLimit}
 use Rattle.theory_order.specs.Planning.{copied}
 use Rattle.house_copy.proofs.Writing.{copied-none, length-more, length-small}
 use Rattle.house_copy.proofs.planned_length.Statement.{statement}
 use Rattle.house_copy.proofs.planned_length.Tie as tie
 
 abbrev Inv-loop : tie.InvT-loop
-Inv-loop table order sum₀ i₀ sum i = (i ≤ length order) × (sum ≡ length (copied table (take i order))) × (sum ≤ i * 32768)
+Inv-loop table order sum₀ i₀ sum i = (i ≤ length order) × (sum ≡ length (copied table (take i order))) × (sum ≤ i * tableLimit)
 
 abbrev μ-loop : tie.MeasureT-loop
 μ-loop table order sum₀ i₀ sum i = length order - i

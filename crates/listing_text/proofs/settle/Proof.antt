@@ -1,3 +1,4 @@
+use Rattle.meaning.specs.Limits.{areaLength}
 use Rattle.listing_text.specs.LineOut.{lines-skip}
 use Rattle.listing_text.specs.Tests.{inside-facts, skips-facts, skipped-on}
 use Rattle.listing_text.specs.Cursors.{linesLeft}
@@ -11,7 +12,7 @@ abbrev Inv-loop : tie.InvT-loop
 Inv-loop program c₀ c = linesLeft program c ≡ linesLeft program c₀
 
 abbrev μ-loop : tie.MeasureT-loop
-μ-loop program c₀ c = 16384 - c .at
+μ-loop program c₀ c = areaLength - c .at
 
 loop-holds : tie.Need-loop-holds Inv-loop μ-loop
 loop-holds c = refl

@@ -1,5 +1,6 @@
 use Prim.Native.Nat.{_≤_, _<_}
 use native.Mathlib.Omega.{arith}
+use Rattle.meaning.specs.Limits.{areaLength}
 use Rattle.program_block_words.specs.Patch.{wrote-length}
 use Rattle.program_body_words.specs.Schemes as S
 use borrow.Author.Needs.{needs}
@@ -32,7 +33,7 @@ write-block-requires c κs =
     (omega (arith, small own), S.end-block (sum .before .before .before .before .before .before .before .before .pre) (sum .whole-sum .ensures _ _ _ _) (left .row-left .ensures .0) (own .byte-at .ensures .0))
 
 -- the remove stands inside the area
-below : (c : tie.After-write-block) → c .write-block .result < 16384
+below : (c : tie.After-write-block) → c .write-block .result < areaLength
 below c =
     let own = c .before .before in
     let left = own .before in

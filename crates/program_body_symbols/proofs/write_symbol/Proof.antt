@@ -1,5 +1,6 @@
 use Prim.Native.Nat.{_<_}
 use native.Mathlib.Omega.{arith}
+use Rattle.meaning.specs.Limits.{areaLength}
 use Rattle.program_body_words.specs.Symbols as S
 use borrow.Author.Needs.{needs}
 use Rattle.program_body_symbols.proofs.write_symbol.Statement.{statement}
@@ -61,7 +62,7 @@ write-block-requires c κs =
     )
 
 -- the expect stands inside the area
-below : (c : tie.After-write-block) → c .write-block .result < 16384
+below : (c : tie.After-write-block) → c .write-block .result < areaLength
 below c =
     let add = c .before .before .before .before in
     let top = add .before .before in

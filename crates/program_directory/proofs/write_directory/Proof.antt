@@ -3,6 +3,7 @@ use Prim.Native.Nat.{ℕ, _≤_, _<_, _+_, _*_, _-_}
 use mathlib.Core.Path.{_≡_}
 use mathlib.Core.List.{List}
 use lib.ListN.{length}
+use Rattle.meaning.specs.Limits.{areaLength}
 use Rattle.program_block_words.specs.Patch.{patch}
 use Rattle.program_words.specs.Directory.{zeros}
 use native.Mathlib.Omega.{arith}
@@ -12,7 +13,7 @@ use Rattle.program_directory.proofs.write_directory.Statement.{statemen
 use Rattle.program_directory.proofs.write_directory.Tie as tie
 
 abbrev Inv-loop : tie.InvT-loop
-Inv-loop rows sets nonterminals count area₀ end p₀ area p = (p ≤ count) × ((old : List ℕ) → 16384 ≤ length old → area₀ ≡ patch old 9 (zeros (9 + 64 * nonterminals - 9)) → S.DirectoryGo rows sets nonterminals count old p area)
+Inv-loop rows sets nonterminals count area₀ end p₀ area p = (p ≤ count) × ((old : List ℕ) → areaLength ≤ length old → area₀ ≡ patch old 9 (zeros (9 + 64 * nonterminals - 9)) → S.DirectoryGo rows sets nonterminals count old p area)
 
 abbrev μ-loop : tie.MeasureT-loop
 μ-loop rows sets nonterminals count area₀ end p₀ area p = p

@@ -1,5 +1,6 @@
 use native.Mathlib.Omega.{arith}
 use borrow.Author.Needs.{needs}
+use Rattle.meaning.specs.Limits.{areaLength}
 use Rattle.program_words.specs.Laws as L
 use Rattle.program_words.specs.Sections as S
 use Prim.Native.Nat.{_≤_, _-_}
@@ -12,7 +13,7 @@ use Rattle.program_productions.proofs.write_each.Tie as tie
 
 abbrev Inv-loop : tie.InvT-loop
 Inv-loop table rows inherited synthesized offsets sets sizes links₀ area₀ count at₀ body₀ nexts p₀ links area at body p =
-    (p ≤ count) × (count ≡ sizes .productions) × (at ≤ 16384) × (length links ≡ length links₀) × S.ProductionsPart (grammarIn table) area₀ p area at body
+    (p ≤ count) × (count ≡ sizes .productions) × (at ≤ areaLength) × (length links ≡ length links₀) × S.ProductionsPart (grammarIn table) area₀ p area at body
 
 abbrev μ-loop : tie.MeasureT-loop
 μ-loop table rows inherited synthesized offsets sets sizes links₀ area₀ count at₀ body₀ nexts p₀ links area at body p =

@@ -3,6 +3,7 @@ use mathlib.Core.List.{_++_}
 use lib.ListN.{drop, replicate, set}
 use lib.Seq.{length-take-le}
 use denote.Ref.{now}
+use Rattle.meaning.specs.Grammar.{segmentPlace}
 use Rattle.meaning.specs.Value.{mark}
 use Rattle.rank_open.specs.Opening.{all-cleared}
 use borrow.Author.Needs.{needs}
@@ -47,7 +48,7 @@ returns c =
     let n = length-take-le a (now (s .args .registers)) (k .few) in
     let m = length-take-le b (now (s .args .places)) (k .little) in (
       ap (λ z. z ++ drop a (now (s .args .registers))) (r ∙ ap (λ i. replicate i mark) n) ∙ all-cleared mark (now (s .args .registers)) a (k .few) (k .registers),
-      ap (λ z. set z 0 32768) (ap (λ z. z ++ drop b (now (s .args .places))) (p ∙ ap (λ i. replicate i 0) m) ∙ all-cleared 0 (now (s .args .places)) b (k .little) (k .places)),
+      ap (λ z. set z 0 segmentPlace) (ap (λ z. z ++ drop b (now (s .args .places))) (p ∙ ap (λ i. replicate i 0) m) ∙ all-cleared 0 (now (s .args .places)) b (k .little) (k .places)),
     )
 
 pub open-again-spec : {M : Type 1} → statement M

@@ -2,6 +2,7 @@ use native.Mathlib.Omega.{arith}
 use mathlib.Core.Path.{ap, _∙_}
 use lib.ListN.{set}
 use denote.Ref.{now}
+use Rattle.meaning.specs.Grammar.{segmentPlace}
 use Rattle.records.specs.Records.{handedIs}
 use Rattle.records.specs.declared.Answer.the-variants.{More}
 use Rattle.run_opening.specs.Opening.{open-31, open-32, open-made}
@@ -60,7 +61,7 @@ returns-3 c =
     let w = l .before .word-at in
     let vs = c .before .before .before .before .before .before .clear-registers in
     let ps = c .before .before .before .clear-places in
-    λ g s. ap (λ z. handedIs (record { state = z; answer = More 0 }) (vs .last .0) (set (ps .last .0) 0 32768)) (c .running .ensures)
+    λ g s. ap (λ z. handedIs (record { state = z; answer = More 0 }) (vs .last .0) (set (ps .last .0) 0 segmentPlace)) (c .running .ensures)
     ∙ open-made g (now (a .program)) s (now (a .registers)) (now (a .places)) (k .pre .0) (k .pre .1) (omega (arith, l .if1 .left, w .ensures .0)) (c .before .before .before .before .before .before .before .before .if2 .left) (w .result) _ _ (w .ensures .0) (vs .ensures) (ps .ensures)
 
 pub open-lent-spec : {M : Type 1} → statement M

@@ -4,6 +4,7 @@ use mathlib.Core.Path.{_≡_, sym, ap, subst}
 use mathlib.Core.List.{[], _++_}
 use lib.ListN.{length, drop}
 use denote.Ref.{now}
+use Rattle.meaning.specs.Limits.{registersLimit, placesLimit}
 use Rattle.sheet_room.specs.Room.{is-short, has-room}
 use Rattle.sheet_answers.specs.declared.Answer.the-variants.{Value, Refused, TableRefused}
 use Rattle.sheet.specs.Segments.{SegmentDone, Under, none-written, under-uneven, under-refused, under-table, under-short, under-written}
@@ -60,7 +61,7 @@ returns-2 c =
     let same : last ++ drop 0 out ≡ out = none-written last out (omega (arith, wk .kept .1 .1 .1 .1 .1 .0)) in
     let even : length ks ≡ length vs = (c .before .before .before .before .before .before .before .before .before) .if1 .left in
     let x = (c .before .before .before) .value .given in
-    let w : SegmentDone ws ks vs (min n 4096) (min k 1024) [] last (Value (x .0 .0) (x .0 .1 .0) (x .0 .1 .1 .0)) = subst (λ z. SegmentDone ws ks vs (min n 4096) (min k 1024) [] last z) (x .1) (wk .ensures) in
+    let w : SegmentDone ws ks vs (min n registersLimit) (min k placesLimit) [] last (Value (x .0 .0) (x .0 .1 .0) (x .0 .1 .1 .0)) = subst (λ z. SegmentDone ws ks vs (min n registersLimit) (min k placesLimit) [] last z) (x .1) (wk .ensures) in
     let judged = is-short _ _ _ (c .before .refusal .ensures) (c .if2 .taken) in
     let short : length out < x .0 .1 .1 .0 = omega (arith, ap length same, judged .0) in
     let answer : Under ws ks vs n k out out (Refused 41 0) = under-short ws ks vs n k out even (s .pre .1) [] last (x .0 .0) (x .0 .1 .0) (x .0 .1 .1 .0) w short in
@@ -86,7 +87,7 @@ returns-3 c =
     let same : last ++ drop 0 out ≡ out = none-written last out (omega (arith, wk .kept .1 .1 .1 .1 .1 .0)) in
     let even : length ks ≡ length vs = (c .before .before .before .before .before .before .before) .if1 .left in
     let x = (c .before) .number .given in
-    let w : SegmentDone ws ks vs (min n 4096) (min k 1024) [] last (TableRefused (x .0 .0) (x .0 .1 .0)) = subst (λ z. SegmentDone ws ks vs (min n 4096) (min k 1024) [] last z) (x .1) (wk .ensures) in
+    let w : SegmentDone ws ks vs (min n registersLimit) (min k placesLimit) [] last (TableRefused (x .0 .0) (x .0 .1 .0)) = subst (λ z. SegmentDone ws ks vs (min n registersLimit) (min k placesLimit) [] last z) (x .1) (wk .ensures) in
     subst (λ z. Under ws ks vs n k out z (TableRefused (x .0 .0) (x .0 .1 .0))) (sym same) (under-table ws ks vs n k out even (s .pre .1) [] last out (x .0 .0) (x .0 .1 .0) w)
 
 same-length-3 : tie.Need-same-length-3
@@ -106,7 +107,7 @@ returns-4 c =
     let same : last ++ drop 0 out ≡ out = none-written last out (omega (arith, wk .kept .1 .1 .1 .1 .1 .0)) in
     let even : length ks ≡ length vs = (c .before .before .before .before .before .before .before) .if1 .left in
     let x = (c .before) .number2 .given in
-    let w : SegmentDone ws ks vs (min n 4096) (min k 1024) [] last (Refused (x .0 .0) (x .0 .1 .0)) = subst (λ z. SegmentDone ws ks vs (min n 4096) (min k 1024) [] last z) (x .1) (wk .ensures) in
+    let w : SegmentDone ws ks vs (min n registersLimit) (min k placesLimit) [] last (Refused (x .0 .0) (x .0 .1 .0)) = subst (λ z. SegmentDone ws ks vs (min n registersLimit) (min k placesLimit) [] last z) (x .1) (wk .ensures) in
     subst (λ z. Under ws ks vs n k out z (Refused (x .0 .0) (x .0 .1 .0))) (sym same) (under-refused ws ks vs n k out even (s .pre .1) [] last (x .0 .0) (x .0 .1 .0) w)
 
 same-length-4 : tie.Need-same-length-4
@@ -126,11 +127,11 @@ returns-5 c =
     let same : last ++ drop 0 out ≡ out = none-written last out (omega (arith, wk .kept .1 .1 .1 .1 .1 .0)) in
     let even : length ks ≡ length vs = (c .before .before .before .before .before .before .before .before .before .before .before .before .before) .if1 .left in
     let x = (c .before .before .before .before .before .before .before) .value .given in
-    let w : SegmentDone ws ks vs (min n 4096) (min k 1024) [] last (Value (x .0 .0) (x .0 .1 .0) (x .0 .1 .1 .0)) = subst (λ z. SegmentDone ws ks vs (min n 4096) (min k 1024) [] last z) (x .1) (wk .ensures) in
+    let w : SegmentDone ws ks vs (min n registersLimit) (min k placesLimit) [] last (Value (x .0 .0) (x .0 .1 .0) (x .0 .1 .1 .0)) = subst (λ z. SegmentDone ws ks vs (min n registersLimit) (min k placesLimit) [] last z) (x .1) (wk .ensures) in
     let w2 = (c .before .before) .walk2 in
     let after = w2 .last .1 .1 .1 .1 .1 .0 in
     let room : x .0 .1 .1 .0 ≤ length out = omega (arith, ap length same, has-room _ _ _ ((c .before .before .before .before) .before .refusal .ensures) ((c .before .before .before .before) .if2 .left)) in
-    let written : SegmentDone ws ks vs (min n 4096) (min k 1024) out after (w2 .result) = subst (λ z. SegmentDone ws ks vs (min n 4096) (min k 1024) z after (w2 .result)) same (w2 .ensures) in
+    let written : SegmentDone ws ks vs (min n registersLimit) (min k placesLimit) out after (w2 .result) = subst (λ z. SegmentDone ws ks vs (min n registersLimit) (min k placesLimit) z after (w2 .result)) same (w2 .ensures) in
     under-written ws ks vs n k out even (s .pre .1) [] last (x .0 .0) (x .0 .1 .0) (x .0 .1 .1 .0) w room after (w2 .result) written
 
 pub sheet-under-spec : {M : Type 1} → statement M

@@ -2,6 +2,7 @@ use Prim.Native.Nat.{min}
 use native.Mathlib.Omega.{arith}
 use mathlib.Core.Path.{refl}
 use denote.Ref.{now}
+use Rattle.meaning.specs.Limits.{registersLimit, placesLimit}
 use Rattle.sheet.specs.Calling.{walks-as}
 use borrow.Author.Needs.{needs}
 use Rattle.sheet.proofs.walk.Statement.{statement}
@@ -27,7 +28,7 @@ returns c =
     let n = (c .before .before .before .before .before .before .before) .smaller in
     let k = (c .before .before .before .before .before .before) .smaller2 in
     let g = (c .before .before) .segment in
-    walks-as (now (s .args .program)) (now (s .args .kinds)) (now (s .args .values)) (n .result) (k .result) (min (s .args .registers) 4096) (min (s .args .places) 1024) (now (s .args .sheet)) (g .last .1 .1 .1 .1 .1 .0) (g .result) (n .ensures) (k .ensures) (g .ensures)
+    walks-as (now (s .args .program)) (now (s .args .kinds)) (now (s .args .values)) (n .result) (k .result) (min (s .args .registers) registersLimit) (min (s .args .places) placesLimit) (now (s .args .sheet)) (g .last .1 .1 .1 .1 .1 .0) (g .result) (n .ensures) (k .ensures) (g .ensures)
 
 pub walk-spec : {M : Type 1} → statement M
 walk-spec =
