@@ -12,14 +12,13 @@ use Rattle.meaning.specs.Grammar.{Symbol, terminal, nonterminal, Grammar, produ
 use Rattle.meaning.specs.Derivation.{Listed}
 use Rattle.meaning.specs.Sets.{singleton, endNumber, nullable, emptySymbol}
 use Rattle.meaning.specs.Decide.{productiveSymbol, productive, reachable}
-use Rattle.theory_base.specs.Members.{both, or-cases, or-left, or-right}
+use Rattle.theory_base.specs.Members.{both, or-cases, or-left, or-right, same-truth}
 use Rattle.theory_sets.specs.Productions.{known, symbols, lefts}
 use Rattle.theory_sets.specs.Nullable.{nullable-closed}
 use Rattle.theory_sets.specs.Productive.{productive-closed}
 use Rattle.theory_sets.specs.Reachable.{reachable-start, reachable-closed}
 use Rattle.theory_sets.specs.LeastSets.{nullable-least, productive-least, reachable-least}
 use Rattle.theory_sets.specs.TokenSets.{single-has, single-only}
-use Rattle.theory_sets.specs.Widths.{both-true}
 use Rattle.token_set.specs.SetBits.{setOf}
 use Rattle.outline.specs.Images.{ImageOf}
 use Rattle.analysis.specs.Views.{members, Within, fit, symbolBit, ClosedAt, ReachAt}
@@ -83,7 +82,7 @@ module _ {rows : List ℕ} {count : ℕ} {g : Grammar} (r : ImageOf rows count g
       rw (r .left p m) at (c .at p zero-le m (rw (r .right p m, all-same (fit b see) h k (productionAt g p .right)) t))
 
   pub nullable-marks : (w : ℕ) → Settled (Within (ClosedAt false rows) 0 count) 0 w → Marks w (nullable g)
-  nullable-marks w st = record { is = λ n. both-true (members w n) (getD (nullable g) n false) (to n) (back n) }
+  nullable-marks w st = record { is = λ n. same-truth (members w n) (getD (nullable g) n false) (to n) (back n) }
     where
       to : (n : ℕ) → T (members w n) → T (getD (nullable g) n false)
       to = st .least (λ n. getD (nullable g) n false) (closed-rows false (λ n. getD (nullable g) n false) (emptySymbol (nullable g)) (fits-empty (λ n. getD (nullable g) n false) (nullable g) (λ n. refl)) (nullable-closed (r .sound))) (λ n t. absurd (rw (none-in n) at t))
@@ -92,7 +91,7 @@ module _ {rows : List ℕ} {count : ℕ} {g : Grammar} (r : ImageOf rows count g
       back = nullable-least (r .sound) (setOf w) (closed-grammar false (members w) (emptySymbol (setOf w)) (fits-empty (members w) (setOf w) (λ n. refl)) (st .closed))
 
   pub productive-marks : (w : ℕ) → Settled (Within (ClosedAt true rows) 0 count) 0 w → Marks w (productive g)
-  productive-marks w st = record { is = λ n. both-true (members w n) (getD (productive g) n false) (to n) (back n) }
+  productive-marks w st = record { is = λ n. same-truth (members w n) (getD (productive g) n false) (to n) (back n) }
     where
       to : (n : ℕ) → T (members w n) → T (getD (productive g) n false)
       to = st .least (λ n. getD (productive g) n false) (closed-rows true (λ n. getD (productive g) n false) (productiveSymbol (productive g)) (fits-productive (productive g)) (productive-closed (r .sound))) (λ n t. absurd (rw (none-in n) at t))
@@ -102,7 +101,7 @@ module _ {rows : List ℕ} {count : ℕ} {g : Grammar} (r : ImageOf rows count g
 
   -- a word that may have the bit of the end too
   pub reachable-below : (x w : ℕ) → setOf x ≡ singleton (g .start) → Settled (Within (ReachAt rows) 0 count) x w → (n : ℕ) → n < nonterminalCount g → members w n ≡ getD (reachable g) n false
-  reachable-below x w one st n low = both-true (members w n) (getD (reachable g) n false) to (back n)
+  reachable-below x w one st n low = same-truth (members w n) (getD (reachable g) n false) to (back n)
     where
       reached : ℕ → Bool
       reached m = getD (reachable g) m false || eqb endNumber m

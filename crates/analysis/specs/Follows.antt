@@ -4,7 +4,7 @@ use native.Mathlib.Decide.{decLt}
 use native.Mathlib.Omega.{arith}
 use mathlib.Core.Path.{_≡_, refl, sym, ap, _∙_}
 use mathlib.Core.Logic.{⊎-elim}
-use mathlib.Core.Bool.{Bool, true, false, cond, _&&_, _||_}
+use mathlib.Core.Bool.{Bool, true, false, cond, _&&_, _||_, or-false}
 use mathlib.Core.List.{List, [], _∷_}
 use lib.Bits.{bitOr}
 use lib.Dec.{T, lit<, ltb, ltb→lt, lt→ltb}
@@ -15,7 +15,7 @@ use Rattle.meaning.specs.Sets.{has, singleton, endNumber}
 use Rattle.meaning.specs.Table.{symbolOf}
 use Rattle.token_set.specs.SetBits.{setOf, set-end}
 use Rattle.theory_base.specs.Members.{both}
-use Rattle.theory_sets.specs.TokenSets.{or-false, single-has, single-only}
+use Rattle.theory_sets.specs.TokenSets.{single-has, single-only}
 use Rattle.outline.specs.Images.{Image, leftAt, sizeAt, byteAt, rightAt, right-back, right-end, symbol-terminal, symbol-nonterminal}
 use Rattle.analysis.specs.Views.{members, sees, Inside, fit, turn, opens, Below}
 use Rattle.analysis.specs.Growth.{or-is, none-in}
@@ -60,9 +60,6 @@ module _ {C P Q R : ℕ → (ℕ → Bool) → Type 0} (s r q : List ℕ) where
         sound = λ u see c k. b .sound u see c (a .sound u see c k);
         holds = λ u. joins u (b .keeps u) (a .holds u) (b .holds u);
       }
-
-pub filled-map : {C P Q : ℕ → (ℕ → Bool) → Type 0} (s r : List ℕ) → Filled C P s r → ((u : ℕ) → P u (sees r u) → Q u (sees r u)) → Filled C Q s r
-filled-map s r a f = record { size = a .size; keeps = a .keeps; sound = a .sound; holds = λ u. f u (a .holds u) }
 
 -- the set of symbol x has got what `add` has
 pub record Gets (x : Symbol) (add u : ℕ) (see : ℕ → Bool) : Type 0 where

@@ -4,7 +4,7 @@ use native.Mathlib.Decide.{decLt}
 use native.Mathlib.Omega.{arith}
 use mathlib.Core.Path.{_≡_, refl, sym, ap, _∙_}
 use mathlib.Core.Logic.{_⊎_, inl, inr, ⊎-elim}
-use mathlib.Core.Bool.{Bool, true, false, _&&_, _||_}
+use mathlib.Core.Bool.{Bool, true, false, _&&_, _||_, or-false}
 use mathlib.Core.List.{List, [], _∷_}
 use lib.Bits.{bitOr}
 use lib.Dec.{T, eqb, eqb→eq, eqb-refl}
@@ -12,7 +12,6 @@ use lib.ListN.{getD, length, replicate}
 use Rattle.meaning.specs.Grammar.{Symbol, terminal, nonterminal}
 use Rattle.meaning.specs.Sets.{has, singleton}
 use Rattle.theory_base.specs.Members.{and, both, or-cases, or-left, or-right}
-use Rattle.theory_sets.specs.TokenSets.{or-false}
 use Rattle.token_set.specs.SetBits.{setOf}
 use Rattle.outline.specs.Images.{leftAt, rightAt}
 use Rattle.analysis.specs.Views.{members, sees, opens, opens-more, WithinAll, FrontAt, LeadAt, heads, leading, Below}

@@ -13,8 +13,8 @@ use lib.Bits.{bitOr}
 use lib.Dec.{T, eqb, eqb→eq, eqb-refl}
 use Rattle.meaning.specs.Sets.{has, singleton}
 use Rattle.theory_sets.specs.TokenSets.{has-union, has-empty, union-left, union-right, union-cases, single-has, single-only}
-use Rattle.theory_sets.specs.Widths.{both-true}
 use Rattle.token_set.specs.SetBits.{setOf, set-empty, set-or, or-grows}
+use Rattle.theory_base.specs.Members.{same-truth}
 use Rattle.analysis.specs.Views.{members, Inside}
 
 pub or-left : (a b n : ℕ) → T (members a n) → T (members (bitOr a b) n)
@@ -38,7 +38,7 @@ none-in n = rw set-empty (has-empty n)
 
 -- the word of one nonterminal or token
 pub single-is : (m n : ℕ) → m < 64 → has (singleton m) n ≡ eqb m n
-single-is m n l = both-true (has (singleton m) n) (eqb m n) (λ t. rw (single-only m n t) (eqb-refl m)) (λ t. rw (sym (eqb→eq m n t)) (single-has m l))
+single-is m n l = same-truth (has (singleton m) n) (eqb m n) (λ t. rw (single-only m n t) (eqb-refl m)) (λ t. rw (sym (eqb→eq m n t)) (single-has m l))
 
 pub record Grown (C P : (ℕ → Bool) → Type 0) (s r : ℕ) : Type 0 where
   pub grows : s ≤ r
@@ -78,25 +78,6 @@ module _ {C P Q R : (ℕ → Bool) → Type 0} (s r q : ℕ) where
     where
       same : q ≡ s → r ≡ s
       same e = omega (arith, a .grows, b .grows)
-
--- on the way there
-pub record Rising (C : (ℕ → Bool) → Type 0) (s r : ℕ) : Type 0 where
-  pub keeps : Inside (members s) (members r)
-  pub least : (see : ℕ → Bool) → C see → Inside (members s) see → Inside (members r) see
-
-module _ {C : (ℕ → Bool) → Type 0} (s : ℕ) where
-  pub rising-start : Rising C s s
-  rising-start = record { keeps = λ n t. t; least = λ see c k. k }
-
-  pub rising-on : {P : (ℕ → Bool) → Type 0} (r q : ℕ) → Rising C s r → Grown C P r q → Rising C s q
-  rising-on r q a b = record { keeps = λ n t. b .keeps n (a .keeps n t); least = λ see c k. b .sound see c (a .least see c k) }
-
-  pub settled : (r q : ℕ) → Rising C s r → Grown C C r q → q ≡ r → Settled C s r
-  settled r q a b e = record { keeps = a .keeps; closed = b .stuck e; least = a .least }
-
-  -- before the steps change nothing, where it is closed for another reason
-  pub settled-soon : (r : ℕ) → Rising C s r → C (members r) → Settled C s r
-  settled-soon r a c = record { keeps = a .keeps; closed = c; least = a .least }
 
 -- ---- a word for each of the first k productions
 pub record SetsTo (f : ℕ → ℕ → Bool) (k : ℕ) (sets : List ℕ) : Type 0 where

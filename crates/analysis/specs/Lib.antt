@@ -2,6 +2,8 @@
 pub mod Views
 -- A word that grows, production by production, until nothing changes
 pub mod Growth
+-- Rounds over the productions, forwards and backwards in turn, until one changes nothing
+pub mod Rounds
 -- Words with the same members are the same number, so that a test of numbers tells whether a set lies in another
 pub mod Bits
 -- The steps of closing: nullable and productive

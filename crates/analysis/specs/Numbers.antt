@@ -9,8 +9,7 @@ use mathlib.Core.Option.{Option, none, some}
 use lib.Dec.{T}
 use Rattle.meaning.specs.Base.{all, any, countFrom}
 use Rattle.meaning.specs.Decide.{firstWhere}
-use Rattle.theory_base.specs.Members.{and, both, or-cases, or-left, or-right}
-use Rattle.theory_sets.specs.Widths.{both-true}
+use Rattle.theory_base.specs.Members.{and, both, or-cases, or-left, or-right, same-truth}
 use Rattle.theory_sets.specs.Verdicts.{Result, searched}
 
 module _ (f : ℕ → Bool) where
@@ -44,13 +43,7 @@ module _ (f : ℕ → Bool) where
 
 -- tests that agree on the numbers below n
 pub all-count-same : (f h : ℕ → Bool) (n : ℕ) → ((a : ℕ) → a < n → f a ≡ h a) → all f (countFrom 0 n) ≡ all h (countFrom 0 n)
-all-count-same f h n k = both-true (all f (countFrom 0 n)) (all h (countFrom 0 n)) (λ t. all-count h 0 n (λ a l m. rw (← k a (omega arith)) (count-all f 0 n t a l m))) (λ t. all-count f 0 n (λ a l m. rw (k a (omega arith)) (count-all h 0 n t a l m)))
-
-pub any-count-same : (f h : ℕ → Bool) (n : ℕ) → ((a : ℕ) → a < n → f a ≡ h a) → any f (countFrom 0 n) ≡ any h (countFrom 0 n)
-any-count-same f h n k =
-    both-true (any f (countFrom 0 n)) (any h (countFrom 0 n))
-    (λ t. let w = count-any f 0 n t in any-count h 0 n (w .0) (w .1) (w .2) (rw (← k (w .0) (omega (arith, w .2))) (w .3)))
-    (λ t. let w = count-any h 0 n t in any-count f 0 n (w .0) (w .1) (w .2) (rw (k (w .0) (omega (arith, w .2))) (w .3)))
+all-count-same f h n k = same-truth (all f (countFrom 0 n)) (all h (countFrom 0 n)) (λ t. all-count h 0 n (λ a l m. rw (← k a (omega arith)) (count-all f 0 n t a l m))) (λ t. all-count f 0 n (λ a l m. rw (k a (omega arith)) (count-all h 0 n t a l m)))
 
 -- r is the lowest number below n that passes, or n
 pub record Found (f : ℕ → Bool) (n r : ℕ) : Type 0 where

@@ -1,7 +1,7 @@
 -- The steps of reaching.
 use Prim.Native.Nat.{ℕ, _-_, _^_, _≤_, _<_, zero-le}
 use mathlib.Core.Path.{_≡_, sym, ap, _∙_}
-use mathlib.Core.Bool.{Bool, true, false, _||_}
+use mathlib.Core.Bool.{Bool, true, false, _||_, or-false}
 use mathlib.Core.List.{List, [], _∷_}
 use native.Mathlib.Omega.{arith}
 use lib.Bits.{bitOr}
@@ -11,7 +11,6 @@ use Rattle.meaning.specs.Grammar.{Symbol}
 use Rattle.meaning.specs.Sets.{singleton, endNumber}
 use Rattle.meaning.specs.Table.{symbolOf}
 use Rattle.theory_base.specs.Members.{true→T}
-use Rattle.theory_sets.specs.TokenSets.{or-false}
 use Rattle.token_set.specs.SetBits.{setOf, set-end}
 use Rattle.outline.specs.Images.{leftAt, symbol-terminal, symbol-nonterminal}
 use Rattle.analysis.specs.Views.{members, Within, symbolBit, rightBy, ReachAt}

@@ -11,7 +11,7 @@ use Rattle.meaning.specs.Grammar.{Symbol, terminal, nonterminal, Grammar, produ
 use Rattle.meaning.specs.Derivation.{Listed, LeftRecursive}
 use Rattle.meaning.specs.Sets.{rounds, nullable, emptySymbol, productionsOf}
 use Rattle.meaning.specs.Decide.{leads, leadsTo, leadsOn, isLeftRecursive}
-use Rattle.theory_base.specs.Members.{and, both, or-cases, or-left, or-right}
+use Rattle.theory_base.specs.Members.{and, both, or-cases, or-left, or-right, same-truth}
 use Rattle.theory_sets.specs.Derivations.{Yields, nothing, same, expand, derives→yields}
 use Rattle.theory_sets.specs.Tests.{tabled-cases, tabled-at}
 use Rattle.theory_sets.specs.Productions.{known, Chosen, of-cases, of-at, symbols}
@@ -19,7 +19,6 @@ use Rattle.theory_sets.specs.Nullable.{nullable-closed, yields→emptyString}
 use Rattle.theory_sets.specs.SpreadByRounds.{spread-grows, spread-closed}
 use Rattle.theory_sets.specs.LeftRecursion.{recursive→LeftRecursive}
 use Rattle.theory_sets.specs.LeastSets.{led-least}
-use Rattle.theory_sets.specs.Widths.{both-true}
 use Rattle.outline.specs.Images.{ImageOf, leftAt}
 use Rattle.analysis.specs.Views.{members, sees, WithinAll, opens, LeadAt}
 use Rattle.analysis.specs.Tables.{SettledTable, zeros-none}
@@ -125,4 +124,4 @@ module _ {rows : List ℕ} {count : ℕ} {g : Grammar} (r : ImageOf rows count g
             rw e at (st .closed n .at (q .0) zero-le c (rw (r .right (q .0) c) (yields-front n (derives→yields (q .4)) (q .1) refl)))
 
     pub recursive-is : (n : ℕ) → sees t n n ≡ isLeftRecursive g n
-    recursive-is n = both-true (sees t n n) (isLeftRecursive g n) (to n) (back n)
+    recursive-is n = same-truth (sees t n n) (isLeftRecursive g n) (to n) (back n)

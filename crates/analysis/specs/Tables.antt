@@ -11,9 +11,6 @@ use lib.Dec.{T}
 use lib.ListN.{length, getD, set, replicate, length-set}
 use lib.Seq.{getD-set-same, getD-set-other}
 use Rattle.meaning.specs.Grammar.{Symbol, terminal, nonterminal}
-use Rattle.meaning.specs.Sets.{singleton}
-use Rattle.theory_sets.specs.TokenSets.{single-only}
-use Rattle.token_set.specs.SetBits.{setOf}
 use Rattle.analysis.specs.Views.{members, sees, Inside}
 use Rattle.analysis.specs.Growth.{or-left, or-right, or-members, none-in}
 
@@ -62,21 +59,6 @@ added-none t s add =
       adds = λ n q. absurd (let z : _≡_ {A = ℕ} 0 1 = cc in omega arith);
       only = λ u b h. inl h;
     }
-
--- the nonterminals of `done` have got what `more` has
-pub record Got (done more : ℕ) (t : List ℕ) : Type 0 where
-  pub has : (n u : ℕ) → T (members done n) → T (members more u) → T (sees t u n)
-
-module _ (more : ℕ) (t : List ℕ) where
-  pub got-none : Got 0 more t
-  got-none = record { has = λ n u h. absurd (rw (none-in n) at h) }
-
-  -- one of them gets nothing new
-  pub got-same : (done a : ℕ) → Got done more t → T (members done a) → Added t (nonterminal a) more t
-  got-same done a g h = record { size = refl; keeps = λ u b s. s; adds = λ n q u s. let e : a ≡ n = cc in rw (sym e) (g .has a u h s); only = λ u b s. inl s }
-
-  pub got-next : (done a y : ℕ) (r : List ℕ) → Got done more t → Added t (nonterminal a) more r → setOf y ≡ singleton a → Got (bitOr done y) more r
-  got-next done a y r g j one = record { has = λ n u h s. ⊎-elim (λ d. j .keeps u n (g .has n u d s)) (λ d. j .adds n (ap nonterminal (sym (single-only a n (rw one at d)))) u s) (or-members done y n h) }
 
 -- the empty table
 pub zeros : (n a : ℕ) → _≡_ {A = ℕ} (getD (replicate n 0) a 0) 0

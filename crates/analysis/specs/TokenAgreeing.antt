@@ -2,7 +2,7 @@
 use Prim.Native.Nat.{ℕ, _<_, zero-le}
 use mathlib.Core.Path.{_≡_, refl, sym, ap, ap₂, _∙_}
 use mathlib.Core.Logic.{_⊎_, inl, inr}
-use mathlib.Core.Bool.{Bool, true, false, _&&_, _||_}
+use mathlib.Core.Bool.{Bool, true, false, _&&_, _||_, or-false}
 use mathlib.Core.List.{List, [], _∷_, _++_, map}
 use lib.Dec.{T, ltb→lt}
 use lib.ListN.{getD, length, take, drop, replicate, List·getD-map, take-append-drop}
@@ -11,14 +11,14 @@ use Rattle.meaning.specs.Base.{all}
 use Rattle.meaning.specs.Grammar.{Symbol, terminal, nonterminal, Grammar, productionAt, nonterminalCount}
 use Rattle.meaning.specs.Derivation.{Listed}
 use Rattle.meaning.specs.Sets.{TokenSet, endNumber, emptySet, has, singleton, onlyIf, nullable, emptySymbol, emptyString, firstString, first, follow, starts}
-use Rattle.theory_base.specs.Members.{both}
+use Rattle.theory_base.specs.Members.{both, same-truth}
 use Rattle.theory_sets.specs.Tests.{all-right}
 use Rattle.theory_sets.specs.Productions.{known, symbols, lefts}
 use Rattle.theory_sets.specs.FirstSets.{first-closed}
 use Rattle.theory_sets.specs.AfterSets.{Source, byStart, byProduction, follow-closed}
 use Rattle.theory_sets.specs.LeastSets.{first-least, follow-least}
-use Rattle.theory_sets.specs.TokenSets.{or-false, has-union, has-empty}
-use Rattle.theory_sets.specs.Widths.{both-true, same-set, starts-wide}
+use Rattle.theory_sets.specs.TokenSets.{has-union, has-empty}
+use Rattle.theory_sets.specs.Widths.{same-set, starts-wide}
 use Rattle.token_set.specs.SetBits.{setOf, set-empty, setOf-wide}
 use Rattle.outline.specs.Images.{ImageOf, rightAt}
 use Rattle.analysis.specs.Views.{members, sees, WithinAll, fit, opens, FrontAt, Below}
@@ -81,7 +81,7 @@ below {g = g} r =
 
 module _ {rows : List ℕ} {count : ℕ} {g : Grammar} (r : ImageOf rows count g) (null : ℕ) (gone : Marks null (nullable g)) where
   pub first-holds : (t : List ℕ) → SettledTable (WithinAll (FrontAt true (members null) rows) 0 count) (replicate 48 0) t → Holds t (first g)
-  first-holds t st = record { is = λ n u. both-true (sees t u n) (has (getD (first g) n emptySet) u) (to u n) (back u n) }
+  first-holds t st = record { is = λ n u. same-truth (sees t u n) (has (getD (first g) n emptySet) u) (to u n) (back u n) }
     where
       closed : (u p : ℕ) → p < count → FrontAt true (members null) rows u p (λ n. has (getD (first g) n emptySet) u)
       closed u p l h = rw (r .left p l) (first-closed (r .sound) u p (listed r p l) (rw (r .right p l, opens-first (members null) (nullable g) (gone .is) (first g) (λ n. has (getD (first g) n emptySet) u) u (λ n. refl) (productionAt g p .right)) at h))
@@ -107,7 +107,7 @@ module _ {rows : List ℕ} {count : ℕ} {g : Grammar} (r : ImageOf rows count g
     vanish = all-same (fit false (members null)) (emptySymbol (nullable g)) (fits-empty (members null) (nullable g) (gone .is))
 
     pub follow-holds : (t : List ℕ) → Followed (members null) f rows count (g .start) t → Holds t (follow g)
-    follow-holds t st = record { is = λ n u. both-true (sees t u n) (has (getD (follow g) n emptySet) u) (to u n) (back u n) }
+    follow-holds t st = record { is = λ n u. same-truth (sees t u n) (has (getD (follow g) n emptySet) u) (to u n) (back u n) }
       where
         add :
             (u p j n : ℕ) (rest : List Symbol) → p < count → drop j (rightAt rows p) ≡ nonterminal n ∷ rest

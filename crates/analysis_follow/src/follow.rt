@@ -10,13 +10,12 @@ use outline::symbol_of;
 use token_set::TokenSet;
 ghost use mathlib.Core.Path.{_≡_};
 ghost use mathlib.Core.Bool.{true, false, cond};
-ghost use mathlib.Core.List.{List};
 ghost use Prim.Native.Nat.{ℕ, _<_, _≤_};
 ghost use lib.ListN.{length, replicate};
 ghost use Rattle.meaning.specs.Table.{symbolOf};
 ghost use Rattle.outline.specs.Images.{Image};
 ghost use Rattle.analysis.specs.Views.{members, sees, turn, fit, Below, Imaged};
-ghost use Rattle.analysis.specs.Tables.{Added, Got};
+ghost use Rattle.analysis.specs.Tables.{Added};
 ghost use Rattle.analysis.specs.Follows.{BaseFrom, BasesTo, EdgeFrom, EdgesTo, Behind, Followed};
 
 // What a string begins with whose first symbol is s, from what the rest begins with.
@@ -35,30 +34,23 @@ fn begin_with(s: u8, null: NonterminalSet, first: &[u64; NONTERMINALS], rest: To
     TokenSet(own)
 }
 
-// Adds a set to the entry of a symbol in a table, and another to its entry in the edges, unless it is one of those that have got both: these, and
-// the symbol. A token has no entry. The same nonterminal often stands many times on a right side.
+// Adds a set to the entry of a symbol in a table, and another to its entry in the edges. A token has no entry.
 fn mark(
     table: &mut [u64; NONTERMINALS],
     edges: &mut [u64; NONTERMINALS],
     s: u8,
-    rest: u64,
-    up: u64,
-    done: NonterminalSet,
-) -> NonterminalSet
-    requires { ⌜ (s < 176) × (length (now table) ≡ 48) × (length (now edges) ≡ 48) × Got (done .0) rest (now table) × Got (done .0) up (now edges) ⌝ }
-    ensures table { λ r. ⌜ Added (now (table .entry)) (symbolOf s) rest (now (table .exit)) × Got (r .0) rest (now (table .exit)) ⌝ }
-    ensures edges { λ r. ⌜ Added (now (edges .entry)) (symbolOf s) up (now (edges .exit)) × Got (r .0) up (now (edges .exit)) ⌝ }
+    rest: TokenSet,
+    up: NonterminalSet,
+)
+    requires { ⌜ (s < 176) × (length (now table) ≡ 48) × (length (now edges) ≡ 48) ⌝ }
+    ensures table { λ r. ⌜ Added (now (table .entry)) (symbolOf s) (rest .0) (now (table .exit)) ⌝ }
+    ensures edges { λ r. ⌜ Added (now (edges .entry)) (symbolOf s) (up .0) (now (edges .exit)) ⌝ }
 {
     if s < 128 {
-        return NonterminalSet::EMPTY;
+        return;
     }
-    let a = s - 128;
-    if done.has(a) {
-        return done;
-    }
-    add(table, a as usize, rest);
-    add(edges, a as usize, up);
-    done.union(NonterminalSet::of_nonterminal(a))
+    add(table, (s - 128) as usize, rest.0);
+    add(edges, (s - 128) as usize, up.0);
 }
 
 // What is handed on past a symbol: the same where it derives nothing, else none.
@@ -75,27 +67,21 @@ fn onward(s: u8, null: NonterminalSet, up: NonterminalSet) -> NonterminalSet
     NonterminalSet::EMPTY
 }
 
-// Those that have got the next sets: the same as before where these are the same, else none.
-fn still(
-    done: NonterminalSet,
-    rest: TokenSet,
-    next: TokenSet,
-    up: NonterminalSet,
-    on: NonterminalSet,
-) -> NonterminalSet
-    ensures { λ r. ⌜ ((t e : List ℕ) → Got (done .0) (rest .0) t → Got (done .0) (up .0) e → Got (r .0) (next .0) t × Got (r .0) (on .0) e) ⌝ }
+// A symbol that left both sets as they were: another one like it would change nothing. Else 255, which is none.
+fn still(s: u8, rest: TokenSet, next: TokenSet, up: NonterminalSet, on: NonterminalSet) -> u8
+    ensures { λ r. ⌜ (r < 176 → (r ≡ s) × (next .0 ≡ rest .0) × (on .0 ≡ up .0)) ⌝ }
 {
-    if rest.0 != next.0 {
-        return NonterminalSet::EMPTY;
+    if next.0 != rest.0 {
+        return 255;
     }
-    if up.0 != on.0 {
-        return NonterminalSet::EMPTY;
+    if on.0 != up.0 {
+        return 255;
     }
-    done
+    s
 }
 
 // One walk along the right side of production k, from its end: adds what comes after each nonterminal from the symbols behind it, and the left
-// side to the edges of those behind which all derives nothing.
+// side to the edges of those behind which all derives nothing. The same nonterminal often stands many times on a right side.
 fn behind_by(
     rows: &[u8; ROWS],
     k: usize,
@@ -112,15 +98,18 @@ fn behind_by(
     let left = NonterminalSet::of_nonterminal(left_of(rows, k));
     let mut up = left;
     let mut rest = TokenSet::EMPTY;
-    let mut done = NonterminalSet::EMPTY;
+    let mut quiet: u8 = 255;
     let mut i = size_of(rows, k);
     while 0 < i {
         i -= 1;
         let s = symbol_of(rows, k, i);
-        let got = mark(table, edges, s, rest.0, up.0, done);
+        if s == quiet {
+            continue;
+        }
+        mark(table, edges, s, rest, up);
         let next = begin_with(s, null, first, rest);
         let on = onward(s, null, up);
-        done = still(got, rest, next, up, on);
+        quiet = still(s, rest, next, up, on);
         rest = next;
         up = on;
     }

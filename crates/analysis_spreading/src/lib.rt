@@ -3,8 +3,9 @@
 use limits::NONTERMINALS;
 use nonterminal_set::NonterminalSet;
 ghost use mathlib.Core.Path.{_≡_};
-ghost use Prim.Native.Nat.{_<_, _≤_};
-ghost use lib.ListN.{length};
+ghost use mathlib.Core.List.{List};
+ghost use Prim.Native.Nat.{ℕ, _+_, _<_, _≤_};
+ghost use lib.ListN.{length, getD};
 ghost use Rattle.meaning.specs.Grammar.{nonterminal};
 ghost use Rattle.analysis.specs.Tables.{Added};
 ghost use Rattle.analysis.specs.Spreading.{United, Turned, Spreads};
@@ -32,7 +33,28 @@ fn union_of(table: &[u64; NONTERMINALS], n: usize) -> NonterminalSet
     out
 }
 
-// Gives what entry k has, edges and set, to the entries with an edge to k.
+// Gives edges and a set, those of entry k, to another entry if that has an edge to k.
+fn give(
+    edges: &mut [u64; NONTERMINALS],
+    sets: &mut [u64; NONTERMINALS],
+    k: usize,
+    at: usize,
+    edge: u64,
+    set: u64,
+)
+    requires { ⌜ (length (now edges) ≡ 48) × (length (now sets) ≡ 48) × (k < 48) × (at < 48) ⌝ }
+    ensures { λ r. ⌜ ((e s : List ℕ) → edge ≡ getD e k 0 → set ≡ getD s k 0 → Turned k e e (now (edges .entry)) at → Turned k e s (now (sets .entry)) at
+        → Turned k e e (now (edges .exit)) (at + 1) × Turned k e s (now (sets .exit)) (at + 1)) ⌝ }
+{
+    let old = edges[at];
+    if !NonterminalSet(old).has(k as u8) {
+        return;
+    }
+    edges[at] = old | edge;
+    sets[at] = sets[at] | set;
+}
+
+// Gives what entry k has, edges and set, to the entries with an edge to k. Two of them at a turn take less than one after the other.
 fn spread_by(edges: &mut [u64; NONTERMINALS], sets: &mut [u64; NONTERMINALS], n: usize, k: usize)
     requires { ⌜ (length (now edges) ≡ 48) × (length (now sets) ≡ 48) × (n ≤ 48) × (k < 48) ⌝ }
     ensures edges { λ r. ⌜ Turned k (now (edges .entry)) (now (edges .entry)) (now (edges .exit)) n ⌝ }
@@ -41,15 +63,15 @@ fn spread_by(edges: &mut [u64; NONTERMINALS], sets: &mut [u64; NONTERMINALS], n:
     let edge = edges[k];
     let set = sets[k];
     let mut i: usize = 0;
-    while i < n {
-        let at = i;
-        i += 1;
-        let old = edges[at];
-        if NonterminalSet(old).has(k as u8) {
-            edges[at] = old | edge;
-            sets[at] = sets[at] | set;
-        }
+    while i + 1 < n {
+        give(edges, sets, k, i, edge, set);
+        give(edges, sets, k, i + 1, edge, set);
+        i += 2;
     }
+    if n <= i {
+        return;
+    }
+    give(edges, sets, k, i, edge, set);
 }
 
 // The edges closed, and the sets spread along them. Only nonterminals that some edge goes to can pass anything on.

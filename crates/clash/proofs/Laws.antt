@@ -20,11 +20,11 @@ use Rattle.outline.specs.Images.{leftAt}
 use Rattle.analysis.specs.Views.{members}
 use Rattle.analysis.specs.Growth.{none-in, single-is}
 use Rattle.analysis.specs.Numbers.{Clear, clear-none}
-use Rattle.clash_conditions.specs.Entry.{atEntry, rankBy, raised, lowered, Stretch}
+use Rattle.clash_conditions.specs.EntryConditions.{atEntry, rankBy, raised, lowered, Stretch}
 use Rattle.clash_intervals.specs.Intervals.{leaveValues}
 use Rattle.clash_rivals.specs.Rivals.{startTogether, rival, NextRival, rival-starts, rival-values, no-rival}
 use Rattle.outline.specs.Outline.{grammarIn}
-use Rattle.clash.specs.Together.{enterTogether, later-free, earlier-free, rank-most, matrix-told, ranges-told, compared-told}
+use Rattle.clash.specs.Together.{enterTogether, later-free, earlier-free, rank-most, matrix-solvable, ranges-together, compared-together}
 use Rattle.clash_conditions.specs.Walk.{afterAll, from-on}
 use Rattle.clash.specs.Placing.{Placed}
 use Rattle.clash.specs.Clashing.{Kept, KeptTo, Given, given-place, Meeting, Seen, FirstRival, clashIn, enterIn, clash-apart, clash-met, both-kept, unmet-clear}
@@ -36,14 +36,14 @@ pub stretch-slice : {t offsets : List ℕ} {p : ℕ} → Placed t offsets p → 
 stretch-slice {t} {offsets} {p} x from e = subst (λ z. Stretch z (productionAt (grammarIn t) p)) (sym (from-on t from ∙ ap (λ n. drop n t) e)) (x .stretch)
 
 -- by intervals
-pub values-told :
+pub values-together :
     {t offsets lows highs ranks : List ℕ} {p q : ℕ} {r : Bool} → Placed t offsets p → Kept t lows highs ranks p → Placed t offsets q → Kept t lows highs ranks q
     → (getD ranks p 0 ≡ 0 → ⊥) → (getD ranks q 0 ≡ 0 → ⊥) → getD ranks p 0 + getD ranks q 0 ≤ 2 → r ≡ leaveValues lows highs p q → r ≡ enterTogether (productionAt (grammarIn t) p) (productionAt (grammarIn t) q)
 unfolding raised lowered
-values-told {t} {p = p} {q = q} x kp y kq i j sum e =
+values-together {t} {p = p} {q = q} x kp y kq i j sum e =
     let a = kp .rank in
     let b = kq .rank in
-    e ∙ ranges-told (productionAt (grammarIn t) p) (productionAt (grammarIn t) q) (omega arith) (omega arith) (x .stretch .fits) (y .stretch .fits) (omega arith) (kp .low) (kq .low) (kp .high) (kq .high)
+    e ∙ ranges-together (productionAt (grammarIn t) p) (productionAt (grammarIn t) q) (omega arith) (omega arith) (x .stretch .fits) (y .stretch .fits) (omega arith) (kp .low) (kq .low) (kp .high) (kq .high)
 
 -- where none compares
 pub ranges-free :
@@ -61,26 +61,26 @@ pub rank-small : (p : Production) {n : ℕ} → n ≡ afterAll rankBy p 0 → n 
 rank-small p e = omega (arith, rank-most (atEntry (p .conditions)) 0 (omega arith))
 
 -- where one compares
-pub differences-told :
+pub differences-together :
     (p q : Production) {first second : ℕ} {r : Bool} → first ≡ afterAll rankBy p 0 → second ≡ afterAll rankBy q 0 → 2 < first + second
     → r ≡ solvable 8 (atEntry (p .conditions) ++ atEntry (q .conditions)) → r ≡ enterTogether p q
-differences-told p q a b sum e =
+differences-together p q a b sum e =
     let l = rank-small p a in
     let m = rank-small q b in
-    e ∙ compared-told p q (omega arith) (omega arith) (omega arith)
+    e ∙ compared-together p q (omega arith) (omega arith) (omega arith)
 
 -- what the intervals that are kept tell of two productions
 module _
     {t rows offsets sets : List ℕ} {count met : ℕ} {lows highs ranks : List ℕ} (x : Given t rows offsets sets count) (m : Meeting rows sets count met) (p : ℕ) (k : KeptTo t rows met lows highs ranks (p + 1)) (l : p < count) where
-  kept-told : (q : ℕ) → q < p → startTogether rows sets p q ≡ true → getD ranks p 0 ≡ 1 → getD ranks q 0 ≡ 1 → rival rows sets lows highs ranks p q ≡ enterIn t p q
-  kept-told q h s i j =
+  kept-together : (q : ℕ) → q < p → startTogether rows sets p q ≡ true → getD ranks p 0 ≡ 1 → getD ranks q 0 ≡ 1 → rival rows sets lows highs ranks p q ≡ enterIn t p q
+  kept-together q h s i j =
       let w = both-kept m p q k l h _ refl s in
       sym (rival-values rows sets lows highs ranks p q s i j)
-      ∙ values-told (given-place x p l) (w .0) (given-place x q (omega arith)) (w .1) (λ z. absurd (omega arith)) (λ z. absurd (omega arith)) (omega arith) refl
+      ∙ values-together (given-place x p l) (w .0) (given-place x q (omega arith)) (w .1) (λ z. absurd (omega arith)) (λ z. absurd (omega arith)) (omega arith) refl
 
   -- a rival's entry conditions can be met together with the others where both are ranges
   pub rival-enters : (q : ℕ) → q < p → rival rows sets lows highs ranks p q ≡ true → getD ranks p 0 ≡ 1 → getD ranks q 0 ≡ 1 → enterIn t p q ≡ true
-  rival-enters q h e i j = sym (kept-told q h (rival-starts rows sets lows highs ranks p q e) i j) ∙ e
+  rival-enters q h e i j = sym (kept-together q h (rival-starts rows sets lows highs ranks p q e) i j) ∙ e
 
   -- no rival, no clash
   apart-clear : (q : ℕ) → q < p → rival rows sets lows highs ranks p q ≡ false → clashIn t p q ≡ false
@@ -88,7 +88,7 @@ module _
     where
       go : (startTogether rows sets p q ≡ false) ⊎ ((startTogether rows sets p q ≡ true) × (getD ranks p 0 ≡ 1) × (getD ranks q 0 ≡ 1)) → clashIn t p q ≡ false
       go (inl s) = clash-apart x p q l (omega arith) _ refl s
-      go (inr w) = clash-met x p q l (omega arith) _ refl (w .0) _ (kept-told q h (w .0) (w .1) (w .2)) _ e
+      go (inr w) = clash-met x p q l (omega arith) _ refl (w .0) _ (kept-together q h (w .0) (w .1) (w .2)) _ e
 
   pub clear-on : (from r : ℕ) → Clear (clashIn t p) from → NextRival (rival rows sets lows highs ranks p) p from r → Clear (clashIn t p) r
   clear-on from r c n = record { clear = λ j h t. go j h t (decLt j from) }
@@ -112,10 +112,10 @@ module _
           (omega arith, subst (Clear (clashIn t p)) (sym i) (unmet-clear x p seen l s e), λ h. absurd (omega arith))
 
 -- by the matrix
-pub solved-told :
+pub closed-solvable :
     (p q : Production) {m₁ m : List ℤ} {r : Bool} → m₁ ≡ afterAll constrained p (matrixOf 8 []) → m ≡ afterAll constrained q m₁ → T (all (entry 8) (atEntry (p .conditions))) → T (all (entry 8) (atEntry (q .conditions)))
     → r ≡ noneNegative (closed m) → r ≡ solvable 8 (atEntry (p .conditions) ++ atEntry (q .conditions))
-solved-told p q x y f k e = e ∙ ap (λ z. noneNegative (closed z)) (y ∙ ap (afterAll constrained q) x) ∙ matrix-told (atEntry (p .conditions)) (atEntry (q .conditions)) f k
+closed-solvable p q x y f k e = e ∙ ap (λ z. noneNegative (closed z)) (y ∙ ap (afterAll constrained q) x) ∙ matrix-solvable (atEntry (p .conditions)) (atEntry (q .conditions)) f k
 
 -- ---- a left side whose sets meet
 

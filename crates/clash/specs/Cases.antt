@@ -6,7 +6,7 @@ use mathlib.Core.List.{[], _∷_, _++_}
 use lib.IntN.{pos, negsuc}
 use Rattle.meaning.specs.Grammar.{Condition, range}
 use Rattle.clash_conditions.specs.BoundWords.{biased}
-use Rattle.clash_conditions.specs.Entry.{raised, lowered, lowest, highest}
+use Rattle.clash_conditions.specs.EntryConditions.{raised, lowered, lowest, highest}
 use Rattle.clash_intervals.specs.Intervals.{leaveValues}
 
 -- 01: "Ranges 0 to 4 and 5 to 9 don't clash ★; 0 to 5 and 5 to 9 do ★"

@@ -13,11 +13,10 @@ use lib.Signed.{leZ}
 use Rattle.meaning.specs.Base.{all, countFrom}
 use Rattle.meaning.specs.Grammar.{Condition, range, atmost}
 use Rattle.meaning.specs.Decide.{compatible, pairwise}
-use Rattle.theory_base.specs.Members.{and, both, or-cases, or-left, or-right}
+use Rattle.theory_base.specs.Members.{and, both, or-cases, or-left, or-right, same-truth}
 use Rattle.theory_sets.specs.Tests.{decide, all-at, all-map, all-map₂}
 use Rattle.theory_sets.specs.Intervals.{onRange, entry, entered}
 use Rattle.meaning.specs.Rules.{lowestConstant, highestConstant, fourBytes}
-use Rattle.theory_sets.specs.Widths.{both-true}
 use Rattle.clash_conditions.specs.BoundWords.{biased}
 use Rattle.analysis.specs.Numbers.{all-count, count-all}
 
@@ -210,7 +209,7 @@ module _ (k : ℕ) (cs : List (Condition ℕ)) (fits : T (all (entry k) cs)) whe
 
   pub pairwise-is : k ≤ 8 → pairwise cs ≡ all (λ a. leb (lowEnd (suc a) cs) (highEnd (suc a) cs)) (countFrom 0 8)
   pairwise-is few =
-      both-true (pairwise cs) (all (λ a. leb (lowEnd (suc a) cs) (highEnd (suc a) cs)) (countFrom 0 8))
+      same-truth (pairwise cs) (all (λ a. leb (lowEnd (suc a) cs) (highEnd (suc a) cs)) (countFrom 0 8))
       (λ t. all-count (λ a. leb (lowEnd (suc a) cs) (highEnd (suc a) cs)) 0 8 (λ a l m. le→leb (lowEnd (suc a) cs) (highEnd (suc a) cs) (met (suc a) t)))
       (λ t. agreeing (λ a p q. back t a p q))
     where

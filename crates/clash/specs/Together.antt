@@ -23,7 +23,7 @@ use Rattle.clash_conditions.specs.BoundWords.{biased}
 use Rattle.clash_intervals.specs.Intervals.{leaveValues}
 use Rattle.clash.specs.Kept.{Own}
 use Rattle.clash.specs.Intervals.{lowEnd, highEnd, low-append, high-append, high-word, pairwise-is}
-use Rattle.clash_conditions.specs.Entry.{atEntry, entry-is, after, rankBy, raised, lowered, lowest, highest}
+use Rattle.clash_conditions.specs.EntryConditions.{atEntry, entry-is, after, rankBy, raised, lowered, lowest, highest}
 
 -- 01: "unless both have entry conditions and no values of the inherited attributes satisfy both". (Attributes that no condition reads play no part, so they are taken as 8)
 unfoldable pub enterTogether : Production → Production → Bool
@@ -206,8 +206,8 @@ module _ (cs ds : List (Condition ℕ)) (f : T (all (entry 8) cs)) (k : T (all (
       go (inl j) = in-onto c ds (onto cs []) (inr (in-onto c cs [] (inl j)))
       go (inr j) = in-onto c ds (onto cs []) (inl j)
 
-  pub matrix-told : noneNegative (closed (after constrained ds (after constrained cs (matrixOf 8 [])))) ≡ solvable 8 (cs ++ ds)
-  matrix-told =
+  pub matrix-solvable : noneNegative (closed (after constrained ds (after constrained cs (matrixOf 8 [])))) ≡ solvable 8 (cs ++ ds)
+  matrix-solvable =
       ap (λ m. noneNegative (closed m)) (ap (after constrained ds) (matrix-onto 8 cs []) ∙ matrix-onto 8 ds (onto cs []))
       ∙ sym (solvable-same 8 (omega arith) (cs ++ ds) (onto ds (onto cs [])) known into from)
 
@@ -220,15 +220,15 @@ module _ (p q : Production) where
   abbrev ofQ : List (Condition ℕ)
   ofQ = atEntry (q .conditions)
 
-  told : enterTogether p q ≡ (isEmpty ofP || isEmpty ofQ || satisfiable 8 (ofP ++ ofQ))
+  together-is : enterTogether p q ≡ (isEmpty ofP || isEmpty ofQ || satisfiable 8 (ofP ++ ofQ))
   unfolding enterTogether
-  told = ap₂ (λ cs ds. isEmpty cs || isEmpty ds || satisfiable 8 (cs ++ ds)) (entry-is p) (entry-is q)
+  together-is = ap₂ (λ cs ds. isEmpty cs || isEmpty ds || satisfiable 8 (cs ++ ds)) (entry-is p) (entry-is q)
 
   pub later-free : after rankBy ofP 0 ≡ 0 → true ≡ enterTogether p q
-  later-free e = sym (told ∙ ap (λ x. x || isEmpty ofQ || satisfiable 8 (ofP ++ ofQ)) (rank-none ofP e))
+  later-free e = sym (together-is ∙ ap (λ x. x || isEmpty ofQ || satisfiable 8 (ofP ++ ofQ)) (rank-none ofP e))
 
   pub earlier-free : after rankBy ofQ 0 ≡ 0 → true ≡ enterTogether p q
-  earlier-free e = sym (told ∙ ap (λ x. isEmpty ofP || x || satisfiable 8 (ofP ++ ofQ)) (rank-none ofQ e) ∙ go (isEmpty ofP))
+  earlier-free e = sym (together-is ∙ ap (λ x. isEmpty ofP || x || satisfiable 8 (ofP ++ ofQ)) (rank-none ofQ e) ∙ go (isEmpty ofP))
     where
       go : (c : Bool) → (c || true || satisfiable 8 (ofP ++ ofQ)) ≡ true
       go true = refl
@@ -236,14 +236,14 @@ module _ (p q : Production) where
 
   module _ (d : 1 ≤ after rankBy ofP 0) (e : 1 ≤ after rankBy ofQ 0) where
     both-have : enterTogether p q ≡ satisfiable 8 (ofP ++ ofQ)
-    both-have = told ∙ ap₂ (λ x y. x || y || satisfiable 8 (ofP ++ ofQ)) (rank-some ofP d) (rank-some ofQ e)
+    both-have = together-is ∙ ap₂ (λ x y. x || y || satisfiable 8 (ofP ++ ofQ)) (rank-some ofP d) (rank-some ofQ e)
 
-    pub ranges-told :
+    pub ranges-together :
         T (all (entry 8) ofP) → T (all (entry 8) ofQ) → after rankBy ofP 0 + after rankBy ofQ 0 ≤ 2 → {lows highs : List ℕ} {i j : ℕ}
         → Own (raised ofP lowest) lows i → Own (raised ofQ lowest) lows j → Own (lowered ofP highest) highs i → Own (lowered ofQ highest) highs j → leaveValues lows highs i j ≡ enterTogether p q
-    ranges-told f k l lp lq hp hq =
+    ranges-together f k l lp lq hp hq =
         pairwise-ends ofP ofQ f k lp lq hp hq
         ∙ sym (both-have ∙ ap (λ b. satisfiableBy b 8 (ofP ++ ofQ)) (both-ranges ofP ofQ (omega arith) (omega arith)))
 
-    pub compared-told : 3 ≤ after rankBy ofP 0 + after rankBy ofQ 0 → solvable 8 (ofP ++ ofQ) ≡ enterTogether p q
-    compared-told l = sym (both-have ∙ ap (λ b. satisfiableBy b 8 (ofP ++ ofQ)) (one-compared ofP ofQ l))
+    pub compared-together : 3 ≤ after rankBy ofP 0 + after rankBy ofQ 0 → solvable 8 (ofP ++ ofQ) ≡ enterTogether p q
+    compared-together l = sym (both-have ∙ ap (λ b. satisfiableBy b 8 (ofP ++ ofQ)) (one-compared ofP ofQ l))

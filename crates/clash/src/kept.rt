@@ -7,7 +7,7 @@ ghost use mathlib.Core.Bool.{not};
 ghost use lib.Dec.{eqb};
 ghost use Rattle.meaning.specs.Grammar.{productionAt};
 ghost use Rattle.outline.specs.Outline.{grammarIn};
-ghost use Rattle.clash_conditions.specs.Entry.{rankBy};
+ghost use Rattle.clash_conditions.specs.EntryConditions.{rankBy};
 ghost use Rattle.clash_conditions.specs.Walk.{afterAll};
 ghost use Rattle.clash.specs.Kept.{Stored};
 ghost use Rattle.clash.specs.Placing.{Placed};

@@ -9,7 +9,7 @@ ghost use Prim.Native.Nat.{_<_};
 ghost use lib.ListN.{getD};
 ghost use Rattle.meaning.specs.Grammar.{productionAt};
 ghost use Rattle.meaning.specs.Differences.{solvable};
-ghost use Rattle.clash_conditions.specs.Entry.{atEntry};
+ghost use Rattle.clash_conditions.specs.EntryConditions.{atEntry};
 ghost use Rattle.outline.specs.Outline.{grammarIn};
 ghost use Rattle.clash.specs.Placing.{Placed};
 ghost use Rattle.clash.specs.Clashing.{Ranked, enterIn};

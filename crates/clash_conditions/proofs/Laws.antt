@@ -15,7 +15,7 @@ use mir.Val.{SFits, toZ, ofZ}
 use Rattle.meaning.specs.Grammar.{Condition, range, atmost}
 use Rattle.meaning.specs.Table.{byte, constantAt}
 use Rattle.clash_conditions.specs.BoundWords.{biased}
-use Rattle.clash_conditions.specs.Entry.{raiseBy, lowerBy, entryHere, conditionHere, offsetHere, ifEntry, afterField}
+use Rattle.clash_conditions.specs.EntryConditions.{raiseBy, lowerBy, entryHere, conditionHere, offsetHere, ifEntry, afterField}
 
 -- ---- a signed local holds bits: a number that it holds is read back
 

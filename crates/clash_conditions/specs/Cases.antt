@@ -8,15 +8,15 @@ use lib.ListN.{set}
 use mathlib.Core.Option.{none, some}
 use Rattle.meaning.specs.Grammar.{range, atmost}
 use Rattle.clash_conditions.specs.BoundWords.{biased}
-use Rattle.clash_conditions.specs.Entry.{rankBy, raiseBy, lowest, after, fieldSize, entryHere, conditionHere, offsetHere, afterField}
+use Rattle.clash_conditions.specs.EntryConditions.{rankBy, raiseBy, lowest, after, fieldSize, entryHere, conditionHere, offsetHere, afterField}
 
 -- the field of a range 1 to 258 of attribute 2 at position 0, at position 3, and a rule
 abbrev condition : ℕ → List ℕ
 condition k = 5 ∷ 0 ∷ 11 ∷ 0 ∷ k ∷ 2 ∷ 0 ∷ 0 ∷ 0 ∷ 1 ∷ 0 ∷ 0 ∷ 1 ∷ 2 ∷ []
 
-fields-told : map entryHere (condition 0 ∷ condition 3 ∷ (4 ∷ 0 ∷ 5 ∷ 0 ∷ 0 ∷ 1 ∷ 0 ∷ 1 ∷ []) ∷ []) ≡ true ∷ false ∷ false ∷ []
+fields-entry : map entryHere (condition 0 ∷ condition 3 ∷ (4 ∷ 0 ∷ 5 ∷ 0 ∷ 0 ∷ 1 ∷ 0 ∷ 1 ∷ []) ∷ []) ≡ true ∷ false ∷ false ∷ []
 unfolding entryHere
-fields-told = refl
+fields-entry = refl
 
 field-sized : fieldSize (condition 0) ≡ 14
 unfolding fieldSize
@@ -30,9 +30,9 @@ low-raised = refl
 abbrev comparison : ℕ → List ℕ
 comparison k = 5 ∷ 0 ∷ 5 ∷ 1 ∷ 0 ∷ 2 ∷ k ∷ 1 ∷ []
 
-comparisons-told : map entryHere (comparison 0 ∷ comparison 3 ∷ []) ≡ true ∷ false ∷ []
+comparisons-entry : map entryHere (comparison 0 ∷ comparison 3 ∷ []) ≡ true ∷ false ∷ []
 unfolding entryHere
-comparisons-told = refl
+comparisons-entry = refl
 
 comparisons-read : map conditionHere (comparison 0 ∷ (5 ∷ 0 ∷ 9 ∷ 2 ∷ 0 ∷ 2 ∷ 0 ∷ 1 ∷ 255 ∷ 255 ∷ 255 ∷ 253 ∷ []) ∷ []) ≡ atmost 2 1 none ∷ atmost 2 1 (some (negsuc 2)) ∷ []
 unfolding conditionHere offsetHere

@@ -11,7 +11,7 @@ use Rattle.meaning.specs.Base.{consIf}
 use Rattle.meaning.specs.Grammar.{Condition, Production}
 use Rattle.meaning.specs.Table.{byte}
 use Rattle.theory_sets.specs.Intervals.{entry}
-use Rattle.clash_conditions.specs.Entry.{atEntry, after, fieldSize, entryHere, conditionHere, ifEntry, afterField, Stretch, Left, FrontField, left-turn, left-none, stretch-left}
+use Rattle.clash_conditions.specs.EntryConditions.{atEntry, after, fieldSize, entryHere, conditionHere, ifEntry, afterField, Stretch, Left, FrontField, left-turn, left-none, stretch-left}
 
 -- the state after all entry conditions of p
 abbrev pub afterAll : {S : Type 0} → (Condition ℕ → S → S) → Production → S → S

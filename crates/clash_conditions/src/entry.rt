@@ -8,7 +8,7 @@ ghost use Rattle.meaning.specs.Grammar.{Production};
 ghost use Rattle.meaning.specs.Table.{signed};
 ghost use Rattle.theory_sets.specs.Intervals.{entry};
 ghost use Rattle.clash_conditions.specs.BoundWords.{biased};
-ghost use Rattle.clash_conditions.specs.Entry.{fieldSize, entryHere, conditionHere, afterField, raiseBy, lowerBy, rankBy, Stretch};
+ghost use Rattle.clash_conditions.specs.EntryConditions.{fieldSize, entryHere, conditionHere, afterField, raiseBy, lowerBy, rankBy, Stretch};
 ghost use Rattle.clash_conditions.specs.Walk.{afterAll};
 use limits::ATTRIBUTES;
 

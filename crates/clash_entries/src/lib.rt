@@ -14,7 +14,7 @@ ghost use Rattle.meaning.specs.Differences.{constrained};
 ghost use Rattle.theory_differences.specs.Closing.{Small};
 ghost use Rattle.theory_differences.specs.Decided.{limit};
 ghost use Rattle.theory_sets.specs.Intervals.{entry};
-ghost use Rattle.clash_conditions.specs.Entry.{entryHere, conditionHere, offsetHere, afterField, Stretch};
+ghost use Rattle.clash_conditions.specs.EntryConditions.{entryHere, conditionHere, offsetHere, afterField, Stretch};
 ghost use Rattle.clash_conditions.specs.Walk.{afterAll};
 
 // A bound or constant in a field.

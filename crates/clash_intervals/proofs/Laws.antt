@@ -9,8 +9,7 @@ use borrow.Author.Tests.{lt-leb}
 use lib.Dec.{leb, le→leb}
 use lib.ListN.{getD}
 use Rattle.meaning.specs.Base.{all, countFrom}
-use Rattle.theory_base.specs.Members.{T→true}
-use Rattle.theory_sets.specs.Widths.{both-true}
+use Rattle.theory_base.specs.Members.{T→true, same-truth}
 use Rattle.analysis.specs.Numbers.{all-count, count-all}
 use Rattle.clash_intervals.specs.Intervals.{leaveValues}
 
@@ -28,7 +27,7 @@ module _ (lows highs : List ℕ) (p q : ℕ) where
 
   pub none-left : (a : ℕ) → a < 8 → min (getD highs (8 * p + a) 0) (getD highs (8 * q + a) 0) < max (getD lows (8 * p + a) 0) (getD lows (8 * q + a) 0) → false ≡ leaveValues lows highs p q
   unfolding leaveValues
-  none-left a l h = both-true false (all overlapAt (countFrom 0 8)) (λ t. absurd t) (λ t. rw (lt-leb (max (getD lows (8 * p + a) 0) (getD lows (8 * q + a) 0)) (min (getD highs (8 * p + a) 0) (getD highs (8 * q + a) 0)) h) at (count-all overlapAt 0 8 t a (omega arith) l))
+  none-left a l h = same-truth false (all overlapAt (countFrom 0 8)) (λ t. absurd t) (λ t. rw (lt-leb (max (getD lows (8 * p + a) 0) (getD lows (8 * q + a) 0)) (min (getD highs (8 * p + a) 0) (getD highs (8 * q + a) 0)) h) at (count-all overlapAt 0 8 t a (omega arith) l))
 
   pub shared-more : (k : ℕ) → ((a : ℕ) → a < k → Shared a) → Shared k → (a : ℕ) → a < k + 1 → Shared a
   shared-more k f h a l = go (decLt a k)

@@ -78,9 +78,6 @@ module _ (t order out : List ℕ) (to : ℕ) where
       }
 
   module _ (h : to + length (copied t order) ≤ length out) (i at : ℕ) (buffer : List ℕ) (f : Filled i at buffer) where
-    so-far : List ℕ
-    so-far = take to out ++ copied t (take i order)
-
     so-far-long : length (take to out ++ copied t (take i order)) ≡ at
     so-far-long = length-append (take to out) (copied t (take i order)) ∙ omega (arith, f .place, length-take-le to out (omega arith))
 

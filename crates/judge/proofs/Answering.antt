@@ -7,11 +7,11 @@ use lib.ListN.{length, getD, take}
 use lib.Seq.{length-take-le, getD-take}
 use lib.Dec.{eqb}
 use lib.IntN.{ℤ}
+use borrow.Author.Tests.{ne-eqb, eq-eqb}
 use Rattle.meaning.specs.Rules.{WellFormed}
 use Rattle.meaning.specs.Layout.{Bytes}
 use Rattle.meaning.specs.Grammar.{Grammar, productionAt}
 use Rattle.meaning.specs.Table.{symbolOf}
-use Rattle.theory_base.specs.Members.{same-true, differ-false}
 use Rattle.outline.specs.declared.Sizes.{Sizes}
 use Rattle.outline.specs.Images.{ImageOf, rowStart, sizeAt, right-is, size-is, symbol-is}
 use Rattle.outline.specs.Outline.{grammarIn, Productions, Outline}
@@ -90,7 +90,7 @@ module _ (t inherited synthesized rows offsets sets : List ℕ) (q : Table.Judge
     if-even a h = subst (λ c. SettlesUnder c ks vs sheet a) (sym (accepts .isUsable)) h
 
     pub answer-uneven : (length ks ≡ length vs → ⊥) → JudgedAs t ks vs sheet (turnedBack 38 0)
-    answer-uneven f = if-even (turnedBack 38 0) (subst (λ b. SettlesIf b g ks vs sheet (turnedBack 38 0)) (sym (differ-false (length ks) (length vs) f)) refl)
+    answer-uneven f = if-even (turnedBack 38 0) (subst (λ b. SettlesIf b g ks vs sheet (turnedBack 38 0)) (sym (ne-eqb (length ks) (length vs) f)) refl)
 
     module _ (bytes : Bytes t) where
       pub rows-fit : rowStart (sizes .productions) ≤ length rows
@@ -101,7 +101,7 @@ module _ (t inherited synthesized rows offsets sets : List ℕ) (q : Table.Judge
 
       module _ (even : length ks ≡ length vs) where
         settled : (a : JudgeAnswer) → Settles g (leavesIn g ks vs) sheet a → JudgedAs t ks vs sheet a
-        settled a h = if-even a (subst (λ b. SettlesIf b g ks vs sheet a) (sym (same-true (length ks) (length vs) even)) h)
+        settled a h = if-even a (subst (λ b. SettlesIf b g ks vs sheet a) (sym (eq-eqb (length ks) (length vs) even)) h)
 
         pub answer-many : 4294967296 ≤ length ks → JudgedAs t ks vs sheet (turnedBack 43 0)
         answer-many l = settled (turnedBack 43 0) (settles-none g formed ks vs sheet (none-many g formed ks vs sheet (omega (arith, leaves-many g ks vs even))))

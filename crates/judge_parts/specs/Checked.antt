@@ -1,7 +1,9 @@
 -- What the functions that go through a sheet ask, and what their answers mean.
-use Prim.Native.Nat.{ℕ, _≤_, _<_}
+use Prim.Native.Nat.{ℕ, _-_, _≤_, _<_}
 use mathlib.Core.Path.{_≡_}
+use mathlib.Core.Bool.{Bool, cond}
 use mathlib.Core.List.{List}
+use lib.Dec.{eqb}
 use lib.ListN.{length, getD}
 use lib.IntN.{ℤ}
 use Rattle.meaning.specs.Grammar.{Grammar, terminal, Leaf, leaves, productionAt}
@@ -10,10 +12,16 @@ use Rattle.meaning.specs.Layout.{Bytes}
 use Rattle.meaning.specs.Table.{symbolOf}
 use Rattle.meaning.specs.Calls.{tokensFrom}
 use Rattle.outline.specs.Outline.{grammarIn, CountsOf, Productions}
-use Rattle.outline.specs.Images.{rowCount}
+use Rattle.outline.specs.Images.{HasRow, rowCount}
 use Rattle.program_words.specs.Fields.{fieldsFrom, stretchEnd, fieldsAt}
 use Rattle.theory_judge.specs.Described.{Described, DescribedAll}
 use Rattle.theory_judge.specs.Passing.{Only, None, Marked, Upto}
+use Rattle.program_block_words.specs.Fields.{Listed}
+use Rattle.judge_head.specs.Heads.{HeadIs}
+use Rattle.judge_parts.specs.declared.Subtree.{Subtree}
+use Rattle.judge_parts.specs.declared.Node.{Node}
+use Rattle.judge_parts.specs.declared.Begun.{Begun}
+use Rattle.judge_parts.specs.declared.Begun.the-variants.{Over, Inside}
 use Rattle.judge_parts.specs.declared.Answer.{Answer}
 use Rattle.judge_parts.specs.declared.Answer.the-variants.{Fits, Wrong}
 
@@ -71,6 +79,39 @@ EndsAndMarks g ks vs sheet p at from d old new Wrong = None (DescribedAll g (lea
 abbrev pub ChildrenEnds : List ℕ → List ℕ → List ℕ → List ℕ → List ℕ → List ℕ → List ℤ → List ℕ → ℕ → ℕ → ℕ → ℕ → List ℕ → List ℕ → Answer → Type 0
 ChildrenEnds table rows inherited synthesized offsets ks vs sheet p at from d old new r =
     (x : ChildrenReady table rows inherited synthesized offsets ks vs sheet p from) → EndsAndMarks (grammarIn table) ks vs sheet p at from d old new r
+
+-- ---- before the children
+
+abbrev pub subtreeOf : ℕ → ℕ → ℕ → ℕ → Subtree
+subtreeOf at from symbol depth = record { at = at; from = from; symbol = symbol; depth = depth }
+
+-- the record of the tree is a node of its symbol, and the node is what it says
+pub record NodeIs (rows inherited synthesized sheet : List ℕ) (tree : Subtree) (node : Node) : Type 0 where
+  pub big : 128 ≤ tree .symbol
+  pub deep : 0 < tree .depth
+  pub is : HeadIs rows inherited synthesized sheet (tree .at) (tree .from) (tree .symbol - 128) (node .production) (node .behind) (node .covered)
+  pub from : node .from ≡ tree .from
+  pub less : node .depth ≡ tree .depth - 1
+
+abbrev pub Begins : List ℕ → List ℕ → List ℕ → List ℕ → List ℤ → List ℕ → Subtree → Begun → Type 0
+Begins rows inherited synthesized ks vs sheet tree (Over r) = (table offsets : List ℕ) → NodeEnds table rows inherited synthesized offsets ks vs sheet (tree .at) (tree .from) (tree .symbol) (tree .depth) r
+Begins rows inherited synthesized ks vs sheet tree (Inside node) = NodeIs rows inherited synthesized sheet tree node
+
+-- ---- behind them
+
+-- the rules and conditions of production p can be held against values
+pub record Holdable (table rows offsets : List ℕ) (p : ℕ) : Type 0 where
+  pub few : p < 128
+  pub from : fieldsFrom rows offsets p ≤ stretchEnd table offsets (rowCount rows) p
+  pub to : stretchEnd table offsets (rowCount rows) p ≤ length table
+  pub listed : Listed (fieldsOf table rows offsets p)
+  pub row : HasRow rows p
+
+-- by whether they hold
+abbrev pub closing : Bool → Node → ℕ → ℕ → Answer
+closing h node n e = cond (eqb (e - node .from) (node .covered)) (cond h (Fits n e) Wrong) Wrong
+
+-- ---- children one after the other
 
 -- k symbols of production p are passed: the marks behind the first are theirs, and the first stays
 pub record ChildrenPassed (table rows inherited synthesized offsets ks : List ℕ) (vs : List ℤ) (sheet : List ℕ) (p at from d : ℕ) (marks₀ : List ℕ) (k next end : ℕ) (marks : List ℕ) : Type 0 where

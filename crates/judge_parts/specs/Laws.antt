@@ -1,10 +1,12 @@
 -- What each way out of a node, of its children and of a token shows.
 use Prim.Native.Nat.{ℕ, suc, _+_, _-_, _*_, _≤_, _<_}
 use native.Mathlib.Omega.{arith}
-use mathlib.Core.Path.{_≡_, refl, sym, ap, ap₂, _∙_, subst}
-use mathlib.Core.Bool.{Bool, true, false}
+use mathlib.Core.Path.{_≡_, refl, sym, ap, ap₂, _∙_, subst, subst₂}
+use mathlib.Core.Bool.{Bool, true, false, cond}
 use mathlib.Core.List.{List}
 use lib.ListN.{length, getD, set, length-set}
+use lib.Dec.{eqb}
+use borrow.Author.Tests.{eqb-true, eqb-false}
 use lib.Seq.{getD-set-same, getD-set-other}
 use lib.IntN.{ℤ, pos}
 use Rattle.meaning.specs.Base.{all}
@@ -26,13 +28,15 @@ use Rattle.theory_judge.specs.Holding.{allTrue, listedTrue}
 use Rattle.theory_judge.specs.Marks.{readAt, markOf, leaf-at, leaves-many, leaf-in}
 use Rattle.theory_judge.specs.Passing as P
 use Rattle.theory_judge.specs.Passing.{Only, None, Marked}
-use Rattle.judge_parts.specs.Checked.{fieldsOf, Book, leavesIn, EndsOrNone, TokenEnds, NodeReady, NodeEnds, ChildrenReady, EndsAndMarks, ChildrenEnds, ChildrenPassed}
-use Rattle.judge_head.proofs.Laws.{head-is, head-none}
+use Rattle.judge_parts.specs.Checked.{fieldsOf, Book, leavesIn, EndsOrNone, TokenEnds, NodeReady, NodeEnds, ChildrenReady, EndsAndMarks, ChildrenEnds, NodeIs, Holdable, closing, ChildrenPassed}
+use Rattle.judge_head.proofs.Laws.{head-none}
 use Rattle.judge_head.specs.Heads.{Heads, HeadIs, HeadOrNone}
+use Rattle.judge_parts.specs.declared.Subtree.{Subtree}
+use Rattle.judge_parts.specs.declared.Node.{Node}
 use Rattle.judge_parts.specs.declared.Answer.{Answer}
 use Rattle.judge_parts.specs.declared.Answer.the-variants.{Fits, Wrong}
 use Rattle.judge_head.specs.declared.Head.{Head}
-use Rattle.judge_head.specs.declared.Head.the-variants.{Found, Unfit}
+use Rattle.judge_head.specs.declared.Head.the-variants.{Unfit}
 
 -- ---- answers
 
@@ -165,10 +169,7 @@ module _ {table rows inherited synthesized offsets ks : List ℕ} {vs : List ℤ
     pub unfit : (r : Head) → HeadOrNone rows inherited synthesized sheet at from m r → r ≡ Unfit → EndsOrNone Here Wrong
     unfit r t e = none-here (P.node-unfit gr (x .book .productions .rowsOf .sound) ks vs (few (x .book)) sheet (x .book .isBytes) at from m d low (λ h. head-none rows inherited synthesized sheet at from m r t e (heads-of (x .book) at from m known-m h)))
 
-    module _ (r : Head) (t : HeadOrNone rows inherited synthesized sheet at from m r) (p behind covered : ℕ) (found : r ≡ Found p behind covered) where
-      pub is : HeadIs rows inherited synthesized sheet at from m p behind covered
-      is = head-is rows inherited synthesized sheet at from m r t p behind covered found
-
+    module _ (p behind covered : ℕ) (is : HeadIs rows inherited synthesized sheet at from m p behind covered) where
       pub here : Heading gr sheet at from m
       here = heading-of (x .book) at from m known-m (is .heads)
 
@@ -205,21 +206,75 @@ module _ {table rows inherited synthesized offsets ks : List ℕ} {vs : List ℤ
           pub from-end : from ≤ e
           from-end = let s = got .0 .0 .stands .tokensEnd in omega (arith, s)
 
-          pub uncovered : (e - from ≡ covered → ⊥) → EndsOrNone Here Wrong
+          uncovered : (e - from ≡ covered → ⊥) → EndsOrNone Here Wrong
           uncovered f = none-here (P.node-uncovered gr (x .book .productions .rowsOf .sound) ks vs (few (x .book)) sheet (x .book .isBytes) at from m d low n e (got .0) (λ q. f (q ∙ sym (is .covers))))
 
-          module _ (first : getD old 0 0 ≡ at) (h : Bool) (held : (y : Listed (fieldsOf table rows offsets p)) → h ≡ listedTrue (readAt sheet vs new) y) where
-            truth : h ≡ allTrue (readAt sheet vs new) (productionAt gr (wordAt sheet at) .rules) (productionAt gr (wordAt sheet at) .conditions)
-            truth = subst (λ q. h ≡ allTrue (readAt sheet vs new) (productionAt gr q .rules) (productionAt gr q .conditions)) (is .production) (held (listedAt (x .book) p (ready .listed)))
+          module _ (first : getD old 0 0 ≡ at) where
+            abbrev pub h : Bool
+            h = listedTrue (readAt sheet vs new) (listedAt (x .book) p (ready .listed))
 
-            pub unheld : h ≡ false → EndsOrNone Here Wrong
+            truth : h ≡ allTrue (readAt sheet vs new) (productionAt gr (wordAt sheet at) .rules) (productionAt gr (wordAt sheet at) .conditions)
+            truth = subst (λ q. h ≡ allTrue (readAt sheet vs new) (productionAt gr q .rules) (productionAt gr q .conditions)) (is .production) refl
+
+            unheld : h ≡ false → EndsOrNone Here Wrong
             unheld f = none-here (P.node-false gr (x .book .productions .rowsOf .sound) ks vs (few (x .book)) sheet (x .book .isBytes) at from m d low n e (got .0) here new (got .2 ∙ first) (got .1) (sym truth ∙ f))
 
-            pub fitting : 0 < d → e - from ≡ covered → h ≡ true → EndsOrNone Here (Fits n e)
+            fitting : 0 < d → e - from ≡ covered → h ≡ true → EndsOrNone Here (Fits n e)
             fitting deep c f =
                 fits-by-ends n e
                 (subst (λ y. Only (Described gr (leavesIn gr ks vs) sheet at from y d) n e) (sym (symbol-nonterminal symbol big))
                 (P.node-fits gr (x .book .productions .rowsOf .sound) ks vs (few (x .book)) sheet (x .book .isBytes) at from m d low n e (got .0) here new (got .2 ∙ first) (got .1) deep (c ∙ is .covers) (sym truth ∙ f)))
+
+            -- by the tokens covered and by whether the rules and conditions hold
+            pub closes : 0 < d → EndsOrNone Here (cond (eqb (e - from) covered) (cond h (Fits n e) Wrong) Wrong)
+            closes deep = go (eqb (e - from) covered) h refl refl
+              where
+                go : (b c : Bool) → eqb (e - from) covered ≡ b → h ≡ c → EndsOrNone Here (cond b (cond c (Fits n e) Wrong) Wrong)
+                go true true z f = fitting deep (eqb-true (e - from) covered z) f
+                go true false z f = unheld f
+                go false c z f = uncovered (eqb-false (e - from) covered z)
+
+-- ---- a node, by what was judged before its children
+
+module _ {table rows inherited synthesized offsets ks : List ℕ} {vs : List ℤ} {sheet : List ℕ} {tree : Subtree} (x : NodeReady table rows inherited synthesized offsets ks vs sheet (tree .from) (tree .symbol)) (node : Node) (i : NodeIs rows inherited synthesized sheet tree node) where
+  abbrev own : ChildrenReady table rows inherited synthesized offsets ks vs sheet (node .production) (tree .from)
+  own = ready x (tree .at) (tree .depth) (i .big) (node .production) (node .behind) (node .covered) (i .is)
+
+  pub children-ready : ChildrenReady table rows inherited synthesized offsets ks vs sheet (node .production) (node .from)
+  children-ready = subst (ChildrenReady table rows inherited synthesized offsets ks vs sheet (node .production)) (sym (i .from)) own
+
+  pub holdable : Holdable table rows offsets (node .production)
+  holdable =
+      let l = own .listed in
+      record {
+        few = productions-few (x .book) (node .production) l;
+        from = span-inside (x .book) (node .production) l .0;
+        to = span-inside (x .book) (node .production) l .1;
+        listed = listedAt (x .book) (node .production) l;
+        row = omega (arith, l, x .book .productions .rowsOf .counted);
+      }
+
+  module _ (old new : List ℕ) (a : Answer) (below : ChildrenEnds table rows inherited synthesized offsets ks vs sheet (node .production) (node .behind) (node .from) (node .depth) old new a) where
+    -- the same with the tree's numbers
+    below-there : ChildrenEnds table rows inherited synthesized offsets ks vs sheet (node .production) (node .behind) (tree .from) (tree .depth - 1) old new a
+    below-there = subst₂ (λ f d. ChildrenEnds table rows inherited synthesized offsets ks vs sheet (node .production) (node .behind) f d old new a) (i .from) (i .less) below
+
+    pub node-wrong : a ≡ Wrong → EndsOrNone (Here x (tree .at) (tree .depth)) Wrong
+    node-wrong = wrong x (tree .at) (tree .depth) (i .big) (node .production) (node .behind) (node .covered) (i .is) old new a below-there
+
+    module _ (n e : ℕ) (fits : a ≡ Fits n e) where
+      pub node-thirteen : length new ≡ 13
+      node-thirteen = thirteen x (tree .at) (tree .depth) (i .big) (node .production) (node .behind) (node .covered) (i .is) old new a below-there n e fits
+
+      pub node-from : node .from ≤ e
+      node-from = omega (arith, from-end x (tree .at) (tree .depth) (i .big) (node .production) (node .behind) (node .covered) (i .is) old new a below-there n e fits, i .from)
+
+      pub node-closed : getD old 0 0 ≡ tree .at → (r : Answer) → ((y : Listed (fieldsOf table rows offsets (node .production))) → r ≡ closing (listedTrue (readAt sheet vs new) y) node n e) → EndsOrNone (Here x (tree .at) (tree .depth)) r
+      node-closed first r c =
+          let y = listedAt (x .book) (node .production) (own .listed) in
+          let is : r ≡ cond (eqb (e - tree .from) (node .covered)) (cond (listedTrue (readAt sheet vs new) y) (Fits n e) Wrong) Wrong = c y ∙ ap (λ f. cond (eqb (e - f) (node .covered)) (cond (listedTrue (readAt sheet vs new) y) (Fits n e) Wrong) Wrong) (i .from) in
+          subst (EndsOrNone (Here x (tree .at) (tree .depth))) (sym is)
+          (closes x (tree .at) (tree .depth) (i .big) (node .production) (node .behind) (node .covered) (i .is) old new a below-there n e fits first (i .deep))
 
 -- ---- children
 

@@ -1,19 +1,43 @@
 // What a node of a sheet is judged by: the token of a terminal, the marks of its symbols, whether its rules and conditions hold.
-ghost use Prim.Native.Nat.{_+_, _<_, _≤_};
+ghost use Prim.Native.Nat.{_+_, _-_, _<_, _≤_};
 ghost use mathlib.Core.Path.{_≡_};
 ghost use lib.ListN.{length};
-ghost use Rattle.meaning.specs.Table.{symbolOf};
+ghost use Rattle.meaning.specs.Table.{byte, symbolOf};
 ghost use Rattle.outline.specs.Images.{HasRow, rowCount};
 ghost use Rattle.program_words.specs.Fields.{fieldsFrom, stretchEnd};
 ghost use Rattle.program_block_words.specs.Fields.{Listed};
 ghost use Rattle.theory_judge.specs.Marks.{readAt, markOf};
 ghost use Rattle.theory_judge.specs.Holding.{listedTrue};
-ghost use Rattle.judge_parts.specs.Checked.{fieldsOf, TokenEnds};
+ghost use Rattle.judge_parts.specs.Checked.{fieldsOf, TokenEnds, subtreeOf, Begins, Holdable, closing};
+use judge_head::Head;
 
 // Where the sheet goes on after a tree, and where the tokens do.
 pub enum Answer {
     Fits { next: usize, end: usize },
     Wrong,
+}
+
+// A tree to be looked for: the sheet from `at` on, the tokens from `from` on, its symbol, and its depth at most.
+pub struct Subtree {
+    pub at: usize,
+    pub from: usize,
+    pub symbol: u8,
+    pub depth: usize,
+}
+
+// A node by its own record: its production, where the records of its children begin, the tokens before it and those that it covers, and the depth that is left to its children.
+pub struct Node {
+    pub production: usize,
+    pub behind: usize,
+    pub from: usize,
+    pub covered: usize,
+    pub depth: usize,
+}
+
+// What is known before the children of a node: the answer, or the node.
+pub enum Begun {
+    Over(Answer),
+    Inside(Node),
 }
 
 // Whether the rules and conditions of production p hold of the values that the marks show.
@@ -64,4 +88,76 @@ pub fn mark_of(length: usize, symbol: u8, at: usize, from: usize) -> usize
         return length + from;
     }
     at
+}
+
+// The tree of this symbol there.
+pub fn tree_at(at: usize, from: usize, symbol: u8, depth: usize) -> Subtree
+    ensures { λ r. ⌜ r ≡ subtreeOf at from symbol depth ⌝ }
+{
+    Subtree {
+        at,
+        from,
+        symbol,
+        depth,
+    }
+}
+
+// What is judged before the children: a token, the depth, and a node's own record.
+pub fn begin(
+    rows: &[u8],
+    inherited: &[u8],
+    synthesized: &[u8],
+    kinds: &[u8],
+    values: &[i32],
+    sheet: &[u8],
+    tree: Subtree,
+) -> Begun
+    requires { ⌜ (128 ≤ tree .symbol → byte (now inherited) (tree .symbol - 128) + byte (now synthesized) (tree .symbol - 128) ≤ 8) ⌝ }
+    ensures { λ r. ⌜ Begins (now (rows .entry)) (now (inherited .entry)) (now (synthesized .entry)) (now (kinds .entry)) (now (values .entry)) (now (sheet .entry)) tree r ⌝ }
+{
+    if tree.symbol < 128 {
+        return Begun::Over(check_token(kinds, values, tree.at, tree.from, tree.symbol));
+    }
+    if tree.depth == 0 {
+        return Begun::Over(Answer::Wrong);
+    }
+    let m = (tree.symbol - 128) as usize;
+    match judge_head::heading(rows, inherited, synthesized, sheet, tree.at, tree.from, m) {
+        Head::Unfit => Begun::Over(Answer::Wrong),
+        Head::Found {
+            production,
+            behind,
+            covered,
+        } => Begun::Inside(Node {
+            production,
+            behind,
+            from: tree.from,
+            covered,
+            depth: tree.depth - 1,
+        }),
+    }
+}
+
+// What is judged behind the children, which end at `next` and `end`: the tokens covered, the rules and the conditions.
+pub fn closed(
+    table: &[u8],
+    rows: &[u8],
+    offsets: &[u32],
+    values: &[i32],
+    sheet: &[u8],
+    marks: &[usize],
+    node: Node,
+    next: usize,
+    end: usize,
+) -> Answer
+    requires { ⌜ Holdable (now table) (now rows) (now offsets) (node .production) × (node .from ≤ end) ⌝ }
+    ensures { λ r. ⌜ ((x : Listed (fieldsOf (now (table .entry)) (now (rows .entry)) (now (offsets .entry)) (node .production))) → r ≡ closing (listedTrue (readAt (now (sheet .entry)) (now (values .entry)) (now (marks .entry))) x) node next end) ⌝ }
+{
+    if end - node.from != node.covered {
+        return Answer::Wrong;
+    }
+    if holds(table, rows, offsets, values, sheet, marks, node.production) {
+        return Answer::Fits { next, end };
+    }
+    Answer::Wrong
 }

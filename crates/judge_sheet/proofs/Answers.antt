@@ -26,9 +26,6 @@ module _ {table rows inherited synthesized offsets ks : List ℕ} {vs : List ℤ
   abbrev g : Grammar
   g = grammarIn table
 
-  pub start-small : start < 48
-  start-small = omega (arith, y .isStart, y .book .productions .rowsOf .sound .start, y .book .productions .rowsOf .sound .nonterminals .1)
-
   pub result-small : result < 256
   result-small = omega (arith, y .isResult, y .book .productions .rowsOf .sound .result .1, counts-few)
     where

@@ -54,6 +54,7 @@ pub fn judge_sheet(
     ensures { λ r. ⌜ SheetSettled (now (table .entry)) (now (rows .entry)) (now (inherited .entry)) (now (synthesized .entry)) (now (offsets .entry)) (now (kinds .entry)) (now (values .entry)) (now (sheet .entry)) start result r ⌝ }
 {
     let symbol = (128 + start) as u8;
+    let root = judge_parts::tree_at(0, 0, symbol, DEPTH);
     let answer = judge_nodes::check_node(
         table,
         rows,
@@ -63,10 +64,7 @@ pub fn judge_sheet(
         kinds,
         values,
         sheet,
-        0,
-        0,
-        symbol,
-        DEPTH,
+        root,
     );
     judge_root(answer, kinds, values, sheet, result)
 }

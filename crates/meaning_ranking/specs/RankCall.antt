@@ -10,7 +10,7 @@ use Rattle.meaning.specs.Grammar.{Grammar, TableBytes, Area, ProgramBuilder, To
 use Rattle.meaning.specs.Table.{grammarOf}
 use Rattle.meaning.specs.Calls.{Stacks, Answer, more, value, refused, tableRefused, Called, openOf, feedOf, finishOf}
 use Rattle.meaning.specs.PublicCalls.{Checked, usable, unusable, check, areaLength, written}
-use Rattle.meaning_ranking.specs.Ranking.{Entry, entry, ranking, cellsOf, totalOf, valuedOf}
+use Rattle.meaning_ranking.specs.Ranking.{RankEntry, rankEntry, ranking, cellsOf, totalOf, valuedOf}
 
 -- ---- one candidate
 
@@ -32,21 +32,21 @@ abbrev pub evaluated : Grammar → Stacks → TokenKinds → TokenValues → Cal
 evaluated g m ks vs = finishedOn g (fedOn g ks vs (openOf g m))
 
 -- 02: "an entry is its number, counted from 0, its value or else 0, its refusal or else 0". (The last call of a candidate never answers more, nor a table's refusal)
-abbrev pub entryOf : ℕ → Answer → Entry
-entryOf i (value v n) = entry (pos i) v (pos 0)
-entryOf i (refused k n) = entry (pos i) (pos 0) (pos k)
-entryOf i (more n) = entry (pos i) (pos 0) (pos 0)
-entryOf i (tableRefused k o) = entry (pos i) (pos 0) (pos k)
+abbrev pub rankEntryOf : ℕ → Answer → RankEntry
+rankEntryOf i (value v n) = rankEntry (pos i) v (pos 0)
+rankEntryOf i (refused k n) = rankEntry (pos i) (pos 0) (pos k)
+rankEntryOf i (more n) = rankEntry (pos i) (pos 0) (pos 0)
+rankEntryOf i (tableRefused k o) = rankEntry (pos i) (pos 0) (pos k)
 
 -- ---- all of them
 
 -- the entries in candidate order, and the stacks that the last candidate left
 pub record Evaluation : Type 0 where
-  pub entries : List Entry
+  pub entries : List RankEntry
   pub stacks : Stacks
 
 abbrev pub andThen : ℕ → Called → Evaluation → Evaluation
-andThen i c rest = record { entries = entryOf i (c .answer) ∷ rest .entries; stacks = rest .stacks }
+andThen i c rest = record { entries = rankEntryOf i (c .answer) ∷ rest .entries; stacks = rest .stacks }
 
 -- 02: "Candidates come as one token list and their lengths"
 abbrev pub Lengths : Type 0

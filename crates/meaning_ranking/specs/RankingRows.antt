@@ -12,43 +12,43 @@ use Rattle.meaning.specs.PublicCalls.{areaLength, written}
 use Rattle.meaning.specs.Examples.WordsAndTags.{words}
 use Rattle.meaning.specs.Examples.TableRows.{bytes}
 use Rattle.meaning.specs.Examples.CallRows.{m, state, stacks, used, called}
-use Rattle.meaning_ranking.specs.Ranking.{entry, before, place, rankedOnto, ranking, cellsOf, totalOf, valuedOf}
+use Rattle.meaning_ranking.specs.Ranking.{rankEntry, before, place, rankedOnto, ranking, cellsOf, totalOf, valuedOf}
 use Rattle.meaning_ranking.specs.RankCall.{evaluated, evaluations, inOrder, ranked, unranked, rankEffect, rankOf}
 
 -- ---- the order
 
 -- numbers 0 to 4: 5, refused 21, -3, 5, refused 24
-row-ranking : ranking (entry (pos 0) (pos 5) (pos 0) ∷ entry (pos 1) (pos 0) (pos 21) ∷ entry (pos 2) (negsuc 2) (pos 0) ∷ entry (pos 3) (pos 5) (pos 0) ∷ entry (pos 4) (pos 0) (pos 24) ∷ [])
-    ≡ entry (pos 0) (pos 5) (pos 0) ∷ entry (pos 3) (pos 5) (pos 0) ∷ entry (pos 2) (negsuc 2) (pos 0) ∷ entry (pos 1) (pos 0) (pos 21) ∷ entry (pos 4) (pos 0) (pos 24) ∷ []
+row-ranking : ranking (rankEntry (pos 0) (pos 5) (pos 0) ∷ rankEntry (pos 1) (pos 0) (pos 21) ∷ rankEntry (pos 2) (negsuc 2) (pos 0) ∷ rankEntry (pos 3) (pos 5) (pos 0) ∷ rankEntry (pos 4) (pos 0) (pos 24) ∷ [])
+    ≡ rankEntry (pos 0) (pos 5) (pos 0) ∷ rankEntry (pos 3) (pos 5) (pos 0) ∷ rankEntry (pos 2) (negsuc 2) (pos 0) ∷ rankEntry (pos 1) (pos 0) (pos 21) ∷ rankEntry (pos 4) (pos 0) (pos 24) ∷ []
 unfolding rankedOnto place before
 row-ranking = refl
 
-row-cells : cellsOf (entry (pos 3) (negsuc 2) (pos 0) ∷ entry (pos 1) (pos 0) (pos 21) ∷ []) ≡ pos 3 ∷ negsuc 2 ∷ pos 0 ∷ pos 1 ∷ pos 0 ∷ pos 21 ∷ []
+row-cells : cellsOf (rankEntry (pos 3) (negsuc 2) (pos 0) ∷ rankEntry (pos 1) (pos 0) (pos 21) ∷ []) ≡ pos 3 ∷ negsuc 2 ∷ pos 0 ∷ pos 1 ∷ pos 0 ∷ pos 21 ∷ []
 unfolding cellsOf
 row-cells = refl
 
 -- a refused one counts for nothing, whatever its value
-row-total : totalOf (entry (pos 0) (pos 5) (pos 0) ∷ entry (pos 1) (pos 9) (pos 21) ∷ entry (pos 2) (negsuc 2) (pos 0) ∷ []) ≡ pos 2
+row-total : totalOf (rankEntry (pos 0) (pos 5) (pos 0) ∷ rankEntry (pos 1) (pos 9) (pos 21) ∷ rankEntry (pos 2) (negsuc 2) (pos 0) ∷ []) ≡ pos 2
 unfolding totalOf
 row-total = refl
 
-row-valued : valuedOf (entry (pos 0) (pos 5) (pos 0) ∷ entry (pos 1) (pos 9) (pos 21) ∷ entry (pos 2) (negsuc 2) (pos 0) ∷ []) ≡ 2
+row-valued : valuedOf (rankEntry (pos 0) (pos 5) (pos 0) ∷ rankEntry (pos 1) (pos 9) (pos 21) ∷ rankEntry (pos 2) (negsuc 2) (pos 0) ∷ []) ≡ 2
 unfolding valuedOf
 row-valued = refl
 
-row-equal : before (entry (pos 3) (pos 5) (pos 0)) (entry (pos 0) (pos 5) (pos 0)) ≡ false
+row-equal : before (rankEntry (pos 3) (pos 5) (pos 0)) (rankEntry (pos 0) (pos 5) (pos 0)) ≡ false
 unfolding before
 row-equal = refl
 
-row-refused : before (entry (pos 1) (pos 0) (pos 21)) (entry (pos 2) (negsuc 2) (pos 0)) ≡ false
+row-refused : before (rankEntry (pos 1) (pos 0) (pos 21)) (rankEntry (pos 2) (negsuc 2) (pos 0)) ≡ false
 unfolding before
 row-refused = refl
 
-row-refused-last : before (entry (pos 2) (negsuc 2) (pos 0)) (entry (pos 1) (pos 0) (pos 21)) ≡ true
+row-refused-last : before (rankEntry (pos 2) (negsuc 2) (pos 0)) (rankEntry (pos 1) (pos 0) (pos 21)) ≡ true
 unfolding before
 row-refused-last = refl
 
-row-refused-by-number : before (entry (pos 2) (pos 0) (pos 20)) (entry (pos 1) (pos 0) (pos 24)) ≡ false
+row-refused-by-number : before (rankEntry (pos 2) (pos 0) (pos 20)) (rankEntry (pos 1) (pos 0) (pos 24)) ≡ false
 unfolding before
 row-refused-by-number = refl
 
@@ -80,7 +80,7 @@ evaluated-31-later = refl
 -- ---- all of them
 
 -- word; close; none; word: 1, 21, 0, 1
-evaluations-words : evaluations words 0 (1 ∷ 1 ∷ 0 ∷ 1 ∷ []) (0 ∷ 2 ∷ 0 ∷ []) (pos 0 ∷ pos 0 ∷ pos 0 ∷ []) (used 8 5) .entries ≡ entry (pos 0) (pos 1) (pos 0) ∷ entry (pos 1) (pos 0) (pos 21) ∷ entry (pos 2) (pos 0) (pos 0) ∷ entry (pos 3) (pos 1) (pos 0) ∷ []
+evaluations-words : evaluations words 0 (1 ∷ 1 ∷ 0 ∷ 1 ∷ []) (0 ∷ 2 ∷ 0 ∷ []) (pos 0 ∷ pos 0 ∷ pos 0 ∷ []) (used 8 5) .entries ≡ rankEntry (pos 0) (pos 1) (pos 0) ∷ rankEntry (pos 1) (pos 0) (pos 21) ∷ rankEntry (pos 2) (pos 0) (pos 0) ∷ rankEntry (pos 3) (pos 1) (pos 0) ∷ []
 evaluations-words = refl
 
 -- what stands afterwards is what the last one left; with none the stacks are as brought

@@ -19,8 +19,8 @@ use Rattle.meaning_house.specs.Order.{Shuffled}
 use Rattle.meaning.specs.Calls as Calls
 use Rattle.meaning.specs.Calls.{Stacks, Answer, lentOf, tokensFrom}
 use Rattle.meaning.specs.PublicCalls.{areaLength}
-use Rattle.meaning_ranking.specs.Ranking.{Entry, entry, number, value, valued, Ranks, cellsOf, totalOf, valuedOf}
-use Rattle.meaning_ranking.specs.RankCall.{evaluated, entryOf, evaluations, RankEffect, ranked, unranked, inOrder, rankOf, Lengths, ListBuffer}
+use Rattle.meaning_ranking.specs.Ranking.{RankEntry, rankEntry, number, value, valued, Ranks, cellsOf, totalOf, valuedOf}
+use Rattle.meaning_ranking.specs.RankCall.{evaluated, rankEntryOf, evaluations, RankEffect, ranked, unranked, inOrder, rankOf, Lengths, ListBuffer}
 
 -- 02: "Candidates come as one token list and their lengths"
 pub record Candidate : Type 0 where
@@ -40,16 +40,16 @@ pub record CandidatesBrought (bs : TableBytes) (area : Area) (g : Grammar) (leng
   pub lendable : T (all fourBytes vs)
 
 -- the entries in candidate order
-abbrev pub entriesFor : Grammar → Lengths → TokenKinds → TokenValues → Stacks → List Entry
+abbrev pub entriesFor : Grammar → Lengths → TokenKinds → TokenValues → Stacks → List RankEntry
 entriesFor g lengths ks vs m = evaluations g 0 lengths ks vs m .entries
 
 -- ---- the list
 
 -- 02: "list them, highest value first, equal values by lower candidate number" with "each candidate .. exactly once": the list holds the one list that is in order and has each entry once, the cells past it are as they were, and the report is theirs
-pub record RankedAs (es : List Entry) (lengths : Lengths) (list : ListBuffer) (e : RankEffect) : Type 0 where
-  pub order : List Entry
+pub record RankedAs (es : List RankEntry) (lengths : Lengths) (list : ListBuffer) (e : RankEffect) : Type 0 where
+  pub order : List RankEntry
   pub ranks : Ranks es order
-  pub only : (rs : List Entry) → Ranks es rs → rs ≡ order
+  pub only : (rs : List RankEntry) → Ranks es rs → rs ≡ order
   pub isList : e .list ≡ cellsOf order ++ drop (3 * length lengths) list
   pub report : e .answer ≡ ranked (valuedOf es) (totalOf es) (length lengths)
 
@@ -60,7 +60,7 @@ RankedExactly =
     → RankedAs (entriesFor g lengths ks vs m) lengths list (rankOf program bs area lengths ks vs list m)
 
 -- of two entries the first stands in front: 02's words
-pub record Front (x y : Entry) : Type 0 where
+pub record Front (x y : RankEntry) : Type 0 where
   -- a refused one "stands after all valued ones"
   pub valuedFirst : valued y ≡ true → valued x ≡ true
   -- "highest value first"
@@ -70,19 +70,19 @@ pub record Front (x y : Entry) : Type 0 where
   -- "in candidate order"
   pub refused : valued x ≡ false → valued y ≡ false → ltZ (number x) (number y) ≡ true
 
-abbrev pub none : Entry
-none = entry (pos 0) (pos 0) (pos 0)
+abbrev pub none : RankEntry
+none = rankEntry (pos 0) (pos 0) (pos 0)
 
 abbrev pub RankedInFront : Type 0
 RankedInFront =
-    (g : Grammar) (lengths : Lengths) (ks : TokenKinds) (vs : TokenValues) (m : Stacks) (rs : List Entry) → Ranks (entriesFor g lengths ks vs m) rs
+    (g : Grammar) (lengths : Lengths) (ks : TokenKinds) (vs : TokenValues) (m : Stacks) (rs : List RankEntry) → Ranks (entriesFor g lengths ks vs m) rs
     → (i j : ℕ) → i < j → j < length rs → Front (getD rs i none) (getD rs j none)
 
 -- ---- what each entry says
 
-abbrev pub numbered : ℕ → List Answer → List Entry
+abbrev pub numbered : ℕ → List Answer → List RankEntry
 numbered i [] = []
-numbered i (a ∷ answers) = entryOf i a ∷ numbered (suc i) answers
+numbered i (a ∷ answers) = rankEntryOf i a ∷ numbered (suc i) answers
 
 -- the stacks that the last candidate leaves; with none they are as brought
 abbrev pub lastLeft : Grammar → Stacks → Stacks → List Candidate → Stacks
@@ -116,12 +116,12 @@ RankedValues =
     (bs : TableBytes) (area : Area) (g : Grammar) (lengths : Lengths) (ks : TokenKinds) (vs : TokenValues) (list : ListBuffer) (m : Stacks)
     → CandidatesBrought bs area g lengths ks vs list
     → (earlier later : List Candidate) (c : Candidate) → candidatesOf lengths ks vs ≡ earlier ++ (c ∷ later) → (v : ℤ)
-    → In (entry (pos (length earlier)) v (pos 0)) (entriesFor g lengths ks vs m) ↔ ((t : Tree) × TreeOf g (leaves g (tokensFrom (c .kinds) (c .values))) t × WalkFits g (lentOf m) t × (valueOf g t ≡ v))
+    → In (rankEntry (pos (length earlier)) v (pos 0)) (entriesFor g lengths ks vs m) ↔ ((t : Tree) × TreeOf g (leaves g (tokensFrom (c .kinds) (c .values))) t × WalkFits g (lentOf m) t × (valueOf g t ≡ v))
 
 -- ---- in whatever order candidates come
 
-abbrev pub unnumbered : Entry → Entry
-unnumbered (entry n v r) = entry (pos 0) v r
+abbrev pub unnumbered : RankEntry → RankEntry
+unnumbered (rankEntry n v r) = rankEntry (pos 0) v r
 
 -- the same candidates in another order: the same values and refusals, each as often, and the same report
 abbrev pub RankedAnyOrder : Type 0
@@ -129,7 +129,7 @@ RankedAnyOrder =
     (bs : TableBytes) (area : Area) (g : Grammar) (lengths : Lengths) (ks : TokenKinds) (vs : TokenValues) (list : ListBuffer)
     (lengths′ : Lengths) (ks′ : TokenKinds) (vs′ : TokenValues) (list′ : ListBuffer) (m : Stacks)
     → CandidatesBrought bs area g lengths ks vs list → CandidatesBrought bs area g lengths′ ks′ vs′ list′ → Shuffled (candidatesOf lengths ks vs) (candidatesOf lengths′ ks′ vs′)
-    → (rs rs′ : List Entry) → Ranks (entriesFor g lengths ks vs m) rs → Ranks (entriesFor g lengths′ ks′ vs′ m) rs′
+    → (rs rs′ : List RankEntry) → Ranks (entriesFor g lengths ks vs m) rs → Ranks (entriesFor g lengths′ ks′ vs′ m) rs′
     → Shuffled (map unnumbered rs) (map unnumbered rs′) × (totalOf rs ≡ totalOf rs′) × (valuedOf rs ≡ valuedOf rs′)
 
 -- ---- refusals

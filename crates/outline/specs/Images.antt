@@ -115,12 +115,6 @@ module _ {rows : List ℕ} {count : ℕ} (image : Image rows count) (p : ℕ) (l
       let e : i - 1 + 1 ≡ i = omega arith in
       right-cons (i - 1) (omega arith) ∙ ap (λ (m : ℕ). symbolOf (byteAt rows p (i - 1)) ∷ drop m (rightAt rows p)) e
 
-  pub right-token : (i : ℕ) → i < sizeAt rows p → byteAt rows p i < 128 → drop i (rightAt rows p) ≡ terminal (byteAt rows p i) ∷ drop (i + 1) (rightAt rows p)
-  right-token i h s = right-cons i h ∙ ap (λ (x : Symbol). x ∷ drop (i + 1) (rightAt rows p)) (symbol-terminal (byteAt rows p i) s)
-
-  pub right-nonterminal : (i : ℕ) → i < sizeAt rows p → 128 ≤ byteAt rows p i → drop i (rightAt rows p) ≡ nonterminal (byteAt rows p i - 128) ∷ drop (i + 1) (rightAt rows p)
-  right-nonterminal i h s = right-cons i h ∙ ap (λ (x : Symbol). x ∷ drop (i + 1) (rightAt rows p)) (symbol-nonterminal (byteAt rows p i) s)
-
   pub right-end : (i : ℕ) → sizeAt rows p ≤ i → drop i (rightAt rows p) ≡ []
   right-end i h = drop-of-length-le (rightAt rows p) {i = i} (rw (right-length rows count (image .room) p lt (image .sizes p lt)) h)
 

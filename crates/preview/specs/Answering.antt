@@ -1,21 +1,18 @@
 -- What the set answers, by what was tried on the lent cells.
 use Prim.Native.Nat.{ℕ, min}
-use mathlib.Core.Path.{_≡_, sym, ap, _∙_, refl, ap₂}
-use mathlib.Core.List.{List, _++_, [], _∷_, map}
-use mathlib.Core.Bool.{_&&_}
+use mathlib.Core.Path.{_≡_, sym, ap, _∙_, refl}
+use mathlib.Core.List.{List, _++_, [], _∷_}
 use lib.ListN.{length, take, drop}
 use lib.IntN.{ℤ}
-use lib.Dec.{ltb}
 use Rattle.meaning.specs.Limits.{registersLimit, placesLimit}
 use Rattle.meaning.specs.Grammar.{Grammar, leaves}
 use Rattle.meaning.specs.Sets.{TokenSet}
 use Rattle.meaning.specs.Calls.{asBrought, Record, Stacks, refused, Called, lentOf, configOf, tokensFrom, afterFeed, feedOf}
 use Rattle.meaning.specs.PublicCalls.{stacksOf}
-use Rattle.meaning.specs.Base.{countFrom}
 use Rattle.meaning.specs.Machine.{Settled, stopped, failed, feedAll}
 use Rattle.meaning_preview.specs.Preview.{tidied, mayFollow, tokens, turned, mayEffect, mayOf, tried, noRefusal, previewOf}
 use Rattle.theory_base.specs.Feeds.{even-feed}
-use Rattle.theory_preview.specs.Tokens.{passing}
+use Rattle.theory_preview.specs.Tokens.{passing, passing-same}
 use Rattle.token_set.specs.declared.TokenSet as Code
 use Rattle.token_set.specs.SetBits.{setOf}
 use Rattle.run_moves.specs.declared.Run.{Run}
@@ -51,11 +48,7 @@ module _ {ws : List ℕ} {vs : List ℤ} {ps : List ℕ} {r : Record} (j : Judge
   set-is v set c =
       let m : Stacks = stacksOf vs ps in
       c .from g (lentOf m) (configOf g r m) (f g vs (s .begins) (s .formed) (j .few) (j .little) (not-turned g r m (sym (j .passed g s))))
-      ∙ same (countFrom 0 64)
-    where
-      same : (ts : List ℕ) → map (λ t. ltb t (g .terminals) && letsThrough g (lentOf (stacksOf vs ps)) (configOf g r (stacksOf vs ps)) v t) ts ≡ map (λ t. ltb t (g .terminals) && noRefusal (feedOf g r (stacksOf vs ps) (t ∷ []) (v ∷ []) .answer)) ts
-      same [] = refl
-      same (t ∷ ts) = ap₂ (λ x xs. x ∷ xs) (ap (λ b. ltb t (g .terminals) && b) (sym (lets-is v t))) (same ts)
+      ∙ passing-same (letsThrough g (lentOf m) (configOf g r m) v) (λ t. noRefusal (feedOf g r m (t ∷ []) (v ∷ []) .answer)) (g .terminals) (λ t. sym (lets-is v t))
 
 -- ---- on cells of any length
 
@@ -71,14 +64,10 @@ module _ (g : Grammar) (r : Record) (vs rs : List ℤ) (ps qs : List ℕ) (n k :
 
   -- the set by the feeds is the set by the previews
   pub set-whole : copyNumber g r own scratch ≡ 0 → (v : ℤ) → passing (λ t. noRefusal (feedOf g r cells (t ∷ []) (v ∷ []) .answer)) (g .terminals) ≡ mayFollow g r own scratch v
-  set-whole e v = same (countFrom 0 64)
+  set-whole e v = passing-same (λ t. noRefusal (feedOf g r cells (t ∷ []) (v ∷ []) .answer)) (λ t. noRefusal (previewOf g r own scratch t v .answer)) (g .terminals) one
     where
       one : (t : ℕ) → noRefusal (feedOf g r cells (t ∷ []) (v ∷ []) .answer) ≡ noRefusal (previewOf g r own scratch t v .answer)
       one t = ap noRefusal (feed-answers g r vs rs ps qs n k en ek t v .0) ∙ ap (λ (c : Called). noRefusal (c .answer)) (copied-on g r own scratch (λ j. asBrought (refused j 0) r scratch) (tried g r own scratch t v) e)
-
-      same : (ts : List ℕ) → map (λ t. ltb t (g .terminals) && noRefusal (feedOf g r cells (t ∷ []) (v ∷ []) .answer)) ts ≡ map (λ t. ltb t (g .terminals) && noRefusal (previewOf g r own scratch t v .answer)) ts
-      same [] = refl
-      same (t ∷ ts) = ap₂ (λ x xs. x ∷ xs) (ap (λ b. ltb t (g .terminals) && b) (one t)) (same ts)
 
 module _ {ws : List ℕ} (r : Record) (vs rs : List ℤ) (ps qs : List ℕ) (n k : ℕ) (en : n ≡ min (length vs) registersLimit) (ek : k ≡ min (length ps) placesLimit)
     (number : (g : Grammar) → HasProgram g ws → 0 ≡ copyNumber g r (stacksOf vs ps) (stacksOf rs qs)) where

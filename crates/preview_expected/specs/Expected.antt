@@ -7,7 +7,7 @@ use mathlib.Core.List.{List, [], _∷_}
 use lib.ListN.{length, getD}
 use lib.Dec.{eqb}
 use borrow.Author.Tests.{eq-eqb, ne-eqb}
-use Rattle.theory_program.specs.Parts.{headOperation, headOperand}
+use Rattle.theory_program.specs.Parts.{headOperation, headOperand, readOperation, predictOperation, nothingOperation}
 
 -- the directory names an alternative of nonterminal n for token u
 abbrev pub namesOne : List ℕ → ℕ → ℕ → Bool
@@ -19,7 +19,7 @@ expectedBy isTerminal isNonterminal isNothing ws n u = elim isTerminal as (λ x.
 
 -- by the head word
 abbrev pub expectedFrom : ℕ → List ℕ → ℕ → Bool
-expectedFrom w ws u = expectedBy (eqb (headOperation w) 2) (eqb (headOperation w) 3) (eqb (headOperation w) 6) ws (headOperand w) u
+expectedFrom w ws u = expectedBy (eqb (headOperation w) readOperation) (eqb (headOperation w) predictOperation) (eqb (headOperation w) nothingOperation) ws (headOperand w) u
 
 abbrev pub expectedAt : List ℕ → ℕ → ℕ → Bool
 expectedAt ws a u = expectedFrom (getD ws a 0) ws u
@@ -46,17 +46,17 @@ add-looks : expectedFrom 8 [] 0 ≡ true
 add-looks = refl
 
 module _ (w : ℕ) (ws : List ℕ) (u : ℕ) where
-  pub from-terminal : headOperation w ≡ 2 → eqb (headOperand w) u ≡ expectedFrom w ws u
-  from-terminal e = sym (ap (λ b. expectedBy b (eqb (headOperation w) 3) (eqb (headOperation w) 6) ws (headOperand w) u) (eq-eqb (headOperation w) 2 e))
+  pub from-terminal : headOperation w ≡ readOperation → eqb (headOperand w) u ≡ expectedFrom w ws u
+  from-terminal e = sym (ap (λ b. expectedBy b (eqb (headOperation w) predictOperation) (eqb (headOperation w) nothingOperation) ws (headOperand w) u) (eq-eqb (headOperation w) readOperation e))
 
-  pub from-nonterminal : headOperation w ≡ 3 → namesOne ws (headOperand w) u ≡ expectedFrom w ws u
-  from-nonterminal e = sym (ap₂ (λ b d. expectedBy b d (eqb (headOperation w) 6) ws (headOperand w) u) (ne-eqb (headOperation w) 2 (λ z. omega arith)) (eq-eqb (headOperation w) 3 e))
+  pub from-nonterminal : headOperation w ≡ predictOperation → namesOne ws (headOperand w) u ≡ expectedFrom w ws u
+  from-nonterminal e = sym (ap₂ (λ b d. expectedBy b d (eqb (headOperation w) nothingOperation) ws (headOperand w) u) (ne-eqb (headOperation w) readOperation (λ z. omega arith)) (eq-eqb (headOperation w) predictOperation e))
 
-  pub from-other : (headOperation w ≡ 2 → ⊥) → (headOperation w ≡ 3 → ⊥) → not (eqb (headOperation w) 6) ≡ expectedFrom w ws u
-  from-other x y = sym (ap₂ (λ b d. expectedBy b d (eqb (headOperation w) 6) ws (headOperand w) u) (ne-eqb (headOperation w) 2 x) (ne-eqb (headOperation w) 3 y))
+  pub from-other : (headOperation w ≡ readOperation → ⊥) → (headOperation w ≡ predictOperation → ⊥) → not (eqb (headOperation w) nothingOperation) ≡ expectedFrom w ws u
+  from-other x y = sym (ap₂ (λ b d. expectedBy b d (eqb (headOperation w) nothingOperation) ws (headOperand w) u) (ne-eqb (headOperation w) readOperation x) (ne-eqb (headOperation w) predictOperation y))
 
 -- the words that are read stand in the program
 pub record Legible (ws : List ℕ) (a u : ℕ) : Type 0 where
   pub inside : a < length ws
-  pub directory : headOperation (getD ws a 0) ≡ 3 → 9 + 64 * headOperand (getD ws a 0) + u < length ws
+  pub directory : headOperation (getD ws a 0) ≡ predictOperation → 9 + 64 * headOperand (getD ws a 0) + u < length ws
   pub small : u < 64

@@ -2,7 +2,7 @@
 use Prim.Native.Nat.{ℕ, suc, _+_, _-_, _*_, _<_}
 use native.Mathlib.Omega.{arith}
 use mathlib.Core.Path.{_≡_, refl, sym, ap, _∙_}
-use mathlib.Core.Bool.{Bool, true, false, not, _&&_, cond}
+use mathlib.Core.Bool.{Bool, true, false, not, _&&_, cond, and-false}
 use mathlib.Core.List.{List, [], _++_}
 use lib.ListN.{length, getD}
 use lib.Dec.{eqb, ltb, leb}
@@ -24,10 +24,6 @@ use Rattle.preview_token.specs.Passing.{isStopped, letsThrough, PassesAs
 
 pub legible : {ws : List ℕ} {m : List ℤ} {ps : List ℕ} {run : Run} → Running ws m ps run → (u : ℕ) → u < 64 → Legible ws (run .at) u
 legible r u l = record { inside = bounds (r .held) .inside; directory = λ o. directory-inside (r .held) o u l; small = l }
-
-and-none : (a : Bool) → a && false ≡ false
-and-none true = refl
-and-none false = refl
 
 module _ {g : Grammar} {ws : List ℕ} {lent : Lent} {m : List ℤ} {ps : List ℕ} {run : Run} {c : Config} (h : Held g ws lent m ps run c) (v : ℤ) (u : ℕ) where
   abbrev leaf : Leaf
@@ -77,7 +73,7 @@ module _ {g : Grammar} {ws : List ℕ} {lent : Lent} {m : List ℤ} {ps : List �
   not-expected e = go (leb tokensLimit (c .tokens)) (ltb u (g .terminals)) refl
     where
       not-read : waits (c .frames) && isDone (comes leaf) (c .tokens) c ≡ false
-      not-read = ap (λ b. waits (c .frames) && b) (le-ltb (c .tokens) (c .tokens) (omega arith)) ∙ and-none (waits (c .frames))
+      not-read = ap (λ b. waits (c .frames) && b) (le-ltb (c .tokens) (c .tokens) (omega arith)) ∙ and-false (waits (c .frames))
 
       go : (a b : Bool) → ltb u (g .terminals) ≡ b → endedBy (fedBy a b) ≡ false
       go true b x = refl

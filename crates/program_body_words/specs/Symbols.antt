@@ -59,9 +59,6 @@ module _ {row fields inherited synthesized marks links levels : List â„•} {k : â
   unfolding aheadSize
   words-size = symbol-length g p (suc k) (symbolAt p (suc k))
 
-  pub note-inside : (e + k < areaLength) Ã— (e + k < length area)
-  note-inside = (omega (arith, x .apart, x .room), omega (arith, x .apart, x .room, x .long))
-
   pub index-small : k < 12
   index-small = omega (arith, short, x .here)
 
@@ -110,9 +107,6 @@ module _ {row fields inherited synthesized marks links levels : List â„•} {k : â
 
           pub next-small : next < areaLength
           next-small = omega (arith, next-is, words-size, x .room)
-
-          pub note-there : e + k < length then
-          note-there = omega (arith, note-inside .1, wrote-length so-far)
 
           pub next-inside : next < length (set then (e + k) next)
           next-inside = omega (arith, next-is, length-set then (e + k) next, wrote-length so-far, words-size, x .room, x .long)

@@ -7,8 +7,8 @@ ghost use Rattle.program_block_words.specs.Patch.{Wrote};
 ghost use Rattle.program_words.specs.Directory.{Alternatives, Marked, Recorded, entryAt};
 ghost use Rattle.meaning.specs.Program.{directory};
 use program_parts::DIRECTORY;
+use program_parts::DIRECTORY_SCHEME;
 use program_parts::DIRECTORY_WORDS;
-use program_parts::ENTRY_SCHEME;
 use program_parts::RECORD_WORDS;
 use token_set::TokenSet;
 
@@ -44,7 +44,7 @@ fn entry(area: &[u32], at: usize, number: u32) -> u32
     ensures { λ r. ⌜ r ≡ entryAt (now (area .entry)) at number ⌝ }
 {
     if area[at + program_parts::TESTS] == 0 {
-        return number + ENTRY_SCHEME as u32 * area[at + program_parts::SCHEME];
+        return number + DIRECTORY_SCHEME as u32 * area[at + program_parts::SCHEME];
     }
     number
 }

@@ -2,9 +2,9 @@
 ghost use Prim.Native.Nat.{_+_, _*_, _≤_, _<_};
 ghost use mathlib.Core.Path.{_≡_};
 ghost use lib.ListN.{length};
-ghost use Rattle.meaning.specs.Grammar.{placeProduction, placePassed};
+ghost use Rattle.meaning.specs.Grammar.{placeAt, placeProduction, placePassed};
 ghost use Rattle.meaning.specs.Program.{packed};
-ghost use Rattle.theory_program.specs.Parts.{headOperation, headOperand, ruleTarget, ruleFunction, ruleFirst, ruleSecond, conditionKind, conditionFirst, conditionSecond, waitLeft, waitPassed, waitMarked, waitInherited, waitSymbol, inSet};
+ghost use Rattle.theory_program.specs.Parts.{headOf, headOperation, headOperand, directoryNumber, directoryScheme, ruleTarget, ruleFunction, ruleFirst, ruleSecond, conditionKind, conditionFirst, conditionSecond, waitLeft, waitPassed, waitMarked, waitInherited, waitSymbol, inSet};
 
 // ---- the words on the whole segment
 
@@ -35,7 +35,7 @@ pub const DIRECTORY: usize = 9;
 pub const DIRECTORY_WORDS: usize = 64;
 
 // How much the scheme's address counts in a word of the directory; below it stands the production's number plus 1.
-pub const ENTRY_SCHEME: usize = 256;
+pub const DIRECTORY_SCHEME: usize = 256;
 
 // A production's record.
 pub const RECORD_WORDS: usize = 8;
@@ -86,9 +86,25 @@ pub fn operand(head: usize) -> usize
 // The head word of an operation with its operand.
 pub fn head(operation: u32, operand: u32) -> u32
     requires { ⌜ (operation < 8) × (operand < 65536) ⌝ }
-    ensures { λ r. ⌜ r ≡ operation + 8 * operand ⌝ }
+    ensures { λ r. ⌜ r ≡ headOf operation operand ⌝ }
 {
     operation + 8 * operand
+}
+
+// ---- a word of the directory
+
+// The production's number plus 1, or 0.
+pub fn directory_number(word: usize) -> usize
+    ensures { λ r. ⌜ r ≡ directoryNumber word ⌝ }
+{
+    word % DIRECTORY_SCHEME
+}
+
+// Where its scheme begins, if it has no entry tests.
+pub fn directory_scheme(word: usize) -> usize
+    ensures { λ r. ⌜ r ≡ directoryScheme word ⌝ }
+{
+    word / DIRECTORY_SCHEME
 }
 
 // ---- a rule's first word
@@ -157,6 +173,14 @@ pub fn condition_second(word: u32) -> u32
 }
 
 // ---- a place
+
+// The place of a production of which some symbols are passed.
+pub fn place(production: usize, passed: usize) -> u32
+    requires { ⌜ (production < 65536) × (passed < 256) ⌝ }
+    ensures { λ r. ⌜ r ≡ placeAt production passed ⌝ }
+{
+    (production * 256 + passed) as u32
+}
 
 pub fn production(place: usize) -> usize
     ensures { λ r. ⌜ r ≡ placeProduction place ⌝ }

@@ -1,14 +1,13 @@
 -- One production has at most 104 rules, 8 for each of 13 positions, and 512 conditions; each takes eight bytes of the table.
 use Prim.Native.Nat.{ℕ, zero, suc, _+_, _*_, _≤_, _<_}
 use native.Mathlib.Omega.{arith}
-use mathlib.Core.Path.{_≡_, refl, ap}
-use mathlib.Core.Logic.{inl, inr}
+use mathlib.Core.Path.{_≡_, refl}
+use mathlib.Core.Logic.{inl}
 use mathlib.Core.Bool.{Bool, true, false, not}
-use mathlib.Core.List.{List, [], _∷_, map}
+use mathlib.Core.List.{List, [], _∷_}
 use lib.ListN.{length, length-append}
 use lib.Dec.{T, eqb, eqb→eq, eqb-refl, T-not}
-use Rattle.meaning.specs.Limits.{conditionsLimit}
-use Rattle.meaning.specs.Base.{In, keep, consIf, total}
+use Rattle.meaning.specs.Base.{In, keep, consIf}
 use Rattle.meaning.specs.Grammar.{nonterminal, Occurrence, Rule, Condition, Production, Grammar, symbolAt}
 use Rattle.meaning.specs.Rules.{OutputAt, Distinct, WellFormed}
 use Rattle.meaning.specs.Layout.{field, ruleBytes, conditionBytes, RulesAndConditions, nothing, rule, condition}
@@ -17,11 +16,6 @@ use Rattle.theory_base.specs.Evaluate.{distinct-keep}
 use Rattle.theory_program.specs.Proper.{att-most}
 use Rattle.theory_program.specs.RuleCounts.{rules-few}
 use Rattle.program_block_words.specs.Items.{rule-whole, condition-whole}
-
-in-total : {A : Type 0} (f : A → ℕ) (xs : List A) (x : A) → In x xs → f x ≤ total (map f xs)
-in-total f [] x i = absurd i
-in-total f (y ∷ ys) x (inl e) = let z : f x ≡ f y = ap f e in omega arith
-in-total f (y ∷ ys) x (inr i) = omega (arith, in-total f ys x i)
 
 -- those of a kind and the others
 keep-split : {A : Type 0} (f : A → Bool) (xs : List A) → length xs ≡ length (keep f xs) + length (keep (λ x. not (f x)) xs)
@@ -61,9 +55,6 @@ module _ (g : Grammar) (w : WellFormed g) (p : Production) where
   rules-most i =
       let f = w .each p i in
       omega (arith, rules-below 13 (p .rules) (f .distinct) (λ r j. output-small (f .short) (r .target .position) (r .target .attribute) (f .targets r j)))
-
-  pub conditions-most : In p (g .productions) → length (p .conditions) ≤ conditionsLimit
-  conditions-most i = omega (arith, in-total (λ q. length (q .conditions)) (g .productions) p i, w .conditions)
 
 -- each takes eight bytes of the table at least
 pub fields-long : {rs : List (Rule Occurrence)} {cs : List (Condition Occurrence)} {d : List ℕ} → RulesAndConditions rs cs d → 8 * (length rs + length cs) ≤ length d

@@ -19,7 +19,7 @@ use Rattle.theory_program.specs.WordsStand.{stands-word}
 use Rattle.theory_program.specs.SmallWords.{scheme-below}
 use Rattle.theory_program.specs.Addresses.{recordAddress, record-in, records-length, body-length, bodies-length, wait-row-length, waits-length, directory-length, short-productions}
 use Rattle.theory_program.specs.Code.{conditions-length}
-use Rattle.theory_program.specs.Proper.{production-in}
+use Rattle.theory_program.specs.Proper.{production-in, conditions-most}
 use Rattle.theory_program.specs.Sizes.{program-length, program-fits}
 use Rattle.program_block_words.specs.Patch.{patch, patch-none, patch-length, patch-before, patch-inside, patch-append, patch-swap, Wrote, wrote-as, wrote-then, wrote-ahead, wrote-length, patch-written}
 use Rattle.program_block_words.specs.Chains.{Listing, Found}
@@ -30,7 +30,7 @@ use Rattle.table.specs.CarriedSet.{carried-count}
 use Rattle.outline.specs.declared.Sizes.{Sizes}
 use Rattle.outline.specs.Images.{ImageOf, HasRow, rowAt, leftAt, sizeAt, size-is, image-of}
 use Rattle.outline.specs.Outline.{grammarIn, Productions, Outlined}
-use Rattle.program_words.specs.Most.{rules-most, conditions-most, fields-long}
+use Rattle.program_words.specs.Most.{rules-most, fields-long}
 use Rattle.program_words.specs.Fields.{stretchEnd, fieldsFrom, fieldsAt, fields-place, given-at}
 use Rattle.program_words.specs.Directory.{Alternatives, Recorded, entryAt, entry-recorded, recorded-kept, start-bit, zeros, Marked, Filled, filled-start, filled-turn, filled-end}
 use Rattle.program_words.specs.Records.{two-words, sameLeft, NextOf, Growing, growing-start, growing-as, growing-turn, growing-end, restRecords, restBodies, recordAt, bodyAt, records-turn, bodies-turn, records-end, bodies-end}

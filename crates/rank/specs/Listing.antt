@@ -12,7 +12,7 @@ use Rattle.meaning.specs.Table.{State, grammarOf}
 use Rattle.meaning.specs.Program.{programOf}
 use Rattle.meaning.specs.Calls.{Stacks}
 use Rattle.meaning.specs.PublicCalls.{stacksOf, usable, unusable, check, areaLength}
-use Rattle.meaning_ranking.specs.Ranking.{Entry, ranking, cellsOf, totalOf, valuedOf}
+use Rattle.meaning_ranking.specs.Ranking.{RankEntry, ranking, cellsOf, totalOf, valuedOf}
 use Rattle.meaning_ranking.specs.RankCall.{inOrder, evaluations, rankEffect, unranked, listed, rankEven, rankUnder, rankLong, rankSuited, rankOf}
 use Rattle.theory_ranking.specs.Entries.{entriesOf}
 use Rattle.theory_ranking.specs.Cells.{length-cells, length-entries}
@@ -37,7 +37,7 @@ module _ (ws ns ks : List ℕ) (us l₀ vs₀ : List ℤ) (ps₀ : List ℕ) whe
   module _ (even : length ks ≡ length us) (room : 3 * length ns ≤ length l₀) (l₁ vs : List ℤ) (ps : List ℕ) (d : AllDone ws ns ks us l₀ vs₀ ps₀ l₁ vs ps) where
     pub listed-as : (l : List ℤ) (r : Ranked) → 3 * length ns ≤ length l₁ → Reported (length ns) l₁ l r → ListedAs ws ns ks us l₀ vs₀ ps₀ l vs ps r
     listed-as l r wide p g s area =
-        let es : List Entry = entriesOf (length ns) l₁ in
+        let es : List RankEntry = entriesOf (length ns) l₁ in
         let n : length es ≡ length ns = length-entries (length ns) l₁ wide in
         let c : 3 * length ns ≡ length (cellsOf es) = ap (λ k. 3 * k) (sym n) ∙ sym (length-cells es) in
         let x : l ≡ cellsOf (ranking es) ++ drop (length (cellsOf es)) l₀ = p .isList ∙ ap (λ z. cellsOf (ranking es) ++ z) (d .rest ∙ ap (λ k. drop k l₀) c) in

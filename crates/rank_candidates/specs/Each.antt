@@ -14,8 +14,8 @@ use Rattle.meaning.specs.Grammar.{Grammar}
 use Rattle.meaning.specs.Value as Value
 use Rattle.meaning.specs.Calls as Calls
 use Rattle.meaning.specs.PublicCalls.{stacksOf}
-use Rattle.meaning_ranking.specs.Ranking.{Entry, entry, value, cellsOf}
-use Rattle.meaning_ranking.specs.RankCall.{evaluated, entryOf, Evaluation, evaluations}
+use Rattle.meaning_ranking.specs.Ranking.{RankEntry, rankEntry, value, cellsOf}
+use Rattle.meaning_ranking.specs.RankCall.{evaluated, rankEntryOf, Evaluation, evaluations}
 use Rattle.theory_base.specs.Members.{T→true}
 use Rattle.theory_ranking.specs.Entries.{entriesOf, Ranged}
 use Rattle.theory_ranking.specs.Cells.{cells-append, length-cells, entries-cells, set-three}
@@ -31,7 +31,7 @@ use Rattle.rank_evaluate.specs.Ran.{answerRanged, EvaluatedAs}
 use Rattle.rank_entries.specs.Entries.{putAt}
 
 -- what is left to evaluate after the entries es
-abbrev pub after : List Entry → Evaluation → Evaluation
+abbrev pub after : List RankEntry → Evaluation → Evaluation
 after es e = record { entries = es ++ e .entries; stacks = e .stacks }
 
 -- parts of two lists of one length
@@ -46,7 +46,7 @@ pub record AllDone (ws lengths ks : List ℕ) (us l₀ vs₀ : List ℤ) (ps₀ 
 
 -- the first i are evaluated, from `at` on the tokens of the others come
 pub record DoneTo (ws lengths ks : List ℕ) (us l₀ vs₀ : List ℤ) (ps₀ : List ℕ) (i at : ℕ) (l vs : List ℤ) (ps : List ℕ) (a b : ℕ) : Type 0 where
-  pub entries : List Entry
+  pub entries : List RankEntry
   pub size : length entries ≡ i
   pub isList : l ≡ cellsOf entries ++ drop (3 * i) l₀
   pub rest : (g : Grammar) → HasProgram g ws → evaluations g 0 lengths ks us (stacksOf vs₀ ps₀) ≡ after entries (evaluations g i (drop i lengths) (drop at ks) (drop at us) (stacksOf vs ps))
@@ -89,9 +89,9 @@ module _ (ws lengths ks : List ℕ) (us l₀ vs₀ : List ℤ) (ps₀ : List ℕ
       cells-size : length (cellsOf (k .entries)) ≡ 3 * i
       cells-size = length-cells (k .entries) ∙ ap (λ n. 3 * n) (k .size)
 
-      put-list : (e : Entry) → 3 * i + 3 ≤ length l → putAt l i e ≡ cellsOf (k .entries ++ (e ∷ [])) ++ drop (3 * (i + 1)) l₀
+      put-list : (e : RankEntry) → 3 * i + 3 ≤ length l → putAt l i e ≡ cellsOf (k .entries ++ (e ∷ [])) ++ drop (3 * (i + 1)) l₀
       unfolding cellsOf
-      put-list (entry n v r) m =
+      put-list (rankEntry n v r) m =
           let t : List ℤ = drop (3 * i) l₀ in
           let s : 3 * i + 3 ≡ 3 * (i + 1) = omega arith in
           let whole : l ≡ take (3 * i + 3) l ++ drop (3 * i + 3) l = sym (take-append-drop (3 * i + 3) l) in
@@ -104,28 +104,28 @@ module _ (ws lengths ks : List ℕ) (us l₀ vs₀ : List ℤ) (ps₀ : List ℕ
           ∙ (set-three l (drop (3 * i + 3) l) (3 * i) n v r m
           ∙ (ap₂ (λ x y. x ++ (n ∷ v ∷ r ∷ y)) front back
           ∙ (sym (append-assoc (cellsOf (k .entries)) (n ∷ v ∷ r ∷ []) (drop (3 * (i + 1)) l₀))
-          ∙ ap (λ z. z ++ drop (3 * (i + 1)) l₀) (sym (cells-append (k .entries) (entry n v r ∷ []))))))
+          ∙ ap (λ z. z ++ drop (3 * (i + 1)) l₀) (sym (cells-append (k .entries) (rankEntry n v r ∷ []))))))
 
       -- one more
       module _ (n : ℕ) (q : n ≡ getD lengths i 0) (ks′ : List ℕ) (us′ : List ℤ) (x : ks′ ≡ take n (drop at ks)) (y : us′ ≡ take n (drop at us)) (vs′ : List ℤ) (ps′ : List ℕ) (r : Candidate) (d : EvaluatedAs ws ks′ us′ vs ps vs′ ps′ r) where
-        one-more : (g : Grammar) → HasProgram g ws → evaluations g i (drop i lengths) (drop at ks) (drop at us) (stacksOf vs ps) ≡ after (entryOf i (answerIs (r .answer)) ∷ []) (evaluations g (suc i) (drop (suc i) lengths) (drop (at + n) ks) (drop (at + n) us) (stacksOf vs′ ps′))
+        one-more : (g : Grammar) → HasProgram g ws → evaluations g i (drop i lengths) (drop at ks) (drop at us) (stacksOf vs ps) ≡ after (rankEntryOf i (answerIs (r .answer)) ∷ []) (evaluations g (suc i) (drop (suc i) lengths) (drop (at + n) ks) (drop (at + n) us) (stacksOf vs′ ps′))
         one-more g s =
             let z = d .outcomeIs g s ∙ ap₂ (λ v w. outcomeOf (evaluated g (stacksOf vs ps) v w)) x y in
             let c : drop n (drop at ks) ≡ drop (at + n) ks = drop-drop n at ks in
             let e : drop n (drop at us) ≡ drop (at + n) us = drop-drop n at us in
             ap (λ ns. evaluations g i ns (drop at ks) (drop at us) (stacksOf vs ps)) (first-left ∙ ap (λ j. j ∷ drop (suc i) lengths) (sym q))
-            ∙ (ap (λ o. let rest = evaluations g (suc i) (drop (suc i) lengths) (drop n (drop at ks)) (drop n (drop at us)) (o .stacks) in record { entries = entryOf i (o .answer) ∷ rest .entries; stacks = rest .stacks }) (sym z)
-            ∙ ap₂ (λ v w. after (entryOf i (answerIs (r .answer)) ∷ []) (evaluations g (suc i) (drop (suc i) lengths) v w (stacksOf vs′ ps′))) c e)
+            ∙ (ap (λ o. let rest = evaluations g (suc i) (drop (suc i) lengths) (drop n (drop at ks)) (drop n (drop at us)) (o .stacks) in record { entries = rankEntryOf i (o .answer) ∷ rest .entries; stacks = rest .stacks }) (sym z)
+            ∙ ap₂ (λ v w. after (rankEntryOf i (answerIs (r .answer)) ∷ []) (evaluations g (suc i) (drop (suc i) lengths) v w (stacksOf vs′ ps′))) c e)
 
-        in-limits : (o : Calls.Answer) → T (answerRanged o) → Value.inRange (value (entryOf i o)) ≡ true
+        in-limits : (o : Calls.Answer) → T (answerRanged o) → Value.inRange (value (rankEntryOf i o)) ≡ true
         in-limits (Calls.value v m) t = T→true (Value.inRange v) t
         in-limits (Calls.more m) t = refl
         in-limits (Calls.refused j m) t = refl
         in-limits (Calls.tableRefused j m) t = refl
 
-        pub done-turn : 3 * i + 3 ≤ length l → (l′ : List ℤ) → l′ ≡ putAt l i (entryOf i (answerIs (r .answer))) → DoneTo ws lengths ks us l₀ vs₀ ps₀ (i + 1) (at + n) l′ vs′ ps′ (r .registers) (r .places)
+        pub done-turn : 3 * i + 3 ≤ length l → (l′ : List ℤ) → l′ ≡ putAt l i (rankEntryOf i (answerIs (r .answer))) → DoneTo ws lengths ks us l₀ vs₀ ps₀ (i + 1) (at + n) l′ vs′ ps′ (r .registers) (r .places)
         done-turn m l′ e =
-            let f : Entry = entryOf i (answerIs (r .answer)) in
+            let f : RankEntry = rankEntryOf i (answerIs (r .answer)) in
             let j : suc i ≡ i + 1 = omega arith in
             record {
               entries = k .entries ++ (f ∷ []);

@@ -3,7 +3,6 @@ ghost use Prim.Native.Nat.{_+_, _*_, _≤_};
 ghost use mathlib.Core.Path.{_≡_};
 ghost use lib.ListN.{length};
 ghost use Rattle.meaning.specs.Base.{total};
-ghost use Rattle.meaning_ranking.specs.Ranking.{entry};
 ghost use Rattle.run_fit.specs.HasProgram.{Readable};
 ghost use Rattle.rank_candidates.specs.Each.{AllDone};
 

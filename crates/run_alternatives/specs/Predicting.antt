@@ -40,7 +40,7 @@ abbrev pub holdsAt : List ℕ → ℕ → ℕ → Bool
 holdsAt ws r u = inSet ws (r + 2) u
 
 -- the words of a record can be read, and its entry tests can be tested on rs
-pub record Entry (ws : List ℕ) (rs : List ℤ) (r : ℕ) : Type 0 where
+pub record Testable (ws : List ℕ) (rs : List ℤ) (r : ℕ) : Type 0 where
   pub inside : r + 8 ≤ length ws
   pub order : 3 * getD ws (r + 5) 0 ≤ getD ws (r + 6) 0
   pub tested : Tests ws (getD ws (r + 6) 0 - 3 * getD ws (r + 5) 0) (getD ws (r + 5) 0) rs
@@ -67,8 +67,8 @@ module _ {g : Grammar} {ws : List ℕ} (b : Begins g ws) (w : WellFormed g) (rs 
   at-entries : getD ws (recordOf ws (suc q) + 6) 0 - 3 * getD ws (recordOf ws (suc q) + 5) 0 ≡ entryAddress g q
   at-entries = ap₂ (λ x y. x - 3 * y) at-scheme at-tests ∙ sym (entry-before g q)
 
-  pub entry-here : ((t : Condition ℕ) → In t entries → Reads (Valued rs) t) → Entry ws rs (recordOf ws (suc q))
-  entry-here v =
+  pub testable-here : ((t : Condition ℕ) → In t entries → Reads (Valued rs) t) → Testable ws rs (recordOf ws (suc q))
+  testable-here v =
       record {
         inside = omega (arith, at-record, stands-within (record-at b w q l));
         order = omega (arith, at-tests, at-scheme, conditions-length entries);
@@ -126,8 +126,8 @@ module _ {g : Grammar} {ws : List ℕ} {rs : List ℤ} {n p : ℕ} (s : Leads g 
     pub production-small : p ≤ 128
     production-small = omega (arith, is-suc, below, s .wellFormed .productions .1)
 
-    pub entry-of : Entry ws rs (recordOf ws p)
-    entry-of = rw is-suc (entry-here (s .begins) (s .wellFormed) rs found-q below (s .valued found-q below (at-production z .1 .2)))
+    pub testable-of : Testable ws rs (recordOf ws p)
+    testable-of = rw is-suc (testable-here (s .begins) (s .wellFormed) rs found-q below (s .valued found-q below (at-production z .1 .2)))
 
     -- the word that leads on
     pub leads-on : Leads g ws rs n (getD ws (recordOf ws p + 1) 0)

@@ -7,7 +7,7 @@ ghost use Rattle.meaning.specs.Grammar.{Grammar};
 ghost use Rattle.theory_program.specs.Search.{found};
 ghost use Rattle.run_registers.specs.Stack.{stack};
 ghost use Rattle.run_moves.specs.Passing.{lookOf};
-ghost use Rattle.run_alternatives.specs.Predicting.{recordOf, holdsAt, entersAt, Entry, Leads, Led};
+ghost use Rattle.run_alternatives.specs.Predicting.{recordOf, holdsAt, entersAt, Testable, Leads, Led};
 
 // The address of a production's record, by its number plus 1.
 pub fn record_of(program: &[u32], p: usize) -> usize
@@ -27,7 +27,7 @@ fn holds(program: &[u32], row: usize, look: usize) -> bool
 
 // Whether the entry conditions of a production hold.
 fn enters(registers: &[i64], height: usize, program: &[u32], row: usize) -> bool
-    requires { ⌜ (height ≤ length (now registers)) × Entry (now program) (stack height (now registers)) row ⌝ }
+    requires { ⌜ (height ≤ length (now registers)) × Testable (now program) (stack height (now registers)) row ⌝ }
     ensures { λ r. ⌜ r ≡ entersAt (now (program .entry)) (stack height (now (registers .entry))) row ⌝ }
 {
     let count = run_moves::word_at(program, row + program_parts::TESTS);
@@ -43,7 +43,7 @@ fn enters(registers: &[i64], height: usize, program: &[u32], row: usize) -> bool
 
 // Whether the set of the production at `row` holds what comes next and its entry conditions hold.
 fn passes(registers: &[i64], height: usize, program: &[u32], row: usize, look: usize) -> bool
-    requires { ⌜ (height ≤ length (now registers)) × Entry (now program) (stack height (now registers)) row × (look < 64) ⌝ }
+    requires { ⌜ (height ≤ length (now registers)) × Testable (now program) (stack height (now registers)) row × (look < 64) ⌝ }
     ensures { λ r. ⌜ r ≡ holdsAt (now (program .entry)) row look && entersAt (now (program .entry)) (stack height (now (registers .entry))) row ⌝ }
 {
     if holds(program, row, look) {

@@ -1,2 +1,2 @@
--- The loops, a turn at a time
+-- Tests of cells by their bits: gathered over the cells, none where all pass
 pub mod Gathering

@@ -9,7 +9,7 @@ use lib.Dec.{eqb, ltb, leb}
 use lib.IntN.{ℤ}
 use borrow.Author.Tests.{lt-ltb, le-ltb, le-leb, lt-leb, ltb-true, ltb-false, leb-false}
 use Rattle.meaning.specs.Value.{mark}
-use Rattle.theory_program.specs.Parts.{inSet}
+use Rattle.theory_program.specs.Parts.{readOperation, predictOperation, nothingOperation, inSet}
 
 -- ---- what comes next, judged before its moves
 
@@ -45,9 +45,9 @@ module _ (bound most : ℕ) (us : List ℕ) (i n : ℕ) where
 
 -- ---- the operation at hand
 
--- the operations that need what comes next; 6 says that nothing is left
+-- the operations that need what comes next, and the number that says that nothing is left
 abbrev pub looks : ℕ → Bool
-looks k = eqb k 2 || (eqb k 3 || eqb k 6)
+looks k = eqb k readOperation || (eqb k predictOperation || eqb k nothingOperation)
 
 -- ---- the value of a token
 

@@ -8,7 +8,11 @@ ghost use Rattle.run_machine.specs.Flows.{endedBy};
 use limits::TOKENS_BEFORE;
 use run_looking::Limits;
 use run_moves::Run;
+use run_turn::NOTES;
 use run_turn::Onward;
+
+// In the place of a place, where nothing is noted.
+const NO_PLACE: usize = 65536;
 
 // What moves lead to until one needs what comes next: a stop, or the number that refuses the move at hand.
 pub enum Ended {
@@ -49,15 +53,21 @@ fn take_all(
     if first != run_looking::TAKEN {
         return ending(run, first);
     }
+    let mut notes = [NO_PLACE; NOTES];
     let mut state = run;
     loop {
-        match run_turn::turn(registers, places, program, state, kinds, values, limits) {
-            Onward::Going(next) => {
-                state = next;
-            }
-            Onward::Over(at, n) => {
-                return ending(at, n);
-            }
+        match run_turn::turn(
+            registers,
+            places,
+            program,
+            &mut notes,
+            state,
+            kinds,
+            values,
+            limits,
+        ) {
+            Onward::Going(next) => state = next,
+            Onward::Over(at, n) => return ending(at, n),
         }
     }
 }

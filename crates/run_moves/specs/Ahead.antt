@@ -1,24 +1,25 @@
 -- What the top frame still has ahead of it, as words from an address on.
-use Prim.Native.Nat.{ℕ, zero, suc, _+_, _-_, _*_, _/_, _%_, _≤_, _<_}
+use Prim.Native.Nat.{ℕ, zero, suc, _+_, _-_, _≤_, _<_}
 use native.Mathlib.Omega.{arith}
 use mathlib.Core.Path.{_≡_, refl, sym, ap, _∙_, subst}
 use mathlib.Core.Logic.{inr}
 use mathlib.Core.Bool.{Bool, true, false, not, cond}
 use mathlib.Core.List.{List, [], _∷_, _++_, append-assoc, append-nil}
-use lib.ListN.{length, getD, drop}
+use lib.ListN.{length, length-append, getD, drop}
 use lib.Dec.{T, eqb, eqb→eq, ltb, ltb→lt}
 use Rattle.meaning.specs.Base.{consIf, isEmpty}
-use Rattle.meaning.specs.Grammar.{Symbol, terminal, nonterminal, Condition, Production, Grammar, addedFor, productionAt, whole}
+use Rattle.meaning.specs.Grammar.{Symbol, terminal, nonterminal, Condition, Production, Grammar, addedFor, productionAt, whole, placeAt, placeProduction, placePassed}
 use Rattle.meaning.specs.Scheme.{Instruction, add, evaluate, expect, test, remove, scheme, symbolsScheme, inheritedRules, synthesizedRules, testsAfter, removed}
 use Rattle.meaning.specs.Rules.{WellFormed}
 use Rattle.meaning.specs.Machine.{Frame, schemeAt, isExpect, expects, pendingTest, placeOf}
 use Rattle.meaning.specs.Part.{frame}
 use Rattle.meaning.specs.Calls.{fromExpect, frameOf, isListed, placeWaits}
-use Rattle.meaning.specs.Program.{instructionWords, schemeWords, segmentWords, symbolHead}
+use Rattle.meaning.specs.Program.{instructionWords, schemeWords, segmentWords, symbolHead, expectsAt}
 use Rattle.theory_base.specs.Members.{both}
 use Rattle.theory_base.specs.WellFormed.{not-whole}
 use Rattle.theory_base.specs.Frames.{scheme-listed}
 use Rattle.theory_program.specs.WordsStand.{WordsStand, stands-left, stands-right, stands-word, stands-within}
+use Rattle.theory_program.specs.Parts.{testOperation, nothingOperation}
 use Rattle.theory_program.specs.Code.{CodeAt, operation}
 use Rattle.theory_program.specs.Addresses.{Begins, schemeAddress, expectAddress, scheme-at, segment-at, expects-scheme}
 use Rattle.theory_program.specs.Proper.{AllProper, production-in, scheme-proper}
@@ -26,7 +27,7 @@ use Rattle.theory_program.specs.Resuming.{placeAddress, place-code, place-prope
 
 -- the whole segment's scheme is followed by a word that says that nothing is left
 abbrev pub endIf : Bool → List ℕ
-endIf true = 6 ∷ []
+endIf true = nothingOperation ∷ []
 endIf false = []
 
 -- ---- tests stand right behind expects
@@ -99,6 +100,42 @@ few-next (expect x) is n o h = omega (arith, pending-one is)
 few-next (test cs) is n o h = omega (arith, o .0 refl)
 few-next (remove k) is n o h = omega (arith, o .0 refl)
 
+-- ---- where code ends
+
+-- of the whole segment, behind its symbol; of any other production, behind its scheme
+abbrev pub codeEnd : Grammar → ℕ → ℕ
+codeEnd g p = cond (eqb p whole) 1 (schemeAddress g p + length (schemeWords (scheme g (productionAt g p))))
+
+from-end : (a : ℕ) (is : List Instruction) (k : ℕ) → k < expects is → getD (expectsAt a is) k 0 + length (schemeWords (fromExpect is k)) ≡ a + length (schemeWords is)
+from-end a [] k l = absurd (omega arith)
+from-end a (expect x ∷ is) zero l = refl
+from-end a (expect x ∷ is) (suc k) l = from-end (suc a) is k (omega arith) ∙ omega (arith, length-append (instructionWords (expect x)) (schemeWords is))
+from-end a (add n ∷ is) k l = from-end (a + length (instructionWords (add n))) is k (omega arith) ∙ omega (arith, length-append (instructionWords (add n)) (schemeWords is))
+from-end a (evaluate rs ∷ is) k l = from-end (a + length (instructionWords (evaluate rs))) is k (omega arith) ∙ omega (arith, length-append (instructionWords (evaluate rs)) (schemeWords is))
+from-end a (test cs ∷ is) k l = from-end (a + length (instructionWords (test cs))) is k (omega arith) ∙ omega (arith, length-append (instructionWords (test cs)) (schemeWords is))
+from-end a (remove n ∷ is) k l = from-end (a + length (instructionWords (remove n))) is k (omega arith) ∙ omega (arith, length-append (instructionWords (remove n)) (schemeWords is))
+
+-- from the address of a place that waits
+pub place-end : (g : Grammar) (q : ℕ) → T (placeWaits g q) → placeAddress g q + length (schemeWords (frameOf g q .rest)) ≡ codeEnd g (placeProduction q)
+place-end g q t = go (eqb p whole) refl
+  where
+    p : ℕ
+    p = placeProduction q
+
+    k : ℕ
+    k = placePassed q
+
+    short : k < length (productionAt g p .right)
+    short = ltb→lt k (length (productionAt g p .right)) (both (isListed g p) (ltb k (length (productionAt g p .right))) t .1)
+
+    first : (j : ℕ) → j < length (productionAt g whole .right) → j + length (schemeWords (fromExpect (expect (nonterminal (g .start)) ∷ []) j)) ≡ 1
+    first zero l = refl
+    first (suc j) l = absurd (omega arith)
+
+    go : (z : Bool) → eqb p whole ≡ z → cond z k (expectAddress g p k) + length (schemeWords (fromExpect (cond z (expect (nonterminal (g .start)) ∷ []) (scheme g (productionAt g p))) k)) ≡ cond z 1 (schemeAddress g p + length (schemeWords (scheme g (productionAt g p))))
+    go true e = first k (subst (λ r. k < length (productionAt g r .right)) (eqb→eq p whole (rw e tt)) short)
+    go false e = from-end (schemeAddress g p) (scheme g (productionAt g p)) k (omega (arith, short, expects-scheme g (productionAt g p)))
+
 -- ---- what is ahead
 
 pub record Ahead (g : Grammar) (ws : List ℕ) (a : ℕ) (f : Frame) : Type 0 where
@@ -106,6 +143,7 @@ pub record Ahead (g : Grammar) (ws : List ℕ) (a : ℕ) (f : Frame) : Type 0 wh
   pub proper : AllProper g (f .rest)
   pub ordered : Ordered (f .rest)
   pub few : expects (f .rest) + pendingTest (f .rest) ≤ length (productionAt g (f .production) .right)
+  pub exact : a + length (schemeWords (f .rest)) ≡ codeEnd g (f .production)
 
 module _ {g : Grammar} {ws : List ℕ} {a : ℕ} where
   pub ahead-code : {f : Frame} → Ahead g ws a f → CodeAt ws a (f .rest)
@@ -120,6 +158,7 @@ module _ {g : Grammar} {ws : List ℕ} {a : ℕ} where
         proper = λ j k. h .proper j (inr k);
         ordered = h .ordered .1;
         few = few-next i is (length (productionAt g p .right)) (h .ordered) (h .few);
+        exact = omega (arith, h .exact, length-append (instructionWords i) (schemeWords is));
       }
 
   -- where nothing is left
@@ -144,14 +183,15 @@ module _ {g : Grammar} {ws : List ℕ} (b : Begins g ws) (w : WellFormed g) wher
         proper = scheme-proper g w (productionAt g p) (production-in g w p l);
         ordered = o .0;
         few = omega (arith, o .1, expects-scheme g (productionAt g p));
+        exact = sym (ap (λ z. cond z 1 (schemeAddress g p + length (schemeWords (scheme g (productionAt g p))))) (not-whole g w p l));
       })
 
   -- the whole segment, at its symbol
   whole-words : WordsStand ws 0 (schemeWords (schemeAt g whole) ++ endIf true)
-  whole-words = stands-left (symbolHead (nonterminal (g .start)) ∷ 6 ∷ []) (drop 2 (segmentWords g)) (segment-at b)
+  whole-words = stands-left (symbolHead (nonterminal (g .start)) ∷ nothingOperation ∷ []) (drop 2 (segmentWords g)) (segment-at b)
 
-  place-words : (q : ℕ) → T (placeWaits g q) → WordsStand ws (placeAddress g q) (schemeWords (frameOf g q .rest) ++ endIf (eqb (q / 256) whole))
-  place-words q t = go (eqb (q / 256) whole) refl
+  place-words : (q : ℕ) → T (placeWaits g q) → WordsStand ws (placeAddress g q) (schemeWords (frameOf g q .rest) ++ endIf (eqb (placeProduction q) whole))
+  place-words q t = go (eqb (placeProduction q) whole) refl
     where
       at-whole : (p k : ℕ) → p ≡ whole → k < length (productionAt g p .right) → WordsStand ws k (schemeWords (fromExpect (schemeAt g p) k) ++ endIf true)
       at-whole p k e l = rw e (first k (rw e at l))
@@ -160,9 +200,11 @@ module _ {g : Grammar} {ws : List ℕ} (b : Begins g ws) (w : WellFormed g) wher
           first zero l = whole-words
           first (suc k) l = absurd (omega arith)
 
-      go : (z : Bool) → eqb (q / 256) whole ≡ z → WordsStand ws (cond z (q % 256) (expectAddress g (q / 256) (q % 256))) (schemeWords (frameOf g q .rest) ++ endIf z)
-      go false e = rw (append-nil (schemeWords (frameOf g q .rest))) (subst (λ z. WordsStand ws (cond z (q % 256) (expectAddress g (q / 256) (q % 256))) (schemeWords (frameOf g q .rest))) e (place-code b w q t .words))
-      go true e = at-whole (q / 256) (q % 256) (eqb→eq (q / 256) whole (rw e tt)) (ltb→lt (q % 256) (length (productionAt g (q / 256) .right)) (both (isListed g (q / 256)) (ltb (q % 256) (length (productionAt g (q / 256) .right))) t .1))
+      go : (z : Bool) → eqb (placeProduction q) whole ≡ z → WordsStand ws (cond z (placePassed q) (expectAddress g (placeProduction q) (placePassed q))) (schemeWords (frameOf g q .rest) ++ endIf z)
+      go false e = rw (append-nil (schemeWords (frameOf g q .rest))) (subst (λ z. WordsStand ws (cond z (placePassed q) (expectAddress g (placeProduction q) (placePassed q))) (schemeWords (frameOf g q .rest))) e (place-code b w q t .words))
+      go true e =
+          let size = length (productionAt g (placeProduction q) .right) in
+          at-whole (placeProduction q) (placePassed q) (eqb→eq (placeProduction q) whole (rw e tt)) (ltb→lt (placePassed q) size (both (isListed g (placeProduction q)) (ltb (placePassed q) size) t .1))
 
   ordered-listed : (p : ℕ) → Ordered (schemeAt g p)
   ordered-listed p = go (eqb p whole)
@@ -180,12 +222,13 @@ module _ {g : Grammar} {ws : List ℕ} (b : Begins g ws) (w : WellFormed g) wher
 
   pub ahead-place : (q : ℕ) → T (placeWaits g q) → Ahead g ws (placeAddress g q) (frameOf g q)
   ahead-place q t =
-      let l : T (isListed g (q / 256)) = both (isListed g (q / 256)) (ltb (q % 256) (length (productionAt g (q / 256) .right))) t .0 in
+      let l : T (isListed g (placeProduction q)) = both (isListed g (placeProduction q)) (ltb (placePassed q) (length (productionAt g (placeProduction q) .right))) t .0 in
       record {
         words = place-words q t;
         proper = place-proper g w q l;
-        ordered = ordered-from (schemeAt g (q / 256)) (q % 256) (ordered-listed (q / 256));
-        few = omega (arith, few-from (schemeAt g (q / 256)) (q % 256), expects-listed (q / 256) l);
+        ordered = ordered-from (schemeAt g (placeProduction q)) (placePassed q) (ordered-listed (placeProduction q));
+        few = omega (arith, few-from (schemeAt g (placeProduction q)) (placePassed q), expects-listed (placeProduction q) l);
+        exact = place-end g q t;
       }
 
 -- ---- the place of a frame as it goes on
@@ -196,9 +239,9 @@ module _ (g : Grammar) (p : ℕ) where
   right = length (productionAt g p .right)
 
   pub place-same : (i : Instruction) (is : List Instruction) → isExpect i ≡ 0 → pendingTest (i ∷ []) ≡ 0 → Ordered (i ∷ is) → placeOf g (frame p (i ∷ is)) ≡ placeOf g (frame p is)
-  place-same (add n) is e t o = ap (λ k. p * 256 + (right - k)) (omega (arith, o .0 refl))
-  place-same (evaluate rs) is e t o = ap (λ k. p * 256 + (right - k)) (omega (arith, o .0 refl))
-  place-same (remove n) is e t o = ap (λ k. p * 256 + (right - k)) (omega (arith, o .0 refl))
+  place-same (add n) is e t o = ap (λ k. placeAt p (right - k)) (omega (arith, o .0 refl))
+  place-same (evaluate rs) is e t o = ap (λ k. placeAt p (right - k)) (omega (arith, o .0 refl))
+  place-same (remove n) is e t o = ap (λ k. placeAt p (right - k)) (omega (arith, o .0 refl))
   place-same (expect x) is e t o = absurd (omega arith)
   place-same (test cs) is e t o = absurd (omega arith)
 
@@ -209,14 +252,14 @@ module _ (g : Grammar) (p : ℕ) where
   place-passed x is l e = omega arith
 
   pub place-pending : (x : Symbol) (is : List Instruction) → pendingTest is ≡ 1 → placeOf g (frame p is) ≡ placeOf g (frame p (expect x ∷ is))
-  place-pending x is e = ap (λ k. p * 256 + (right - k)) (omega arith)
+  place-pending x is e = ap (λ k. placeAt p (right - k)) (omega arith)
 
 -- a production that begins has passed nothing
-pub place-begins : (g : Grammar) → WellFormed g → (p : ℕ) → p < length (g .productions) → placeOf g (frame p (schemeAt g p)) ≡ 256 * p
+pub place-begins : (g : Grammar) → WellFormed g → (p : ℕ) → p < length (g .productions) → placeOf g (frame p (schemeAt g p)) ≡ placeAt p 0
 place-begins g w p l = rw (scheme-listed g w p l) (omega (arith, ordered-scheme g (productionAt g p) .1, expects-scheme g (productionAt g p)))
 
 -- whether a test follows is said by the operation of the next word
-pub pending-word : (i : Instruction) (is : List Instruction) → operation i ≡ 4 → pendingTest (i ∷ is) ≡ 1
+pub pending-word : (i : Instruction) (is : List Instruction) → operation i ≡ testOperation → pendingTest (i ∷ is) ≡ 1
 pending-word (add n) is e = absurd (omega arith)
 pending-word (evaluate rs) is e = absurd (omega arith)
 pending-word (expect (terminal t)) is e = absurd (omega arith)
@@ -224,7 +267,7 @@ pending-word (expect (nonterminal n)) is e = absurd (omega arith)
 pending-word (test cs) is e = refl
 pending-word (remove n) is e = absurd (omega arith)
 
-pub no-pending-word : (i : Instruction) (is : List Instruction) → (operation i ≡ 4 → ⊥) → pendingTest (i ∷ is) ≡ 0
+pub no-pending-word : (i : Instruction) (is : List Instruction) → (operation i ≡ testOperation → ⊥) → pendingTest (i ∷ is) ≡ 0
 no-pending-word (add n) is e = refl
 no-pending-word (evaluate rs) is e = refl
 no-pending-word (expect x) is e = refl

@@ -1,5 +1,5 @@
 -- A run in memory: how the lent stacks, the program's words and the run's numbers hold a configuration, and what it is to answer with a move.
-use Prim.Native.Nat.{ℕ, _+_, _/_, _%_, _≤_, _<_}
+use Prim.Native.Nat.{ℕ, _+_, _≤_, _<_}
 use native.Mathlib.Omega.{arith}
 use mathlib.Core.Path.{_≡_, refl, sym, ap, _∙_, subst}
 use mathlib.Core.Logic.{inl}
@@ -21,6 +21,7 @@ use Rattle.theory_answers.specs.ShapeMoves.{IsAhead, ShapedAt}
 use Rattle.theory_answers.specs.Handling.{handles}
 use Rattle.theory_program.specs.Addresses.{Begins}
 use Rattle.theory_program.specs.WordsStand.{stands-within}
+use Rattle.theory_program.specs.Parts.{headOperation, headOperand, addOperation, evaluateOperation, readOperation, predictOperation, testOperation, removeOperation, nothingOperation}
 use Rattle.theory_program.specs.Code.{operation, operand, code-head, is-add, is-evaluate, is-terminal, is-nonterminal, is-test, is-remove}
 use Rattle.theory_program.specs.Proper.{ProperInstruction}
 use Rattle.run_moves.specs.declared.Run.{Run}
@@ -78,9 +79,9 @@ pub record ReadyForMove (ws : List ℕ) (m : List ℤ) (ps : List ℕ) (run : Ru
   pub config : Config
   pub held : Held grammar ws lent m ps run config
   pub limit : run .moves < movesLimit
-  pub operation : getD ws (run .at) 0 % 8 ≡ k
+  pub operation : headOperation (getD ws (run .at) 0) ≡ k
 
-pub ready-as : {ws : List ℕ} {m : List ℤ} {ps : List ℕ} {run : Run} {k : ℕ} (j : ℕ) → getD ws (run .at) 0 % 8 ≡ j → ReadyForMove ws m ps run k → ReadyForMove ws m ps run j
+pub ready-as : {ws : List ℕ} {m : List ℤ} {ps : List ℕ} {run : Run} {k : ℕ} (j : ℕ) → headOperation (getD ws (run .at) 0) ≡ j → ReadyForMove ws m ps run k → ReadyForMove ws m ps run j
 ready-as j e r = record { grammar = r .grammar; lent = r .lent; config = r .config; held = r .held; limit = r .limit; operation = e }
 
 -- ---- the instruction at hand
@@ -112,10 +113,10 @@ module _ {g : Grammar} {ws : List ℕ} {lent : Lent} {m : List ℤ} {ps : List �
   abbrev word : ℕ
   word = getD ws (run .at) 0
 
-  -- an instruction, or the word 6
+  -- an instruction, or the word that says that nothing is left
   pub data AtHand : Type 0 where
-    some : (i : Instruction) → Hand g ws (run .at) c i → word % 8 ≡ operation i → word / 8 ≡ operand i → AtHand
-    nothing : (below : List Frame) → c .frames ≡ frame whole [] ∷ below → word ≡ 6 → run .at < length ws → AtHand
+    some : (i : Instruction) → Hand g ws (run .at) c i → headOperation word ≡ operation i → headOperand word ≡ operand i → AtHand
+    nothing : (below : List Frame) → c .frames ≡ frame whole [] ∷ below → word ≡ nothingOperation → run .at < length ws → AtHand
 
   pub at-hand : AtHand
   at-hand = go (h .shaped .rest) (sym (h .shaped .isFrames))
@@ -160,30 +161,30 @@ module _ {g : Grammar} {ws : List ℕ} {lent : Lent} {m : List ℤ} {ps : List �
       }
 
   -- by the operation's number
-  hand-of : (k : ℕ) (P : Instruction → Type 0) → k ≤ 5 → word % 8 ≡ k → ((i : Instruction) → Hand g ws (run .at) c i → operation i ≡ k → word / 8 ≡ operand i → P i) → (i : Instruction) × P i
+  hand-of : (k : ℕ) (P : Instruction → Type 0) → k ≤ removeOperation → headOperation word ≡ k → ((i : Instruction) → Hand g ws (run .at) c i → operation i ≡ k → headOperand word ≡ operand i → P i) → (i : Instruction) × P i
   hand-of k P l e f = go at-hand
     where
       go : AtHand → (i : Instruction) × P i
       go (some i x o n) = (i, f i x (sym o ∙ e) n)
       go (nothing fs z w b) = absurd (omega arith)
 
-  pub hand-add : word % 8 ≡ 0 → Hand g ws (run .at) c (add (word / 8))
-  hand-add e = hand-of 0 (λ i. Hand g ws (run .at) c (add (word / 8))) (omega arith) e (λ i x o n. subst (Hand g ws (run .at) c) (is-add i o ∙ ap add (sym n)) x) .1
+  pub hand-add : headOperation word ≡ addOperation → Hand g ws (run .at) c (add (headOperand word))
+  hand-add e = hand-of addOperation (λ i. Hand g ws (run .at) c (add (headOperand word))) (omega arith) e (λ i x o n. subst (Hand g ws (run .at) c) (is-add i o ∙ ap add (sym n)) x) .1
 
-  pub hand-terminal : word % 8 ≡ 2 → Hand g ws (run .at) c (expect (terminal (word / 8)))
-  hand-terminal e = hand-of 2 (λ i. Hand g ws (run .at) c (expect (terminal (word / 8)))) (omega arith) e (λ i x o n. subst (Hand g ws (run .at) c) (is-terminal i o ∙ ap (λ t. expect (terminal t)) (sym n)) x) .1
+  pub hand-terminal : headOperation word ≡ readOperation → Hand g ws (run .at) c (expect (terminal (headOperand word)))
+  hand-terminal e = hand-of readOperation (λ i. Hand g ws (run .at) c (expect (terminal (headOperand word)))) (omega arith) e (λ i x o n. subst (Hand g ws (run .at) c) (is-terminal i o ∙ ap (λ t. expect (terminal t)) (sym n)) x) .1
 
-  pub hand-nonterminal : word % 8 ≡ 3 → Hand g ws (run .at) c (expect (nonterminal (word / 8)))
-  hand-nonterminal e = hand-of 3 (λ i. Hand g ws (run .at) c (expect (nonterminal (word / 8)))) (omega arith) e (λ i x o n. subst (Hand g ws (run .at) c) (is-nonterminal i o ∙ ap (λ t. expect (nonterminal t)) (sym n)) x) .1
+  pub hand-nonterminal : headOperation word ≡ predictOperation → Hand g ws (run .at) c (expect (nonterminal (headOperand word)))
+  hand-nonterminal e = hand-of predictOperation (λ i. Hand g ws (run .at) c (expect (nonterminal (headOperand word)))) (omega arith) e (λ i x o n. subst (Hand g ws (run .at) c) (is-nonterminal i o ∙ ap (λ t. expect (nonterminal t)) (sym n)) x) .1
 
-  pub hand-remove : word % 8 ≡ 5 → Hand g ws (run .at) c (remove (word / 8))
-  hand-remove e = hand-of 5 (λ i. Hand g ws (run .at) c (remove (word / 8))) (omega arith) e (λ i x o n. subst (Hand g ws (run .at) c) (is-remove i o ∙ ap remove (sym n)) x) .1
+  pub hand-remove : headOperation word ≡ removeOperation → Hand g ws (run .at) c (remove (headOperand word))
+  hand-remove e = hand-of removeOperation (λ i. Hand g ws (run .at) c (remove (headOperand word))) (omega arith) e (λ i x o n. subst (Hand g ws (run .at) c) (is-remove i o ∙ ap remove (sym n)) x) .1
 
-  pub hand-evaluate : word % 8 ≡ 1 → (rules : List (Rule ℕ)) × Hand g ws (run .at) c (evaluate rules) × (word / 8 ≡ length rules)
-  hand-evaluate e = hand-of 1 (λ i. (rules : List (Rule ℕ)) × Hand g ws (run .at) c (evaluate rules) × (word / 8 ≡ length rules)) (omega arith) e (λ i x o n. let r = is-evaluate i o in (r .0, subst (Hand g ws (run .at) c) (r .1) x, n ∙ ap operand (r .1))) .1
+  pub hand-evaluate : headOperation word ≡ evaluateOperation → (rules : List (Rule ℕ)) × Hand g ws (run .at) c (evaluate rules) × (headOperand word ≡ length rules)
+  hand-evaluate e = hand-of evaluateOperation (λ i. (rules : List (Rule ℕ)) × Hand g ws (run .at) c (evaluate rules) × (headOperand word ≡ length rules)) (omega arith) e (λ i x o n. let r = is-evaluate i o in (r .0, subst (Hand g ws (run .at) c) (r .1) x, n ∙ ap operand (r .1))) .1
 
-  pub hand-test : word % 8 ≡ 4 → (cs : List (Condition ℕ)) × Hand g ws (run .at) c (test cs) × (word / 8 ≡ length cs)
-  hand-test e = hand-of 4 (λ i. (cs : List (Condition ℕ)) × Hand g ws (run .at) c (test cs) × (word / 8 ≡ length cs)) (omega arith) e (λ i x o n. let r = is-test i o in (r .0, subst (Hand g ws (run .at) c) (r .1) x, n ∙ ap operand (r .1))) .1
+  pub hand-test : headOperation word ≡ testOperation → (cs : List (Condition ℕ)) × Hand g ws (run .at) c (test cs) × (headOperand word ≡ length cs)
+  hand-test e = hand-of testOperation (λ i. (cs : List (Condition ℕ)) × Hand g ws (run .at) c (test cs) × (headOperand word ≡ length cs)) (omega arith) e (λ i x o n. let r = is-test i o in (r .0, subst (Hand g ws (run .at) c) (r .1) x, n ∙ ap operand (r .1))) .1
 
   -- what it holds
   pub hand-proper : {i : Instruction} → Hand g ws (run .at) c i → ProperInstruction g i

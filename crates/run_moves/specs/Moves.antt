@@ -1,5 +1,5 @@
 -- What each move leaves in memory: the new configuration is held, or the number refuses it and nothing changes.
-use Prim.Native.Nat.{ℕ, suc, _+_, _-_, _*_, _/_, _%_, _≤_, _<_}
+use Prim.Native.Nat.{ℕ, suc, _+_, _-_, _*_, _≤_, _<_}
 use native.Mathlib.Omega.{arith}
 use mathlib.Core.Path.{_≡_, refl, sym, ap, _∙_, subst}
 use mathlib.Core.Bool.{Bool, true, false, not, cond}
@@ -17,6 +17,7 @@ use Rattle.meaning.specs.Machine.{Config, Lent, Coming, moved, blocked, step, n
 use Rattle.meaning.specs.Part.{frame, config}
 use Rattle.meaning.specs.Program.{instructionWords, schemeWords}
 use Rattle.theory_answers.specs.ShapeMoves.{IsAhead, shape-move}
+use Rattle.theory_program.specs.Parts.{headOperation, headOperand, addOperation, evaluateOperation, testOperation}
 use Rattle.theory_program.specs.Code.{code-head, code-evaluate, code-test, rules-length, conditions-length}
 use Rattle.theory_program.specs.WordsStand.{stands-within}
 use Rattle.run_registers.specs.Stack.{stack, stack-laid}
@@ -39,7 +40,7 @@ countIf false h ps = ps
 
 -- 01: "without conditions the read or the remove counts it"
 abbrev pub passed : List ℕ → ℕ → ℕ → List ℕ → List ℕ
-passed ws a h ps = countIf (not (eqb (getD ws a 0 % 8) 4)) h ps
+passed ws a h ps = countIf (not (eqb (headOperation (getD ws a 0)) testOperation)) h ps
 
 module _ {n : ℕ} {ps : List ℕ} {h : ℕ} where
   counted : {x : ℕ} {xs : List ℕ} (y : ℕ) → y ≡ x + 1 → LaidIn 0 n ps h (x ∷ xs) → LaidIn 0 n (countIf true h ps) h (y ∷ xs)
@@ -50,7 +51,7 @@ module _ {n : ℕ} {ps : List ℕ} {h : ℕ} where
 
 -- whether a test follows
 module _ {g : Grammar} {ws : List ℕ} {a : ℕ} (p : ℕ) where
-  pub follows : (is : List Instruction) → (is ≡ [] → p ≡ whole) → Ahead g ws a (frame p is) → (getD ws a 0 % 8 ≡ 4 → pendingTest is ≡ 1) × ((getD ws a 0 % 8 ≡ 4 → ⊥) → pendingTest is ≡ 0) × (a < length ws)
+  pub follows : (is : List Instruction) → (is ≡ [] → p ≡ whole) → Ahead g ws a (frame p is) → (headOperation (getD ws a 0) ≡ testOperation → pendingTest is ≡ 1) × ((headOperation (getD ws a 0) ≡ testOperation → ⊥) → pendingTest is ≡ 0) × (a < length ws)
   follows [] w h = let o = ahead-over p (w refl) h in ((λ e. absurd (omega (arith, o .0))), (λ e. refl), o .1)
   follows (i ∷ is) w h =
       let k = code-head (ahead-code h) in
@@ -66,11 +67,11 @@ module _ {g : Grammar} {ws : List ℕ} {a : ℕ} (p : ℕ) where
   -- the symbol expected is passed
   pub passed-laid : {n : ℕ} {ps : List ℕ} {h : ℕ} {qs : List ℕ} (x : Symbol) (is : List Instruction) → (is ≡ [] → p ≡ whole) → Ahead g ws a (frame p is) → 1 + expects is ≤ length (productionAt g p .right)
       → LaidIn 0 n ps h (placeOf g (frame p (expect x ∷ is)) ∷ qs) → LaidIn 0 n (passed ws a h ps) h (placeOf g (frame p is) ∷ qs)
-  passed-laid {n} {ps} {h} {qs} x is w u few l = go (eqb (getD ws a 0 % 8) 4) refl
+  passed-laid {n} {ps} {h} {qs} x is w u few l = go (eqb (headOperation (getD ws a 0)) testOperation) refl
     where
-      go : (b : Bool) → eqb (getD ws a 0 % 8) 4 ≡ b → LaidIn 0 n (countIf (not b) h ps) h (placeOf g (frame p is) ∷ qs)
-      go true e = rw (place-pending g p x is (follows is w u .0 (eqb→eq (getD ws a 0 % 8) 4 (rw e tt)))) l
-      go false e = counted (placeOf g (frame p is)) (place-passed g p x is few (follows is w u .1 (λ z. apart (sym (eq-eqb (getD ws a 0 % 8) 4 z) ∙ e)))) l
+      go : (b : Bool) → eqb (headOperation (getD ws a 0)) testOperation ≡ b → LaidIn 0 n (countIf (not b) h ps) h (placeOf g (frame p is) ∷ qs)
+      go true e = rw (place-pending g p x is (follows is w u .0 (eqb→eq (headOperation (getD ws a 0)) testOperation (rw e tt)))) l
+      go false e = counted (placeOf g (frame p is)) (place-passed g p x is few (follows is w u .1 (λ z. apart (sym (eq-eqb (headOperation (getD ws a 0)) testOperation z) ∙ e)))) l
 
 -- ---- a move that leaves the top frame one instruction further
 
@@ -105,10 +106,10 @@ module _ {g : Grammar} {ws : List ℕ} {lent : Lent} {m : List ℤ} {ps : List �
 
   -- ---- add
 
-  pub made-add : (look : Coming) → IsAhead g look → run .moves < movesLimit → getD ws (run .at) 0 % 8 ≡ 0 → run .registers + getD ws (run .at) 0 / 8 ≤ length m
-      → Made g ws lent (next g lent look c) m ps m ps (Moved (record { tokens = run .tokens; moves = run .moves + 1; registers = run .registers + getD ws (run .at) 0 / 8; places = run .places; at = run .at + 1 }))
+  pub made-add : (look : Coming) → IsAhead g look → run .moves < movesLimit → headOperation (getD ws (run .at) 0) ≡ addOperation → run .registers + headOperand (getD ws (run .at) 0) ≤ length m
+      → Made g ws lent (next g lent look c) m ps m ps (Moved (record { tokens = run .tokens; moves = run .moves + 1; registers = run .registers + headOperand (getD ws (run .at) 0); places = run .places; at = run .at + 1 }))
   made-add look ok limit o fits =
-      let n : ℕ = getD ws (run .at) 0 / 8 in
+      let n : ℕ = headOperand (getD ws (run .at) 0) in
       let x = hand-add h o in
       let t = h .tokens in
       let z = h .registers .height in
@@ -121,9 +122,9 @@ module _ {g : Grammar} {ws : List ℕ} {lent : Lent} {m : List ℤ} {ps : List �
             (laid-add (h .registers) n (omega arith)) (rw (← (place-same g (x .production) (add n) (x .rest) refl refl (x .ahead .ordered))) (top-laid x)),
       )
 
-  pub blocked-add : (look : Coming) → run .moves < movesLimit → getD ws (run .at) 0 % 8 ≡ 0 → length m < run .registers + getD ws (run .at) 0 / 8 → Made g ws lent (next g lent look c) m ps m ps (Blocked 31)
+  pub blocked-add : (look : Coming) → run .moves < movesLimit → headOperation (getD ws (run .at) 0) ≡ addOperation → length m < run .registers + headOperand (getD ws (run .at) 0) → Made g ws lent (next g lent look c) m ps m ps (Blocked 31)
   blocked-add look limit o fits =
-      let n : ℕ = getD ws (run .at) 0 / 8 in
+      let n : ℕ = headOperand (getD ws (run .at) 0) in
       let x = hand-add h o in
       let z = h .registers .height in
       let size = laid-size (h .registers) in
@@ -132,7 +133,7 @@ module _ {g : Grammar} {ws : List ℕ} {lent : Lent} {m : List ℤ} {ps : List �
   -- ---- evaluate
 
   abbrev pub operandHere : ℕ
-  operandHere = getD ws (run .at) 0 / 8
+  operandHere = headOperand (getD ws (run .at) 0)
 
   abbrev pub rulesHere : List (Rule ℕ)
   rulesHere = rulesFrom ws (run .at + 1) operandHere
@@ -147,7 +148,7 @@ module _ {g : Grammar} {ws : List ℕ} {lent : Lent} {m : List ℤ} {ps : List �
     pub marked : (q : Rule ℕ) → In q rulesHere → readRegister (stack (run .registers) m) (q .target) ≡ mark
     pub done : {b : Bool} {m′ : List ℤ} → Evaluated rulesHere (run .registers) m b m′ → (b ≡ valuesFit rules (c .registers)) × LaidIn mark (lent .maxRegisters) m′ (run .registers) (afterRules b rules (c .registers))
 
-  pub rules-here : getD ws (run .at) 0 % 8 ≡ 1 → Rules
+  pub rules-here : headOperation (getD ws (run .at) 0) ≡ evaluateOperation → Rules
   rules-here o =
       let r = hand-evaluate h o in
       let p = hand-proper h (r .1) in
@@ -162,7 +163,7 @@ module _ {g : Grammar} {ws : List ℕ} {lent : Lent} {m : List ℤ} {ps : List �
         done = λ {b} {m′} v. evaluate-done (h .registers) (r .0) k (p .2) (subst (λ n. Evaluated (rulesFrom ws (run .at + 1) n) (run .registers) m b m′) (r .2) v);
       }
 
-  pub made-evaluate : (look : Coming) → IsAhead g look → run .moves < movesLimit → getD ws (run .at) 0 % 8 ≡ 1 → (m′ : List ℤ) → Evaluated rulesHere (run .registers) m true m′
+  pub made-evaluate : (look : Coming) → IsAhead g look → run .moves < movesLimit → headOperation (getD ws (run .at) 0) ≡ evaluateOperation → (m′ : List ℤ) → Evaluated rulesHere (run .registers) m true m′
       → Made g ws lent (next g lent look c) m ps m′ ps (Moved (record { tokens = run .tokens; moves = run .moves + 1; registers = run .registers; places = run .places; at = run .at + 1 + 2 * operandHere }))
   made-evaluate look ok limit o m′ v =
       let r = rules-here o in
@@ -176,7 +177,7 @@ module _ {g : Grammar} {ws : List ℕ} {lent : Lent} {m : List ℤ} {ps : List �
             (rw (← (place-same g (x .production) (evaluate (r .rules)) (x .rest) refl refl (x .ahead .ordered))) (top-laid x)),
       )
 
-  pub blocked-evaluate : (look : Coming) → run .moves < movesLimit → getD ws (run .at) 0 % 8 ≡ 1 → (m′ : List ℤ) → Evaluated rulesHere (run .registers) m false m′ → Made g ws lent (next g lent look c) m ps m′ ps (Blocked 23)
+  pub blocked-evaluate : (look : Coming) → run .moves < movesLimit → headOperation (getD ws (run .at) 0) ≡ evaluateOperation → (m′ : List ℤ) → Evaluated rulesHere (run .registers) m false m′ → Made g ws lent (next g lent look c) m ps m′ ps (Blocked 23)
   blocked-evaluate look limit o m′ v =
       let r = rules-here o in
       let x = r .hand in
@@ -184,7 +185,7 @@ module _ {g : Grammar} {ws : List ℕ} {lent : Lent} {m : List ℤ} {ps : List �
       (next-is h look x limit ∙ ap (λ b. cond b (step c (frame (x .production) (x .rest) ∷ x .below) rs) (blocked 23)) (sym (r .done v .0)), v .memory ∙ stack-laid mark (run .registers) m (bounds h .registers), refl)
 
   -- one rule, and what follows its words
-  module _ (look : Coming) (limit : run .moves < movesLimit) (o : getD ws (run .at) 0 % 8 ≡ 1) (one : operandHere ≡ 1) (m′ : List ℤ) where
+  module _ (look : Coming) (limit : run .moves < movesLimit) (o : headOperation (getD ws (run .at) 0) ≡ evaluateOperation) (one : operandHere ≡ 1) (m′ : List ℤ) where
     abbrev EvaluatedOne : Bool → Type 0
     EvaluatedOne b = Evaluated (rulesFrom ws (run .at + 1) 1) (run .registers) m b m′
 
@@ -211,7 +212,7 @@ module _ {g : Grammar} {ws : List ℕ} {lent : Lent} {m : List ℤ} {ps : List �
     pub ready : Tests ws (run .at + 1) operandHere (stack (run .registers) m)
     pub done : all (holds (readRegister (stack (run .registers) m))) conditionsHere ≡ all (holds (readRegister (c .registers))) conditions
 
-  pub conditions-here : getD ws (run .at) 0 % 8 ≡ 4 → Conditions
+  pub conditions-here : headOperation (getD ws (run .at) 0) ≡ testOperation → Conditions
   conditions-here o =
       let r = hand-test h o in
       let p = hand-proper h (r .1) in
@@ -224,7 +225,7 @@ module _ {g : Grammar} {ws : List ℕ} {lent : Lent} {m : List ℤ} {ps : List �
         done = rw (r .2) (test-done (h .registers) (r .0) k (p .2));
       }
 
-  pub made-test : (look : Coming) → IsAhead g look → run .moves < movesLimit → getD ws (run .at) 0 % 8 ≡ 4 → true ≡ all (holds (readRegister (stack (run .registers) m))) conditionsHere
+  pub made-test : (look : Coming) → IsAhead g look → run .moves < movesLimit → headOperation (getD ws (run .at) 0) ≡ testOperation → true ≡ all (holds (readRegister (stack (run .registers) m))) conditionsHere
       → Made g ws lent (next g lent look c) m ps m (countIf true (run .places) ps) (Moved (record { tokens = run .tokens; moves = run .moves + 1; registers = run .registers; places = run .places; at = run .at + 1 + 3 * operandHere }))
   made-test look ok limit o v =
       let r = conditions-here o in
@@ -236,7 +237,7 @@ module _ {g : Grammar} {ws : List ℕ} {lent : Lent} {m : List ℤ} {ps : List �
             (omega (arith, r .count, conditions-length (r .conditions))) (h .tokens) (omega arith) (h .registers) (counted (placeOf g (frame (x .production) (x .rest))) (place-tested g (x .production) (r .conditions) (x .rest) (x .ahead .ordered) (omega (arith, x .ahead .few))) (top-laid x)),
       )
 
-  pub blocked-test : (look : Coming) → run .moves < movesLimit → getD ws (run .at) 0 % 8 ≡ 4 → false ≡ all (holds (readRegister (stack (run .registers) m))) conditionsHere → Made g ws lent (next g lent look c) m ps m ps (Blocked 22)
+  pub blocked-test : (look : Coming) → run .moves < movesLimit → headOperation (getD ws (run .at) 0) ≡ testOperation → false ≡ all (holds (readRegister (stack (run .registers) m))) conditionsHere → Made g ws lent (next g lent look c) m ps m ps (Blocked 22)
   blocked-test look limit o v =
       let r = conditions-here o in
       let x = r .hand in

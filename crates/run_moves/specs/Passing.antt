@@ -1,5 +1,5 @@
 -- Moves that pass a symbol: the read of a token, and the remove, after which the place below goes on.
-use Prim.Native.Nat.{ℕ, suc, _+_, _-_, _*_, _/_, _%_, _≤_, _<_}
+use Prim.Native.Nat.{ℕ, suc, _+_, _-_, _*_, _≤_, _<_}
 use native.Mathlib.Omega.{arith}
 use mathlib.Core.Path.{_≡_, refl, sym, ap, _∙_, subst}
 use mathlib.Core.Logic.{_⊎_, inl, inr}
@@ -9,7 +9,7 @@ use lib.ListN.{length, getD, set, drop}
 use lib.Dec.{T, eqb, eqb→eq, eqb-refl, ltb, ltb→lt, lt→ltb}
 use lib.IntN.{ℤ, pos}
 use borrow.Author.Tests.{eq-eqb, ne-eqb, lt-ltb, le-ltb}
-use Rattle.meaning.specs.Grammar.{Grammar, Symbol, Leaf, terminal, nonterminal, productionAt, whole, carried, leafOf}
+use Rattle.meaning.specs.Grammar.{Grammar, Symbol, Leaf, terminal, nonterminal, productionAt, whole, placeAt, placeProduction, placePassed, carried, leafOf}
 use Rattle.meaning.specs.Value.{mark}
 use Rattle.meaning.specs.Scheme.{Instruction, expect, remove}
 use Rattle.meaning.specs.Rules.{WellFormed}
@@ -24,6 +24,7 @@ use Rattle.theory_answers.specs.Shape as Shape
 use Rattle.theory_answers.specs.Shape.{Due, adds, hands, waits, tests, closes, removes, StandsOnFrames, segment, inside}
 use Rattle.theory_answers.specs.ShapeMemory.{listed, short, place-short, place-back}
 use Rattle.theory_answers.specs.ShapeMoves.{IsAhead, shape-move}
+use Rattle.theory_program.specs.Parts.{headOperation, headOperand, readOperation, removeOperation, nothingOperation}
 use Rattle.theory_program.specs.Code.{operation}
 use Rattle.theory_program.specs.WordsStand.{stands-within}
 use Rattle.theory_program.specs.Addresses.{Begins, bodyAddress, expectAddress, record-at, body-at, body-length, expect-word}
@@ -88,7 +89,7 @@ module _ {g : Grammar} {ws : List ℕ} {lent : Lent} {m : List ℤ} {ps : List �
   -- ---- read
 
   abbrev tokenHere : ℕ
-  tokenHere = getD ws (run .at) 0 / 8
+  tokenHere = headOperand (getD ws (run .at) 0)
 
   -- the token expected is read, and leaves its values, if there is room for them
   reads : (lent′ : Lent) (u : Leaf) (x : Hand g ws (run .at) c (expect (terminal tokenHere))) → run .moves < movesLimit → tokenHere ≡ u .kind → length (c .registers) + length (u .values) ≤ lent′ .maxRegisters
@@ -108,16 +109,16 @@ module _ {g : Grammar} {ws : List ℕ} {lent : Lent} {m : List ℤ} {ps : List �
       let ok = leaf-of g (record { kind = tokenHere; value = pos 0 }) tt in
       shaped-over g d (x .production) (x .below) (shape-move g (h .wellFormed) lent′ (comes u) ok c d (h .shaped) (reads lent′ u x limit refl (omega arith))) (ap (λ is. frame (x .production) is ∷ x .below) z)
 
-  pub read-inside : run .moves < movesLimit → getD ws (run .at) 0 % 8 ≡ 2 → run .at + 1 < length ws
+  pub read-inside : run .moves < movesLimit → headOperation (getD ws (run .at) 0) ≡ readOperation → run .at + 1 < length ws
   read-inside limit o =
       let x = hand-terminal h o in
       follows (x .production) (x .rest) (read-over x limit) (ahead-next (x .production) (expect (terminal tokenHere)) (x .rest) (x .ahead)) .2
 
   -- what comes next is a token, if it is the expected one
-  expected-is : (u : ℕ) (v : ℤ) → getD ws (run .at) 0 % 8 ≡ 2 → tokenHere ≡ u → comingOf u v ≡ comes (record { kind = u; values = carried (not (isMark v)) v })
+  expected-is : (u : ℕ) (v : ℤ) → headOperation (getD ws (run .at) 0) ≡ readOperation → tokenHere ≡ u → comingOf u v ≡ comes (record { kind = u; values = carried (not (isMark v)) v })
   expected-is u v o e = ap (λ b. comingIf b u v) (ne-eqb u 63 (λ z. omega (arith, hand-proper h (hand-terminal h o), h .wellFormed .terminals .1)))
 
-  made-leaf : (u : ℕ) (v : ℤ) → IsAhead g (comingOf u v) → run .moves < movesLimit → getD ws (run .at) 0 % 8 ≡ 2 → tokenHere ≡ u → (vs : List ℤ) → carried (not (isMark v)) v ≡ vs → length (c .registers) + length vs ≤ lent .maxRegisters
+  made-leaf : (u : ℕ) (v : ℤ) → IsAhead g (comingOf u v) → run .moves < movesLimit → headOperation (getD ws (run .at) 0) ≡ readOperation → tokenHere ≡ u → (vs : List ℤ) → carried (not (isMark v)) v ≡ vs → length (c .registers) + length vs ≤ lent .maxRegisters
       → (m′ : List ℤ) (r : ℕ) → LaidIn mark (lent .maxRegisters) m′ r (vs ++ c .registers)
       → Made g ws lent (next g lent (comingOf u v) c) m ps m′ (passed ws (run .at + 1) (run .places) ps) (Moved (record { tokens = run .tokens + 1; moves = run .moves + 1; registers = r; places = run .places; at = run .at + 1 }))
   made-leaf u v ok limit o e vs q room m′ r l =
@@ -134,18 +135,18 @@ module _ {g : Grammar} {ws : List ℕ} {lent : Lent} {m : List ℤ} {ps : List �
             (passed-laid (x .production) (terminal tokenHere) (x .rest) (read-over x limit) (ahead-next (x .production) (expect (terminal tokenHere)) (x .rest) (x .ahead)) few (top-laid h x)),
       )
 
-  pub made-read : (u : ℕ) (v : ℤ) → IsAhead g (comingOf u v) → run .moves < movesLimit → getD ws (run .at) 0 % 8 ≡ 2 → tokenHere ≡ u → isMark v ≡ true
+  pub made-read : (u : ℕ) (v : ℤ) → IsAhead g (comingOf u v) → run .moves < movesLimit → headOperation (getD ws (run .at) 0) ≡ readOperation → tokenHere ≡ u → isMark v ≡ true
       → Made g ws lent (next g lent (comingOf u v) c) m ps m (passed ws (run .at + 1) (run .places) ps) (Moved (record { tokens = run .tokens + 1; moves = run .moves + 1; registers = run .registers; places = run .places; at = run .at + 1 }))
   made-read u v ok limit o e q = made-leaf u v ok limit o e [] (ap (λ b. carried (not b) v) q) (omega (arith, h .registers .height, h .registers .room)) m (run .registers) (h .registers)
 
-  pub made-value : (u : ℕ) (v : ℤ) → IsAhead g (comingOf u v) → run .moves < movesLimit → getD ws (run .at) 0 % 8 ≡ 2 → tokenHere ≡ u → isMark v ≡ false → run .registers < length m
+  pub made-value : (u : ℕ) (v : ℤ) → IsAhead g (comingOf u v) → run .moves < movesLimit → headOperation (getD ws (run .at) 0) ≡ readOperation → tokenHere ≡ u → isMark v ≡ false → run .registers < length m
       → Made g ws lent (next g lent (comingOf u v) c) m ps (set m (run .registers) v) (passed ws (run .at + 1) (run .places) ps) (Moved (record { tokens = run .tokens + 1; moves = run .moves + 1; registers = run .registers + 1; places = run .places; at = run .at + 1 }))
   made-value u v ok limit o e q l =
       let k : run .registers < lent .maxRegisters = omega (arith, laid-size (h .registers)) in
       made-leaf u v ok limit o e (v ∷ []) (ap (λ b. carried (not b) v) q) (omega (arith, h .registers .height)) (set m (run .registers) v) (run .registers + 1) (laid-push (h .registers) v k)
 
   -- 02 (e): "31 can occur there, after 21"
-  pub blocked-full : (u : ℕ) (v : ℤ) → run .moves < movesLimit → getD ws (run .at) 0 % 8 ≡ 2 → tokenHere ≡ u → isMark v ≡ false → length m ≤ run .registers → Made g ws lent (next g lent (comingOf u v) c) m ps m ps (Blocked 31)
+  pub blocked-full : (u : ℕ) (v : ℤ) → run .moves < movesLimit → headOperation (getD ws (run .at) 0) ≡ readOperation → tokenHere ≡ u → isMark v ≡ false → length m ≤ run .registers → Made g ws lent (next g lent (comingOf u v) c) m ps m ps (Blocked 31)
   blocked-full u v limit o e q l =
       let x = hand-terminal h o in
       let d = after h x (v ∷ c .registers) (suc (c .tokens)) in
@@ -158,7 +159,7 @@ module _ {g : Grammar} {ws : List ℕ} {lent : Lent} {m : List ℤ} {ps : List �
         refl,
       )
 
-  pub blocked-read : (u : ℕ) (v : ℤ) → run .moves < movesLimit → getD ws (run .at) 0 % 8 ≡ 2 → (tokenHere ≡ u → ⊥) → Made g ws lent (next g lent (comingOf u v) c) m ps m ps (Blocked (unexpected (lookOf u)))
+  pub blocked-read : (u : ℕ) (v : ℤ) → run .moves < movesLimit → headOperation (getD ws (run .at) 0) ≡ readOperation → (tokenHere ≡ u → ⊥) → Made g ws lent (next g lent (comingOf u v) c) m ps m ps (Blocked (unexpected (lookOf u)))
   blocked-read u v limit o z =
       let x = hand-terminal h o in
       (next-is h (comingOf u v) x limit ∙ go x (eqb u 63), refl, refl)
@@ -173,7 +174,7 @@ module _ {g : Grammar} {ws : List ℕ} {lent : Lent} {m : List ℤ} {ps : List �
 
 -- the whole segment's place says its address; any other waits
 abbrev pub Waiting : Grammar → ℕ → Type 0
-Waiting g place = (place / 256 ≡ whole → ⊥) → T (placeWaits g place)
+Waiting g place = (placeProduction place ≡ whole → ⊥) → T (placeWaits g place)
 
 pub record Resumes (ws : List ℕ) (place : ℕ) : Type 0 where
   pub grammar : Grammar
@@ -183,49 +184,49 @@ pub record Resumes (ws : List ℕ) (place : ℕ) : Type 0 where
 
 module _ {g : Grammar} {ws : List ℕ} (b : Begins g ws) (w : WellFormed g) (q : ℕ) (t : Waiting g q) where
   abbrev production : ℕ
-  production = q / 256
+  production = placeProduction q
 
   abbrev bodyWord : ℕ
   bodyWord = getD ws 2 0 + 8 * production + 4
 
-  waits-split : (production ≡ whole → ⊥) → T (isListed g production) × T (ltb (q % 256) (length (productionAt g production .right)))
-  waits-split n = both (isListed g production) (ltb (q % 256) (length (productionAt g production .right))) (t n)
+  waits-split : (production ≡ whole → ⊥) → T (isListed g production) × T (ltb (placePassed q) (length (productionAt g production .right)))
+  waits-split n = both (isListed g production) (ltb (placePassed q) (length (productionAt g production .right))) (t n)
 
   -- the words that are read, in the program, and the address they give
   pub record Resumed : Type 0 where
     pub bodyInside : bodyWord < length ws
-    pub expectInside : getD ws bodyWord 0 + q % 256 < length ws
-    pub address : getD ws (getD ws bodyWord 0 + q % 256) 0 ≡ placeAddress g q
+    pub expectInside : getD ws bodyWord 0 + placePassed q < length ws
+    pub address : getD ws (getD ws bodyWord 0 + placePassed q) 0 ≡ placeAddress g q
 
   pub resumed : (production ≡ whole → ⊥) → Resumed
   resumed n = go (or-cases (ltb production (length (g .productions))) (eqb production whole) (waits-split n .0))
     where
       listed-at : production < length (g .productions) → Resumed
       listed-at l =
-          let k = ltb→lt (q % 256) (length (productionAt g production .right)) (waits-split n .1) in
+          let k = ltb→lt (placePassed q) (length (productionAt g production .right)) (waits-split n .1) in
           let records = segment-words b .records in
           let isBody : getD ws bodyWord 0 ≡ bodyAddress g production = ap (λ a. getD ws a 0) (omega arith) ∙ record-words b w production l .body in
           record {
             bodyInside = omega (arith, records, stands-within (record-at b w production l));
             expectInside = omega (arith, isBody, stands-within (body-at b w production l), body-length g (bodyAddress g production) (productionAt g production));
-            address = ap (λ a. getD ws (a + q % 256) 0) isBody ∙ (expect-word b w production l (q % 256) k ∙ sym (ap (λ z. cond z (q % 256) (expectAddress g production (q % 256))) (ne-eqb production whole n)));
+            address = ap (λ a. getD ws (a + placePassed q) 0) isBody ∙ (expect-word b w production l (placePassed q) k ∙ sym (ap (λ z. cond z (placePassed q) (expectAddress g production (placePassed q))) (ne-eqb production whole n)));
           }
 
       go : T (ltb production (length (g .productions))) ⊎ T (eqb production whole) → Resumed
       go (inl s) = listed-at (ltb→lt production (length (g .productions)) s)
       go (inr s) = absurd (n (eqb→eq production whole s))
 
-  pub resumed-whole : production ≡ whole → q % 256 ≡ placeAddress g q
-  resumed-whole e = sym (ap (λ z. cond z (q % 256) (expectAddress g production (q % 256))) (eq-eqb production whole e))
+  pub resumed-whole : production ≡ whole → placePassed q ≡ placeAddress g q
+  resumed-whole e = sym (ap (λ z. cond z (placePassed q) (expectAddress g production (placePassed q))) (eq-eqb production whole e))
 
 -- ---- remove
 
-abbrev firstOperation : List Instruction → ℕ
-firstOperation [] = 6
+abbrev pub firstOperation : List Instruction → ℕ
+firstOperation [] = nothingOperation
 firstOperation (i ∷ is) = operation i
 
 -- the whole segment removes nothing
-removes-listed : {g : Grammar} {p k : ℕ} {rest : List Instruction} {top results : List ℤ} → Due g p k rest top results → firstOperation rest ≡ 5 → eqb p whole ≡ false
+removes-listed : {g : Grammar} {p k : ℕ} {rest : List Instruction} {top results : List ℤ} → Due g p k rest top results → firstOperation rest ≡ removeOperation → eqb p whole ≡ false
 removes-listed (adds x xs e) z = absurd (omega arith)
 removes-listed (hands x xs e) z = absurd (omega arith)
 removes-listed (waits (terminal t) xs is e v) z = absurd (omega arith)
@@ -234,6 +235,21 @@ removes-listed (tests xs e) z = absurd (omega arith)
 removes-listed (closes e w) z = w
 removes-listed (removes rs e w v) z = w
 removes-listed (Shape.ends e w) z = absurd (omega arith)
+
+-- the place of a frame that waits at a symbol
+pub place-waiting : (g : Grammar) → WellFormed g → {q : ℕ} {fs : List Frame} {base : List ℤ} → StandsOnFrames g q fs base → (k : ℕ) (x : Symbol) (xs : List Symbol) → drop k (productionAt g q .right) ≡ x ∷ xs → T (placeWaits g (placeOf g (frame q (waitRest g q k x xs))))
+place-waiting g w {q} s k x xs e = subst (λ j. T (placeWaits g j)) (sym (place-waits g q k x xs e)) waits-at
+  where
+    is-listed : (q ≡ whole) ⊎ (q < length (g .productions)) → T (isListed g q)
+    is-listed (inl y) = or-right (ltb q (length (g .productions))) (eqb q whole) (rw y (eqb-refl whole))
+    is-listed (inr y) = or-left (ltb q (length (g .productions))) (eqb q whole) (lt→ltb q (length (g .productions)) y)
+
+    waits-at : T (placeWaits g (placeAt q k))
+    waits-at =
+        let short = place-short g w s k x xs e in
+        let d : placeProduction (placeAt q k) ≡ q = omega arith in
+        let r : placePassed (placeAt q k) ≡ k = omega arith in
+        rw (d, r) (and (isListed g q) (ltb k (length (productionAt g q .right))) (is-listed (listed g s)) (lt→ltb k (length (productionAt g q .right)) (drop-head k (productionAt g q .right) x (terminal 0) xs e .0)))
 
 -- the frame below a listed production's waits at a symbol, and its place says where
 pub record Parent (g : Grammar) (fs : List Frame) : Type 0 where
@@ -250,32 +266,20 @@ parent : (g : Grammar) → WellFormed g → {p : ℕ} {fs : List Frame} {base : 
 parent g w segment z = absurd (apart z)
 parent g w (inside {p} q k xs vs ss {fs} l e n s) z =
     let x : Symbol = nonterminal (productionAt g p .left) in
-    let isPlace : placeOf g (frame q (waitRest g q k x xs)) ≡ q * 256 + k = place-waits g q k x xs e in
     record {
       production = q;
       symbol = x;
       rest = leftRest g q (suc k) xs;
       below = fs;
       frames = refl;
-      waiting = subst (λ j. T (placeWaits g j)) (sym isPlace) waits-at;
+      waiting = place-waiting g w s k x xs e;
       back = place-back g w s k x xs e;
       small = place-small g w s (waitRest g q k x xs);
     }
-  where
-    is-listed : (q ≡ whole) ⊎ (q < length (g .productions)) → T (isListed g q)
-    is-listed (inl y) = or-right (ltb q (length (g .productions))) (eqb q whole) (rw y (eqb-refl whole))
-    is-listed (inr y) = or-left (ltb q (length (g .productions))) (eqb q whole) (lt→ltb q (length (g .productions)) y)
-
-    waits-at : T (placeWaits g (q * 256 + k))
-    waits-at =
-        let short = place-short g w s k (nonterminal (productionAt g p .left)) xs e in
-        let d : (q * 256 + k) / 256 ≡ q = omega arith in
-        let r : (q * 256 + k) % 256 ≡ k = omega arith in
-        rw (d, r) (and (isListed g q) (ltb k (length (productionAt g q .right))) (is-listed (listed g s)) (lt→ltb k (length (productionAt g q .right)) (drop-head k (productionAt g q .right) (nonterminal (productionAt g p .left)) (terminal 0) xs e .0)))
 
 module _ {g : Grammar} {ws : List ℕ} {lent : Lent} {m : List ℤ} {ps : List ℕ} {run : Run} {c : Config} (h : Held g ws lent m ps run c) where
   abbrev removedHere : ℕ
-  removedHere = getD ws (run .at) 0 / 8
+  removedHere = headOperand (getD ws (run .at) 0)
 
   -- what the remove at hand finds: its registers stand, and the place below it waits
   pub record Removal : Type 0 where
@@ -285,7 +289,7 @@ module _ {g : Grammar} {ws : List ℕ} {lent : Lent} {m : List ℤ} {ps : List �
     pub isPlace : getD ps (run .places - 1 - 1) 0 ≡ placeOf g (frame (parent .production) (expect (parent .symbol) ∷ parent .rest))
     pub somePlaces : 2 ≤ run .places
 
-  pub removal : getD ws (run .at) 0 % 8 ≡ 5 → Removal
+  pub removal : headOperation (getD ws (run .at) 0) ≡ removeOperation → Removal
   removal o =
       let s = h .shaped in
       let x = hand-remove h o in

@@ -6,3 +6,5 @@ pub mod Coming
 pub mod Turns
 -- Moves one after the other, and reads that follow one another, of tokens that bring no value: when one is at hand, and what they lead to
 pub mod Reading
+-- Reads that follow one another, of tokens that bring no value, counted all at once: the run and the places after them
+pub mod Following

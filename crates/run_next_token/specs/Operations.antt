@@ -1,5 +1,5 @@
 -- Some configuration is held, and what the operation's number says of the move at hand.
-use Prim.Native.Nat.{ℕ, _%_, _≤_}
+use Prim.Native.Nat.{ℕ, _≤_}
 use native.Mathlib.Omega.{arith}
 use mathlib.Core.Path.{_≡_, refl, sym, ap, _∙_}
 use mathlib.Core.Bool.{Bool, true, false, _&&_, cond}
@@ -13,6 +13,7 @@ use Rattle.meaning.specs.Grammar.{Grammar, terminal, nonterminal, whole}
 use Rattle.meaning.specs.Scheme.{Instruction, add, evaluate, expect, test, remove}
 use Rattle.meaning.specs.Machine.{Frame, Config, Lent, Coming, asLook, blocked, next, nextOf, move, unexpected, needsLook, waits, isFinished, movesLimit}
 use Rattle.meaning.specs.Part.{frame}
+use Rattle.theory_program.specs.Parts.{headOperation, nothingOperation}
 use Rattle.theory_program.specs.Code.{operation, low-operation}
 use Rattle.run_looking.specs.Judging.{looks}
 use Rattle.run_moves.specs.declared.Run.{Run}
@@ -40,7 +41,7 @@ looks-right (expect (nonterminal n)) is = refl
 looks-right (test cs) is = refl
 looks-right (remove n) is = refl
 
-not-left : (i : Instruction) → eqb (operation i) 6 ≡ false
+not-left : (i : Instruction) → eqb (operation i) nothingOperation ≡ false
 not-left (add n) = refl
 not-left (evaluate rs) = refl
 not-left (expect (terminal t)) = refl
@@ -53,12 +54,12 @@ finishedOf fs = elim fs as (λ x. Bool) [ [] ↦ false | f ∷ gs ↦ eqb (f .pr
 
 module _ {g : Grammar} {ws : List ℕ} {lent : Lent} {m : List ℤ} {ps : List ℕ} {run : Run} {c : Config} (h : Held g ws lent m ps run c) where
   abbrev number : ℕ
-  number = getD ws (run .at) 0 % 8
+  number = headOperation (getD ws (run .at) 0)
 
-  pub number-most : number ≤ 6
+  pub number-most : number ≤ nothingOperation
   number-most = go (at-hand h)
     where
-      go : AtHand h → number ≤ 6
+      go : AtHand h → number ≤ nothingOperation
       go (some i x o n) = omega (arith, o, low-operation i)
       go (nothing below e w l) = omega arith
 
@@ -69,21 +70,21 @@ module _ {g : Grammar} {ws : List ℕ} {lent : Lent} {m : List ℤ} {ps : List �
       go : AtHand h → looks number ≡ waits (c .frames)
       go (some i x o n) = ap looks o ∙ (looks-right i (x .rest) ∙ sym (ap waits (x .frames)))
       go (nothing below e w l) =
-          let z : number ≡ 6 = omega arith in
+          let z : number ≡ nothingOperation = omega arith in
           ap looks z ∙ sym (ap waits e)
 
   -- whether the start symbol is left
-  pub finished-is : eqb number 6 ≡ isFinished c
+  pub finished-is : eqb number nothingOperation ≡ isFinished c
   finished-is = go (at-hand h)
     where
-      go : AtHand h → eqb number 6 ≡ isFinished c
-      go (some i x o n) = ap (λ k. eqb k 6) o ∙ (not-left i ∙ sym (ap finishedOf (x .frames) ∙ and-none (eqb (x .production) whole)))
+      go : AtHand h → eqb number nothingOperation ≡ isFinished c
+      go (some i x o n) = ap (λ k. eqb k nothingOperation) o ∙ (not-left i ∙ sym (ap finishedOf (x .frames) ∙ and-none (eqb (x .production) whole)))
       go (nothing below e w l) =
-          let z : number ≡ 6 = omega arith in
-          ap (λ k. eqb k 6) z ∙ sym (ap finishedOf e)
+          let z : number ≡ nothingOperation = omega arith in
+          ap (λ k. eqb k nothingOperation) z ∙ sym (ap finishedOf e)
 
   -- nothing is left
-  pub blocked-over : (look : Coming) → number ≡ 6 → next g lent look c ≡ blocked (unexpected (asLook look))
+  pub blocked-over : (look : Coming) → number ≡ nothingOperation → next g lent look c ≡ blocked (unexpected (asLook look))
   blocked-over look z = go (at-hand h)
     where
       go : AtHand h → next g lent look c ≡ blocked (unexpected (asLook look))
@@ -91,7 +92,7 @@ module _ {g : Grammar} {ws : List ℕ} {lent : Lent} {m : List ℤ} {ps : List �
       go (nothing below e w l) = ap (nextOf g lent look c) e
 
   -- 01: "35 .. a move after 4,294,967,295"
-  pub blocked-limit : (look : Coming) → (number ≡ 6 → ⊥) → run .moves ≡ movesLimit → next g lent look c ≡ blocked 35
+  pub blocked-limit : (look : Coming) → (number ≡ nothingOperation → ⊥) → run .moves ≡ movesLimit → next g lent look c ≡ blocked 35
   blocked-limit look z e = go (at-hand h)
     where
       go : AtHand h → next g lent look c ≡ blocked 35
@@ -99,5 +100,5 @@ module _ {g : Grammar} {ws : List ℕ} {lent : Lent} {m : List ℤ} {ps : List �
       go (nothing below y w l) = absurd (z (omega arith))
 
 -- for whatever comes
-pub limit-answers : {ws : List ℕ} {m : List ℤ} {ps : List ℕ} {run : Run} → (getD ws (run .at) 0 % 8 ≡ 6 → ⊥) → run .moves ≡ movesLimit → (look : Coming) → Answers ws m ps run look m ps (Blocked 35)
+pub limit-answers : {ws : List ℕ} {m : List ℤ} {ps : List ℕ} {run : Run} → (headOperation (getD ws (run .at) 0) ≡ nothingOperation → ⊥) → run .moves ≡ movesLimit → (look : Coming) → Answers ws m ps run look m ps (Blocked 35)
 limit-answers z e look g lent c h ok = (blocked-limit h look z e, refl, refl)

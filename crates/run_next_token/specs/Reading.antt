@@ -1,5 +1,5 @@
 -- Moves one after the other, and reads that follow one another, of tokens that bring no value: when one is at hand, and what they lead to.
-use Prim.Native.Nat.{ℕ, _+_, _-_, _*_, _/_, _%_, _≤_, _<_}
+use Prim.Native.Nat.{ℕ, _+_, _-_, _≤_, _<_}
 use native.Mathlib.Omega.{arith}
 use mathlib.Core.Path.{_≡_, refl, sym, ap, _∙_, subst}
 use mathlib.Core.Bool.{Bool, true, false, _&&_, not}
@@ -7,7 +7,7 @@ use mathlib.Core.List.{List}
 use lib.ListN.{length, getD, drop}
 use lib.Dec.{T, eqb, eqb→eq}
 use lib.IntN.{ℤ, pos}
-use borrow.Author.Tests.{eq-eqb}
+use borrow.Author.Tests.{eq-eqb, ne-eqb}
 use Rattle.meaning.specs.Base.{any}
 use Rattle.meaning.specs.Grammar.{Grammar, carried}
 use Rattle.meaning.specs.Value.{mark}
@@ -15,6 +15,7 @@ use Rattle.meaning.specs.Calls.{isMark, tokensFrom}
 use Rattle.meaning.specs.Machine.{Config, Lent, comes, Settled, next, movesLimit}
 use Rattle.theory_base.specs.Members.{true→T, both}
 use Rattle.theory_answers.specs.ShapeMoves.{IsAhead}
+use Rattle.theory_program.specs.Parts.{headOf, headOperation, headOperand, readOperation}
 use Rattle.theory_program.specs.Addresses.{Begins}
 use Rattle.theory_program.specs.Records.{carrier-word}
 use Rattle.run_looking.specs.Judging.{looks, judgedOf, carriesAt, value-none}
@@ -69,22 +70,34 @@ module _ {bound most : ℕ} {ws us : List ℕ} {vs : List ℤ} {i : ℕ} {m : Li
 
 -- ---- the read of a token that brings no value
 
+-- it stands at address a
+abbrev pub barely : List ℕ → ℕ → ℕ → Bool
+barely ws a u = eqb (getD ws a 0) (headOf readOperation u) && not (carriesAt ws u)
+
 -- it is at hand, and a move is left for it
 abbrev pub plainly : List ℕ → Run → ℕ → Bool
-plainly ws run u = eqb (getD ws (run .at) 0) (2 + 8 * u) && (not (carriesAt ws u) && not (eqb (run .moves) movesLimit))
+plainly ws run u = barely ws (run .at) u && not (eqb (run .moves) movesLimit)
 
-pub plain-of : (ws : List ℕ) (run : Run) (u : ℕ) → plainly ws run u ≡ true → (getD ws (run .at) 0 ≡ 2 + 8 * u) × (carriesAt ws u ≡ false) × (run .moves ≡ movesLimit → ⊥)
+gone : (b : Bool) → T (not b) → b ≡ false
+gone true t = absurd t
+gone false t = refl
+
+pub bare-of : (ws : List ℕ) (a u : ℕ) → T (barely ws a u) → (getD ws a 0 ≡ headOf readOperation u) × (carriesAt ws u ≡ false)
+bare-of ws a u t =
+    let s = both (eqb (getD ws a 0) (headOf readOperation u)) (not (carriesAt ws u)) t in
+    (eqb→eq (getD ws a 0) (headOf readOperation u) (s .0), gone (carriesAt ws u) (s .1))
+
+pub plain-of : (ws : List ℕ) (run : Run) (u : ℕ) → plainly ws run u ≡ true → (getD ws (run .at) 0 ≡ headOf readOperation u) × (carriesAt ws u ≡ false) × (run .moves ≡ movesLimit → ⊥)
 plain-of ws run u e =
-    let a = both (eqb (getD ws (run .at) 0) (2 + 8 * u)) (not (carriesAt ws u) && not (eqb (run .moves) movesLimit)) (true→T (plainly ws run u) e) in
-    let b = both (not (carriesAt ws u)) (not (eqb (run .moves) movesLimit)) (a .1) in
-    (eqb→eq (getD ws (run .at) 0) (2 + 8 * u) (a .0), gone (carriesAt ws u) (b .0), λ z. differs (eqb (run .moves) movesLimit) (eq-eqb (run .moves) movesLimit z) (b .1))
+    let a = both (barely ws (run .at) u) (not (eqb (run .moves) movesLimit)) (true→T (plainly ws run u) e) in
+    let b = bare-of ws (run .at) u (a .0) in
+    (b .0, b .1, λ z. differs (eqb (run .moves) movesLimit) (eq-eqb (run .moves) movesLimit z) (a .1))
   where
-    gone : (b : Bool) → T (not b) → b ≡ false
-    gone true t = absurd t
-    gone false t = refl
-
     differs : (b : Bool) → b ≡ true → T (not b) → ⊥
     differs b z t = subst (λ x. T (not x)) z t
+
+pub plain-from : (ws : List ℕ) (run : Run) (u : ℕ) → barely ws (run .at) u ≡ true → (run .moves ≡ movesLimit → ⊥) → plainly ws run u ≡ true
+plain-from ws run u e z = ap (λ b. b && not (eqb (run .moves) movesLimit)) e ∙ ap not (ne-eqb (run .moves) movesLimit z)
 
 -- a token that brings no value is the same whatever stands beside it
 same-plain : {g : Grammar} {ws : List ℕ} → Begins g ws → (u : ℕ) (v : ℤ) → u < 64 → carriesAt ws u ≡ false → comesTo g u (pos 0) ≡ comesTo g u v
@@ -98,16 +111,16 @@ same-plain {g} {ws} b u v small none = go (eqb u 63)
     go false = ap (λ c. comes (record { kind = u; values = carried c (pos 0) })) off ∙ sym (ap (λ c. comes (record { kind = u; values = carried c v })) off)
 
 module _ (bound most : ℕ) (ws us : List ℕ) (vs m : List ℤ) (ps : List ℕ) (run : Run) (i : ℕ) (even : length us ≡ length vs) (j : 1 ≡ judgedOf bound most us i (run .tokens)) (small : getD us i 0 < 64) (p : plainly ws run (getD us i 0) ≡ true) where
-  pub turned-plain : {ps′ : List ℕ} {run′ : Run} → ((value : ℤ) → isMark value ≡ true → Answers ws m ps run (comingOf (getD ws (run .at) 0 / 8) value) m ps′ (Moved run′)) → Turned bound most ws us vs i m ps run m ps′ (Moved run′)
+  pub turned-plain : {ps′ : List ℕ} {run′ : Run} → ((value : ℤ) → isMark value ≡ true → Answers ws m ps run (comingOf (headOperand (getD ws (run .at) 0)) value) m ps′ (Moved run′)) → Turned bound most ws us vs i m ps run m ps′ (Moved run′)
   turned-plain {ps′} {run′} a =
       let u = getD us i 0 in
       let k = plain-of ws run u p in
-      let o : getD ws (run .at) 0 % 8 ≡ 2 = omega (arith, k .0) in
-      let n : getD ws (run .at) 0 / 8 ≡ u = omega (arith, k .0) in
+      let o : headOperation (getD ws (run .at) 0) ≡ readOperation = omega (arith, k .0) in
+      let n : headOperand (getD ws (run .at) 0) ≡ u = omega (arith, k .0) in
       turned-look bound most ws us vs m ps run i even j m ps′ (Moved run′) (ap looks o) (λ z. omega (arith, o, z))
       (λ g lent d h.
       let w = value-none ws u (pos 0) (k .1) in
-      let same : comingOf (getD ws (run .at) 0 / 8) mark ≡ comesTo g u (pos 0) = ap (λ x. comingOf x mark) n ∙ (ap (comingOf u) w ∙ comes-is (h .begins) u (pos 0) small tt) in
+      let same : comingOf (headOperand (getD ws (run .at) 0)) mark ≡ comesTo g u (pos 0) = ap (λ x. comingOf x mark) n ∙ (ap (comingOf u) w ∙ comes-is (h .begins) u (pos 0) small tt) in
       let ok = subst (IsAhead g) (sym same) (comes-ahead (h .begins) u (pos 0) small tt) in
       subst (λ l. Made g ws lent (next g lent l d) m ps m ps′ (Moved run′)) (same ∙ same-plain (h .begins) u (getD vs i (pos 0)) small (k .1)) (a mark refl g lent d h ok))
 

@@ -1,5 +1,5 @@
 -- One turn of the loop over the moves: what is left after it, and what it answers.
-use Prim.Native.Nat.{ℕ, zero, suc, _+_, _-_, _/_, _%_, _≤_, _<_}
+use Prim.Native.Nat.{ℕ, zero, suc, _+_, _-_, _≤_, _<_}
 use native.Mathlib.Omega.{arith}
 use mathlib.Core.Path.{_≡_, refl, sym, ap, ap₂, _∙_, subst, subst₂}
 use mathlib.Core.Logic.{_⊎_, inl, inr}
@@ -16,6 +16,7 @@ use Rattle.meaning.specs.Machine.{Config, Lent, Coming, comes, ends, asLook, mo
 use Rattle.theory_base.specs.Steps.{advance-stopped, advance-failed, advance-moved}
 use Rattle.theory_answers.specs.Bounds.{Counts, counts, look-free, no-read, Blocks, atLimit, notExpected, conditionFalse, outOfRange, noRegister, noPlace, blocks}
 use Rattle.theory_answers.specs.ShapeMoves.{IsAhead}
+use Rattle.theory_program.specs.Parts.{headOperation, headOperand, readOperation, predictOperation, nothingOperation}
 use Rattle.run_looking.specs.Judging.{looks, judgedBy, judgedOf, taken-of, valueAt}
 use Rattle.run_moves.specs.declared.Run.{Run}
 use Rattle.run_moves.specs.declared.Step.{Step}
@@ -157,7 +158,7 @@ Turned bound most ws us vs i m ps run m′ ps′ s = (g : Grammar) (lent : Lent)
 
 -- the same whatever memory there is, which stays as it is, where the operation at hand has number k
 abbrev pub Stays : ℕ → ℕ → List ℕ → ℕ → Run → ℕ → Step → Type 0
-Stays bound most us i run k s = (ws : List ℕ) (m : List ℤ) (ps : List ℕ) (vs : List ℤ) → Fed bound ws m ps run us vs → getD ws (run .at) 0 % 8 ≡ k → Turned bound most ws us vs i m ps run m ps s
+Stays bound most us i run k s = (ws : List ℕ) (m : List ℤ) (ps : List ℕ) (vs : List ℤ) → Fed bound ws m ps run us vs → headOperation (getD ws (run .at) 0) ≡ k → Turned bound most ws us vs i m ps run m ps s
 
 -- no move is refused by 0
 refuses : {l : Coming} {c : Config} {k : ℕ} → Blocks l c k → k ≡ 0 → ⊥
@@ -195,7 +196,7 @@ seen g u v false = refl
 -- one turn for the tokens us and vs, from memory m and ps and the run
 module _ (bound most : ℕ) (ws us : List ℕ) (vs m : List ℤ) (ps : List ℕ) (run : Run) (i : ℕ) (even : length us ≡ length vs) where
   abbrev operation : ℕ
-  operation = getD ws (run .at) 0 % 8
+  operation = headOperation (getD ws (run .at) 0)
 
   -- a move that looks at nothing
   pub turned-quiet : (m′ : List ℤ) (ps′ : List ℕ) (s : Step) → looks operation ≡ false → Answers ws m ps run ends m′ ps′ s → Turned bound most ws us vs i m ps run m′ ps′ s
@@ -225,7 +226,7 @@ module _ (bound most : ℕ) (ws us : List ℕ) (vs m : List ℤ) (ps : List ℕ)
     judged-at : (d : Config) → run .tokens ≡ d .tokens → 1 ≡ judgedOf bound most us i (d .tokens)
     judged-at d e = j ∙ ap (judgedOf bound most us i) e
 
-    pub turned-look : (m′ : List ℤ) (ps′ : List ℕ) (s : Step) → looks operation ≡ true → (operation ≡ 6 → ⊥)
+    pub turned-look : (m′ : List ℤ) (ps′ : List ℕ) (s : Step) → looks operation ≡ true → (operation ≡ nothingOperation → ⊥)
         → ((g : Grammar) (lent : Lent) (d : Config) → Held g ws lent m ps run d → Made g ws lent (next g lent (comesTo g (getD us i 0) (getD vs i (pos 0))) d) m ps m′ ps′ s) → Turned bound most ws us vs i m ps run m′ ps′ s
     turned-look m′ ps′ s w z a g lent d o h left = go s (a g lent d h)
       where
@@ -236,7 +237,7 @@ module _ (bound most : ℕ) (ws us : List ℕ) (vs m : List ℤ) (ps : List ℕ)
         waiting = sym (waits-is h) ∙ w
 
         undone : waits (d .frames) && isDone look (d .tokens) d ≡ false
-        undone = to-do g d (getD us i 0) (getD vs i (pos 0)) (eqb (getD us i 0) 63) (sym (finished-is h) ∙ ne-eqb operation 6 z)
+        undone = to-do g d (getD us i 0) (getD vs i (pos 0)) (eqb (getD us i 0) 63) (sym (finished-is h) ∙ ne-eqb operation nothingOperation z)
 
         go : (s : Step) → Made g ws lent (next g lent look d) m ps m′ ps′ s → Goes bound most ws us vs i run g lent o m′ ps′ s
         go (Moved run′) (f, e, k) =
@@ -252,7 +253,7 @@ module _ (bound most : ℕ) (ws us : List ℕ) (vs m : List ℤ) (ps : List ℕ)
         go (Blocked k) (e, x, y) = refused-by k look h e (x, y) (look-blocked bound most us vs even g lent i d o waiting left (judged-at d (h .tokens)) undone k e)
 
     -- the read
-    pub turned-read : (m′ : List ℤ) (ps′ : List ℕ) (s : Step) → operation ≡ 2 → getD us i 0 < 64 → T (fourBytes (getD vs i (pos 0))) → Answers ws m ps run (comingOf (getD us i 0) (valueAt ws (getD us i 0) (getD vs i (pos 0)))) m′ ps′ s → Turned bound most ws us vs i m ps run m′ ps′ s
+    pub turned-read : (m′ : List ℤ) (ps′ : List ℕ) (s : Step) → operation ≡ readOperation → getD us i 0 < 64 → T (fourBytes (getD vs i (pos 0))) → Answers ws m ps run (comingOf (getD us i 0) (valueAt ws (getD us i 0) (getD vs i (pos 0)))) m′ ps′ s → Turned bound most ws us vs i m ps run m′ ps′ s
     turned-read m′ ps′ s e small four a =
         turned-look m′ ps′ s (ap looks e) (λ z. omega (arith, e, z))
         (λ g lent d h.
@@ -261,20 +262,20 @@ module _ (bound most : ℕ) (ws us : List ℕ) (vs m : List ℤ) (ps : List ℕ)
         subst (λ l. Made g ws lent (next g lent l d) m ps m′ ps′ s) same (a g lent d h ok))
 
     -- the predict, which sees no value
-    pub turned-predict : (m′ : List ℤ) (ps′ : List ℕ) (s : Step) → operation ≡ 3 → getD us i 0 < 64 → ((l : Coming) → asLook l ≡ lookOf (getD us i 0) → Answers ws m ps run l m′ ps′ s) → Turned bound most ws us vs i m ps run m′ ps′ s
+    pub turned-predict : (m′ : List ℤ) (ps′ : List ℕ) (s : Step) → operation ≡ predictOperation → getD us i 0 < 64 → ((l : Coming) → asLook l ≡ lookOf (getD us i 0) → Answers ws m ps run l m′ ps′ s) → Turned bound most ws us vs i m ps run m′ ps′ s
     turned-predict m′ ps′ s e small a =
         turned-look m′ ps′ s (ap looks e) (λ z. omega (arith, e, z))
         (λ g lent d h.
         let l = comesTo g (getD us i 0) (pos 0) in
         let x = hand-nonterminal h e in
-        let n = getD ws (run .at) 0 / 8 in
+        let n = headOperand (getD ws (run .at) 0) in
         let see : (v : ℤ) → asLook (comesTo g (getD us i 0) v) ≡ lookOf (getD us i 0) = λ v. seen g (getD us i 0) v (eqb (getD us i 0) 63) in
         let by : (k : Coming) → next g lent k d ≡ counted d (predict g lent d n (asLook k)) = λ k. ap (nextOf g lent k d) (x .frames) in
         let same : next g lent l d ≡ next g lent (comesTo g (getD us i 0) (getD vs i (pos 0))) d = by l ∙ (ap (λ k. counted d (predict g lent d n k)) (see (pos 0) ∙ sym (see (getD vs i (pos 0)))) ∙ sym (by (comesTo g (getD us i 0) (getD vs i (pos 0))))) in
         subst (λ o. Made g ws lent o m ps m′ ps′ s) same (a l (see (pos 0)) g lent d h (comes-ahead (h .begins) (getD us i 0) (pos 0) small tt)))
 
     -- nothing is left: a token is refused by 21
-    pub turned-more : operation ≡ 6 → (getD us i 0 ≡ 63 → ⊥) → Turned bound most ws us vs i m ps run m ps (Blocked 21)
+    pub turned-more : operation ≡ nothingOperation → (getD us i 0 ≡ 63 → ⊥) → Turned bound most ws us vs i m ps run m ps (Blocked 21)
     turned-more e z g lent d o h left =
         let look = comesTo g (getD us i 0) (getD vs i (pos 0)) in
         let token : eqb (getD us i 0) 63 ≡ false = ne-eqb (getD us i 0) 63 z in
@@ -284,9 +285,9 @@ module _ (bound most : ℕ) (ws us : List ℕ) (vs m : List ℤ) (ps : List ℕ)
         (d, look-blocked bound most us vs even g lent i d o w left (judged-at d (h .tokens)) n 21 k, h)
 
     -- and the end is what it waits for
-    pub turned-over : operation ≡ 6 → getD us i 0 ≡ 63 → length us ≤ suc i → Turned bound most ws us vs i m ps run m ps (Blocked 0)
+    pub turned-over : operation ≡ nothingOperation → getD us i 0 ≡ 63 → length us ≤ suc i → Turned bound most ws us vs i m ps run m ps (Blocked 0)
     turned-over e z l g lent d o h left =
         let w : waits (d .frames) ≡ true = sym (waits-is h) ∙ ap looks e in
         let v = getD vs i (pos 0) in
-        let n : waits (d .frames) && isDone (comesTo g (getD us i 0) v) (d .tokens) d ≡ true = ap (λ b. waits (d .frames) && isDone (comesIf b g (getD us i 0) v) (d .tokens) d) (eq-eqb (getD us i 0) 63 z) ∙ ap₂ _&&_ w (sym (finished-is h) ∙ eq-eqb operation 6 e) in
+        let n : waits (d .frames) && isDone (comesTo g (getD us i 0) v) (d .tokens) d ≡ true = ap (λ b. waits (d .frames) && isDone (comesIf b g (getD us i 0) v) (d .tokens) d) (eq-eqb (getD us i 0) 63 z) ∙ ap₂ _&&_ w (sym (finished-is h) ∙ eq-eqb operation nothingOperation e) in
         (d, look-over bound most us vs even g lent i d o w left (judged-at d (h .tokens)) n l, h)

@@ -1,5 +1,5 @@
 -- What a predict leaves: the place of the production found by the search is pushed, or the number refuses it.
-use Prim.Native.Nat.{ℕ, zero, suc, _+_, _-_, _*_, _/_, _%_, _≤_, _<_}
+use Prim.Native.Nat.{ℕ, zero, suc, _+_, _-_, _*_, _≤_, _<_}
 use native.Mathlib.Omega.{arith}
 use mathlib.Core.Path.{_≡_, refl, sym, ap, ap₂, _∙_, subst}
 use mathlib.Core.Logic.{inl}
@@ -10,7 +10,7 @@ use lib.Dec.{T, eqb, eqb→eq}
 use lib.IntN.{ℤ}
 use borrow.Author.Tests.{lt-ltb, le-ltb, eq-eqb}
 use Rattle.meaning.specs.Base.{In, all, keep, isEmpty, countFrom}
-use Rattle.meaning.specs.Grammar.{Grammar, Condition, nonterminal, productionAt}
+use Rattle.meaning.specs.Grammar.{Grammar, Condition, nonterminal, productionAt, placeAt}
 use Rattle.meaning.specs.Value.{holds}
 use Rattle.meaning.specs.Scheme.{expect, entryTests}
 use Rattle.meaning.specs.Sets.{has, starts}
@@ -19,6 +19,7 @@ use Rattle.meaning.specs.Part.{frame, config}
 use Rattle.meaning.specs.Program.{firstAlternative, entryOf, directoryWord}
 use Rattle.theory_base.specs.Members.{T→true, true→T, in-keep, from-in}
 use Rattle.theory_answers.specs.ShapeMoves.{IsAhead, shape-move}
+use Rattle.theory_program.specs.Parts.{predictOperation, headOperation, headOperand, directoryStep, directoryNumber, directoryScheme}
 use Rattle.theory_program.specs.WordsStand.{stands-within}
 use Rattle.theory_program.specs.Addresses.{record-at, directory-at, schemeAddress}
 use Rattle.theory_program.specs.Search.{firstNumber, first-none, first-some, directory-none, directory-listed, entry-number, entry-high, passes, found, found-start, found-stop}
@@ -47,7 +48,7 @@ abbrev pub enteredBy : Run → ℕ → ℕ → Step
 enteredBy run a n = stepBy (eqb (run .places) n) run a
 
 abbrev pub placed : ℕ → ℕ → List ℕ → List ℕ
-placed k p ps = cond (eqb k (length ps)) ps (set ps k (256 * (p - 1)))
+placed k p ps = cond (eqb k (length ps)) ps (set ps k (placeAt (p - 1) 0))
 
 pub entered-tokens : (run : Run) (a n : ℕ) → tokensOf run (enteredBy run a n) ≡ run .tokens
 entered-tokens run a n = go (eqb (run .places) n)
@@ -60,16 +61,16 @@ empty-push : (g : Grammar) (lent : Lent) (c : Config) (ps : List ℕ) → isEmpt
 empty-push g lent c [] e = refl
 empty-push g lent c (p ∷ ps) e = let z : _≡_ {A = ℕ} 0 1 = cc in absurd (omega arith)
 
-module _ {g : Grammar} {ws : List ℕ} {lent : Lent} {m : List ℤ} {ps : List ℕ} {run : Run} {c : Config} (h : Held g ws lent m ps run c) (o : getD ws (run .at) 0 % 8 ≡ 3) (u : ℕ) (small : u < 64) where
+module _ {g : Grammar} {ws : List ℕ} {lent : Lent} {m : List ℤ} {ps : List ℕ} {run : Run} {c : Config} (h : Held g ws lent m ps run c) (o : headOperation (getD ws (run .at) 0) ≡ predictOperation) (u : ℕ) (small : u < 64) where
   abbrev wanted : ℕ
-  wanted = getD ws (run .at) 0 / 8
+  wanted = headOperand (getD ws (run .at) 0)
 
   -- the directory's word, and the number in it
   abbrev entry : ℕ
   entry = getD ws (9 + 64 * wanted + u) 0
 
   abbrev first : ℕ
-  first = entry % 256
+  first = directoryNumber entry
 
   hand : Hand g ws (run .at) c (expect (nonterminal wanted))
   hand = hand-nonterminal h o
@@ -91,11 +92,11 @@ module _ {g : Grammar} {ws : List ℕ} {lent : Lent} {m : List ℤ} {ps : List �
   entry-is = directory-at (h .begins) wanted u (hand-proper h hand) small ∙ ap (directoryWord g wanted) (sym (look-number u))
 
   first-is : first ≡ alternative
-  first-is = ap (λ w. w % 256) entry-is ∙ entry-number g alternative alternative-small
+  first-is = ap directoryNumber entry-is ∙ entry-number g alternative alternative-small
 
   -- a word that says 0
   pub first-zero : entry ≡ 0 → first ≡ 0
-  first-zero e = ap (λ w. w % 256) e
+  first-zero e = ap directoryNumber e
 
   pub first-leads : Leads g ws (stack (run .registers) m) wanted first
   first-leads =
@@ -123,32 +124,32 @@ module _ {g : Grammar} {ws : List ℕ} {lent : Lent} {m : List ℤ} {ps : List �
   found-first p f e k = k g wanted (subst (Leads g ws (stack (run .registers) m) wanted) (sym e) first-leads) ∙ ap (found g (stack (run .registers) m) wanted (lookOf u)) e
 
   -- a word that says where the scheme begins: the production has no entry tests
-  module _ (high : 256 ≤ entry) where
-    abbrev told : (q : ℕ) × (alternative ≡ suc q) × (length (entryTests g (productionAt g q)) ≡ 0) × (entryOf g alternative / 256 ≡ schemeAddress g q)
-    told = entry-high g alternative alternative-small (omega (arith, entry-is, high))
+  module _ (high : directoryStep ≤ entry) where
+    abbrev untested : (q : ℕ) × (alternative ≡ suc q) × (length (entryTests g (productionAt g q)) ≡ 0) × (directoryScheme (entryOf g alternative) ≡ schemeAddress g q)
+    untested = entry-high g alternative alternative-small (omega (arith, entry-is, high))
 
-    is-told : first ≡ suc (told .0)
-    is-told = first-is ∙ told .1
+    is-untested : first ≡ suc (untested .0)
+    is-untested = first-is ∙ untested .1
 
-    told-listed : (told .0 < length (g .productions)) × (productionAt g (told .0) .left ≡ wanted) × T (has (starts g (productionAt g (told .0))) (lookNumber (lookOf u)))
-    told-listed = directory-listed g (h .wellFormed) wanted (lookOf u) (told .0) (told .1)
+    untested-listed : (untested .0 < length (g .productions)) × (productionAt g (untested .0) .left ≡ wanted) × T (has (starts g (productionAt g (untested .0))) (lookNumber (lookOf u)))
+    untested-listed = directory-listed g (h .wellFormed) wanted (lookOf u) (untested .0) (untested .1)
 
-    pub told-found : first ≡ found g (stack (run .registers) m) wanted (lookOf u) first
-    told-found =
+    pub untested-found : first ≡ found g (stack (run .registers) m) wanted (lookOf u) first
+    untested-found =
         let rs = stack (run .registers) m in
-        let k = told-listed in
-        let passed : passes g rs (lookOf u) (told .0) ≡ true = ap₂ _&&_ (T→true (has (starts g (productionAt g (told .0))) (lookNumber (lookOf u))) (k .2)) (none-hold (entryTests g (productionAt g (told .0))) (told .2)) in
-        sym (ap (found g rs wanted (lookOf u)) is-told ∙ (found-stop g (h .wellFormed) rs wanted (lookOf u) (told .0) (k .0) (k .1) passed ∙ sym is-told))
+        let k = untested-listed in
+        let passed : passes g rs (lookOf u) (untested .0) ≡ true = ap₂ _&&_ (T→true (has (starts g (productionAt g (untested .0))) (lookNumber (lookOf u))) (k .2)) (none-hold (entryTests g (productionAt g (untested .0))) (untested .2)) in
+        sym (ap (found g rs wanted (lookOf u)) is-untested ∙ (found-stop g (h .wellFormed) rs wanted (lookOf u) (untested .0) (k .0) (k .1) passed ∙ sym is-untested))
       where
         none-hold : (cs : List (Condition ℕ)) → length cs ≡ 0 → all (holds (readRegister (stack (run .registers) m))) cs ≡ true
         none-hold [] e = refl
         none-hold (x ∷ xs) e = absurd (omega arith)
 
-    pub told-scheme : entry / 256 ≡ getD ws (recordOf ws first + 6) 0
-    told-scheme = ap (λ w. w / 256) entry-is ∙ (told .3 ∙ sym (ap (λ j. getD ws (recordOf ws j + 6) 0) is-told ∙ at-scheme (h .begins) (h .wellFormed) (c .registers) (told .0) (told-listed .0)))
+    pub untested-scheme : directoryScheme entry ≡ getD ws (recordOf ws first + 6) 0
+    untested-scheme = ap directoryScheme entry-is ∙ (untested .3 ∙ sym (ap (λ j. getD ws (recordOf ws j + 6) 0) is-untested ∙ at-scheme (h .begins) (h .wellFormed) (c .registers) (untested .0) (untested-listed .0)))
 
-    pub told-some : first ≡ 0 → ⊥
-    told-some e = omega (arith, is-told, e)
+    pub untested-some : first ≡ 0 → ⊥
+    untested-some e = omega (arith, is-untested, e)
 
   -- ---- the outcome
 
@@ -215,7 +216,7 @@ module _ {g : Grammar} {ws : List ℕ} {lent : Lent} {m : List ℤ} {ps : List �
             let s = laid-size (h .places) in
             (entering .pushed ∙ ap (λ b. cond b (blocked 32) (step c (frame q (schemeAt g q) ∷ c .frames) (c .registers))) (lt-ltb (lent .maxPlaces) (suc (length (c .frames))) (omega arith)), refl, refl)
 
-        pub made-predict : IsAhead g ahead → run .places < length ps → (v : ℕ) → v ≡ 256 * (p - 1)
+        pub made-predict : IsAhead g ahead → run .places < length ps → (v : ℕ) → v ≡ placeAt (p - 1) 0
             → Made g ws lent (next g lent ahead c) m ps m (set ps (run .places) v) (Moved (record { tokens = run .tokens; moves = run .moves + 1; registers = run .registers; places = run .places + 1; at = getD ws (recordOf ws p + 6) 0 }))
         made-predict ok room v isPlace =
             let k = h .places .height in
@@ -246,11 +247,11 @@ module _ {g : Grammar} {ws : List ℕ} {lent : Lent} {m : List ℤ} {ps : List �
         pub made-entering : IsAhead g ahead → (a : ℕ) → a ≡ getD ws (recordOf ws p + 6) 0 → run .places ≤ length ps → Made g ws lent (next g lent ahead c) m ps m (placed (run .places) p ps) (enteredBy run a (length ps))
         made-entering ok a e l = go (eqb (run .places) (length ps)) refl
           where
-            go : (b : Bool) → eqb (run .places) (length ps) ≡ b → Made g ws lent (next g lent ahead c) m ps m (cond b ps (set ps (run .places) (256 * (p - 1)))) (stepBy b run a)
+            go : (b : Bool) → eqb (run .places) (length ps) ≡ b → Made g ws lent (next g lent ahead c) m ps m (cond b ps (set ps (run .places) (placeAt (p - 1) 0))) (stepBy b run a)
             go true z = blocked-full (eqb→eq (run .places) (length ps) (true→T (eqb (run .places) (length ps)) z))
             go false z =
                 let room : run .places < length ps = below (λ y. differs (sym (eq-eqb (run .places) (length ps) y) ∙ z)) in
-                subst (λ k. Made g ws lent (next g lent ahead c) m ps m (set ps (run .places) (256 * (p - 1))) (stepBy false run k)) (sym e) (made-predict ok room (256 * (p - 1)) refl)
+                subst (λ k. Made g ws lent (next g lent ahead c) m ps m (set ps (run .places) (placeAt (p - 1) 0)) (stepBy false run k)) (sym e) (made-predict ok room (placeAt (p - 1) 0) refl)
               where
                 differs : true ≡ false → ⊥
                 differs y = subst T y tt

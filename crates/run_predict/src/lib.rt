@@ -1,8 +1,9 @@
 // The predict: the place of the alternative that is entered is pushed.
-ghost use Prim.Native.Nat.{_+_, _*_, _/_, _%_, _≤_, _<_};
+ghost use Prim.Native.Nat.{_+_, _*_, _≤_, _<_};
 ghost use mathlib.Core.Path.{_≡_};
 ghost use lib.ListN.{length, getD};
 ghost use Rattle.meaning.specs.Machine.{Coming, asLook, movesLimit};
+ghost use Rattle.theory_program.specs.Parts.{predictOperation, headOperand, directoryNumber};
 ghost use Rattle.run_moves.specs.Held.{ReadyForMove, Answers};
 ghost use Rattle.run_moves.specs.Passing.{lookOf};
 ghost use Rattle.run_predict.specs.Entering.{tokensOf, enteredBy, placed};
@@ -18,7 +19,7 @@ fn enter(places: &mut [u32], run: Run, p: usize, at: usize) -> Step
     if height == places.len() {
         return Step::Blocked(32);
     }
-    places[height] = (256 * (p - 1)) as u32;
+    places[height] = program_parts::place(p - 1, 0);
     let mut next = run_moves::counted(run, at);
     next.places = height + 1;
     Step::Moved(next)
@@ -33,7 +34,7 @@ fn search(
     look: usize,
     first: usize,
 ) -> Step
-    requires { ⌜ (ReadyForMove (now program) (now registers) (now places) run 3 × (look < 64)) × ((first ≡ getD (now program) (9 + 64 * (getD (now program) (run .at) 0 / 8) + look) 0 % 256) × (first ≡ 0 → ⊥)) ⌝ }
+    requires { ⌜ (ReadyForMove (now program) (now registers) (now places) run predictOperation × (look < 64)) × ((first ≡ directoryNumber (getD (now program) (9 + 64 * headOperand (getD (now program) (run .at) 0) + look) 0)) × (first ≡ 0 → ⊥)) ⌝ }
     ensures { λ r. ⌜ ((ahead : Coming) → asLook ahead ≡ lookOf look → Answers (now (program .entry)) (now (registers .entry)) (now (places .entry)) run ahead (now (registers .entry)) (now (places .exit)) r) × (tokensOf run r ≡ run .tokens) ⌝ }
 {
     let p = run_alternatives::find(registers, run.registers, program, look, first);
@@ -55,7 +56,7 @@ pub fn predict(
     run: Run,
     look: usize,
 ) -> Step
-    requires { ⌜ ReadyForMove (now program) (now registers) (now places) run 3 × (look < 64) ⌝ }
+    requires { ⌜ ReadyForMove (now program) (now registers) (now places) run predictOperation × (look < 64) ⌝ }
     ensures { λ r. ⌜ ((ahead : Coming) → asLook ahead ≡ lookOf look → Answers (now (program .entry)) (now (registers .entry)) (now (places .entry)) run ahead (now (registers .entry)) (now (places .exit)) r) × (tokensOf run r ≡ run .tokens) ⌝ }
 {
     let n = program_parts::operand(run_moves::word_at(program, run.at));
@@ -63,12 +64,12 @@ pub fn predict(
         program,
         program_parts::DIRECTORY + program_parts::DIRECTORY_WORDS * n + look,
     );
-    if program_parts::ENTRY_SCHEME <= entry {
+    if program_parts::DIRECTORY_SCHEME <= entry {
         return enter(
             places,
             run,
-            entry % program_parts::ENTRY_SCHEME,
-            entry / program_parts::ENTRY_SCHEME,
+            program_parts::directory_number(entry),
+            program_parts::directory_scheme(entry),
         );
     }
     if entry == 0 {

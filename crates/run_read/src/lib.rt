@@ -1,11 +1,11 @@
 // The read of a token, on lent stacks.
-ghost use Prim.Native.Nat.{_/_};
 ghost use mathlib.Core.Path.{_≡_};
 ghost use mathlib.Core.Bool.{true, false};
 ghost use mathlib.Core.List.{List};
 ghost use lib.IntN.{ℤ};
 ghost use lib.ListN.{getD};
 ghost use Rattle.meaning.specs.Calls.{isMark};
+ghost use Rattle.theory_program.specs.Parts.{headOperand, readOperation};
 ghost use Rattle.run_moves.specs.Held.{ReadyForMove, Answers};
 ghost use Rattle.run_moves.specs.Passing.{comingOf};
 ghost use Rattle.run_moves.specs.declared.Step.the-variants.{Moved};
@@ -20,8 +20,8 @@ fn read_value(
     run: Run,
     value: i64,
 ) -> Step
-    requires { ⌜ ReadyForMove (now program) (now registers) (now places) run 2 × (isMark value ≡ false) ⌝ }
-    ensures { λ r. ⌜ Answers (now (program .entry)) (now (registers .entry)) (now (places .entry)) run (comingOf (getD (now (program .entry)) (run .at) 0 / 8) value) (now (registers .exit)) (now (places .exit)) r ⌝ }
+    requires { ⌜ ReadyForMove (now program) (now registers) (now places) run readOperation × (isMark value ≡ false) ⌝ }
+    ensures { λ r. ⌜ Answers (now (program .entry)) (now (registers .entry)) (now (places .entry)) run (comingOf (headOperand (getD (now (program .entry)) (run .at) 0)) value) (now (registers .exit)) (now (places .exit)) r ⌝ }
 {
     let height = run.registers;
     if registers.len() <= height {
@@ -37,8 +37,8 @@ fn read_value(
 
 // The token that is expected, which carries no value.
 pub fn read_plain(places: &mut [u32], program: &[u32], run: Run) -> Run
-    requires { ⌜ ((rs : List ℤ) × ReadyForMove (now program) rs (now places) run 2) ⌝ }
-    ensures { λ r. ⌜ ((rs : List ℤ) (value : ℤ) → isMark value ≡ true → Answers (now (program .entry)) rs (now (places .entry)) run (comingOf (getD (now (program .entry)) (run .at) 0 / 8) value) rs (now (places .exit)) (Moved r)) ⌝ }
+    requires { ⌜ ((rs : List ℤ) × ReadyForMove (now program) rs (now places) run readOperation) ⌝ }
+    ensures { λ r. ⌜ ((rs : List ℤ) (value : ℤ) → isMark value ≡ true → Answers (now (program .entry)) rs (now (places .entry)) run (comingOf (headOperand (getD (now (program .entry)) (run .at) 0)) value) rs (now (places .exit)) (Moved r)) ⌝ }
 {
     run_moves::pass(places, run.places, program, run.at + 1);
     let mut after = run_moves::counted(run, run.at + 1);
@@ -55,7 +55,7 @@ pub fn read(
     look: usize,
     value: i64,
 ) -> Step
-    requires { ⌜ ReadyForMove (now program) (now registers) (now places) run 2 ⌝ }
+    requires { ⌜ ReadyForMove (now program) (now registers) (now places) run readOperation ⌝ }
     ensures { λ r. ⌜ Answers (now (program .entry)) (now (registers .entry)) (now (places .entry)) run (comingOf look value) (now (registers .exit)) (now (places .exit)) r ⌝ }
 {
     if program_parts::operand(run_moves::word_at(program, run.at)) != look {

@@ -5,7 +5,7 @@ ghost use mathlib.Core.Bool.{true};
 ghost use mathlib.Core.List.{List};
 ghost use lib.ListN.{getD};
 ghost use Rattle.meaning.specs.Machine as Machine;
-ghost use Rattle.theory_program.specs.Parts.{headOperand};
+ghost use Rattle.theory_program.specs.Parts.{headOperand, addOperation, evaluateOperation};
 ghost use Rattle.run_register_rules.specs.Common.{common};
 ghost use Rattle.run_moves.specs.Held.{ReadyForMove, Answers};
 use run_moves::Run;
@@ -15,7 +15,7 @@ use run_moves::Step;
 
 // The registers of the next symbol. They are clear already.
 pub fn add(registers: &[i64], program: &[u32], run: Run) -> Step
-    requires { ⌜ ((ps : List ℕ) × ReadyForMove (now program) (now registers) ps run 0) ⌝ }
+    requires { ⌜ ((ps : List ℕ) × ReadyForMove (now program) (now registers) ps run addOperation) ⌝ }
     ensures { λ r. ⌜ ((ps : List ℕ) (ahead : Machine.Coming) → Answers (now (program .entry)) (now (registers .entry)) ps run ahead (now (registers .entry)) ps r) ⌝ }
 {
     let n = program_parts::operand(run_moves::word_at(program, run.at));
@@ -34,7 +34,7 @@ const SINGLE_WORDS: usize = 1 + program_parts::RULE_WORDS;
 
 // One rule alone, of a common function: where the next instruction stands does not wait for the head word.
 fn evaluate_single(registers: &mut [i64], program: &[u32], run: Run) -> Step
-    requires { ⌜ ((ps : List ℕ) × ReadyForMove (now program) (now registers) ps run 1) × (headOperand (getD (now program) (run .at) 0) ≡ 1) × (common (getD (now program) (run .at + 1) 0) ≡ true) ⌝ }
+    requires { ⌜ ((ps : List ℕ) × ReadyForMove (now program) (now registers) ps run evaluateOperation) × (headOperand (getD (now program) (run .at) 0) ≡ 1) × (common (getD (now program) (run .at + 1) 0) ≡ true) ⌝ }
     ensures { λ r. ⌜ ((ps : List ℕ) (ahead : Machine.Coming) → Answers (now (program .entry)) (now (registers .entry)) ps run ahead (now (registers .exit)) ps r) ⌝ }
 {
     if run_register_rules::evaluate_one(registers, run.registers, program, run.at + 1) {
@@ -45,7 +45,7 @@ fn evaluate_single(registers: &mut [i64], program: &[u32], run: Run) -> Step
 
 // 01: "all or none".
 pub fn evaluate(registers: &mut [i64], program: &[u32], run: Run) -> Step
-    requires { ⌜ ((ps : List ℕ) × ReadyForMove (now program) (now registers) ps run 1) ⌝ }
+    requires { ⌜ ((ps : List ℕ) × ReadyForMove (now program) (now registers) ps run evaluateOperation) ⌝ }
     ensures { λ r. ⌜ ((ps : List ℕ) (ahead : Machine.Coming) → Answers (now (program .entry)) (now (registers .entry)) ps run ahead (now (registers .exit)) ps r) ⌝ }
 {
     let n = program_parts::operand(run_moves::word_at(program, run.at));

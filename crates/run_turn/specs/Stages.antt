@@ -1,5 +1,5 @@
 -- The stages of a turn: what each leads to, perhaps to nothing, and what all lead to one after the other.
-use Prim.Native.Nat.{ℕ, _+_, _-_, _%_, _≤_, _<_}
+use Prim.Native.Nat.{ℕ, _+_, _-_, _≤_, _<_}
 use native.Mathlib.Omega.{arith}
 use mathlib.Core.Path.{_≡_, sym, ap, _∙_, subst, subst₂}
 use mathlib.Core.List.{List, [], _∷_}
@@ -7,6 +7,7 @@ use lib.ListN.{length, getD}
 use lib.IntN.{ℤ}
 use Rattle.meaning.specs.Grammar.{Grammar}
 use Rattle.meaning.specs.Machine.{Config, Lent, Settled}
+use Rattle.theory_program.specs.Parts.{headOperation, addOperation, evaluateOperation, readOperation}
 use Rattle.run_looking.specs.Judging.{judgedOf, judged-taken}
 use Rattle.run_moves.specs.declared.Run.{Run}
 use Rattle.run_moves.specs.declared.Step.{Step}
@@ -47,11 +48,11 @@ TurnsOn bound most ws us vs i m ps run m′ ps′ (Over run′ k) = Ends bound m
 
 -- the operation at hand has another number
 abbrev pub Other : List ℕ → ℕ → Run → Type 0
-Other ws k run = getD ws (run .at) 0 % 8 ≡ k → ⊥
+Other ws k run = headOperation (getD ws (run .at) 0) ≡ k → ⊥
 
 -- it is an add or an evaluate
 abbrev pub Low : List ℕ → Run → Type 0
-Low ws run = getD ws (run .at) 0 % 8 < 2
+Low ws run = headOperation (getD ws (run .at) 0) < readOperation
 
 -- the move of number k, which looks at nothing, where it is at hand
 abbrev pub Stage : List ℕ → List ℤ → Run → ℕ → List ℤ → Step → Type 0
@@ -59,7 +60,7 @@ Stage ws m run k m′ s = (bound most : ℕ) (us : List ℕ) (vs : List ℤ) (i 
 
 -- the add and the evaluate
 abbrev pub Prepared : List ℕ → List ℤ → Run → List ℤ → Onward → Type 0
-Prepared ws m run m′ t = (bound most : ℕ) (us : List ℕ) (vs : List ℤ) (i : ℕ) (ps : List ℕ) → length us ≡ length vs → Ran (λ r. Other ws 0 r × Other ws 1 r) bound most ws us vs i m ps run m′ ps t
+Prepared ws m run m′ t = (bound most : ℕ) (us : List ℕ) (vs : List ℤ) (i : ℕ) (ps : List ℕ) → length us ≡ length vs → Ran (λ r. Other ws addOperation r × Other ws evaluateOperation r) bound most ws us vs i m ps run m′ ps t
 
 -- ---- one stage after the other
 
@@ -103,9 +104,9 @@ module _ {I : Run → Type 0} {bound most : ℕ} {ws us : List ℕ} {vs : List �
 
 -- some stage makes a move
 pub went-turns : {bound most : ℕ} {ws us : List ℕ} {vs : List ℤ} {i : ℕ} {m : List ℤ} {ps : List ℕ} {run : Run} {m′ : List ℤ} {ps′ : List ℕ} {run′ : Run}
-    → Went (λ r. (Other ws 0 r × Other ws 1 r) × Low ws r) bound most ws us vs i m ps run m′ ps′ run′ → Turned bound most ws us vs i m ps run m′ ps′ (Moved run′)
+    → Went (λ r. (Other ws addOperation r × Other ws evaluateOperation r) × Low ws r) bound most ws us vs i m ps run m′ ps′ run′ → Turned bound most ws us vs i m ps run m′ ps′ (Moved run′)
 went-turns (some t) = t
-went-turns {ws = ws} {run = run} (none z x y p) = absurd (below (getD ws (run .at) 0 % 8) (p .0 .0) (p .0 .1) (p .1))
+went-turns {ws = ws} {run = run} (none z x y p) = absurd (below (headOperation (getD ws (run .at) 0)) (p .0 .0) (p .0 .1) (p .1))
   where
-    below : (k : ℕ) → (k ≡ 0 → ⊥) → (k ≡ 1 → ⊥) → k < 2 → ⊥
+    below : (k : ℕ) → (k ≡ addOperation → ⊥) → (k ≡ evaluateOperation → ⊥) → k < readOperation → ⊥
     below k p q l = omega (arith, p, q, l)

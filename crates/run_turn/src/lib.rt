@@ -1,10 +1,12 @@
 // A turn of the loop over the moves: the add and the evaluate at hand, then the move behind them, with reads that follow it.
-ghost use Prim.Native.Nat.{ℕ, _-_, _%_, _≤_, _<_};
+ghost use Prim.Native.Nat.{ℕ, _-_, _≤_, _<_};
 ghost use mathlib.Core.Path.{_≡_};
 ghost use mathlib.Core.List.{List};
 ghost use lib.IntN.{ℤ};
 ghost use lib.ListN.{getD, length};
 ghost use Rattle.meaning.specs.Machine as Machine;
+ghost use Rattle.theory_program.specs.Parts.{headOperation, addOperation, evaluateOperation, predictOperation};
+ghost use Rattle.run_moves.specs.Notes.{Notes};
 ghost use Rattle.run_next_token.specs.Operations.{Running};
 ghost use Rattle.run_next_token.specs.Turns.{Fed, Turned};
 ghost use Rattle.run_turn.specs.Stages.{Passes, Low, Stage, Prepared, TurnsOn};
@@ -13,6 +15,10 @@ use run_looking::Limits;
 use run_moves::Run;
 use run_moves::Step;
 use run_next_token::read_next;
+use run_remove::NOTED;
+
+// How many words the notes of where places go on have: a place and an address each.
+pub const NOTES: usize = 2 * NOTED;
 
 // What a turn leads to: the run after its moves, or the run at which they end and the number that ends them, 0 for a stop.
 pub enum Onward {
@@ -25,7 +31,7 @@ pub enum Onward {
 // The add, where it is at hand.
 fn adds(registers: &[i64], program: &[u32], run: Run) -> Step
     requires { ⌜ ((ps : List ℕ) × Running (now program) (now registers) ps run) ⌝ }
-    ensures { λ r. ⌜ Stage (now (program .entry)) (now (registers .entry)) run 0 (now (registers .entry)) r ⌝ }
+    ensures { λ r. ⌜ Stage (now (program .entry)) (now (registers .entry)) run addOperation (now (registers .entry)) r ⌝ }
 {
     if program_parts::operation(run_moves::word_at(program, run.at)) != operations::ADD {
         return Step::Moved(run);
@@ -39,7 +45,7 @@ fn adds(registers: &[i64], program: &[u32], run: Run) -> Step
 // The evaluate, where it is at hand.
 fn evaluates(registers: &mut [i64], program: &[u32], run: Run) -> Step
     requires { ⌜ ((ps : List ℕ) × Running (now program) (now registers) ps run) ⌝ }
-    ensures { λ r. ⌜ Stage (now (program .entry)) (now (registers .entry)) run 1 (now (registers .exit)) r ⌝ }
+    ensures { λ r. ⌜ Stage (now (program .entry)) (now (registers .entry)) run evaluateOperation (now (registers .exit)) r ⌝ }
 {
     if program_parts::operation(run_moves::word_at(program, run.at)) != operations::EVALUATE {
         return Step::Moved(run);
@@ -66,17 +72,19 @@ fn prepared(registers: &mut [i64], program: &[u32], run: Run) -> Onward
 
 // ---- moves that look at what comes next
 
-// The predict for the token at hand, and its read where that comes next.
+// The predict for the token at hand, which is noted, and its read where that comes next.
 fn predict_next(
     registers: &[i64],
     places: &mut [u32],
     program: &[u32],
+    notes: &mut [usize],
     run: Run,
     kinds: &[u8],
     limits: Limits,
 ) -> Step
-    requires { ⌜ ((vs : List ℤ) × Fed (limits .bound) (now program) (now registers) (now places) run (now kinds) vs) × (getD (now program) (run .at) 0 % 8 ≡ 3) × (run .moves < Machine.movesLimit) × (limits .from ≤ run .tokens) ⌝ }
-    ensures { λ r. ⌜ ((vs : List ℤ) → length (now (kinds .entry)) ≡ length vs → Turned (limits .bound) (limits .most) (now (program .entry)) (now (kinds .entry)) vs (run .tokens - limits .from) (now (registers .entry)) (now (places .entry)) run (now (registers .entry)) (now (places .exit)) r) ⌝ }
+    requires { ⌜ ((vs : List ℤ) × Fed (limits .bound) (now program) (now registers) (now places) run (now kinds) vs) × (headOperation (getD (now program) (run .at) 0) ≡ predictOperation) × (run .moves < Machine.movesLimit) × (limits .from ≤ run .tokens) × Notes (now program) (now notes) ⌝ }
+    ensures { λ r. ⌜ ((vs : List ℤ) → length (now (kinds .entry)) ≡ length vs → Turned (limits .bound) (limits .most) (now (program .entry)) (now (kinds .entry)) vs (run .tokens - limits .from) (now (registers .entry)) (now (places .entry)) run (now (registers .entry)) (now (places .exit)) r)
+        × Notes (now (program .entry)) (now (notes .exit)) ⌝ }
 {
     let k = run_looking::judged(run.tokens, kinds, limits);
     if k != run_looking::TAKEN {
@@ -84,6 +92,8 @@ fn predict_next(
     }
     let i = (run.tokens - limits.from) as usize;
     let look = kinds[i] as usize;
+    let waiting = run_moves::word_at(places, run.places - 1);
+    run_remove::note(notes, run.places, waiting, run.at);
     match run_predict::predict(registers, places, program, run, look) {
         Step::Blocked(n) => Step::Blocked(n),
         Step::Moved(next) => Step::Moved(run_next_token::read_on(places, program, next, look)),
@@ -95,20 +105,22 @@ fn last(
     registers: &mut [i64],
     places: &mut [u32],
     program: &[u32],
+    notes: &mut [usize],
     run: Run,
     kinds: &[u8],
     values: &[i32],
     limits: Limits,
 ) -> Step
-    requires { ⌜ Fed (limits .bound) (now program) (now registers) (now places) run (now kinds) (now values) × (limits .from ≤ run .tokens) ⌝ }
-    ensures { λ r. ⌜ Passes (Low (now (program .entry))) (limits .bound) (limits .most) (now (program .entry)) (now (kinds .entry)) (now (values .entry)) (run .tokens - limits .from) (now (registers .entry)) (now (places .entry)) run (now (registers .exit)) (now (places .exit)) r ⌝ }
+    requires { ⌜ Fed (limits .bound) (now program) (now registers) (now places) run (now kinds) (now values) × (limits .from ≤ run .tokens) × Notes (now program) (now notes) ⌝ }
+    ensures { λ r. ⌜ Passes (Low (now (program .entry))) (limits .bound) (limits .most) (now (program .entry)) (now (kinds .entry)) (now (values .entry)) (run .tokens - limits .from) (now (registers .entry)) (now (places .entry)) run (now (registers .exit)) (now (places .exit)) r
+        × Notes (now (program .entry)) (now (notes .exit)) ⌝ }
 {
     let operation = program_parts::operation(run_moves::word_at(program, run.at));
     if run.moves == MOVES_LIMIT {
         return run_next_token::at_limit(operation, run, kinds, limits);
     }
     if operation == operations::PREDICT {
-        return predict_next(registers, places, program, run, kinds, limits);
+        return predict_next(registers, places, program, notes, run, kinds, limits);
     }
     if operation == operations::READ {
         return read_next(registers, places, program, run, kinds, values, limits);
@@ -120,7 +132,7 @@ fn last(
         return run_remove::test(registers, places, program, run);
     }
     if operation == operations::REMOVE {
-        return run_remove::remove(registers, places, program, run);
+        return run_remove::remove(registers, places, program, notes, run);
     }
     run_next_token::nothing_next(run, kinds, limits)
 }
@@ -130,17 +142,28 @@ pub fn turn(
     registers: &mut [i64],
     places: &mut [u32],
     program: &[u32],
+    notes: &mut [usize],
     run: Run,
     kinds: &[u8],
     values: &[i32],
     limits: Limits,
 ) -> Onward
-    requires { ⌜ Fed (limits .bound) (now program) (now registers) (now places) run (now kinds) (now values) × (limits .from ≤ run .tokens) ⌝ }
-    ensures { λ r. ⌜ TurnsOn (limits .bound) (limits .most) (now (program .entry)) (now (kinds .entry)) (now (values .entry)) (run .tokens - limits .from) (now (registers .entry)) (now (places .entry)) run (now (registers .exit)) (now (places .exit)) r ⌝ }
+    requires { ⌜ Fed (limits .bound) (now program) (now registers) (now places) run (now kinds) (now values) × (limits .from ≤ run .tokens) × Notes (now program) (now notes) ⌝ }
+    ensures { λ r. ⌜ TurnsOn (limits .bound) (limits .most) (now (program .entry)) (now (kinds .entry)) (now (values .entry)) (run .tokens - limits .from) (now (registers .entry)) (now (places .entry)) run (now (registers .exit)) (now (places .exit)) r
+        × Notes (now (program .entry)) (now (notes .exit)) ⌝ }
 {
     match prepared(registers, program, run) {
         Onward::Over(at, n) => Onward::Over(at, n),
-        Onward::Going(next) => match last(registers, places, program, next, kinds, values, limits) {
+        Onward::Going(next) => match last(
+            registers,
+            places,
+            program,
+            notes,
+            next,
+            kinds,
+            values,
+            limits,
+        ) {
             Step::Blocked(n) => Onward::Over(next, n),
             Step::Moved(after) => Onward::Going(after),
         },

@@ -28,7 +28,7 @@ use Rattle.meaning_sheet.specs.SheetCalls.{SheetEffect, sheetEffect, sheeted, t
 use Rattle.theory_base.specs.Members.{true→T}
 use Rattle.theory_base.specs.Feeds.{leaves-of}
 use Rattle.theory_answers.specs.ShapeMemory.{result-ranged}
-use Rattle.theory_program.specs.Parts.{headOperation}
+use Rattle.theory_program.specs.Parts.{headOperation, predictOperation, removeOperation}
 use Rattle.theory_program.specs.Addresses.{Begins}
 use Rattle.theory_program.specs.Code.{operation}
 use Rattle.theory_program.specs.Records.{segment-words}
@@ -55,7 +55,7 @@ use Rattle.sheet.specs.Opening.{firstRun, start-size, opened-held}
 removing : {g : Grammar} {o : Open} {n : ℕ} {pt : Point} → Due g o (remove n) pt → GoodNode g o pt → o .production < length (g .productions)
 removing (removes ss) gn = gn .1 .3
 
-module _ {g : Grammar} {ws : List ℕ} {lent : Lent} {tokens : List Leaf} {m : List ℤ} {ps : List ℕ} {run : Run} {c : Config} (f : Forest) (h : Held g ws lent m ps run c) (s : Stand g tokens (withChildren segment-node f) [] c) (l : 5 ≤ headOperation (getD ws (run .at) 0)) where
+module _ {g : Grammar} {ws : List ℕ} {lent : Lent} {tokens : List Leaf} {m : List ℤ} {ps : List ℕ} {run : Run} {c : Config} (f : Forest) (h : Held g ws lent m ps run c) (s : Stand g tokens (withChildren segment-node f) [] c) (l : removeOperation ≤ headOperation (getD ws (run .at) 0)) where
   pub over-whole : (below : List Frame) × (c .frames ≡ frame whole [] ∷ below)
   over-whole = go (at-hand h)
     where
@@ -159,10 +159,10 @@ abbrev firstOperation : List Frame → ℕ
 firstOperation [] = 0
 firstOperation (f ∷ fs) = elim (f .rest) as (λ z. ℕ) [ [] ↦ 0 | i ∷ is ↦ operation i ]
 
-first-three : {g : Grammar} {ws : List ℕ} {lent : Lent} {m : List ℤ} {ps : List ℕ} {run : Run} → Held g ws lent m ps run (opening g) → headOperation (getD ws (run .at) 0) ≡ 3
+first-three : {g : Grammar} {ws : List ℕ} {lent : Lent} {m : List ℤ} {ps : List ℕ} {run : Run} → Held g ws lent m ps run (opening g) → headOperation (getD ws (run .at) 0) ≡ predictOperation
 first-three {g} {ws} {run = run} h = go (at-hand h)
   where
-    go : AtHand h → headOperation (getD ws (run .at) 0) ≡ 3
+    go : AtHand h → headOperation (getD ws (run .at) 0) ≡ predictOperation
     go (some i x o n) = o ∙ sym (ap firstOperation (x .frames))
     go (nothing below e w l) = absurd (let z : _≡_ {A = ℕ} 3 0 = ap firstOperation e in omega arith)
 
@@ -219,14 +219,14 @@ module _ (ws ks : List ℕ) (vs m : List ℤ) (ps sheet₀ : List ℕ) (few : le
 
         module _ (run : Run) (end : ℕ) (n : NodeDone ws ks vs m′ ps′ (firstRun (getD ws 4 0)) 0 sheet₀ m₂ ps₂ sheet (Walked.Left run end)) (rests : isInside (headOperation (getD ws (run .at) 0)) ≡ false) where
           -- the whole segment has one child
-          passed-over : (g : Grammar) → Begins g ws → WellFormed g → 5 ≤ headOperation (getD ws (run .at) 0)
-          passed-over g b f = go (leb 5 (headOperation (getD ws (run .at) 0))) refl
+          passed-over : (g : Grammar) → Begins g ws → WellFormed g → removeOperation ≤ headOperation (getD ws (run .at) 0)
+          passed-over g b f = go (leb removeOperation (headOperation (getD ws (run .at) 0))) refl
             where
-              go : (q : Bool) → leb 5 (headOperation (getD ws (run .at) 0)) ≡ q → 5 ≤ headOperation (getD ws (run .at) 0)
-              go true z = leb-true 5 (headOperation (getD ws (run .at) 0)) z
+              go : (q : Bool) → leb removeOperation (headOperation (getD ws (run .at) 0)) ≡ q → removeOperation ≤ headOperation (getD ws (run .at) 0)
+              go true z = leb-true removeOperation (headOperation (getD ws (run .at) 0)) z
               go false z =
                   let x = n g lentHere (opening g) segment-node [] even four (first-held g b f) (opening-stands g f (tokensAs g ks vs)) in
-                  let y = at-look (rests-look (headOperation (getD ws (run .at) 0)) rests (leb-false 5 (headOperation (getD ws (run .at) 0)) z)) (x .held) in
+                  let y = at-look (rests-look (headOperation (getD ws (run .at) 0)) rests (leb-false removeOperation (headOperation (getD ws (run .at) 0)) z)) (x .held) in
                   absurd (omega (arith, symbol-left g (x .held .wellFormed) lentHere (tokensAs g ks vs) (leaves-of g ks vs four) (x .to) (x .stand) (y .0) (y .1 .frames) (y .2) (y .3)))
 
           listed : (g : Grammar) → Begins g ws → WellFormed g → Listed g ws lentHere (tokensAs g ks vs) (opening g) segment-node [] 0 sheet₀ m₂ ps₂ sheet run end

@@ -2,7 +2,7 @@
 use Prim.Native.Nat.{ℕ, zero, suc, _≤_, _<_}
 use native.Mathlib.Omega.{arith}
 use mathlib.Core.Path.{_≡_, refl, sym, ap, _∙_, subst}
-use mathlib.Core.Bool.{Bool, true, false, _&&_, _||_}
+use mathlib.Core.Bool.{Bool, true, false, _&&_, _||_, and-false}
 use mathlib.Core.List.{List, [], _∷_}
 use lib.ListN.{length, getD, drop, drop-of-length-le}
 use lib.Dec.{T, eqb}
@@ -20,7 +20,7 @@ use Rattle.theory_base.specs.Members.{both}
 use Rattle.theory_base.specs.Feeds.{leaves-of, leaves-length}
 use Rattle.theory_answers.specs.Bounds.{counts}
 use Rattle.theory_answers.specs.ShapeMoves.{IsAhead}
-use Rattle.theory_program.specs.Parts.{headOperation}
+use Rattle.theory_program.specs.Parts.{headOperation, addOperation, evaluateOperation, readOperation, predictOperation, testOperation, removeOperation, nothingOperation}
 use Rattle.theory_program.specs.Code.{operation}
 use Rattle.theory_program.specs.Records.{segment-words}
 use Rattle.theory_sheet.specs.Whole.{Failing, fails-behind}
@@ -34,17 +34,18 @@ use Rattle.run_moves.specs.Passing.{comingOf}
 use Rattle.run_machine.specs.Advancing.{Running}
 use Rattle.run_looking.specs.Judging.{valueAt}
 use Rattle.run_machine.specs.Feeding.{comesTo, comes-is, comes-ahead}
+use Rattle.run_next_token.specs.Coming.{tokens-turn, tokens-few}
 use Rattle.sheet_moves.specs.Trying.{Tried, Tries}
 
 -- ---- the operations
 
 -- add, evaluate, test
 abbrev pub isInside : ℕ → Bool
-isInside k = eqb k 0 || (eqb k 1 || eqb k 4)
+isInside k = eqb k addOperation || (eqb k evaluateOperation || eqb k testOperation)
 
 -- read, predict
 abbrev pub isLook : ℕ → Type 0
-isLook k = (2 ≤ k) × (k ≤ 3)
+isLook k = (readOperation ≤ k) × (k ≤ predictOperation)
 
 inside-is : (i : Instruction) → isInside (operation i) ≡ inside i
 inside-is (add n) = refl
@@ -54,13 +55,13 @@ inside-is (remove n) = refl
 inside-is (expect (terminal t)) = refl
 inside-is (expect (nonterminal n)) = refl
 
-pub inside-few : (k : ℕ) → isInside k ≡ true → k ≤ 5
-inside-few k e = go (eqb k 0) refl (eqb k 1) refl (eqb k 4) refl e
+pub inside-few : (k : ℕ) → isInside k ≡ true → k ≤ removeOperation
+inside-few k e = go (eqb k addOperation) refl (eqb k evaluateOperation) refl (eqb k testOperation) refl e
   where
-    go : (a : Bool) → eqb k 0 ≡ a → (b : Bool) → eqb k 1 ≡ b → (d : Bool) → eqb k 4 ≡ d → a || (b || d) ≡ true → k ≤ 5
-    go true x b y d z h = omega (arith, eqb-true k 0 x)
-    go false x true y d z h = omega (arith, eqb-true k 1 y)
-    go false x false y true z h = omega (arith, eqb-true k 4 z)
+    go : (a : Bool) → eqb k addOperation ≡ a → (b : Bool) → eqb k evaluateOperation ≡ b → (d : Bool) → eqb k testOperation ≡ d → a || (b || d) ≡ true → k ≤ removeOperation
+    go true x b y d z h = omega (arith, eqb-true k addOperation x)
+    go false x true y d z h = omega (arith, eqb-true k evaluateOperation y)
+    go false x false y true z h = omega (arith, eqb-true k testOperation z)
     go false x false y false z h = absurd (subst T (sym h) tt)
 
 look-is : (i : Instruction) → isLook (operation i) → (x : Symbol) × (i ≡ expect x)
@@ -159,7 +160,7 @@ module _ {ws : List ℕ} {m₀ : List ℤ} {ps₀ : List ℕ} {run₀ : Run} {m 
         go (some i x o n) = (i, x, sym (inside-is i) ∙ (ap isInside (sym o) ∙ e))
         go (nothing below f w l) = absurd (subst T (sym e ∙ ap isInside six) tt)
           where
-            six : headOperation (getD ws (run .at) 0) ≡ 6
+            six : headOperation (getD ws (run .at) 0) ≡ nothingOperation
             six = omega arith
 
     pub going-on : (m′ : List ℤ) (ps′ : List ℕ) (run′ : Run) → Tries ws m ps run ends m′ ps′ (Stopped run′) → Going ws m₀ ps₀ run₀ m′ ps′ run′
@@ -200,21 +201,10 @@ SteppedAs g ws lent tokens c m ps (Failed run k) = Refused g ws lent tokens c m 
 abbrev pub Steps : List ℕ → List ℕ → List ℤ → List ℤ → List ℕ → Run → List ℤ → List ℕ → Ended.Ended → Type 0
 Steps ws ks vs m₀ ps₀ run₀ m ps e = (g : Grammar) (lent : Lent) (c : Config) (o : Open) (bs : List Ancestor) → length ks ≡ length vs → T (all fourBytes vs) → Held g ws lent m₀ ps₀ run₀ c → Stand g (tokensAs g ks vs) o bs c → SteppedAs g ws lent (tokensAs g ks vs) c m ps e
 
-tokens-turn : (us : List ℕ) (vs : List ℤ) (i : ℕ) → length us ≡ length vs → i < length us → drop i (tokensFrom us vs) ≡ record { kind = getD us i 0; value = getD vs i (pos 0) } ∷ drop (suc i) (tokensFrom us vs)
-tokens-turn [] vs i e l = absurd (omega arith)
-tokens-turn (u ∷ us) [] i e l = absurd (omega arith)
-tokens-turn (u ∷ us) (v ∷ vs) zero e l = refl
-tokens-turn (u ∷ us) (v ∷ vs) (suc i) e l = tokens-turn us vs i (omega arith) (omega arith)
-
 leaves-drop : (g : Grammar) (i : ℕ) (ts : List Token) → drop i (leaves g ts) ≡ leaves g (drop i ts)
 leaves-drop g zero ts = refl
 leaves-drop g (suc i) [] = refl
 leaves-drop g (suc i) (t ∷ ts) = leaves-drop g i ts
-
-tokens-size : (ks : List ℕ) (vs : List ℤ) → length (tokensFrom ks vs) ≤ length ks
-tokens-size [] vs = omega arith
-tokens-size (k ∷ ks) [] = omega arith
-tokens-size (k ∷ ks) (v ∷ vs) = omega (arith, tokens-size ks vs)
 
 pub four-at : (vs : List ℤ) (i : ℕ) → T (all fourBytes vs) → T (fourBytes (getD vs i (pos 0)))
 four-at [] i t = tt
@@ -224,7 +214,7 @@ four-at (v ∷ vs) (suc i) t = four-at vs i (both (fourBytes v) (all fourBytes v
 module _ (ks : List ℕ) (vs : List ℤ) (g : Grammar) where
   -- no token is left
   pub none-left : (n : ℕ) → length ks ≤ n → drop n (tokensAs g ks vs) ≡ []
-  none-left n l = drop-of-length-le (tokensAs g ks vs) {i = n} (omega (arith, leaves-length g (tokensFrom ks vs), tokens-size ks vs, l))
+  none-left n l = drop-of-length-le (tokensAs g ks vs) {i = n} (omega (arith, leaves-length g (tokensFrom ks vs), tokens-few ks vs, l))
 
   abbrev pub leafHere : ℕ → Leaf
   leafHere n = leafOf g (record { kind = getD ks n 0; value = getD vs n (pos 0) })
@@ -246,11 +236,7 @@ module _ {ws : List ℕ} {m₀ : List ℤ} {ps₀ : List ℕ} {run₀ : Run} (lo
     look-waits = let a = at-look in ap waits (a .1 .frames) ∙ ap (λ j. waits (frame (a .1 .production) (j ∷ a .1 .rest) ∷ a .1 .below)) (a .3)
 
     unfinished : isFinished c ≡ false
-    unfinished = let a = at-look in ap (λ fs. elim fs as (λ z. Bool) [ [] ↦ false | f ∷ gs ↦ eqb (f .production) whole && isEmpty (f .rest) ]) (a .1 .frames) ∙ never (eqb (a .1 .production) whole)
-      where
-        never : (b : Bool) → b && false ≡ false
-        never true = refl
-        never false = refl
+    unfinished = let a = at-look in ap (λ fs. elim fs as (λ z. Bool) [ [] ↦ false | f ∷ gs ↦ eqb (f .production) whole && isEmpty (f .rest) ]) (a .1 .frames) ∙ and-false (eqb (a .1 .production) whole)
 
     -- by what is let through, and the move that was tried
     stepped : {o : Open} {bs : List Ancestor} (tokens : List Leaf) (l : Coming) (m : List ℤ) (ps : List ℕ) (e : Ended.Ended) → T (all (isLeafOf g) tokens)

@@ -2,7 +2,7 @@
 ghost use Prim.Native.Nat.{_≤_, _<_};
 ghost use mathlib.Core.Path.{_≡_};
 ghost use lib.ListN.{getD};
-ghost use Rattle.theory_program.specs.Parts.{headOperation};
+ghost use Rattle.theory_program.specs.Parts.{headOperation, removeOperation};
 ghost use Rattle.run_moves.specs.Passing.{comingOf};
 ghost use Rattle.run_one_move.specs.Facing.{Facing};
 ghost use Rattle.sheet_moves.specs.Trying.{Tries};
@@ -24,7 +24,7 @@ pub fn made(
     look: usize,
     value: i64,
 ) -> Ended
-    requires { ⌜ Facing (now program) (now registers) (now places) run look value × (headOperation (getD (now program) (run .at) 0) ≤ 5) × (look < 64) ⌝ }
+    requires { ⌜ Facing (now program) (now registers) (now places) run look value × (headOperation (getD (now program) (run .at) 0) ≤ removeOperation) × (look < 64) ⌝ }
     ensures { λ r. ⌜ Tries (now (program .entry)) (now (registers .entry)) (now (places .entry)) run (comingOf look value) (now (registers .exit)) (now (places .exit)) r ⌝ }
 {
     if run.moves == MOVES_LIMIT {

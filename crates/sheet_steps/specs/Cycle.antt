@@ -21,7 +21,7 @@ use Rattle.meaning_sheet.specs.Sheet.{recordBytes, sheet, sheets}
 use Rattle.theory_base.specs.WellFormed.{well-formed-at}
 use Rattle.theory_base.specs.Feeds.{leaves-of}
 use Rattle.theory_answers.specs.Bounds.{counts}
-use Rattle.theory_program.specs.Parts.{headOperation, headOperand}
+use Rattle.theory_program.specs.Parts.{headOperation, headOperand, readOperation, predictOperation, removeOperation}
 use Rattle.theory_program.specs.Proper.{att-most}
 use Rattle.theory_program.specs.Code.{low-operation}
 use Rattle.theory_sound.specs.MovesKeepPart.{nodeOf, withChild, waitingAt}
@@ -60,7 +60,7 @@ pub record Listed (g : Grammar) (ws : List ℕ) (lent : Lent) (tokens : List Lea
   pub isEnd : end ≡ k + length (sheets (c .tokens) trees)
   pub written : sheet₁ ≡ overlay k (sheets (c .tokens) trees) sheet₀
   pub room : end + 76 * c .moves ≤ k + 76 * to .moves
-  pub over : 5 ≤ headOperation (getD ws (run .at) 0)
+  pub over : removeOperation ≤ headOperation (getD ws (run .at) 0)
 
 abbrev pub NodedAs : Grammar → List ℕ → Lent → List Leaf → Config → Open → List Ancestor → ℕ → List ℕ → List ℤ → List ℕ → List ℕ → Walked → Type 0
 NodedAs g ws lent tokens c o bs k sheet₀ m ps sheet₁ (Left run end) = Noded g ws lent tokens c o bs k sheet₀ m ps sheet₁ run end
@@ -91,7 +91,7 @@ pub record ListAt (ws ks : List ℕ) (vs m : List ℤ) (ps : List ℕ) (run : Ru
 -- which waits at a nonterminal
 pub record NodeAt (ws ks : List ℕ) (vs m : List ℤ) (ps : List ℕ) (run : Run) (k : ℕ) : Type 0 where
   pub walking : Walking ws ks vs m ps run
-  pub three : headOperation (getD ws (run .at) 0) ≡ 3
+  pub three : headOperation (getD ws (run .at) 0) ≡ predictOperation
   pub room : k ≤ 76 * run .moves
   pub few : length m ≤ registersLimit
 
@@ -101,7 +101,7 @@ same-count : {g : Grammar} {tokens : List Leaf} {o : Open} {bs : List Ancestor} 
 same-count s t = sym (t .count) ∙ s .count
 
 -- no child is left
-pub none-listed : {ws : List ℕ} (ks : List ℕ) (vs m : List ℤ) (ps : List ℕ) (run : Run) (k : ℕ) (sheet₀ : List ℕ) → 5 ≤ headOperation (getD ws (run .at) 0) → ListDone ws ks vs m ps run k sheet₀ m ps sheet₀ (Left run k)
+pub none-listed : {ws : List ℕ} (ks : List ℕ) (vs m : List ℤ) (ps : List ℕ) (run : Run) (k : ℕ) (sheet₀ : List ℕ) → removeOperation ≤ headOperation (getD ws (run .at) 0) → ListDone ws ks vs m ps run k sheet₀ m ps sheet₀ (Left run k)
 none-listed ks vs m ps run k sheet₀ l g lent c o bs even four h s = record { to = c; trees = noTrees; held = h; stand = s; same = refl; isEnd = omega arith; written = sym (overlay-none k sheet₀); room = omega arith; over = l }
 
 module _ {ws : List ℕ} (ks : List ℕ) (vs : List ℤ) {m₀ : List ℤ} {ps₀ : List ℕ} {run₀ : Run} (k : ℕ) (sheet₀ : List ℕ) where
@@ -148,7 +148,7 @@ module _ {ws ks : List ℕ} {vs m₀ : List ℤ} {ps₀ : List ℕ} {run₀ : Ru
   abbrev g : Grammar
   g = w₀ .grammar
 
-  pub list-node-at : headOperation (getD ws (run₀ .at) 0) ≡ 3 → NodeAt ws ks vs m₀ ps₀ run₀ k
+  pub list-node-at : headOperation (getD ws (run₀ .at) 0) ≡ predictOperation → NodeAt ws ks vs m₀ ps₀ run₀ k
   list-node-at three = record { walking = w₀; three = three; room = q .room; few = q .few }
 
   pub list-symbols : isLook (headOperation (getD ws (run₀ .at) 0)) → 1 ≤ symbols
@@ -214,7 +214,7 @@ abbrev pub Enters : List ℕ → List ℕ → List ℤ → List ℤ → List ℕ
 Enters ws ks vs m₀ ps₀ run₀ k m ps w = (g : Grammar) (lent : Lent) (c : Config) (o : Open) (bs : List Ancestor) → length ks ≡ length vs → T (all fourBytes vs) → Held g ws lent m₀ ps₀ run₀ c → Stand g (tokensAs g ks vs) o bs c → EnteredAs g ws lent (tokensAs g ks vs) c o bs k m ps w
 
 abbrev pub Passes : List ℕ → List ℕ → List ℤ → List ℤ → List ℕ → Run → ℕ → List ℤ → List ℕ → Walked → Type 0
-Passes ws ks vs m₀ ps₀ run₀ k m ps w = (headOperation (getD ws (run₀ .at) 0) ≡ 2 → (sheet₀ : List ℕ) → NodeDone ws ks vs m₀ ps₀ run₀ k sheet₀ m ps sheet₀ w) × (headOperation (getD ws (run₀ .at) 0) ≡ 3 → Enters ws ks vs m₀ ps₀ run₀ k m ps w)
+Passes ws ks vs m₀ ps₀ run₀ k m ps w = (headOperation (getD ws (run₀ .at) 0) ≡ readOperation → (sheet₀ : List ℕ) → NodeDone ws ks vs m₀ ps₀ run₀ k sheet₀ m ps sheet₀ w) × (headOperation (getD ws (run₀ .at) 0) ≡ predictOperation → Enters ws ks vs m₀ ps₀ run₀ k m ps w)
 
 module _ {ws : List ℕ} (ks : List ℕ) (vs : List ℤ) {m₀ : List ℤ} {ps₀ : List ℕ} {run₀ : Run} where
   pub pass-fails : (m : List ℤ) (ps : List ℕ) (run : Run) (j : ℕ) → Steps ws ks vs m₀ ps₀ run₀ m ps (E.Failed run j) → (k : ℕ) → Passes ws ks vs m₀ ps₀ run₀ k m ps (Failed run j)
@@ -222,14 +222,14 @@ module _ {ws : List ℕ} (ks : List ℕ) (vs : List ℤ) {m₀ : List ℤ} {ps�
 
   module _ (m₁ : List ℤ) (ps₁ : List ℕ) (run₁ : Run) (a : Steps ws ks vs m₀ ps₀ run₀ m₁ ps₁ (E.Stopped run₁)) where
     -- the token that was read is a child
-    read-at : headOperation (getD ws (run₀ .at) 0) ≡ 2 → (k : ℕ) (sheet₀ : List ℕ) → NodeDone ws ks vs m₀ ps₀ run₀ k sheet₀ m₁ ps₁ sheet₀ (Left run₁ k)
+    read-at : headOperation (getD ws (run₀ .at) 0) ≡ readOperation → (k : ℕ) (sheet₀ : List ℕ) → NodeDone ws ks vs m₀ ps₀ run₀ k sheet₀ m₁ ps₁ sheet₀ (Left run₁ k)
     read-at two k sheet₀ g lent c o bs even four h s =
         let x = a g lent c o bs even four h s in
         let i = hand-terminal h two in
         let r = read-on g (h .wellFormed) lent (tokensAs g ks vs) (leaves-of g ks vs four) c s _ (i .frames) (headOperand (getD ws (run₀ .at) 0)) refl (x .to) (x .made) in
         record { to = x .to; tree = leaf (r .0); held = x .held; stand = r .1; same = x .same; isEnd = omega arith; written = sym (overlay-none k sheet₀); room = omega (arith, counts g lent (lookAt (comingTo c (tokensAs g ks vs))) c (x .to) (x .made) .moves) }
 
-    entered-at-once : headOperation (getD ws (run₀ .at) 0) ≡ 3 → (g : Grammar) (lent : Lent) (c : Config) (o : Open) (bs : List Ancestor)
+    entered-at-once : headOperation (getD ws (run₀ .at) 0) ≡ predictOperation → (g : Grammar) (lent : Lent) (c : Config) (o : Open) (bs : List Ancestor)
         → length ks ≡ length vs → T (all fourBytes vs) → Held g ws lent m₀ ps₀ run₀ c → Stand g (tokensAs g ks vs) o bs c → Entered g ws lent (tokensAs g ks vs) c o bs m₁ ps₁ run₁
     entered-at-once three g lent c o bs even four h s =
         let x = a g lent c o bs even four h s in
@@ -251,11 +251,11 @@ module _ {ws : List ℕ} (ks : List ℕ) (vs : List ℤ) {m₀ : List ℤ} {ps�
 
     -- a node stands in progress after it
     pub step-stood : isLook (headOperation (getD ws (run₀ .at) 0)) → Walking ws ks vs m₀ ps₀ run₀ → Stood ws m₁ ps₁ run₁
-    step-stood look w = go (eqb (headOperation (getD ws (run₀ .at) 0)) 3) refl
+    step-stood look w = go (eqb (headOperation (getD ws (run₀ .at) 0)) predictOperation) refl
       where
-        go : (b : Bool) → eqb (headOperation (getD ws (run₀ .at) 0)) 3 ≡ b → Stood ws m₁ ps₁ run₁
+        go : (b : Bool) → eqb (headOperation (getD ws (run₀ .at) 0)) predictOperation ≡ b → Stood ws m₁ ps₁ run₁
         go true z =
-            let x = entered-at-once (eqb-true (headOperation (getD ws (run₀ .at) 0)) 3 z) (w .grammar) (w .lent) (w .config) (w .node) (w .below) (w .even) (w .four) (w .held) (w .stand) in
+            let x = entered-at-once (eqb-true (headOperation (getD ws (run₀ .at) 0)) predictOperation z) (w .grammar) (w .lent) (w .config) (w .node) (w .below) (w .even) (w .four) (w .held) (w .stand) in
             record {
               grammar = w .grammar;
               lent = w .lent;
@@ -268,13 +268,13 @@ module _ {ws : List ℕ} (ks : List ℕ) (vs : List ℤ) {m₀ : List ℤ} {ps�
               stand = x .stand;
             }
         go false z =
-            let x = read-at (omega (arith, look .0, look .1, eqb-false (headOperation (getD ws (run₀ .at) 0)) 3 z)) 0 [] (w .grammar) (w .lent) (w .config) (w .node) (w .below) (w .even) (w .four) (w .held) (w .stand) in
+            let x = read-at (omega (arith, look .0, look .1, eqb-false (headOperation (getD ws (run₀ .at) 0)) predictOperation z)) 0 [] (w .grammar) (w .lent) (w .config) (w .node) (w .below) (w .even) (w .four) (w .held) (w .stand) in
             record { grammar = w .grammar; lent = w .lent; tokens = tokensAs (w .grammar) ks vs; known = leaves-of (w .grammar) ks vs (w .four); config = x .to; node = withChild (w .node) (x .tree); below = w .below; held = x .held; stand = x .stand }
 
     pub pass-settles : (m : List ℤ) (ps : List ℕ) (e : Ended) → Settles ws m₁ ps₁ run₁ m ps e → (k : ℕ) → Passes ws ks vs m₀ ps₀ run₀ k m ps (walkedAs e k)
     pass-settles m ps e b k = (passed, entered)
       where
-        passed : headOperation (getD ws (run₀ .at) 0) ≡ 2 → (sheet₀ : List ℕ) → NodeDone ws ks vs m₀ ps₀ run₀ k sheet₀ m ps sheet₀ (walkedAs e k)
+        passed : headOperation (getD ws (run₀ .at) 0) ≡ readOperation → (sheet₀ : List ℕ) → NodeDone ws ks vs m₀ ps₀ run₀ k sheet₀ m ps sheet₀ (walkedAs e k)
         passed two sheet₀ g lent c o bs even four h s =
             let x = read-at two k sheet₀ g lent c o bs even four h s in
             go e x (b g lent (tokensAs g ks vs) (x .to) (withChild o (x .tree)) bs (leaves-of g ks vs four) (x .held) (x .stand))
@@ -283,7 +283,7 @@ module _ {ws : List ℕ} (ks : List ℕ) (vs : List ℤ) {m₀ : List ℤ} {ps�
             go (E.Failed run j) x z = refused-from (x .same) z
             go (E.Stopped run) x z = record { to = z .0 .to; tree = x .tree; held = z .0 .held; stand = z .0 .stand; same = x .same ∙ z .0 .same; isEnd = x .isEnd; written = x .written; room = omega (arith, x .room, z .0 .later) }
 
-        entered : headOperation (getD ws (run₀ .at) 0) ≡ 3 → Enters ws ks vs m₀ ps₀ run₀ k m ps (walkedAs e k)
+        entered : headOperation (getD ws (run₀ .at) 0) ≡ predictOperation → Enters ws ks vs m₀ ps₀ run₀ k m ps (walkedAs e k)
         entered three g lent c o bs even four h s =
             let x = entered-at-once three g lent c o bs even four h s in
             go e x (b g lent (tokensAs g ks vs) (x .to) (nodeOf (x .production) (x .inherited) []) (waitingAt o (x .symbol) (x .ahead) ∷ bs) (leaves-of g ks vs four) (x .held) (x .stand))
@@ -345,13 +345,13 @@ module _ {ws : List ℕ} (ks : List ℕ) (vs : List ℤ) {m₀ : List ℤ} {ps�
 
 -- only a remove is left of a node on another
 pub five-of : {g : Grammar} {ws : List ℕ} {lent : Lent} {tokens : List Leaf} {m : List ℤ} {ps : List ℕ} {run : Run} {c : Config} {o : Open} {b : Ancestor} {bs : List Ancestor}
-    → Held g ws lent m ps run c → Stand g tokens o (b ∷ bs) c → 5 ≤ headOperation (getD ws (run .at) 0) → headOperation (getD ws (run .at) 0) ≡ 5
+    → Held g ws lent m ps run c → Stand g tokens o (b ∷ bs) c → removeOperation ≤ headOperation (getD ws (run .at) 0) → headOperation (getD ws (run .at) 0) ≡ removeOperation
 five-of {g} {ws} {run = run} {c = c} {o = o} h s l = go (at-hand h)
   where
     first : {a b : ℕ} {x y : List Instruction} {fs gs : List Frame} → frame a x ∷ fs ≡ frame b y ∷ gs → a ≡ b
     first {a} {b} {x} {y} {fs} {gs} e = ap (λ z. topProduction z) e
 
-    go : AtHand h → headOperation (getD ws (run .at) 0) ≡ 5
+    go : AtHand h → headOperation (getD ws (run .at) 0) ≡ removeOperation
     go (some i x k n) = omega (arith, l, k, low-operation i)
     go (nothing below f w z) = absurd (omega (arith, first (s .frames ∙ f), s .good .stands .0, h .wellFormed .productions .1))
 
@@ -402,7 +402,7 @@ module _ {ws : List ℕ} (ks : List ℕ) (vs : List ℤ) {m₀ : List ℤ} {ps�
             stand = y .stand;
           }
 
-      pub leaving-five : headOperation (getD ws (run₂ .at) 0) ≡ 5
+      pub leaving-five : headOperation (getD ws (run₂ .at) 0) ≡ removeOperation
       leaving-five = let y = listed-at in five-of (y .held) (y .stand) (y .over)
 
       pub leaving-tokens : run₀ .tokens ≤ run₂ .tokens

@@ -13,7 +13,7 @@ use Rattle.meaning.specs.Tree.{isLeafOf}
 use Rattle.meaning.specs.Part.{Open, Ancestor}
 use Rattle.theory_base.specs.Values.{treeOf}
 use Rattle.theory_answers.specs.Bounds.{counts}
-use Rattle.theory_program.specs.Parts.{headOperation, headOperand}
+use Rattle.theory_program.specs.Parts.{headOperation, headOperand, removeOperation}
 use Rattle.theory_sound.specs.MovesKeepPart.{withChild}
 use Rattle.theory_sheet.specs.Overlay.{overlay}
 use Rattle.theory_sheet.specs.NodeInProgress.{Stand}
@@ -43,7 +43,7 @@ abbrev pub Leaves : List ℕ → List ℤ → List ℕ → Run → ℕ → ℕ �
 Leaves ws m₀ ps₀ run₀ k before end sheet₀ m ps sheet w =
     (g : Grammar) (lent : Lent) (tokens : List Leaf) (c : Config) (o : Open) (b : Ancestor) (bs : List Ancestor) → T (all (isLeafOf g) tokens) → Held g ws lent m₀ ps₀ run₀ c → Stand g tokens o (b ∷ bs) c → LeftAs g ws lent tokens c o b bs run₀ k before end sheet₀ m ps sheet w
 
-module _ {ws : List ℕ} {m₀ : List ℤ} {ps₀ : List ℕ} {run₀ : Run} (five : headOperation (getD ws (run₀ .at) 0) ≡ 5) (k before : ℕ) (sheet₀ sheet : List ℕ) where
+module _ {ws : List ℕ} {m₀ : List ℤ} {ps₀ : List ℕ} {run₀ : Run} (five : headOperation (getD ws (run₀ .at) 0) ≡ removeOperation) (k before : ℕ) (sheet₀ sheet : List ℕ) where
   pub left-fails : (m : List ℤ) (ps : List ℕ) (run : Run) (j : ℕ) → Tries ws m₀ ps₀ run₀ ends m ps (Failed run j) → (end : ℕ) → Leaves ws m₀ ps₀ run₀ k before end sheet₀ m ps sheet (W.Failed run j)
   left-fails m ps run j a end g lent tokens c o b bs known h s =
       let t = a g lent c h tt in

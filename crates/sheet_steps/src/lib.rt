@@ -3,7 +3,7 @@ ghost use Prim.Native.Nat.{ℕ, _≤_, _<_};
 ghost use mathlib.Core.Path.{_≡_};
 ghost use lib.ListN.{length, getD};
 ghost use Rattle.meaning.specs.Limits.{registersLimit};
-ghost use Rattle.theory_program.specs.Parts.{headOperation};
+ghost use Rattle.theory_program.specs.Parts.{headOperation, removeOperation};
 ghost use Rattle.sheet_moves.specs.NodeInMemory.{Walking, isLook};
 ghost use Rattle.sheet_record.specs.Recording.{Inner};
 ghost use Rattle.sheet_steps.specs.Numbers.{runIn, stored, AnswerWritten, walkedAs, Rests};
@@ -96,7 +96,7 @@ fn depart(
     at: usize,
     before: u64,
 ) -> Ended
-    requires { ⌜ Inner (now program) (now registers) (now places) run × (headOperation (getD (now program) (run .at) 0) ≡ 5) × (at < 800000000000) × (before ≤ run .tokens) × (length (now registers) ≤ registersLimit) ⌝ }
+    requires { ⌜ Inner (now program) (now registers) (now places) run × (headOperation (getD (now program) (run .at) 0) ≡ removeOperation) × (at < 800000000000) × (before ≤ run .tokens) × (length (now registers) ≤ registersLimit) ⌝ }
     ensures { λ r. ⌜ ((end : ℕ) → Leaves (now (program .entry)) (now (registers .entry)) (now (places .entry)) run at before end (now (sheet .entry)) (now (registers .exit)) (now (places .exit)) (now (sheet .exit)) (walkedAs r end)) × ((end : ℕ) → Rests (now (program .entry)) (walkedAs r end)) ⌝ }
 {
     sheet_record::write_record(registers, places, program, sheet, run, at, before);

@@ -10,9 +10,10 @@ use Rattle.meaning.specs.Base.{any, countFrom}
 use Rattle.meaning.specs.Grammar.{Grammar, terminal, syn, attributeIf}
 use Rattle.meaning.specs.Program.{carriers}
 use Rattle.meaning.specs.Sets.{has}
-use Rattle.theory_sets.specs.Tests.{tabled, length-countFrom}
+use Rattle.theory_sets.specs.Tests.{tabled}
 use Rattle.token_set.specs.SetBits.{setOf, setOf-wide}
 use Rattle.outline.specs.Outline.{Carries}
+use Rattle.theory_base.specs.Members.{length-countFrom}
 
 module _ (word : ℕ) (g : Grammar) (c : Carries word (g .carrying)) where
   -- a terminal's one attribute

@@ -14,7 +14,6 @@ use Rattle.meaning.specs.Grammar.{Counts}
 use Rattle.meaning.specs.Sets.{has, singleton}
 use Rattle.meaning.specs.Table.{byte, Header, readField, kindOf, judgeField}
 use Rattle.theory_sets.specs.TokenSets.{has-union, has-empty, single-has, single-only}
-use Rattle.theory_sets.specs.Widths.{both-true}
 use Rattle.token_set.specs.declared.TokenSet.{TokenSet}
 use Rattle.token_set.specs.SetBits.{setOf, set-empty, set-or}
 use Rattle.table_fields.specs.Field.{Whole, Short, rest, bodyAt}
@@ -25,6 +24,7 @@ use Rattle.table_fields.proofs.Fine.{carrier-fine}
 use Rattle.table_fields.proofs.Judged.{carrier-judged}
 use Rattle.table_fields.proofs.Rest.{judged-fine, judged-refused, step-short, step-field, calm-complete, body-length, body-byte, fieldOf}
 use Rattle.outline.specs.Outline.{Carries}
+use Rattle.theory_base.specs.Members.{same-truth}
 use Rattle.table_carriers.specs.Named.{CarrierJudged, NoCarrier, CarriersRead}
 
 -- ---- one field
@@ -91,8 +91,8 @@ single-is : (t u : ℕ) → t < 64 → has (singleton t) u ≡ eqb u t
 single-is t u l = go (ℕ-discrete u t)
   where
     go : Dec (u ≡ t) → has (singleton t) u ≡ eqb u t
-    go (yes e) = both-true (has (singleton t) u) (eqb u t) (λ h. rw (eq-eqb u t e) tt) (λ h. rw e (single-has t l))
-    go (no e) = both-true (has (singleton t) u) (eqb u t) (λ h. absurd (e (single-only t u h))) (λ h. absurd (rw (ne-eqb u t e) at h))
+    go (yes e) = same-truth (has (singleton t) u) (eqb u t) (λ h. rw (eq-eqb u t e) tt) (λ h. rw e (single-has t l))
+    go (no e) = same-truth (has (singleton t) u) (eqb u t) (λ h. absurd (e (single-only t u h))) (λ h. absurd (rw (ne-eqb u t e) at h))
 
 pub carries-none : Carries 0 []
 carries-none = record { each = λ t. ap (λ s. has s t) set-empty ∙ has-empty t }

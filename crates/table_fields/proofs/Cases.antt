@@ -1,7 +1,7 @@
 -- Small facts that many proofs use.
 use Prim.Native.Nat.{ℕ, suc, _≤_, _<_}
 use mathlib.Core.Path.{_≡_, refl}
-use mathlib.Core.Bool.{Bool, true, false, _&&_}
+use mathlib.Core.Bool.{Bool, true, false}
 use mathlib.Core.Logic.{_⊎_, inl, inr}
 use native.Mathlib.Omega.{arith}
 use lib.Dec.{ltb}
@@ -16,11 +16,3 @@ lt-or-le a b = go (ltb a b) refl
 
 pub nonzero : (n : ℕ) → suc n ≡ 0 → ⊥
 nonzero n e = omega arith
-
-pub and-true : (x : Bool) → x && true ≡ x
-and-true true = refl
-and-true false = refl
-
-pub and-false : (x : Bool) → x && false ≡ false
-and-false true = refl
-and-false false = refl

@@ -5,16 +5,23 @@ use mathlib.Core.Bool.{Bool, true, false, cond}
 use mathlib.Core.List.{List}
 use lib.Dec.{eqb, leb, ltb}
 use lib.ListN.{length}
+use native.Mathlib.Omega.{arith}
 use borrow.Author.Tests.{eqb-true, leb-true, ltb-true}
 use Rattle.meaning.specs.Table.{byte}
 use Rattle.table_fields.specs.Demand.{holds, equal, atMost, below}
-use Rattle.table_fields.specs.Judge.{headerFault, countsFault, productionFault, carrierFault, symbolsKnown}
+use Rattle.table_fields.specs.Judge.{headerFault, countsFault, headFault, productionFault, carrierFault, symbolsKnown}
 use Rattle.table_fields.proofs.Cases.{nonzero}
+use Rattle.table_fields.proofs.Demands.{equal-met, atMost-met, below-met}
 
 -- a demand with number n that is met, and the demands after it
 by-test : (b : Bool) (n r : ℕ) → cond b r n ≡ 0 → (n ≡ 0 → ⊥) → (b ≡ true) × (r ≡ 0)
 by-test true n r e h = (refl, e)
 by-test false n r e h = absurd (h e)
+
+-- two lists of demands with one in front: what fails in front fails in both
+first-fails : (b : Bool) (m r s n : ℕ) → n ≡ cond b r m → (n ≡ r → n ≡ s) → n ≡ cond b s m
+first-fails true m r s n e f = f e
+first-fails false m r s n e f = e
 
 module _ {n r : ℕ} (h : n ≡ 0 → ⊥) where
   pub equal-fine : (a b : ℕ) → equal a b n r ≡ 0 → (a ≡ b) × (r ≡ 0)
@@ -54,6 +61,41 @@ module _ (b : List ℕ) where
   carrier-fine terminals least e =
       let q = equal-fine (nonzero 3) (length b) 1 e in
       (q .0, below-fine (nonzero 4) (byte b 0) terminals (q .1) .0)
+
+  pub record HeadFine (nonterminals p : ℕ) : Type 0 where
+    pub short : byte b 1 ≤ 12
+    pub long : length b ≡ 2 + byte b 1
+    pub few : p < 128
+    pub left : byte b 0 < nonterminals
+
+  pub head-fine : (nonterminals p : ℕ) → headFault nonterminals p b ≡ 0 → HeadFine nonterminals p
+  unfolding headFault
+  head-fine nonterminals p e =
+      let q = atMost-fine (nonzero 3) 2 (length b) e in
+      let u = atMost-fine (nonzero 3) (byte b 1) 12 (q .1) in
+      let v = equal-fine (nonzero 3) (length b) (2 + byte b 1) (u .1) in
+      let w = below-fine (nonzero 3) p 128 (v .1) in
+      record { short = u .0; long = v .0; few = w .0; left = below-fine (nonzero 4) (byte b 0) nonterminals (w .1) .0 }
+
+  -- without a fault before them the symbols decide
+  pub symbols-decide : (terminals nonterminals p : ℕ) → headFault nonterminals p b ≡ 0 → holds (symbolsKnown terminals nonterminals b 2) 5 0 ≡ productionFault terminals nonterminals p b
+  unfolding productionFault
+  symbols-decide terminals nonterminals p e =
+      let f = head-fine nonterminals p e in
+      atMost-met _ _ _ _ (omega (arith, f .long)) (atMost-met _ _ _ _ (f .short) (equal-met _ _ _ _ (f .long) (below-met _ _ _ _ (f .few) (below-met _ _ _ _ (f .left) refl))))
+
+  -- else the fault before them is the whole one's
+  pub head-decides : (terminals nonterminals p n : ℕ) → n ≡ headFault nonterminals p b → (n ≡ 0 → ⊥) → n ≡ productionFault terminals nonterminals p b
+  unfolding headFault productionFault atMost equal below
+  head-decides terminals nonterminals p n e z =
+      first-fails (leb 2 (length b)) 4 _ _ n e
+      (λ f.
+      first-fails (leb (byte b 1) 12) 4 _ _ n f
+      (λ g.
+      first-fails (eqb (length b) (2 + byte b 1)) 4 _ _ n g
+      (λ h.
+      first-fails (ltb p 128) 4 _ _ n h
+      (λ i. first-fails (ltb (byte b 0) nonterminals) 5 _ _ n i (λ j. absurd (z j))))))
 
   pub record ProductionFine (terminals nonterminals p : ℕ) : Type 0 where
     pub short : byte b 1 ≤ 12

@@ -10,3 +10,7 @@ pub mod Fine
 pub mod Rest
 -- The faults of tags 1 to 3 and 6 are those that 01's table gives
 pub mod Judged
+-- Whether a symbol is known, by its byte
+pub mod Symbols
+-- A list of tests with their numbers: the number of the first that fails, or what comes after them where all are met
+pub mod Tests

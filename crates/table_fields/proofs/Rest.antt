@@ -1,7 +1,7 @@
 -- Reading from an offset on, one field at a time.
 use Prim.Native.Nat.{ℕ, suc, _+_, _-_, _*_, _≤_, _<_}
 use mathlib.Core.Path.{_≡_, refl, sym, _∙_, ap, ap₂}
-use mathlib.Core.Bool.{Bool, true, false, _&&_, not, true≢false}
+use mathlib.Core.Bool.{Bool, true, false, _&&_, not, true≢false, and-false}
 use mathlib.Core.List.{List}
 use native.Mathlib.Omega.{arith}
 use lib.Dec.{eqb, leb}
@@ -12,7 +12,7 @@ use Rattle.meaning.specs.Limits.{tableLimit}
 use Rattle.meaning.specs.Table.{byte, State, Field, Read, malformed, readAll, readTable, atEnd, lastComplete, current, judgeField, readField, kindOf, nothingRead}
 use Rattle.theory_table.specs.Reading.{read-enough}
 use Rattle.table_fields.specs.Field.{lengthAt, bodyAt, Whole, Short, rest, judged}
-use Rattle.table_fields.proofs.Cases.{nonzero, and-false}
+use Rattle.table_fields.proofs.Cases.{nonzero}
 
 abbrev sizeIn : List ℕ → ℕ
 sizeIn bs = byte bs 0 * 256 + byte bs 1
@@ -111,16 +111,16 @@ module _ (t : List ℕ) (s : State) (at : ℕ) (inside : at < length t) where
         ap₂
         (λ (a b : Bool). a && b)
         (le-leb 2 (length tail) (omega (arith, w .inside, length-tail)))
-        (le-leb (sizeIn tail) (length tail - 2) (omega (arith, w .inside, w .told, size-in, length-tail)))
+        (le-leb (sizeIn tail) (length tail - 2) (omega (arith, w .inside, w .sizeIs, size-in, length-tail)))
 
     same-body : take (sizeIn tail) (drop 2 tail) ≡ bodyAt t at size
-    same-body = ap₂ take (size-in ∙ sym (w .told)) body-in
+    same-body = ap₂ take (size-in ∙ sym (w .sizeIs)) body-in
 
     same-after : after ≡ rest t (readField s at (kindOf (byte t at)) (bodyAt t at size)) (at + 3 + size)
     unfolding rest
     same-after =
-        ap₂ (λ b i. readAll (length t - at) (readField s at (kindOf (byte t at)) b) i (drop (2 + sizeIn tail) tail)) same-body (omega (arith, size-in, w .told))
-        ∙ ap (λ l. readAll (length t - at) (readField s at (kindOf (byte t at)) (bodyAt t at size)) (at + 3 + size) l) (next-in ∙ ap (λ i. drop (at + 3 + i) t) (sym (w .told)))
+        ap₂ (λ b i. readAll (length t - at) (readField s at (kindOf (byte t at)) b) i (drop (2 + sizeIn tail) tail)) same-body (omega (arith, size-in, w .sizeIs))
+        ∙ ap (λ l. readAll (length t - at) (readField s at (kindOf (byte t at)) (bodyAt t at size)) (at + 3 + size) l) (next-in ∙ ap (λ i. drop (at + 3 + i) t) (sym (w .sizeIs)))
         ∙ read-enough (length t - at) (suc (length t - (at + 3 + size))) _ (at + 3 + size) (drop (at + 3 + size) t) (omega (arith, w .inside, length-drop (at + 3 + size) t)) (omega (arith, w .inside, length-drop (at + 3 + size) t))
 
   pub rest-short : Calm → Short t at → rest t s at ≡ malformed 2 at

@@ -4,15 +4,14 @@ use mathlib.Core.Path.{_≡_, refl, sym, _∙_, ap}
 use mathlib.Core.Bool.{Bool, true, false, _&&_}
 use mathlib.Core.List.{List}
 use native.Mathlib.Omega.{arith}
-use native.Mathlib.Numerals.{add-one}
-use lib.ListN.{length, getD, drop-of-length-le}
-use lib.Seq.{drop-cons}
+use lib.ListN.{length, getD}
+use Rattle.theory_base.specs.Cells.{all-turn, all-end}
 use Rattle.table_fields.specs.Judge.{allFrom}
 
 module _ (f : ℕ → Bool) (b : List ℕ) (k : ℕ) where
   one-more : k < length b → allFrom f b k ≡ f (getD b k 0) && allFrom f b (k + 1)
   unfolding allFrom
-  one-more h = rw (drop-cons b k 0 h, add-one) refl
+  one-more h = all-turn f b k 0 h
 
   pub all-pass : k < length b → f (getD b k 0) ≡ true → allFrom f b k ≡ allFrom f b (k + 1)
   all-pass h e = one-more h ∙ ap (λ x. x && allFrom f b (k + 1)) e
@@ -22,7 +21,7 @@ module _ (f : ℕ → Bool) (b : List ℕ) (k : ℕ) where
 
   pub all-none : length b ≤ k → allFrom f b k ≡ true
   unfolding allFrom
-  all-none h = rw (drop-of-length-le b h) refl
+  all-none h = all-end f b k h
 
 -- each number from the k-th on passes a test that all of them pass
 module _ (f : ℕ → Bool) (b : List ℕ) where

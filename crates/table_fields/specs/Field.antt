@@ -13,7 +13,7 @@ lengthAt t at = byte t (at + 1) * 256 + byte t (at + 2)
 
 -- the field at an offset is whole, with a body of this size
 pub record Whole (t : List ℕ) (at size : ℕ) : Type 0 where
-  pub told : size ≡ lengthAt t at
+  pub sizeIs : size ≡ lengthAt t at
   pub inside : at + 3 + size ≤ length t
 
 -- the field at an offset is cut short

@@ -50,6 +50,16 @@ productionFault terminals nonterminals p b =
     (holds (symbolsKnown terminals nonterminals b 2) 5
     0)))))
 
+-- the same but for the symbols on its right
+unfoldable pub headFault : ℕ → ℕ → List ℕ → ℕ
+headFault nonterminals p b =
+    atMost 2 (length b) 4
+    (atMost (byte b 1) 12 4
+    (equal (length b) (2 + byte b 1) 4
+    (below p 128 4
+    (below (byte b 0) nonterminals 5
+    0))))
+
 -- the least number above the terminal named last, of a list with the latest first
 abbrev pub leastAfter : List ℕ → ℕ
 leastAfter [] = 0

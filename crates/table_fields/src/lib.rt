@@ -3,7 +3,7 @@ ghost use mathlib.Core.Path.{_≡_};
 ghost use Prim.Native.Nat.{_+_, _<_, _≤_};
 ghost use lib.ListN.{length};
 ghost use Rattle.table_fields.specs.Field.{Whole, Short};
-ghost use Rattle.table_fields.specs.Judge.{symbolsKnown, productionFault};
+ghost use Rattle.table_fields.specs.Judge.{headFault};
 use limits::PRODUCTIONS;
 use limits::SYMBOLS;
 
@@ -35,31 +35,9 @@ pub fn size_at(table: &[u8], at: usize) -> usize
     size
 }
 
-// Whether every symbol from the byte 2 of a production's body on is known.
-pub fn symbols_known(terminals: usize, nonterminals: usize, body: &[u8]) -> bool
-    requires { ⌜ 2 ≤ length (now body) ⌝ }
-    ensures { λ r. ⌜ r ≡ symbolsKnown terminals nonterminals (now (body .entry)) 2 ⌝ }
-{
-    let mut k: usize = 2;
-    while k < body.len() {
-        let n = wide(body[k]);
-        k += 1;
-        if n < 128 {
-            if terminals <= n {
-                return false;
-            }
-            continue;
-        }
-        if nonterminals <= n - 128 {
-            return false;
-        }
-    }
-    true
-}
-
-// The lowest number that applies to the body of a tag 3 field after p others, or 0.
-pub fn production_fault(terminals: usize, nonterminals: usize, p: usize, body: &[u8]) -> u8
-    ensures { λ r. ⌜ r ≡ productionFault terminals nonterminals p (now (body .entry)) ⌝ }
+// The lowest number that applies to the body of a tag 3 field after p others, but for its symbols on the right, or 0.
+pub fn head_fault(nonterminals: usize, p: usize, body: &[u8]) -> u8
+    ensures { λ r. ⌜ r ≡ headFault nonterminals p (now (body .entry)) ⌝ }
 {
     if body.len() < 2 {
         return 4;
@@ -76,9 +54,6 @@ pub fn production_fault(terminals: usize, nonterminals: usize, p: usize, body: &
     }
     let left = wide(body[0]);
     if nonterminals <= left {
-        return 5;
-    }
-    if !symbols_known(terminals, nonterminals, body) {
         return 5;
     }
     0

@@ -1,7 +1,7 @@
 -- A rule's target settled: what is said of the words and the note holds on; and the operands of a rule by its function.
 use Prim.Native.Nat.{ℕ, _-_, _*_, _%_, _^_, _≤_, _<_}
 use mathlib.Core.Path.{_≡_, refl, sym, _∙_, ap, ap₂, subst}
-use mathlib.Core.Bool.{Bool, true, false, _||_, true≢false}
+use mathlib.Core.Bool.{Bool, true, false, _||_}
 use mathlib.Core.List.{List}
 use mathlib.Core.Logic.{⊎-elim}
 use native.Mathlib.Omega.{arith}
@@ -10,7 +10,7 @@ use lib.Bits.{bitOr}
 use lib.Dec.{eqb}
 use lib.ListN.{getD, length, set, length-set}
 use lib.Seq.{getD-set-same, getD-set-other}
-use borrow.Author.Tests.{eq-eqb, ne-eqb}
+use borrow.Author.Tests.{ne-eqb}
 use Rattle.meaning.specs.Table.{byte}
 use Rattle.table_fields.proofs.Cases.{lt-or-le}
 use Rattle.table_fields.proofs.Demands.{equal-yes, equal-no, below-yes, below-no}
@@ -19,20 +19,10 @@ use Rattle.table_rules.proofs.Laws.{class-first}
 use Rattle.table_rule_note.proofs.Bits.{bit-set, one-bit}
 use Rattle.table_rule_fields.proofs.Sound.{class-bytes, note-bytes, sound-left, sound-right}
 use Rattle.table_occurrences.specs.OccurrenceBits.{Settled, notedBy}
+use Rattle.table_rule_note.proofs.Noting.{less-one}
+use Rattle.table_rule_note.proofs.Gaps.{or-parts}
 
 -- ---- a target settled
-
-less-one : (a b : ℕ) → 1 ≤ a → 1 ≤ b → eqb (a - 1) (b - 1) ≡ eqb a b
-less-one a b l m = go (ℕ-discrete a b)
-  where
-    go : Dec (a ≡ b) → eqb (a - 1) (b - 1) ≡ eqb a b
-    go (yes e) = eq-eqb (a - 1) (b - 1) (omega arith) ∙ sym (eq-eqb a b e)
-    go (no n) = ne-eqb (a - 1) (b - 1) (λ q. n (omega arith)) ∙ sym (ne-eqb a b n)
-
-or-false : (x y : Bool) → x || y ≡ false → (x ≡ false) × (y ≡ false)
-or-false false false e = (refl, refl)
-or-false true y e = absurd (true≢false e)
-or-false false true e = absurd (true≢false e)
 
 module _ (width : ℕ) (inh syn note words : List ℕ) (w : Settled width inh syn note words) (p a : ℕ) (place : p < 13) (near : a < 16) (free : bit (getD words p 0) a ≡ false) where
   abbrev note′ : List ℕ
@@ -55,14 +45,14 @@ module _ (width : ℕ) (inh syn note words : List ℕ) (w : Settled width inh sy
 
   unset-here : (b : ℕ) → b < 16 → bit (getD words′ p 0) b ≡ false → (2 ≡ classAt width inh syn p b) × (bit (getD note′ p 0) (b - 1) ≡ false)
   unset-here b m e =
-      let parts = or-false (eqb a b) (bit (getD words p 0) b) (sym (word-here b) ∙ e) in
+      let parts = or-parts (eqb a b) (bit (getD words p 0) b) (sym (word-here b) ∙ e) in
       let old = w .unset p b place m (parts .1) in
       (old .0, note-here b ∙ ap₂ _||_ (less-one a b (class-one a own) (class-one b (old .0)) ∙ parts .0) (old .1))
 
-  told-here : (b : ℕ) → b < 16 → 2 ≡ classAt width inh syn p b → bit (getD note′ p 0) (b - 1) ≡ false → bit (getD words′ p 0) b ≡ false
-  told-here b m out e =
-      let parts = or-false (eqb (a - 1) (b - 1)) (bit (getD note p 0) (b - 1)) (sym (note-here b) ∙ e) in
-      word-here b ∙ ap₂ _||_ (sym (less-one a b (class-one a own) (class-one b out)) ∙ parts .0) (w .told p b place m out (parts .1))
+  unnoted-here : (b : ℕ) → b < 16 → 2 ≡ classAt width inh syn p b → bit (getD note′ p 0) (b - 1) ≡ false → bit (getD words′ p 0) b ≡ false
+  unnoted-here b m out e =
+      let parts = or-parts (eqb (a - 1) (b - 1)) (bit (getD note p 0) (b - 1)) (sym (note-here b) ∙ e) in
+      word-here b ∙ ap₂ _||_ (sym (less-one a b (class-one a own) (class-one b out)) ∙ parts .0) (w .unnoted p b place m out (parts .1))
 
   only-here : (b : ℕ) → 1 ≤ b → b ≤ 8 → bit (getD note′ p 0) (b - 1) ≡ true → 2 ≡ classAt width inh syn p b
   only-here b l m e = go (ℕ-discrete a b)
@@ -83,7 +73,7 @@ module _ (width : ℕ) (inh syn note words : List ℕ) (w : Settled width inh sy
   settled-more =
       record {
         unset = λ q b l m e. unset q b l m e (ℕ-discrete q p);
-        told = λ q b l m out e. told q b l m out e (ℕ-discrete q p);
+        unnoted = λ q b l m out e. unnoted q b l m out e (ℕ-discrete q p);
         only = λ q b l f g e. only q b l f g e (ℕ-discrete q p);
         noteKept = length-set note p (bitOr (getD note p 0) (2 ^ (a - 1))) ∙ w .noteKept;
         kept = length-set words p (bitOr (getD words p 0) (2 ^ a)) ∙ w .kept;
@@ -97,11 +87,11 @@ module _ (width : ℕ) (inh syn note words : List ℕ) (w : Settled width inh sy
           (unset-here b m (ap (λ (x : ℕ). bit (getD words′ x 0) b) (sym z) ∙ e))
       unset q b l m e (no n) = let old = w .unset q b l m (sym (word-there q b n) ∙ e) in (old .0, note-there q (b - 1) n ∙ old .1)
 
-      told : (q b : ℕ) → q < 13 → b < 16 → 2 ≡ classAt width inh syn q b → bit (getD note′ q 0) (b - 1) ≡ false → Dec (q ≡ p) → bit (getD words′ q 0) b ≡ false
-      told q b l m out e (yes z) =
+      unnoted : (q b : ℕ) → q < 13 → b < 16 → 2 ≡ classAt width inh syn q b → bit (getD note′ q 0) (b - 1) ≡ false → Dec (q ≡ p) → bit (getD words′ q 0) b ≡ false
+      unnoted q b l m out e (yes z) =
           ap (λ (x : ℕ). bit (getD words′ x 0) b) z
-          ∙ told-here b m (out ∙ ap (λ (x : ℕ). classAt width inh syn x b) z) (ap (λ (x : ℕ). bit (getD note′ x 0) (b - 1)) (sym z) ∙ e)
-      told q b l m out e (no n) = word-there q b n ∙ w .told q b l m out (sym (note-there q (b - 1) n) ∙ e)
+          ∙ unnoted-here b m (out ∙ ap (λ (x : ℕ). classAt width inh syn x b) z) (ap (λ (x : ℕ). bit (getD note′ x 0) (b - 1)) (sym z) ∙ e)
+      unnoted q b l m out e (no n) = word-there q b n ∙ w .unnoted q b l m out (sym (note-there q (b - 1) n) ∙ e)
 
       only : (q b : ℕ) → q < 13 → 1 ≤ b → b ≤ 8 → bit (getD note′ q 0) (b - 1) ≡ true → Dec (q ≡ p) → 2 ≡ classAt width inh syn q b
       only q b l f g e (yes z) = only-here b f g (ap (λ (x : ℕ). bit (getD note′ x 0) (b - 1)) (sym z) ∙ e) ∙ ap (λ (x : ℕ). classAt width inh syn x b) (sym z)

@@ -191,8 +191,8 @@ module _ (width : ℕ) (inh syn : List ℕ) (small : Small width inh syn) (i s :
     output-here : (p a : ℕ) → p ≤ width → a < 16 → bit (getD words p 0) a ≡ false → 2 ≡ classAt width inh syn p a
     output-here p a l m e = output-class width inh syn small p a l m (not-false _ (sym (bit-at p a l m) ∙ e))
 
-    output-told : (p a : ℕ) → a < 16 → 2 ≡ classAt width inh syn p a → bit (getD words p 0) a ≡ false
-    output-told p a m out =
+    output-unnoted : (p a : ℕ) → a < 16 → 2 ≡ classAt width inh syn p a → bit (getD words p 0) a ≡ false
+    output-unnoted p a m out =
         let l = inside width inh syn p a out in
         bit-at p a l m ∙ ap not (class-output width inh syn small p a l m out)
 
@@ -207,7 +207,7 @@ module _ (width : ℕ) (inh syn : List ℕ) (small : Small width inh syn) (i s :
               (λ q. absurd (true≢false (sym (ap (λ (x : ℕ). bit x a) (w .beyond p q l) ∙ full a m) ∙ e)))
               (λ q. (output-here p a q m e, none-noted p a))
               (lt-or-le width p);
-          told = λ p a l m out e. output-told p a m out;
+          unnoted = λ p a l m out e. output-unnoted p a m out;
           only = λ p a l f g e. absurd (true≢false (sym e ∙ none-noted p a));
           noteKept = length-replicate {A = ℕ} 13 0;
           kept = w .kept;

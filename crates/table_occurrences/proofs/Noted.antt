@@ -1,7 +1,7 @@
 -- The note by which words are settled, made again from the words.
 use Prim.Native.Nat.{ℕ, suc, _-_, _/_, _≤_, _<_}
 use mathlib.Core.Path.{_≡_, refl, sym, _∙_, ap, ap₂}
-use mathlib.Core.Bool.{Bool, true, false, _&&_, true≢false}
+use mathlib.Core.Bool.{Bool, true, false, _&&_, true≢false, and-false, and-true}
 use mathlib.Core.List.{List}
 use mathlib.Core.Logic.{⊎-elim}
 use native.Mathlib.Omega.{arith}
@@ -24,7 +24,7 @@ module _ (width : ℕ) (inh syn note words : List ℕ) (w : Settled width inh sy
       go true true e f = refl
       go false false e f = refl
       go false true e f = absurd (true≢false (sym f ∙ w .unset p a place m e .1))
-      go true false e f = absurd (true≢false (sym e ∙ w .told p a place m out f))
+      go true false e f = absurd (true≢false (sym e ∙ w .unnoted p a place m out f))
 
   other-unnoted : 1 ≤ a → a ≤ 8 → (2 ≡ classAt width inh syn p a → ⊥) → false ≡ bit (getD note p 0) (a - 1)
   other-unnoted l m n = go (bit (getD note p 0) (a - 1)) refl
@@ -40,14 +40,6 @@ pub byte-made :
     (inh syn : List ℕ) (word k i s out x : ℕ) → i ≡ getD inh k 0 → s ≡ getD syn k 0 → out ≡ outputWord k i s → x ≡ bitAnd word out / 2
     → x ≡ notedIn word k (getD inh k 0) (getD syn k 0)
 byte-made inh syn word k i s out x e f g h = h ∙ ap (λ (y : ℕ). bitAnd word y / 2) (g ∙ ap₂ (outputWord k) e f)
-
-and-false : (x : Bool) → x && false ≡ false
-and-false true = refl
-and-false false = refl
-
-and-same : (x : Bool) → x && true ≡ x
-and-same true = refl
-and-same false = refl
 
 half-bit : (n a : ℕ) → 1 ≤ a → bit (n / 2) (a - 1) ≡ bit n a
 half-bit n a l = sym (bit-suc n (a - 1)) ∙ ap (bit n) {x = suc (a - 1)} {y = a} (omega arith)
@@ -67,7 +59,7 @@ module _ (width : ℕ) (inh syn words made : List ℕ) (small : Small width inh 
         near = omega arith
 
         go : (x : Bool) → bit (outputWord p (getD inh p 0) (getD syn p 0)) a ≡ x → bit (getD words p 0) a && x ≡ bit (getD note p 0) (a - 1)
-        go true e = and-same _ ∙ output-noted width inh syn note words w p a q near (output-class width inh syn small p a l near e)
+        go true e = and-true _ ∙ output-noted width inh syn note words w p a q near (output-class width inh syn small p a l near e)
         go false e =
             and-false (bit (getD words p 0) a)
             ∙ other-unnoted width inh syn note words w p a q m n (λ out. true≢false (sym (class-output width inh syn small p a l near out) ∙ e))

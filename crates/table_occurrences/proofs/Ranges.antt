@@ -1,30 +1,14 @@
 -- The bits of a range of attributes, looked at one by one: there are few.
-use Prim.Native.Nat.{ℕ, zero, suc, _+_, _-_, _*_, _%_, _^_, _≤_, _<_}
+use Prim.Native.Nat.{ℕ, _-_, _*_, _%_, _^_, _≤_, _<_}
 use mathlib.Core.Path.{_≡_, refl, sym, _∙_, ap}
 use mathlib.Core.Bool.{Bool, true, false, _&&_, not, true≢false}
-use mathlib.Core.Logic.{⊎-elim}
 use native.Mathlib.Omega.{arith}
 use lib.Dec.{eqb, leb, ltb}
 use borrow.Author.Tests.{le-leb, lt-ltb, leb-true, ltb-true, eqb-true}
 use Rattle.meaning.specs.Base.{all, countFrom}
-use Rattle.table_fields.proofs.Cases.{lt-or-le}
 use Rattle.table_rules.specs.Rule.{bit}
+use Rattle.theory_base.specs.Members.{all-counted}
 use Rattle.table_occurrences.specs.OccurrenceBits.{rangeWord}
-
-each-passes : (f : ℕ → Bool) (n j i : ℕ) → all f (countFrom j n) ≡ true → j ≤ i → i < j + n → f i ≡ true
-each-passes f zero j i e p q = absurd (omega arith)
-each-passes f (suc n) j i e p q = go (f j) refl (λ w l. each-passes f n (suc j) i w l (omega arith))
-  where
-    after : Bool
-    after = all f (countFrom (suc j) n)
-
-    go : (x : Bool) → f j ≡ x → (after ≡ true → suc j ≤ i → f i ≡ true) → f i ≡ true
-    go false w more = absurd (true≢false (sym e ∙ ap (λ x. x && after) w))
-    go true w more =
-        ⊎-elim
-        (λ l. more (sym (ap (λ x. x && after) w) ∙ e) l)
-        (λ l. let here : i ≡ j = omega arith in ap f here ∙ w)
-        (lt-or-le j i)
 
 abbrev same : Bool → Bool → Bool
 same true y = y
@@ -59,9 +43,9 @@ everywhere f = all (λ low. all (λ high. all (f low high) (countFrom 0 16)) (co
 
 somewhere : (f : ℕ → ℕ → ℕ → Bool) → everywhere f ≡ true → (low high a : ℕ) → low ≤ high → high ≤ 8 → a < 16 → f low high a ≡ true
 somewhere f e low high a l m q =
-    each-passes (f low high) 16 0 a
-    (each-passes (λ high. all (f low high) (countFrom 0 16)) (9 - low) low high
-    (each-passes (λ low. all (λ high. all (f low high) (countFrom 0 16)) (countFrom low (9 - low))) 9 0 low e (omega arith) (omega arith))
+    all-counted (f low high) 0 16 a
+    (all-counted (λ high. all (f low high) (countFrom 0 16)) low (9 - low) high
+    (all-counted (λ low. all (λ high. all (f low high) (countFrom 0 16)) (countFrom low (9 - low))) 0 9 low e (omega arith) (omega arith))
     l (omega arith))
     (omega arith) (omega arith)
 
@@ -91,7 +75,7 @@ unfolding bit
 full-everywhere = refl
 
 pub full : (a : ℕ) → a < 16 → bit 65535 a ≡ true
-full a q = each-passes (bit 65535) 16 0 a full-everywhere (omega arith) (omega arith)
+full a q = all-counted (bit 65535) 0 16 a full-everywhere (omega arith) (omega arith)
 
 -- what the code computes: shifts within 16 bits
 abbrev orderedPowers : ℕ → ℕ → ℕ → Bool

@@ -38,7 +38,7 @@ pub record Inputs (width : ℕ) (inh syn words : List ℕ) : Type 0 where
 -- all have a bit but the outputs of the production that are not in its note, which has no other occurrences
 pub record Settled (width : ℕ) (inh syn note words : List ℕ) : Type 0 where
   pub unset : (p a : ℕ) → p < 13 → a < 16 → bit (getD words p 0) a ≡ false → (2 ≡ classAt width inh syn p a) × (bit (getD note p 0) (a - 1) ≡ false)
-  pub told : (p a : ℕ) → p < 13 → a < 16 → 2 ≡ classAt width inh syn p a → bit (getD note p 0) (a - 1) ≡ false → bit (getD words p 0) a ≡ false
+  pub unnoted : (p a : ℕ) → p < 13 → a < 16 → 2 ≡ classAt width inh syn p a → bit (getD note p 0) (a - 1) ≡ false → bit (getD words p 0) a ≡ false
   pub only : (p a : ℕ) → p < 13 → 1 ≤ a → a ≤ 8 → bit (getD note p 0) (a - 1) ≡ true → 2 ≡ classAt width inh syn p a
   pub noteKept : length note ≡ 13
   pub kept : length words ≡ 13

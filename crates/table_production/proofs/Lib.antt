@@ -4,3 +4,5 @@ pub mod Producing
 pub mod ProductionRows
 -- The words of the right sides, kept while another production is read
 pub mod Wording
+-- The field of a production read, by its head and its symbols
+pub mod FieldsRead

@@ -7,7 +7,7 @@ use mathlib.Core.Logic.{⊎-elim}
 use native.Mathlib.Omega.{arith}
 use native.Mathlib.Nat.{not-suc-le-zero}
 use lib.Dec.{ltb}
-use lib.ListN.{length, getD, take, drop, length-drop, length-take, length-map, List·getD-map}
+use lib.ListN.{length, getD, take, drop, length-drop, length-map, List·getD-map}
 use lib.Seq.{getD-drop}
 use borrow.Author.Tests.{ltb-true, ltb-false, le-ltb}
 use Rattle.meaning.specs.Base.{countFrom}
@@ -17,11 +17,12 @@ use Rattle.meaning.specs.Grammar.{Counts, noCounts, attributeIf, Symbol, termin
 use Rattle.meaning.specs.Table.{byte, Header, Entry, readField, kindOf, judgeField, symbolOf}
 use Rattle.table_fields.specs.Demand.{ifBelow}
 use Rattle.table_fields.specs.Field.{Whole, Short, rest, bodyAt}
-use Rattle.table_fields.specs.Judge.{productionFault, symbolKnown}
+use Rattle.table_fields.specs.Judge.{headFault, productionFault, symbolKnown, symbolsKnown}
 use Rattle.table_fields.specs.Reads.{stateOf, entryOf}
 use Rattle.table_fields.proofs.Rest.{step-short, step-field, calm-complete, body-length, body-byte, fieldOf}
 use Rattle.table_fields.proofs.Judged.{production-judged, first-not}
-use Rattle.table_fields.proofs.Fine.{ProductionFine, production-fine}
+use Rattle.table_fields.proofs.Fine.{HeadFine, head-fine, head-decides, symbols-decide, ProductionFine, production-fine}
+use Rattle.table_fields.proofs.Demands.{holds-met, holds-not}
 use Rattle.table_fields.proofs.Walks.{all-each}
 use Rattle.table_rules.specs.Rule.{Small}
 use Rattle.table_rules.specs.Note.{symbolIn}
@@ -33,8 +34,10 @@ use Rattle.outline.specs.Counts.{countAt, synthesizedAt, count-terminal, count-
 use Rattle.table_rows.specs.RowWritten.{symbolByte, Written}
 use Rattle.table_items.specs.Progress.{settingOf, Around, Walked, ItemsRead, ItemsReadFrom, Next}
 use Rattle.table_occurrences.specs.OccurrenceBits.{Settled, NoteOf}
-use Rattle.table_sound_items.specs.Sound.{done, BodySound, BodyTaken}
-use Rattle.table_production.specs.Productions.{widthIn, bodyIn, leftIn, rightIn, ProductionKnown, ProductionJudged, SmallBody, CountsAgree, BodyRead}
+use Rattle.table_occurrence_words.specs.Placed.{KnownSmall}
+use Rattle.table_sound_items.specs.Sound.{done, Sounding, BodySound, BodyTaken}
+use Rattle.table_sound_items.proofs.Walking.{body-taken-by}
+use Rattle.table_production.specs.Productions.{widthIn, bodyIn, leftIn, rightIn, ProductionKnown, ProductionJudged, HeadJudged, SmallBody, WordsPlaced, CountsAgree, BodyRead}
 use Rattle.table_counts.proofs.Counting.{length-counts}
 use Rattle.table_fields.proofs.Cases.{lt-or-le, nonzero}
 
@@ -64,32 +67,33 @@ module _ (t : List ℕ) (at p terminals nonterminals : ℕ) (inside : at < lengt
           known = λ z. absurd (nonzero 2 z);
         }
 
-    module _ (fine : ProductionFine b terminals nonterminals p) where
-      long-body : length b ≡ size
-      long-body = body-length t at size (w .inside)
+    long-body : length b ≡ size
+    long-body = body-length t at size (w .inside)
 
+    module _ (long : length b ≡ 2 + byte b 1) where
       second : byte b 1 ≡ widthIn t at
-      second = body-byte t at size 1 (omega (arith, long-body, fine .long)) ∙ ap (byte t) {x = at + 3 + 1} {y = at + 4} (omega arith)
+      second = body-byte t at size 1 (omega (arith, long-body)) ∙ ap (byte t) {x = at + 3 + 1} {y = at + 4} (omega arith)
 
       first : byte b 0 ≡ leftIn t at
-      first = body-byte t at size 0 (omega (arith, long-body, fine .long)) ∙ ap (byte t) {x = at + 3 + 0} {y = at + 3} (omega arith)
+      first = body-byte t at size 0 (omega (arith, long-body)) ∙ ap (byte t) {x = at + 3 + 0} {y = at + 3} (omega arith)
 
       size-is : size ≡ 2 + widthIn t at
-      size-is = omega (arith, long-body, fine .long, second)
+      size-is = omega (arith, long-body, second)
 
       body-is : b ≡ bodyIn t at
       body-is = ap (bodyAt t at) size-is
 
+    module _ (fine : ProductionFine b terminals nonterminals p) where
       is-known : ProductionKnown t at p terminals nonterminals
       is-known =
           record {
-            long = omega (arith, w .inside, size-is);
-            short = omega (arith, fine .short, second);
+            long = omega (arith, w .inside, size-is (fine .long));
+            short = omega (arith, fine .short, second (fine .long));
             few = fine .few;
-            left = omega (arith, fine .left, first);
+            left = omega (arith, fine .left, first (fine .long));
             symbols = λ k l.
-                ap (λ x. symbolKnown terminals nonterminals (byte x (k + 2))) (sym body-is)
-                ∙ all-each (symbolKnown terminals nonterminals) b 2 (k + 2) (fine .symbols) (omega arith) (omega (arith, long-body, size-is));
+                ap (λ x. symbolKnown terminals nonterminals (byte x (k + 2))) (sym (body-is (fine .long)))
+                ∙ all-each (symbolKnown terminals nonterminals) b 2 (k + 2) (fine .symbols) (omega arith) (omega (arith, long-body, size-is (fine .long)));
           }
 
       after-same :
@@ -97,9 +101,9 @@ module _ (t : List ℕ) (at p terminals nonterminals : ℕ) (inside : at < lengt
           → rest t (readField (stateOf h cs os ws es r c) at (kindOf (byte t at)) b) (at + 3 + size)
           ≡ rest t (stateOf h cs os ws (entryOf at (leftIn t at) (rightIn t at) [] [] ∷ es) r c) (at + 5 + widthIn t at)
       after-same h cs os ws es r c tag =
-          let n : at + 3 + size ≡ at + 5 + widthIn t at = omega (arith, size-is) in
+          let n : at + 3 + size ≡ at + 5 + widthIn t at = omega (arith, size-is (fine .long)) in
           ap₂ (λ (x i : ℕ). rest t (readField (stateOf h cs os ws es r c) at (kindOf x) b) i) tag n
-          ∙ ap₂ (λ x y. rest t (stateOf h cs os ws (entryOf at x (map symbolOf (drop 2 y)) [] [] ∷ es) r c) (at + 5 + widthIn t at)) first body-is
+          ∙ ap₂ (λ x y. rest t (stateOf h cs os ws (entryOf at x (map symbolOf (drop 2 y)) [] [] ∷ es) r c) (at + 5 + widthIn t at)) (first (fine .long)) (body-is (fine .long))
 
     fault-same : (x y z : ℕ) → x ≡ terminals → y ≡ nonterminals → z ≡ p → productionFault x y z b ≡ productionFault terminals nonterminals p b
     fault-same x y z q r s = cc
@@ -118,14 +122,70 @@ module _ (t : List ℕ) (at p terminals nonterminals : ℕ) (inside : at < lengt
           known = λ z. is-known (production-fine b terminals nonterminals p (sym q ∙ z));
         }
 
+-- ---- the same, before the symbols are looked at
+
+module _ (t : List ℕ) (at p nonterminals : ℕ) (inside : at < length t) where
+  -- refused whatever the symbols are
+  head-refused : (n : ℕ) → ((terminals : ℕ) → ProductionJudged t at p terminals nonterminals (suc n)) → HeadJudged t at p nonterminals (suc n)
+  head-refused n j =
+      record {
+        refused = λ m. j;
+        unknown = λ z. absurd (nonzero n z);
+        fine = λ z. absurd (nonzero n z);
+        long = λ z. absurd (nonzero n z);
+        short = λ z. absurd (nonzero n z);
+        few = λ z. absurd (nonzero n z);
+        left = λ z. absurd (nonzero n z);
+      }
+
+  pub head-cut : Short t at → HeadJudged t at p nonterminals 2
+  head-cut s = head-refused 1 (λ terminals. production-cut t at p terminals nonterminals inside s)
+
+  module _ (size : ℕ) (w : Whole t at size) where
+    pub head-other : (byte t at ≡ 3 → ⊥) → (0 < p → byte t at ≡ 3) → (byte t at ≡ 6 → ⊥) → HeadJudged t at p nonterminals 3
+    head-other n f m = head-refused 2 (λ terminals. production-other t at p terminals nonterminals inside size w n f m)
+
+    pub head-right : (part : List ℕ) (number : ℕ) → byte t at ≡ 3 → part ≡ bodyAt t at size → number ≡ headFault nonterminals p part → HeadJudged t at p nonterminals number
+    head-right part number tag is e =
+        record {
+          refused = λ n terminals. production-right t at p terminals nonterminals inside size w c number tag refl (head-decides c terminals nonterminals p number q n);
+          unknown = λ z terminals u.
+              production-right t at p terminals nonterminals inside size w c 5 tag refl
+              (holds-not (symbolsKnown terminals nonterminals c 2) 5 0 (symbols z terminals ∙ u) ∙ symbols-decide c terminals nonterminals p (sym q ∙ z));
+          fine = λ z terminals u.
+              production-right t at p terminals nonterminals inside size w c 0 tag refl
+              (holds-met (symbolsKnown terminals nonterminals c 2) 5 0 (symbols z terminals ∙ u) refl ∙ symbols-decide c terminals nonterminals p (sym q ∙ z));
+          long = λ z. omega (arith, w .inside, size-is t at p 0 nonterminals inside size w (good z .long));
+          short = λ z. omega (arith, good z .short, second t at p 0 nonterminals inside size w (good z .long));
+          few = λ z. good z .few;
+          left = λ z. omega (arith, good z .left, first t at p 0 nonterminals inside size w (good z .long));
+        }
+      where
+        c : List ℕ
+        c = bodyAt t at size
+
+        q : number ≡ headFault nonterminals p c
+        q = e ∙ ap (headFault nonterminals p) is
+
+        good : number ≡ 0 → HeadFine c nonterminals p
+        good z = head-fine c nonterminals p (sym q ∙ z)
+
+        symbols : number ≡ 0 → (terminals : ℕ) → symbolsKnown terminals nonterminals c 2 ≡ symbolsKnown terminals nonterminals (bodyIn t at) 2
+        symbols z terminals = ap (λ (x : List ℕ). symbolsKnown terminals nonterminals x 2) (body-is t at p 0 nonterminals inside size w (good z .long))
+
 -- ---- the counts at the positions
 
 -- the body as the code cuts it out once its width is known
 pub part-in : (t : List ℕ) (at w : ℕ) → w ≡ widthIn t at → take (at + 5 + w - (at + 3)) (drop (at + 3) t) ≡ bodyIn t at
 part-in t at w e = ap (λ (n : ℕ). take n (drop (at + 3) t)) {x = at + 5 + w - (at + 3)} {y = 2 + widthIn t at} (omega arith)
 
-pub part-short : (t : List ℕ) (at w : ℕ) → w ≤ 12 → length (take (at + 5 + w - (at + 3)) (drop (at + 3) t)) ≤ 14
-part-short t at w l = omega (arith, length-take (at + 5 + w - (at + 3)) (drop (at + 3) t))
+-- the counts of its left side
+pub head-left :
+    (t : List ℕ) (at : ℕ) (inherited synthesized part : List ℕ) → part ≡ bodyIn t at → at + 5 + widthIn t at ≤ length t → countAt inherited (128 + leftIn t at) + countAt synthesized (128 + leftIn t at) ≤ 8
+    → countAt inherited (128 + byte part 0) + countAt synthesized (128 + byte part 0) ≤ 8
+head-left t at inherited synthesized part is long small =
+    let same : byte part 0 ≡ leftIn t at = ap (λ (x : List ℕ). byte x 0) is ∙ body-byte t at (2 + widthIn t at) 0 (omega arith) ∙ ap (byte t) {x = at + 3 + 0} {y = at + 3} (omega arith) in
+    rw same small
 
 module _ {A : Type 0} (d : A) where
   reverse-past : (xs ys : List A) (m : ℕ) → getD (reverseAux xs ys) (length xs + m) d ≡ getD ys m d
@@ -208,6 +268,13 @@ module _ (inh syn : List ℕ) where
 pub known-below : (terminals n k : ℕ) → symbolKnown terminals n k ≡ true → 128 ≤ k → k - 128 < n
 unfolding symbolKnown ifBelow
 known-below terminals n k e l = ltb-true (k - 128) n (sym (ap (λ (b : Bool). cond b (ltb k terminals) (ltb (k - 128) n)) (le-ltb k 128 l)) ∙ e)
+
+module _ (terminals nonterminals carrying : ℕ) (inh syn : List ℕ) (small : SmallCounts inh syn nonterminals) where
+  pub known-small : nonterminals ≤ 48 → KnownSmall terminals nonterminals carrying inh syn
+  known-small few s e = (⊎-elim (λ l. omega arith) (λ l. omega (arith, known-below terminals nonterminals s e l)) (lt-or-le s 128), small-count inh syn carrying [] nonterminals small s (known-below terminals nonterminals s e))
+
+  pub left-small : (left : ℕ) → left < nonterminals → countAt inh (128 + left) + countAt syn (128 + left) ≤ 8
+  left-small left l = omega (arith, count-nonterminal inh (128 + left) _ (omega arith) refl, count-nonterminal syn (128 + left) _ (omega arith) refl, small (128 + left - 128) (omega arith))
 
 module _ (t : List ℕ) (at p terminals nonterminals carrying : ℕ) (inh syn : List ℕ) (known : ProductionKnown t at p terminals nonterminals) where
   pub long-in : length (bodyIn t at) ≡ 2 + widthIn t at
@@ -302,6 +369,15 @@ sound-body t at carrying inherited synthesized r₀ c₀ end r c long small b =
     let q = placed-by (synthesizedAt carrying synthesized) (bodyIn t at) in
     body-read t at (widthIn t at) carrying inherited synthesized _ _ (bodyIn t at) refl refl long p q r₀ c₀ (done end r c)
     (b .read _ _ p q (body-small t at (widthIn t at) carrying inherited synthesized _ _ (bodyIn t at) refl refl long p q small))
+
+-- what is taken by a walk, by the words at the positions
+pub body-walked :
+    (t : List ℕ) (at w carrying : ℕ) (inherited synthesized inputs words₀ words : List ℕ) (r₀ c₀ end r c : ℕ) → w ≡ widthIn t at → at + 5 + widthIn t at ≤ length t
+    → WordsPlaced t at carrying inherited synthesized inputs words₀ → Sounding t (at + 5 + w) r₀ c₀ inputs words₀ words end r c → BodyTaken t at carrying inherited synthesized r₀ c₀ words end r c
+body-walked t at w carrying inherited synthesized inputs words₀ words r₀ c₀ end r c is long placed s =
+    let turned : 2 + widthIn t at ≡ widthIn t at + 2 = omega arith in
+    body-taken-by t at carrying inherited synthesized r₀ c₀ inputs words₀ words end r c (widthIn t at) refl (bodyIn t at) refl (body-length t at (2 + widthIn t at) (omega arith) ∙ turned) (placed .0) (placed .1)
+    (subst (λ (x : ℕ). Sounding t (at + 5 + x) r₀ c₀ inputs words₀ words end r c) is s)
 
 -- the same of fields taken up to one of them: what is read from there on, by a note that the words tell
 pub taken-body :

@@ -50,9 +50,9 @@ module _ (t : List ℕ) (at p terminals nonterminals carrying : ℕ) (inherited 
   cs = countsUpTo inherited synthesized nonterminals
 
   pub production-refused :
-      (number ≡ 0 → ⊥) → at ≤ length t → length rows₀ ≡ 2048
-      → ProductionRead t at p terminals nonterminals carrying inherited synthesized rows₀ offsets₀ r₀ c₀ rows₀ offsets₀ (record { number = number; at = at; rules = r₀; conditions = c₀ })
-  production-refused n inside long =
+      (rows : List ℕ) → (number ≡ 0 → ⊥) → at ≤ length t → length rows ≡ 2048
+      → ProductionRead t at p terminals nonterminals carrying inherited synthesized rows₀ offsets₀ r₀ c₀ rows offsets₀ (record { number = number; at = at; rules = r₀; conditions = c₀ })
+  production-refused rows n inside long =
       record {
         read = λ h os ws es tm nt len done laid held. (
           noEntry,

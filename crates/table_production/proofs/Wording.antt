@@ -1,7 +1,6 @@
 -- The words of the right sides, kept while another production is read.
-use Prim.Native.Nat.{ℕ, _+_, _-_, _≤_, _<_}
+use Prim.Native.Nat.{ℕ, _+_, _≤_, _<_}
 use mathlib.Core.Path.{_≡_, sym, _∙_, ap}
-use mathlib.Core.Bool.{true}
 use mathlib.Core.List.{List, map}
 use native.Mathlib.Omega.{arith}
 use native.Mathlib.Decide.{decLt}
@@ -12,15 +11,13 @@ use Rattle.meaning.specs.Table.{byte, symbolOf}
 use Rattle.outline.specs.Images.{rowStart, sizeAt, rightAt, right-length, right-at, right-is}
 use Rattle.analysis.specs.Views.{symbolBit, rightBy}
 use Rattle.analysis.specs.Growth.{SetsTo, sets-none, sets-next}
-use Rattle.table_fields.specs.Judge.{symbolKnown}
 use Rattle.table_fields.proofs.Rest.{body-length, body-byte}
-use Rattle.table_rows.specs.RowWritten.{Copied, SymbolsSmall, RightWord}
+use Rattle.table_rows.specs.RowWritten.{Copied, RightWord}
 use Rattle.table_production.specs.Productions.{widthIn, bodyIn, ProductionKnown}
 use Rattle.table_production.specs.Rights.{RightsTo}
-use Rattle.table_production.proofs.Producing.{known-below}
 
 pub rights-none : (rows words : List ℕ) → length words ≡ 128 → RightsTo rows 0 words
-rights-none rows words l = record { short = λ p h. absurd (omega arith); told = sets-none (rightBy rows) words l }
+rights-none rows words l = record { short = λ p h. absurd (omega arith); sets = sets-none (rightBy rows) words l }
 
 module _ (rows₀ rows : List ℕ) (p : ℕ) (part : List ℕ) (few : p < 128) (long : length rows₀ ≡ 2048) (short : length part ≤ 14) (width : 2 + byte part 1 ≡ length part) (copied : Copied rows₀ p part rows (length part)) where
   -- the row before
@@ -53,14 +50,14 @@ module _ (rows₀ rows : List ℕ) (p : ℕ) (part : List ℕ) (few : p < 128) (
       ∙ sym (List·getD-map symbolOf (drop 2 part) k 0 ∙ ap symbolOf (getD-drop 2 part k 0)))
 
   rights-more : (words : List ℕ) (word : ℕ) → RightWord part word → RightsTo rows₀ p words → RightsTo rows (p + 1) (set words p word)
-  rights-more words word is r = record { short = λ q l. small q l (decLt q p); told = sets-next (rightBy rows) p word words few kept (λ n. is n ∙ sym (ap (any (symbolBit n)) own-right)) }
+  rights-more words word is r = record { short = λ q l. small q l (decLt q p); sets = sets-next (rightBy rows) p word words few kept (λ n. is n ∙ sym (ap (any (symbolBit n)) own-right)) }
     where
       small : (q : ℕ) → q < p + 1 → Dec (q < p) → sizeAt rows q ≤ 12
       small q l (yes h) = omega (arith, size-kept q h (r .short q h), r .short q h)
       small q l (no h) = let e : q ≡ p = omega arith in omega (arith, ap (sizeAt rows) e, own-size)
 
       kept : SetsTo (rightBy rows) p words
-      kept = record { size = r .told .size; is = λ q l n. r .told .is q l n ∙ sym (ap (any (symbolBit n)) (right-kept q l (r .short q l))) }
+      kept = record { size = r .sets .size; is = λ q l n. r .sets .is q l n ∙ sym (ap (any (symbolBit n)) (right-kept q l (r .short q l))) }
 
 -- of a production that is known, by the part of the table that is its body
 module _ (t : List ℕ) (at p terminals nonterminals : ℕ) (known : ProductionKnown t at p terminals nonterminals) (part : List ℕ) (is-part : part ≡ bodyIn t at) where
@@ -69,18 +66,6 @@ module _ (t : List ℕ) (at p terminals nonterminals : ℕ) (known : ProductionK
 
   part-width : byte part 1 ≡ widthIn t at
   part-width = ap (λ (x : List ℕ). byte x 1) is-part ∙ body-byte t at (2 + widthIn t at) 1 (omega arith) ∙ ap (byte t) {x = at + 3 + 1} {y = at + 4} (omega arith)
-
-  pub symbols-small : nonterminals ≤ 48 → SymbolsSmall part
-  symbols-small few k two h = go (decLt (byte part k) 128)
-    where
-      same : byte (bodyIn t at) (k - 2 + 2) ≡ byte part k
-      same = let q : k - 2 + 2 ≡ k = omega arith in ap (byte (bodyIn t at)) q ∙ ap (λ (x : List ℕ). byte x k) (sym is-part)
-
-      go : Dec (byte part k < 128) → byte part k < 176
-      go (yes m) = omega arith
-      go (no m) =
-          let q : symbolKnown terminals nonterminals (byte part k) ≡ true = ap (symbolKnown terminals nonterminals) (sym same) ∙ known .symbols (k - 2) (omega (arith, part-long)) in
-          omega (arith, known-below terminals nonterminals (byte part k) q (omega arith))
 
   pub rights-read :
       (rows₀ rows : List ℕ) → length rows₀ ≡ 2048 → Copied rows₀ p part rows (length part) → (words : List ℕ) (word : ℕ) → RightWord part word

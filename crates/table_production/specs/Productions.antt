@@ -1,14 +1,14 @@
 -- Where the reader stands between two productions.
 use Prim.Native.Nat.{ℕ, _+_, _*_, _≤_, _<_}
 use mathlib.Core.Path.{_≡_}
-use mathlib.Core.Bool.{true}
+use mathlib.Core.Bool.{true, false}
 use mathlib.Core.List.{List, [], _∷_, map, reverse}
 use lib.ListN.{length, drop}
 use Rattle.meaning.specs.Limits.{tableLimit}
 use Rattle.meaning.specs.Grammar.{Counts, Symbol, Rule, Condition, Occurrence, countsIn}
 use Rattle.meaning.specs.Table.{byte, Header, Entry, lastComplete, symbolOf}
 use Rattle.table_fields.specs.Field.{rest, judged, bodyAt}
-use Rattle.table_fields.specs.Judge.{symbolKnown}
+use Rattle.table_fields.specs.Judge.{symbolKnown, symbolsKnown}
 use Rattle.table_fields.specs.Reads.{stateOf, entryOf}
 use Rattle.table_rules.specs.Note.{symbolIn}
 use Rattle.outline.specs.declared.Sizes.{Sizes}
@@ -17,7 +17,9 @@ use Rattle.table_items.specs.declared.Items.{Items}
 use Rattle.table_counts.specs.Counted.{SmallCounts, countsUpTo}
 use Rattle.outline.specs.Counts.{countAt, synthesizedAt}
 use Rattle.table_carriers.specs.Named.{NoCarrier}
-use Rattle.table_rows.specs.RowWritten.{symbolByte}
+use Rattle.table_rows.specs.RowWritten.{symbolByte, Copied, RightWord}
+use Rattle.table_occurrences.specs.OccurrenceBits.{Filled}
+use Rattle.table_occurrence_words.specs.Placed.{inputAt, otherAt}
 use Rattle.table.specs.Laid.{Laid}
 use Rattle.table_items.specs.Progress.{Next}
 
@@ -50,6 +52,29 @@ pub record ProductionJudged (t : List ℕ) (at p terminals nonterminals number :
       → rest t (stateOf h cs os ws es r c) at
       ≡ judged number at (rest t (stateOf h cs os ws (entryOf at (leftIn t at) (rightIn t at) [] [] ∷ es) r c) (at + 5 + widthIn t at))
   pub known : number ≡ 0 → ProductionKnown t at p terminals nonterminals
+
+-- the same before its symbols on the right are looked at: they decide where nothing else is wrong
+pub record HeadJudged (t : List ℕ) (at p nonterminals number : ℕ) : Type 0 where
+  pub refused : (number ≡ 0 → ⊥) → (terminals : ℕ) → ProductionJudged t at p terminals nonterminals number
+  pub unknown : number ≡ 0 → (terminals : ℕ) → symbolsKnown terminals nonterminals (bodyIn t at) 2 ≡ false → ProductionJudged t at p terminals nonterminals 5
+  pub fine : number ≡ 0 → (terminals : ℕ) → symbolsKnown terminals nonterminals (bodyIn t at) 2 ≡ true → ProductionJudged t at p terminals nonterminals 0
+  pub long : number ≡ 0 → at + 5 + widthIn t at ≤ length t
+  pub short : number ≡ 0 → widthIn t at ≤ 12
+  pub few : number ≡ 0 → p < 128
+  pub left : number ≡ 0 → leftIn t at < nonterminals
+
+-- the words at the positions of the production at an offset
+abbrev pub WordsPlaced : List ℕ → ℕ → ℕ → List ℕ → List ℕ → List ℕ → List ℕ → Type 0
+WordsPlaced t at carrying inherited synthesized inputs settled =
+    Filled (inputAt carrying inherited synthesized (bodyIn t at)) (widthIn t at) 0 inputs × Filled (otherAt carrying inherited synthesized (bodyIn t at)) (widthIn t at) 65535 settled
+
+-- the field of production p read: its number, and where that is 0 its row, the word of its right side and the words at its positions
+pub record FieldRead (t : List ℕ) (at p terminals nonterminals carrying : ℕ) (inherited synthesized rows₀ rows inputs settled : List ℕ) (number word : ℕ) : Type 0 where
+  pub judged : ProductionJudged t at p terminals nonterminals number
+  pub kept : length rows ≡ 2048
+  pub copied : number ≡ 0 → Copied rows₀ p (bodyIn t at) rows (length (bodyIn t at))
+  pub told : number ≡ 0 → RightWord (bodyIn t at) word
+  pub placed : number ≡ 0 → WordsPlaced t at carrying inherited synthesized inputs settled
 
 -- the counts that the arrays hold at the positions of a production are at most 8 together
 abbrev pub SmallBody : List ℕ → ℕ → ℕ → List ℕ → List ℕ → Type 0

@@ -7,4 +7,4 @@ use Rattle.analysis.specs.Growth.{SetsTo}
 
 pub record RightsTo (rows : List ℕ) (k : ℕ) (words : List ℕ) : Type 0 where
   pub short : (p : ℕ) → p < k → sizeAt rows p ≤ 12
-  pub told : SetsTo (rightBy rows) k words
+  pub sets : SetsTo (rightBy rows) k words

@@ -1,13 +1,12 @@
 // The field of a production, with its rules and conditions.
 ghost use mathlib.Core.Path.{_≡_};
 ghost use Prim.Native.Nat.{ℕ, _+_, _<_, _≤_};
-ghost use lib.ListN.{length};
-ghost use Rattle.meaning.specs.Limits.{tableLimit};
+ghost use lib.ListN.{length, replicate};
 ghost use Rattle.meaning.specs.Table.{byte};
 ghost use Rattle.table_counts.specs.Counted.{SmallCounts};
 ghost use Rattle.table_items.specs.Progress.{Next};
 ghost use Rattle.table_sound_items.specs.Sound.{BodyTaken};
-ghost use Rattle.table_production.specs.Productions.{widthIn, ProductionJudged, SmallBody, BodyRead, ProductionRead};
+ghost use Rattle.table_production.specs.Productions.{widthIn, HeadJudged, FieldRead, SmallBody, WordsPlaced, BodyRead, ProductionRead};
 ghost use Rattle.table_production.specs.Rights.{RightsTo};
 use limits::NONTERMINALS;
 use limits::POSITIONS;
@@ -17,14 +16,16 @@ use outline::Sizes;
 use table_items::Items;
 use table_items::read_items;
 use table_items::refused_after;
+use table_occurrence_words::read_right;
 use table_rows::place_counts;
 use table_sound_items::all_settled;
+use table_sound_items::walk;
 use token_set::TokenSet;
 
-// The number of the refusal of the field of production p, or 0.
-fn production_number(table: &[u8], at: usize, p: usize, terminals: usize, nonterminals: usize) -> u8
+// The number of the refusal of the field of production p, but for its symbols on the right, or 0.
+fn head_number(table: &[u8], at: usize, p: usize, nonterminals: usize) -> u8
     requires { ⌜ (at < length (now table)) × (0 < p → byte (now table) at ≡ 3) × (byte (now table) at ≡ 6 → ⊥) ⌝ }
-    ensures { λ r. ⌜ ProductionJudged (now (table .entry)) at p terminals nonterminals r ⌝ }
+    ensures { λ r. ⌜ HeadJudged (now (table .entry)) at p nonterminals r ⌝ }
 {
     let size = table_fields::size_at(table, at);
     if table_fields::LARGEST < size {
@@ -35,7 +36,7 @@ fn production_number(table: &[u8], at: usize, p: usize, terminals: usize, nonter
     }
     let from = at + 3;
     let end = from + size;
-    table_fields::production_fault(terminals, nonterminals, p, &table[from..end])
+    table_fields::head_fault(nonterminals, p, &table[from..end])
 }
 
 // The rules and conditions of the production at an offset, one by one, with what is wrong with them, from the field on where the walk past sound
@@ -67,30 +68,32 @@ fn judge_body(
     read_items(table, sound, at, width, &inh, &syn, &mut note)
 }
 
-// The rules and conditions of the production at an offset, which is where those of the productions before it end. Mostly they are sound and
-// complete; else they are judged one by one from the first on that is not, or at their end.
+// The rules and conditions of the production at an offset, which is where those of the productions before it end, by the words at its positions.
+// Mostly they are sound and complete; else they are judged one by one from the first on that is not, or at their end.
 fn read_body(
     table: &[u8],
     before: Items,
     carrying: TokenSet,
     inherited: &[u8; NONTERMINALS],
     synthesized: &[u8; NONTERMINALS],
+    inputs: &[u16; POSITIONS],
+    settled: &mut [u16; POSITIONS],
 ) -> Items
     requires { ⌜ (before .at + 5 + widthIn (now table) (before .at) ≤ length (now table)) × SmallBody (now table) (before .at) (carrying .0) (now inherited) (now synthesized)
-        × (length (now inherited) ≡ 48) × (length (now synthesized) ≡ 48) × (before .rules ≤ before .at) × (before .conditions ≤ before .at) ⌝ }
+        × (length (now inherited) ≡ 48) × (length (now synthesized) ≡ 48) × (before .rules ≤ before .at) × (before .conditions ≤ before .at)
+        × WordsPlaced (now table) (before .at) (carrying .0) (now inherited) (now synthesized) (now inputs) (now settled) ⌝ }
     ensures read { λ u. ⌜ BodyRead (now (table .entry)) (before .at) (carrying .0) (now (inherited .entry)) (now (synthesized .entry)) (before .rules) (before .conditions) u ⌝ }
     ensures next { λ u. ⌜ (u .number ≡ 0 → Next (now (table .entry)) (before .at + 5) u) ⌝ }
     ensures inside { λ u. ⌜ u .at ≤ length (now (table .entry)) ⌝ }
 {
     let at = before.at;
-    let mut settled = [65535u16; POSITIONS];
-    let s = table_sound_items::read_sound(
+    let width = table_fields::wide(table[at + 4]);
+    let from = at + 5 + width;
+    let s = walk(
         table,
-        at,
-        carrying,
-        inherited,
-        synthesized,
-        &mut settled,
+        from,
+        inputs,
+        settled,
         before.rules,
         before.conditions,
     );
@@ -100,10 +103,57 @@ fn read_body(
         rules: s.rules,
         conditions: s.conditions,
     };
-    if s.sound && all_settled(&settled, table_fields::wide(table[at + 4])) {
+    if s.sound && all_settled(settled, width) {
         return sound;
     }
-    judge_body(table, at, carrying, inherited, synthesized, &settled, sound)
+    judge_body(table, at, carrying, inherited, synthesized, settled, sound)
+}
+
+// What is read of the field of a production: the number of its refusal, or 0, and the word of its right side.
+struct Field {
+    number: u8,
+    word: u64,
+}
+
+// The field of production p, with its row, the word of its right side and the words at its positions.
+fn read_field(
+    table: &[u8],
+    at: usize,
+    p: usize,
+    sizes: Sizes,
+    inherited: &[u8; NONTERMINALS],
+    synthesized: &[u8; NONTERMINALS],
+    rows: &mut [u8; ROWS],
+    inputs: &mut [u16; POSITIONS],
+    settled: &mut [u16; POSITIONS],
+) -> Field
+    requires { ⌜ (at < length (now table)) × (0 < p → byte (now table) at ≡ 3) × (byte (now table) at ≡ 6 → ⊥) × SmallCounts (now inherited) (now synthesized) (sizes .nonterminals)
+        × (sizes .nonterminals ≤ 48) × (length (now rows) ≡ 2048) × (now inputs ≡ replicate 13 0) × (now settled ≡ replicate 13 65535) ⌝ }
+    ensures { λ f. ⌜ FieldRead (now (table .entry)) at p (sizes .terminals) (sizes .nonterminals) (sizes .carrying .0) (now (inherited .entry)) (now (synthesized .entry))
+        (now (rows .entry)) (now (rows .exit)) (now (inputs .exit)) (now (settled .exit)) (f .number) (f .word) ⌝ }
+{
+    let number = head_number(table, at, p, sizes.nonterminals);
+    if number != 0 {
+        return Field { number, word: 0 };
+    }
+    let from = at + 3;
+    let end = at + 5 + table_fields::wide(table[at + 4]);
+    let body = &table[from..end];
+    let right = read_right(
+        rows,
+        p,
+        body,
+        sizes,
+        inherited,
+        synthesized,
+        inputs,
+        settled,
+    );
+    let word = right.word.0;
+    if !right.known {
+        return Field { number: 5, word };
+    }
+    Field { number: 0, word }
 }
 
 // Production p, with its row, its offset, the word of its right side, its rules and conditions, from where those of the productions before it
@@ -113,29 +163,29 @@ pub fn read_production(
     before: Items,
     p: usize,
     sizes: Sizes,
-    inherited: &[u8; NONTERMINALS],
-    synthesized: &[u8; NONTERMINALS],
+    inh: &[u8; NONTERMINALS],
+    syn: &[u8; NONTERMINALS],
     rows: &mut [u8; ROWS],
     offsets: &mut [u32; PRODUCTIONS],
     words: &mut [u64; PRODUCTIONS],
 ) -> Items
     requires { ⌜ (before .at < length (now table)) × (length (now table) ≤ tableLimit) × (0 < p → byte (now table) (before .at) ≡ 3) × (byte (now table) (before .at) ≡ 6 → ⊥)
-        × SmallCounts (now inherited) (now synthesized) (sizes .nonterminals) × (length (now inherited) ≡ 48) × (length (now synthesized) ≡ 48)
+        × SmallCounts (now inh) (now syn) (sizes .nonterminals) × (length (now inh) ≡ 48) × (length (now syn) ≡ 48)
         × (length (now rows) ≡ 2048) × (length (now offsets) ≡ 128) × (before .rules ≤ before .at) × (before .conditions ≤ before .at) × (length (now words) ≡ 128)
         × (sizes .nonterminals ≤ 48) ⌝ }
-    ensures read { λ u. ⌜ ProductionRead (now (table .entry)) (before .at) p (sizes .terminals) (sizes .nonterminals) (sizes .carrying .0) (now (inherited .entry)) (now (synthesized .entry))
+    ensures read { λ u. ⌜ ProductionRead (now (table .entry)) (before .at) p (sizes .terminals) (sizes .nonterminals) (sizes .carrying .0) (now (inh .entry)) (now (syn .entry))
         (now (rows .entry)) (now (offsets .entry)) (before .rules) (before .conditions) (now (rows .exit)) (now (offsets .exit)) u ⌝ }
     ensures kept { λ u. ⌜ length (now (words .exit)) ≡ 128 ⌝ }
     ensures words { λ u. ⌜ (u .number ≡ 0 → RightsTo (now (rows .entry)) p (now (words .entry)) → RightsTo (now (rows .exit)) (p + 1) (now (words .exit))) ⌝ }
 {
     let at = before.at;
-    let number = production_number(table, at, p, sizes.terminals, sizes.nonterminals);
-    if number != 0 {
-        return refused_after(before, number);
+    let mut inputs = [0u16; POSITIONS];
+    let mut full = [65535u16; POSITIONS];
+    let field = read_field(table, at, p, sizes, inh, syn, rows, &mut inputs, &mut full);
+    if field.number != 0 {
+        return refused_after(before, field.number);
     }
-    let from = at + 3;
-    let end = at + 5 + table_fields::wide(table[at + 4]);
-    words[p] = table_rows::copy_row(rows, p, &table[from..end]).0;
+    words[p] = field.word;
     offsets[p] = at as u32;
-    read_body(table, before, sizes.carrying, inherited, synthesized)
+    read_body(table, before, sizes.carrying, inh, syn, &inputs, &mut full)
 }

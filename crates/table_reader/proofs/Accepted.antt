@@ -34,7 +34,7 @@ module _ (t : List ℕ) (o tag high low : ℕ) (body rest : List ℕ) (from : dr
 
   past-is : past t o ≡ o + 3 + length body
   unfolding lengthAt
-  past-is = sym (past-whole t o (length body) (record { told = sym (ap₂ (λ (x y : ℕ). x * 256 + y) (nth-byte 1) (nth-byte 2) ∙ size); inside = omega (arith, all-bytes) }))
+  past-is = sym (past-whole t o (length body) (record { sizeIs = sym (ap₂ (λ (x y : ℕ). x * 256 + y) (nth-byte 1) (nth-byte 2) ∙ size); inside = omega (arith, all-bytes) }))
 
   from-next : drop (o + 3 + length body) t ≡ rest
   from-next =

@@ -22,7 +22,7 @@ module _ (t : List ℕ) (at : ℕ) where
 
   pub past-whole : (size : ℕ) → Whole t at size → at + 3 + size ≡ past t at
   unfolding past
-  past-whole size w = below-no _ _ _ _ (omega (arith, w .told, w .inside)) (omega (arith, w .told))
+  past-whole size w = below-no _ _ _ _ (omega (arith, w .sizeIs, w .inside)) (omega (arith, w .sizeIs))
 
   pub past-end : length t ≤ at → length t ≡ past t at
   past-end h = past-short (omega arith)
@@ -32,7 +32,7 @@ module _ (t : List ℕ) (at : ℕ) where
     where
       go : (b : Bool) → ltb (length t) (at + 3 + lengthAt t at) ≡ b → at < past t at
       go true e = omega (arith, past-short (ltb-true (length t) (at + 3 + lengthAt t at) e))
-      go false e = omega (arith, past-whole (lengthAt t at) (record { told = refl; inside = ltb-false (length t) (at + 3 + lengthAt t at) e }))
+      go false e = omega (arith, past-whole (lengthAt t at) (record { sizeIs = refl; inside = ltb-false (length t) (at + 3 + lengthAt t at) e }))
 
 -- ---- the fields from an offset on
 
@@ -64,7 +64,7 @@ module _ (t : List ℕ) where
           nothing-left (length t - at) end (omega arith) ∙ sym (nothing-left (suc (length t - past t at)) (past t at) (omega (arith, past-short t at l)))
       go false e =
           let end : ℕ = at + 3 + lengthAt t at in
-          let q : end ≡ past t at = past-whole t at (lengthAt t at) (record { told = refl; inside = ltb-false (length t) end e }) in
+          let q : end ≡ past t at = past-whole t at (lengthAt t at) (record { sizeIs = refl; inside = ltb-false (length t) end e }) in
           enough (length t - at) (suc (length t - end)) end (omega arith) (omega arith) ∙ ap (λ (i : ℕ). fieldsFrom (suc (length t - i)) t i) q
 
 -- ---- the tag 3 fields

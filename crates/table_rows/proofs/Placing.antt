@@ -7,7 +7,6 @@ use mathlib.Core.Bool.{Bool, true, false, _||_}
 use native.Mathlib.Omega.{arith}
 use native.Mathlib.Nat.{not-suc-le-zero}
 use native.Mathlib.Numerals.{add-one}
-use lib.Bits.{bitOr}
 use lib.Dec.{T}
 use lib.ListN.{length, getD, set, drop, length-set, drop-of-length-le}
 use lib.Seq.{getD-set-same, getD-set-other, drop-cons}
@@ -16,7 +15,6 @@ use Rattle.meaning.specs.Grammar.{Symbol}
 use Rattle.meaning.specs.Table.{byte, symbolOf}
 use Rattle.outline.specs.Images.{rowStart}
 use Rattle.analysis.specs.Views.{members, symbolBit}
-use Rattle.analysis.specs.Growth.{or-right}
 use Rattle.analysis.specs.Reaching.{Gathered}
 use Rattle.table_rows.specs.RowWritten.{symbolByte, Copied}
 use Rattle.table_fields.proofs.Cases.{lt-or-le}
@@ -33,7 +31,7 @@ placing-start f b places x l e = record { each = first; kept = length-set places
     first zero h = getD-set-same places 0 x 0 (omega (arith, l)) ∙ e
     first (suc j) h = absurd (omega arith)
 
-symbol-byte : (b : List ℕ) (k : ℕ) → 1 ≤ k → byte b (k + 1) ≡ symbolByte b k
+pub symbol-byte : (b : List ℕ) (k : ℕ) → 1 ≤ k → byte b (k + 1) ≡ symbolByte b k
 symbol-byte b zero h = absurd (not-suc-le-zero h)
 symbol-byte b (suc k) h = ap (byte b) {x = suc k + 1} {y = k + 2} (omega arith)
 
@@ -110,13 +108,3 @@ absorbed false false c h = refl
 pub gathered-again : (xs : List Symbol) (out : ℕ) (s : Symbol) (ys rest : List Symbol) → Gathered symbolBit xs out ys → ys ≡ s ∷ rest → ((n : ℕ) → T (symbolBit n s) → T (members out n)) → Gathered symbolBit xs out rest
 gathered-again xs out s ys rest g e in-it =
     record { is = λ n. g .is n ∙ ap (λ (l : List Symbol). members out n || any (symbolBit n) l) e ∙ absorbed (members out n) (symbolBit n s) (any (symbolBit n) rest) (in-it n) }
-
--- the last one, where there is one, is in
-pub record LastIn (last word : ℕ) : Type 0 where
-  pub has : last < 176 → (n : ℕ) → T (symbolBit n (symbolOf last)) → T (members word n)
-
-pub last-none : (word : ℕ) → LastIn 255 word
-last-none word = record { has = λ l. absurd (omega arith) }
-
-pub last-new : (s word x : ℕ) → ((n : ℕ) → members x n ≡ symbolBit n (symbolOf s)) → LastIn s (bitOr word x)
-last-new s word x is = record { has = λ l n t. or-right word x n (rw (is n) t) }

@@ -1,5 +1,5 @@
 -- What is written of a production: the counts at its positions, and its row.
-use Prim.Native.Nat.{ℕ, zero, suc, _+_, _≤_, _<_}
+use Prim.Native.Nat.{ℕ, zero, suc, _+_, _<_}
 use mathlib.Core.Path.{_≡_}
 use mathlib.Core.List.{List, map}
 use lib.ListN.{getD, length, drop}
@@ -22,10 +22,6 @@ pub record Copied (rows₀ : List ℕ) (p : ℕ) (b rows : List ℕ) (k : ℕ) :
   pub before : (i : ℕ) → i < rowStart p → getD rows i 0 ≡ getD rows₀ i 0
   pub row : (j : ℕ) → j < k → getD rows (rowStart p + j) 0 ≡ byte b j
   pub kept : length rows ≡ 2048
-
--- the symbols of a production's body are tokens, or nonterminals that a table can have
-abbrev pub SymbolsSmall : List ℕ → Type 0
-SymbolsSmall b = (k : ℕ) → 2 ≤ k → k < length b → byte b k < 176
 
 -- the word of a production's right side, by its body
 abbrev pub RightWord : List ℕ → ℕ → Type 0

@@ -1,14 +1,11 @@
-// What is written of a production: the counts at its positions, and its row.
+// The counts at the positions of a production. What is written of its row is told here too.
 ghost use mathlib.Core.Path.{_≡_};
-ghost use Prim.Native.Nat.{_+_, _<_, _≤_};
+ghost use Prim.Native.Nat.{_≤_};
 ghost use lib.ListN.{length};
 ghost use Rattle.outline.specs.Counts.{countAt, synthesizedAt};
-ghost use Rattle.table_rows.specs.RowWritten.{Written, Copied, SymbolsSmall, RightWord};
-use analysis_rights::symbol_bit;
+ghost use Rattle.table_rows.specs.RowWritten.{Written};
 use limits::NONTERMINALS;
 use limits::POSITIONS;
-use limits::ROWS;
-use nonterminal_set::NonterminalSet;
 use token_set::TokenSet;
 
 // The counts at the positions of a production, by its body.
@@ -34,29 +31,4 @@ pub fn place_counts(
         syn[k] = outline::synthesized_of(carrying, synthesized, symbol);
         k += 1;
     }
-}
-
-// The row of production p, its body as it stands in the table; and the word of its right side. The same symbol often stands many times in a row.
-pub fn copy_row(rows: &mut [u8; ROWS], p: usize, body: &[u8]) -> NonterminalSet
-    requires { ⌜ (p < 128) × (2 ≤ length (now body)) × (length (now body) ≤ 14) × (length (now rows) ≡ 2048) × SymbolsSmall (now body) ⌝ }
-    ensures copied { λ r. ⌜ Copied (now (rows .entry)) p (now (body .entry)) (now (rows .exit)) (length (now (body .entry))) ⌝ }
-    ensures word { λ r. ⌜ RightWord (now (body .entry)) (r .0) ⌝ }
-{
-    let start = outline::row_start(p);
-    rows[start] = body[0];
-    rows[start + 1] = body[1];
-    let mut word = NonterminalSet::EMPTY;
-    let mut last: u8 = 255;
-    let mut k: usize = 2;
-    while k < body.len() {
-        let symbol = body[k];
-        rows[start + k] = symbol;
-        k += 1;
-        if symbol == last {
-            continue;
-        }
-        last = symbol;
-        word = word.union(symbol_bit(symbol));
-    }
-    word
 }

@@ -1,7 +1,7 @@
 -- The fault of a rule is the one that 01's table gives.
 use Prim.Native.Nat.{ℕ, zero, suc, _+_, _-_, _≤_, _<_}
 use mathlib.Core.Path.{_≡_, refl, sym, _∙_, ap, ap₂}
-use mathlib.Core.Bool.{Bool, true, false, _&&_, _||_, not, cond, true≢false}
+use mathlib.Core.Bool.{Bool, true, false, _&&_, _||_, not, cond, true≢false, and-true}
 use mathlib.Core.List.{List, [], _∷_}
 use native.Mathlib.Omega.{arith}
 use lib.Dec.{eqb, leb, ltb}
@@ -22,7 +22,6 @@ use Rattle.table_rules.proofs.Laws.{ap3, class-inside, class-first, class-last}
 use Rattle.table_rule_note.proofs.Noting.{notes-bit}
 use Rattle.table_rules.proofs.Order.{divisor-same}
 use Rattle.table_rules.proofs.ClassDemands.{Classed, input, classed, uses-by, entry, state}
-use Rattle.table_fields.proofs.Cases.{and-true}
 
 -- ---- the operands by the function
 

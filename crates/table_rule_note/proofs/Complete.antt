@@ -1,7 +1,7 @@
 -- The note against 01: every output noted.
 use Prim.Native.Nat.{ℕ, zero, suc, _+_, _/_, _^_, _≤_, _<_}
 use mathlib.Core.Path.{_≡_, refl, sym, _∙_, ap, ap₂}
-use mathlib.Core.Bool.{Bool, true, false, _&&_, _||_, not, cond}
+use mathlib.Core.Bool.{Bool, true, false, _&&_, _||_, not, cond, and-true}
 use mathlib.Core.List.{List, [], _∷_, map}
 use native.Mathlib.Omega.{arith}
 use lib.Dec.{eqb, leb}
@@ -13,10 +13,10 @@ use Rattle.meaning.specs.Table.{State, Entry, Header, isInput, hasRule, complet
 use Rattle.table_fields.specs.Demand.{ifEqual}
 use Rattle.table_rules.specs.Rule.{Small, bit, ones, filledAt, settled, allCount, completeNote}
 use Rattle.table_rules.specs.Note.{Placed, Notes, occurrence, isSet}
+use Rattle.theory_base.specs.Members.{counted-all}
 use Rattle.table_rule_note.proofs.Bits.{bit-suc, bit-first, bit-shifted}
 use Rattle.table_rule_note.proofs.Noting.{notes-bit}
 use Rattle.table_rules.proofs.ClassDemands.{entry, state, inherited-in, synthesized-in}
-use Rattle.table_fields.proofs.Cases.{and-true}
 
 -- ---- tests on numbers in a row
 
@@ -24,10 +24,6 @@ module _ (f g : ℕ → Bool) where
   pub count-same : (j n : ℕ) → ((i : ℕ) → j ≤ i → i < j + n → f i ≡ g i) → all f (countFrom j n) ≡ all g (countFrom j n)
   count-same j zero h = refl
   count-same j (suc n) h = ap₂ _&&_ (h j (omega arith) (omega arith)) (count-same (suc j) n (λ i p q. h i (omega arith) (omega arith)))
-
-count-true : (f : ℕ → Bool) (j n : ℕ) → ((i : ℕ) → j ≤ i → i < j + n → f i ≡ true) → all f (countFrom j n) ≡ true
-count-true f j zero h = refl
-count-true f j (suc n) h = ap₂ _&&_ (h j (omega arith) (omega arith)) (count-true f (suc j) n (λ i p q. h i (omega arith) (omega arith)))
 
 and-assoc : (x y z : Bool) → x && (y && z) ≡ (x && y) && z
 and-assoc true y z = refl
@@ -92,7 +88,7 @@ module _ (h : Header) (cs : List Counts) (os ws : List ℕ) (es : List Entry) (r
     bit-is a q = sym (notes-bit note rs nt k a (omega (arith, small .0)) q)
 
     left-inputs : all (test true i) (countFrom 1 i) ≡ true
-    left-inputs = count-true (test true i) 1 i (λ a p q. ap (λ x. x || isSet rs (occurrence k a)) (le-leb a i (omega arith)))
+    left-inputs = counted-all (test true i) 1 i (λ a p q. ap (λ x. x || isSet rs (occurrence k a)) (le-leb a i (omega arith)))
 
     left-outputs : all (test true i) (countFrom (1 + i) y) ≡ ones (n / 2 ^ i) y
     left-outputs =
@@ -120,7 +116,7 @@ module _ (h : Header) (cs : List Counts) (os ws : List ℕ) (es : List Entry) (r
         ∙ ones-bits i n
 
     right-inputs : all (test false i) (countFrom (1 + i) y) ≡ true
-    right-inputs = count-true (test false i) (1 + i) y (λ a p q. ap (λ x. not x || isSet rs (occurrence k a)) (lt-leb a i (omega arith)))
+    right-inputs = counted-all (test false i) (1 + i) y (λ a p q. ap (λ x. not x || isSet rs (occurrence k a)) (lt-leb a i (omega arith)))
 
     by-side : (z : Bool) → all (test z i) (countFrom 1 (i + y)) ≡ cond z (ones (n / 2 ^ i) y) (ones n i)
     by-side true = count-split (test true i) 1 i y ∙ ap₂ _&&_ left-inputs left-outputs

@@ -3,7 +3,6 @@ use Prim.Native.Nat.{ℕ, zero, suc, _+_, _≤_, _<_}
 use mathlib.Core.Path.{_≡_, refl, sym, _∙_, ap, ap₂}
 use mathlib.Core.Bool.{Bool, true, false, _&&_, _||_, not, true≢false}
 use mathlib.Core.List.{List, []}
-use mathlib.Core.Logic.{⊎-elim}
 use native.Mathlib.Omega.{arith}
 use lib.Dec.{leb}
 use lib.ListN.{length}
@@ -11,10 +10,10 @@ use borrow.Author.Tests.{le-leb, leb-true}
 use Rattle.meaning.specs.Base.{all, countFrom}
 use Rattle.meaning.specs.Grammar.{Occurrence}
 use Rattle.meaning.specs.Table.{State, Entry, noHeader, isInput, hasRule, complete, entrySymbol, countsAt, occurrencesAt}
-use Rattle.table_fields.proofs.Cases.{lt-or-le}
 use Rattle.table_rules.specs.Rule.{Small, completeNote}
 use Rattle.table_rules.specs.Note.{occurrence, Gap, GapAnswered, GapsAnswered}
 use Rattle.table_rules.proofs.Laws.{ap3}
+use Rattle.theory_base.specs.Members.{all-counted}
 use Rattle.table_rule_note.proofs.Complete.{all-mapped, complete-judged}
 
 -- ---- a test on numbers in a row
@@ -39,18 +38,6 @@ module _ (f : ℕ → Bool) where
           let w = more (sym (ap (λ x. x && after j n) q) ∙ e) in
           record { one = w .one; above = omega (arith, w .above); below = omega (arith, w .below); fails = w .fails }
 
-  each-passes : (n j i : ℕ) → all f (countFrom j n) ≡ true → j ≤ i → i < j + n → f i ≡ true
-  each-passes zero j i e p q = absurd (omega arith)
-  each-passes (suc n) j i e p q = go (f j) refl (λ w l. each-passes n (suc j) i w l (omega arith))
-    where
-      go : (x : Bool) → f j ≡ x → (after j n ≡ true → suc j ≤ i → f i ≡ true) → f i ≡ true
-      go false w more = absurd (true≢false (sym e ∙ ap (λ x. x && after j n) w))
-      go true w more =
-          ⊎-elim
-          (λ l. more (sym (ap (λ x. x && after j n) w) ∙ e) l)
-          (λ l. let here : i ≡ j = omega arith in ap f here ∙ w)
-          (lt-or-le j i)
-
 -- ---- booleans
 
 and-parts : (x y z : Bool) → x && (y && z) ≡ true → (x ≡ true) × (y ≡ true) × (z ≡ true)
@@ -59,7 +46,7 @@ and-parts false y z e = absurd (true≢false (sym e))
 and-parts true false z e = absurd (true≢false (sym e))
 and-parts true true false e = absurd (true≢false (sym e))
 
-or-parts : (x y : Bool) → x || y ≡ false → (x ≡ false) × (y ≡ false)
+pub or-parts : (x y : Bool) → x || y ≡ false → (x ≡ false) × (y ≡ false)
 or-parts false false e = (refl, refl)
 or-parts true y e = absurd (true≢false e)
 or-parts false true e = absurd (true≢false e)
@@ -95,28 +82,28 @@ module _ (s : State) (e : Entry) where
         unset = parts .1;
       }
 
-  gap-told : Gap s e → complete s e ≡ true → ⊥
-  gap-told g q =
+  gap-incomplete : Gap s e → complete s e ≡ true → ⊥
+  gap-incomplete g q =
       let k : ℕ = g .place .position in
       let a : ℕ = g .place .attribute in
       let parts = and-parts (leb k (length (e .right))) (leb 1 a) (leb a (count k)) (g .known) in
       let inside : k ≤ length (e .right) = leb-true k (length (e .right)) (parts .0) in
       let first : 1 ≤ a = leb-true 1 a (parts .1) in
       let last : a ≤ count k = leb-true a (count k) (parts .2) in
-      let here : passesAt k ≡ true = each-passes passesAt (suc (length (e .right))) 0 k q (omega arith) (omega arith) in
-      let passed : passes (g .place) ≡ true = each-passes (λ i. passes (occurrence k i)) (count k) 1 a (sym (by-attribute k) ∙ here) first (omega arith) in
+      let here : passesAt k ≡ true = all-counted passesAt 0 (suc (length (e .right))) k q (omega arith) (omega arith) in
+      let passed : passes (g .place) ≡ true = all-counted (λ i. passes (occurrence k i)) 1 (count k) a (sym (by-attribute k) ∙ here) first (omega arith) in
       true≢false (sym passed ∙ ap₂ _||_ (g .output) (g .unset))
 
   pub gap-answered : (gap : Bool) → gap ≡ not (complete s e) → GapAnswered s e gap
-  gap-answered gap q = record { judged = q; found = λ t. found (complete s e) refl (sym q ∙ t); told = λ g. q ∙ told g (complete s e) refl }
+  gap-answered gap q = record { judged = q; found = λ t. found (complete s e) refl (sym q ∙ t); seen = λ g. q ∙ incomplete g (complete s e) refl }
     where
       found : (x : Bool) → complete s e ≡ x → not x ≡ true → Gap s e
       found false w t = gap-found w
       found true w t = absurd (true≢false (sym t))
 
-      told : Gap s e → (x : Bool) → complete s e ≡ x → not x ≡ true
-      told g false w = refl
-      told g true w = absurd (gap-told g w)
+      incomplete : Gap s e → (x : Bool) → complete s e ≡ x → not x ≡ true
+      incomplete g false w = refl
+      incomplete g true w = absurd (gap-incomplete g w)
 
 -- ---- by the note
 

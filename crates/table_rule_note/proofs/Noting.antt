@@ -107,7 +107,7 @@ notes-begin = notes-none (replicate 13 0) (length-replicate {A = ℕ} 13 0) (zer
 
 -- ---- a rule more
 
-less-one : (a i : ℕ) → 1 ≤ a → 1 ≤ i → eqb (a - 1) (i - 1) ≡ eqb a i
+pub less-one : (a i : ℕ) → 1 ≤ a → 1 ≤ i → eqb (a - 1) (i - 1) ≡ eqb a i
 less-one a i l m = go (ℕ-discrete a i)
   where
     go : Dec (a ≡ i) → eqb (a - 1) (i - 1) ≡ eqb a i

@@ -1,7 +1,7 @@
 -- Two's complement: constants and bounds in order.
 use Prim.Native.Nat.{ℕ, _+_, _-_, _%_, _≤_, _<_}
 use mathlib.Core.Path.{_≡_, refl, sym, _∙_, ap}
-use mathlib.Core.Bool.{Bool, true, false, _&&_}
+use mathlib.Core.Bool.{Bool, true, false, _&&_, and-false}
 use native.Mathlib.Omega.{arith}
 use lib.Dec.{leb, ltb}
 use lib.IntN.{ℤ, pos, negsuc}
@@ -9,7 +9,6 @@ use lib.Signed.{leZ}
 use borrow.Author.Tests.{leb-true, leb-false, le-leb, lt-leb, ltb-true, ltb-false}
 use Rattle.meaning.specs.Table.{signed}
 use Rattle.table_rules.specs.Rule.{inOrder}
-use Rattle.table_fields.proofs.Cases.{and-false}
 
 -- two tests that mean the same
 pub leb-iff : (a b a′ b′ : ℕ) → (a ≤ b → a′ ≤ b′) → (a′ ≤ b′ → a ≤ b) → leb a b ≡ leb a′ b′

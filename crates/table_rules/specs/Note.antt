@@ -57,7 +57,7 @@ pub record Gap (s : State) (e : Entry) : Type 0 where
 pub record GapAnswered (s : State) (e : Entry) (gap : Bool) : Type 0 where
   pub judged : gap ≡ not (complete s e)
   pub found : gap ≡ true → Gap s e
-  pub told : Gap s e → gap ≡ true
+  pub seen : Gap s e → gap ≡ true
 
 -- 02: "Gaps are answered from the notes, the symbols and the attribute counts": for every production whose symbols have these counts at their positions and whose rules are noted
 abbrev pub GapsAnswered : ℕ → List ℕ → List ℕ → List ℕ → Bool → Type 0

@@ -18,7 +18,7 @@ use Rattle.table_rule_fields.proofs.Sound.{length-is}
 
 pub whole-at : (t : List ℕ) (at size n : ℕ) → byte t (at + 1) ≡ 0 → n ≡ byte t (at + 2) → n ≡ size → at + 3 + size ≤ length t → Whole t at size
 unfolding lengthAt
-whole-at t at size n z e f l = record { told = omega arith; inside = l }
+whole-at t at size n z e f l = record { sizeIs = omega arith; inside = l }
 
 -- ---- rules
 

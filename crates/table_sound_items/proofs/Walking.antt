@@ -6,7 +6,7 @@ use mathlib.Core.List.{List, []}
 use native.Mathlib.Omega.{arith}
 use native.Mathlib.Decide.{ℕ-discrete}
 use lib.ListN.{getD, length, replicate, take, drop}
-use Rattle.meaning.specs.Base.{all, countFrom}
+use Rattle.meaning.specs.Base.{all}
 use Rattle.meaning.specs.Table.{byte}
 use Rattle.table_fields.specs.Field.{bodyAt}
 use Rattle.table_fields.proofs.Demands.{equal-yes, equal-no}
@@ -23,6 +23,7 @@ use Rattle.table_items.proofs.Walking.{use-rule, use-condition, walk-start, wal
 use Rattle.table_occurrences.specs.OccurrenceBits.{inputWord, otherWord, Filled, Inputs, Settled, notedBy}
 use Rattle.table_occurrences.proofs.Ranges.{full}
 use Rattle.table_occurrences.proofs.Laws.{inputs-placed, settled-placed}
+use Rattle.theory_base.specs.Members.{counted-all}
 use Rattle.table_sound_items.specs.Sound.{RuleStands, ConditionStands, WordsSettled, Sounding, Over, done, BodySound, BodyTaken}
 
 -- ---- the loop
@@ -98,10 +99,6 @@ unfolding ones
 ones-all zero n h = refl
 ones-all (suc d) n h = ap₂ _&&_ (sym (bit-first n) ∙ h 0 (omega arith)) (ones-all d (n / 2) (λ i l. sym (bit-suc n i) ∙ h (suc i) (omega arith)))
 
-count-true : (f : ℕ → Bool) (j n : ℕ) → ((i : ℕ) → j ≤ i → i < j + n → f i ≡ true) → all f (countFrom j n) ≡ true
-count-true f j zero h = refl
-count-true f j (suc n) h = ap₂ _&&_ (h j (omega arith) (omega arith)) (count-true f (suc j) n (λ i p q. h i (omega arith) (omega arith)))
-
 module _ (width : ℕ) (inh syn note words : List ℕ) (small : Small width inh syn) (w : Settled width inh syn note words) (all-set : WordsSettled words width) where
   noted : (k a : ℕ) → k ≤ width → a < 16 → 2 ≡ classAt width inh syn k a → bit (getD note k 0) (a - 1) ≡ true
   noted k a l m out = go (bit (getD note k 0) (a - 1)) refl
@@ -109,7 +106,7 @@ module _ (width : ℕ) (inh syn note words : List ℕ) (small : Small width inh 
       go : (x : Bool) → bit (getD note k 0) (a - 1) ≡ x → x ≡ true
       go true e = refl
       go false e =
-          absurd (true≢false (sym (ap (λ (y : ℕ). bit y a) (all-set k l) ∙ full a m) ∙ w .told k a (omega (arith, small .0)) m out e))
+          absurd (true≢false (sym (ap (λ (y : ℕ). bit y a) (all-set k l) ∙ full a m) ∙ w .unnoted k a (omega (arith, small .0)) m out e))
 
   bit-before : (k a : ℕ) → bit (getD note k 0) (suc a - 1) ≡ bit (getD note k 0) a
   bit-before k a = ap (bit (getD note k 0)) {x = suc a - 1} {y = a} (omega arith)
@@ -138,7 +135,7 @@ module _ (width : ℕ) (inh syn note words : List ℕ) (small : Small width inh 
 
   pub complete : completeNote width inh syn note ≡ true
   unfolding allCount
-  complete = count-true (settled inh syn note) 0 (suc width) (λ i p q. filled-here i (omega arith))
+  complete = counted-all (settled inh syn note) 0 (suc width) (λ i p q. filled-here i (omega arith))
 
 -- ---- the whole production
 

@@ -7,7 +7,7 @@ use Rattle.meaning.specs.Limits.{rulesLimit, conditionsLimit}
 use Rattle.meaning.specs.Table.{byte}
 use Rattle.table_fields.specs.Field.{Whole, bodyAt}
 use Rattle.table_rules.specs.Rule.{Small, ruleFault, conditionFault}
-use Rattle.table_rows.specs.RowWritten.{symbolByte, Written}
+use Rattle.table_rows.specs.RowWritten.{Written}
 use Rattle.outline.specs.Counts.{countAt, synthesizedAt}
 use Rattle.table_items.specs.declared.Items.{Items}
 use Rattle.table_items.specs.Progress.{settingOf, Walked, ItemsRead, Next}
@@ -40,6 +40,10 @@ pub record ConditionStands (t : List ℕ) (at c : ℕ) (inputs : List ℕ) (end 
 -- all outputs up to a position are settled
 abbrev pub WordsSettled : List ℕ → ℕ → Type 0
 WordsSettled words width = (k : ℕ) → k ≤ width → getD words k 0 ≡ 65535
+
+-- the words from one on up to another are full
+abbrev pub AllFull : List ℕ → ℕ → ℕ → Type 0
+AllFull words from end = (k : ℕ) → from ≤ k → k < end → getD words k 0 ≡ 65535
 
 -- past sound rules and conditions from an offset to another: a note of their rules, by which the words are settled
 pub record Sounding (t : List ℕ) (from r₀ c₀ : ℕ) (inputs words₀ words : List ℕ) (at r c : ℕ) : Type 0 where
@@ -83,8 +87,3 @@ pub record BodyTaken (t : List ℕ) (at carrying : ℕ) (inherited synthesized :
   pub inside : end ≤ length t
   pub rules : r ≤ end
   pub conditions : c ≤ end
-
--- the counts at the positions of a production are at most 8 together
-abbrev pub SmallPlaces : List ℕ → ℕ → ℕ → List ℕ → List ℕ → Type 0
-SmallPlaces t at carrying inherited synthesized =
-    (k : ℕ) → k ≤ byte t (at + 4) → countAt inherited (symbolByte (bodyAt t at (2 + byte t (at + 4))) k) + synthesizedAt carrying synthesized (symbolByte (bodyAt t at (2 + byte t (at + 4))) k) ≤ 8

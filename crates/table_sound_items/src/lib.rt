@@ -3,16 +3,14 @@
 ghost use mathlib.Core.Path.{_≡_};
 ghost use mathlib.Core.Bool.{true, false};
 ghost use Prim.Native.Nat.{_+_, _*_, _<_, _≤_};
-ghost use lib.ListN.{length, replicate};
+ghost use lib.ListN.{length};
 ghost use Rattle.meaning.specs.Table.{byte};
 ghost use Rattle.table_fields.specs.Field.{Whole};
 ghost use Rattle.table_rules.specs.Rule.{lengthOf};
-ghost use Rattle.table_sound_items.specs.Sound.{RuleSound, RuleStands, ConditionSound, ConditionStands, Sounding, WordsSettled, Over, BodyTaken, SmallPlaces};
+ghost use Rattle.table_sound_items.specs.Sound.{RuleSound, RuleStands, ConditionSound, ConditionStands, Sounding, WordsSettled, AllFull, Over};
 use limits::CONDITIONS;
-use limits::NONTERMINALS;
 use limits::POSITIONS;
 use limits::RULES;
-use token_set::TokenSet;
 
 // The end of a production's rules and conditions, where they are sound; else the field that is to be judged.
 pub struct Sound {
@@ -179,22 +177,49 @@ fn wide_word(x: u16) -> usize
     x as usize
 }
 
-// True only where every output up to a position is settled: then the words have the largest sum that they can have.
+// The bits that four words from one on have in common.
+fn common(settled: &[u16; POSITIONS], from: usize) -> usize
+    requires { ⌜ from ≤ 9 ⌝ }
+    ensures { λ r. ⌜ (r ≡ 65535 → AllFull (now (settled .entry)) from (from + 4)) × (r < 65536) ⌝ }
+{
+    let low = wide_word(settled[from]) & wide_word(settled[from + 1]);
+    let high = wide_word(settled[from + 2]) & wide_word(settled[from + 3]);
+    low & high
+}
+
+// True only where all words from the third on are full.
+fn others_full(settled: &[u16; POSITIONS]) -> bool
+    ensures { λ r. ⌜ (r ≡ true → AllFull (now (settled .entry)) 2 13) ⌝ }
+{
+    let first = common(settled, 2);
+    let second = common(settled, 6);
+    let third = common(settled, 9);
+    first & second & third == 65535
+}
+
+// True only where every output up to a position is settled: then its words are full. Those past the position are full anyway; they are not looked
+// at where the right side is short.
 pub fn all_settled(settled: &[u16; POSITIONS], width: usize) -> bool
     requires { ⌜ width ≤ 12 ⌝ }
     ensures { λ r. ⌜ (r ≡ true → WordsSettled (now (settled .entry)) width) ⌝ }
 {
-    let mut sum: usize = 0;
-    let mut k: usize = 0;
-    while k <= width {
-        sum += wide_word(settled[k]);
-        k += 1;
+    if settled[0] != 65535 {
+        return false;
     }
-    sum == 65535 * k
+    if width == 0 {
+        return true;
+    }
+    if settled[1] != 65535 {
+        return false;
+    }
+    if width == 1 {
+        return true;
+    }
+    others_full(settled)
 }
 
 // Past the rules and conditions from an offset on, up to the next production or the end, or the first field with which something may be wrong.
-fn walk(
+pub fn walk(
     table: &[u8],
     from: usize,
     inputs: &[u16; POSITIONS],
@@ -231,36 +256,4 @@ fn walk(
         c += 1;
     }
     sound_to(true, at, r, c)
-}
-
-// The rules and conditions of the production at an offset, whose field is whole; sound only if there is nothing wrong with them, but perhaps
-// an output lacks its rule. In the words, all full before, what is settled by the rules up to where this stops.
-pub fn read_sound(
-    table: &[u8],
-    at: usize,
-    carrying: TokenSet,
-    inherited: &[u8; NONTERMINALS],
-    synthesized: &[u8; NONTERMINALS],
-    settled: &mut [u16; POSITIONS],
-    rules: usize,
-    conditions: usize,
-) -> Sound
-    requires { ⌜ (at + 5 + byte (now table) (at + 4) ≤ length (now table)) × (byte (now table) (at + 4) ≤ 12) × SmallPlaces (now table) at (carrying .0) (now inherited) (now synthesized)
-        × (length (now inherited) ≡ 48) × (length (now synthesized) ≡ 48) × (rules ≤ at) × (conditions ≤ at) × (now settled ≡ replicate 13 65535) ⌝ }
-    ensures taken { λ w. ⌜ BodyTaken (now (table .entry)) at (carrying .0) (now (inherited .entry)) (now (synthesized .entry)) rules conditions (now (settled .exit)) (w .at) (w .rules) (w .conditions) ⌝ }
-    ensures over { λ w. ⌜ (w .sound ≡ true → Over (now (table .entry)) (w .at)) ⌝ }
-{
-    let width = table_fields::wide(table[at + 4]);
-    let from = at + 3;
-    let end = at + 5 + width;
-    let mut inputs = [0u16; POSITIONS];
-    table_occurrence_words::place_words(
-        &table[from..end],
-        carrying,
-        inherited,
-        synthesized,
-        &mut inputs,
-        settled,
-    );
-    walk(table, end, &inputs, settled, rules, conditions)
 }

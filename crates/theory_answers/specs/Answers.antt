@@ -8,6 +8,7 @@ use mathlib.Core.List.{List, [], reverse}
 use lib.ListN.{length, take}
 use lib.Dec.{T, eqb, ltb}
 use lib.IntN.{ℤ}
+use borrow.Author.Tests.{ne-eqb, eq-eqb}
 use Rattle.meaning.specs.Grammar.{Grammar, Leaf, leaves}
 use Rattle.meaning.specs.Rules.{WellFormed}
 use Rattle.meaning.specs.Table.{State, Read, wellFormed, malformed, readTable, grammarOf}
@@ -22,7 +23,7 @@ use Rattle.meaning.specs.Calls.{Record, Stacks, Called, Answer, closedRecord, m
 use Rattle.meaning.specs.Fit.{Fit}
 use Rattle.meaning.specs.PublicCalls.{Checked, usable, unusable, checkedAs, check, Call, feed, finish, callOf, areaLength, written, Effect, effect, opens, performs}
 use Rattle.meaning_statements.specs.CallStatements.{isTableNumber, openingAnswer, engineAnswer, isForty, callAnswer, AlwaysAnswers, Lendable, Even, Met, UnevenLists, MovesTo, CallsMove, EmptyFeed, LimitsOnly, HandlesAlways}
-use Rattle.theory_base.specs.Members.{T→true, same-true, differ-false}
+use Rattle.theory_base.specs.Members.{T→true}
 use Rattle.theory_base.specs.Feeds.{leaves-of}
 use Rattle.theory_table.specs.ReadWellFormed.{read-well-formed}
 use Rattle.theory_table.specs.AcceptedTable.{accepted-well-formed}
@@ -297,7 +298,7 @@ module _ (program : Grammar → List ℕ) (bs area : List ℕ) (g : Grammar) (r 
   made-to (feed ks vs) t e =
       let us : List Leaf = leaves g (tokensFrom ks vs) in
       let k : Called = afterFeed g m (feedAll g (lentOf m) us (configOf g r m)) in
-      subst (λ b. To (feed ks vs) (effect (whenEven b r m k) (written (program g) area))) (sym (same-true (length ks) (length vs) e)) (fed-to ks vs t (feedAll g (lentOf m) us (configOf g r m)) (feed-leads g wf r m (met .fits) us))
+      subst (λ b. To (feed ks vs) (effect (whenEven b r m k) (written (program g) area))) (sym (eq-eqb (length ks) (length vs) e)) (fed-to ks vs t (feedAll g (lentOf m) us (configOf g r m)) (feed-leads g wf r m (met .fits) us))
   made-to finish t e = finished-to (finishAll g (lentOf m) (configOf g r m)) (finish-leads g wf r m (met .fits))
 
 pub calls-move : CallsMove
@@ -306,7 +307,7 @@ calls-move program bs area g r m c t e met = subst (λ e. MovesTo program area g
 pub uneven-lists : UnevenLists
 uneven-lists program bs area g r m (feed ks vs) met u =
     performs-met program bs area g r m met (feed ks vs)
-    ∙ ap (λ b. effect (whenEven b r m (afterFeed g m (feedAll g (lentOf m) (leaves g (tokensFrom ks vs)) (configOf g r m)))) (written (program g) area)) (differ-false (length ks) (length vs) u)
+    ∙ ap (λ b. effect (whenEven b r m (afterFeed g m (feedAll g (lentOf m) (leaves g (tokensFrom ks vs)) (configOf g r m)))) (written (program g) area)) (ne-eqb (length ks) (length vs) u)
 uneven-lists program bs area g r m finish met u = absurd (u tt)
 
 pub empty-feed : EmptyFeed

@@ -4,9 +4,9 @@ use native.Mathlib.Omega.{arith}
 use mathlib.Core.Path.{_≡_, refl, sym, ap, ap₂, _∙_, subst, subst₂}
 use mathlib.Core.Logic.{_⊎_, inl, inr}
 use mathlib.Core.Bool.{Bool, true, false, _&&_}
-use mathlib.Core.List.{List, [], _∷_, _++_, append-nil}
-use lib.ListN.{length, take, drop, length-append, take-append-drop, List·getD-eq-default}
-use lib.Seq.{take-at, drop-nil, drop-drop}
+use mathlib.Core.List.{List, [], _∷_, _++_, append-nil, append-cancel-right}
+use lib.ListN.{length, take, drop, take-append-drop, List·getD-eq-default}
+use lib.Seq.{drop-nil, drop-drop}
 use lib.Dec.{T, eqb}
 use lib.IntN.{ℤ, pos}
 use Rattle.meaning.specs.Base.{all, In, countFrom, isEmpty}
@@ -29,6 +29,7 @@ use Rattle.theory_base.specs.Steps as Steps
 use Rattle.theory_base.specs.WellFormed.{well-formed-at}
 use Rattle.theory_sets.specs.Widths.{starts-wide}
 use Rattle.theory_table.specs.AcceptedTable.{accepted-well-formed}
+use Rattle.theory_base.specs.Frames.{topRest}
 use Rattle.theory_answers.specs.Bounds.{counts}
 use Rattle.theory_answers.specs.Shape.{StandsOnFrames, segment, inside, Due, adds, hands, tests, closes, removes, ends}
 use Rattle.theory_answers.specs.Shape as Shape
@@ -85,10 +86,6 @@ module _ (g : Grammar) (lent : Lent) where
       read-up (inr z) = omega (arith, z .2)
 
 -- ---- what may be read and predicted
-
-abbrev topRest : List Frame → List Instruction
-topRest [] = []
-topRest (f ∷ fs) = f .rest
 
 leaf-is : (a b : Leaf) → comes a ≡ comes b → a ≡ b
 leaf-is a b q = cc
@@ -180,11 +177,6 @@ module _ (g : Grammar) (wf : WellFormed g) (lent : Lent) where
 
 -- ---- lists
 
-cancel : {A : Type 0} (xs ys zs : List A) → xs ++ zs ≡ ys ++ zs → xs ≡ ys
-cancel xs ys zs e =
-    let n : length ys ≡ length xs = omega (arith, ap length e, length-append xs zs, length-append ys zs) in
-    sym (take-at xs zs (length xs) refl) ∙ (ap (take (length xs)) e ∙ take-at ys zs (length xs) n)
-
 not-empty : {A B : Type 0} {left us : List A} {u : A} → left ≡ u ∷ us → left ≡ [] → B
 not-empty l e = absurd (omega (arith, ap length (sym l ∙ e)))
 
@@ -254,7 +246,7 @@ module _ (g : Grammar) (wf : WellFormed g) (lent : Lent) (c : Config) where
       same : yl ≡ xl
       same =
           let z : yd .tokens - xd .tokens ≡ 0 = omega (arith, tokens (w .why)) in
-          cancel yl xl (stranger g ∷ []) (grows g lent m .rest ∙ ap (λ n. drop n (xl ++ (stranger g ∷ []))) z)
+          append-cancel-right yl xl (stranger g ∷ []) (grows g lent m .rest ∙ ap (λ n. drop n (xl ++ (stranger g ∷ []))) z)
 
       compared : ((zs : List Act) × Makes g lent (stranger g ∷ []) xd zs (stranger g ∷ []) yd) ⊎ ((zs : List Act) × Makes g lent (stranger g ∷ []) yd zs (stranger g ∷ []) xd) → ⊥
       compared (inr n) = absurd (omega (arith, grows g lent (n .1) .moves))
@@ -271,7 +263,7 @@ module _ (g : Grammar) (wf : WellFormed g) (lent : Lent) (c : Config) where
       seen : Unseen g lent (fedLeaves g ks ns) c yw yl yd ⊎ ((yd .tokens < tokensLimit) × (w .at .kind < g .terminals)) → ⊥
       seen (inr n) = barred (w .why) (n .0) (n .1)
       seen (inl u) =
-          let reads : u .read ≡ w .unseen .read = cancel (u .read) (w .unseen .read) xl (ap (λ z. u .read ++ z) (sym same) ∙ (sym (u .split) ∙ w .unseen .split)) in
+          let reads : u .read ≡ w .unseen .read = append-cancel-right (u .read) (w .unseen .read) xl (ap (λ z. u .read ++ z) (sym same) ∙ (sym (u .split) ∙ w .unseen .split)) in
           compared (compare g lent (w .unseen .made (stranger g ∷ [])) (subst (λ z. Makes g lent (z ++ (stranger g ∷ [])) c yw (stranger g ∷ []) yd) reads (u .made (stranger g ∷ []))))
 
   onward : (ks : List ℕ) (ns : List ℤ) (xw yw : List Act) (xl yl : List Leaf) (xd yd : Config) (a b : Answer) → ShapedAt g xd → Known g (xl ++ (stranger g ∷ [])) → yd .tokens ≤ tokensLimit
@@ -280,7 +272,7 @@ module _ (g : Grammar) (wf : WellFormed g) (lent : Lent) (c : Config) where
   onward ks ns xw yw xl yl xd yd a b s o few p x q y m = go (first g lent m)
     where
       go : First g lent (xl ++ (stranger g ∷ [])) xd (yl ++ (stranger g ∷ [])) yd → (xd ≡ yd) × (xl ≡ yl)
-      go (none u v) = (sym v, sym (cancel yl xl (stranger g ∷ []) u))
+      go (none u v) = (sym v, sym (append-cancel-right yl xl (stranger g ∷ []) u))
       go (one e zs h n) = by (feed-end ks ns xw xl xd a s p x)
         where
           by : Stuck xd (xl ++ (stranger g ∷ [])) ⊎ Waiting (fedLeaves g ks ns) xw xl xd → (xd ≡ yd) × (xl ≡ yl)

@@ -19,7 +19,7 @@ use Rattle.meaning.specs.Calls.{Gate, admitted, turnedBack, gate, Record, Stack
 use Rattle.meaning.specs.Fit.{WaitsAt, Left, Fit}
 use Rattle.meaning.specs.PublicCalls.{Checked, usable, unusable, check, Call, feed, finish, callOf, areaLength, written, Effect, effect, opens}
 use Rattle.meaning_statements.specs.CallStatements.{lentPart, pastLent, onLent, NeverRead, NeverWritten}
-use Rattle.theory_base.specs.Members.{T→true, no-elements}
+use Rattle.theory_base.specs.Members.{no-elements, same-truth}
 use Rattle.theory_answers.specs.FitTest.{fit-exactly}
 use Rattle.theory_answers.specs.Memory.{Within}
 use Rattle.theory_answers.specs.Runs.{Fed, Finished, with-nothing}
@@ -155,11 +155,6 @@ same-laid cap clear zs xs ys e l =
     let n = same-count cap xs ys e in
     lay-lent cap clear zs xs l ∙ (ap (λ k. reverse zs ++ replicate (k - length zs) clear) n ∙ sym (lay-lent cap clear zs ys (omega arith)))
 
-same-bool : (a b : Bool) → (T a → T b) → (T b → T a) → a ≡ b
-same-bool true b f g = sym (T→true b (f tt))
-same-bool false true f g = absurd (g tt)
-same-bool false false f g = refl
-
 module _ (m n : Stacks) (same : lentPart m ≡ lentPart n) where
   registers-same : take registersLimit (m .registers) ≡ take registersLimit (n .registers)
   registers-same = ap (λ z. z .registers) same
@@ -227,7 +222,7 @@ module _ (m n : Stacks) (same : lentPart m ≡ lentPart n) (g : Grammar) (r : Re
       go (failed e k) w = ap (λ z. record { answer = refused k (e .tokens); state = recordOf false e; stacks = z }) (laid-same m n same g e w)
 
   fits-same : stacksFit g r m ≡ stacksFit g r n
-  fits-same = same-bool (stacksFit g r m) (stacksFit g r n) (λ t. fit-exactly g r n .1 (fit-same m n same g r (fit-exactly g r m .0 t))) (λ t. fit-exactly g r m .1 (fit-same n m (sym same) g r (fit-exactly g r n .0 t)))
+  fits-same = same-truth (stacksFit g r m) (stacksFit g r n) (λ t. fit-exactly g r n .1 (fit-same m n same g r (fit-exactly g r m .0 t))) (λ t. fit-exactly g r m .1 (fit-same n m (sym same) g r (fit-exactly g r n .0 t)))
 
   when-same : (k j : Called) → (Fit g r m → calledLent k ≡ calledLent j) → calledLent (whenFit g r m k) ≡ calledLent (whenFit g r n j)
   when-same k j h = go (gate 34 (r .status) (r .kind)) (stacksFit g r m) refl (stacksFit g r n) fits-same

@@ -144,6 +144,9 @@ pub record-open : (b : Bool) (c : Config) → isOpen (recordOf b c) ≡ b
 record-open true c = refl
 record-open false c = refl
 
+pub by-its-status : {r : Record} (b : Bool) (c : Config) → r ≡ recordOf b c → r ≡ recordOf (isOpen r) c
+by-its-status b c e = e ∙ ap (λ z. recordOf z c) (sym (ap isOpen e ∙ record-open b c))
+
 module _ (g : Grammar) (wf : WellFormed g) (r : Record) (m : Stacks) (f : Fit g r m) where
   height : {A : Type 0} (h : ℕ) (mem : List A) → h ≤ length mem → length (reverse (take h mem)) ≡ h
   height h mem l = length-reverse (take h mem) ∙ (length-take h mem ∙ omega arith)

@@ -3,7 +3,7 @@ use Prim.Native.Nat.{ℕ, zero, suc, _+_, _-_, _≤_, _<_}
 use native.Mathlib.Omega.{arith}
 use mathlib.Core.Path.{_≡_, refl, sym, ap, ap₂, _∙_, subst, subst₂}
 use mathlib.Core.Logic.{_⊎_, inl, inr}
-use mathlib.Core.Bool.{Bool, true, false, _&&_}
+use mathlib.Core.Bool.{Bool, true, false, _&&_, and-false}
 use mathlib.Core.List.{List, [], _∷_, _++_, append-nil, append-assoc}
 use lib.ListN.{drop}
 use lib.Dec.{T, eqb, ltb, leb, ltb→lt, lt→ltb, nltb→le, leb→le, nleb→lt}
@@ -88,11 +88,7 @@ unfinished c w = go (c .frames) w
   where
     rests : (p : ℕ) (is : List Instruction) → needsLook is && (eqb p whole && isEmpty is) ≡ false → eqb p whole && isEmpty is ≡ false
     rests p [] w = w
-    rests p (i ∷ is) w = neither (eqb p whole)
-      where
-        neither : (b : Bool) → b && false ≡ false
-        neither true = refl
-        neither false = refl
+    rests p (i ∷ is) w = and-false (eqb p whole)
 
     go : (fs : List Frame) → waits fs && (elim fs as (λ z. Bool) [ [] ↦ false | f ∷ fs ↦ eqb (f .production) whole && isEmpty (f .rest) ]) ≡ false → (elim fs as (λ z. Bool) [ [] ↦ false | f ∷ fs ↦ eqb (f .production) whole && isEmpty (f .rest) ]) ≡ false
     go [] w = refl

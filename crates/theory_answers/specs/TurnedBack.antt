@@ -7,6 +7,7 @@ use mathlib.Core.Bool.{Bool, true, false}
 use mathlib.Core.List.{List}
 use lib.ListN.{length, length-replicate}
 use lib.Dec.{T, ltb, ltb→lt, nltb→le}
+use borrow.Author.Tests.{lt-ltb, le-ltb}
 use Rattle.meaning.specs.Grammar.{Grammar, syn, nonterminal}
 use Rattle.meaning.specs.Table.{Read, wellFormed, malformed, readTable, grammarOf}
 use Rattle.meaning.specs.Judgement.{Verdict, accepted, rejected, Accepted}
@@ -25,22 +26,8 @@ use Rattle.theory_answers.specs.Answers.{made, call-is}
 
 -- ---- 30
 
-pub is-below : (a b : ℕ) → a < b → ltb a b ≡ true
-is-below a b l = go (ltb a b) refl
-  where
-    go : (x : Bool) → ltb a b ≡ x → x ≡ true
-    go true e = refl
-    go false e = absurd (omega (arith, nltb→le a b (rw e tt)))
-
-pub not-below : (a b : ℕ) → b ≤ a → ltb a b ≡ false
-not-below a b l = go (ltb a b) refl
-  where
-    go : (x : Bool) → ltb a b ≡ x → x ≡ false
-    go true e = absurd (omega (arith, ltb→lt a b (rw e tt)))
-    go false e = refl
-
 pub short-area : ShortArea
-short-area program bs area r m c l = let h = is-below (length area) areaLength l in (rw (h, called), rw (h, called))
+short-area program bs area r m c l = let h = lt-ltb (length area) areaLength l in (rw (h, called), rw (h, called))
 
 -- ---- the table
 
@@ -102,13 +89,13 @@ module _ (g : Grammar) (m : Stacks) where
   results = length-replicate _ _
 
   pub open-31 : lentOf m .maxRegisters < syn g (nonterminal (g .start)) → openOf g m ≡ asBrought (refused 31 0) closedRecord m
-  open-31 e = let h = is-below (lentOf m .maxRegisters) (length (opening g .registers)) (omega (arith, results)) in rw (h, openOf)
+  open-31 e = let h = lt-ltb (lentOf m .maxRegisters) (length (opening g .registers)) (omega (arith, results)) in rw (h, openOf)
 
   pub open-32 : syn g (nonterminal (g .start)) ≤ lentOf m .maxRegisters → lentOf m .maxPlaces < 1 → openOf g m ≡ asBrought (refused 32 0) closedRecord m
-  open-32 e f = let h = not-below (lentOf m .maxRegisters) (length (opening g .registers)) (omega (arith, results)) in let i = is-below (lentOf m .maxPlaces) 1 f in rw (h, i, openOf)
+  open-32 e f = let h = le-ltb (lentOf m .maxRegisters) (length (opening g .registers)) (omega (arith, results)) in let i = lt-ltb (lentOf m .maxPlaces) 1 f in rw (h, i, openOf)
 
   pub open-on : syn g (nonterminal (g .start)) ≤ lentOf m .maxRegisters → 1 ≤ lentOf m .maxPlaces → openOf g m ≡ record { answer = more 0; state = recordOf true (opening g); stacks = layAll g (opening g) m }
-  open-on e f = let h = not-below (lentOf m .maxRegisters) (length (opening g .registers)) (omega (arith, results)) in let i = not-below (lentOf m .maxPlaces) 1 f in rw (h, i, openOf)
+  open-on e f = let h = le-ltb (lentOf m .maxRegisters) (length (opening g .registers)) (omega (arith, results)) in let i = le-ltb (lentOf m .maxPlaces) 1 f in rw (h, i, openOf)
 
 pub opening-is : Opening
 opening-is program bs area g m l a =
@@ -205,7 +192,7 @@ module _ (bs area : List ℕ) (r : Record) (m : Stacks) (c : Call) where
   met-number g x = accepted-number g (x .long) (x .accepts) ∙ open-number g (x .isOpen) true (T→true (stacksFit g r m) (fit-exactly g r m .1 (x .fits)))
 
   is-number : (y : Case bs area r m c) → numbered ≡ whichCase y
-  is-number (short l) = ap (λ b. number b (check bs)) (is-below (length area) areaLength l)
+  is-number (short l) = ap (λ b. number b (check bs)) (lt-ltb (length area) areaLength l)
   is-number (badTable l n o j) = ap₂ number (long-enough area l) (refuses bs n o (judged-is bs (rejected n o) .0 j))
   is-number (isClosed l g a e) = accepted-number g l a ∙ ap (λ s. byRecord s (r .kind) (byFit (stacksFit g r m) (byEven (is-even c)))) e
   is-number (isWaiting l g a e f) = accepted-number g l a ∙ ap₂ (λ s k. byRecord s k (byFit (stacksFit g r m) (byEven (is-even c)))) e f

@@ -8,6 +8,7 @@ use lib.ListN.{length}
 use lib.Dec.{T, eqb, leb→le, le→leb}
 use lib.IntN.{ℤ, pos, negsuc}
 use lib.Signed.{leZ}
+use borrow.Author.Tests.{ne-eqb, eq-eqb}
 use Rattle.meaning.specs.Base.{all, any}
 use Rattle.meaning.specs.Grammar.{Grammar, Token, Leaf, attributeIf, carried, leafOf, leaves}
 use Rattle.meaning.specs.Rules.{fourBytes}
@@ -15,7 +16,7 @@ use Rattle.meaning.specs.Value.{inRange, lowest}
 use Rattle.meaning.specs.Machine.{feedAll}
 use Rattle.meaning.specs.Tree.{isLeafOf}
 use Rattle.meaning.specs.Calls.{Record, Stacks, Called, refused, lentOf, configOf, afterFeed, whenFit, whenEven, tokensFrom, feedOf, asBrought}
-use Rattle.theory_base.specs.Members.{both, and, differ-false, same-true}
+use Rattle.theory_base.specs.Members.{both, and}
 
 -- a feed of leaves
 abbrev pub feedLeaves : Grammar → Record → Stacks → List Leaf → Called
@@ -23,10 +24,10 @@ feedLeaves g r m us = let called = afterFeed g m (feedAll g (lentOf m) us (confi
 
 -- lists of equal length are a feed of leaves
 pub even-feed : (g : Grammar) (r : Record) (m : Stacks) (ks : List ℕ) (vs : List ℤ) → length ks ≡ length vs → feedOf g r m ks vs ≡ feedLeaves g r m (leaves g (tokensFrom ks vs))
-even-feed g r m ks vs e = ap (λ b. whenFit g r m (whenEven b r m (afterFeed g m (feedAll g (lentOf m) (leaves g (tokensFrom ks vs)) (configOf g r m))))) (same-true (length ks) (length vs) e)
+even-feed g r m ks vs e = ap (λ b. whenFit g r m (whenEven b r m (afterFeed g m (feedAll g (lentOf m) (leaves g (tokensFrom ks vs)) (configOf g r m))))) (eq-eqb (length ks) (length vs) e)
 
 pub uneven-feed : (g : Grammar) (r : Record) (m : Stacks) (ks : List ℕ) (vs : List ℤ) → (length ks ≡ length vs → ⊥) → feedOf g r m ks vs ≡ whenFit g r m (asBrought (refused 38 0) r m)
-uneven-feed g r m ks vs e = ap (λ b. whenFit g r m (whenEven b r m (afterFeed g m (feedAll g (lentOf m) (leaves g (tokensFrom ks vs)) (configOf g r m))))) (differ-false (length ks) (length vs) e)
+uneven-feed g r m ks vs e = ap (λ b. whenFit g r m (whenEven b r m (afterFeed g m (feedAll g (lentOf m) (leaves g (tokensFrom ks vs)) (configOf g r m))))) (ne-eqb (length ks) (length vs) e)
 
 -- ---- leaves
 
@@ -43,7 +44,8 @@ pub four-ranged : (v : ℤ) → T (fourBytes v) → T (inRange v)
 four-ranged (pos n) t = le→leb n 1000000000000 (let l = leb→le n 2147483647 t in omega arith)
 four-ranged (negsuc n) t = and (leZ lowest (negsuc n)) true (le→leb n 999999999999 (let l = leb→le n 2147483647 (both (leZ (negsuc 2147483647) (negsuc n)) true t .0) in omega arith)) tt
 
-carried-leaf : (b : Bool) (v : ℤ) → T (inRange v) → T (eqb (length (carried b v)) (attributeIf b) && all inRange (carried b v))
+-- a leaf whose value is in range is one of its terminal
+pub carried-leaf : (b : Bool) (v : ℤ) → T (inRange v) → T (eqb (length (carried b v)) (attributeIf b) && all inRange (carried b v))
 carried-leaf true v h = and (inRange v) true h tt
 carried-leaf false v h = tt
 

@@ -1,5 +1,7 @@
 -- Truth values as facts; members of lists, and what keep, all, any, map, reverse and counting say of them
 pub mod Members
+-- A test of every cell of a list, one after the other: what is left of it after i cells
+pub mod Cells
 -- The size of a whole number, of its negation, of a sum and of a difference
 pub mod Absolute
 -- The laws of `Value.quotient` and `Value.floored`, which are sealed

@@ -6,15 +6,16 @@ use mathlib.Core.Path.{_≡_, refl, ap}
 use mathlib.Core.Bool.{false}
 use lib.ListN.{getD, length, List·getD-eq-default}
 use lib.Dec.{eqb}
+use borrow.Author.Tests.{ne-eqb}
 use Rattle.meaning.specs.Base.{In}
 use Rattle.meaning.specs.Grammar.{Occurrence, Rule, Condition, Production, Grammar, productionAt, wholeProduction, whole, noCounts}
 use Rattle.meaning.specs.Rules.{Operands, Reads, Input, Output, OutputAt, Operand, Distinct, WellFormedProduction, WellFormed}
-use Rattle.theory_base.specs.Members.{differ-false, getD-in}
+use Rattle.theory_base.specs.Members.{getD-in}
 
 -- ---- a listed production
 
 pub not-whole : (g : Grammar) → WellFormed g → (p : ℕ) → p < length (g .productions) → eqb p whole ≡ false
-not-whole g f p l = differ-false p whole (λ e. omega (arith, f .productions .1))
+not-whole g f p l = ne-eqb p whole (λ e. omega (arith, f .productions .1))
 
 pub listed-at : (g : Grammar) → WellFormed g → (p : ℕ) → p < length (g .productions) → productionAt g p ≡ getD (g .productions) p (wholeProduction g)
 listed-at g f p l = rw (not-whole g f p l) refl

@@ -7,6 +7,7 @@ use mathlib.Core.List.{List, [], _∷_, _++_, map, append-assoc, append-nil}
 use lib.ListN.{length, drop, length-map, length-replicate}
 use lib.Dec.{ltb}
 use lib.IntN.{pos}
+use borrow.Author.Tests.{le-ltb}
 use Rattle.theory_base.specs.Feeds.{feedLeaves}
 use Rattle.meaning.specs.Grammar.{Symbol, nonterminal, Grammar, syn, Leaf}
 use Rattle.meaning.specs.Value.{mark}
@@ -25,7 +26,6 @@ use Rattle.theory_base.specs.Walks.{allMoves, room}
 use Rattle.theory_answers.specs.Memory.{lay-over}
 use Rattle.theory_sound.specs.KeptByCalls.{Stopped}
 use Rattle.theory_sound.specs.CallSound.{SoundSoFar, sound-feed, opening-sound, feed-is, finish-is}
-use Rattle.theory_complete.specs.Run.{ltb-above}
 use Rattle.theory_complete.specs.PredictsOfWalk.{Foreseen}
 use Rattle.theory_complete.specs.SegmentComplete.{Shows, shows, ends, final, final-registers, final-places, final-moves}
 use Rattle.meaning.specs.Calls as Calls
@@ -100,8 +100,8 @@ module _ (g : Grammar) (formed : WellFormed g) (m : Stacks) (t : Tree) (o : Fore
 
   open-call : openOf g m ≡ called (Calls.more 0) true (opening g)
   open-call =
-      let l : ltb (lentOf m .maxRegisters) (length (opening g .registers)) ≡ false = ltb-above (lentOf m .maxRegisters) (length (opening g .registers)) (enough .0) in
-      let l′ : ltb (lentOf m .maxPlaces) 1 ≡ false = ltb-above (lentOf m .maxPlaces) 1 (enough .1) in
+      let l : ltb (lentOf m .maxRegisters) (length (opening g .registers)) ≡ false = le-ltb (lentOf m .maxRegisters) (length (opening g .registers)) (enough .0) in
+      let l′ : ltb (lentOf m .maxPlaces) 1 ≡ false = le-ltb (lentOf m .maxPlaces) 1 (enough .1) in
       ap (λ (b : Bool). elim b as (λ x. Called) [ true ↦ Calls.asBrought (Calls.refused 31 0) Calls.closedRecord m | false ↦ enoughPlaces (ltb (lentOf m .maxPlaces) 1) ]) l
       ∙ ap enoughPlaces l′
 

@@ -22,21 +22,16 @@ use Rattle.meaning.specs.Drawn.{WalkFits}
 use Rattle.meaning.specs.Rules.{WellFormed, Known}
 use Rattle.meaning.specs.Base.{In, all}
 use Rattle.meaning.specs.Part.{config, frame}
-use Rattle.theory_base.specs.Members.{no-elements, in-left, in-append, both, and, all-append}
+use Rattle.theory_base.specs.Members.{no-elements, in-left, in-append, and, all-append}
 use Rattle.theory_base.specs.Walks.{allMoves, all-left, all-moves, left-moves, left-width, moves-le}
 use Rattle.theory_base.specs.WellFormed.{well-formed-at}
+use Rattle.theory_sets.specs.Tests.{all-left as all-front}
 use Rattle.theory_complete.specs.NodeInProgressGood.{length-inherited, waiting-is}
 use Rattle.theory_complete.specs.Run.{Steps, retime, restart, fitting, steps-of}
 use Rattle.theory_complete.specs.PredictsOfWalk.{Foreseen, foresee-all, foresee-left}
 use Rattle.theory_complete.specs.SubtreeComplete.{TreeExpected, walks, RunOf}
 use Rattle.theory_complete.specs.Feeding.{feeds, feeds-on, finishes}
 use Rattle.theory_complete.specs.StopIsPicture.{stops, Cut, below, unopened-moves}
-
-all-left-part : {A : Type 0} (f : A → Bool) (xs ys : List A) → T (all f (xs ++ ys)) → T (all f xs)
-all-left-part f [] ys h = tt
-all-left-part f (x ∷ xs) ys h =
-    let b = both (f x) (all f (xs ++ ys)) h in
-    and (f x) (all f xs) (b .0) (all-left-part f xs ys (b .1))
 
 -- ---- every token of a tree is a token of the grammar
 
@@ -123,7 +118,7 @@ module _ (g : Grammar) (formed : WellFormed g) (lent : Lent) (t : Tree) (o : For
     known u i = tokens-known g formed t S (formed .start) w u (rw read (in-left u ts us i))
 
     prefix : T (all (isLeafOf g) ts)
-    prefix = all-left-part (isLeafOf g) ts us (subst (λ z. T (all (isLeafOf g) z)) read (leaves-known g formed t S w))
+    prefix = all-front (isLeafOf g) ts us (subst (λ z. T (all (isLeafOf g) z)) read (leaves-known g formed t S w))
 
     sizes : width t ≡ length ts + length us
     sizes = ap length read ∙ length-append ts us

@@ -3,17 +3,17 @@ use Prim.Native.Nat.{_+_}
 use native.Mathlib.Omega.{arith}
 use mathlib.Core.Path.{_≡_, sym, ap, _∙_, subst}
 use mathlib.Core.Logic.{inl, inr}
-use mathlib.Core.Bool.{Bool, true, false}
+use mathlib.Core.Bool.{true, false}
 use mathlib.Core.List.{List, [], _∷_, append-nil}
 use lib.ListN.{length, length-append}
 use lib.Dec.{T}
 use Rattle.meaning.specs.Grammar.{Grammar, Leaf, leaves}
 use Rattle.meaning.specs.Machine.{Config, Lent, opening, lookAt}
 use Rattle.meaning.specs.Walk.{Act, actBy, Makes, nothing, andThen}
-use Rattle.meaning.specs.Calls.{isOpen, lentOf, recordOf}
+use Rattle.meaning.specs.Calls.{isOpen, lentOf}
 use Rattle.meaning_statements.specs.Statements.{Reached, ReachedAlways}
 use Rattle.theory_table.specs.AcceptedTable.{accepted-well-formed}
-use Rattle.theory_answers.specs.Memory.{record-open}
+use Rattle.theory_answers.specs.Memory.{by-its-status}
 use Rattle.theory_answers.specs.Bounds.{counts}
 use Rattle.theory_sound.specs.Histories.{Run, runs}
 use Rattle.theory_demands.specs.ByGrammar.{by-grammar}
@@ -34,9 +34,6 @@ reached-always program bs g m₀ ts isOver r m a h = go (runs g (accepted-well-f
     count : {us vs : List Leaf} {c : Config} {ws : List Act} → Makes g (lentOf m₀) us (opening g) ws vs c → length ws ≡ c .moves
     count {c = c} k = omega (arith, counted g (lentOf m₀) k)
 
-    same-record : (b : Bool) (c : Config) → r ≡ recordOf b c → r ≡ recordOf (isOpen r) c
-    same-record b c e = e ∙ ap (λ z. recordOf z c) (sym (ap isOpen e ∙ record-open b c))
-
     go : Run g m₀ (leaves g ts) r m → Reached g m₀ ts r m
     go (inl o) =
         let one : Makes g (lentOf m₀) (leaves g ts) (opening g) (o .leads .moves) [] (o .config) = subst (λ z. Makes g (lentOf m₀) z (opening g) (o .leads .moves) [] (o .config)) (append-nil (leaves g ts)) (o .leads .made [] tt) in
@@ -46,7 +43,7 @@ reached-always program bs g m₀ ts isOver r m a h = go (runs g (accepted-well-f
           config = o .config;
           made = one;
           counted = count one ∙ sym (ap (λ z. z .moves) (o .isRecord));
-          isRecord = same-record true (o .config) (o .isRecord);
+          isRecord = by-its-status true (o .config) (o .isRecord);
           isStacks = o .isStacks;
           openRun = λ e. ((λ us. o .leads .made us tt), o .stop .1);
         }
@@ -57,7 +54,7 @@ reached-always program bs g m₀ ts isOver r m a h = go (runs g (accepted-well-f
           config = o .config;
           made = o .led .made;
           counted = count (o .led .made) ∙ sym (ap (λ z. z .moves) (o .isRecord));
-          isRecord = same-record false (o .config) (o .isRecord);
+          isRecord = by-its-status false (o .config) (o .isRecord);
           isStacks = o .isStacks;
           openRun = λ e. absurd (subst T (sym e ∙ ap isOpen (o .isRecord)) tt);
         }

@@ -21,7 +21,7 @@ use Rattle.meaning.specs.Drawn.{drawnMoves, drawnRecord}
 use Rattle.meaning_statements.specs.Statements.{WalkAlways}
 use Rattle.theory_base.specs.Members.{no-elements}
 use Rattle.theory_table.specs.AcceptedTable.{accepted-well-formed}
-use Rattle.theory_answers.specs.Memory.{record-open}
+use Rattle.theory_answers.specs.Memory.{by-its-status}
 use Rattle.theory_sound.specs.Histories.{Run, runs}
 use Rattle.theory_moves.specs.SelectorsAlways.{accepted-made}
 use Rattle.theory_demands.specs.ByGrammar.{by-grammar}
@@ -74,14 +74,11 @@ walk-always program bs g m₀ ts us isOver r m t a h k f over = go isOver over (
     Found : Bool → Type 0
     Found b = (c : Config) × Makes g (lentOf m₀) all (opening g) (drawnMoves g t (length ts) b) us′ c × (r ≡ recordOf (isOpen r) c) × (m ≡ layAll g c m₀)
 
-    same-record : (b : Bool) (c : Config) → r ≡ recordOf b c → r ≡ recordOf (isOpen r) c
-    same-record b c e = e ∙ ap (λ z. recordOf z c) (sym (ap isOpen e ∙ record-open b c))
-
     at : (b : Bool) (ws : List Act) (c : Config) → r ≡ drawnRecord g t (length ts) b → (o : Bool) → r ≡ recordOf o c → m ≡ layAll g c m₀ → Makes g (lentOf m₀) (leaves g ts ++ us′) (opening g) ws us′ c → Found b
     at b ws c d o e x z =
         let y : Makes g (lentOf m₀) all (opening g) ws us′ c = subst (λ q. Makes g (lentOf m₀) q (opening g) ws us′ c) joined z in
         let n : c .moves ≡ length (drawnMoves g t (length ts) b) = ap (λ z. z .moves) (sym e ∙ d) in
-        (c, subst (λ z. Makes g (lentOf m₀) all (opening g) z us′ c) (moves-drawn bs g a (lentOf m₀) all t k (length ts) b y n) y, same-record o c e, x)
+        (c, subst (λ z. Makes g (lentOf m₀) all (opening g) z us′ c) (moves-drawn bs g a (lentOf m₀) all t k (length ts) b y n) y, by-its-status o c e, x)
 
     go : (b : Bool) → (b ≡ true → us ≡ []) → r ≡ drawnRecord g t (length ts) b → Run g m₀ (leaves g ts) r m → Found b
     go b u d (inl o) = at b (o .leads .moves) (o .config) d true (o .isRecord) (o .isStacks) (o .leads .made us′ tt)

@@ -4,7 +4,6 @@ use native.Mathlib.Omega.{arith}
 use native.Mathlib.Decide.{ℕ-discrete}
 use mathlib.Core.Path.{_≡_, refl, sym, ap, ap₂, _∙_, subst}
 use mathlib.Core.Logic.{_⊎_, _↔_, inl, inr}
-use mathlib.Core.Bool.{Bool, true, false}
 use mathlib.Core.Option.{Option}
 use mathlib.Core.List.{List, [], _∷_, map}
 use lib.Dec.{T}
@@ -16,7 +15,7 @@ use Rattle.meaning.specs.Base.{In, all, countFrom}
 use Rattle.meaning.specs.Grammar.{Condition, range, atmost}
 use Rattle.meaning.specs.Value.{added, holds}
 use Rattle.meaning.specs.Differences.{bound, at, put, lesser, lowered, constrained, matrixOf, closed, noneNegative, solvable}
-use Rattle.theory_base.specs.Members.{in-from, from-in, all-in, in-all}
+use Rattle.theory_base.specs.Members.{in-from, from-in, all-in, in-all, same-truth}
 use Rattle.theory_differences.specs.Order.{lesser-first, lesser-second, lesser-keeps, ≤-is, ≤-trans}
 use Rattle.meaning_statements.specs.CompareStatements.{valueIn, Satisfiable, Edge, highestEdge, lowestEdge, highEdge, lowEdge, atmostEdge, Walk, step, join, NegativeCycle}
 use Rattle.theory_differences.specs.Graph.{Node, Known, AllKnown, no-negative-cycle}
@@ -232,11 +231,5 @@ module _ (n : ℕ) (few : n ≤ 8) (cs ds : List (Condition ℕ)) (f : AllKnown 
   pub solvable-fewer : T (solvable n cs) → T (solvable n ds)
   solvable-fewer t = values-solvable n ds few (λ c i. f c (into c i)) (fewer (solvable-values n cs few f t))
 
-T-same : (a b : Bool) → (T a → T b) → (T b → T a) → a ≡ b
-T-same true true f g = refl
-T-same true false f g = absurd (f tt)
-T-same false true f g = absurd (g tt)
-T-same false false f g = refl
-
 pub solvable-same : (n : ℕ) → n ≤ 8 → (cs ds : List (Condition ℕ)) → AllKnown cs → ((c : Condition ℕ) → In c ds → In c cs) → ((c : Condition ℕ) → In c cs → In c ds) → solvable n cs ≡ solvable n ds
-solvable-same n few cs ds f into from = T-same (solvable n cs) (solvable n ds) (solvable-fewer n few cs ds f into) (solvable-fewer n few ds cs (λ c i. f c (into c i)) from)
+solvable-same n few cs ds f into from = same-truth (solvable n cs) (solvable n ds) (solvable-fewer n few cs ds f into) (solvable-fewer n few ds cs (λ c i. f c (into c i)) from)

@@ -12,17 +12,17 @@ use Rattle.meaning.specs.Differences.{lesser}
 pub ≤-is : {a b : ℤ} → a ≡ b → a ≤ℤ b
 ≤-is {a} {b} e = rw e (≤ℤ-refl b)
 
-trans′ : (a b c : ℤ) → T (leZ a b) → T (leZ b c) → T (leZ a c)
-trans′ (pos a) (pos b) (pos c) s t = le→leb a c (let l = leb→le a b s in let m = leb→le b c t in omega arith)
-trans′ (pos a) (pos b) (negsuc c) s t = absurd t
-trans′ (pos a) (negsuc b) c s t = absurd s
-trans′ (negsuc a) (pos b) (pos c) s t = tt
-trans′ (negsuc a) (pos b) (negsuc c) s t = absurd t
-trans′ (negsuc a) (negsuc b) (pos c) s t = tt
-trans′ (negsuc a) (negsuc b) (negsuc c) s t = le→leb c a (let l = leb→le b a s in let m = leb→le c b t in omega arith)
+pub leZ-trans : (a b c : ℤ) → T (leZ a b) → T (leZ b c) → T (leZ a c)
+leZ-trans (pos a) (pos b) (pos c) s t = le→leb a c (let l = leb→le a b s in let m = leb→le b c t in omega arith)
+leZ-trans (pos a) (pos b) (negsuc c) s t = absurd t
+leZ-trans (pos a) (negsuc b) c s t = absurd s
+leZ-trans (negsuc a) (pos b) (pos c) s t = tt
+leZ-trans (negsuc a) (pos b) (negsuc c) s t = absurd t
+leZ-trans (negsuc a) (negsuc b) (pos c) s t = tt
+leZ-trans (negsuc a) (negsuc b) (negsuc c) s t = le→leb c a (let l = leb→le b a s in let m = leb→le c b t in omega arith)
 
 pub ≤-trans : {a b c : ℤ} → a ≤ℤ b → b ≤ℤ c → a ≤ℤ c
-≤-trans {a} {b} {c} s t = record { le = trans′ a b c (s .le) (t .le) }
+≤-trans {a} {b} {c} s t = record { le = leZ-trans a b c (s .le) (t .le) }
 
 less′ : (a b : ℤ) → T (ltZ a b) → T (leZ a b)
 less′ (pos a) (pos b) t = le→leb a b (let l = ltb→lt a b t in omega arith)

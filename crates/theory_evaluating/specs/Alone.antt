@@ -1,10 +1,9 @@
 -- What others left on the stacks plays no part; what a candidate answers.
-use Prim.Native.Nat.{ℕ, zero, suc, _≤_, _<_, min}
+use Prim.Native.Nat.{ℕ, suc, _≤_, _<_, min}
 use native.Mathlib.Omega.{arith}
 use native.Mathlib.Decide.{decLt}
 use mathlib.Core.Path.{_≡_, refl, sym, ap, _∙_, subst}
 use mathlib.Core.Logic.{_⊎_, inl, inr}
-use mathlib.Core.Bool.{Bool}
 use mathlib.Core.List.{List, [], _∷_, map}
 use lib.ListN.{length, take, drop, length-take, length-drop}
 use lib.Dec.{T}
@@ -16,7 +15,7 @@ use Rattle.meaning.specs.Machine.{Config, Settled, stopped, failed, comes, ends
 use Rattle.meaning.specs.Calls.{Stacks, Answer, lentOf, layAll, tokensFrom, afterFinish}
 use Rattle.meaning_ranking.specs.RankCall.{evaluated, Evaluation, andThen, evaluations}
 use Rattle.meaning_ranking.specs.RankingStatements.{Candidate, candidatesOf, numbered, lastLeft, isRefusal, candidateAnswer}
-use Rattle.theory_base.specs.Members.{both, and}
+use Rattle.theory_base.specs.Members.{both, all-take, all-drop}
 use Rattle.theory_base.specs.Feeds.{leaves-of}
 use Rattle.theory_answers.specs.Memory.{Within, lent-kept}
 use Rattle.theory_answers.specs.Bounds.{Blocks, atLimit, notExpected, conditionFalse, outOfRange, noRegister, noPlace}
@@ -24,16 +23,6 @@ use Rattle.theory_answers.specs.Runs.{FeedBlocks, manyTokens, unknownToken, blo
 use Rattle.theory_evaluating.specs.Whole.{wholly, wholly-over, evaluated-31, evaluated-32, evaluated-runs, failed-at, ended-at, refused-at, value-at}
 
 -- ---- parts of the lists
-
-pub all-take : {A : Type 0} (h : A → Bool) (n : ℕ) (xs : List A) → T (all h xs) → T (all h (take n xs))
-all-take h zero xs t = tt
-all-take h (suc n) [] t = tt
-all-take h (suc n) (x ∷ xs) t = let z = both (h x) (all h xs) t in and (h x) (all h (take n xs)) (z .0) (all-take h n xs (z .1))
-
-pub all-drop : {A : Type 0} (h : A → Bool) (n : ℕ) (xs : List A) → T (all h xs) → T (all h (drop n xs))
-all-drop h zero xs t = t
-all-drop h (suc n) [] t = tt
-all-drop h (suc n) (x ∷ xs) t = all-drop h n xs (both (h x) (all h xs) t .1)
 
 pub even-take : {A B : Type 0} (n : ℕ) (xs : List A) (ys : List B) → length xs ≡ length ys → length (take n xs) ≡ length (take n ys)
 even-take n xs ys e = length-take n xs ∙ (ap (min n) e ∙ sym (length-take n ys))

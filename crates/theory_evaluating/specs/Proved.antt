@@ -4,10 +4,11 @@ use native.Mathlib.Omega.{arith}
 use mathlib.Core.Path.{_≡_, refl, sym, ap, ap₂, _∙_, subst}
 use mathlib.Core.Logic.{_↔_, inl}
 use mathlib.Core.Bool.{Bool, true, false, cond}
-use mathlib.Core.List.{List, [], _∷_, _++_, map}
+use mathlib.Core.List.{List, [], _∷_, _++_, map, map-append}
 use lib.ListN.{length, take, drop, length-map}
 use lib.Dec.{T, eqb, ltb}
 use lib.IntN.{ℤ, pos, _+ℤ_}
+use borrow.Author.Tests.{eq-eqb}
 use Rattle.meaning.specs.Base.{In, all}
 use Rattle.meaning.specs.Rules.{fourBytes, WellFormed}
 use Rattle.meaning.specs.Grammar.{Grammar}
@@ -16,17 +17,17 @@ use Rattle.meaning_house.specs.Order.{Shuffled, through}
 use Rattle.meaning.specs.Calls as Calls
 use Rattle.meaning.specs.Calls.{Stacks, Answer}
 use Rattle.meaning.specs.PublicCalls.{Checked, usable, unusable, check, areaLength, written}
-use Rattle.meaning_ranking.specs.Ranking.{Entry, entry, number, value, valued, Ranks, ranking, cellsOf, worth, totalOf, valuedOf}
-use Rattle.meaning_ranking.specs.RankCall.{evaluated, entryOf, evaluations, ranked, unranked, RankEffect, inOrder, listed, rankEven, rankUnder, rankLong, rankSuited, rankOf}
+use Rattle.meaning_ranking.specs.Ranking.{RankEntry, rankEntry, number, value, valued, Ranks, ranking, cellsOf, worth, totalOf, valuedOf}
+use Rattle.meaning_ranking.specs.RankCall.{evaluated, rankEntryOf, evaluations, ranked, unranked, RankEffect, inOrder, listed, rankEven, rankUnder, rankLong, rankSuited, rankOf}
 use Rattle.meaning_ranking.specs.RankingStatements.{Candidate, candidatesOf, entriesFor, CandidatesBrought, RankedExactly, RankedInFront, numbered, RankedAlone, RankedAnswers, RankedValues, unnumbered, RankedAnyOrder, RankedUntouched}
-use Rattle.theory_base.specs.Members.{same-true}
 use Rattle.theory_table.specs.AcceptedTable.{accepted-well-formed}
 use Rattle.theory_answers.specs.Called.{checks, long-enough}
 use Rattle.theory_order.specs.Shuffles.{shuffled-sym, map-shuffled}
 use Rattle.theory_ranking.specs.Cells.{length-cells}
 use Rattle.theory_ranking.specs.Sorting.{ranking-ranks, ranks-one}
 use Rattle.theory_ranking.specs.Report.{countedFrom, counted-distinct, ranks-front, total-shuffled, valued-shuffled}
-use Rattle.theory_evaluating.specs.Alone.{all-take, all-drop, even-take, even-drop, alone, answers, answerOf}
+use Rattle.theory_base.specs.Members.{all-take, all-drop}
+use Rattle.theory_evaluating.specs.Alone.{even-take, even-drop, alone, answers, answerOf}
 use Rattle.theory_evaluating.specs.Values.{HasTree, number-of, numbered-at, numbered-in, entry-value, value-candidate}
 
 -- ---- the entries
@@ -48,7 +49,7 @@ module _ (program : Grammar → List ℕ) (bs area : List ℕ) (g : Grammar) (le
       ∙ (ap (λ z. rankLong program z bs area lengths ks vs list m) (long-enough area (b .long))
       ∙ (ap (λ z. rankUnder program z area lengths ks vs list m) (checks bs g (b .accepts))
       ∙ (ap (λ h. rankEven (eqb (length ks) (length vs)) list m (written (program h) area) (listed (evaluations h 0 lengths ks vs m) list (written (program h) area))) (b .accepts .isGrammar)
-      ∙ ap (λ z. rankEven z list m (written (program g) area) (listed (evaluations g 0 lengths ks vs m) list (written (program g) area))) (same-true (length ks) (length vs) (b .even)))))
+      ∙ ap (λ z. rankEven z list m (written (program g) area) (listed (evaluations g 0 lengths ks vs m) list (written (program g) area))) (eq-eqb (length ks) (length vs) (b .even)))))
 
 pub ranked-exactly : RankedExactly
 ranked-exactly program bs area g lengths ks vs list m b =
@@ -90,10 +91,6 @@ proper-at : (xs ys : List Candidate) (c : Candidate) → Proper (xs ++ (c ∷ ys
 proper-at [] ys c p = p .0
 proper-at (x ∷ xs) ys c p = proper-at xs ys c (p .1)
 
-map-append : {A B : Type 0} (h : A → B) (xs ys : List A) → map h (xs ++ ys) ≡ map h xs ++ map h ys
-map-append h [] ys = refl
-map-append h (x ∷ xs) ys = ap (λ z. h x ∷ z) (map-append h xs ys)
-
 pub ranked-values : RankedValues
 ranked-values bs area g lengths ks vs list m b earlier later c q v = (forth, back)
   where
@@ -118,46 +115,46 @@ ranked-values bs area g lengths ks vs list m b earlier later c q v = (forth, bac
     entries-are : entriesFor g lengths ks vs m ≡ numbered 0 (before ++ (its ∷ behind))
     entries-are = ranked-alone bs area g lengths ks vs list m b .0 ∙ ap (numbered 0) (ap (map (answerOf g f m)) q ∙ map-append (answerOf g f m) earlier (c ∷ later))
 
-    told : ((n : ℕ) × (its ≡ Calls.value v n)) ↔ HasTree g m (c .kinds) (c .values) v
-    told = value-candidate bs g m (c .kinds) (c .values) (b .accepts) (own .0) (own .1) v
+    has-tree : ((n : ℕ) × (its ≡ Calls.value v n)) ↔ HasTree g m (c .kinds) (c .values) v
+    has-tree = value-candidate bs g m (c .kinds) (c .values) (b .accepts) (own .0) (own .1) v
 
-    forth : In (entry (pos (length earlier)) v (pos 0)) (entriesFor g lengths ks vs m) → HasTree g m (c .kinds) (c .values) v
+    forth : In (rankEntry (pos (length earlier)) v (pos 0)) (entriesFor g lengths ks vs m) → HasTree g m (c .kinds) (c .values) v
     forth i =
-        let j = subst (In (entry (pos (length earlier)) v (pos 0))) entries-are i in
-        let e = numbered-at 0 (length earlier) before behind its (entry (pos (length earlier)) v (pos 0)) (omega (arith, size)) refl j in
-        told .0 (entry-value (length earlier) its v (answers g f m (c .kinds) (c .values) (own .0) (own .1)) e)
+        let j = subst (In (rankEntry (pos (length earlier)) v (pos 0))) entries-are i in
+        let e = numbered-at 0 (length earlier) before behind its (rankEntry (pos (length earlier)) v (pos 0)) (omega (arith, size)) refl j in
+        has-tree .0 (entry-value (length earlier) its v (answers g f m (c .kinds) (c .values) (own .0) (own .1)) e)
 
-    back : HasTree g m (c .kinds) (c .values) v → In (entry (pos (length earlier)) v (pos 0)) (entriesFor g lengths ks vs m)
+    back : HasTree g m (c .kinds) (c .values) v → In (rankEntry (pos (length earlier)) v (pos 0)) (entriesFor g lengths ks vs m)
     back t =
-        let x = told .1 t in
-        let e : entryOf (length earlier) its ≡ entry (pos (length earlier)) v (pos 0) = ap (entryOf (length earlier)) (x .1) in
-        subst (In (entry (pos (length earlier)) v (pos 0))) (sym entries-are) (subst (λ z. In z (numbered 0 (before ++ (its ∷ behind)))) e (numbered-in 0 (length earlier) before behind its (omega (arith, size))))
+        let x = has-tree .1 t in
+        let e : rankEntryOf (length earlier) its ≡ rankEntry (pos (length earlier)) v (pos 0) = ap (rankEntryOf (length earlier)) (x .1) in
+        subst (In (rankEntry (pos (length earlier)) v (pos 0))) (sym entries-are) (subst (λ z. In z (numbered 0 (before ++ (its ∷ behind)))) e (numbered-in 0 (length earlier) before behind its (omega (arith, size))))
 
 -- ---- in another order
 
-unnumbered-of : (i : ℕ) (a : Answer) → unnumbered (entryOf i a) ≡ entryOf 0 a
+unnumbered-of : (i : ℕ) (a : Answer) → unnumbered (rankEntryOf i a) ≡ rankEntryOf 0 a
 unnumbered-of i (Calls.value v n) = refl
 unnumbered-of i (Calls.more n) = refl
 unnumbered-of i (Calls.refused k n) = refl
 unnumbered-of i (Calls.tableRefused k o) = refl
 
-unnumbered-all : (i : ℕ) (xs : List Answer) → map unnumbered (numbered i xs) ≡ map (entryOf 0) xs
+unnumbered-all : (i : ℕ) (xs : List Answer) → map unnumbered (numbered i xs) ≡ map (rankEntryOf 0) xs
 unnumbered-all i [] = refl
 unnumbered-all i (x ∷ xs) = ap₂ (λ y ys. y ∷ ys) (unnumbered-of i x) (unnumbered-all (suc i) xs)
 
-total-unnumbered : (es : List Entry) → totalOf (map unnumbered es) ≡ totalOf es
+total-unnumbered : (es : List RankEntry) → totalOf (map unnumbered es) ≡ totalOf es
 unfolding totalOf
 total-unnumbered [] = refl
-total-unnumbered (entry n v r ∷ es) = ap (λ z. worth (entry n v r) +ℤ z) (total-unnumbered es)
+total-unnumbered (rankEntry n v r ∷ es) = ap (λ z. worth (rankEntry n v r) +ℤ z) (total-unnumbered es)
 
-valued-unnumbered : (es : List Entry) → valuedOf (map unnumbered es) ≡ valuedOf es
+valued-unnumbered : (es : List RankEntry) → valuedOf (map unnumbered es) ≡ valuedOf es
 unfolding valuedOf
 valued-unnumbered [] = refl
-valued-unnumbered (entry n v r ∷ es) = ap (λ z. cond (valued (entry n v r)) 1 0 + z) (valued-unnumbered es)
+valued-unnumbered (rankEntry n v r ∷ es) = ap (λ z. cond (valued (rankEntry n v r)) 1 0 + z) (valued-unnumbered es)
 
-module _ (bs area : List ℕ) (g : Grammar) (lengths ks : List ℕ) (vs list : List ℤ) (m : Stacks) (b : CandidatesBrought bs area g lengths ks vs list) (rs : List Entry) (r : Ranks (entriesFor g lengths ks vs m) rs) where
+module _ (bs area : List ℕ) (g : Grammar) (lengths ks : List ℕ) (vs list : List ℤ) (m : Stacks) (b : CandidatesBrought bs area g lengths ks vs list) (rs : List RankEntry) (r : Ranks (entriesFor g lengths ks vs m) rs) where
   -- a list's values and refusals are the candidates'
-  as-candidates : Shuffled (map unnumbered rs) (map (entryOf 0) (map (answerOf g (accepted-well-formed bs g (b .accepts)) m) (candidatesOf lengths ks vs)))
+  as-candidates : Shuffled (map unnumbered rs) (map (rankEntryOf 0) (map (answerOf g (accepted-well-formed bs g (b .accepts)) m) (candidatesOf lengths ks vs)))
   as-candidates =
       subst (Shuffled (map unnumbered rs)) (ap (map unnumbered) (ranked-alone bs area g lengths ks vs list m b .0) ∙ unnumbered-all 0 (map (answerOf g (accepted-well-formed bs g (b .accepts)) m) (candidatesOf lengths ks vs)))
       (map-shuffled unnumbered (shuffled-sym (r .each)))
@@ -166,7 +163,7 @@ pub ranked-any-order : RankedAnyOrder
 ranked-any-order bs area g lengths ks vs list lengths′ ks′ vs′ list′ m b c s rs rs′ r q =
     let x = as-candidates bs area g lengths ks vs list m b rs r in
     let y = as-candidates bs area g lengths′ ks′ vs′ list′ m c rs′ q in
-    let k = map-shuffled (entryOf 0) (map-shuffled (λ d. evaluated g m (d .kinds) (d .values) .answer) s) in
+    let k = map-shuffled (rankEntryOf 0) (map-shuffled (λ d. evaluated g m (d .kinds) (d .values) .answer) s) in
     let z : Shuffled (map unnumbered rs) (map unnumbered rs′) = through x (through k (shuffled-sym y)) in
     (z, sym (total-unnumbered rs) ∙ (total-shuffled z ∙ total-unnumbered rs′), sym (valued-unnumbered rs) ∙ (valued-shuffled z ∙ valued-unnumbered rs′))
 

@@ -21,8 +21,8 @@ use Rattle.meaning.specs.Calls as Calls
 use Rattle.meaning.specs.Calls.{Stacks, Answer, Called, lentOf, layAll, recordOf, closedRecord, asBrought, refused, tokensFrom, afterFeed, openOf, feedOf, finishOf}
 use Rattle.meaning.specs.PublicCalls.{feed, finish, areaLength, opens, performs}
 use Rattle.meaning_statements.specs.Statements.{fedAndFinished}
-use Rattle.meaning_ranking.specs.Ranking.{Entry, entry, number}
-use Rattle.meaning_ranking.specs.RankCall.{fedOn, finishedOn, evaluated, entryOf}
+use Rattle.meaning_ranking.specs.Ranking.{RankEntry, rankEntry, number}
+use Rattle.meaning_ranking.specs.RankCall.{fedOn, finishedOn, evaluated, rankEntryOf}
 use Rattle.meaning_ranking.specs.RankingStatements.{numbered, isRefusal, candidateAnswer}
 use Rattle.theory_base.specs.Feeds.{even-feed}
 use Rattle.theory_table.specs.AcceptedTable.{accepted-well-formed}
@@ -105,7 +105,7 @@ value-candidate bs g m ks vs a even t v = (forth, back)
 
 -- ---- entries in candidate order
 
-pub number-of : (i : ℕ) (a : Answer) → number (entryOf i a) ≡ pos i
+pub number-of : (i : ℕ) (a : Answer) → number (rankEntryOf i a) ≡ pos i
 number-of i (Calls.value v n) = refl
 number-of i (Calls.more n) = refl
 number-of i (Calls.refused k n) = refl
@@ -114,24 +114,24 @@ number-of i (Calls.tableRefused k o) = refl
 same-pos : (i j : ℕ) → pos i ≡ pos j → i ≡ j
 same-pos i j e = cc
 
-numbered-least : (i : ℕ) (xs : List Answer) (y : Entry) (j : ℕ) → In y (numbered i xs) → number y ≡ pos j → i ≤ j
+numbered-least : (i : ℕ) (xs : List Answer) (y : RankEntry) (j : ℕ) → In y (numbered i xs) → number y ≡ pos j → i ≤ j
 numbered-least i [] y j m e = absurd m
 numbered-least i (x ∷ xs) y j (inl q) e = let z = same-pos i j (sym (number-of i x) ∙ (ap number (sym q) ∙ e)) in omega arith
 numbered-least i (x ∷ xs) y j (inr m) e = omega (arith, numbered-least (suc i) xs y j m e)
 
 -- the entry with number k is that of answer k
-pub numbered-at : (i k : ℕ) (xs ys : List Answer) (a : Answer) (e : Entry) → k ≡ i + length xs → number e ≡ pos k → In e (numbered i (xs ++ (a ∷ ys))) → entryOf k a ≡ e
-numbered-at i k [] ys a e q n (inl p) = let z : k ≡ i = omega arith in ap (λ j. entryOf j a) z ∙ sym p
+pub numbered-at : (i k : ℕ) (xs ys : List Answer) (a : Answer) (e : RankEntry) → k ≡ i + length xs → number e ≡ pos k → In e (numbered i (xs ++ (a ∷ ys))) → rankEntryOf k a ≡ e
+numbered-at i k [] ys a e q n (inl p) = let z : k ≡ i = omega arith in ap (λ j. rankEntryOf j a) z ∙ sym p
 numbered-at i k [] ys a e q n (inr m) = absurd (omega (arith, numbered-least (suc i) ys e k m n))
 numbered-at i k (x ∷ xs) ys a e q n (inl p) = absurd (let z = same-pos i k (sym (number-of i x) ∙ (ap number (sym p) ∙ n)) in omega arith)
 numbered-at i k (x ∷ xs) ys a e q n (inr m) = numbered-at (suc i) k xs ys a e (omega arith) n m
 
-pub numbered-in : (i k : ℕ) (xs ys : List Answer) (a : Answer) → k ≡ i + length xs → In (entryOf k a) (numbered i (xs ++ (a ∷ ys)))
-numbered-in i k [] ys a q = let z : k ≡ i = omega arith in inl (ap (λ j. entryOf j a) z)
+pub numbered-in : (i k : ℕ) (xs ys : List Answer) (a : Answer) → k ≡ i + length xs → In (rankEntryOf k a) (numbered i (xs ++ (a ∷ ys)))
+numbered-in i k [] ys a q = let z : k ≡ i = omega arith in inl (ap (λ j. rankEntryOf j a) z)
 numbered-in i k (x ∷ xs) ys a q = inr (numbered-in (suc i) k xs ys a (omega arith))
 
 -- an entry without a refusal is a value's
-pub entry-value : (k : ℕ) (a : Answer) (v : ℤ) → T (candidateAnswer a) → entryOf k a ≡ entry (pos k) v (pos 0) → (n : ℕ) × (a ≡ Calls.value v n)
+pub entry-value : (k : ℕ) (a : Answer) (v : ℤ) → T (candidateAnswer a) → rankEntryOf k a ≡ rankEntry (pos k) v (pos 0) → (n : ℕ) × (a ≡ Calls.value v n)
 entry-value k (Calls.value w n) v t e = (n, ap (λ z. Calls.value z n) (cc))
 entry-value k (Calls.refused j n) v t e = absurd (let z = same-pos j 0 (cc) in subst (λ i. T (isRefusal i)) z t)
 entry-value k (Calls.more n) v t e = absurd t

@@ -6,6 +6,7 @@ use mathlib.Core.Bool.{Bool, true, false, _&&_, _||_}
 use mathlib.Core.List.{List}
 use lib.ListN.{length}
 use lib.Dec.{T, ltb, ltb→lt, nltb→le, eqb, eqb-refl, eqb→eq}
+use borrow.Author.Tests.{lt-ltb}
 use Rattle.meaning.specs.Grammar.{Grammar}
 use Rattle.meaning.specs.Judgement.{Verdict, accepted, rejected, Accepted}
 use Rattle.meaning.specs.Decide.{verdictOf}
@@ -16,13 +17,13 @@ use Rattle.meaning_statements.specs.InnerStatements.{Belongs, InnerCase, tooSho
 use Rattle.theory_base.specs.Members.{T→true, both}
 use Rattle.theory_sets.specs.Accepted.{judged-is, verdict→accepted}
 use Rattle.theory_answers.specs.Called.{checks, called-is, long-enough}
-use Rattle.theory_answers.specs.TurnedBack.{is-below, refuses}
+use Rattle.theory_answers.specs.TurnedBack.{refuses}
 use Rattle.theory_inner.specs.OpenRunKept.{open-record}
 use Rattle.theory_inner.specs.Cases.{by-accepted, by-refused}
 
 -- ---- the records
 
-never : {A : Type 0} → false ≡ true → A
+pub never : {A : Type 0} → false ≡ true → A
 never e = absurd (subst T (sym e) tt)
 
 abbrev fitting : Status → Kind → Status → Kind → ℕ → ℕ → Bool
@@ -107,7 +108,7 @@ module _ (program : Grammar → List ℕ) (bs area : List ℕ) (o i : Record) (m
       ∙ ap (λ (e : Effect). innerEffect (afterInner (ends c (calledBy e)) o i m (calledBy e)) (e .area)) (sym (called-is program bs g a area l (alone i) (above (i .kind) m) (λ h. callOf h (alone i) (above (i .kind) m) (engineCall c))))
 
   call-is : (y : InnerCase bs area o i) → innerPerforms program bs area o i m c ≡ innerCallEffect program bs area o i m c y
-  call-is (tooShort l) = ap byArea (is-below (length area) areaLength l)
+  call-is (tooShort l) = ap byArea (lt-ltb (length area) areaLength l)
   call-is (badTable l n f j) = ap byArea (long-enough area l) ∙ by-refused program bs area o i m (λ g words. innerEffect (innerOf g o i m c) words) n f j
   call-is (eitherClosed l g a e) = under g l a true (belongs o i) (either o i e) refl
   call-is (apart l g a d e n) = under g l a false false (ap₂ (λ x y. x || y) (not-closed (o .status) d) (not-closed (i .status) e)) (not-belongs o i n)
@@ -151,7 +152,7 @@ module _ (bs area : List ℕ) (o i : Record) where
   accepted-number g l a x y p q = ap₂ number (long-enough area l) (checks bs g a) ∙ ap₂ byRecords p q
 
   is-number : (y : InnerCase bs area o i) → number (ltb (length area) areaLength) (check bs) ≡ whichInner y
-  is-number (tooShort l) = ap (λ b. number b (check bs)) (is-below (length area) areaLength l)
+  is-number (tooShort l) = ap (λ b. number b (check bs)) (lt-ltb (length area) areaLength l)
   is-number (badTable l n f j) = ap₂ number (long-enough area l) (refuses bs n f (judged-is bs (rejected n f) .0 j))
   is-number (eitherClosed l g a e) = accepted-number g l a true (belongs o i) (either o i e) refl
   is-number (apart l g a d e n) = accepted-number g l a false false (ap₂ (λ x y. x || y) (not-closed (o .status) d) (not-closed (i .status) e)) (not-belongs o i n)

@@ -7,6 +7,7 @@ use mathlib.Core.Bool.{Bool, true, false}
 use mathlib.Core.List.{List}
 use lib.ListN.{length}
 use lib.Dec.{T, ltb, ltb→lt, nltb→le}
+use borrow.Author.Tests.{lt-ltb, le-ltb}
 use Rattle.meaning.specs.Grammar.{Grammar, syn, nonterminal}
 use Rattle.meaning.specs.Table.{grammarOf}
 use Rattle.meaning.specs.Judgement.{Verdict, accepted, rejected, Judged, Accepted}
@@ -21,7 +22,7 @@ use Rattle.theory_sets.specs.Accepted.{judged-is, verdict→accepted}
 use Rattle.theory_answers.specs.Called.{checks, long-enough}
 use Rattle.theory_answers.specs.FitTest.{fit-exactly}
 use Rattle.theory_answers.specs.Memory.{open-is}
-use Rattle.theory_answers.specs.TurnedBack.{is-below, not-below, refuses, unfit-no, open-31, open-32, open-on}
+use Rattle.theory_answers.specs.TurnedBack.{refuses, unfit-no, open-31, open-32, open-on}
 
 -- ---- a table's turn
 
@@ -81,7 +82,7 @@ module _ (program : Grammar → List ℕ) (outerTable innerTable area : List ℕ
       ∙ ap (λ (z : Called). innerEffect (openedAbove (isOpen (z .state)) r m z) (written (program h) (first g))) e)
 
   opening-is : (y : OpeningCase outerTable innerTable area r m) → innerOpens program outerTable innerTable area r m ≡ openingEffect program outerTable innerTable area r m y
-  opening-is (short l) = ap byArea (is-below (length area) areaLength l)
+  opening-is (short l) = ap byArea (lt-ltb (length area) areaLength l)
   opening-is (badOuter l n f j) = ap byArea (long-enough area l) ∙ by-refused program outerTable area r closedRecord m (λ g words. let e = byTable program innerTable words r closedRecord m (λ h second. innerEffect (innerOpenOf h r m) second) in whenOuterFits g r m words e) n f j
   opening-is (outerClosed l g a e) = under g l a ∙ ap (λ s. byGate g (gate 40 s (r .kind)) (stacksFit g r m)) e
   opening-is (isThird l g a e o) = under g l a ∙ ap (λ (k : Gate). byGate g k (stacksFit g r m)) (third-gate (r .status) (r .kind) e o)
@@ -180,15 +181,15 @@ module _ (program : Grammar → List ℕ) (outerTable innerTable area : List ℕ
   room-number g z h a x y p q = met-number g z ∙ (ap byInner (checks innerTable h a) ∙ (ap roomFor (a .isGrammar) ∙ ap₂ byRoom p q))
 
   is-number : (y : OpeningCase outerTable innerTable area r m) → numbered ≡ whichOpening y
-  is-number (short l) = ap (λ b. number b (check outerTable)) (is-below (length area) areaLength l)
+  is-number (short l) = ap (λ b. number b (check outerTable)) (lt-ltb (length area) areaLength l)
   is-number (badOuter l n f j) = ap₂ number (long-enough area l) (refuses outerTable n f (judged-is outerTable (rejected n f) .0 j))
   is-number (outerClosed l g a e) = outer-number g l a ∙ ap (λ s. byRecord s (isOpen r) (byFit (stacksFit g r m) (byInner (check innerTable)))) e
   is-number (isThird l g a e o) = outer-number g l a ∙ (ap (λ b. byRecord (r .status) b (byFit (stacksFit g r m) (byInner (check innerTable)))) o ∙ third-number (r .status) _ e)
   is-number (unfit l g a o e) = open-number g false l a o (unfit-no g r m e)
   is-number (badInner g x n f j) = met-number g x ∙ ap byInner (refuses innerTable n f (judged-is innerTable (rejected n f) .0 j))
-  is-number (noRegister g x h a l) = room-number g x h a true _ (is-below (lentOf (leftOver r m) .maxRegisters) (syn h (nonterminal (h .start))) l) refl
-  is-number (noPlace g x h a k l) = room-number g x h a false true (not-below (lentOf (leftOver r m) .maxRegisters) (syn h (nonterminal (h .start))) k) (is-below (lentOf (leftOver r m) .maxPlaces) 1 l)
-  is-number (isOpened g x h a k l) = room-number g x h a false false (not-below (lentOf (leftOver r m) .maxRegisters) (syn h (nonterminal (h .start))) k) (not-below (lentOf (leftOver r m) .maxPlaces) 1 l)
+  is-number (noRegister g x h a l) = room-number g x h a true _ (lt-ltb (lentOf (leftOver r m) .maxRegisters) (syn h (nonterminal (h .start))) l) refl
+  is-number (noPlace g x h a k l) = room-number g x h a false true (le-ltb (lentOf (leftOver r m) .maxRegisters) (syn h (nonterminal (h .start))) k) (lt-ltb (lentOf (leftOver r m) .maxPlaces) 1 l)
+  is-number (isOpened g x h a k l) = room-number g x h a false false (le-ltb (lentOf (leftOver r m) .maxRegisters) (syn h (nonterminal (h .start))) k) (le-ltb (lentOf (leftOver r m) .maxPlaces) 1 l)
 
 pub inner-openings : InnerOpenings
 inner-openings program outerTable innerTable area r m =

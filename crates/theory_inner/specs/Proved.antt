@@ -1,10 +1,9 @@
 -- 02 (h), proved: the statements of meaning's InnerStatements on lists of calls.
 use Prim.Native.Nat.{ℕ, _-_}
 use mathlib.Core.Path.{_≡_, refl, sym, ap, ap₂, _∙_, subst}
-use mathlib.Core.Bool.{true, false}
+use mathlib.Core.Bool.{true}
 use mathlib.Core.List.{List, [], _∷_, map}
 use lib.ListN.{length}
-use lib.Dec.{T}
 use Rattle.meaning.specs.Grammar.{Grammar}
 use Rattle.meaning.specs.Calls.{inner, Record, Stacks, more, lentOf, isOpen}
 use Rattle.meaning.specs.PublicCalls.{Call, Effect, performs}
@@ -15,9 +14,7 @@ use Rattle.theory_inner.specs.Stretch.{above-registers, above-places, pa
 use Rattle.theory_inner.specs.OpenRunKept.{open-record}
 use Rattle.theory_inner.specs.InnerAlone.{BesideAlone, stands, ended, closing, closing-engine, step}
 use Rattle.theory_inner.specs.InnerOpened.{open-outer, begun}
-
-never : {A : Type 0} → false ≡ true → A
-never e = absurd (subst T (sym e) tt)
+use Rattle.theory_inner.specs.Calling.{never}
 
 module _ (program : Grammar → List ℕ) (t n rh ph : ℕ) (m : Stacks) where
   -- ---- where the two stand beside each other

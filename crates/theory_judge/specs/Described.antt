@@ -15,7 +15,8 @@ use Rattle.meaning.specs.Tree.{Tree, Forest, leaf, node, noTrees, treeAnd, yiel
 use Rattle.meaning.specs.Drawn.{depth, depths}
 use Rattle.meaning_sheet.specs.Sheet.{recordBytes, valueBytes, sheet, sheets}
 use Rattle.value.specs.Constants.{wordAt}
-use Rattle.theory_judge.specs.Longs.{drop-past, cons-one, word-back, word-there, longs, longs-size, longs-read, longs-there, values-size}
+use Rattle.theory_sheet.specs.Overlay.{values-length}
+use Rattle.theory_judge.specs.Longs.{drop-past, cons-one, word-back, word-there, longs, longs-size, longs-read, longs-there}
 
 -- ---- one record
 
@@ -29,7 +30,7 @@ pub record RecordRead (bytes : List ℕ) (at p before covered : ℕ) (vs : List 
   pub behind : drop (at + 12 + 8 * length vs) bytes ≡ rest
 
 pub record-size : (p b w : ℕ) (vs : List ℤ) → length (recordBytes p b w vs) ≡ 12 + 8 * length vs
-record-size p b w vs = omega (arith, values-size vs)
+record-size p b w vs = omega (arith, values-length vs)
 
 pub record-read : (bytes : List ℕ) (at p b w : ℕ) (vs : List ℤ) (rest : List ℕ) → p < 4294967296 → b < 4294967296 → w < 4294967296 → T (all inRange vs) → drop at bytes ≡ recordBytes p b w vs ++ rest → RecordRead bytes at p b w vs rest
 record-read bytes at p b w vs rest lp lb lw t e =
@@ -52,7 +53,7 @@ record-read bytes at p b w vs rest lp lb lw t e =
     eight = omega arith
 
     size : at + 12 + 8 * length vs ≡ at + 12 + length (valueBytes vs)
-    size = omega (arith, values-size vs)
+    size = omega (arith, values-length vs)
 
 pub record-there : (bytes : List ℕ) → Bytes bytes → (at n : ℕ) → at + 12 + 8 * n ≤ length bytes → drop at bytes ≡ recordBytes (wordAt bytes at) (wordAt bytes (at + 4)) (wordAt bytes (at + 8)) (longs bytes (at + 12) n) ++ drop (at + 12 + 8 * n) bytes
 record-there bytes h at n l =

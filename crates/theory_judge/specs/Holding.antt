@@ -16,7 +16,7 @@ use Rattle.meaning.specs.Rules.{Constant, Proper}
 use Rattle.meaning.specs.Layout.{field, ruleBytes, conditionBytes, rule, condition}
 use Rattle.meaning.specs.Table.{byte, constantAt}
 use Rattle.meaning.specs.Value.{apply, holds}
-use Rattle.theory_base.specs.Members.{both}
+use Rattle.theory_base.specs.Members.{both, and-swap}
 use Rattle.theory_table.specs.Numbers.{constant-back, divisor-in}
 use Rattle.value.specs.Computed.{computed}
 use Rattle.value.specs.Ranged.{ranged}
@@ -97,12 +97,6 @@ module _ (v : Occurrence → ℤ) where
 abbrev pub listedTrue : (Occurrence → ℤ) → {d : List ℕ} → Listed d → Bool
 listedTrue v x = allTrue v (x .rules) (x .conditions)
 
-and-turned : (a b c : Bool) → a && (b && c) ≡ b && (a && c)
-and-turned true true c = refl
-and-turned true false c = refl
-and-turned false true c = refl
-and-turned false false c = refl
-
 and-joined : (a b c : Bool) → (a && b) && c ≡ a && (b && c)
 and-joined true b c = refl
 and-joined false b c = refl
@@ -117,7 +111,7 @@ rule-truth r rs cs bs constant v = and-joined (ruleTrue v r) (all (ruleTrue v) r
 
 condition-truth : (c : Condition Occurrence) (rs : List (Rule Occurrence)) (cs : List (Condition Occurrence)) (bs : List ℕ) → Proper c → Truth (field 5 (conditionBytes c) ++ bs) rs (c ∷ cs) rs cs
 unfolding allTrue
-condition-truth c rs cs bs proper v = and-turned (all (ruleTrue v) rs) (holds v c) (all (holds v) cs) ∙ ap (λ b. b && allTrue v rs cs) (sym (condition-field v c bs proper))
+condition-truth c rs cs bs proper v = and-swap (all (ruleTrue v) rs) (holds v c) (all (holds v) cs) ∙ ap (λ b. b && allTrue v rs cs) (sym (condition-field v c bs proper))
 
 holding-at : (fields : List ℕ) (at size : ℕ) → at < length fields → size ≡ byte (drop at fields) 2 → (x : Listed (drop at fields)) → Behind Truth fields at (at + 3 + size) x
 holding-at = field-at (record { ofRule = rule-truth; ofCondition = condition-truth })

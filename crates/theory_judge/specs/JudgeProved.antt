@@ -8,6 +8,7 @@ use mathlib.Core.List.{List}
 use lib.ListN.{length}
 use lib.Dec.{eqb}
 use lib.IntN.{ℤ}
+use borrow.Author.Tests.{ne-eqb, eq-eqb}
 use Rattle.meaning.specs.Grammar.{Grammar, Leaf, leaves}
 use Rattle.meaning.specs.Judgement.{Accepted}
 use Rattle.meaning.specs.Tree.{Tree, valueOf}
@@ -17,7 +18,6 @@ use Rattle.meaning_sheet.specs.Sheet.{sheetOf}
 use Rattle.meaning_sheet.specs.SheetCalls.{unlessRefused, stackRun}
 use Rattle.meaning_judge.specs.Judge.{Describes, JudgeAnswer, worth, turnedBack, Settles, SettlesIf, SettlesUnder, JudgedAs}
 use Rattle.meaning_judge.specs.JudgeStatements.{JudgedOnce, AcceptedSheets, RefusedSheets, segmentAnswer, AtFault, RefusedSegments, WrittenSheets, SheetValue}
-use Rattle.theory_base.specs.Members.{same-true, differ-false}
 use Rattle.theory_answers.specs.Called.{checks}
 use Rattle.theory_answers.specs.TurnedBack.{refuses}
 use Rattle.theory_sets.specs.Accepted.{accepted-sane}
@@ -54,11 +54,11 @@ module _ (bs : List ℕ) (g : Grammar) (ks : List ℕ) (vs : List ℤ) (bytes : 
   under a = ap (λ c. SettlesUnder c ks vs bytes a) (checks bs g acc) ∙ ap (λ h. SettlesIf (eqb (length ks) (length vs)) h ks vs bytes a) (acc .isGrammar)
 
   uneven : (length ks ≡ length vs → ⊥) → (a : JudgeAnswer) → JudgedAs bs ks vs bytes a ≡ (a ≡ turnedBack 38 0)
-  uneven f a = under a ∙ ap (λ e. SettlesIf e g ks vs bytes a) (differ-false (length ks) (length vs) f)
+  uneven f a = under a ∙ ap (λ e. SettlesIf e g ks vs bytes a) (ne-eqb (length ks) (length vs) f)
 
   module _ (e : length ks ≡ length vs) where
     even : (a : JudgeAnswer) → JudgedAs bs ks vs bytes a ≡ Settles g (leaves g (tokensFrom ks vs)) bytes a
-    even a = under a ∙ ap (λ e. SettlesIf e g ks vs bytes a) (same-true (length ks) (length vs) e)
+    even a = under a ∙ ap (λ e. SettlesIf e g ks vs bytes a) (eq-eqb (length ks) (length vs) e)
 
     to : (a : JudgeAnswer) → JudgedAs bs ks vs bytes a → Settles g (leaves g (tokensFrom ks vs)) bytes a
     to a h = subst (λ z. z) (even a) h

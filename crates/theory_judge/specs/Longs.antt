@@ -6,7 +6,7 @@ use native.Mathlib.Decide.{decLt}
 use mathlib.Core.Path.{_≡_, refl, sym, ap, ap₂, _∙_}
 use mathlib.Core.Bool.{Bool, true, false, _&&_}
 use mathlib.Core.List.{List, [], _∷_, _++_, append-assoc}
-use lib.ListN.{getD, length, drop, length-append}
+use lib.ListN.{getD, length, drop}
 use lib.Seq.{drop-cons, drop-drop, drop-append-seam, getD-drop}
 use lib.Dec.{T, ltb, leb→le}
 use lib.IntN.{ℤ, pos, negsuc}
@@ -169,10 +169,6 @@ pub longs-size : (b : List ℕ) (i n : ℕ) → length (longs b i n) ≡ n
 unfolding longs
 longs-size b i zero = refl
 longs-size b i (suc n) = ap suc (longs-size b (i + 8) n)
-
-pub values-size : (vs : List ℤ) → length (valueBytes vs) ≡ 8 * length vs
-values-size [] = refl
-values-size (v ∷ vs) = length-append (eightBytes v) (valueBytes vs) ∙ omega (arith, values-size vs)
 
 pub longs-read : (b : List ℕ) (i : ℕ) (vs : List ℤ) (r : List ℕ) → T (all inRange vs) → drop i b ≡ valueBytes vs ++ r → longs b i (length vs) ≡ vs
 unfolding longs

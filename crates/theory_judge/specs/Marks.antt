@@ -10,7 +10,7 @@ use lib.Dec.{T, ltb, eqb, leb, le→leb}
 use lib.IntN.{ℤ, pos, negsuc}
 use borrow.Author.Tests.{lt-ltb, le-ltb}
 use Rattle.meaning.specs.Base.{In, all, any}
-use Rattle.meaning.specs.Grammar.{Grammar, Symbol, terminal, nonterminal, Occurrence, Rule, Condition, Production, Leaf, attributeIf, carried, leafOf, leaves, att, symbolAt}
+use Rattle.meaning.specs.Grammar.{Grammar, Symbol, terminal, nonterminal, Occurrence, Rule, Condition, Production, Leaf, carried, leafOf, leaves, att, symbolAt}
 use Rattle.meaning.specs.Rules.{InputAt, OutputAt, Input, Output, Operand, WellFormed, WellFormedProduction}
 use Rattle.meaning.specs.Value.{inRange, apply, holds}
 use Rattle.meaning.specs.Calls.{tokensFrom}
@@ -20,6 +20,7 @@ use Rattle.theory_base.specs.Members.{T→true, true→T, both, and}
 use Rattle.theory_base.specs.Agree.{operands-map, apply-agree, reads-map, holds-agree}
 use Rattle.theory_base.specs.Selectors.{leaf-ranges, tree-size}
 use Rattle.value.specs.Ranged.{ranged, ranged-in, in-ranged}
+use Rattle.theory_base.specs.Feeds.{carried-leaf}
 use Rattle.theory_judge.specs.Longs.{longAt, longs, longs-at, cons-one}
 use Rattle.theory_judge.specs.Described.{record-read, BytesStand, yield-small, Described, noLeaf}
 use Rattle.theory_judge.specs.Holding.{sameZ, same-exactly, ruleTrue, allTrue}
@@ -73,11 +74,6 @@ leaves-many g (k ∷ ks) (v ∷ vs) e = ap suc (leaves-many g ks vs (omega arith
 carried-one : (b : Bool) (v : ℤ) (a : ℕ) → 1 ≤ a → a ≤ length (carried b v) → v ≡ getD (carried b v) (a - 1) (pos 0)
 carried-one true v a l h = let e : a - 1 ≡ 0 = omega arith in ap (λ i. getD (v ∷ []) i (pos 0)) (sym e)
 carried-one false v a l h = absurd (omega arith)
-
--- a leaf whose value is in range is one of its terminal
-carried-leaf : (b : Bool) (v : ℤ) → T (inRange v) → T (eqb (length (carried b v)) (attributeIf b) && all inRange (carried b v))
-carried-leaf true v h = and (inRange v) true h tt
-carried-leaf false v h = tt
 
 pub leaf-in : (g : Grammar) (ks : List ℕ) (vs : List ℤ) (i : ℕ) → i < length (leaves g (tokensFrom ks vs)) → inRange (getD vs i (pos 0)) ≡ true → T (isLeafOf g (getD (leaves g (tokensFrom ks vs)) i noLeaf))
 leaf-in g ks vs i l e = subst (λ u. T (isLeafOf g u)) (sym (leaf-at g ks vs i l)) (carried-leaf (any (eqb (getD ks i 0)) (g .carrying)) (getD vs i (pos 0)) (true→T (inRange (getD vs i (pos 0))) e))

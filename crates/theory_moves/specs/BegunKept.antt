@@ -3,7 +3,7 @@ use Prim.Native.Nat.{ℕ, suc, _<_}
 use native.Mathlib.Omega.{arith}
 use mathlib.Core.Path.{_≡_, refl, sym, ap, _∙_, subst}
 use mathlib.Core.Logic.{inl, inr}
-use mathlib.Core.List.{List, [], _∷_, _++_, append-assoc}
+use mathlib.Core.List.{List, [], _∷_, _++_, append-assoc, append-cancel-left}
 use lib.ListN.{length, drop, replicate}
 use lib.Seq.{drop-cons, drop-at, take-at}
 use lib.IntN.{ℤ}
@@ -31,15 +31,12 @@ pub record Begun (g : Grammar) (t : Tree) (o : Open) (bs : List Ancestor) : Type
   pub along : Along g t bs (node (o .production) values (forestOnto (o .children) ahead)) rest
   pub inherited : inheritedOf g (node (o .production) values (forestOnto (o .children) ahead)) ≡ o .inherited
 
-cancel : {A : Type 0} (xs ys zs : List A) → xs ++ ys ≡ xs ++ zs → ys ≡ zs
-cancel xs ys zs e = sym (drop-at xs ys (length xs) refl) ∙ (ap (drop (length xs)) e ∙ drop-at xs zs (length xs) refl)
-
 -- what is still to come of the tree is what is still to come of the segment
 pub still : (g : Grammar) (t : Tree) (o : Open) (bs : List Ancestor) (b : Begun g t o bs) (ts us : List Leaf) → yieldBelow bs ++ yieldsOf (o .children) ≡ ts → yield t ≡ ts ++ us → yields (b .ahead) ++ b .rest ≡ us
 still g t o bs b ts us r y =
     let own : yields (forestOnto (o .children) (b .ahead)) ++ b .rest ≡ yieldsOf (o .children) ++ (yields (b .ahead) ++ b .rest) = ap (λ z. z ++ b .rest) (yields-onto (o .children) (b .ahead)) ∙ append-assoc (yieldsOf (o .children)) (yields (b .ahead)) (b .rest) in
     let split : yield t ≡ ts ++ (yields (b .ahead) ++ b .rest) = along-yield g t bs _ (b .rest) (b .along) ∙ (ap (λ z. yieldBelow bs ++ z) own ∙ (sym (append-assoc (yieldBelow bs) (yieldsOf (o .children)) (yields (b .ahead) ++ b .rest)) ∙ ap (λ z. z ++ (yields (b .ahead) ++ b .rest)) r)) in
-    cancel ts (yields (b .ahead) ++ b .rest) us (sym split ∙ y)
+    append-cancel-left ts (yields (b .ahead) ++ b .rest) us (sym split ∙ y)
 
 same-first : (u v : Leaf) (us vs : List Leaf) → u ∷ us ≡ v ∷ vs → u ≡ v
 same-first u v us vs e = cc

@@ -19,7 +19,7 @@ use Rattle.meaning.specs.Walk.{Act, performs, walkOn, topProduction, actBy}
 use Rattle.meaning.specs.Walk as Walk
 use Rattle.meaning.specs.Machine as Machine
 use Rattle.theory_base.specs.Values.{treeOf}
-use Rattle.theory_base.specs.Frames.{scheme-listed}
+use Rattle.theory_base.specs.Frames.{scheme-listed, topRest}
 use Rattle.theory_base.specs.Steps.{move-of, Result, result}
 use Rattle.theory_answers.specs.Bounds.{length-parent}
 use Rattle.theory_sound.specs.MovesKeepPart.{Grown, within, reads, predicts, removes, Moved, nodeOf, partOf, waitingAt, withChild}
@@ -75,10 +75,6 @@ act-is p (evaluate rs) e z = refl
 act-is p (test cs) e z = refl
 act-is p (remove n) e z = refl
 act-is p (expect x) e z = absurd (omega arith)
-
-abbrev topRest : List Frame → List Instruction
-topRest [] = []
-topRest (f ∷ fs) = f .rest
 
 -- a remove is a scheme's last instruction
 past : (b : Bool) (i : Instruction) (is js : List Instruction) (n : ℕ) → ((k : ℕ) → i ≡ remove k → ⊥) → consIf b i is ≡ remove n ∷ js → is ≡ remove n ∷ js

@@ -10,16 +10,16 @@ use lib.Dec.{lt→ltb, ltb, ltb→lt, nltb→le}
 use Rattle.meaning.specs.Limits.{tableLimit}
 use Rattle.meaning.specs.Grammar.{Grammar, Production}
 use Rattle.meaning.specs.Rules.{WellFormed}
-use Rattle.meaning.specs.Table.{State, Read, wellFormed, malformed, readTable, grammarOf}
+use Rattle.meaning.specs.Table.{State, wellFormed, grammarOf}
 use Rattle.meaning.specs.Layout.{LaidOut, Bytes}
-use Rattle.meaning.specs.Judgement.{Accepted, Verdict, accepted, rejected}
+use Rattle.meaning.specs.Judgement.{Accepted, accepted}
 use Rattle.meaning.specs.Calls.{Record, Stacks, Called, refused, tableRefused, closedRecord, asBrought, openOf}
-use Rattle.meaning.specs.PublicCalls.{checkedAs, Checked, usable, unusable, check, areaLength, written, Call, callOf, Effect, effect, called, opens, performs}
-use Rattle.meaning.specs.Decide.{verdictOf, judge}
+use Rattle.meaning.specs.PublicCalls.{Checked, usable, unusable, check, areaLength, written, Call, callOf, Effect, effect, called, opens, performs}
 use Rattle.theory_base.specs.Members.{T→true}
 use Rattle.theory_answers.specs.Called.{checks, called-is}
 use Rattle.theory_demands.specs.Acceptance.{accepted-exactly}
 use Rattle.meaning_house.specs.Order.{SameProduction, SameEach, SameButOrder, through, houseGrammar, houseBytes}
+use Rattle.theory_answers.specs.TurnedBack.{refuses}
 use Rattle.theory_order.specs.SameCalls.{open-same, call-same}
 use Rattle.theory_order.specs.SameInner.{outer-same, inner-same, later-same}
 use Rattle.theory_order.specs.SameVerdict.{same-but-sym, FewConditions, accepts-same}
@@ -134,20 +134,9 @@ writing-short table buffer l = ap (λ (b : Bool). elim b as (λ z. HouseCalled) 
   | false ↦ record { answer = wrote (length table); buffer = written table buffer }
 ]) (T→true (ltb (length buffer) (length table)) (lt→ltb (length buffer) (length table) l))
 
-refused-check : (bs : List ℕ) (n o : ℕ) → verdictOf bs ≡ rejected n o → check bs ≡ unusable n o
-refused-check bs n o = go (readTable bs)
-  where
-    judged : (s : State) (v : Verdict) → v ≡ rejected n o → checkedAs s v ≡ unusable n o
-    judged s accepted e = absurd (let z : _≡_ {A = ℕ} 0 1 = cc in omega arith)
-    judged s (rejected k p) e = let x : k ≡ n = cc in let y : p ≡ o = cc in rw (x, y) refl
-
-    go : (x : Read) → elim x as (λ z. Verdict) [ malformed k p ↦ rejected k p | wellFormed s ↦ judge s ] ≡ rejected n o → elim x as (λ z. Checked) [ malformed k p ↦ unusable k p | wellFormed s ↦ checkedAs s (judge s) ] ≡ unusable n o
-    go (malformed k p) e = let x : k ≡ n = cc in let y : p ≡ o = cc in rw (x, y) refl
-    go (wellFormed s) e = judged s (judge s) e
-
 pub house-turns-back : HouseTurnsBack
 house-turns-back = (
-  (λ bs buffer n o e. house-unusable bs n o buffer (refused-check bs n o e)),
+  (λ bs buffer n o e. house-unusable bs n o buffer (refuses bs n o e)),
   (λ bs g buffer a l. house-is bs g buffer a ∙ writing-short (houseBytes g) buffer l),
 )
 

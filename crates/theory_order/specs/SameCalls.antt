@@ -4,16 +4,14 @@ use mathlib.Core.List.{List}
 use lib.ListN.{length}
 use Rattle.meaning.specs.Grammar.{Grammar, Production}
 use Rattle.meaning.specs.Rules.{WellFormed}
-use Rattle.meaning.specs.Machine.{Coming, Config, Lent, next}
-use Rattle.meaning.specs.Calls.{Record, Stacks, configOf, openOf}
+use Rattle.meaning.specs.Calls.{Record, Stacks, openOf}
 use Rattle.meaning.specs.PublicCalls.{Call, callOf}
 use Rattle.meaning_house.specs.Order.{SameEach, SameButOrder}
 use Rattle.theory_order.specs.Each.{regrouped, regrouped-is, same-at}
 use Rattle.theory_order.specs.SameSets.{alternatives-same}
 use Rattle.theory_order.specs.SameSchemes.{scheme-same, entered-same}
 use Rattle.theory_order.specs.SameFit.{fit-same}
-use Rattle.theory_order.specs.Alike.{AlikeConfig, AlikeOutcome}
-use Rattle.theory_order.specs.SameMoves.{Matched, same-next, same-config, same-openOf, same-call}
+use Rattle.theory_order.specs.SameMoves.{Matched, same-openOf, same-call}
 
 matched-regrouped : (g : Grammar) → WellFormed g → (qs : List Production) → SameEach (g .productions) qs → Matched g (regrouped g qs)
 matched-regrouped g w qs s = record {
@@ -32,12 +30,6 @@ pub matched : (g h : Grammar) → WellFormed g → SameButOrder g h → Matched 
 matched g h w s = subst (Matched g) (regrouped-is g h s) (matched-regrouped g w (h .productions) (s .productions))
 
 module _ (g h : Grammar) (w : WellFormed g) (s : SameButOrder g h) where
-  pub next-same : (lent : Lent) (ahead : Coming) {c d : Config} → AlikeConfig c d → AlikeOutcome (next g lent ahead c) (next h lent ahead d)
-  next-same lent ahead = same-next g h (matched g h w s) lent ahead
-
-  pub config-same : (r : Record) (m : Stacks) → AlikeConfig (configOf g r m) (configOf h r m)
-  config-same = same-config g h (matched g h w s)
-
   pub open-same : (m : Stacks) → openOf g m ≡ openOf h m
   open-same = same-openOf g h (matched g h w s)
 

@@ -6,6 +6,7 @@ use mathlib.Core.List.{List}
 use lib.ListN.{length}
 use lib.Dec.{T}
 use lib.IntN.{ℤ}
+use borrow.Author.Tests.{lt-ltb}
 use Rattle.meaning.specs.Grammar.{Grammar}
 use Rattle.meaning.specs.Table.{grammarOf}
 use Rattle.meaning.specs.Judgement.{rejected, Accepted}
@@ -22,7 +23,7 @@ use Rattle.theory_sets.specs.Accepted.{judged-is}
 use Rattle.theory_answers.specs.Called.{checks, called-is, long-enough}
 use Rattle.theory_answers.specs.FitTest.{fit-exactly}
 use Rattle.theory_answers.specs.Memory.{open-is}
-use Rattle.theory_answers.specs.TurnedBack.{is-below, refuses, unfit-no, inner-gate, all-cases}
+use Rattle.theory_answers.specs.TurnedBack.{refuses, unfit-no, inner-gate, all-cases}
 
 -- ---- 33, 40, 34 and 39
 
@@ -50,7 +51,7 @@ module _ (program : Grammar → List ℕ) (bs area : List ℕ) (r : Record) (m s
   mayByArea b = elim b as (λ z. MayEffect) [ true ↦ mayEffect (turned (refused 30 0)) s area | false ↦ mayByTable (check bs) ]
 
   pub mays-short : length area < areaLength → mays program bs area r m s v ≡ mayEffect (turned (refused 30 0)) s area
-  mays-short l = ap mayByArea (is-below (length area) areaLength l)
+  mays-short l = ap mayByArea (lt-ltb (length area) areaLength l)
 
   pub mays-refused : (n o : ℕ) → areaLength ≤ length area → check bs ≡ unusable n o → mays program bs area r m s v ≡ mayEffect (turned (tableRefused n o)) s area
   mays-refused n o l e = ap mayByArea (long-enough area l) ∙ ap mayByTable e
@@ -77,7 +78,7 @@ module _ (program : Grammar → List ℕ) (bs area : List ℕ) (r : Record) (m s
   )
 
   turned-by : (a : Answer) (words : List ℕ) → Turned program bs area r m s a words → Back a words
-  turned-by a words (Statements.short l) = ((λ k. rw (is-below (length area) areaLength l, called)), mays-short l)
+  turned-by a words (Statements.short l) = ((λ k. rw (lt-ltb (length area) areaLength l, called)), mays-short l)
   turned-by a words (Statements.badTable l n o j) = let e = refuses bs n o (judged-is bs (rejected n o) .0 j) in ((λ k. rw (long-enough area l, e, called)), mays-refused n o l e)
   turned-by a words (Statements.isClosed l g x e) = by-number g l x 33 (λ A turn on. copied-gate turn on g r m s 33 (ap (λ z. gate 34 z (r .kind)) e))
   turned-by a words (Statements.isWaiting l g x e f) = by-number g l x 40 (λ A turn on. copied-gate turn on g r m s 40 (ap₂ (gate 34) e f))

@@ -1,37 +1,31 @@
 -- The set of tokens: what is in it, and how it grows token by token.
-use Prim.Native.Nat.{ℕ, suc, _+_, _<_}
+use Prim.Native.Nat.{ℕ, _+_, _<_}
 use native.Mathlib.Omega.{arith}
 use native.Mathlib.Decide.{decLt}
-use mathlib.Core.Path.{_≡_, refl, sym, ap, _∙_, subst}
+use mathlib.Core.Path.{_≡_, sym, ap, _∙_, subst, refl, ap₂}
 use mathlib.Core.Logic.{_⊎_, inl, inr}
 use mathlib.Core.Bool.{Bool, true, false, _&&_}
-use mathlib.Core.List.{[], _∷_, map}
-use lib.ListN.{length, set, length-map, length-set, length-replicate}
+use mathlib.Core.List.{map, List, [], _∷_}
+use lib.ListN.{length, set, length-map}
 use lib.Dec.{T, ltb, ltb→lt, lt→ltb}
 use Rattle.meaning.specs.Base.{countFrom}
 use Rattle.meaning.specs.Sets.{TokenSet, emptySet, singleton, _∪_, has}
-use Rattle.theory_base.specs.Members.{both, and}
-use Rattle.theory_sets.specs.Tests.{tabled-cases, tabled-at, length-countFrom}
+use Rattle.theory_base.specs.Members.{both, and, length-countFrom}
+use Rattle.theory_sets.specs.Tests.{tabled-cases, tabled-at}
 use Rattle.theory_sets.specs.TokenSets.{single-has, single-only, not-empty, union-left, union-right, union-cases}
-use Rattle.theory_sets.specs.Widths.{Wide, same-set}
-
-empty-wide : Wide emptySet
-empty-wide = record { width = length-replicate 64 false }
-
-single-wide : (t : ℕ) → Wide (singleton t)
-single-wide t = record { width = length-set emptySet t true ∙ length-replicate 64 false }
-
-∪-wide : (s t : TokenSet) → Wide s → Wide t → Wide (s ∪ t)
-∪-wide s t a b = record { width = go s t (a .width ∙ sym (b .width)) ∙ b .width }
-  where
-    go : (s t : TokenSet) → length s ≡ length t → length (s ∪ t) ≡ length t
-    go [] t e = refl
-    go (x ∷ s) [] e = e
-    go (x ∷ s) (y ∷ t) e = ap suc (go s t (omega arith))
+use Rattle.theory_sets.specs.Widths.{Wide, same-set, empty-wide, single-wide, ∪-wide}
 
 -- the tokens below n that pass a test
 abbrev pub passing : (ℕ → Bool) → ℕ → TokenSet
 passing test n = map (λ t. ltb t n && test t) (countFrom 0 64)
+
+-- tests that agree let the same tokens pass
+pub passing-same : (f h : ℕ → Bool) (n : ℕ) → ((t : ℕ) → f t ≡ h t) → passing f n ≡ passing h n
+passing-same f h n e = map-same (countFrom 0 64)
+  where
+    map-same : (ts : List ℕ) → map (λ t. ltb t n && f t) ts ≡ map (λ t. ltb t n && h t) ts
+    map-same [] = refl
+    map-same (t ∷ ts) = ap₂ (λ x xs. x ∷ xs) (ap (λ b. ltb t n && b) (e t)) (map-same ts)
 
 module _ (test : ℕ → Bool) where
   pub passing-wide : (n : ℕ) → Wide (passing test n)
@@ -60,7 +54,7 @@ module _ (test : ℕ → Bool) where
           go (no b) a c = let d : t ≡ n = omega arith in absurd (subst T (ap test d ∙ e) c)
 
   pub passing-more : (n : ℕ) → n < 64 → test n ≡ true → passing test (n + 1) ≡ passing test n ∪ singleton n
-  passing-more n small e = same-set (passing test (n + 1)) (passing test n ∪ singleton n) (passing-wide (n + 1)) (∪-wide (passing test n) (singleton n) (passing-wide n) (single-wide n)) to from
+  passing-more n small e = same-set (passing test (n + 1)) (passing test n ∪ singleton n) (passing-wide (n + 1)) (∪-wide (passing-wide n) (single-wide n)) to from
     where
       to : (t : ℕ) → t < 64 → T (has (passing test (n + 1)) t) → T (has (passing test n ∪ singleton n) t)
       to t l h = let k = passing-has (n + 1) t h in go (decLt t n) (k .0) (k .1)

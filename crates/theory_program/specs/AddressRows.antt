@@ -3,10 +3,12 @@ use mathlib.Core.Path.{_≡_, refl}
 use mathlib.Core.List.{[], _∷_}
 use lib.IntN.{pos, negsuc}
 use Rattle.meaning.specs.Grammar.{addc, copy, const, range, token, over}
+use Rattle.meaning.specs.Sets.{endNumber}
+use Rattle.meaning.specs.Program.{firstAlternative}
 use Rattle.meaning.specs.Examples.WordsAndTags.{words}
 use Rattle.theory_program.specs.Addresses.{recordAddress, bodyAddress, entryAddress, schemeAddress, expectAddress}
 use Rattle.theory_program.specs.Unpacked.{ruleFrom, conditionFrom}
-use Rattle.theory_program.specs.Search.{nextWord, search}
+use Rattle.theory_program.specs.Search.{nextWord, found}
 use Rattle.theory_program.specs.Resuming.{placeAddress}
 
 -- L to open L close L is production 2
@@ -57,11 +59,11 @@ next3 : nextWord words 3 ≡ 0
 next3 = refl
 
 -- open at depth 2 and at depth 3; the end
-searchOpen : search words (pos 2 ∷ []) 1 (token 1) ≡ 3
+searchOpen : found words (pos 2 ∷ []) 1 (token 1) (firstAlternative words 1 1) ≡ 3
 searchOpen = refl
 
-searchDeep : search words (pos 3 ∷ []) 1 (token 1) ≡ 0
+searchDeep : found words (pos 3 ∷ []) 1 (token 1) (firstAlternative words 1 1) ≡ 0
 searchDeep = refl
 
-searchEnd : search words (pos 0 ∷ []) 1 over ≡ 4
+searchEnd : found words (pos 0 ∷ []) 1 over (firstAlternative words 1 endNumber) ≡ 4
 searchEnd = refl

@@ -18,7 +18,8 @@ use Rattle.meaning.specs.Program.{concat, schemeWords, expectsAt, entryWords, s
 pub use Rattle.meaning.specs.Program.{bodiesBefore, bodyAddress, schemeAddress}
 use Rattle.theory_base.specs.WellFormed.{listed-at, well-formed-at}
 use Rattle.theory_base.specs.Frames.{expects-skip, expects-symbols}
-use Rattle.theory_sets.specs.Tests.{tabled, length-countFrom}
+use Rattle.theory_sets.specs.Tests.{tabled}
+use Rattle.theory_base.specs.Members.{length-countFrom}
 use Rattle.theory_program.specs.WordsStand.{WordsStand, stands-at, stands-in, stands-first, stands-behind, stands-left, stands-right, stands-word}
 use Rattle.theory_program.specs.Code.{CodeAt, ConditionsAt, conditions-length, expects-length, code-from}
 

@@ -12,7 +12,7 @@ use Rattle.meaning.specs.Scheme.{Instruction, add, evaluate, expect, test, remo
 use Rattle.meaning.specs.Machine.{expects}
 use Rattle.meaning.specs.Calls.{fromExpect}
 use Rattle.meaning.specs.Program.{concat, functionWords, ruleWords, conditionWords, instructionWords, schemeWords, expectsAt}
-use Rattle.theory_program.specs.Parts.{headOperation, headOperand}
+use Rattle.theory_program.specs.Parts.{addOperation, evaluateOperation, readOperation, predictOperation, testOperation, removeOperation, headOf, headOperation, headOperand}
 use Rattle.theory_program.specs.WordsStand.{WordsStand, stands-at, stands-left, stands-right, stands-tail, stands-word, stands-head}
 
 pub record RulesAt (ws : List ℕ) (a : ℕ) (rs : List (Rule ℕ)) : Type 0 where
@@ -75,11 +75,11 @@ condition-first {ws} {a} {c} {cs} s =
 
 -- the number of the operation, and its operand
 abbrev pub operation : Instruction → ℕ
-operation (add n) = 0
-operation (evaluate rs) = 1
-operation (expect x) = elim x [ terminal t ↦ 2 | nonterminal n ↦ 3 ]
-operation (test cs) = 4
-operation (remove n) = 5
+operation (add n) = addOperation
+operation (evaluate rs) = evaluateOperation
+operation (expect x) = elim x [ terminal t ↦ readOperation | nonterminal n ↦ predictOperation ]
+operation (test cs) = testOperation
+operation (remove n) = removeOperation
 
 abbrev pub operand : Instruction → ℕ
 operand (add n) = n
@@ -88,7 +88,7 @@ operand (expect x) = elim x [ terminal t ↦ t | nonterminal n ↦ n ]
 operand (test cs) = length cs
 operand (remove n) = n
 
-head-word : (i : Instruction) → getD (instructionWords i) 0 0 ≡ operation i + 8 * operand i
+head-word : (i : Instruction) → getD (instructionWords i) 0 0 ≡ headOf (operation i) (operand i)
 head-word (add n) = refl
 head-word (evaluate rs) = refl
 head-word (expect (terminal t)) = refl
@@ -103,8 +103,8 @@ some-word (expect x) = omega arith
 some-word (test cs) = omega arith
 some-word (remove n) = omega arith
 
--- 6 is no operation: it says that nothing is left
-pub low-operation : (i : Instruction) → operation i ≤ 5
+-- none of them is the number that says that nothing is left
+pub low-operation : (i : Instruction) → operation i ≤ removeOperation
 low-operation (add n) = omega arith
 low-operation (evaluate rs) = omega arith
 low-operation (expect (terminal t)) = omega arith
@@ -115,7 +115,7 @@ low-operation (remove n) = omega arith
 -- the word at hand, taken apart
 pub code-head : {ws : List ℕ} {a : ℕ} {i : Instruction} {is : List Instruction} → CodeAt ws a (i ∷ is) → (headOperation (getD ws a 0) ≡ operation i) × (headOperand (getD ws a 0) ≡ operand i)
 code-head {ws} {a} {i} {is} s =
-    let e : getD ws a 0 ≡ operation i + 8 * operand i = ap (λ b. getD ws b 0) (omega arith) ∙ (stands-word (stands-left (instructionWords i) (schemeWords is) (s .words)) 0 (some-word i) ∙ head-word i) in
+    let e : getD ws a 0 ≡ headOf (operation i) (operand i) = ap (λ b. getD ws b 0) (omega arith) ∙ (stands-word (stands-left (instructionWords i) (schemeWords is) (s .words)) 0 (some-word i) ∙ head-word i) in
     let l = low-operation i in
     (omega arith, omega arith)
 
@@ -123,14 +123,14 @@ code-head {ws} {a} {i} {is} s =
 pub code-next : {ws : List ℕ} {a : ℕ} {i : Instruction} {is : List Instruction} → CodeAt ws a (i ∷ is) → CodeAt ws (a + length (instructionWords i)) is
 code-next {i = i} {is = is} s = record { words = stands-right (instructionWords i) (schemeWords is) (s .words) }
 
-pub code-evaluate : {ws : List ℕ} {a : ℕ} {rs : List (Rule ℕ)} {is : List Instruction} → CodeAt ws a (evaluate rs ∷ is) → (getD ws a 0 ≡ 1 + 8 * length rs) × RulesAt ws (a + 1) rs × CodeAt ws (a + 1 + 2 * length rs) is
+pub code-evaluate : {ws : List ℕ} {a : ℕ} {rs : List (Rule ℕ)} {is : List Instruction} → CodeAt ws a (evaluate rs ∷ is) → (getD ws a 0 ≡ headOf evaluateOperation (length rs)) × RulesAt ws (a + 1) rs × CodeAt ws (a + 1 + 2 * length rs) is
 code-evaluate {ws} {a} {rs} {is} s =
     let t = stands-tail (s .words) in
     let rules : RulesAt ws (a + 1) rs = record { words = stands-left (concat (map ruleWords rs)) (schemeWords is) t } in
     let behind : CodeAt ws (a + 1 + 2 * length rs) is = record { words = stands-at (a + 1 + 2 * length rs) (omega (arith, rules-length rs)) (stands-right (concat (map ruleWords rs)) (schemeWords is) t) } in
     (stands-head (s .words), rules, behind)
 
-pub code-test : {ws : List ℕ} {a : ℕ} {cs : List (Condition ℕ)} {is : List Instruction} → CodeAt ws a (test cs ∷ is) → (getD ws a 0 ≡ 4 + 8 * length cs) × ConditionsAt ws (a + 1) cs × CodeAt ws (a + 1 + 3 * length cs) is
+pub code-test : {ws : List ℕ} {a : ℕ} {cs : List (Condition ℕ)} {is : List Instruction} → CodeAt ws a (test cs ∷ is) → (getD ws a 0 ≡ headOf testOperation (length cs)) × ConditionsAt ws (a + 1) cs × CodeAt ws (a + 1 + 3 * length cs) is
 code-test {ws} {a} {cs} {is} s =
     let t = stands-tail (s .words) in
     let conditions : ConditionsAt ws (a + 1) cs = record { words = stands-left (concat (map conditionWords cs)) (schemeWords is) t } in
@@ -139,7 +139,7 @@ code-test {ws} {a} {cs} {is} s =
 
 -- ---- which instruction a number means
 
-pub is-add : (i : Instruction) → operation i ≡ 0 → i ≡ add (operand i)
+pub is-add : (i : Instruction) → operation i ≡ addOperation → i ≡ add (operand i)
 is-add (add n) e = refl
 is-add (evaluate rs) e = absurd (omega arith)
 is-add (expect (terminal t)) e = absurd (omega arith)
@@ -147,7 +147,7 @@ is-add (expect (nonterminal n)) e = absurd (omega arith)
 is-add (test cs) e = absurd (omega arith)
 is-add (remove n) e = absurd (omega arith)
 
-pub is-evaluate : (i : Instruction) → operation i ≡ 1 → (rs : List (Rule ℕ)) × (i ≡ evaluate rs)
+pub is-evaluate : (i : Instruction) → operation i ≡ evaluateOperation → (rs : List (Rule ℕ)) × (i ≡ evaluate rs)
 is-evaluate (add n) e = absurd (omega arith)
 is-evaluate (evaluate rs) e = (rs, refl)
 is-evaluate (expect (terminal t)) e = absurd (omega arith)
@@ -155,7 +155,7 @@ is-evaluate (expect (nonterminal n)) e = absurd (omega arith)
 is-evaluate (test cs) e = absurd (omega arith)
 is-evaluate (remove n) e = absurd (omega arith)
 
-pub is-terminal : (i : Instruction) → operation i ≡ 2 → i ≡ expect (terminal (operand i))
+pub is-terminal : (i : Instruction) → operation i ≡ readOperation → i ≡ expect (terminal (operand i))
 is-terminal (add n) e = absurd (omega arith)
 is-terminal (evaluate rs) e = absurd (omega arith)
 is-terminal (expect (terminal t)) e = refl
@@ -163,7 +163,7 @@ is-terminal (expect (nonterminal n)) e = absurd (omega arith)
 is-terminal (test cs) e = absurd (omega arith)
 is-terminal (remove n) e = absurd (omega arith)
 
-pub is-nonterminal : (i : Instruction) → operation i ≡ 3 → i ≡ expect (nonterminal (operand i))
+pub is-nonterminal : (i : Instruction) → operation i ≡ predictOperation → i ≡ expect (nonterminal (operand i))
 is-nonterminal (add n) e = absurd (omega arith)
 is-nonterminal (evaluate rs) e = absurd (omega arith)
 is-nonterminal (expect (terminal t)) e = absurd (omega arith)
@@ -171,7 +171,7 @@ is-nonterminal (expect (nonterminal n)) e = refl
 is-nonterminal (test cs) e = absurd (omega arith)
 is-nonterminal (remove n) e = absurd (omega arith)
 
-pub is-test : (i : Instruction) → operation i ≡ 4 → (cs : List (Condition ℕ)) × (i ≡ test cs)
+pub is-test : (i : Instruction) → operation i ≡ testOperation → (cs : List (Condition ℕ)) × (i ≡ test cs)
 is-test (add n) e = absurd (omega arith)
 is-test (evaluate rs) e = absurd (omega arith)
 is-test (expect (terminal t)) e = absurd (omega arith)
@@ -179,7 +179,7 @@ is-test (expect (nonterminal n)) e = absurd (omega arith)
 is-test (test cs) e = (cs, refl)
 is-test (remove n) e = absurd (omega arith)
 
-pub is-remove : (i : Instruction) → operation i ≡ 5 → i ≡ remove (operand i)
+pub is-remove : (i : Instruction) → operation i ≡ removeOperation → i ≡ remove (operand i)
 is-remove (add n) e = absurd (omega arith)
 is-remove (evaluate rs) e = absurd (omega arith)
 is-remove (expect (terminal t)) e = absurd (omega arith)

@@ -211,7 +211,7 @@ module _ (g : Grammar) (w : WellFormed g) (p : Production) (listed : In p (g .pr
   formed : WellFormedProduction g p
   formed = w .each p listed
 
-  conditions-most : length (p .conditions) ≤ conditionsLimit
+  pub conditions-most : length (p .conditions) ≤ conditionsLimit
   conditions-most = omega (arith, in-total (λ q. length (q .conditions)) (g .productions) p listed, w .conditions)
 
   evaluate-proper : (rs : List (Rule ℕ)) → length rs ≤ 8 → ((r : Rule ℕ) → In r rs → ProperRule r) → T (not (isEmpty rs)) → ProperInstruction g (evaluate rs)

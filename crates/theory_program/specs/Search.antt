@@ -1,5 +1,5 @@
 -- The search along the program's words finds the production that the machine predicts: the directory and the next-words lead through the productions of a nonterminal in their order.
-use Prim.Native.Nat.{ℕ, zero, suc, _+_, _-_, _*_, _/_, _%_, _≤_, _<_}
+use Prim.Native.Nat.{ℕ, zero, suc, _+_, _-_, _*_, _/_, _≤_, _<_}
 use native.Mathlib.Omega.{arith}
 use mathlib.Core.Path.{_≡_, refl, sym, ap, _∙_, subst}
 use mathlib.Core.Logic.{_↔_}
@@ -19,6 +19,7 @@ use Rattle.meaning.specs.Program.{firstOf, firstAlternative, entryOf, schemeAdd
 use Rattle.theory_base.specs.Members.{T→true, true→T, both}
 use Rattle.theory_base.specs.WellFormed.{listed-at}
 use Rattle.theory_sets.specs.Alternatives.{keep-keep}
+use Rattle.theory_program.specs.Parts.{directoryStep, directoryNumber, directoryScheme}
 
 -- ---- the first of some numbers, plus 1, or 0
 
@@ -126,12 +127,12 @@ module _ (g : Grammar) (w : WellFormed g) where
 
 -- ---- what the directory says of a production
 
-pub entry-number : (g : Grammar) (k : ℕ) → k < 256 → entryOf g k % 256 ≡ k
+pub entry-number : (g : Grammar) (k : ℕ) → k < 256 → directoryNumber (entryOf g k) ≡ k
 entry-number g zero l = refl
 entry-number g (suc p) l = let x : ℕ = cond (eqb (length (entryTests g (productionAt g p))) 0) (schemeAddress g p) 0 in omega (arith, l)
 
 -- where its scheme begins, if it has no entry tests
-pub entry-high : (g : Grammar) (k : ℕ) → k < 256 → 256 ≤ entryOf g k → (q : ℕ) × (k ≡ suc q) × (length (entryTests g (productionAt g q)) ≡ 0) × (entryOf g k / 256 ≡ schemeAddress g q)
+pub entry-high : (g : Grammar) (k : ℕ) → k < 256 → directoryStep ≤ entryOf g k → (q : ℕ) × (k ≡ suc q) × (length (entryTests g (productionAt g q)) ≡ 0) × (directoryScheme (entryOf g k) ≡ schemeAddress g q)
 entry-high g zero l h = absurd (omega arith)
 entry-high g (suc p) l h = go (eqb tests 0) refl h
   where
@@ -141,8 +142,8 @@ entry-high g (suc p) l h = go (eqb tests 0) refl h
     go : (b : Bool) → eqb tests 0 ≡ b → 256 ≤ suc p + 256 * cond b (schemeAddress g p) 0 → (q : ℕ) × (suc p ≡ suc q) × (length (entryTests g (productionAt g q)) ≡ 0) × (entryOf g (suc p) / 256 ≡ schemeAddress g q)
     go true e m =
         let a : ℕ = schemeAddress g p in
-        let z : (suc p + 256 * a) / 256 ≡ a = omega (arith, l) in
-        (p, refl, eqb→eq tests 0 (true→T (eqb tests 0) e), ap (λ b. (suc p + 256 * cond b a 0) / 256) e ∙ z)
+        let z : directoryScheme (suc p + 256 * a) ≡ a = omega (arith, l) in
+        (p, refl, eqb→eq tests 0 (true→T (eqb tests 0) e), ap (λ b. directoryScheme (suc p + 256 * cond b a 0)) e ∙ z)
     go false e m = absurd (omega (arith, l, m))
 
 -- ---- the search
@@ -150,16 +151,6 @@ entry-high g (suc p) l h = go (eqb tests 0) refl h
 -- of a production of the nonterminal expected: its set holds what comes next and its entry tests hold
 abbrev pub passes : Grammar → List ℤ → Look → ℕ → Bool
 passes g rs look p = has (starts g (productionAt g p)) (lookNumber look) && entered g rs p
-
--- from a directory word or a next-word on, at most `steps` productions
-abbrev pub searchFrom : ℕ → Grammar → List ℤ → Look → ℕ → ℕ
-searchFrom zero g rs look d = 0
-searchFrom (suc steps) g rs look zero = 0
-searchFrom (suc steps) g rs look (suc p) = cond (passes g rs look p) (suc p) (searchFrom steps g rs look (nextWord g p))
-
--- the number plus 1 of the production found, or 0
-abbrev pub search : Grammar → List ℤ → ℕ → Look → ℕ
-search g rs n look = searchFrom (length (g .productions)) g rs look (firstAlternative g n (lookNumber look))
 
 -- what the search finds from a word on: the first production from there on that the machine may enter
 abbrev pub found : Grammar → List ℤ → ℕ → Look → ℕ → ℕ
@@ -200,36 +191,3 @@ module _ (g : Grammar) (w : WellFormed g) (rs : List ℤ) (n : ℕ) (look : Look
 
   pub found-stop : (p : ℕ) → p < length (g .productions) → productionAt g p .left ≡ n → passes g rs look p ≡ true → found g rs n look (suc p) ≡ suc p
   found-stop p l e h = found-at p l e ∙ ap (λ b. cond b (suc p) (found g rs n look (nextWord g p))) h
-
-  -- a word that leads to a production of n, or nowhere; so many steps are enough from there
-  abbrev Leads : ℕ → ℕ → Type 0
-  Leads steps d = (p : ℕ) → d ≡ suc p → (p < length (g .productions)) × (productionAt g p .left ≡ n) × (length (g .productions) ≤ p + steps)
-
-  searches : (steps d : ℕ) → Leads steps d → searchFrom steps g rs look d ≡ found g rs n look d
-  searches zero zero h = refl
-  searches zero (suc p) h = let q = h p refl in absurd (omega (arith, q .0, q .2))
-  searches (suc steps) zero h = refl
-  searches (suc steps) (suc p) h =
-      let q = h p refl in
-      let ih = searches steps (nextWord g p) (leads q) in
-      ap (cond (passes g rs look p) (suc p)) ih ∙ sym (found-at p (q .0) (q .1))
-    where
-      leads : (p < length (g .productions)) × (productionAt g p .left ≡ n) × (length (g .productions) ≤ p + suc steps) → Leads steps (nextWord g p)
-      leads q r e = let k = next-listed g w p r (q .0) e in (k .1, k .2 ∙ q .1, omega (arith, k .0, q .2))
-
-  -- the search finds the first alternative that is entered, or none
-  pub search-is : search g rs n look ≡ firstNumber (keep (entered g rs) (alternatives g n look))
-  search-is = searches (length (g .productions)) (firstAlternative g n (lookNumber look)) leads ∙ found-start
-    where
-      leads : Leads (length (g .productions)) (firstAlternative g n (lookNumber look))
-      leads p e = let h = directory-listed g w n look p e in (h .0, h .1, omega arith)
-
-  pub search-finds : (p : ℕ) → (search g rs n look ≡ suc p) ↔ ((ps : List ℕ) × (keep (entered g rs) (alternatives g n look) ≡ p ∷ ps))
-  search-finds p =
-      let k = first-some (keep (entered g rs) (alternatives g n look)) p in
-      ((λ h. k .0 (sym search-is ∙ h)), (λ h. search-is ∙ k .1 h))
-
-  pub search-none : (search g rs n look ≡ 0) ↔ (isEmpty (keep (entered g rs) (alternatives g n look)) ≡ true)
-  search-none =
-      let k = first-none (keep (entered g rs) (alternatives g n look)) in
-      ((λ h. k .0 (sym search-is ∙ h)), (λ h. search-is ∙ k .1 h))

@@ -7,25 +7,25 @@ use mathlib.Core.List.{List, [], _∷_, _++_}
 use lib.ListN.{length}
 use lib.IntN.{ℤ, pos}
 use Rattle.meaning.specs.Value.{inRange}
-use Rattle.meaning_ranking.specs.Ranking.{Entry, number, value, valued, totalOf, valuedOf}
+use Rattle.meaning_ranking.specs.Ranking.{RankEntry, number, value, valued, totalOf, valuedOf}
 use Rattle.theory_ranking.specs.Entries.{Ranged, entriesOf}
 use Rattle.theory_ranking.specs.Sorting.{ranking-ranks}
 use Rattle.theory_ranking.specs.Listing.{Listed, listed-entries}
 use Rattle.theory_ranking.specs.Report.{countedFrom, total-shuffled, valued-shuffled, ranged-shuffled}
 
-counted-end : (k : ℕ) (es : List Entry) (e : Entry) → countedFrom k es → number e ≡ pos (k + length es) → countedFrom k (es ++ (e ∷ []))
+counted-end : (k : ℕ) (es : List RankEntry) (e : RankEntry) → countedFrom k es → number e ≡ pos (k + length es) → countedFrom k (es ++ (e ∷ []))
 counted-end k [] e c p = let z : k + 0 ≡ k = omega arith in (p ∙ ap pos z, tt)
 counted-end k (x ∷ es) e c p = let z : k + suc (length es) ≡ suc k + length es = omega arith in (c .0, counted-end (suc k) es e (c .1) (p ∙ ap pos z))
 
 -- the next number
-pub counted-more : (es : List Entry) (e : Entry) → countedFrom 0 es → number e ≡ pos (length es) → countedFrom 0 (es ++ (e ∷ []))
+pub counted-more : (es : List RankEntry) (e : RankEntry) → countedFrom 0 es → number e ≡ pos (length es) → countedFrom 0 (es ++ (e ∷ []))
 counted-more es e c p = let z : length es ≡ 0 + length es = omega arith in counted-end 0 es e c (p ∙ ap pos z)
 
-pub ranged-more : (es : List Entry) (e : Entry) → Ranged es → inRange (value e) ≡ true → Ranged (es ++ (e ∷ []))
+pub ranged-more : (es : List RankEntry) (e : RankEntry) → Ranged es → inRange (value e) ≡ true → Ranged (es ++ (e ∷ []))
 ranged-more [] e r p = (p, tt)
 ranged-more (x ∷ es) e r p = (r .0, ranged-more es e (r .1) p)
 
-module _ (es : List Entry) (l₀ l : List ℤ) (q : Listed es l₀ l) where
+module _ (es : List RankEntry) (l₀ l : List ℤ) (q : Listed es l₀ l) where
   -- what the total requires
   pub listed-ranged : Ranged es → Ranged (entriesOf (length es) l)
   listed-ranged r = subst (λ xs. Ranged xs) (sym (listed-entries es l₀ l q)) (ranged-shuffled (ranking-ranks es .each) r)

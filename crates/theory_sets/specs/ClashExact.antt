@@ -35,11 +35,11 @@ module _ (g : Grammar) (p q : ℕ) (a : Alternatives g p q) where
   values : T (satisfiable n (ofBoth g p q)) → Satisfiable n (ofBoth g p q)
   values t = let v = Satisfying.satisfiable-values n few (ofBoth g p q) fits t in record { values = v .0; meets = record { size = v .1; ranged = v .2; each = v .3 } }
 
-  told : Satisfiable n (ofBoth g p q) → T (satisfiable n (ofBoth g p q))
-  told s = Satisfying.values-satisfiable n few (ofBoth g p q) fits (s .values) (s .meets .size) (s .meets .ranged) (s .meets .each)
+  then-satisfiable : Satisfiable n (ofBoth g p q) → T (satisfiable n (ofBoth g p q))
+  then-satisfiable s = Satisfying.values-satisfiable n few (ofBoth g p q) fits (s .values) (s .meets .size) (s .meets .ranged) (s .meets .each)
 
   otherwise : T (not (satisfiable n (ofBoth g p q))) → Satisfiable n (ofBoth g p q) ⊎ NegativeCycle n (ofBoth g p q) → NegativeCycle n (ofBoth g p q)
-  otherwise t (inl s) = absurd (T-not (satisfiable n (ofBoth g p q)) t (told s))
+  otherwise t (inl s) = absurd (T-not (satisfiable n (ofBoth g p q)) t (then-satisfiable s))
   otherwise t (inr c) = c
 
 pub values-or-cycle : ValuesOrCycle

@@ -14,13 +14,12 @@ use Rattle.meaning.specs.Rules.{fourBytes}
 use Rattle.meaning.specs.Value.{inRange, holds}
 use Rattle.meaning.specs.Differences.{solvable}
 use Rattle.meaning.specs.Decide.{isRange, pairwise, satisfiableBy, satisfiable}
-use Rattle.theory_base.specs.Members.{all-in, at-all, both}
+use Rattle.theory_base.specs.Members.{all-in, at-all, both, same-truth, length-countFrom}
 use Rattle.meaning_statements.specs.CompareStatements.{valueIn}
 use Rattle.theory_differences.specs.Graph.{AllKnown}
 use Rattle.theory_differences.specs.Building.{solvable-values, values-solvable}
 use Rattle.theory_sets.specs.Intervals.{among, among-is, entry, compared, entry-wider, entry-known, common, holding}
-use Rattle.theory_sets.specs.Tests.{all-map, all-map₂, getD-countFrom, length-countFrom}
-use Rattle.theory_sets.specs.Widths.{both-true}
+use Rattle.theory_sets.specs.Tests.{all-map, all-map₂, getD-countFrom}
 
 module _ (k : ℕ) (few : k ≤ 8) (cs : List (Condition ℕ)) (fits : T (all (entry k) cs)) where
   abbrev Values : Type 0
@@ -86,7 +85,7 @@ module _ (j m : ℕ) (few : j ≤ m) (cs : List (Condition ℕ)) (fits : T (all 
 
 -- with 8 attributes it is as with the k there are
 pub satisfiable-eight : (k : ℕ) → k ≤ 8 → (cs : List (Condition ℕ)) → T (all (entry k) cs) → satisfiable 8 cs ≡ satisfiable k cs
-satisfiable-eight k few cs fits = both-true (satisfiable 8 cs) (satisfiable k cs) down up
+satisfiable-eight k few cs fits = same-truth (satisfiable 8 cs) (satisfiable k cs) down up
   where
     all-eight : 8 ≤ 8
     all-eight = omega arith

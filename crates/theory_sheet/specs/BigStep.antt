@@ -4,7 +4,7 @@ use native.Mathlib.Omega.{arith}
 use native.Mathlib.Decide.{decLt}
 use mathlib.Core.Path.{_≡_, refl, sym, ap, _∙_, subst}
 use mathlib.Core.Logic.{_⊎_, inl, inr}
-use mathlib.Core.Bool.{Bool, true, false, _&&_}
+use mathlib.Core.Bool.{Bool, true, false, _&&_, and-false}
 use mathlib.Core.List.{List, [], _∷_, _++_, append-nil}
 use lib.ListN.{length}
 use lib.Dec.{eqb, ltb}
@@ -23,7 +23,7 @@ use Rattle.theory_complete.specs.Run.{Steps, done, executed, predicted, accepte
 use Rattle.theory_complete.specs.PredictsOfWalk.{Foreseen, foresee-all}
 use Rattle.theory_complete.specs.SubtreeComplete.{walks}
 use Rattle.theory_complete.specs.SegmentComplete.{opening-expects, tokens-known}
-use Rattle.theory_sheet.specs.Whole.{runFrom, Failing, fails-behind, and-false, unread-same, unread-next}
+use Rattle.theory_sheet.specs.Whole.{runFrom, Failing, fails-behind, unread-same, unread-next}
 use Rattle.theory_sheet.specs.Walking.{Fair, idle-stuck, idle-goes, look-stuck, look-goes, look-35, look-over}
 use Rattle.theory_sheet.specs.Segment.{answerOf, openedAs, segmentRun}
 

@@ -3,7 +3,7 @@ use Prim.Native.Nat.{ℕ, suc, _+_, _-_, _≤_, _<_}
 use native.Mathlib.Omega.{arith}
 use mathlib.Core.Path.{_≡_, refl, sym, ap, ap₂, _∙_, subst}
 use mathlib.Core.Bool.{Bool, true, false}
-use mathlib.Core.List.{List, [], _∷_, _++_, append-assoc}
+use mathlib.Core.List.{List, [], _∷_, _++_, append-assoc, append-cancel-right}
 use lib.ListN.{length, drop, take, length-append}
 use lib.Seq.{drop-at, take-at}
 use lib.Dec.{T, leb, ltb}
@@ -99,11 +99,6 @@ module _ (g : Grammar) (lent : Lent) (us : List Leaf) (c : Config) (w : waits (c
 
 some-left : {g : Grammar} {o : Open} {x : Symbol} {pt : Point} → Due g o (expect x) pt → GoodNode g o pt → length (o .children) < length (productionAt g (o .production) .right)
 some-left {g} {o} (Selectors.waits x is xs) gn = drop-head (length (o .children)) (productionAt g (o .production) .right) x (terminal 0) xs (gn .1 .0) .0
-
-right-cancel : {A : Type 0} (xs ys zs : List A) → xs ++ zs ≡ ys ++ zs → xs ≡ ys
-right-cancel xs ys zs e =
-    let n : length xs ≡ length ys = omega (arith, ap length e, length-append xs zs, length-append ys zs) in
-    sym (take-at xs zs (length xs) refl) ∙ (ap (take (length xs)) e ∙ take-at ys zs (length xs) (sym n))
 
 -- the values of the attributes of a node of production q where it is left, its remove being of n registers
 abbrev pub ownValues : Grammar → ℕ → ℕ → List ℤ → List ℤ
@@ -239,7 +234,7 @@ module _ (g : Grammar) (f : WellFormed g) (lent : Lent) (tokens : List Leaf) (kn
       let t = treeOf (o .production) (o .inherited ++ k .0) (o .children) in
       let syns : synthesizedOf g t ≡ k .0 = drop-at (o .inherited) (k .0) (inh g (nonterminal (productionAt g (o .production) .left))) (x .good .0 .sized) in
       let ends : k .0 ++ under g (b .node) bs ≡ x .results ++ under g (b .node) bs = ap (λ z. z ++ under g (b .node) bs) (sym syns) ∙ (sym (left-on g (b .node) t (b .ahead) bs) ∙ (k .2 ∙ (sym (ap (λ z. z .registers) r) ∙ left-over x))) in
-      let own : o .inherited ++ k .0 ≡ ownValues g (o .production) n (c .registers) = ap (λ z. o .inherited ++ z) (right-cancel (k .0) (x .results) (under g (b .node) bs) ends) ∙ sym (own-are x) in
+      let own : o .inherited ++ k .0 ≡ ownValues g (o .production) n (c .registers) = ap (λ z. o .inherited ++ z) (append-cancel-right (k .0) (x .results) (under g (b .node) bs) ends) ∙ sym (own-are x) in
       (subst (λ vs. Stand g tokens (withChild (b .node) (treeOf (o .production) vs (o .children))) bs d) own (k .1), idle-goes g lent (comingTo c tokens) c w l d h ∙ ap (λ us. runFrom g lent us d) (v .rest))
 
   pub remove-stuck : (n : ℕ) → c .frames ≡ frame p (remove n ∷ is) ∷ fs → (l : Coming) (k : ℕ) → next g lent l c ≡ blocked k → Failing g lent (comingTo c tokens) c c k

@@ -3,7 +3,7 @@ use Prim.Native.Nat.{ℕ, zero, suc, _+_, _-_, _≤_}
 use native.Mathlib.Omega.{arith}
 use mathlib.Core.Path.{_≡_, refl, sym, ap, ap₂, _∙_, subst}
 use mathlib.Core.Logic.{_⊎_, inl, inr}
-use mathlib.Core.Bool.{Bool, true, false, _&&_}
+use mathlib.Core.Bool.{Bool, true, false, _&&_, and-false}
 use mathlib.Core.List.{List, [], _∷_}
 use lib.ListN.{drop}
 use lib.Dec.{T, ltb, leb}
@@ -113,10 +113,6 @@ unread-same c d us e = let z : d .tokens - c .tokens ≡ 0 = omega (arith, e) in
 
 pub unread-next : (c d : Config) (u : Leaf) (us : List Leaf) → d .tokens ≡ suc (c .tokens) → unread c d (u ∷ us) ≡ us
 unread-next c d u us e = let z : d .tokens - c .tokens ≡ 1 = omega (arith, e) in ap (λ n. drop n (u ∷ us)) z
-
-pub and-false : (b : Bool) → b && false ≡ false
-and-false true = refl
-and-false false = refl
 
 unread-none : (n : ℕ) → _≡_ {A = List Leaf} (drop n []) []
 unread-none zero = refl

@@ -9,6 +9,7 @@ use lib.ListN.{length, drop, length-append}
 use lib.Seq.{drop-at}
 use lib.Dec.{T, eqb, ltb}
 use lib.IntN.{ℤ}
+use borrow.Author.Tests.{eq-eqb}
 use Rattle.meaning.specs.Base.{isEmpty}
 use Rattle.theory_answers.specs.ShapeMoves.{IsAhead}
 use Rattle.meaning.specs.Grammar.{Symbol, terminal, nonterminal, Production, Grammar, inh, syn, addedFor, productionAt, whole, Leaf}
@@ -18,7 +19,6 @@ use Rattle.meaning.specs.Tree.{Tree, leaf, node, noTrees, yield, synthesizedOf,
 use Rattle.theory_base.specs.MoveCounts.{oneIf}
 use Rattle.meaning.specs.Rules.{WellFormed}
 use Rattle.meaning.specs.Part.{yieldsOf, synsOf, marks, Front, freshRest, leftRest, waitRest, frame, config, Open, Point, fresh, added, valued, left, closing, Ancestor, Part, yieldBelow, yieldPart, drawRest, drawFrame, drawFrames, drawBelow, drawRegisters, drawPart, GoodNode, Stands, Good}
-use Rattle.theory_base.specs.Members.{same-true}
 use Rattle.theory_base.specs.WellFormed.{Evaluable, evaluable-at, evaluable-whole}
 use Rattle.theory_base.specs.Values.{treeOf, front-more, tested-more, complete, drop-head, drop-over, lefts-length, yields-onto}
 use Rattle.theory_base.specs.Frames.{scheme-is}
@@ -72,7 +72,7 @@ no-values (v ∷ vs) e = absurd (omega arith)
 
 -- all but the whole segment is listed
 pub listed : (g : Grammar) (p : ℕ) (vs : List ℤ) (bs : List Ancestor) → Stands g p vs bs → eqb p whole ≡ false → p < length (g .productions)
-listed g p vs [] st e = absurd (subst T (sym (same-true p whole (st .0)) ∙ e) tt)
+listed g p vs [] st e = absurd (subst T (sym (eq-eqb p whole (st .0)) ∙ e) tt)
 listed g p vs (b ∷ bs) st e = st .0
 
 -- remove: the node is left

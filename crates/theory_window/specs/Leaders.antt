@@ -14,7 +14,8 @@ use Rattle.meaning.specs.Base.{all, keep, countFrom, consIf}
 use Rattle.meaning.specs.Value.{inRange, mark}
 use Rattle.meaning_window.specs.Window.{larger, largest, leads, leadersOf, order, after, valueAt, turned}
 use Rattle.value.specs.Overflow.{in-range-size}
-use Rattle.theory_window.specs.Lists.{both, and-left, and-right, length-up, map-reverse}
+use Rattle.theory_base.specs.Members.{length-countFrom}
+use Rattle.theory_window.specs.Lists.{both, and-left, and-right, map-reverse}
 use Rattle.theory_window.specs.Ring.{length-turned, grown, staying, order-push, order-room, order-full, staying-others, values-order}
 use Rattle.theory_window.specs.Parts.{valuesOf}
 
@@ -265,7 +266,7 @@ after-before n k l = by (eqb k 0) refl
         rw (d, ne-eqb k n (λ y. omega arith)) refl
 
 pub down-order : (n h k : ℕ) → h ≤ n → k < n → downFrom n h k ≡ reverse (order n h k)
-down-order n zero k l q = ap reverse (sym (drop-of-length-le (turned k (countFrom 0 n)) {i = n - 0} (omega (arith, length-turned k (countFrom 0 n), length-up 0 n))))
+down-order n zero k l q = ap reverse (sym (drop-of-length-le (turned k (countFrom 0 n)) {i = n - 0} (omega (arith, length-turned k (countFrom 0 n), length-countFrom 0 n))))
 down-order n (suc h) k l q =
     let j : ℕ = before n k in
     let b : j < n = before-below n k q in

@@ -3,12 +3,14 @@ use Prim.Native.Nat.{ℕ, zero, suc, _+_, _-_, _≤_, _<_}
 use native.Mathlib.Omega.{arith}
 use mathlib.Core.Path.{_≡_, refl, sym, ap, ap₂, _∙_}
 use mathlib.Core.Bool.{Bool, true, false, _&&_}
-use mathlib.Core.List.{List, [], _∷_, _++_, map, reverse, reverse-cons, reverse-reverse}
+use mathlib.Core.List.{List, [], _∷_, _++_, map, reverse, reverse-cons, reverse-reverse, map-append, map-map}
 use lib.ListN.{length, getD, take, drop, set}
 use lib.Seq.{set-getD}
 use lib.IntN.{ℤ}
 use Rattle.meaning.specs.Base.{all, countFrom}
 use Rattle.meaning_window.specs.Window.{turned, valueAt}
+use Rattle.theory_base.specs.Members as Members
+use Rattle.theory_base.specs.Members.{counted-at, T→true, true→T}
 
 -- ---- tests
 
@@ -31,26 +33,16 @@ same-test false false f g = refl
 
 module _ {A : Type 0} (f : A → Bool) where
   pub all-append : (xs ys : List A) → all f xs ≡ true → all f ys ≡ true → all f (xs ++ ys) ≡ true
-  all-append [] ys p q = q
-  all-append (x ∷ xs) ys p q = both (and-left (f x) (all f xs) p) (all-append xs ys (and-right (f x) (all f xs) p) q)
+  all-append xs ys p q = T→true (all f (xs ++ ys)) (Members.all-append f xs ys (true→T (all f xs) p) (true→T (all f ys) q))
 
   pub all-drop : (n : ℕ) (xs : List A) → all f xs ≡ true → all f (drop n xs) ≡ true
-  all-drop zero xs p = p
-  all-drop (suc n) [] p = refl
-  all-drop (suc n) (x ∷ xs) p = all-drop n xs (and-right (f x) (all f xs) p)
+  all-drop n xs p = T→true (all f (drop n xs)) (Members.all-drop f n xs (true→T (all f xs) p))
 
   pub all-take : (n : ℕ) (xs : List A) → all f xs ≡ true → all f (take n xs) ≡ true
-  all-take zero xs p = refl
-  all-take (suc n) [] p = refl
-  all-take (suc n) (x ∷ xs) p = both (and-left (f x) (all f xs) p) (all-take n xs (and-right (f x) (all f xs) p))
+  all-take n xs p = T→true (all f (take n xs)) (Members.all-take f n xs (true→T (all f xs) p))
 
   pub all-turned : (k : ℕ) (xs : List A) → all f xs ≡ true → all f (turned k xs) ≡ true
   all-turned k xs p = all-append (drop k xs) (take k xs) (all-drop k xs p) (all-take k xs p)
-
-  pub all-set : (xs : List A) (i : ℕ) (v : A) → all f xs ≡ true → f v ≡ true → all f (set xs i v) ≡ true
-  all-set [] i v p q = refl
-  all-set (x ∷ xs) zero v p q = both q (and-right (f x) (all f xs) p)
-  all-set (x ∷ xs) (suc i) v p q = both (and-left (f x) (all f xs) p) (all-set xs i v (and-right (f x) (all f xs) p) q)
 
   pub all-getD : (xs : List A) (i : ℕ) (d : A) → f d ≡ true → all f xs ≡ true → f (getD xs i d) ≡ true
   all-getD [] i d q p = q
@@ -67,10 +59,6 @@ module _ {A : Type 0} (f : A → Bool) where
 -- ---- map
 
 module _ {A B : Type 0} (f : A → B) where
-  pub map-append : (xs ys : List A) → map f (xs ++ ys) ≡ map f xs ++ map f ys
-  map-append [] ys = refl
-  map-append (x ∷ xs) ys = ap (λ l. f x ∷ l) (map-append xs ys)
-
   pub map-take : (n : ℕ) (xs : List A) → map f (take n xs) ≡ take n (map f xs)
   map-take zero xs = refl
   map-take (suc n) [] = refl
@@ -83,21 +71,12 @@ module _ {A B : Type 0} (f : A → B) where
 
   pub map-reverse : (xs : List A) → map f (reverse xs) ≡ reverse (map f xs)
   map-reverse [] = refl
-  map-reverse (x ∷ xs) = ap (map f) (reverse-cons x xs) ∙ (map-append (reverse xs) (x ∷ []) ∙ (ap (λ l. l ++ (f x ∷ [])) (map-reverse xs) ∙ sym (reverse-cons (f x) (map f xs))))
+  map-reverse (x ∷ xs) = ap (map f) (reverse-cons x xs) ∙ (map-append f (reverse xs) (x ∷ []) ∙ (ap (λ l. l ++ (f x ∷ [])) (map-reverse xs) ∙ sym (reverse-cons (f x) (map f xs))))
 
   pub map-turned : (k : ℕ) (xs : List A) → map f (turned k xs) ≡ turned k (map f xs)
-  map-turned k xs = map-append (drop k xs) (take k xs) ∙ ap₂ (λ a b. a ++ b) (map-drop k xs) (map-take k xs)
+  map-turned k xs = map-append f (drop k xs) (take k xs) ∙ ap₂ (λ a b. a ++ b) (map-drop k xs) (map-take k xs)
 
 -- ---- the numbers from a on
-
-pub length-up : (a n : ℕ) → length (countFrom a n) ≡ n
-length-up a zero = refl
-length-up a (suc n) = ap suc (length-up (suc a) n)
-
-pub getD-up : (a n i : ℕ) → i < n → getD (countFrom a n) i 0 ≡ a + i
-getD-up a zero i l = absurd (omega arith)
-getD-up a (suc n) zero l = omega arith
-getD-up a (suc n) (suc i) l = omega (arith, getD-up (suc a) n i (omega arith))
 
 pub drop-up : (k a n : ℕ) → drop k (countFrom a n) ≡ countFrom (a + k) (n - k)
 drop-up zero a n =
@@ -115,24 +94,16 @@ take-up zero a n l = refl
 take-up (suc k) a zero l = absurd (omega arith)
 take-up (suc k) a (suc n) l = ap (λ m. a ∷ m) (take-up k (suc a) n (omega arith))
 
-pub all-up : (f : ℕ → Bool) (a n : ℕ) → ((i : ℕ) → a ≤ i → i < a + n → f i ≡ true) → all f (countFrom a n) ≡ true
-all-up f a zero h = refl
-all-up f a (suc n) h = both (h a (omega arith) (omega arith)) (all-up f (suc a) n (λ i p q. h i (omega arith) (omega arith)))
-
 up-suc : (a n : ℕ) → countFrom (suc a) n ≡ map suc (countFrom a n)
 up-suc a zero = refl
 up-suc a (suc n) = ap (λ l. suc a ∷ l) (up-suc (suc a) n)
 
-map-map : {A B C : Type 0} (f : A → B) (g : B → C) (xs : List A) → map g (map f xs) ≡ map (λ x. g (f x)) xs
-map-map f g [] = refl
-map-map f g (x ∷ xs) = ap (λ l. g (f x) ∷ l) (map-map f g xs)
-
 -- what stands in all slots
 pub values-up : (s : List ℤ) → map (valueAt s) (countFrom 0 (length s)) ≡ s
 values-up [] = refl
-values-up (x ∷ s) = ap (λ l. x ∷ l) (ap (map (valueAt (x ∷ s))) (up-suc 0 (length s)) ∙ (map-map suc (valueAt (x ∷ s)) (countFrom 0 (length s)) ∙ values-up s))
+values-up (x ∷ s) = ap (λ l. x ∷ l) (ap (map (valueAt (x ∷ s))) (up-suc 0 (length s)) ∙ (map-map (valueAt (x ∷ s)) suc (countFrom 0 (length s)) ∙ values-up s))
 
 pub set-up : (n k : ℕ) → k < n → set (countFrom 0 n) k k ≡ countFrom 0 n
 set-up n k l =
-    let e : getD (countFrom 0 n) k 0 ≡ k = omega (arith, getD-up 0 n k l) in
+    let e : getD (countFrom 0 n) k 0 ≡ k = omega (arith, counted-at 0 n k l) in
     ap (set (countFrom 0 n) k) (sym e) ∙ set-getD (countFrom 0 n) k 0

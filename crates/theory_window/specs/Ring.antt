@@ -11,7 +11,8 @@ use lib.Dec.{eqb, ltb}
 use lib.IntN.{ℤ, pos}
 use Rattle.meaning.specs.Base.{all, countFrom}
 use Rattle.meaning_window.specs.Window.{turned, order, zeros, slotsOf, after, lastOf, valueAt}
-use Rattle.theory_window.specs.Lists.{all-append, all-take, all-drop, all-up, length-up, drop-up, take-up, set-up, map-turned, map-drop, values-up}
+use Rattle.theory_base.specs.Members.{length-countFrom, counted-all}
+use Rattle.theory_window.specs.Lists.{all-append, all-take, all-drop, drop-up, take-up, set-up, map-turned, map-drop, values-up}
 
 pub length-turned : {A : Type 0} (k : ℕ) (s : List A) → length (turned k s) ≡ length s
 length-turned k s = omega (arith, length-append (drop k s) (take k s), length-drop k s, length-take k s)
@@ -112,12 +113,12 @@ module _ (n h k : ℕ) (l : h ≤ n) (i : k < n) where
   staying = drop (n - grown n h) (drop 1 (turned k (countFrom 0 n)))
 
   long : length (turned k (countFrom 0 n)) ≡ n
-  long = length-turned k (countFrom 0 n) ∙ length-up 0 n
+  long = length-turned k (countFrom 0 n) ∙ length-countFrom 0 n
 
   pub order-push : order n (grown n h) (after n k) ≡ staying ++ (k ∷ [])
   order-push =
       let p : turned (after n k) (countFrom 0 n) ≡ drop 1 (turned k (countFrom 0 n)) ++ (k ∷ []) =
-      ap (turned (after n k)) (sym (set-up n k i)) ∙ rw (length-up 0 n) at (turned-push (countFrom 0 n) k 0 k (omega (arith, length-up 0 n))) in
+      ap (turned (after n k)) (sym (set-up n k i)) ∙ rw (length-countFrom 0 n) at (turned-push (countFrom 0 n) k 0 k (omega (arith, length-countFrom 0 n))) in
       ap (drop (n - grown n h)) p ∙ with-last n h (turned k (countFrom 0 n)) long l (omega arith) k
 
   pub order-room : h < n → order n h k ≡ staying
@@ -143,10 +144,10 @@ module _ (n h k : ℕ) (l : h ≤ n) (i : k < n) where
       rest =
           let m : ℕ = n - suc k in
           let e : drop 1 (turned k (countFrom 0 n)) ≡ countFrom (0 + suc k) m ++ countFrom 0 k =
-          first-gone (countFrom 0 n) k 0 0 (omega (arith, length-up 0 n)) ∙ ap₂ (λ a b. a ++ b) (drop-up (suc k) 0 n) (take-up k 0 n (omega arith)) in
+          first-gone (countFrom 0 n) k 0 0 (omega (arith, length-countFrom 0 n)) ∙ ap₂ (λ a b. a ++ b) (drop-up (suc k) 0 n) (take-up k 0 n (omega arith)) in
           rw e (all-append other (countFrom (0 + suc k) m) (countFrom 0 k)
-          (all-up other (0 + suc k) m (λ j p q. rw (ne-eqb j k (λ z. omega arith)) refl))
-          (all-up other 0 k (λ j p q. rw (ne-eqb j k (λ z. omega arith)) refl)))
+          (counted-all other (0 + suc k) m (λ j p q. rw (ne-eqb j k (λ z. omega arith)) refl))
+          (counted-all other 0 k (λ j p q. rw (ne-eqb j k (λ z. omega arith)) refl)))
 
 pub order-in : (n h k : ℕ) → all (λ j. ltb j n) (order n h k) ≡ true
 order-in n h k = all-drop below (n - h) (turned k (countFrom 0 n)) (all-append below (drop k (countFrom 0 n)) (take k (countFrom 0 n)) (all-drop below k (countFrom 0 n) each) (all-take below k (countFrom 0 n) each))
@@ -155,10 +156,10 @@ order-in n h k = all-drop below (n - h) (turned k (countFrom 0 n)) (all-append b
     below j = ltb j n
 
     each : all below (countFrom 0 n) ≡ true
-    each = all-up below 0 n (λ j p q. lt-ltb j n (omega arith))
+    each = counted-all below 0 n (λ j p q. lt-ltb j n (omega arith))
 
 pub length-order : (n h k : ℕ) → h ≤ n → length (order n h k) ≡ h
-length-order n h k l = omega (arith, length-drop (n - h) (turned k (countFrom 0 n)), length-turned k (countFrom 0 n), length-up 0 n)
+length-order n h k l = omega (arith, length-drop (n - h) (turned k (countFrom 0 n)), length-turned k (countFrom 0 n), length-countFrom 0 n)
 
 -- ---- slots and values
 

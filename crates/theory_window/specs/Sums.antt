@@ -1,18 +1,11 @@
 -- Totals: of the values and of the slots, after one more value, and their size.
-use Prim.Native.Nat.{ℕ, zero, suc, _*_, _≤_, _<_}
-use native.Mathlib.Omega.{arith}
+use Prim.Native.Nat.{ℕ, zero, suc, _<_}
 use mathlib.Core.Path.{_≡_, refl, sym, ap, _∙_}
-use mathlib.Core.Bool.{true}
 use mathlib.Core.List.{List, [], _∷_, _++_, reverse, reverse-cons}
 use lib.ListN.{length, getD, take, drop, set, take-append-drop}
 use lib.Seq.{set-split, split-at}
-use lib.IntN.{ℤ, pos, natAbs, _+ℤ_, _-ℤ_, +ℤ-idl, +ℤ-idr, +ℤ-assoc, +ℤ-comm, +ℤ-negℤ-cancel}
-use Rattle.meaning.specs.Base.{all}
-use Rattle.meaning.specs.Value.{inRange}
+use lib.IntN.{ℤ, pos, _+ℤ_, _-ℤ_, +ℤ-idl, +ℤ-idr, +ℤ-assoc, +ℤ-comm, +ℤ-negℤ-cancel}
 use Rattle.meaning_window.specs.Window.{total, turned, zeros}
-use Rattle.theory_base.specs.Absolute.{natAbs-add}
-use Rattle.value.specs.Overflow.{reach, in-range-size}
-use Rattle.theory_window.specs.Lists.{and-left, and-right}
 
 pub total-append : (a b : List ℤ) → total (a ++ b) ≡ total a +ℤ total b
 total-append [] b = sym (+ℤ-idl (total b))
@@ -53,9 +46,3 @@ total-set s k v l =
     ∙ (total-append (take k s) (v ∷ drop (suc k) s)
     ∙ (swapped (total (take k s)) (getD s k (pos 0)) (total (drop (suc k) s)) v
     ∙ ap (λ t. t -ℤ getD s k (pos 0) +ℤ v) (sym old)))
-
--- ---- sizes
-
-pub total-size : (s : List ℤ) → all inRange s ≡ true → natAbs (total s) ≤ reach * length s
-total-size [] h = omega arith
-total-size (v ∷ s) h = omega (arith, natAbs-add v (total s), in-range-size v (and-left (inRange v) (all inRange s) h), total-size s (and-right (inRange v) (all inRange s) h))

@@ -16,10 +16,11 @@ use Rattle.meaning.specs.Base.{countFrom}
 use Rattle.meaning.specs.Sets.{TokenSet, emptySet, singleton, _∪_, has, endNumber}
 use Rattle.meaning.specs.Decide.{meet}
 use Rattle.theory_bits.specs.Bits.{or-at, and-at, half-at, pow-same, pow-other}
-use Rattle.theory_sets.specs.Tests.{tabled, length-countFrom}
+use Rattle.theory_sets.specs.Tests.{tabled}
 use Rattle.theory_sets.specs.TokenSets.{single-has, single-only}
-use Rattle.theory_sets.specs.Widths.{Wide, both-true, same-set}
+use Rattle.theory_sets.specs.Widths.{Wide, same-set}
 use Rattle.theory_sets.specs.Clashes.{meet-cases, meet-at}
+use Rattle.theory_base.specs.Members.{same-truth, length-countFrom}
 
 -- bit t of n: 0 or 1
 unfoldable pub bit : ℕ → ℕ → ℕ
@@ -30,7 +31,7 @@ unfoldable pub setOf : ℕ → TokenSet
 setOf n = map (λ t. eqb (bit n t) 1) (countFrom 0 64)
 
 -- ---- bits
-bit-lt : (n t : ℕ) → bit n t < 2
+pub bit-lt : (n t : ℕ) → bit n t < 2
 unfolding bit
 bit-lt n t = mod-lt (n / 2 ^ t) (zero-lt-suc 1)
 
@@ -46,11 +47,11 @@ bit-zero : (t : ℕ) → bit 0 t ≡ 0
 unfolding bit
 bit-zero t = ap (λ (x : ℕ). x % 2) (zero-div (2 ^ t))
 
-bit-suc : (n t : ℕ) → bit n (suc t) ≡ bit (n / 2) t
+pub bit-suc : (n t : ℕ) → bit n (suc t) ≡ bit (n / 2) t
 unfolding bit
 bit-suc n t = half-at n t
 
-bit-first : (n : ℕ) → bit n 0 ≡ n % 2
+pub bit-first : (n : ℕ) → bit n 0 ≡ n % 2
 unfolding bit
 bit-first n = ap (λ (x : ℕ). x % 2) (div-one n)
 
@@ -157,7 +158,7 @@ one-shifted t l = ap (λ (x : ℕ). x % 2 ^ 64) (one-mul (2 ^ t)) ∙ mod-eq-of-
 
 -- the code's test of two sets: a & b != 0
 pub meet-test : (a b : ℕ) → a < 2 ^ 64 → not (eqb (bitAnd a b) 0) ≡ meet (setOf a) (setOf b)
-meet-test a b l = both-true (not (eqb (bitAnd a b) 0)) (meet (setOf a) (setOf b)) to back
+meet-test a b l = same-truth (not (eqb (bitAnd a b) 0)) (meet (setOf a) (setOf b)) to back
   where
     to : T (not (eqb (bitAnd a b) 0)) → T (meet (setOf a) (setOf b))
     to h =

@@ -34,12 +34,6 @@ impl TokenSet {
         word::has(self.0, t)
     }
 
-    pub fn has_end(self) -> bool
-        ensures { λ r. ⌜ r ≡ has (setOf (self .0)) endNumber ⌝ }
-    {
-        self.has(63)
-    }
-
     // Whether some token, or the end, is in both.
     pub fn meets(self, other: TokenSet) -> bool
         ensures { λ r. ⌜ r ≡ meet (setOf (self .0)) (setOf (other .0)) ⌝ }

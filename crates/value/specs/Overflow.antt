@@ -2,7 +2,7 @@
 use Prim.Native.Nat.{ℕ, zero, suc, _^_, _≤_, _<_}
 use native.Mathlib.Omega.{arith}
 use mathlib.Core.Path.{_≡_, refl, ap, _∙_}
-use mathlib.Core.Bool.{Bool, true, false, _&&_, not, cond}
+use mathlib.Core.Bool.{Bool, true, false, _&&_, not, cond, and-false}
 use borrow.Author.Tests.{lt-leb}
 use lib.IntN.{ℤ, pos, negsuc, natAbs, _+ℤ_}
 use lib.Signed.{leZ, mag}
@@ -39,11 +39,7 @@ large-out z h = is-no (inRange z) (λ e. clash (natAbs z) (in-range-size z e) h)
 -- no value is the mark
 pub value-unmarked : (z : ℤ) → inRange z ≡ true → isMark z ≡ false
 value-unmarked (pos n) e = refl
-value-unmarked (negsuc n) e = ap (λ b. leZ mark (negsuc n) && b) (lt-leb (mag mark) n (omega (arith, in-range-size (negsuc n) e))) ∙ neither (leZ mark (negsuc n))
-  where
-    neither : (b : Bool) → (b && false) ≡ false
-    neither true = refl
-    neither false = refl
+value-unmarked (negsuc n) e = ap (λ b. leZ mark (negsuc n) && b) (lt-leb (mag mark) n (omega (arith, in-range-size (negsuc n) e))) ∙ and-false (leZ mark (negsuc n))
 
 -- so an answer is the mark exactly where the number is no value
 pub isMark-ranged : (z : ℤ) → isMark (ranged z) ≡ not (inRange z)

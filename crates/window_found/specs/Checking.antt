@@ -24,8 +24,8 @@ use Rattle.window_found.specs.declared.Checked.{Checked}
 use Rattle.window_found.specs.declared.Checked.the-variants.{Wrong}
 
 -- nothing is known of a buffer that fails the test
-untold : {P : Type 0} {b : Bool} → b ≡ false → b ≡ true → P
-untold e t = absurd (let z : true ≡ false = sym t ∙ e in let o : _≡_ {A = ℕ} 0 1 = cc in omega arith)
+contradiction : {P : Type 0} {b : Bool} → b ≡ false → b ≡ true → P
+contradiction e t = absurd (let z : true ≡ false = sym t ∙ e in let o : _≡_ {A = ℕ} 0 1 = cc in omega arith)
 
 module _ (b : List ℤ) (v : ℤ) (cells : List ℕ) (n : ℕ) (e : n ≡ sizeIn b) where
   by-parts : wellKept b ≡ (sizeFits n (length b) && partsKept b n)
@@ -35,7 +35,7 @@ module _ (b : List ℤ) (v : ℤ) (cells : List ℕ) (n : ℕ) (e : n ≡ sizeIn
   pub size-not : sizeFits n (length b) ≡ false → CheckedIn b v Wrong cells
   size-not t =
       let f : wellKept b ≡ false = by-parts ∙ ap (λ x. x && partsKept b n) t in
-      record { answer = sym (ap (λ x. checked x (foundIn b v)) f); leaders = untold f }
+      record { answer = sym (ap (λ x. checked x (foundIn b v)) f); leaders = contradiction f }
 
   pub size-met : {r : Checked} → sizeFits n (length b) ≡ true → CheckedParts b n v r cells → CheckedIn b v r cells
   size-met t q =
@@ -67,7 +67,7 @@ module _ (b : List ℤ) (v : ℤ) (cells : List ℕ) (n : ℕ) (most : n ≤ 64)
       && valuesFit (Cut.slots-part-long b n most long i) (eh i) (ek i) (Cut.slots-part b n most long i) (claimed (Cut.area-part b n most long i) (ec i)) (et i))))
 
   wrong : partsKept b n ≡ false → CheckedParts b n v Wrong cells
-  wrong p = record { answer = sym (ap (λ x. checked x (foundParts b n v)) p); leaders = untold p }
+  wrong p = record { answer = sym (ap (λ x. checked x (foundParts b n v)) p); leaders = contradiction p }
 
   module _ (h k : ℕ) (eh : h ≡ heldIn b) (ek : k ≡ nextIn b) where
     pub place-not : placeFits n h k ≡ false → CheckedParts b n v Wrong cells

@@ -1,21 +1,20 @@
-use Prim.Native.Nat.{_<_, _-_, _^_}
-use native.Mathlib.Omega.{arith}
-use mathlib.Core.Path.{_≡_}
+use Prim.Native.Nat.{_-_, _^_}
 use borrow.Author.Needs.{needs}
+use denote.Ref.{now}
 use Rattle.nonterminal_set.specs.Same.{same-words, other-words}
 use Rattle.analysis.specs.Views.{Within, ReachAt}
-use Rattle.analysis.specs.Growth.{Rising, rising-start, rising-on, settled, settled-soon}
+use Rattle.analysis.specs.Rounds.{Rising, rising-start, rising-on, settled, settled-soon, rounds-less}
 use Rattle.analysis_reachable.proofs.reach.Statement.{statement}
 use Rattle.analysis_reachable.proofs.reach.Tie as tie
 
 abbrev Inv-loop : tie.InvT-loop
-Inv-loop rows count rights all set₀ set = (set .0 < 2 ^ 64) × Rising (Within (ReachAt rows) 0 count) (set₀ .0) (set .0)
+Inv-loop rows count rights all set₀ set = Rising (Within (ReachAt rows) 0 count) (set₀ .0) (set .0)
 
 abbrev μ-loop : tie.MeasureT-loop
 μ-loop rows count rights all set₀ set = 2 ^ 64 - set .0
 
 loop-holds : tie.Need-loop-holds Inv-loop μ-loop
-loop-holds c = (search needs, rising-start _)
+loop-holds c = rising-start _ (search needs)
 
 reach-round-requires : tie.Need-reach-round-requires Inv-loop μ-loop
 reach-round-requires c κs = c .before .pre
@@ -24,9 +23,7 @@ same-requires : tie.Need-same-requires Inv-loop μ-loop
 same-requires c κs = search needs
 
 returns : tie.Need-returns Inv-loop μ-loop
-returns c =
-    let round = c .before .before in
-    λ rights. settled _ _ _ (round .before .loop .inv .1) (round .reach-round .ensures) (same-words _ _ (c .before .same .ensures) (c .if1 .taken))
+returns c = let round = c .before .before in λ rights. settled (round .before .loop .inv) (round .reach-round .ensures) (same-words _ _ (c .before .same .ensures) (c .if1 .taken))
 
 same-requires-2 : tie.Need-same-requires-2 Inv-loop μ-loop
 same-requires-2 c κs = search needs
@@ -35,32 +32,28 @@ returns-2 : tie.Need-returns-2 Inv-loop μ-loop
 returns-2 c =
     let round = c .before .before .before .before in
     let e = same-words (round .reach-round .result .0) (round .before .before .args .all .0) (c .before .same2 .ensures) (c .if2 .taken) in
-    λ rights. settled-soon _ _ (rising-on _ _ _ (round .before .loop .inv .1) (round .reach-round .ensures)) (record { at = λ p l m t n a. rw e (rights .right p n m a) })
+    λ rights. settled-soon (round .before .loop .inv) (round .reach-round .ensures) (record { at = λ p l m t n a. rw e (rights .right p n m a) })
 
 reach-round-back-requires : tie.Need-reach-round-back-requires Inv-loop μ-loop
 reach-round-back-requires c κs = c .before .before .before .before .before .before .pre
+
+-- after the first round
+risen : (back : tie.After-reach-round-back Inv-loop μ-loop) → let round = back .before .before .before .before .before in let st = round .before .before in Rising (Within (ReachAt (now (st .args .rows))) 0 (st .args .count)) (st .args .first .0) (round .reach-round .result .0)
+risen back = let round = back .before .before .before .before .before in rising-on (round .before .loop .inv) (round .reach-round .ensures) (search needs)
 
 same-requires-3 : tie.Need-same-requires-3 Inv-loop μ-loop
 same-requires-3 c κs = search needs
 
 returns-3 : tie.Need-returns-3 Inv-loop μ-loop
-returns-3 c =
-    let back = c .before .before in
-    let round = back .before .before .before .before .before in
-    λ rights. settled _ _ _ (rising-on _ _ _ (round .before .loop .inv .1) (round .reach-round .ensures)) (back .reach-round-back .ensures) (same-words _ _ (c .before .same3 .ensures) (c .if3 .taken))
+returns-3 c = let back = c .before .before in λ rights. settled (risen back) (back .reach-round-back .ensures) (same-words _ _ (c .before .same3 .ensures) (c .if3 .taken))
 
 loop-less : tie.Need-loop-less Inv-loop μ-loop
 loop-less c =
     let back = c .before .before in
-    let round = back .before .before .before .before .before in
-    let apart : (back .reach-round-back .result .0 ≡ round .reach-round .result .0 → ⊥) = other-words _ _ (c .before .same3 .ensures) (c .if3 .left) in
-    omega (arith, round .reach-round .ensures .grows, back .reach-round-back .ensures .grows, apart)
+    rounds-less (back .before .before .before .before .before .reach-round .ensures) (back .reach-round-back .ensures) (other-words _ _ (c .before .same3 .ensures) (c .if3 .left)) (search needs)
 
 loop-again : tie.Need-loop-again Inv-loop μ-loop
-loop-again c =
-    let back = c .before .before in
-    let round = back .before .before .before .before .before in
-    (search needs, rising-on _ _ _ (rising-on _ _ _ (round .before .loop .inv .1) (round .reach-round .ensures)) (back .reach-round-back .ensures))
+loop-again c = let back = c .before .before in rising-on (risen back) (back .reach-round-back .ensures) (search needs)
 
 pub reach-spec : {M : Type 1} → statement M
 reach-spec =

@@ -1,19 +1,18 @@
-use Prim.Native.Nat.{_≤_, _<_, _-_}
+use Prim.Native.Nat.{_<_, _-_}
 use native.Mathlib.Omega.{arith}
-use mathlib.Core.Path.{_≡_}
-use Rattle.analysis.specs.Views.{Within, within-none, within-after, ReachAt}
-use Rattle.analysis.specs.Growth.{Grown, grown-none, grown-then}
+use Rattle.analysis.specs.Views.{ReachAt}
+use Rattle.analysis.specs.Rounds.{Forward, forward-start, forward-turn, forward-end}
 use Rattle.analysis_reachable.proofs.reach_round.Statement.{statement}
 use Rattle.analysis_reachable.proofs.reach_round.Tie as tie
 
 abbrev Inv-loop : tie.InvT-loop
-Inv-loop rows count rights next₀ k₀ next k = (k ≤ count) × Grown (Within (ReachAt rows) 0 count) (Within (ReachAt rows) 0 k) (next₀ .0) (next .0)
+Inv-loop rows count rights next₀ k₀ next k = Forward (ReachAt rows) count k (next₀ .0) (next .0)
 
 abbrev μ-loop : tie.MeasureT-loop
 μ-loop rows count rights next₀ k₀ next k = count - k
 
 loop-holds : tie.Need-loop-holds Inv-loop μ-loop
-loop-holds c = (omega arith, grown-none _ (within-none _ _ (omega arith)))
+loop-holds c = forward-start _
 
 reach-by-requires : tie.Need-reach-by-requires Inv-loop μ-loop
 reach-by-requires c κs =
@@ -29,10 +28,10 @@ loop-less : tie.Need-loop-less Inv-loop μ-loop
 loop-less c = omega arith
 
 loop-again : tie.Need-loop-again Inv-loop μ-loop
-loop-again c = let lp = c .before in (omega arith, grown-then _ _ _ (lp .before .loop .inv .1) (c .reach-by .ensures _ (lp .loop-test .taken)) (within-after _ _))
+loop-again c = let lp = c .before in forward-turn (lp .loop-test .taken) (lp .before .loop .inv) (c .reach-by .ensures _ (lp .loop-test .taken))
 
 returns : tie.Need-returns Inv-loop μ-loop
-returns c = let e : c .before .loop .k ≡ c .before .before .args .count = omega arith in rw e at (c .before .loop .inv .1)
+returns c = forward-end (omega arith) (c .before .loop .inv)
 
 pub reach-round-spec : {M : Type 1} → statement M
 reach-round-spec =

@@ -1,19 +1,18 @@
-use Prim.Native.Nat.{_≤_, _<_, _-_}
+use Prim.Native.Nat.{_<_, _-_}
 use native.Mathlib.Omega.{arith}
-use mathlib.Core.Path.{_≡_}
-use Rattle.analysis.specs.Views.{Within, within-none, within-before, ReachAt}
-use Rattle.analysis.specs.Growth.{Grown, grown-none, grown-then}
+use Rattle.analysis.specs.Views.{ReachAt}
+use Rattle.analysis.specs.Rounds.{Backward, backward-start, backward-turn, backward-end}
 use Rattle.analysis_reachable.proofs.reach_round_back.Statement.{statement}
 use Rattle.analysis_reachable.proofs.reach_round_back.Tie as tie
 
 abbrev Inv-loop : tie.InvT-loop
-Inv-loop rows count rights next₀ k₀ next k = (k ≤ count) × Grown (Within (ReachAt rows) 0 count) (Within (ReachAt rows) k count) (next₀ .0) (next .0)
+Inv-loop rows count rights next₀ k₀ next k = Backward (ReachAt rows) count k (next₀ .0) (next .0)
 
 abbrev μ-loop : tie.MeasureT-loop
 μ-loop rows count rights next₀ k₀ next k = k
 
 loop-holds : tie.Need-loop-holds Inv-loop μ-loop
-loop-holds c = (omega arith, grown-none _ (within-none _ _ (omega arith)))
+loop-holds c = backward-start _
 
 sub-k : tie.Need-sub-k Inv-loop μ-loop
 sub-k c = omega arith
@@ -29,10 +28,10 @@ loop-less : tie.Need-loop-less Inv-loop μ-loop
 loop-less c = omega arith
 
 loop-again : tie.Need-loop-again Inv-loop μ-loop
-loop-again c = let lp = c .before in (omega arith, grown-then _ _ _ (lp .before .loop .inv .1) (c .reach-by .ensures _ (omega arith)) (within-before _ _))
+loop-again c = let lp = c .before in backward-turn (lp .before .loop .inv) (c .reach-by .ensures _ (omega arith))
 
 returns : tie.Need-returns Inv-loop μ-loop
-returns c = let e : c .before .loop .k ≡ 0 = omega arith in rw e at (c .before .loop .inv .1)
+returns c = backward-end (omega arith) (c .before .loop .inv)
 
 pub reach-round-back-spec : {M : Type 1} → statement M
 reach-round-back-spec =

@@ -1,10 +1,8 @@
-use Prim.Native.Nat.{ℕ, _≤_, _-_}
-use native.Mathlib.Nat.{le-refl}
+use Prim.Native.Nat.{_+_, _-_, _≤_}
 use native.Mathlib.Omega.{arith}
 use borrow.Author.Needs.{needs}
-use mathlib.Core.Path.{_≡_, sym, ap, _∙_}
-use Rattle.analysis.specs.Views.{members}
-use Rattle.analysis.specs.Spreading.{Turned, turned-start, turned-skip, turned-next}
+use mathlib.Core.Path.{_≡_, refl, _∙_}
+use Rattle.analysis.specs.Spreading.{Turned, turned-start}
 use Rattle.analysis_spreading.proofs.spread_by.Statement.{statement}
 use Rattle.analysis_spreading.proofs.spread_by.Tie as tie
 
@@ -29,79 +27,66 @@ element-copy-out-set c = search needs
 loop-holds : tie.Need-loop-holds Inv-loop μ-loop
 loop-holds c = (omega arith, turned-start _ _ _, turned-start _ _ _)
 
+add-loop : tie.Need-add-loop Inv-loop μ-loop
+add-loop c = omega (arith, c .loop .inv .0, c .before .before .before .pre .2)
+
+give-requires : tie.Need-give-requires Inv-loop μ-loop
+give-requires c κs =
+    let at = c .before .before .before in
+    let st = at .before .before .before in
+    let iv = at .loop .inv in
+    (iv .1 .size ∙ st .pre .0, iv .2 .size ∙ st .pre .1, st .pre .3, omega (arith, st .pre .2, c .before .before .loop-test .taken))
+
+add-give : tie.Need-add-give Inv-loop μ-loop
+add-give c = let lp = c .before .before .before .before .before in omega (arith, lp .loop-test .taken, lp .before .before .before .before .pre .2)
+
+give-requires-2 : tie.Need-give-requires-2 Inv-loop μ-loop
+give-requires-2 c κs =
+    let at = c .before .before .before .before .before .before in
+    let st = at .before .before .before in
+    let iv = at .loop .inv in
+    let g = c .before .before .give .ensures _ _ refl refl (iv .1) (iv .2) in
+    (g .0 .size ∙ st .pre .0, g .1 .size ∙ st .pre .1, st .pre .3, omega (arith, st .pre .2, c .before .before .before .before .before .loop-test .taken))
+
 add-i : tie.Need-add-i Inv-loop μ-loop
-add-i c = omega arith
-
-mul-old : tie.Need-mul-old Inv-loop μ-loop
-mul-old c = omega arith
-
-element-copy-out-old : tie.Need-element-copy-out-old Inv-loop μ-loop
-element-copy-out-old c =
-    let at = c .before in
-    let st = at .before .before .before in
-    omega (arith, at .loop .inv .1 .size, st .pre .0, st .pre .2)
-
-cast-has : tie.Need-cast-has Inv-loop μ-loop
-cast-has c = omega arith
-
-has-requires : tie.Need-has-requires Inv-loop μ-loop
-has-requires c κs = search needs
-
-mul-edges : tie.Need-mul-edges Inv-loop μ-loop
-mul-edges c = omega arith
-
-element-write-edges : tie.Need-element-write-edges Inv-loop μ-loop
-element-write-edges c =
-    let at = c .before .before .before .before in
-    let st = at .before .before .before in
-    omega (arith, at .loop .inv .1 .size, st .pre .0, st .pre .2)
-
-mul-sets : tie.Need-mul-sets Inv-loop μ-loop
-mul-sets c = omega arith
-
-element-copy-out-sets : tie.Need-element-copy-out-sets Inv-loop μ-loop
-element-copy-out-sets c =
-    let at = c .before .before .before .before in
-    let st = at .before .before .before in
-    omega (arith, at .loop .inv .2 .size, st .pre .1, st .pre .2)
-
-mul-sets-2 : tie.Need-mul-sets-2 Inv-loop μ-loop
-mul-sets-2 c = omega arith
-
-element-write-sets : tie.Need-element-write-sets Inv-loop μ-loop
-element-write-sets c =
-    let at = c .before .before .before .before .before in
-    let st = at .before .before .before in
-    omega (arith, at .loop .inv .2 .size, st .pre .1, st .pre .2)
+add-i c = omega (arith, c .before .before .before .before .before .before .loop-test .taken, c .before .before .before .before .before .before .before .before .before .before .pre .2)
 
 loop-less : tie.Need-loop-less Inv-loop μ-loop
-loop-less c = omega arith
+loop-less c = omega (arith, c .before .before .before .before .before .before .loop-test .taken)
 
 loop-again : tie.Need-loop-again Inv-loop μ-loop
 loop-again c =
-    let th = c .before in
-    let lp = th .before .before .before in
-    let at = lp .before in
+    let at = c .before .before .before .before .before .before .before in
     let st = at .before .before .before in
-    let some = sym (ap (λ (x : ℕ). members x (st .args .k)) (at .loop .inv .1 .rest _ (le-refl _))) ∙ sym (th .before .has .ensures) ∙ th .if1 .taken in
-    (omega arith, turned-next _ _ _ _ _ (at .loop .inv .1) (omega (arith, st .pre .0, st .pre .2)) some, turned-next _ _ _ _ _ (at .loop .inv .2) (omega (arith, st .pre .1, st .pre .2)) some)
-
-loop-less-2 : tie.Need-loop-less-2 Inv-loop μ-loop
-loop-less-2 c = omega arith
-
-loop-again-2 : tie.Need-loop-again-2 Inv-loop μ-loop
-loop-again-2 c =
-    let lp = c .before .before .before in
-    let at = lp .before in
-    let st = at .before .before .before in
-    let none = sym (ap (λ (x : ℕ). members x (st .args .k)) (at .loop .inv .1 .rest _ (le-refl _))) ∙ sym (c .before .has .ensures) ∙ c .if1 .left in
-    (omega arith, turned-skip _ _ _ _ _ (at .loop .inv .1) none, turned-skip _ _ _ _ _ (at .loop .inv .2) none)
+    let iv = at .loop .inv in
+    let g = c .before .before .before .give .ensures _ _ refl refl (iv .1) (iv .2) in
+    let h = c .give2 .ensures _ _ refl refl (g .0) (g .1) in
+    let two : at .loop .i + 1 + 1 ≡ at .loop .i + 2 = omega arith in
+    (omega (arith, c .before .before .before .before .before .before .loop-test .taken), rw two at (h .0), rw two at (h .1))
 
 returns : tie.Need-returns Inv-loop μ-loop
 returns c =
-    let at = c .before in
-    let e : at .loop .i ≡ at .before .before .before .args .n = omega arith in
-    (rw e at (at .loop .inv .1), rw e at (at .loop .inv .2))
+    let at = c .before .before in
+    let st = at .before .before .before in
+    let iv = at .loop .inv in
+    let e : at .loop .i ≡ st .args .n = omega (arith, iv .0, c .if1 .taken) in
+    (rw e at (iv .1), rw e at (iv .2))
+
+give-requires-3 : tie.Need-give-requires-3 Inv-loop μ-loop
+give-requires-3 c κs =
+    let at = c .before .before .before .before in
+    let st = at .before .before .before in
+    let iv = at .loop .inv in
+    (iv .1 .size ∙ st .pre .0, iv .2 .size ∙ st .pre .1, st .pre .3, omega (arith, st .pre .2, c .before .before .if1 .left))
+
+returns-2 : tie.Need-returns-2 Inv-loop μ-loop
+returns-2 c =
+    let at = c .before .before .before .before .before in
+    let st = at .before .before .before in
+    let iv = at .loop .inv in
+    let g = c .give3 .ensures _ _ refl refl (iv .1) (iv .2) in
+    let e : at .loop .i + 1 ≡ st .args .n = omega (arith, c .before .before .before .if1 .left, c .before .before .before .before .loop-test .left) in
+    (rw e at (g .0), rw e at (g .1))
 
 pub spread-by-spec : {M : Type 1} → statement M
 spread-by-spec =
@@ -114,19 +99,13 @@ spread-by-spec =
     mul-set
     element-copy-out-set
     loop-holds
+    add-loop
+    give-requires
+    add-give
+    give-requires-2
     add-i
-    mul-old
-    element-copy-out-old
-    cast-has
-    has-requires
-    mul-edges
-    element-write-edges
-    mul-sets
-    element-copy-out-sets
-    mul-sets-2
-    element-write-sets
     loop-less
     loop-again
-    loop-less-2
-    loop-again-2
-    returns)
+    returns
+    give-requires-3
+    returns-2)

@@ -11,7 +11,7 @@ use Rattle.meaning.specs.Grammar.{range, atmost}
 use Rattle.meaning.specs.Table.{byte, constantAt}
 use Rattle.meaning.specs.Differences.{lowered, constrained}
 use Rattle.theory_sets.specs.Intervals.{entry, entered, compared, among-is}
-use Rattle.clash_conditions.specs.Entry.{entryHere, conditionHere, offsetHere}
+use Rattle.clash_conditions.specs.EntryConditions.{entryHere, conditionHere, offsetHere}
 use Rattle.clash_conditions.proofs.Laws as L
 use borrow.Author.Needs.{needs}
 use Rattle.clash_entries.proofs.constrain.Statement.{statement}

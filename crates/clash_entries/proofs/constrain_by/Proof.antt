@@ -10,7 +10,7 @@ use Rattle.clash_conditions.specs.Walk.{Going, going-start, going-done, going-o
 use Rattle.meaning.specs.Differences.{constrained}
 use Rattle.theory_differences.specs.Closing.{Small}
 use Rattle.theory_differences.specs.Decided.{limit}
-use Rattle.clash_conditions.specs.Entry.{Stretch, stretch-inside}
+use Rattle.clash_conditions.specs.EntryConditions.{Stretch, stretch-inside}
 use Rattle.clash_entries.proofs.constrain_by.Statement.{statement}
 use Rattle.clash_entries.proofs.constrain_by.Tie as tie
 

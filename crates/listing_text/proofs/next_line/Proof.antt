@@ -2,13 +2,15 @@ use Rattle.listing_text.specs.LineOut.{emits-as, step-stop, step-rule, s
 use Rattle.listing_text.specs.Tests.{inside-facts}
 use Rattle.listing_lines.specs.Line.{addLine, removeLine}
 use borrow.Author.Tests.{not-true, not-false}
-use mathlib.Core.Path.{refl, sym, ap, _∙_}
+use mathlib.Core.Path.{_≡_, refl, sym, ap, _∙_}
+use mathlib.Core.Bool.{true}
 use Prim.Native.Nat.{_+_}
 use Rattle.theory_program.specs.Parts.{headOperation, headOperand}
 use native.Mathlib.Omega.{arith}
 use borrow.Author.Needs.{needs}
 use Rattle.listing_text.proofs.next_line.Statement.{statement}
 use Rattle.listing_text.proofs.next_line.Tie as tie
+use Rattle.listing_text.specs.Cursors.{insideOf}
 
 settle-requires : tie.Need-settle-requires
 settle-requires c κs = search needs
@@ -26,12 +28,14 @@ returns c =
     let outside = sym (inside .ensures .0) ∙ not-true (inside .result) (c .if1 .taken) in
     (omega arith, over-at-stop ws (a .cursor) d (s .ensures .1) (a .out .now) _ (step-stop ws d (s .ensures .0) outside) refl)
 
+-- the cursor behind what is skipped stands inside the program
+inside : (e : tie.Else1) → insideOf (e .before .before .before .before .before .args .program .now) (e .before .before .settle .result) ≡ true
+inside e = sym (e .before .is-inside .ensures .0) ∙ not-false (e .before .is-inside .result) (e .if1 .left)
+
 rule-requires : tie.Need-rule-requires
 rule-requires c κs =
-    let ws = c .before .before .before .before .before .before .before .before .before .args .program .now in
-    let d = c .before .before .before .before .before .before .settle .result in
-    let inside = c .before .before .before .before .before .is-inside in
-    let i = inside-facts ws d (sym (inside .ensures .0) ∙ not-false (inside .result) (c .before .before .before .before .if1 .left)) in
+    let e = c .before .before .before .before in
+    let i = inside-facts (e .before .before .before .before .before .args .program .now) (e .before .before .settle .result) (inside e) in
     (i .1, omega arith, omega arith)
 
 same-length : tie.Need-same-length
@@ -39,20 +43,15 @@ same-length c = search needs
 
 returns-2 : tie.Need-returns-2
 returns-2 c =
-    let a = c .before .before .before .before .before .before .before .before .before .before .before .before .args in
-    let ws = a .program .now in
-    let s = c .before .before .before .before .before .before .before .before .before .settle in
-    let d = s .result in
-    let i = c .before .before .before .before .before .before .before .before .is-inside in
-    let inside = sym (i .ensures .0) ∙ not-false (i .result) (c .before .before .before .before .before .before .before .if1 .left) in
-    line-at-step ws (a .cursor) d (s .ensures .1) (omega arith) (step-rule ws d (s .ensures .0) inside (omega arith) (c .before .before .before .before .if3 .taken)) (c .before .before .rule .ensures)
+    let e = c .before .before .before .before .before .before .before in
+    let a = e .before .before .before .before .before .args in
+    let s = e .before .before .settle in
+    line-at-step (a .program .now) (a .cursor) (s .result) (s .ensures .1) (omega arith) (step-rule (a .program .now) (s .result) (s .ensures .0) (inside e) (omega arith) (c .before .before .before .before .if3 .taken)) (c .before .before .rule .ensures)
 
 condition-requires : tie.Need-condition-requires
 condition-requires c κs =
-    let ws = c .before .before .before .before .before .before .before .before .before .args .program .now in
-    let d = c .before .before .before .before .before .before .settle .result in
-    let inside = c .before .before .before .before .before .is-inside in
-    let i = inside-facts ws d (sym (inside .ensures .0) ∙ not-false (inside .result) (c .before .before .before .before .if1 .left)) in
+    let e = c .before .before .before .before in
+    let i = inside-facts (e .before .before .before .before .before .args .program .now) (e .before .before .settle .result) (inside e) in
     (i .1, omega arith, omega arith)
 
 same-length-2 : tie.Need-same-length-2
@@ -60,23 +59,18 @@ same-length-2 c = search needs
 
 returns-3 : tie.Need-returns-3
 returns-3 c =
-    let a = c .before .before .before .before .before .before .before .before .before .before .before .before .args in
-    let ws = a .program .now in
-    let s = c .before .before .before .before .before .before .before .before .before .settle in
-    let d = s .result in
-    let i = c .before .before .before .before .before .before .before .before .is-inside in
-    let inside = sym (i .ensures .0) ∙ not-false (i .result) (c .before .before .before .before .before .before .before .if1 .left) in
-    line-at-step ws (a .cursor) d (s .ensures .1) (omega arith) (step-condition ws d (s .ensures .0) inside (omega arith) (c .before .before .before .before .if3 .left)) (c .before .before .condition .ensures)
+    let e = c .before .before .before .before .before .before .before in
+    let a = e .before .before .before .before .before .args in
+    let s = e .before .before .settle in
+    line-at-step (a .program .now) (a .cursor) (s .result) (s .ensures .1) (omega arith) (step-condition (a .program .now) (s .result) (s .ensures .0) (inside e) (omega arith) (c .before .before .before .before .if3 .left)) (c .before .before .condition .ensures)
 
 word-requires : tie.Need-word-requires
 word-requires c κs = search needs
 
 add-requires : tie.Need-add-requires
 add-requires c κs =
-    let ws = c .before .before .before .before .before .before .before .before .before .before .before .before .before .args .program .now in
-    let d = c .before .before .before .before .before .before .before .before .before .before .settle .result in
-    let inside = c .before .before .before .before .before .before .before .before .before .is-inside in
-    let i = inside-facts ws d (sym (inside .ensures .0) ∙ not-false (inside .result) (c .before .before .before .before .before .before .before .before .if1 .left)) in
+    let e = c .before .before .before .before .before .before .before .before in
+    let i = inside-facts (e .before .before .before .before .before .args .program .now) (e .before .before .settle .result) (inside e) in
     (i .1, i .2, omega arith)
 
 same-length-3 : tie.Need-same-length-3
@@ -84,18 +78,17 @@ same-length-3 c = search needs
 
 returns-4 : tie.Need-returns-4
 returns-4 c =
-    let start = c .before .before .before .before .before .before .before .before .before .before .before .before .before .before .before .before in
+    let e1 = c .before .before .before .before .before .before .before .before .before .before .before in
+    let start = e1 .before .before .before .before .before in
     let a = start .args in
     let ws = a .program .now in
-    let s = c .before .before .before .before .before .before .before .before .before .before .before .before .before .settle in
+    let s = e1 .before .before .settle in
     let d = s .result in
-    let i = c .before .before .before .before .before .before .before .before .before .before .before .before .is-inside in
-    let inside = sym (i .ensures .0) ∙ not-false (i .result) (c .before .before .before .before .before .before .before .before .before .before .before .if1 .left) in
     let k = c .before .before .before .before .before in
     let o = k .before in
     let w = o .before in
     let e = w .wide .ensures .0 ∙ w .before .word .ensures in
-    line-at-step ws (a .cursor) d (s .ensures .1) (omega (arith, start .pre)) (step-add ws d (s .ensures .0) inside (omega arith) (sym (k .operation .ensures ∙ ap headOperation e) ∙ c .before .before .before .before .if4 .taken))
+    line-at-step ws (a .cursor) d (s .ensures .1) (omega (arith, start .pre)) (step-add ws d (s .ensures .0) (inside e1) (omega arith) (sym (k .operation .ensures ∙ ap headOperation e) ∙ c .before .before .before .before .if4 .taken))
     (emits-as (ap (addLine (d .production) (d .passed + 1)) (o .operand .ensures ∙ ap headOperand e)) (c .before .before .add .ensures))
 
 remove-requires : tie.Need-remove-requires
@@ -110,18 +103,17 @@ same-length-4 c = search needs
 
 returns-5 : tie.Need-returns-5
 returns-5 c =
-    let start = c .before .before .before .before .before .before .before .before .before .before .before .before .before .before .before .before in
+    let e1 = c .before .before .before .before .before .before .before .before .before .before .before in
+    let start = e1 .before .before .before .before .before in
     let a = start .args in
     let ws = a .program .now in
-    let s = c .before .before .before .before .before .before .before .before .before .before .before .before .before .settle in
+    let s = e1 .before .before .settle in
     let d = s .result in
-    let i = c .before .before .before .before .before .before .before .before .before .before .before .before .is-inside in
-    let inside = sym (i .ensures .0) ∙ not-false (i .result) (c .before .before .before .before .before .before .before .before .before .before .before .if1 .left) in
     let k = c .before .before .before .before .before in
     let o = k .before in
     let w = o .before in
     let e = w .wide .ensures .0 ∙ w .before .word .ensures in
-    line-at-step ws (a .cursor) d (s .ensures .1) (omega (arith, start .pre)) (step-remove ws d (s .ensures .0) inside (omega arith) (λ z. c .before .before .before .before .if4 .left (k .operation .ensures ∙ (ap headOperation e ∙ z))))
+    line-at-step ws (a .cursor) d (s .ensures .1) (omega (arith, start .pre)) (step-remove ws d (s .ensures .0) (inside e1) (omega arith) (λ z. c .before .before .before .before .if4 .left (k .operation .ensures ∙ (ap headOperation e ∙ z))))
     (emits-as (ap (removeLine (d .production)) (o .operand .ensures ∙ ap headOperand e)) (c .before .before .remove .ensures))
 
 wide-requires : tie.Need-wide-requires

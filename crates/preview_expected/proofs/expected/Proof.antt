@@ -18,14 +18,14 @@ word-at-requires c κs = c .before .pre .inside
 abbrev start : tie.After-operation → tie.Start
 start k = k .before .before .before
 
-told : (k : tie.After-operation) → let a = start k .args in expectedFrom (k .before .word-at .result) (now (a .program)) (a .token) ≡ expectedAt (now (a .program)) (a .at) (a .token)
-told k = let a = start k .args in ap (λ z. expectedFrom z (now (a .program)) (a .token)) (k .before .word-at .ensures .0)
+expected-is : (k : tie.After-operation) → let a = start k .args in expectedFrom (k .before .word-at .result) (now (a .program)) (a .token) ≡ expectedAt (now (a .program)) (a .at) (a .token)
+expected-is k = let a = start k .args in ap (λ z. expectedFrom z (now (a .program)) (a .token)) (k .before .word-at .ensures .0)
 
 returns : tie.Need-returns
 returns c =
     let k = c .before .before in
     let a = start k .args in
-    ap (λ z. eqb z (a .token)) (c .operand .ensures) ∙ (from-terminal (k .before .word-at .result) (now (a .program)) (a .token) (sym (k .operation .ensures) ∙ c .before .if1 .taken) ∙ told k)
+    ap (λ z. eqb z (a .token)) (c .operand .ensures) ∙ (from-terminal (k .before .word-at .result) (now (a .program)) (a .token) (sym (k .operation .ensures) ∙ c .before .if1 .taken) ∙ expected-is k)
 
 word-at-requires-2 : tie.Need-word-at-requires-2
 word-at-requires-2 c κs =
@@ -39,13 +39,13 @@ returns-2 c =
     let k = o .before .before .before in
     let a = start k .args in
     let word = c .word-at2 .ensures .0 ∙ ap (λ n. getD (now (a .program)) (9 + 64 * n + a .token) 0) (o .operand2 .ensures) in
-    ap (λ z. not (eqb z 0)) word ∙ (from-nonterminal (k .before .word-at .result) (now (a .program)) (a .token) (sym (k .operation .ensures) ∙ o .before .if2 .taken) ∙ told k)
+    ap (λ z. not (eqb z 0)) word ∙ (from-nonterminal (k .before .word-at .result) (now (a .program)) (a .token) (sym (k .operation .ensures) ∙ o .before .if2 .taken) ∙ expected-is k)
 
 returns-3 : tie.Need-returns-3
 returns-3 c =
     let k = c .before .before in
     let a = start k .args in
-    ap (λ z. not (eqb z 6)) (k .operation .ensures) ∙ (from-other (k .before .word-at .result) (now (a .program)) (a .token) (λ z. c .before .if1 .left (k .operation .ensures ∙ z)) (λ z. c .if2 .left (k .operation .ensures ∙ z)) ∙ told k)
+    ap (λ z. not (eqb z 6)) (k .operation .ensures) ∙ (from-other (k .before .word-at .result) (now (a .program)) (a .token) (λ z. c .before .if1 .left (k .operation .ensures ∙ z)) (λ z. c .if2 .left (k .operation .ensures ∙ z)) ∙ expected-is k)
 
 add-word-at : tie.Need-add-word-at
 add-word-at c = omega (arith, c .before .before .before .before .word-at .ensures .1, c .operand2 .ensures, start (c .before .before .before) .pre .small)

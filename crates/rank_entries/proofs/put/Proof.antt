@@ -2,8 +2,8 @@ use mathlib.Core.Path.{sym, ap, _∙_}
 use lib.IntN.{pos}
 use mir.Facts.{toZ-ofZ}
 use denote.Ref.{now}
-use Rattle.meaning_ranking.specs.Ranking.{entry}
-use Rattle.meaning_ranking.specs.RankCall.{entryOf}
+use Rattle.meaning_ranking.specs.Ranking.{rankEntry}
+use Rattle.meaning_ranking.specs.RankCall.{rankEntryOf}
 use Rattle.records.specs.Records.{answerIs}
 use Rattle.rank_entries.specs.Entries.{putAt}
 use borrow.Author.Needs.{sfits-of}
@@ -43,7 +43,7 @@ returns c =
     let s = c .before .before .before .before .before .before in
     let a = c .before .before .before .before .answer .given in
     let v = toZ-ofZ (sfits-of (c .before .before .before .known-told .given .0 .1)) in
-    c .before .put-cells .ensures ∙ (ap (λ z. putAt (now (s .args .list)) (s .args .i) (entry (pos (s .args .i)) z (pos 0))) v ∙ ap (λ z. putAt (now (s .args .list)) (s .args .i) (entryOf (s .args .i) (answerIs z))) (sym (a .1)))
+    c .before .put-cells .ensures ∙ (ap (λ z. putAt (now (s .args .list)) (s .args .i) (rankEntry (pos (s .args .i)) z (pos 0))) v ∙ ap (λ z. putAt (now (s .args .list)) (s .args .i) (rankEntryOf (s .args .i) (answerIs z))) (sym (a .1)))
 
 same-length-2 : tie.Need-same-length-2
 same-length-2 c = search needs
@@ -52,7 +52,7 @@ returns-2 : tie.Need-returns-2
 returns-2 c =
     let s = c .before .before .before .before .before .before in
     let a = c .before .before .before .before .answer2 .given in
-    c .before .put-cells2 .ensures ∙ ap (λ z. putAt (now (s .args .list)) (s .args .i) (entryOf (s .args .i) (answerIs z))) (sym (a .1))
+    c .before .put-cells2 .ensures ∙ ap (λ z. putAt (now (s .args .list)) (s .args .i) (rankEntryOf (s .args .i) (answerIs z))) (sym (a .1))
 
 same-length-3 : tie.Need-same-length-3
 same-length-3 c = search needs
@@ -61,7 +61,7 @@ returns-3 : tie.Need-returns-3
 returns-3 c =
     let s = c .before .before .before .before .before .before in
     let a = c .before .before .before .before .answer3 .given in
-    c .before .put-cells3 .ensures ∙ ap (λ z. putAt (now (s .args .list)) (s .args .i) (entryOf (s .args .i) (answerIs z))) (sym (a .1))
+    c .before .put-cells3 .ensures ∙ ap (λ z. putAt (now (s .args .list)) (s .args .i) (rankEntryOf (s .args .i) (answerIs z))) (sym (a .1))
 
 same-length-4 : tie.Need-same-length-4
 same-length-4 c = search needs
@@ -70,7 +70,7 @@ returns-4 : tie.Need-returns-4
 returns-4 c =
     let s = c .before .before .before .before .before .before in
     let a = c .before .before .before .before .answer4 .given in
-    c .before .put-cells4 .ensures ∙ ap (λ z. putAt (now (s .args .list)) (s .args .i) (entryOf (s .args .i) (answerIs z))) (sym (a .1))
+    c .before .put-cells4 .ensures ∙ ap (λ z. putAt (now (s .args .list)) (s .args .i) (rankEntryOf (s .args .i) (answerIs z))) (sym (a .1))
 
 pub put-spec : {M : Type 1} → statement M
 put-spec =

@@ -1,5 +1,5 @@
 use Prim.Native.Nat.{ℕ}
-use Rattle.run_alternatives.specs.Predicting.{holdsAt, entersAt, recordOf, production-small, entry-of, leads-on, search-turn, search-stop}
+use Rattle.run_alternatives.specs.Predicting.{holdsAt, entersAt, recordOf, production-small, testable-of, leads-on, search-turn, search-stop}
 use Rattle.run_registers.specs.Stack.{stack}
 use mathlib.Core.Bool.{_&&_}
 use Rattle.theory_program.specs.Addresses.{segment-at}
@@ -19,17 +19,17 @@ record-of-requires : tie.Need-record-of-requires
 record-of-requires c κs = let b = c .before .pre in let s = b .0 .2 .leads in (omega (arith, stands-within (segment-at (s .begins))), omega (arith, b .1 .0), production-small s (b .1 .0))
 
 enters-requires : tie.Need-enters-requires
-enters-requires c κs = let b = c .before .before .pre in (b .0 .0, rw (c .record-of .ensures) (entry-of (b .0 .2 .leads) (b .1 .0)))
+enters-requires c κs = let b = c .before .before .pre in (b .0 .0, rw (c .record-of .ensures) (testable-of (b .0 .2 .leads) (b .1 .0)))
 
 returns : tie.Need-returns
 returns c = λ g n s. let b = c .before .before .before .before in
     search-stop s (b .pre .1 .0) (b .args .look) (b .pre .0 .1) (rw (c .before .before .record-of .ensures) at (sym (c .if1 .taken) ∙ (c .before .enters .ensures ∙ held b (c .before .before .record-of .result) (c .before .before .record-of .ensures))))
 
 add-word-at : tie.Need-add-word-at
-add-word-at c = let b = c .before .before .before .before .pre in omega (arith, entry-of (b .0 .2 .leads) (b .1 .0) .inside, c .before .before .record-of .ensures)
+add-word-at c = let b = c .before .before .before .before .pre in omega (arith, testable-of (b .0 .2 .leads) (b .1 .0) .inside, c .before .before .record-of .ensures)
 
 word-at-requires : tie.Need-word-at-requires
-word-at-requires c κs = let b = c .before .before .before .before .pre in omega (arith, entry-of (b .0 .2 .leads) (b .1 .0) .inside, c .before .before .record-of .ensures)
+word-at-requires c κs = let b = c .before .before .before .before .pre in omega (arith, testable-of (b .0 .2 .leads) (b .1 .0) .inside, c .before .before .record-of .ensures)
 
 later-requires : tie.Need-later-requires
 later-requires c κs = let b = c .before .before .before .before .before .pre in let s = b .0 .2 in (b .0 .0, b .0 .1, rw (c .word-at .ensures .0, c .before .before .before .record-of .ensures) (record { grammar = s .grammar; wanted = s .wanted; leads = leads-on (s .leads) (b .1 .0) }))

@@ -1,4 +1,4 @@
-use Rattle.run_alternatives.specs.Predicting.{Leads, turns, production-small, entry-of, leads-on, fewer-turns, search-turn, search-stop}
+use Rattle.run_alternatives.specs.Predicting.{Leads, turns, production-small, testable-of, leads-on, fewer-turns, search-turn, search-stop}
 use Rattle.run_moves.specs.Passing.{lookOf}
 use Rattle.run_registers.specs.Stack.{stack}
 use Rattle.theory_program.specs.Search.{found}
@@ -31,7 +31,7 @@ record-of-requires : tie.Need-record-of-requires Inv-loop μ-loop
 record-of-requires c κs = (omega (arith, stands-within (segment-at (lead c .begins))), omega (arith, c .loop-test .taken), production-small (lead c) (c .loop-test .taken))
 
 passes-requires : tie.Need-passes-requires Inv-loop μ-loop
-passes-requires c κs = let b = c .before .before .before .before .pre in (b .0, rw (c .record-of .ensures) (entry-of (lead (c .before)) (c .before .loop-test .taken)), b .1)
+passes-requires c κs = let b = c .before .before .before .before .pre in (b .0, rw (c .record-of .ensures) (testable-of (lead (c .before)) (c .before .loop-test .taken)), b .1)
 
 returns : tie.Need-returns Inv-loop μ-loop
 returns c = λ g n s. let k = c .before .before .before .before .loop .inv g n s in
@@ -39,10 +39,10 @@ returns c = λ g n s. let k = c .before .before .before .before .loop .inv g n s
     (rw (c .before .before .record-of .ensures) at (sym (c .if1 .taken) ∙ c .before .passes .ensures)) ∙ sym (k .1)
 
 add-word-at : tie.Need-add-word-at Inv-loop μ-loop
-add-word-at c = omega (arith, entry-of (lead (c .before .before .before)) (c .before .before .before .loop-test .taken) .inside, c .before .before .record-of .ensures)
+add-word-at c = omega (arith, testable-of (lead (c .before .before .before)) (c .before .before .before .loop-test .taken) .inside, c .before .before .record-of .ensures)
 
 word-at-requires : tie.Need-word-at-requires Inv-loop μ-loop
-word-at-requires c κs = omega (arith, entry-of (lead (c .before .before .before)) (c .before .before .before .loop-test .taken) .inside, c .before .before .record-of .ensures)
+word-at-requires c κs = omega (arith, testable-of (lead (c .before .before .before)) (c .before .before .before .loop-test .taken) .inside, c .before .before .record-of .ensures)
 
 loop-less : tie.Need-loop-less Inv-loop μ-loop
 loop-less c = rw (c .word-at .ensures .0, c .before .before .before .record-of .ensures) (fewer-turns (lead (c .before .before .before .before)) (c .before .before .before .before .loop-test .taken))

@@ -1,13 +1,12 @@
-use Prim.Native.Nat.{_+_, _-_, _≤_}
+use Prim.Native.Nat.{_-_, _≤_}
 use native.Mathlib.Omega.{arith}
-use mathlib.Core.Path.{_≡_, sym, _∙_}
-use mathlib.Core.Bool.{_&&_}
+use mathlib.Core.Path.{_≡_}
 use borrow.Author.Needs.{needs, sfits-of}
 use denote.Ref.{now}
 use lib.ListN.{length, drop}
 use Rattle.meaning.specs.Base.{all}
 use Rattle.meaning.specs.Calls.{isMark}
-use Rattle.run_fit_cells.specs.Gathering.{all-signed, all-end}
+use Rattle.theory_base.specs.Cells.{cell-passes, cell-fails, all-passed}
 use Rattle.run_fit_cells.proofs.few_marked.Statement.{statement}
 use Rattle.run_fit_cells.proofs.few_marked.Tie as tie
 
@@ -35,19 +34,14 @@ add-i c = omega arith
 loop-less : tie.Need-loop-less Inv-loop μ-loop
 loop-less c = omega arith
 
-turn : (c : tie.After-is-mark Inv-loop μ-loop) → all isMark (now (c .before .before .before .before .args .cells)) ≡ c .is-mark .result && all isMark (drop (c .before .before .before .loop .i + 1) (now (c .before .before .before .before .args .cells)))
-turn c =
-    let l = c .before .before .before .loop in
-    all-signed isMark (now (c .before .before .before .before .args .cells)) (l .i) (c .is-mark .result) (omega arith) (sfits-of (c .before .v .given)) (c .is-mark .ensures) (l .inv .1)
-
 loop-again : tie.Need-loop-again Inv-loop μ-loop
-loop-again c = (omega arith, rw (c .if1 .taken) at (turn (c .before)))
+loop-again c = let l = c .before .before .before .before in (omega arith, cell-passes isMark (now (l .before .args .cells)) (l .loop .i) (omega arith) (sfits-of (c .before .before .v .given)) (c .before .is-mark .ensures) (l .loop .inv .1) (c .if1 .taken))
 
 returns : tie.Need-returns Inv-loop μ-loop
-returns c = sym (rw (c .if1 .left) at (turn (c .before)))
+returns c = let l = c .before .before .before .before in cell-fails isMark (now (l .before .args .cells)) (l .loop .i) (omega arith) (sfits-of (c .before .before .v .given)) (c .before .is-mark .ensures) (l .loop .inv .1) (c .if1 .left)
 
 returns-2 : tie.Need-returns-2 Inv-loop μ-loop
-returns-2 c = sym (c .before .loop .inv .1 ∙ all-end isMark (now (c .before .before .args .cells)) (c .before .loop .i) (omega arith))
+returns-2 c = all-passed isMark (now (c .before .before .args .cells)) (c .before .loop .i) (omega arith) (c .before .loop .inv .1)
 
 pub few-marked-spec : {M : Type 1} → statement M
 few-marked-spec = tie.close (tie.spec Inv-loop μ-loop loop-holds mul-v shared-slice-copy-out-v is-mark-requires add-i loop-less loop-again returns returns-2)

@@ -2,17 +2,18 @@ use mathlib.Core.Bool.{_||_}
 use lib.Dec.{eqb}
 use borrow.Author.Tests.{eq-eqb, ne-eqb}
 use mathlib.Core.Path.{sym, ap, ap₂}
+use Rattle.theory_program.specs.Parts.{readOperation, predictOperation, nothingOperation}
 use Rattle.run_looking.proofs.looks.Statement.{statement}
 use Rattle.run_looking.proofs.looks.Tie as tie
 
 returns : tie.Need-returns
-returns c = sym (ap (λ a. a || (eqb (c .before .args .operation) 3 || eqb (c .before .args .operation) 6)) (eq-eqb (c .before .args .operation) 2 (c .if1 .taken)))
+returns c = sym (ap (λ a. a || (eqb (c .before .args .operation) predictOperation || eqb (c .before .args .operation) nothingOperation)) (eq-eqb (c .before .args .operation) readOperation (c .if1 .taken)))
 
 returns-2 : tie.Need-returns-2
-returns-2 c = sym (ap₂ (λ a b. a || (b || eqb (c .before .before .args .operation) 6)) (ne-eqb (c .before .before .args .operation) 2 (c .before .if1 .left)) (eq-eqb (c .before .before .args .operation) 3 (c .if2 .taken)))
+returns-2 c = sym (ap₂ (λ a b. a || (b || eqb (c .before .before .args .operation) nothingOperation)) (ne-eqb (c .before .before .args .operation) readOperation (c .before .if1 .left)) (eq-eqb (c .before .before .args .operation) predictOperation (c .if2 .taken)))
 
 returns-3 : tie.Need-returns-3
-returns-3 c = sym (ap₂ (λ a b. a || (b || eqb (c .before .before .args .operation) 6)) (ne-eqb (c .before .before .args .operation) 2 (c .before .if1 .left)) (ne-eqb (c .before .before .args .operation) 3 (c .if2 .left)))
+returns-3 c = sym (ap₂ (λ a b. a || (b || eqb (c .before .before .args .operation) nothingOperation)) (ne-eqb (c .before .before .args .operation) readOperation (c .before .if1 .left)) (ne-eqb (c .before .before .args .operation) predictOperation (c .if2 .left)))
 
 pub looks-spec : {M : Type 1} → statement M
 looks-spec = tie.close (tie.spec returns returns-2 returns-3)

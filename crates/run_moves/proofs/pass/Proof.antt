@@ -1,4 +1,4 @@
-use Rattle.theory_program.specs.Parts.{headOperation}
+use Rattle.theory_program.specs.Parts.{headOperation, testOperation}
 use Rattle.run_moves.specs.Moves.{countIf}
 use borrow.Author.Tests.{eq-eqb, ne-eqb}
 use lib.ListN.{getD}
@@ -22,7 +22,7 @@ here c = c .operation .ensures ∙ ap headOperation (c .before .word-at .ensures
 returns : tie.Need-returns
 returns c =
     let a = start (c .before) .args in
-    sym (ap (λ z. countIf (not z) (a .height) (now (a .places))) (eq-eqb (headOperation (getD (now (a .program)) (a .at) 0)) 4 (sym (here (c .before)) ∙ c .if1 .taken)))
+    sym (ap (λ z. countIf (not z) (a .height) (now (a .places))) (eq-eqb (headOperation (getD (now (a .program)) (a .at) 0)) testOperation (sym (here (c .before)) ∙ c .if1 .taken)))
 
 count-requires : tie.Need-count-requires
 count-requires c κs = search needs
@@ -35,7 +35,7 @@ returns-2 c =
     let counted = c .before .before in
     let other = counted .before .before in
     let a = start (other .before) .args in
-    counted .count .ensures ∙ sym (ap (λ z. countIf (not z) (a .height) (now (a .places))) (ne-eqb (headOperation (getD (now (a .program)) (a .at) 0)) 4 (λ e. other .if1 .left (here (other .before) ∙ e))))
+    counted .count .ensures ∙ sym (ap (λ z. countIf (not z) (a .height) (now (a .places))) (ne-eqb (headOperation (getD (now (a .program)) (a .at) 0)) testOperation (λ e. other .if1 .left (here (other .before) ∙ e))))
 
 operation-requires : tie.Need-operation-requires
 operation-requires c κs = search needs

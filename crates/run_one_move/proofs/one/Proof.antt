@@ -1,4 +1,4 @@
-use Rattle.theory_program.specs.Parts.{headOperation}
+use Rattle.theory_program.specs.Parts.{headOperation, addOperation, evaluateOperation, readOperation, predictOperation, testOperation, removeOperation}
 use lib.ListN.{getD}
 use mathlib.Core.Path.{_≡_, ap, _∙_}
 use Rattle.run_moves.specs.Passing.{comingOf, coming-look}
@@ -18,23 +18,28 @@ word-at-requires : tie.Need-word-at-requires
 word-at-requires c κs = bounds (c .before .before .pre .0 .held) .inside
 
 add-requires : tie.Need-add-requires
-add-requires c κs = (now (c .before .before .before .before .before .before .args .places), ready-as 0 (omega (arith, c .before .match .keys1, operation-is (c .before .before))) (c .before .before .before .before .before .before .pre .0))
+add-requires c κs = (now (c .before .before .before .before .before .before .args .places), ready-as addOperation (omega (arith, c .before .match .keys1, operation-is (c .before .before))) (c .before .before .before .before .before .before .pre .0))
 
 evaluate-requires : tie.Need-evaluate-requires
-evaluate-requires c κs = (now (c .before .before .before .before .before .before .args .places), ready-as 1 (omega (arith, c .before .match .keys2, operation-is (c .before .before))) (c .before .before .before .before .before .before .pre .0))
+evaluate-requires c κs = (now (c .before .before .before .before .before .before .args .places), ready-as evaluateOperation (omega (arith, c .before .match .keys2, operation-is (c .before .before))) (c .before .before .before .before .before .before .pre .0))
 
 read-requires : tie.Need-read-requires
-read-requires c κs = ready-as 2 (omega (arith, c .before .before .match .keys3, operation-is (c .before .before .before))) (c .before .before .before .before .before .before .before .pre .0)
+read-requires c κs = ready-as readOperation (omega (arith, c .before .before .match .keys3, operation-is (c .before .before .before))) (c .before .before .before .before .before .before .before .pre .0)
 
 predict-requires : tie.Need-predict-requires
-predict-requires c κs = (ready-as 3 (omega (arith, c .before .before .match .keys4, operation-is (c .before .before .before))) (c .before .before .before .before .before .before .before .pre .0), c .before .before .before .before .before .before .before .pre .2)
+predict-requires c κs = (ready-as predictOperation (omega (arith, c .before .before .match .keys4, operation-is (c .before .before .before))) (c .before .before .before .before .before .before .before .pre .0), c .before .before .before .before .before .before .before .pre .2)
 
 test-requires : tie.Need-test-requires
-test-requires c κs = ready-as 4 (omega (arith, c .before .before .match .keys5, operation-is (c .before .before .before))) (c .before .before .before .before .before .before .before .pre .0)
+test-requires c κs = ready-as testOperation (omega (arith, c .before .before .match .keys5, operation-is (c .before .before .before))) (c .before .before .before .before .before .before .before .pre .0)
+
+slice-aggregate-remove : tie.Need-slice-aggregate-remove
+slice-aggregate-remove c = search needs
 
 remove-requires : tie.Need-remove-requires
-remove-requires c κs = ready-as 5 (let n = c .before .before .match .rest in
-    omega (arith, n .1, n .0 .1, n .0 .0 .1, n .0 .0 .0 .1, n .0 .0 .0 .0 .1, operation-is (c .before .before .before), c .before .before .before .before .before .before .before .pre .1)) (c .before .before .before .before .before .before .before .pre .0)
+remove-requires c κs =
+    let n = c .before .before .before .match .rest in
+    let p = c .before .before .before .before .before .before .before .before .pre in
+    (ready-as removeOperation (omega (arith, n .1, n .0 .1, n .0 .0 .1, n .0 .0 .0 .1, n .0 .0 .0 .0 .1, operation-is (c .before .before .before .before), p .1)) (p .0), λ h l. absurd (omega (arith, l)))
 
 same-length : tie.Need-same-length
 same-length c = search needs
@@ -83,7 +88,7 @@ same-length-10 : tie.Need-same-length-10
 same-length-10 c = search needs
 
 returns-6 : tie.Need-returns-6
-returns-6 c = c .before .before .before .remove .ensures (comingOf (c .before .before .before .before .before .before .before .before .before .before .before .args .look) (c .before .before .before .before .before .before .before .before .before .before .before .args .value))
+returns-6 c = let a = c .before .before .before .before .before .before .before .before .before .before .before .before .before .args in c .before .before .before .before .remove .ensures .0 (comingOf (a .look) (a .value))
 
 operation-requires : tie.Need-operation-requires
 operation-requires c κs = search needs
@@ -99,6 +104,7 @@ one-spec =
     read-requires
     predict-requires
     test-requires
+    slice-aggregate-remove
     remove-requires
     same-length
     returns

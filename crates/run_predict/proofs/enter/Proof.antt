@@ -13,17 +13,14 @@ returns c =
     let e = eq-eqb (a .run .places) (length (now (a .places))) (c .if1 .taken) in
     rw (e) (refl, refl)
 
-sub-places : tie.Need-sub-places
-sub-places c = search needs
+sub-place : tie.Need-sub-place
+sub-place c = search needs
+
+place-requires : tie.Need-place-requires
+place-requires c κs = search needs
 
 mul-places : tie.Need-mul-places
 mul-places c = search needs
-
-cast-places : tie.Need-cast-places
-cast-places c = search needs
-
-mul-places-2 : tie.Need-mul-places-2
-mul-places-2 c = search needs
 
 slice-write-places : tie.Need-slice-write-places
 slice-write-places c = search needs
@@ -39,20 +36,20 @@ same-length c = search needs
 
 returns-2 : tie.Need-returns-2
 returns-2 c =
-    let k = c .before in
+    let p = c .before in
+    let k = p .before in
     let a = k .before .before .args in
     let e = ne-eqb (a .run .places) (length (now (a .places))) (k .if1 .left) in
-    rw (e, c .counted .ensures) (refl, refl)
+    rw (e, c .counted .ensures, p .place .ensures) (refl, refl)
 
 pub enter-spec : {M : Type 1} → statement M
 enter-spec =
     tie.close
     (tie.spec
     returns
-    sub-places
+    sub-place
+    place-requires
     mul-places
-    cast-places
-    mul-places-2
     slice-write-places
     counted-requires
     add-next

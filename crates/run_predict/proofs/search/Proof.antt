@@ -1,4 +1,4 @@
-use Prim.Native.Nat.{_+_, _*_, _/_, _%_, _≤_}
+use Prim.Native.Nat.{_+_, _*_, _≤_}
 use native.Mathlib.Omega.{arith}
 use mathlib.Core.Path.{_≡_, refl, sym, ap, _∙_, subst₂}
 use lib.ListN.{length, getD}
@@ -6,6 +6,7 @@ use denote.Ref.{now}
 use borrow.Author.Needs.{needs}
 use Rattle.meaning.specs.Value.{mark}
 use Rattle.meaning.specs.Machine.{next}
+use Rattle.theory_program.specs.Parts.{headOperand, directoryNumber}
 use Rattle.theory_program.specs.Addresses.{segment-at}
 use Rattle.theory_program.specs.WordsStand.{stands-within}
 use Rattle.run_alternatives.specs.Predicting.{recordOf}
@@ -19,7 +20,7 @@ abbrev start : tie.After-find → tie.Start
 start c = c .before .before .before
 
 -- the directory names an alternative
-some-first : (s : tie.Start) → (let a = s .args in getD (now (a .program)) (9 + 64 * (getD (now (a .program)) (a .run .at) 0 / 8) + a .look) 0 % 256 ≡ 0 → ⊥)
+some-first : (s : tie.Start) → (let a = s .args in directoryNumber (getD (now (a .program)) (9 + 64 * headOperand (getD (now (a .program)) (a .run .at) 0) + a .look) 0) ≡ 0 → ⊥)
 some-first s e = s .pre .1 .1 (s .pre .1 .0 ∙ e)
 
 -- the production found is listed

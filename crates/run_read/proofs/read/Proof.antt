@@ -1,5 +1,4 @@
 use Rattle.theory_program.specs.Parts.{headOperand}
-use Prim.Native.Nat.{_/_}
 use native.Mathlib.Omega.{arith}
 use mathlib.Core.Path.{_≡_, sym, ap, _∙_}
 use lib.ListN.{getD}
@@ -48,7 +47,7 @@ returns-2 : tie.Need-returns-2
 returns-2 c =
     let k = c .before .before .before .before .before .before .before in
     let s = k .before .before .before .before .before .before in
-    let e : getD (now (s .args .program)) (s .args .run .at) 0 / 8 ≡ s .args .look = omega (arith, operand-is (k .before .before), k .before .if1 .left) in
+    let e : headOperand (getD (now (s .args .program)) (s .args .run .at) 0) ≡ s .args .look = omega (arith, operand-is (k .before .before), k .before .if1 .left) in
     rw (toZ-ofZ (s .fits .value), e) at (c .before .before .before .read-value .ensures)
 
 read-plain-requires : tie.Need-read-plain-requires
@@ -61,7 +60,7 @@ returns-3 : tie.Need-returns-3
 returns-3 c =
     let k = c .before .before .before .before .before in
     let s = k .before .before .before .before .before .before in
-    let e : getD (now (s .args .program)) (s .args .run .at) 0 / 8 ≡ s .args .look = omega (arith, operand-is (k .before .before), k .before .if1 .left) in
+    let e : headOperand (getD (now (s .args .program)) (s .args .run .at) 0) ≡ s .args .look = omega (arith, operand-is (k .before .before), k .before .if1 .left) in
     rw (e) at (c .before .before .read-plain .ensures (now (s .args .registers)) (s .args .value) (ap isMark (sym (toZ-ofZ (s .fits .value))) ∙ (sym (k .is-mark .ensures) ∙ not-false (k .is-mark .result) (c .before .before .before .before .if2 .left))))
 
 operand-requires : tie.Need-operand-requires

@@ -1,4 +1,4 @@
-use Rattle.theory_program.specs.Parts.{headOperation}
+use Rattle.theory_program.specs.Parts.{headOperation, addOperation}
 use native.Mathlib.Omega.{arith}
 use mathlib.Core.Path.{_≡_, refl, sym, ap, _∙_}
 use mathlib.Core.Bool.{false}
@@ -22,7 +22,7 @@ start c = c .before .before .before
 operation-is : (c : tie.After-operation) → let a = start c .args in c .operation .result ≡ headOperation (getD (now (a .program)) (a .run .at) 0)
 operation-is c = c .operation .ensures ∙ ap headOperation (c .before .word-at .ensures .0)
 
-number : (c : tie.Else1) → let a = start (c .before) .args in headOperation (getD (now (a .program)) (a .run .at) 0) ≡ 0
+number : (c : tie.Else1) → let a = start (c .before) .args in headOperation (getD (now (a .program)) (a .run .at) 0) ≡ addOperation
 number c = sym (operation-is (c .before)) ∙ c .if1 .left
 
 -- it looks at nothing
@@ -57,7 +57,7 @@ returns-3 c = λ bound most us vs i ps even.
     let e = c .before .before .before in
     let a = start (e .before) .args in
     let m = now (a .registers) in
-    passes-turned (Other (now (a .program)) 0) bound most (now (a .program)) us vs i m ps (a .run) m ps (c .add .result)
+    passes-turned (Other (now (a .program)) addOperation) bound most (now (a .program)) us vs i m ps (a .run) m ps (c .add .result)
     (turned-quiet bound most (now (a .program)) us vs m ps (a .run) i even m ps (c .add .result) (quiet e) (c .add .ensures ps ends))
 
 pub adds-spec : {M : Type 1} → statement M

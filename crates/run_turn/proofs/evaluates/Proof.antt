@@ -1,4 +1,4 @@
-use Rattle.theory_program.specs.Parts.{headOperation}
+use Rattle.theory_program.specs.Parts.{headOperation, evaluateOperation}
 use native.Mathlib.Omega.{arith}
 use mathlib.Core.Path.{_≡_, refl, sym, ap, _∙_}
 use mathlib.Core.Bool.{false}
@@ -22,7 +22,7 @@ start c = c .before .before .before
 operation-is : (c : tie.After-operation) → let a = start c .args in c .operation .result ≡ headOperation (getD (now (a .program)) (a .run .at) 0)
 operation-is c = c .operation .ensures ∙ ap headOperation (c .before .word-at .ensures .0)
 
-number : (c : tie.Else1) → let a = start (c .before) .args in headOperation (getD (now (a .program)) (a .run .at) 0) ≡ 1
+number : (c : tie.Else1) → let a = start (c .before) .args in headOperation (getD (now (a .program)) (a .run .at) 0) ≡ evaluateOperation
 number c = sym (operation-is (c .before)) ∙ c .if1 .left
 
 -- it looks at nothing
@@ -61,7 +61,7 @@ returns-3 c = λ bound most us vs i ps even.
     let e = v .before .before .before .before in
     let a = start (e .before) .args in
     let m = now (a .registers) in
-    passes-turned (Other (now (a .program)) 1) bound most (now (a .program)) us vs i m ps (a .run) (v .evaluate .last .0) ps (v .evaluate .result)
+    passes-turned (Other (now (a .program)) evaluateOperation) bound most (now (a .program)) us vs i m ps (a .run) (v .evaluate .last .0) ps (v .evaluate .result)
     (turned-quiet bound most (now (a .program)) us vs m ps (a .run) i even (v .evaluate .last .0) ps (v .evaluate .result) (quiet e) (v .evaluate .ensures ps ends))
 
 pub evaluates-spec : {M : Type 1} → statement M

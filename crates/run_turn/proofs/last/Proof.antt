@@ -1,4 +1,4 @@
-use Rattle.theory_program.specs.Parts.{headOperation}
+use Rattle.theory_program.specs.Parts.{headOperation, readOperation, predictOperation, testOperation, removeOperation, nothingOperation}
 use Prim.Native.Nat.{ℕ, _-_, _<_}
 use native.Mathlib.Omega.{arith}
 use mathlib.Core.Path.{_≡_, refl, sym, ap, _∙_}
@@ -20,10 +20,10 @@ use Rattle.run_turn.proofs.last.Tie as tie
 
 -- where the tests of the limit have failed
 abbrev start : tie.Else1 → tie.Start
-start c = c .before .before .before .before .before .before .before
+start c = c .before .before .before .before .before .before .before .before
 
 -- the operation at hand
-operation-is : (c : tie.After-operation) → let a = c .before .before .before .before .before .args in c .operation .result ≡ headOperation (getD (now (a .program)) (a .run .at) 0)
+operation-is : (c : tie.After-operation) → let a = c .before .before .before .before .before .before .args in c .operation .result ≡ headOperation (getD (now (a .program)) (a .run .at) 0)
 operation-is c = c .operation .ensures ∙ ap headOperation (c .before .word-at .ensures .0)
 
 operation : (c : tie.Else1) (k : ℕ) → c .before .before .operation .result ≡ k → (let a = start c .args in headOperation (getD (now (a .program)) (a .run .at) 0) ≡ k)
@@ -60,32 +60,32 @@ passed s m ps t k =
     passes-turned (Low (now (a .program))) (l .bound) (l .most) (now (a .program)) (now (a .kinds)) (now (a .values)) (a .run .tokens - l .from) (now (a .registers)) (now (a .places)) (a .run) m ps t k
 
 -- nothing is left
-nothing : (c : tie.Else6) → c .before .before .before .before .before .before .before .operation .result ≡ 6
+nothing : (c : tie.Else6) → c .before .before .before .before .before .before .before .operation .result ≡ nothingOperation
 nothing c =
     let e = c .before .before .before .before .before in
     omega (arith, c .if6 .left, c .before .if5 .left, c .before .before .if4 .left, c .before .before .before .if3 .left, c .before .before .before .before .if2 .left, operation-is (e .before .before), number-most (start e .pre .0 .running .held))
 
 word-at-requires : tie.Need-word-at-requires
-word-at-requires c κs = bounds (c .before .before .before .pre .0 .running .held) .inside
+word-at-requires c κs = bounds (c .before .before .before .before .pre .0 .running .held) .inside
 
 operation-requires : tie.Need-operation-requires
 operation-requires c κs = search needs
 
 at-limit-requires : tie.Need-at-limit-requires
-at-limit-requires c κs = (c .before .before .before .before .before .before .before .pre .1, c .if1 .taken)
+at-limit-requires c κs = (c .before .before .before .before .before .before .before .before .pre .1, c .if1 .taken)
 
 returns : tie.Need-returns
 returns c =
     let k = c .before .before .before in
-    let s = k .before .before .before .before .before in
+    let s = k .before .before .before .before .before .before in
     let a = s .args in
-    passed s (now (a .registers)) (now (a .places)) (c .at-limit .result) (c .at-limit .ensures (now (a .program)) (now (a .registers)) (now (a .places)) (now (a .values)) (s .pre .0) (sym (operation-is k)))
+    (passed s (now (a .registers)) (now (a .places)) (c .at-limit .result) (c .at-limit .ensures (now (a .program)) (now (a .registers)) (now (a .places)) (now (a .values)) (s .pre .0) (sym (operation-is k))), s .pre .2)
 
 predict-next-requires : tie.Need-predict-next-requires
 predict-next-requires c κs =
-    let t = c .before .before in
+    let t = c .before .before .before in
     let e = t .before in
-    ((now (start e .args .values), start e .pre .0), operation e 3 (t .if2 .taken), below-limit e, start e .pre .1)
+    ((now (start e .args .values), start e .pre .0), operation e predictOperation (t .if2 .taken), below-limit e, start e .pre .1, start e .pre .2)
 
 same-length : tie.Need-same-length
 same-length c = search needs
@@ -95,15 +95,15 @@ same-length-2 c = search needs
 
 returns-2 : tie.Need-returns-2
 returns-2 c =
-    let v = c .before .before in
-    let s = start (v .before .before .before .before) in
-    passed s (now (s .args .registers)) (v .predict-next .last .1 .0) (v .predict-next .result) (v .predict-next .ensures (now (s .args .values)) (s .pre .0 .even))
+    let v = c .before .before .before .before in
+    let s = start (v .before .before .before .before .before) in
+    (passed s (now (s .args .registers)) (v .predict-next .last .1 .0) (v .predict-next .result) (v .predict-next .ensures .0 (now (s .args .values)) (s .pre .0 .even)), v .predict-next .ensures .1)
 
 read-next-requires : tie.Need-read-next-requires
 read-next-requires c κs =
     let t = c .before .before in
     let e = t .before .before in
-    (start e .pre .0, operation e 2 (t .if3 .taken), below-limit e, start e .pre .1)
+    (start e .pre .0, operation e readOperation (t .if3 .taken), below-limit e, start e .pre .1)
 
 same-length-3 : tie.Need-same-length-3
 same-length-3 c = search needs
@@ -115,17 +115,17 @@ returns-3 : tie.Need-returns-3
 returns-3 c =
     let v = c .before .before .before in
     let s = start (v .before .before .before .before .before) in
-    passed s (v .read-next .last .0) (v .read-next .last .1 .0) (v .read-next .result) (v .read-next .ensures)
+    (passed s (v .read-next .last .0) (v .read-next .last .1 .0) (v .read-next .result) (v .read-next .ensures), s .pre .2)
 
 returns-4 : tie.Need-returns-4
 returns-4 c =
     let e = c .before .before .before in
-    none refl refl refl (omega (arith, c .if4 .taken, operation-is (e .before .before)))
+    (none refl refl refl (omega (arith, c .if4 .taken, operation-is (e .before .before))), start e .pre .2)
 
 test-requires : tie.Need-test-requires
 test-requires c κs =
     let t = c .before .before in
-    ready (t .before .before .before .before) 4 (t .if5 .taken)
+    ready (t .before .before .before .before) testOperation (t .if5 .taken)
 
 same-length-5 : tie.Need-same-length-5
 same-length-5 c = search needs
@@ -139,12 +139,13 @@ returns-5 c =
     let t = v .before .before .before in
     let e = t .before .before .before .before in
     let m = now (start e .args .registers) in
-    passed (start e) m (v .test .last .1 .0) (v .test .result) (quiet e 4 m (v .test .last .1 .0) (v .test .result) (t .if5 .taken) refl (v .test .ensures ends))
+    (passed (start e) m (v .test .last .1 .0) (v .test .result) (quiet e testOperation m (v .test .last .1 .0) (v .test .result) (t .if5 .taken) refl (v .test .ensures ends)), start e .pre .2)
 
 remove-requires : tie.Need-remove-requires
 remove-requires c κs =
-    let t = c .before .before in
-    ready (t .before .before .before .before .before) 5 (t .if6 .taken)
+    let t = c .before .before .before in
+    let e = t .before .before .before .before .before in
+    (ready e removeOperation (t .if6 .taken), start e .pre .2)
 
 same-length-7 : tie.Need-same-length-7
 same-length-7 c = search needs
@@ -152,12 +153,18 @@ same-length-7 c = search needs
 same-length-8 : tie.Need-same-length-8
 same-length-8 c = search needs
 
+same-length-9 : tie.Need-same-length-9
+same-length-9 c = search needs
+
+same-length-10 : tie.Need-same-length-10
+same-length-10 c = search needs
+
 returns-6 : tie.Need-returns-6
 returns-6 c =
-    let v = c .before .before .before in
-    let t = v .before .before .before in
+    let v = c .before .before .before .before .before in
+    let t = v .before .before .before .before in
     let e = t .before .before .before .before .before in
-    passed (start e) (v .remove .last .0) (v .remove .last .1 .0) (v .remove .result) (quiet e 5 (v .remove .last .0) (v .remove .last .1 .0) (v .remove .result) (t .if6 .taken) refl (v .remove .ensures ends))
+    (passed (start e) (v .remove .last .0) (v .remove .last .1 .0) (v .remove .result) (quiet e removeOperation (v .remove .last .0) (v .remove .last .1 .0) (v .remove .result) (t .if6 .taken) refl (v .remove .ensures .0 ends)), v .remove .ensures .1)
 
 nothing-next-requires : tie.Need-nothing-next-requires
 nothing-next-requires c κs = start (c .before .before .before .before .before) .pre .1
@@ -167,7 +174,7 @@ returns-7 c =
     let e = c .before .before .before .before .before .before in
     let s = start e in
     let a = s .args in
-    passed s (now (a .registers)) (now (a .places)) (c .nothing-next .result) (c .nothing-next .ensures (now (a .program)) (now (a .registers)) (now (a .places)) (now (a .values)) (s .pre .0) (operation e 6 (nothing (c .before))))
+    (passed s (now (a .registers)) (now (a .places)) (c .nothing-next .result) (c .nothing-next .ensures (now (a .program)) (now (a .registers)) (now (a .places)) (now (a .values)) (s .pre .0) (operation e nothingOperation (nothing (c .before)))), s .pre .2)
 
 pub last-spec : {M : Type 1} → statement M
 last-spec =
@@ -180,19 +187,21 @@ last-spec =
     predict-next-requires
     same-length
     same-length-2
+    same-length-3
     returns-2
     read-next-requires
-    same-length-3
     same-length-4
+    same-length-5
     returns-3
     returns-4
     test-requires
-    same-length-5
     same-length-6
+    same-length-7
     returns-5
     remove-requires
-    same-length-7
     same-length-8
+    same-length-9
+    same-length-10
     returns-6
     nothing-next-requires
     returns-7)

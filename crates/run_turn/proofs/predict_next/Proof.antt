@@ -10,6 +10,8 @@ use Rattle.run_looking.specs.Judging.{looks, judgedOf, taken-of}
 use Rattle.run_moves.specs.declared.Run.{Run}
 use Rattle.run_moves.specs.declared.Step.{Step}
 use Rattle.run_moves.specs.declared.Step.the-variants.{Moved, Blocked}
+use Rattle.run_moves.specs.Held.{bounds}
+use Rattle.run_moves.specs.Notes.{Noted, noted-here}
 use Rattle.run_next_token.specs.Operations.{Running}
 use Rattle.run_next_token.specs.Turns.{Turned, turned-judged, turned-predict}
 use Rattle.run_next_token.specs.Reading.{turned-after, turned-then}
@@ -22,50 +24,67 @@ abbrev index : tie.Start → ℕ
 index s = s .args .run .tokens - s .args .limits .from
 
 -- it is taken
-taken : (c : tie.Else1) → (let s = c .before .before .before .before .before in let a = s .args in 1 ≡ judgedOf (a .limits .bound) (a .limits .most) (now (a .kinds)) (index s) (a .run .tokens))
+taken : (c : tie.Else1) → (let s = c .before .before .before .before .before .before in let a = s .args in 1 ≡ judgedOf (a .limits .bound) (a .limits .most) (now (a .kinds)) (index s) (a .run .tokens))
 taken c = sym (c .if1 .left) ∙ c .before .judged .ensures
 
-here : (c : tie.Else1) → (let s = c .before .before .before .before .before in let a = s .args in (index s < length (now (a .kinds))) × (a .run .tokens ≤ a .limits .most) × (getD (now (a .kinds)) (index s) 0 < a .limits .bound))
+here : (c : tie.Else1) → (let s = c .before .before .before .before .before .before in let a = s .args in (index s < length (now (a .kinds))) × (a .run .tokens ≤ a .limits .most) × (getD (now (a .kinds)) (index s) 0 < a .limits .bound))
 here c =
-    let s = c .before .before .before .before .before in
+    let s = c .before .before .before .before .before .before in
     let a = s .args in
     taken-of (a .limits .bound) (a .limits .most) (now (a .kinds)) (index s) (a .run .tokens) (taken c)
 
-small : (c : tie.Else1) → (let s = c .before .before .before .before .before in getD (now (s .args .kinds)) (index s) 0 < 64)
-small c = omega (arith, here c .2, c .before .before .before .before .before .pre .0 .1 .few)
+small : (c : tie.Else1) → (let s = c .before .before .before .before .before .before in getD (now (s .args .kinds)) (index s) 0 < 64)
+small c = omega (arith, here c .2, c .before .before .before .before .before .before .pre .0 .1 .few)
 
 judged-requires : tie.Need-judged-requires
-judged-requires c κs = c .before .before .before .pre .3
+judged-requires c κs = c .before .before .before .before .pre .3
 
 returns : tie.Need-returns
-returns c = λ vs even.
-    let s = c .before .before .before .before .before in
+returns c =
+    let s = c .before .before .before .before .before .before in
     let a = s .args in
     let j = c .before .judged in
-    turned-judged (a .limits .bound) (a .limits .most) (now (a .program)) (now (a .kinds)) vs (now (a .registers)) (now (a .places)) (a .run) (index s) even (j .result) (ap looks (s .pre .1)) (j .ensures) (c .if1 .taken)
+    ((λ vs even. turned-judged (a .limits .bound) (a .limits .most) (now (a .program)) (now (a .kinds)) vs (now (a .registers)) (now (a .places)) (a .run) (index s) even (j .result) (ap looks (s .pre .1)) (j .ensures) (c .if1 .taken)), s .pre .4)
 
 sub-i : tie.Need-sub-i
-sub-i c = c .before .before .before .before .before .before .before .pre .3
+sub-i c = c .before .before .before .before .before .before .before .before .pre .3
 
 shared-slice-read-look : tie.Need-shared-slice-read-look
 shared-slice-read-look c = here (c .before .before .before) .0
 
 cast-look : tie.Need-cast-look
-cast-look c = omega (arith, c .shared-slice-known3 .given (index (c .before .before .before .before .before .before .before .before)) .fits)
+cast-look c = omega (arith, c .shared-slice-known3 .given (index (c .before .before .before .before .before .before .before .before .before)) .fits)
+
+sub-word-at : tie.Need-sub-word-at
+sub-word-at c = bounds (c .before .before .before .before .before .before .before .before .before .before .before .pre .0 .1 .running .held) .somePlace
+
+word-at-requires : tie.Need-word-at-requires
+word-at-requires c κs =
+    let k = bounds (c .before .before .before .before .before .before .before .before .before .before .before .pre .0 .1 .running .held) in
+    omega (arith, k .somePlace, k .places)
+
+note-requires : tie.Need-note-requires
+note-requires c κs = tt
 
 predict-requires : tie.Need-predict-requires
 predict-requires c κs =
-    let e = c .before .before .before .before in
-    let p = e .before .before .before .before .before .pre in
+    let e = c .before .before .before .before .before .before .before .before .before .before .before in
+    let p = e .before .before .before .before .before .before .pre in
     let r = p .0 .1 .running in
     (record { grammar = r .grammar; lent = r .lent; config = r .config; held = r .held; limit = p .2; operation = p .1 }, small e)
 
 -- where the token was taken
 abbrev else-of : tie.After-predict → tie.Else1
-else-of c = c .before .before .before .before .before
+else-of c = c .before .before .before .before .before .before .before .before .before .before .before .before
 
 abbrev start : tie.After-predict → tie.Start
-start c = else-of c .before .before .before .before .before
+start c = else-of c .before .before .before .before .before .before
+
+-- the place that waits goes on from here
+waiting : (c : tie.After-note) → (let s = c .before .before .before .before .before .before .before .before .before .before .before .before .before .before in Noted (now (s .args .program)) (c .before .before .word-at .result) (s .args .run .at))
+waiting c =
+    let s = c .before .before .before .before .before .before .before .before .before .before .before .before .before .before in
+    subst (λ q. Noted (now (s .args .program)) q (s .args .run .at)) (sym (c .before .before .word-at .ensures .0)) (noted-here (s .pre .0 .1 .running .held) (s .pre .1))
 
 -- what the predict answers
 abbrev Answered : tie.After-predict → List ℤ → Step → Type 0
@@ -103,15 +122,23 @@ same-length : tie.Need-same-length
 same-length c = search needs
 
 returns-2 : tie.Need-returns-2
-returns-2 c = λ vs even.
+returns-2 c =
     let n = c .before .n .given in
-    predicted (c .before .before .before .before .before) vs even (Blocked (n .0 .0)) (n .1)
+    let r = c .before .before .before .before .before in
+    let k = r .before .before .before .before in
+    ((λ vs even. predicted r vs even (Blocked (n .0 .0)) (n .1)), k .note .ensures (now (start r .args .program)) (start r .pre .4) (waiting k))
 
 same-length-2 : tie.Need-same-length-2
 same-length-2 c = search needs
 
+same-length-3 : tie.Need-same-length-3
+same-length-3 c = search needs
+
+same-length-4 : tie.Need-same-length-4
+same-length-4 c = search needs
+
 returns-3 : tie.Need-returns-3
-returns-3 c = λ vs even.
+returns-3 c =
     let m = c .before .before in
     let n = m .before .before .before .next .given in
     let r = m .before .before .before .before .before .before .before in
@@ -119,8 +146,12 @@ returns-3 c = λ vs even.
     let a = s .args in
     let same : n .0 .0 .tokens ≡ a .run .tokens = ap (tokensOf (a .run)) (sym (n .1)) ∙ r .predict .ensures .1 in
     let here : index s ≡ index s + (n .0 .0 .tokens - a .run .tokens) = omega (arith, same) in
-    let on = m .read-on .ensures (a .limits .bound) (a .limits .most) (now (a .kinds)) vs (now (a .registers)) (index s) even (taken (else-of r) ∙ ap (judgedOf (a .limits .bound) (a .limits .most) (now (a .kinds)) (index s)) (sym same)) refl in
-    turned-then here on (predicted r vs even (Moved (n .0 .0)) (n .1))
+    let k = r .before .before .before .before in (
+      (λ vs even.
+          let on = m .read-on .ensures (a .limits .bound) (a .limits .most) (now (a .kinds)) vs (now (a .registers)) (index s) even (taken (else-of r) ∙ ap (judgedOf (a .limits .bound) (a .limits .most) (now (a .kinds)) (index s)) (sym same)) refl in
+          turned-then here on (predicted r vs even (Moved (n .0 .0)) (n .1))),
+      k .note .ensures (now (a .program)) (s .pre .4) (waiting k),
+    )
 
 pub predict-next-spec : {M : Type 1} → statement M
 predict-next-spec =
@@ -131,11 +162,16 @@ predict-next-spec =
     sub-i
     shared-slice-read-look
     cast-look
+    sub-word-at
+    word-at-requires
+    note-requires
     predict-requires
     enum-known-n
     enum-known-next
     read-on-requires
     same-length
-    returns-2
     same-length-2
+    returns-2
+    same-length-3
+    same-length-4
     returns-3)

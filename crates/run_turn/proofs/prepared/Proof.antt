@@ -4,6 +4,7 @@ use mathlib.Core.List.{[], _∷_}
 use lib.IntN.{pos}
 use borrow.Author.Needs.{needs}
 use denote.Ref.{now}
+use Rattle.theory_program.specs.Parts.{addOperation, evaluateOperation}
 use Rattle.run_moves.specs.declared.Run.{Run}
 use Rattle.run_moves.specs.declared.Step.{Step}
 use Rattle.run_moves.specs.declared.Step.the-variants.{Moved, Blocked}
@@ -15,8 +16,8 @@ abbrev start : tie.After-adds → tie.Start
 start c = c .before .before .before
 
 -- what the add leads to
-added : (c : tie.After-adds) (t : Step) → c .adds .result ≡ t → (let a = start c .args in Stage (now (a .program)) (now (a .registers)) (a .run) 0 (now (a .registers)) t)
-added c t e = let a = start c .args in subst (Stage (now (a .program)) (now (a .registers)) (a .run) 0 (now (a .registers))) e (c .adds .ensures)
+added : (c : tie.After-adds) (t : Step) → c .adds .result ≡ t → (let a = start c .args in Stage (now (a .program)) (now (a .registers)) (a .run) addOperation (now (a .registers)) t)
+added c t e = let a = start c .args in subst (Stage (now (a .program)) (now (a .registers)) (a .run) addOperation (now (a .registers))) e (c .adds .ensures)
 
 abbrev adds-of : tie.After-evaluates → tie.After-adds
 adds-of c = c .before .before .before .before .before
@@ -26,8 +27,8 @@ abbrev next-of : tie.After-evaluates → Run
 next-of c = c .before .before .before .next .given .0 .0
 
 -- and the evaluate
-evaluated : (c : tie.After-evaluates) (t : Step) → c .evaluates .result ≡ t → (let a = start (adds-of c) .args in Stage (now (a .program)) (now (a .registers)) (next-of c) 1 (c .evaluates .last .0) t)
-evaluated c t e = let a = start (adds-of c) .args in subst (Stage (now (a .program)) (now (a .registers)) (next-of c) 1 (c .evaluates .last .0)) e (c .evaluates .ensures)
+evaluated : (c : tie.After-evaluates) (t : Step) → c .evaluates .result ≡ t → (let a = start (adds-of c) .args in Stage (now (a .program)) (now (a .registers)) (next-of c) evaluateOperation (c .evaluates .last .0) t)
+evaluated c t e = let a = start (adds-of c) .args in subst (Stage (now (a .program)) (now (a .registers)) (next-of c) evaluateOperation (c .evaluates .last .0)) e (c .evaluates .ensures)
 
 adds-requires : tie.Need-adds-requires
 adds-requires c κs = c .before .before .pre

@@ -16,7 +16,7 @@ use Rattle.run_turn.proofs.turn.Statement.{statement}
 use Rattle.run_turn.proofs.turn.Tie as tie
 
 abbrev start : tie.After-prepared → tie.Start
-start c = c .before .before .before .before .before
+start c = c .before .before .before .before .before .before
 
 -- what the add and the evaluate lead to
 prepared : (c : tie.After-prepared) (t : Onward) → c .prepared .result ≡ t → (let a = start c .args in Prepared (now (a .program)) (now (a .registers)) (a .run) (c .prepared .last .0) t)
@@ -30,11 +30,11 @@ counted c next e =
     went-after (any-taken n) (s .pre .0 .running) (prepared c (Going next) e 64 n (63 ∷ []) (pos 0 ∷ []) 0 (now (s .args .places)) refl)
 
 abbrev prepared-of : tie.After-last → tie.After-prepared
-prepared-of c = c .before .before .before .before .before .before .before
+prepared-of c = c .before .before .before .before .before .before .before .before
 
 -- the run from which the move behind them is made
 abbrev next-of : tie.After-last → Run
-next-of c = c .before .before .before .before .next .given .0 .0
+next-of c = c .before .before .before .before .before .next .given .0 .0
 
 abbrev Passed : tie.After-last → Step → Type 0
 Passed c t =
@@ -44,17 +44,17 @@ Passed c t =
     Passes (Low (now (a .program))) (l .bound) (l .most) (now (a .program)) (now (a .kinds)) (now (a .values)) (next-of c .tokens - l .from) (r .prepared .last .0) (now (a .places)) (next-of c) (c .last .last .0) (c .last .last .1 .0) t
 
 passed : (c : tie.After-last) (t : Step) → c .last .result ≡ t → Passed c t
-passed c t e = subst (Passed c) e (c .last .ensures)
+passed c t e = subst (Passed c) e (c .last .ensures .0)
 
 -- the index from which it goes on
 index : (c : tie.After-last) → (let a = start (prepared-of c) .args in next-of c .tokens - a .limits .from ≡ a .run .tokens - a .limits .from + (next-of c .tokens - a .run .tokens))
 index c =
     let r = prepared-of c in
-    let n = c .before .before .before .before .next .given in
+    let n = c .before .before .before .before .before .next .given in
     omega (arith, counted r (n .0 .0) (n .1) .0, start r .pre .1)
 
 prepared-requires : tie.Need-prepared-requires
-prepared-requires c κs = let s = c .before .before .before .before in (now (s .args .places), s .pre .0 .running)
+prepared-requires c κs = let s = c .before .before .before .before .before in (now (s .args .places), s .pre .0 .running)
 
 enum-known-at : tie.Need-enum-known-at
 enum-known-at c = search needs
@@ -64,12 +64,12 @@ enum-known-next c = search needs
 
 last-requires : tie.Need-last-requires
 last-requires c κs =
-    let n = c .before .before .before .next .given in
-    let r = c .before .before .before .before .before .before in
+    let n = c .before .before .before .before .next .given in
+    let r = c .before .before .before .before .before .before .before in
     let s = start r in
     let p = s .pre .0 in
     let k = counted r (n .0 .0) (n .1) in
-    (record { running = k .1; few = p .few; even = p .even; alone = p .alone }, omega (arith, k .0, s .pre .1))
+    (record { running = k .1; few = p .few; even = p .even; alone = p .alone }, omega (arith, k .0, s .pre .1), s .pre .2)
 
 enum-known-n : tie.Need-enum-known-n
 enum-known-n c = search needs
@@ -87,7 +87,7 @@ returns c =
     let s = start r in
     let a = s .args in
     let l = a .limits in
-    prepared r (Over (n .0 .0) (n .0 .1 .0)) (n .1) (l .bound) (l .most) (now (a .kinds)) (now (a .values)) (a .run .tokens - l .from) (now (a .places)) (s .pre .0 .even)
+    (prepared r (Over (n .0 .0) (n .0 .1 .0)) (n .1) (l .bound) (l .most) (now (a .kinds)) (now (a .values)) (a .run .tokens - l .from) (now (a .places)) (s .pre .0 .even), s .pre .2)
 
 same-length-2 : tie.Need-same-length-2
 same-length-2 c = search needs
@@ -97,14 +97,14 @@ same-length-3 c = search needs
 
 returns-2 : tie.Need-returns-2
 returns-2 c =
-    let v = c .before .before .before .before .before .before in
+    let v = c .before .before .before .before .before .before .before .before in
     let k = c .before .n .given in
-    let n = v .before .before .before .before .next .given in
+    let n = v .before .before .before .before .before .next .given in
     let r = prepared-of v in
     let s = start r in
     let a = s .args in
     let l = a .limits in
-    went-ends (prepared r (Going (n .0 .0)) (n .1) (l .bound) (l .most) (now (a .kinds)) (now (a .values)) (a .run .tokens - l .from) (now (a .places)) (s .pre .0 .even)) (index v) (v .last .last .0) (v .last .last .1 .0) (k .0 .0) (passed v (Blocked (k .0 .0)) (k .1))
+    (went-ends (prepared r (Going (n .0 .0)) (n .1) (l .bound) (l .most) (now (a .kinds)) (now (a .values)) (a .run .tokens - l .from) (now (a .places)) (s .pre .0 .even)) (index v) (v .last .last .0) (v .last .last .1 .0) (k .0 .0) (passed v (Blocked (k .0 .0)) (k .1)), v .last .ensures .1)
 
 same-length-4 : tie.Need-same-length-4
 same-length-4 c = search needs
@@ -112,16 +112,22 @@ same-length-4 c = search needs
 same-length-5 : tie.Need-same-length-5
 same-length-5 c = search needs
 
+same-length-6 : tie.Need-same-length-6
+same-length-6 c = search needs
+
+same-length-7 : tie.Need-same-length-7
+same-length-7 c = search needs
+
 returns-3 : tie.Need-returns-3
 returns-3 c =
-    let v = c .before .before .before .before .before .before in
+    let v = c .before .before .before .before .before .before .before .before in
     let k = c .before .after .given in
-    let n = v .before .before .before .before .next .given in
+    let n = v .before .before .before .before .before .next .given in
     let r = prepared-of v in
     let s = start r in
     let a = s .args in
     let l = a .limits in
-    went-turns (went-went (prepared r (Going (n .0 .0)) (n .1) (l .bound) (l .most) (now (a .kinds)) (now (a .values)) (a .run .tokens - l .from) (now (a .places)) (s .pre .0 .even)) (index v) (passed v (Moved (k .0 .0)) (k .1)))
+    (went-turns (went-went (prepared r (Going (n .0 .0)) (n .1) (l .bound) (l .most) (now (a .kinds)) (now (a .values)) (a .run .tokens - l .from) (now (a .places)) (s .pre .0 .even)) (index v) (passed v (Moved (k .0 .0)) (k .1))), v .last .ensures .1)
 
 pub turn-spec : {M : Type 1} → statement M
 turn-spec =
@@ -137,7 +143,9 @@ turn-spec =
     returns
     same-length-2
     same-length-3
-    returns-2
     same-length-4
+    returns-2
     same-length-5
+    same-length-6
+    same-length-7
     returns-3)

@@ -22,16 +22,8 @@ returns : tie.Need-returns
 returns c =
     let w = c .before .before .word-at in
     let s = c .before .before .before .before .before .before in
-    let ws = now (s .args .program) in
-    let ks = now (s .args .kinds) in
-    let vs = now (s .args .values) in
-    let m = now (s .args .registers) in
-    let ps = now (s .args .places) in
-    let out = now (s .args .sheet) in
-    let n = s .args .n in
-    let k = s .args .k in
     let f = c .before .lacking in
-    whole-lacking ws ks vs m ps n k (s .pre .1) out (w .result) (f .result) (w .ensures .0) (f .ensures) (c .if1 .taken)
+    whole-lacking _ (now (s .args .kinds)) (now (s .args .values)) _ _ _ _ (s .pre .1) (now (s .args .sheet)) _ _ (w .ensures .0) (f .ensures) (c .if1 .taken)
 
 open-requires : tie.Need-open-requires
 open-requires c κs =
@@ -63,18 +55,10 @@ node-requires : tie.Need-node-requires
 node-requires c κs =
     let d = c .before .before .before .before in
     let s = d .before .before .before .before .before .before .before .before .before in
-    let ws = now (s .args .program) in
-    let ks = now (s .args .kinds) in
-    let vs = now (s .args .values) in
-    let m = now (s .args .registers) in
-    let ps = now (s .args .places) in
-    let out = now (s .args .sheet) in
-    let n = s .args .n in
-    let k = s .args .k in
     let r = room d in
     let w = d .before .before .before .before .before .word-at in
     let o = d .«open» in
-    whole-in ws ks vs m ps n k (s .pre .1) out (r .0) (r .1) (s .pre .2) (s .pre .3) (o .last .0) (o .last .1 .0) (o .ensures) (w .result) (w .ensures .0) (s .pre .0)
+    whole-in _ _ _ _ _ _ _ (s .pre .1) (now (s .args .sheet)) (r .0) (r .1) (s .pre .2) (s .pre .3) _ _ (o .ensures) _ (w .ensures .0) (s .pre .0)
 
 -- the start symbol's node, by what was answered
 walked-as : (c : tie.After-node) (b : Bool) → c .node .result ≡ b
@@ -97,21 +81,10 @@ over-requires : tie.Need-over-requires
 over-requires c κs =
     let h = c .before .before .before .before .before .before in
     let s = h .before .before .before .before .before .before .before .before .before .before .before .before .before .before in
-    let ws = now (s .args .program) in
-    let ks = now (s .args .kinds) in
-    let vs = now (s .args .values) in
-    let m = now (s .args .registers) in
-    let ps = now (s .args .places) in
-    let out = now (s .args .sheet) in
-    let n = s .args .n in
-    let k = s .args .k in
     let r = room (h .before .before .before .before .before) in
     let w = h .before .before .before .before .before .before .before .before .before .before .word-at in
     let o = h .before .before .before .before .before .«open» in
-    let d = h .node in
-    let n₂ = d .last .1 .1 .1 .1 .1 .1 .0 in
-    let sheet = d .last .1 .1 .1 .1 .1 .0 in
-    whole-ended ws ks vs m ps n k (s .pre .1) out (r .0) (r .1) (s .pre .2) (s .pre .3) (o .last .0) (o .last .1 .0) (o .ensures) (w .result) (w .ensures .0) (d .last .0) (d .last .1 .0) sheet n₂ (walked-as h true (c .before .before .before .if2 .taken)) (s .pre .0)
+    whole-ended _ _ _ _ _ _ _ (s .pre .1) _ (r .0) (r .1) (s .pre .2) (s .pre .3) _ _ (o .ensures) _ (w .ensures .0) _ _ _ _ (walked-as h true (c .before .before .before .if2 .taken)) (s .pre .0)
 
 same-length : tie.Need-same-length
 same-length c = search needs
@@ -120,21 +93,10 @@ returns-2 : tie.Need-returns-2
 returns-2 c =
     let h = c .before .before .before .before .before .before .before in
     let s = h .before .before .before .before .before .before .before .before .before .before .before .before .before .before in
-    let ws = now (s .args .program) in
-    let ks = now (s .args .kinds) in
-    let vs = now (s .args .values) in
-    let m = now (s .args .registers) in
-    let ps = now (s .args .places) in
-    let out = now (s .args .sheet) in
-    let n = s .args .n in
-    let k = s .args .k in
     let r = room (h .before .before .before .before .before) in
     let w = h .before .before .before .before .before .before .before .before .before .before .word-at in
     let o = h .before .before .before .before .before .«open» in
-    let d = h .node in
-    let n₂ = d .last .1 .1 .1 .1 .1 .1 .0 in
-    let sheet = d .last .1 .1 .1 .1 .1 .0 in
-    whole-over ws ks vs m ps n k (s .pre .1) out (r .0) (r .1) (s .pre .2) (s .pre .3) (o .last .0) (o .last .1 .0) (o .ensures) (w .result) (w .ensures .0) (d .last .0) (d .last .1 .0) sheet n₂ (walked-as h true (c .before .before .before .before .if2 .taken)) (c .over .result) (c .over .ensures)
+    whole-over _ _ _ _ _ _ _ (s .pre .1) _ (r .0) (r .1) (s .pre .2) (s .pre .3) _ _ (o .ensures) _ (w .ensures .0) _ _ _ _ (walked-as h true (c .before .before .before .before .if2 .taken)) (c .over .result) (c .over .ensures)
 
 array-read-t18 : tie.Need-array-read-t18
 array-read-t18 c = search needs
@@ -152,21 +114,10 @@ returns-3 : tie.Need-returns-3
 returns-3 c =
     let h = c .before .before .before in
     let s = h .before .before .before .before .before .before .before .before .before .before .before .before .before .before in
-    let ws = now (s .args .program) in
-    let ks = now (s .args .kinds) in
-    let vs = now (s .args .values) in
-    let m = now (s .args .registers) in
-    let ps = now (s .args .places) in
-    let out = now (s .args .sheet) in
-    let n = s .args .n in
-    let k = s .args .k in
     let r = room (h .before .before .before .before .before) in
     let w = h .before .before .before .before .before .before .before .before .before .before .word-at in
     let o = h .before .before .before .before .before .«open» in
-    let d = h .node in
-    let n₂ = d .last .1 .1 .1 .1 .1 .1 .0 in
-    let sheet = d .last .1 .1 .1 .1 .1 .0 in
-    whole-failed ws ks vs m ps n k (s .pre .1) out (r .0) (r .1) (s .pre .2) (s .pre .3) (o .last .0) (o .last .1 .0) (o .ensures) (w .result) (w .ensures .0) (d .last .0) (d .last .1 .0) sheet n₂ (walked-as h false (c .if2 .left))
+    whole-failed _ _ _ _ _ _ _ (s .pre .1) _ (r .0) (r .1) (s .pre .2) (s .pre .3) _ _ (o .ensures) _ (w .ensures .0) _ _ _ _ (walked-as h false (c .if2 .left))
 
 pub segment-spec : {M : Type 1} → statement M
 segment-spec =

@@ -3,7 +3,7 @@ use lib.Seq.{length-take-le}
 use denote.Ref.{now}
 use lib.ListN.{getD}
 use Prim.Native.Nat.{_≤_}
-use Rattle.theory_program.specs.Parts.{headOperation}
+use Rattle.theory_program.specs.Parts.{headOperation, removeOperation}
 use Rattle.sheet_record.specs.Recording.{Inner}
 use Rattle.sheet_steps.specs.Numbers.{low, walkedAs}
 use Rattle.sheet_steps.specs.Leaving.{Leaves}
@@ -41,7 +41,8 @@ depart-requires c κs =
     let ps = now (s .args .places) in
     let n = now (s .args .numbers) in
     let run = (c .before .before .before) .run-of in
-    (subst (λ z. Inner ws (low 6 n m) (low 7 n ps) z) (sym (run .ensures)) (s .pre .inner), subst (λ z. headOperation (getD ws (z .at) 0) ≡ 5) (sym (run .ensures)) (s .pre .five), s .pre .room, subst (λ z. s .args .before ≤ z .tokens) (sym (run .ensures)) (s .pre .earlier), s .pre .few)
+    let removes = subst (λ z. headOperation (getD ws (z .at) 0) ≡ removeOperation) (sym (run .ensures)) (s .pre .five) in
+    (subst (λ z. Inner ws (low 6 n m) (low 7 n ps) z) (sym (run .ensures)) (s .pre .inner), removes, s .pre .room, subst (λ z. s .args .before ≤ z .tokens) (sym (run .ensures)) (s .pre .earlier), s .pre .few)
 
 store-end-requires : tie.Need-store-end-requires
 store-end-requires c κs = search needs

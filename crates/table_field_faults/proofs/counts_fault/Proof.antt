@@ -1,4 +1,10 @@
-use Rattle.table_fields.proofs.Demands.{equal-met, equal-not, atMost-met, atMost-not, equal-yes, equal-no}
+use Rattle.table_fields.specs.Demand.{ifEqual}
+use Rattle.meaning.specs.Table.{byte}
+use lib.ListN.{length}
+use mathlib.Core.List.{List, [], _∷_}
+use Prim.Native.Nat.{ℕ, _+_}
+use Rattle.table_fields.proofs.Demands.{equal-yes, equal-no}
+use Rattle.table_fields.proofs.Tests.{Test, isSame, isAtMost, lowestOf, GivenBy, itself, passed, fails-at}
 use mathlib.Core.Path.{refl}
 use native.Mathlib.Omega.{arith}
 use borrow.Author.Needs.{needs}
@@ -6,9 +12,19 @@ use Rattle.table_fields.specs.Judge.{countsFault}
 use Rattle.table_field_faults.proofs.counts_fault.Statement.{statement}
 use Rattle.table_field_faults.proofs.counts_fault.Tie as tie
 
+abbrev tests : List ℕ → List Test
+tests b = isSame (length b) 2 4 ∷ isAtMost (byte b 0 + byte b 1) 8 4 ∷ []
+
+-- those of the start symbol
+abbrev of-start : ℕ → List ℕ → List Test
+of-start result b = isSame (byte b 0) 0 6 ∷ isAtMost 1 result 6 ∷ isAtMost result (byte b 1) 6 ∷ []
+
+by-tests : (n start result : ℕ) (b : List ℕ) → GivenBy (tests b) (ifEqual n start (lowestOf (of-start result b) 0) 0) (countsFault n start result b)
+unfolding lowestOf countsFault
+by-tests n start result b = record { is = refl }
+
 returns : tie.Need-returns
-unfolding countsFault
-returns c = equal-not _ _ _ _ (omega arith)
+returns c = fails-at (by-tests _ _ _ _) 0 (omega arith)
 
 shared-slice-read-wide : tie.Need-shared-slice-read-wide
 shared-slice-read-wide c = search needs
@@ -26,28 +42,22 @@ add-if2 : tie.Need-add-if2
 add-if2 c = search needs
 
 returns-2 : tie.Need-returns-2
-unfolding countsFault
-returns-2 c = equal-met _ _ _ _ (omega arith) (atMost-not _ _ _ _ (omega arith))
+returns-2 c = fails-at (by-tests _ _ _ _) 1 (omega arith)
 
 returns-3 : tie.Need-returns-3
-unfolding countsFault
-returns-3 c = equal-met _ _ _ _ (omega arith) (atMost-met _ _ _ _ (omega arith) (equal-no _ _ _ _ (omega arith) (refl)))
+returns-3 c = passed (by-tests _ _ _ _) (omega arith) (equal-no _ _ _ _ (omega arith) refl)
 
 returns-4 : tie.Need-returns-4
-unfolding countsFault
-returns-4 c = equal-met _ _ _ _ (omega arith) (atMost-met _ _ _ _ (omega arith) (equal-yes _ _ _ _ (omega arith) (equal-not _ _ _ _ (omega arith))))
+returns-4 c = passed (by-tests _ _ _ _) (omega arith) (equal-yes _ _ _ _ (omega arith) (fails-at (itself _ _) 0 (omega arith)))
 
 returns-5 : tie.Need-returns-5
-unfolding countsFault
-returns-5 c = equal-met _ _ _ _ (omega arith) (atMost-met _ _ _ _ (omega arith) (equal-yes _ _ _ _ (omega arith) (equal-met _ _ _ _ (omega arith) (atMost-not _ _ _ _ (omega arith)))))
+returns-5 c = passed (by-tests _ _ _ _) (omega arith) (equal-yes _ _ _ _ (omega arith) (fails-at (itself _ _) 1 (omega arith)))
 
 returns-6 : tie.Need-returns-6
-unfolding countsFault
-returns-6 c = equal-met _ _ _ _ (omega arith) (atMost-met _ _ _ _ (omega arith) (equal-yes _ _ _ _ (omega arith) (equal-met _ _ _ _ (omega arith) (atMost-met _ _ _ _ (omega arith) (atMost-not _ _ _ _ (omega arith))))))
+returns-6 c = passed (by-tests _ _ _ _) (omega arith) (equal-yes _ _ _ _ (omega arith) (fails-at (itself _ _) 2 (omega arith)))
 
 returns-7 : tie.Need-returns-7
-unfolding countsFault
-returns-7 c = equal-met _ _ _ _ (omega arith) (atMost-met _ _ _ _ (omega arith) (equal-yes _ _ _ _ (omega arith) (equal-met _ _ _ _ (omega arith) (atMost-met _ _ _ _ (omega arith) (atMost-met _ _ _ _ (omega arith) (refl))))))
+returns-7 c = passed (by-tests _ _ _ _) (omega arith) (equal-yes _ _ _ _ (omega arith) (passed (itself _ _) (omega arith) refl))
 
 pub counts-fault-spec : {M : Type 1} → statement M
 counts-fault-spec =

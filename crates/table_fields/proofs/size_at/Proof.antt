@@ -41,7 +41,7 @@ returns-2 c = (λ h. absurd (omega arith), λ h. omega arith)
 
 returns-3 : tie.Need-returns-3
 unfolding lengthAt
-returns-3 c = (λ h. record { told = omega arith; inside = omega arith }, λ h. absurd (omega arith))
+returns-3 c = (λ h. record { sizeIs = omega arith; inside = omega arith }, λ h. absurd (omega arith))
 
 pub size-at-spec : {M : Type 1} → statement M
 size-at-spec =

@@ -31,7 +31,7 @@ read-production-requires c κs =
     let now = lp .loop .inv .0 in
     let ready = lp .before .before .before .pre .0 .ready in
     let more = test .if1 .taken in
-    (more, ready .short, (λ h. now .over h more), now .other more, ready .small, ready .first, ready .second, now .kept, now .kept-offsets, now .rules, now .conditions, lp .loop .inv .1 .told .size, ready .few)
+    (more, ready .short, (λ h. now .over h more), now .other more, ready .small, ready .first, ready .second, now .kept, now .kept-offsets, now .rules, now .conditions, lp .loop .inv .1 .sets .size, ready .few)
 
 refused-requires : tie.Need-refused-requires Inv-loop μ-loop
 refused-requires c κs =
@@ -73,7 +73,7 @@ returns-3 : tie.Need-returns-3 Inv-loop μ-loop
 returns-3 c =
     let ended = c .before in
     let lp = ended .before .before in
-    (answer-whole _ _ _ _ _ _ _ _ _ _ _ (lp .before .before .before .pre .0 .ready) (lp .loop .inv .0) (ended .if1 .left) (c .if3 .left), lp .loop .inv .1 .told)
+    (answer-whole _ _ _ _ _ _ _ _ _ _ _ (lp .before .before .before .pre .0 .ready) (lp .loop .inv .0) (ended .if1 .left) (c .if3 .left), lp .loop .inv .1 .sets)
 
 pub read-productions-spec : {M : Type 1} → statement M
 read-productions-spec =

@@ -1,80 +1,50 @@
-use Prim.Native.Nat.{ℕ, _+_, _-_, _*_, _≤_, _<_}
-use mathlib.Core.Path.{_≡_, sym, _∙_, ap}
-use mathlib.Core.List.{List}
-use mathlib.Core.Logic.{⊎-elim}
-use native.Mathlib.Omega.{arith}
-use lib.ListN.{getD}
-use borrow.Author.Tests.{eqb-true}
-use Rattle.table_fields.proofs.Cases.{lt-or-le}
+use mathlib.Core.Path.{sym}
+use mathlib.Core.Bool.{true≢false}
+use Rattle.table_sound_items.proofs.Full.{left-settled, one-settled, every-settled}
+use borrow.Author.Needs.{needs}
 use Rattle.table_sound_items.proofs.all_settled.Statement.{statement}
 use Rattle.table_sound_items.proofs.all_settled.Tie as tie
 
--- the words before k are all full where their sum is the largest there can be
-abbrev Full : List ℕ → ℕ → ℕ → Type 0
-Full words sum k = sum ≡ 65535 * k → (j : ℕ) → j < k → getD words j 0 ≡ 65535
+element-copy-out-if1 : tie.Need-element-copy-out-if1
+element-copy-out-if1 c = search needs
 
-full-more : (words : List ℕ) (sum k x : ℕ) → sum ≤ 65535 * k → Full words sum k → x ≡ getD words k 0 → x < 65536 → Full words (sum + x) (k + 1)
-full-more words sum k x l h e m q j n =
-    let most : x ≡ 65535 = omega arith in
-    ⊎-elim
-    (λ a. h (omega arith) j a)
-    (λ a. let here : j ≡ k = omega arith in ap (λ (i : ℕ). getD words i 0) here ∙ sym e ∙ most)
-    (lt-or-le j k)
+returns : tie.Need-returns
+returns c = λ e. absurd (true≢false (sym e))
 
-abbrev Inv-loop : tie.InvT-loop
-Inv-loop settled width sum₀ k₀ sum k = (k ≤ width + 1) × (sum ≤ 65535 * k) × Full settled sum k
+returns-2 : tie.Need-returns-2
+returns-2 c = let el = c .before in λ e. left-settled (el .before .before .args .settled .now) _ (el .if1 .left) (c .if2 .taken)
 
-abbrev μ-loop : tie.MeasureT-loop
-μ-loop settled width sum₀ k₀ sum k = 13 - k
+element-copy-out-if3 : tie.Need-element-copy-out-if3
+element-copy-out-if3 c = search needs
 
-loop-holds : tie.Need-loop-holds Inv-loop μ-loop
-loop-holds c = (omega arith, omega arith, λ q j l. absurd (omega arith))
+returns-3 : tie.Need-returns-3
+returns-3 c = λ e. absurd (true≢false (sym e))
 
-mul-wide-word : tie.Need-mul-wide-word Inv-loop μ-loop
-mul-wide-word c = omega arith
+returns-4 : tie.Need-returns-4
+returns-4 c =
+    let el3 = c .before in
+    let el = el3 .before .before .before in
+    λ e. one-settled (el .before .before .args .settled .now) _ (el .if1 .left) (el3 .if3 .left) (c .if4 .taken)
 
-element-copy-out-wide-word : tie.Need-element-copy-out-wide-word Inv-loop μ-loop
-element-copy-out-wide-word c = omega arith
+others-full-requires : tie.Need-others-full-requires
+others-full-requires c κs = search needs
 
-wide-word-requires : tie.Need-wide-word-requires Inv-loop μ-loop
-wide-word-requires c κs = tt
-
-add-sum : tie.Need-add-sum Inv-loop μ-loop
-add-sum c = omega (arith, c .before .before .before .loop .inv .1, c .wide-word .ensures .1)
-
-add-k : tie.Need-add-k Inv-loop μ-loop
-add-k c = omega arith
-
-loop-less : tie.Need-loop-less Inv-loop μ-loop
-loop-less c = omega arith
-
-loop-again : tie.Need-loop-again Inv-loop μ-loop
-loop-again c =
-    let now = c .before .before .before .loop .inv in
-    (omega arith, omega (arith, now .1, c .wide-word .ensures .1), full-more (c .before .before .before .before .args .settled .now) _ _ _ (now .1) (now .2) (c .wide-word .ensures .0) (c .wide-word .ensures .1))
-
-mul-result : tie.Need-mul-result Inv-loop μ-loop
-mul-result c = omega (arith, c .before .loop .inv .0)
-
-returns : tie.Need-returns Inv-loop μ-loop
-returns c =
-    λ e k l.
-    let at = c .before in
-    at .loop .inv .2 (eqb-true (at .loop .sum) (65535 * at .loop .k) e) k (omega arith)
+returns-5 : tie.Need-returns-5
+returns-5 c =
+    let el3 = c .before .before in
+    let el = el3 .before .before .before in
+    let st = el .before .before in
+    λ e. every-settled (st .args .settled .now) _ (el .if1 .left) (el3 .if3 .left) (st .pre) (c .others-full .ensures e)
 
 pub all-settled-spec : {M : Type 1} → statement M
 all-settled-spec =
     tie.close
     (tie.spec
-    Inv-loop
-    μ-loop
-    loop-holds
-    mul-wide-word
-    element-copy-out-wide-word
-    wide-word-requires
-    add-sum
-    add-k
-    loop-less
-    loop-again
-    mul-result
-    returns)
+    element-copy-out-if1
+    returns
+    returns-2
+    element-copy-out-if3
+    returns-3
+    returns-4
+    others-full-requires
+    returns-5)

@@ -1,24 +1,24 @@
 use Prim.Native.Nat.{ℕ, _≤_, _<_, _-_}
 use native.Mathlib.Omega.{arith}
-use mathlib.Core.Path.{_≡_, refl, ap, _∙_}
+use mathlib.Core.Path.{_≡_, refl, sym, ap, _∙_}
 use lib.ListN.{length}
 use Rattle.meaning.specs.Sets.{singleton}
 use Rattle.outline.specs.Images.{Image, sizeAt, row-inside, symbol-inside}
 use Rattle.analysis.specs.Views.{members, next-small}
-use Rattle.analysis.specs.Tables.{Got, got-none}
 use Rattle.analysis.specs.Follows.{BaseFrom, EdgeFrom, Behind, filled-none, filled-then, filled-join, Rest, rest-start, rest-step, base-fine, base-more, base-end, Upward, up-start, up-step, edge-fine, edge-more, edge-end}
+use Rattle.analysis_follow.proofs.Quiet.{Quiet, quiet-none, quiet-next}
 use Rattle.analysis_follow.proofs.follow.behind_by.Statement.{statement}
 use Rattle.analysis_follow.proofs.follow.behind_by.Tie as tie
 
 abbrev Inv-loop : tie.InvT-loop
-Inv-loop rows k null first table₀ edges₀ up₀ rest₀ done₀ i₀ table edges up rest done i =
+Inv-loop rows k null first table₀ edges₀ up₀ rest₀ quiet₀ i₀ table edges up rest quiet i =
     (i ≤ sizeAt rows k) × (length table ≡ length table₀) × (length edges ≡ length edges₀)
-    × Rest (members (null .0)) first rows k i (rest .0) × Upward (members (null .0)) rows k i (up₀ .0) (up .0) × Got (done .0) (rest .0) table × Got (done .0) (up .0) edges
+    × Rest (members (null .0)) first rows k i (rest .0) × Upward (members (null .0)) rows k i (up₀ .0) (up .0) × Quiet (members (null .0)) first quiet (rest .0) (up .0) table edges
     × ((count : ℕ) → Image rows count → k < count
     → Behind (members (null .0)) first rows count (λ u. BaseFrom (members (null .0)) first rows u k i) (EdgeFrom (members (null .0)) rows k i) table₀ edges₀ table edges)
 
 abbrev μ-loop : tie.MeasureT-loop
-μ-loop rows k null first table₀ edges₀ up₀ rest₀ done₀ i₀ table edges up rest done i = i
+μ-loop rows k null first table₀ edges₀ up₀ rest₀ quiet₀ i₀ table edges up rest quiet i = i
 
 abbrev start : (c : tie.At-loop Inv-loop μ-loop) → tie.Start Inv-loop μ-loop
 start c = c .before .before .before .before .before .before
@@ -49,8 +49,7 @@ loop-holds c =
       refl,
       rest-start _ _ (row .image) _ (row .listed),
       up-start _ (row .image) _ (row .listed) _,
-      got-none _ _,
-      got-none _ _,
+      quiet-none _ _ _ _ _ _,
       λ count image lt. record { base = filled-none _ (λ u. base-end _ _ image _ lt u _); edge = filled-none _ (λ b. edge-end _ image _ lt b _) },
     )
 
@@ -63,31 +62,60 @@ symbol-of-requires c κs =
     let row = start (lp .before) .pre .0 in
     symbol-inside (row .image) _ _ (row .listed) (inside lp)
 
-mark-requires : tie.Need-mark-requires Inv-loop μ-loop
-mark-requires c κs =
-    let so = c .before .before in
-    let at = so .before .before .before in
-    let iv = at .loop .inv in
-    (symbol so, iv .1 ∙ start at .pre .1, iv .2 ∙ start at .pre .2, iv .5, iv .6)
-
-begin-with-requires : tie.Need-begin-with-requires Inv-loop μ-loop
-begin-with-requires c κs = symbol (c .before .before .before)
-
-onward-requires : tie.Need-onward-requires Inv-loop μ-loop
-onward-requires c κs = symbol (c .before .before .before .before)
-
-still-requires : tie.Need-still-requires Inv-loop μ-loop
-still-requires c κs = tt
-
 loop-less : tie.Need-loop-less Inv-loop μ-loop
 loop-less c = omega arith
 
 loop-again : tie.Need-loop-again Inv-loop μ-loop
 loop-again c =
+    let so = c .before in
+    let lp = so .before .before in
+    let row = start (lp .before) .pre .0 in
+    let iv = lp .before .loop .inv in
+    let more = lp .loop-test .taken in
+    let lf = lp .before .before .before .before in
+    let one = lf .of-nonterminal .ensures ∙ ap singleton (lf .before .left-of .ensures) in
+    let e : lp .before .loop .quiet ≡ _ = sym (c .if1 .taken) ∙ so .symbol-of .ensures in
+    let small : lp .before .loop .quiet < 176 = omega (arith, symbol so, c .if1 .taken) in
+    let there = iv .5 .there small in
+    let edged = iv .5 .edged small in (
+      omega (arith, iv .0),
+      iv .1,
+      iv .2,
+      rest-step _ _ (row .image) _ (row .listed) _ more (iv .0) _ _ (iv .3) (rw e at (iv .5 .turned small)),
+      up-step _ (row .image) _ (row .listed) _ more (iv .0) _ _ _ (iv .4) (rw e at (iv .5 .handed small)),
+      iv .5,
+      λ count image lt.
+          record {
+            base = filled-then _ _ _ (iv .6 count image lt .base) (filled-join _ _ _ _ (rw e at there) (base-fine _ _ image _ lt _ more (iv .0) _ (iv .3))) (λ u sub b g. base-more _ _ image _ lt _ more (iv .0) _ (iv .3) u _ _ sub b g);
+            edge = filled-then _ _ _ (iv .6 count image lt .edge) (filled-join _ _ _ _ (rw e at edged) (edge-fine _ image _ lt _ more (iv .0) _ one _ (iv .4))) (λ b sub f g. edge-more _ image _ lt _ more (iv .0) _ one _ (iv .4) b _ _ sub f g);
+          },
+    )
+
+mark-requires : tie.Need-mark-requires Inv-loop μ-loop
+mark-requires c κs =
+    let so = c .before .before .before in
+    let at = so .before .before .before in
+    let iv = at .loop .inv in
+    (symbol so, iv .1 ∙ start at .pre .1, iv .2 ∙ start at .pre .2)
+
+begin-with-requires : tie.Need-begin-with-requires Inv-loop μ-loop
+begin-with-requires c κs = symbol (c .before .before .before .before)
+
+onward-requires : tie.Need-onward-requires Inv-loop μ-loop
+onward-requires c κs = symbol (c .before .before .before .before .before)
+
+still-requires : tie.Need-still-requires Inv-loop μ-loop
+still-requires c κs = tt
+
+loop-less-2 : tie.Need-loop-less-2 Inv-loop μ-loop
+loop-less-2 c = omega arith
+
+loop-again-2 : tie.Need-loop-again-2 Inv-loop μ-loop
+loop-again-2 c =
     let on = c .before in
     let bw = on .before in
     let mk = bw .before in
-    let so = mk .before .before .before in
+    let so = mk .before .before .before .before in
     let lp = so .before .before in
     let row = start (lp .before) .pre .0 in
     let iv = lp .before .loop .inv in
@@ -96,19 +124,17 @@ loop-again c =
     let one = lf .of-nonterminal .ensures ∙ ap singleton (lf .before .left-of .ensures) in
     let e = so .symbol-of .ensures in
     let marked = mk .mark .ensures .0 in
-    let edged = mk .mark .ensures .1 in
-    let got = c .still .ensures _ _ (marked .1) (edged .1) in (
+    let edged = mk .mark .ensures .1 in (
       omega (arith, iv .0),
-      marked .0 .size ∙ iv .1,
-      edged .0 .size ∙ iv .2,
+      marked .size ∙ iv .1,
+      edged .size ∙ iv .2,
       rest-step _ _ (row .image) _ (row .listed) _ more (iv .0) _ _ (iv .3) (rw e at (bw .begin-with .ensures)),
       up-step _ (row .image) _ (row .listed) _ more (iv .0) _ _ _ (iv .4) (rw e at (on .onward .ensures)),
-      got .0,
-      got .1,
+      quiet-next _ _ _ _ _ _ _ _ _ _ _ _ marked edged (bw .begin-with .ensures) (on .onward .ensures) (c .still .ensures),
       λ count image lt.
           record {
-            base = filled-then _ _ _ (iv .7 count image lt .base) (filled-join _ _ _ _ (rw e at (marked .0)) (base-fine _ _ image _ lt _ more (iv .0) _ (iv .3))) (λ u sub b g. base-more _ _ image _ lt _ more (iv .0) _ (iv .3) u _ _ sub b g);
-            edge = filled-then _ _ _ (iv .7 count image lt .edge) (filled-join _ _ _ _ (rw e at (edged .0)) (edge-fine _ image _ lt _ more (iv .0) _ one _ (iv .4))) (λ b sub f g. edge-more _ image _ lt _ more (iv .0) _ one _ (iv .4) b _ _ sub f g);
+            base = filled-then _ _ _ (iv .6 count image lt .base) (filled-join _ _ _ _ (rw e at marked) (base-fine _ _ image _ lt _ more (iv .0) _ (iv .3))) (λ u sub b g. base-more _ _ image _ lt _ more (iv .0) _ (iv .3) u _ _ sub b g);
+            edge = filled-then _ _ _ (iv .6 count image lt .edge) (filled-join _ _ _ _ (rw e at edged) (edge-fine _ image _ lt _ more (iv .0) _ one _ (iv .4))) (λ b sub f g. edge-more _ image _ lt _ more (iv .0) _ one _ (iv .4) b _ _ sub f g);
           },
     )
 
@@ -116,7 +142,7 @@ returns : tie.Need-returns Inv-loop μ-loop
 returns c =
     let at = c .before in
     let e : at .loop .i ≡ 0 = omega arith in
-    λ count image lt. rw e at (at .loop .inv .7 count image lt)
+    λ count image lt. rw e at (at .loop .inv .6 count image lt)
 
 pub behind-by-spec : {M : Type 1} → statement M
 behind-by-spec =
@@ -130,10 +156,12 @@ behind-by-spec =
     loop-holds
     sub-i
     symbol-of-requires
+    loop-less
+    loop-again
     mark-requires
     begin-with-requires
     onward-requires
     still-requires
-    loop-less
-    loop-again
+    loop-less-2
+    loop-again-2
     returns)

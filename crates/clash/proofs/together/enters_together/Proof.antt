@@ -1,7 +1,7 @@
 use native.Mathlib.Omega.{arith}
 use Rattle.meaning.specs.Grammar.{productionAt}
 use Rattle.outline.specs.Outline.{grammarIn}
-use Rattle.clash.proofs.Laws.{ranges-free, differences-told, rank-small}
+use Rattle.clash.proofs.Laws.{ranges-free, differences-together, rank-small}
 use borrow.Author.Needs.{needs}
 use Rattle.clash.proofs.together.enters_together.Statement.{statement}
 use Rattle.clash.proofs.together.enters_together.Tie as tie
@@ -29,7 +29,7 @@ leaves-differences-requires c κs = search needs
 returns-2 : tie.Need-returns-2
 returns-2 c =
     let pre = c .before .before .before .before .before .pre in
-    differences-told _ _ (pre .0 .2) (pre .1 .0 .2) (omega (arith, c .before .if1 .left)) (c .leaves-differences .ensures)
+    differences-together _ _ (pre .0 .2) (pre .1 .0 .2) (omega (arith, c .before .if1 .left)) (c .leaves-differences .ensures)
 
 pub enters-together-spec : {M : Type 1} → statement M
 enters-together-spec =

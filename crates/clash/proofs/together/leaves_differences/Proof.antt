@@ -3,7 +3,7 @@ use Rattle.meaning.specs.Differences.{constrained}
 use Rattle.meaning.specs.Grammar.{productionAt}
 use Rattle.outline.specs.Outline.{grammarIn}
 use Rattle.clash_conditions.specs.Walk.{afterAll}
-use Rattle.clash.proofs.Laws.{stretch-slice, solved-told}
+use Rattle.clash.proofs.Laws.{stretch-slice, closed-solvable}
 use borrow.Author.Needs.{needs}
 use Rattle.clash.proofs.together.leaves_differences.Statement.{statement}
 use Rattle.clash.proofs.together.leaves_differences.Tie as tie
@@ -76,7 +76,7 @@ returns c =
     let earlier = productionAt g (st .args .earlier) in
     let p = stretch-slice (pre .2) _ refl in
     let q = stretch-slice (pre .3) _ refl in
-    solved-told later earlier (one .constrain-by .ensures .0 later p ∙ ap (afterAll constrained later) (start .start .ensures .0)) (two .constrain-by2 .ensures .0 earlier q) (p .fits) (q .fits) (c .satisfiable .ensures)
+    closed-solvable later earlier (one .constrain-by .ensures .0 later p ∙ ap (afterAll constrained later) (start .start .ensures .0)) (two .constrain-by2 .ensures .0 earlier q) (p .fits) (q .fits) (c .satisfiable .ensures)
 
 pub leaves-differences-spec : {M : Type 1} → statement M
 leaves-differences-spec =

@@ -1,5 +1,5 @@
 use native.Mathlib.Omega.{arith}
-use Rattle.clash_conditions.specs.Entry.{fieldSize}
+use Rattle.clash_conditions.specs.EntryConditions.{fieldSize}
 use borrow.Author.Needs.{needs}
 use Rattle.clash_conditions.proofs.entry.field_size.Statement.{statement}
 use Rattle.clash_conditions.proofs.entry.field_size.Tie as tie

@@ -8,7 +8,7 @@ use Rattle.meaning.specs.Grammar.{range}
 use Rattle.meaning.specs.Table.{byte, signed, constantAt}
 use Rattle.theory_sets.specs.Intervals.{entered}
 use Rattle.clash_conditions.specs.BoundWords.{biased}
-use Rattle.clash_conditions.specs.Entry.{entryHere, conditionHere, afterField, rankBy, raiseBy, lowerBy}
+use Rattle.clash_conditions.specs.EntryConditions.{entryHere, conditionHere, afterField, rankBy, raiseBy, lowerBy}
 use Rattle.clash_conditions.proofs.Laws as L
 use borrow.Author.Needs.{needs}
 use Rattle.clash_conditions.proofs.entry.narrow.Statement.{statement}

@@ -7,7 +7,7 @@ use lib.ListN.{length, take, drop}
 use Rattle.meaning.specs.Grammar.{Production}
 use Rattle.meaning.specs.Table.{byte}
 use Rattle.clash_conditions.specs.Walk.{Going, going-start, going-done, going-over, going-proper, going-inside, going-more}
-use Rattle.clash_conditions.specs.Entry.{rankBy, raiseBy, lowerBy, Stretch, stretch-inside}
+use Rattle.clash_conditions.specs.EntryConditions.{rankBy, raiseBy, lowerBy, Stretch, stretch-inside}
 use Rattle.clash_conditions.proofs.entry.narrow_by.Statement.{statement}
 use Rattle.clash_conditions.proofs.entry.narrow_by.Tie as tie
 
