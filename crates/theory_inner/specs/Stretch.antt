@@ -69,7 +69,10 @@ module _ (k : Kind) (m part : Stacks) (f : Fills k m part) where
   p-lent = omega arith
 
   pub paste-lent : lentOf (paste k part m) ≡ lentOf m
-  paste-lent = ap₂ (λ x y. record { maxRegisters = min x registersLimit; maxPlaces = min y placesLimit }) (pasted-size rn (registerBase k) (m .registers) (part .registers) r-lent (f .registerRoom) (f .registers)) (pasted-size pn (placeBase k) (m .places) (part .places) p-lent (f .placeRoom) (f .places))
+  paste-lent =
+      ap₂ (λ x y. record { maxRegisters = min x registersLimit; maxPlaces = min y placesLimit })
+      (pasted-size rn (registerBase k) (m .registers) (part .registers) r-lent (f .registerRoom) (f .registers))
+      (pasted-size pn (placeBase k) (m .places) (part .places) p-lent (f .placeRoom) (f .places))
 
   pub paste-above : above k (paste k part m) ≡ part
   paste-above =
