@@ -4,7 +4,7 @@ use native.Mathlib.Decide.{ℕ-discrete, decLt}
 use native.Mathlib.Omega.{arith}
 use mathlib.Core.Path.{_≡_, refl, sym, ap, ap₂, _∙_}
 use mathlib.Core.Logic.{_⊎_, inl, inr}
-use mathlib.Core.Bool.{Bool, true, false, _&&_, _||_}
+use mathlib.Core.Bool.{Bool, true, false, _&&_, _||_, and-false}
 use mathlib.Core.List.{List, [], _∷_, _++_}
 use borrow.Author.Tests.{eq-eqb, ne-eqb}
 use lib.Dec.{T, eqb, leb}
@@ -149,10 +149,6 @@ module _ (cs ds : List (Condition ℕ)) where
   one-compared : 3 ≤ after rankBy cs 0 + after rankBy ds 0 → all isRange (cs ++ ds) ≡ false
   one-compared l = all-both isRange cs ds ∙ go (decLt 1 (after rankBy cs 0))
     where
-      and-false : (b : Bool) → (b && false) ≡ false
-      and-false true = refl
-      and-false false = refl
-
       go : Dec (1 < after rankBy cs 0) → (all isRange cs && all isRange ds) ≡ false
       go (yes m) = ap (λ x. x && all isRange ds) (rank-compared cs 0 (omega arith) m)
       go (no m) = ap (λ x. all isRange cs && x) (rank-compared ds 0 (omega arith) (omega arith)) ∙ and-false (all isRange cs)

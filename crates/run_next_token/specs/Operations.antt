@@ -2,7 +2,7 @@
 use Prim.Native.Nat.{ℕ, _≤_}
 use native.Mathlib.Omega.{arith}
 use mathlib.Core.Path.{_≡_, refl, sym, ap, _∙_}
-use mathlib.Core.Bool.{Bool, true, false, _&&_, cond}
+use mathlib.Core.Bool.{Bool, false, _&&_, cond, and-false}
 use mathlib.Core.List.{List, [], _∷_}
 use lib.ListN.{getD}
 use lib.Dec.{eqb}
@@ -28,10 +28,6 @@ pub record Running (ws : List ℕ) (m : List ℤ) (ps : List ℕ) (run : Run) : 
   pub held : Held grammar ws lent m ps run config
 
 -- ---- the operation's number
-
-and-none : (a : Bool) → a && false ≡ false
-and-none true = refl
-and-none false = refl
 
 looks-right : (i : Instruction) (is : List Instruction) → looks (operation i) ≡ needsLook (i ∷ is)
 looks-right (add n) is = refl
@@ -78,7 +74,7 @@ module _ {g : Grammar} {ws : List ℕ} {lent : Lent} {m : List ℤ} {ps : List �
   finished-is = go (at-hand h)
     where
       go : AtHand h → eqb number nothingOperation ≡ isFinished c
-      go (some i x o n) = ap (λ k. eqb k nothingOperation) o ∙ (not-left i ∙ sym (ap finishedOf (x .frames) ∙ and-none (eqb (x .production) whole)))
+      go (some i x o n) = ap (λ k. eqb k nothingOperation) o ∙ (not-left i ∙ sym (ap finishedOf (x .frames) ∙ and-false (eqb (x .production) whole)))
       go (nothing below e w l) =
           let z : number ≡ nothingOperation = omega arith in
           ap (λ k. eqb k nothingOperation) z ∙ sym (ap finishedOf e)

@@ -3,7 +3,7 @@ use Prim.Native.Nat.{ℕ, zero, suc, _+_, _-_, _≤_, _<_}
 use native.Mathlib.Omega.{arith}
 use mathlib.Core.Path.{_≡_, refl, sym, ap, ap₂, _∙_, subst, subst₂}
 use mathlib.Core.Logic.{_⊎_, inl, inr}
-use mathlib.Core.Bool.{Bool, true, false, _&&_}
+use mathlib.Core.Bool.{Bool, true, false, _&&_, and-false}
 use mathlib.Core.List.{List}
 use lib.ListN.{length, getD, drop, drop-of-length-le}
 use lib.Dec.{T, eqb, ltb, leb}
@@ -39,10 +39,6 @@ SettlesBy g ws lent o m ps run (suc k) = (d : Config) × (o ≡ failed d (suc k)
 pub data Left (bound most : ℕ) (us : List ℕ) (vs : List ℤ) (g : Grammar) (lent : Lent) (i : ℕ) (d : Config) (o : Settled) : Type 0 where
   ahead : 1 ≡ judgedOf bound most us i (d .tokens) → o ≡ takeLooks bound most g lent (drop i (tokensFrom us vs)) d → Left bound most us vs g lent i d o
   behind : (u : Leaf) (n : ℕ) → n < d .tokens → o ≡ goingOn (advance (movesLimit - d .moves) g lent (comes u) n d) (takeLooks bound most g lent (drop i (tokensFrom us vs))) → Left bound most us vs g lent i d o
-
-and-false : (a : Bool) → a && false ≡ false
-and-false true = refl
-and-false false = refl
 
 module _ (bound most : ℕ) (us : List ℕ) (vs : List ℤ) (even : length us ≡ length vs) (g : Grammar) (lent : Lent) (i : ℕ) where
   abbrev after : Config → Settled

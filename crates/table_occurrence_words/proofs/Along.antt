@@ -62,13 +62,13 @@ module _ (rows₀ : List ℕ) (p : ℕ) (b : List ℕ) (terminals nonterminals c
     after : k - 1 + 1 ≡ k + 1 - 1
     after = omega (arith, a .least)
 
-    -- the words of a symbol that is told, where it stands
-    module _ (s bit′ input′ other′ : ℕ) (told : FoundAs terminals nonterminals carrying inherited synthesized s bit′ input′ other′) (e : s ≡ byte b k) where
+    -- the words of a symbol that was found, where it stands
+    module _ (s bit′ input′ other′ : ℕ) (found : FoundAs terminals nonterminals carrying inherited synthesized s bit′ input′ other′) (e : s ≡ byte b k) where
       input-here : input′ ≡ inputAt carrying inherited synthesized b (k - 1)
-      input-here = told .inputs (k - 1) (omega (arith, a .least)) ∙ ap (λ (x : ℕ). inputWord (k - 1) (countAt inherited x) (synthesizedAt carrying synthesized x)) (e ∙ byte-here)
+      input-here = found .inputs (k - 1) (omega (arith, a .least)) ∙ ap (λ (x : ℕ). inputWord (k - 1) (countAt inherited x) (synthesizedAt carrying synthesized x)) (e ∙ byte-here)
 
       other-here : other′ ≡ otherAt carrying inherited synthesized b (k - 1)
-      other-here = told .others (k - 1) (omega (arith, a .least)) ∙ ap (λ (x : ℕ). otherWord (k - 1) (countAt inherited x) (synthesizedAt carrying synthesized x)) (e ∙ byte-here)
+      other-here = found .others (k - 1) (omega (arith, a .least)) ∙ ap (λ (x : ℕ). otherWord (k - 1) (countAt inherited x) (synthesizedAt carrying synthesized x)) (e ∙ byte-here)
 
       filling-on : (inputs′ : List ℕ) → inputs′ ≡ set inputs (k - 1) input′ → Filling (inputAt carrying inherited synthesized b) 0 (k + 1 - 1) inputs′
       filling-on inputs′ q = subst (λ (i : ℕ). Filling (inputAt carrying inherited synthesized b) 0 i inputs′) after (rw q (filling-more _ _ _ _ (a .filling) (omega arith) _ input-here))
@@ -77,7 +77,7 @@ module _ (rows₀ : List ℕ) (p : ℕ) (b : List ℕ) (terminals nonterminals c
       others-on settled′ q = subst (λ (i : ℕ). Filling (otherAt carrying inherited synthesized b) 65535 i settled′) after (rw q (filling-more _ _ _ _ (a .fillingOthers) (omega arith) _ other-here))
 
       known-on : symbolsKnown terminals nonterminals b 2 ≡ symbolsKnown terminals nonterminals b (k + 1)
-      known-on = a .known ∙ all-pass _ b k more (ap (symbolKnown terminals nonterminals) (sym e) ∙ told .known)
+      known-on = a .known ∙ all-pass _ b k more (ap (symbolKnown terminals nonterminals) (sym e) ∙ found .known)
 
     module _ (start : ℕ) (is-start : start ≡ rowStart p) where
       row-on : Copied rows₀ p b (set rows (start + k) (byte b k)) (k + 1)
@@ -89,16 +89,16 @@ module _ (rows₀ : List ℕ) (p : ℕ) (b : List ℕ) (terminals nonterminals c
           → Along (set rows (start + k) (byte b k)) inputs′ settled′ word symbol bit input other (k + 1)
       along-again s inputs′ settled′ is-s small same q r =
           let in-range : symbol < 256 = omega arith in
-          let told = a .last in-range in
+          let found = a .last in-range in
           let e : symbol ≡ byte b k = sym same ∙ is-s in
           record {
             least = omega (arith, a .least);
             most = omega arith;
             copied = row-on;
             gathered = gathered-again _ _ _ _ _ (a .gathered) (symbols-from b k more) (λ n t. a .has in-range n (rw e t));
-            known = known-on symbol bit input other told e;
-            filling = filling-on symbol bit input other told e inputs′ q;
-            fillingOthers = others-on symbol bit input other told e settled′ r;
+            known = known-on symbol bit input other found e;
+            filling = filling-on symbol bit input other found e inputs′ q;
+            fillingOthers = others-on symbol bit input other found e settled′ r;
             last = a .last;
             has = a .has;
           }
@@ -107,17 +107,17 @@ module _ (rows₀ : List ℕ) (p : ℕ) (b : List ℕ) (terminals nonterminals c
       pub along-next :
           (s symbol′ bit′ input′ other′ word′ : ℕ) (inputs′ settled′ : List ℕ) → s ≡ byte b k → FoundAs terminals nonterminals carrying inherited synthesized s bit′ input′ other′ → symbol′ ≡ s → word′ ≡ bitOr word bit′
           → inputs′ ≡ set inputs (k - 1) input′ → settled′ ≡ set settled (k - 1) other′ → Along (set rows (start + k) (byte b k)) inputs′ settled′ word′ symbol′ bit′ input′ other′ (k + 1)
-      along-next s symbol′ bit′ input′ other′ word′ inputs′ settled′ e told same is-word q r =
+      along-next s symbol′ bit′ input′ other′ word′ inputs′ settled′ e found same is-word q r =
           record {
             least = omega (arith, a .least);
             most = omega arith;
             copied = row-on;
-            gathered = rw is-word (gathered-next _ _ _ _ _ _ _ (a .gathered) (symbols-from b k more) (rw e at (told .bits)));
-            known = known-on s bit′ input′ other′ told e;
-            filling = filling-on s bit′ input′ other′ told e inputs′ q;
-            fillingOthers = others-on s bit′ input′ other′ told e settled′ r;
-            last = λ l. rw same told;
-            has = λ l n t. rw is-word (or-right word bit′ n (rw (told .bits n) (rw same at t)));
+            gathered = rw is-word (gathered-next _ _ _ _ _ _ _ (a .gathered) (symbols-from b k more) (rw e at (found .bits)));
+            known = known-on s bit′ input′ other′ found e;
+            filling = filling-on s bit′ input′ other′ found e inputs′ q;
+            fillingOthers = others-on s bit′ input′ other′ found e settled′ r;
+            last = λ l. rw same found;
+            has = λ l n t. rw is-word (or-right word bit′ n (rw (found .bits n) (rw same at t)));
           }
 
       -- one that is not known
@@ -129,7 +129,7 @@ module _ (rows₀ : List ℕ) (p : ℕ) (b : List ℕ) (terminals nonterminals c
             kept = length-set rows (start + k) (byte b k) ∙ a .copied .kept;
             isKnown = sym (a .known ∙ all-fail _ b k more (ap (symbolKnown terminals nonterminals) (sym e) ∙ not-known));
             copied = λ q. absurd (true≢false (sym q));
-            told = λ q. absurd (true≢false (sym q));
+            worded = λ q. absurd (true≢false (sym q));
             inputsFilled = λ q. absurd (true≢false (sym q));
             othersFilled = λ q. absurd (true≢false (sym q));
           }
@@ -143,7 +143,7 @@ module _ (rows₀ : List ℕ) (p : ℕ) (b : List ℕ) (terminals nonterminals c
         kept = a .copied .kept;
         isKnown = sym (a .known ∙ all-none _ b k l);
         copied = λ q. subst (λ (i : ℕ). Copied rows₀ p b rows i) e (a .copied);
-        told = λ q. gathered-end _ _ _ _ (a .gathered) (symbols-none b k l);
+        worded = λ q. gathered-end _ _ _ _ (a .gathered) (symbols-none b k l);
         inputsFilled = λ q width w. filled _ _ _ _ _ (a .filling) (omega arith);
         othersFilled = λ q width w. filled _ _ _ _ _ (a .fillingOthers) (omega arith);
       }
@@ -158,7 +158,7 @@ placed-from rows₀ rows₁ p b terminals nonterminals carrying inherited synthe
       kept = r .kept;
       isKnown = r .isKnown;
       copied = λ q. let c = r .copied q in record { before = λ i h. c .before i h ∙ two .before i h; row = c .row; kept = c .kept };
-      told = r .told;
+      worded = r .worded;
       inputsFilled = r .inputsFilled;
       othersFilled = r .othersFilled;
     }

@@ -34,6 +34,6 @@ pub record RightPlaced (rows₀ : List ℕ) (p : ℕ) (b : List ℕ) (terminals 
   pub kept : length rows ≡ 2048
   pub isKnown : known ≡ symbolsKnown terminals nonterminals b 2
   pub copied : known ≡ true → Copied rows₀ p b rows (length b)
-  pub told : known ≡ true → RightWord b word
+  pub worded : known ≡ true → RightWord b word
   pub inputsFilled : known ≡ true → (width : ℕ) → width + 2 ≡ length b → Filled (inputAt carrying inherited synthesized b) width 0 inputs
   pub othersFilled : known ≡ true → (width : ℕ) → width + 2 ≡ length b → Filled (otherAt carrying inherited synthesized b) width 65535 settled

@@ -73,7 +73,7 @@ pub record FieldRead (t : List ℕ) (at p terminals nonterminals carrying : ℕ)
   pub judged : ProductionJudged t at p terminals nonterminals number
   pub kept : length rows ≡ 2048
   pub copied : number ≡ 0 → Copied rows₀ p (bodyIn t at) rows (length (bodyIn t at))
-  pub told : number ≡ 0 → RightWord (bodyIn t at) word
+  pub worded : number ≡ 0 → RightWord (bodyIn t at) word
   pub placed : number ≡ 0 → WordsPlaced t at carrying inherited synthesized inputs settled
 
 -- the counts that the arrays hold at the positions of a production are at most 8 together

@@ -2,6 +2,7 @@
 ghost use mathlib.Core.Path.{_≡_};
 ghost use Prim.Native.Nat.{ℕ, _+_, _<_, _≤_};
 ghost use lib.ListN.{length, replicate};
+ghost use Rattle.meaning.specs.Limits.{tableLimit};
 ghost use Rattle.meaning.specs.Table.{byte};
 ghost use Rattle.table_counts.specs.Counted.{SmallCounts};
 ghost use Rattle.table_items.specs.Progress.{Next};
@@ -12,6 +13,7 @@ use limits::NONTERMINALS;
 use limits::POSITIONS;
 use limits::PRODUCTIONS;
 use limits::ROWS;
+use nonterminal_set::NonterminalSet;
 use outline::Sizes;
 use table_items::Items;
 use table_items::read_items;
@@ -112,7 +114,7 @@ fn read_body(
 // What is read of the field of a production: the number of its refusal, or 0, and the word of its right side.
 struct Field {
     number: u8,
-    word: u64,
+    word: NonterminalSet,
 }
 
 // The field of production p, with its row, the word of its right side and the words at its positions.
@@ -130,11 +132,14 @@ fn read_field(
     requires { ⌜ (at < length (now table)) × (0 < p → byte (now table) at ≡ 3) × (byte (now table) at ≡ 6 → ⊥) × SmallCounts (now inherited) (now synthesized) (sizes .nonterminals)
         × (sizes .nonterminals ≤ 48) × (length (now rows) ≡ 2048) × (now inputs ≡ replicate 13 0) × (now settled ≡ replicate 13 65535) ⌝ }
     ensures { λ f. ⌜ FieldRead (now (table .entry)) at p (sizes .terminals) (sizes .nonterminals) (sizes .carrying .0) (now (inherited .entry)) (now (synthesized .entry))
-        (now (rows .entry)) (now (rows .exit)) (now (inputs .exit)) (now (settled .exit)) (f .number) (f .word) ⌝ }
+        (now (rows .entry)) (now (rows .exit)) (now (inputs .exit)) (now (settled .exit)) (f .number) (f .word .0) ⌝ }
 {
     let number = head_number(table, at, p, sizes.nonterminals);
     if number != 0 {
-        return Field { number, word: 0 };
+        return Field {
+            number,
+            word: NonterminalSet::EMPTY,
+        };
     }
     let from = at + 3;
     let end = at + 5 + table_fields::wide(table[at + 4]);
@@ -149,7 +154,7 @@ fn read_field(
         inputs,
         settled,
     );
-    let word = right.word.0;
+    let word = right.word;
     if !right.known {
         return Field { number: 5, word };
     }
@@ -185,7 +190,7 @@ pub fn read_production(
     if field.number != 0 {
         return refused_after(before, field.number);
     }
-    words[p] = field.word;
+    words[p] = field.word.0;
     offsets[p] = at as u32;
     read_body(table, before, sizes.carrying, inh, syn, &inputs, &mut full)
 }

@@ -61,11 +61,7 @@ pub fn four_at(body: &[u8], at: usize) -> usize
     requires { ⌜ at + 4 ≤ length (now body) ⌝ }
     ensures { λ r. ⌜ (r ≡ fourAt (now (body .entry)) at) × (r < 4294967296) ⌝ }
 {
-    let a = table_fields::wide(body[at]);
-    let b = table_fields::wide(body[at + 1]);
-    let c = table_fields::wide(body[at + 2]);
-    let d = table_fields::wide(body[at + 3]);
-    ((a * 256 + b) * 256 + c) * 256 + d
+    value::whole_word(body, at) as usize
 }
 
 pub fn is_noted(note: &[u8; POSITIONS], position: usize, attribute: usize) -> bool

@@ -64,7 +64,7 @@ read-right-requires c κs =
 
 returns-2 : tie.Need-returns-2
 returns-2 c =
-    let rr = c .before .before in
+    let rr = c .before .before .before in
     let wd = rr .before .before .before .before .before in
     let el = wd .before .before in
     let hd = el .before in
@@ -77,7 +77,7 @@ returns-2 c =
 
 returns-3 : tie.Need-returns-3
 returns-3 c =
-    let rr = c .before .before in
+    let rr = c .before .before .before in
     let wd = rr .before .before .before .before .before in
     let el = wd .before .before in
     let hd = el .before in

@@ -61,7 +61,7 @@ returns-2 c =
     let known = field .judged .known (omega (arith, el .if1 .left)) in
     let copied = field .copied (omega (arith, el .if1 .left)) in (
       production-read _ _ _ _ _ _ _ _ _ _ _ _ _ (field .judged) (st .pre .8) (omega (arith, el .if1 .left)) _ _ refl copied _ (c .read-body .ensures .0) (c .read-body .ensures .1 .0) (c .read-body .ensures .1 .1),
-      (simp length-set (st .pre .11), λ z. rights-read _ _ _ _ _ known _ refl _ _ (st .pre .7) copied _ _ (field .told (omega (arith, el .if1 .left)))),
+      (simp length-set (st .pre .11), λ z. rights-read _ _ _ _ _ known _ refl _ _ (st .pre .7) copied _ _ (field .worded (omega (arith, el .if1 .left)))),
     )
 
 pub read-production-spec : {M : Type 1} → statement M
