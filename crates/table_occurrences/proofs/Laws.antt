@@ -52,18 +52,6 @@ module _ (f : ℕ → ℕ) (none k : ℕ) (words : List ℕ) (w : Filling f none
       here : (j : ℕ) → j ≡ k → getD (set words k x) j 0 ≡ f j
       here j q = ap (λ (i : ℕ). getD (set words k x) i 0) q ∙ getD-set-same words k x 0 (omega (arith, w .kept)) ∙ e ∙ ap f (sym q)
 
-  -- a position that stays as it was
-  pub filling-same : none ≡ f k → Filling f none (k + 1) words
-  filling-same e =
-      record {
-        each = λ j l. ⊎-elim (λ m. w .each j m) (λ m. here j (omega arith)) (lt-or-le j k);
-        beyond = λ j l m. w .beyond j (omega arith) m;
-        kept = w .kept;
-      }
-    where
-      here : (j : ℕ) → j ≡ k → getD words j 0 ≡ f j
-      here j q = ap (λ (i : ℕ). getD words i 0) q ∙ w .beyond k (omega arith) room ∙ e ∙ ap f (sym q)
-
 pub filled : (f : ℕ → ℕ) (none k width : ℕ) (words : List ℕ) → Filling f none k words → k ≡ width + 1 → Filled f width none words
 filled f none k width words w e = record { each = λ j l. w .each j (omega arith); beyond = λ j l m. w .beyond j (omega arith) m; kept = w .kept }
 
