@@ -190,7 +190,7 @@ fn compared(engines: &[Engine], w: &Workload, programs_alike: &mut [bool], calls
     let mut c = Compared { moves: compare::moves(&ours), taken: vec![true], different: 0 };
     *calls += ours.len();
     for (i, e) in engines.iter().enumerate().skip(1) {
-        let known = e.takes_values() || !tables::carries(&w.table);
+        let known = e.takes_values() || !tables::extended(&w.table);
         let mut found = None;
         if known {
             let (difference, alike) = compare::difference(&ours, &compare::calls(e, w));
@@ -272,8 +272,10 @@ mod tests {
     }
 
     #[test]
-    fn tables_with_carriers_are_known() {
-        assert!(tables::carries(&plain::samples::lengths()));
-        assert!(!tables::carries(&plain::samples::words()));
+    fn extended_tables_are_known() {
+        assert!(tables::extended(&plain::samples::lengths()));
+        assert!(tables::extended(&plain::samples::alternatives(true)));
+        assert!(!tables::extended(&plain::samples::alternatives(false)));
+        assert!(!tables::extended(&plain::samples::words()));
     }
 }

@@ -3,6 +3,9 @@ use plain::samples::field;
 
 /// The tag of a field that says that a token carries a value.
 const CARRIER: u8 = 6;
+/// The tag of a condition, and the kind that compares with a constant added.
+const CONDITION: u8 = 5;
+const AT_MOST: u8 = 2;
 
 /// How many nodes a node of each level has below it: 3,456 tokens in all.
 pub const WIDTHS: [u8; 4] = [2, 12, 12, 12];
@@ -213,11 +216,11 @@ pub fn refused_last(mut table: Vec<u8>) -> Vec<u8> {
     table
 }
 
-/// Whether tokens of a table carry values.
-pub fn carries(table: &[u8]) -> bool {
+/// Whether a table has what document 01 alone does not know: tokens that carry values, or conditions that compare with a constant added.
+pub fn extended(table: &[u8]) -> bool {
     let mut at = 0;
-    while at + 2 < table.len() {
-        if table[at] == CARRIER {
+    while at + 3 < table.len() {
+        if table[at] == CARRIER || table[at] == CONDITION && table[at + 3] == AT_MOST {
             return true;
         }
         at += 3 + table[at + 1] as usize * 256 + table[at + 2] as usize;

@@ -116,6 +116,7 @@ fn worst() -> Vec<Workload> {
         judge("worst order, chain declared from its end", tables::worst_order(true)),
         judge("worst order, chain declared from its start", tables::worst_order(false)),
         judge("127 alternatives kept apart by ranges", samples::alternatives(false)),
+        judge("127 alternatives kept apart by comparisons", samples::alternatives(true)),
         judge("104 rules a production, reversed", samples::many_rules(12, true)),
         judge("most rules and conditions, interleaved", tables::heavy()),
         judge("one production of 597 rules and conditions", tables::one_production()),
