@@ -21,8 +21,8 @@ use Rattle.theory_sets.specs.LeastSets.{nullable-least, productive-least, reach
 use Rattle.theory_sets.specs.TokenSets.{single-has, single-only}
 use Rattle.token_set.specs.SetBits.{setOf}
 use Rattle.outline.specs.Images.{ImageOf}
-use Rattle.analysis.specs.Views.{members, Within, fit, symbolBit, ClosedAt, ReachAt}
-use Rattle.analysis.specs.Growth.{Settled, none-in}
+use Rattle.set_words.specs.Views.{members, Within, fit, symbolBit, ClosedAt, ReachAt}
+use Rattle.set_words.specs.Growth.{Settled, none-in}
 
 -- the word marks the nonterminals of a list of truth values
 pub record Marks (w : ℕ) (e : List Bool) : Type 0 where

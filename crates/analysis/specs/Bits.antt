@@ -11,8 +11,8 @@ use lib.Dec.{T, eqb, eqb→eq}
 use borrow.Author.Tests.{eq-eqb}
 use Rattle.theory_base.specs.Members.{true→T, apart, or-cases, or-left, or-right, same-truth}
 use Rattle.token_set.specs.SetBits.{bit, has-bit, bit-lt, bit-suc, bit-first}
-use Rattle.analysis.specs.Views.{members, Inside}
-use Rattle.analysis.specs.Growth.{or-is}
+use Rattle.set_words.specs.Views.{members, Inside}
+use Rattle.set_words.specs.Growth.{or-is}
 
 same-bits : (w a b : ℕ) → a < 2 ^ w → b < 2 ^ w → ((t : ℕ) → t < w → bit a t ≡ bit b t) → a ≡ b
 same-bits zero a b l m h = lt-one l ∙ sym (lt-one m)

@@ -18,8 +18,8 @@ use Rattle.theory_sets.specs.Tests.{all-map}
 use Rattle.theory_sets.specs.TokenSets.{single-has, single-only}
 use Rattle.token_set.specs.SetBits.{setOf, set-end}
 use Rattle.outline.specs.Images.{Image, leftAt, rightAt, byteAt, sizeAt, right-length, right-at, symbol-terminal, symbol-nonterminal}
-use Rattle.analysis.specs.Views.{members, Inside, Within, fit, fit-more, symbolBit, rightBy, ClosedAt}
-use Rattle.analysis.specs.Growth.{Grown, grown-none, grown-or, or-is, none-in}
+use Rattle.set_words.specs.Views.{members, Inside, Within, fit, fit-more, symbolBit, rightBy, ClosedAt}
+use Rattle.set_words.specs.Growth.{Grown, grown-none, grown-or, or-is, none-in}
 use Rattle.analysis.specs.Rounds.{Rising}
 
 -- only the first 48 numbers are in

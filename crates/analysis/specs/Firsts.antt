@@ -17,8 +17,8 @@ use Rattle.theory_base.specs.Members.{both, or-cases}
 use Rattle.theory_sets.specs.TokenSets.{single-has}
 use Rattle.token_set.specs.SetBits.{bit, has-bit, set-end}
 use Rattle.outline.specs.Images.{Image, leftAt, rightAt}
-use Rattle.analysis.specs.Views.{members, symbolBit, rightBy, Below}
-use Rattle.analysis.specs.Growth.{or-left, or-right}
+use Rattle.set_words.specs.Views.{members, symbolBit, rightBy, Below}
+use Rattle.set_words.specs.Growth.{or-left, or-right}
 
 from-true : (f : ℕ → Bool) (n j i : ℕ) → T (all f (countFrom j n)) → j ≤ i → i < j + n → T (f i)
 from-true f zero j i t p q = absurd (omega arith)

@@ -17,8 +17,8 @@ use Rattle.token_set.specs.SetBits.{setOf, set-end}
 use Rattle.theory_base.specs.Members.{both}
 use Rattle.theory_sets.specs.TokenSets.{single-has, single-only}
 use Rattle.outline.specs.Images.{Image, leftAt, sizeAt, byteAt, rightAt, right-back, right-end, symbol-terminal, symbol-nonterminal}
-use Rattle.analysis.specs.Views.{members, sees, Inside, fit, turn, opens, Below}
-use Rattle.analysis.specs.Growth.{or-is, none-in}
+use Rattle.set_words.specs.Views.{members, sees, Inside, fit, turn, opens, Below}
+use Rattle.set_words.specs.Growth.{or-is, none-in}
 use Rattle.analysis.specs.Tables.{Added, Short, zeros-none}
 use Rattle.analysis.specs.Spreading.{Spread}
 

@@ -14,8 +14,8 @@ use Rattle.meaning.specs.Sets.{has, singleton}
 use Rattle.theory_base.specs.Members.{and, both, or-cases, or-left, or-right}
 use Rattle.token_set.specs.SetBits.{setOf}
 use Rattle.outline.specs.Images.{leftAt, rightAt}
-use Rattle.analysis.specs.Views.{members, sees, opens, opens-more, WithinAll, FrontAt, LeadAt, heads, leading, Below}
-use Rattle.analysis.specs.Growth.{or-is, or-assoc, none-in, single-is}
+use Rattle.set_words.specs.Views.{members, sees, opens, opens-more, WithinAll, FrontAt, LeadAt, heads, leading, Below}
+use Rattle.set_words.specs.Growth.{or-is, or-assoc, none-in, single-is}
 use Rattle.analysis.specs.Tables.{Added, Short, SettledTable, zeros-none}
 use Rattle.analysis.specs.Spreading.{Carried, Spread}
 

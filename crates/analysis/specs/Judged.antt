@@ -12,8 +12,8 @@ use Rattle.meaning.specs.Decide.{isLeftRecursive}
 use Rattle.theory_sets.specs.Nullable.{nullable-closed}
 use Rattle.token_set.specs.SetBits.{setOf}
 use Rattle.outline.specs.Images.{ImageOf, leftAt}
-use Rattle.analysis.specs.Views.{members, sees, Within, WithinAll, ClosedAt, ReachAt, FrontAt, LeadAt}
-use Rattle.analysis.specs.Growth.{Settled, SetsTo, none-in}
+use Rattle.set_words.specs.Views.{members, sees, Within, WithinAll, ClosedAt, ReachAt, FrontAt, LeadAt}
+use Rattle.set_words.specs.Growth.{Settled, SetsTo, none-in}
 use Rattle.analysis.specs.Tables.{SettledTable}
 use Rattle.analysis.specs.Follows.{Followed}
 use Rattle.analysis.specs.Numbers.{Found, found-same}

@@ -1,15 +1,9 @@
--- What the analyses say, over the rows of an image
-pub mod Views
--- A word that grows, production by production, until nothing changes
-pub mod Growth
 -- Rounds over the productions, forwards and backwards in turn, until one changes nothing
 pub mod Rounds
 -- Words with the same members are the same number, so that a test of numbers tells whether a set lies in another
 pub mod Bits
 -- The steps of closing: nullable and productive
 pub mod Closing
--- The steps of reaching
-pub mod Reaching
 -- A table of sets, one word for each nonterminal
 pub mod Tables
 -- Sets that spread along edges: where row a of the edges has b, what b has, a has too

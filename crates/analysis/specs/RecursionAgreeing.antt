@@ -20,7 +20,7 @@ use Rattle.theory_sets.specs.SpreadByRounds.{spread-grows, spread-closed}
 use Rattle.theory_sets.specs.LeftRecursion.{recursive→LeftRecursive}
 use Rattle.theory_sets.specs.LeastSets.{led-least}
 use Rattle.outline.specs.Images.{ImageOf, leftAt}
-use Rattle.analysis.specs.Views.{members, sees, WithinAll, opens, LeadAt}
+use Rattle.set_words.specs.Views.{members, sees, WithinAll, opens, LeadAt}
 use Rattle.analysis.specs.Tables.{SettledTable, zeros-none}
 use Rattle.analysis.specs.Agreeing.{Marks, listed, counted}
 

@@ -3,8 +3,8 @@ use Prim.Native.Nat.{ℕ, _+_, _-_, _^_, _≤_, _<_}
 use native.Mathlib.Omega.{arith}
 use mathlib.Core.Path.{_≡_}
 use mathlib.Core.Bool.{Bool}
-use Rattle.analysis.specs.Views.{members, Inside, Within, within-none, within-after, within-before}
-use Rattle.analysis.specs.Growth.{Grown, Settled, grown-none, grown-then}
+use Rattle.set_words.specs.Views.{members, Inside, Within, within-none, within-after, within-before}
+use Rattle.set_words.specs.Growth.{Grown, Settled, grown-none, grown-then}
 
 -- ---- one round, a production a turn
 

@@ -11,8 +11,8 @@ use lib.Bits.{bitOr}
 use lib.Dec.{T}
 use lib.ListN.{length, getD, set, length-set}
 use lib.Seq.{getD-set-same, getD-set-other}
-use Rattle.analysis.specs.Views.{members, sees, Inside}
-use Rattle.analysis.specs.Growth.{or-left, or-right, or-members}
+use Rattle.set_words.specs.Views.{members, sees, Inside}
+use Rattle.set_words.specs.Growth.{or-left, or-right, or-members}
 use Rattle.analysis.specs.Tables.{Short}
 
 -- the view has what the sets have, along the edges

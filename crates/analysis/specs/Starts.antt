@@ -3,7 +3,7 @@ use Prim.Native.Nat.{ℕ}
 use mathlib.Core.Bool.{Bool, true}
 use mathlib.Core.List.{List}
 use Rattle.outline.specs.Images.{leftAt, rightAt}
-use Rattle.analysis.specs.Views.{sees, opens}
+use Rattle.set_words.specs.Views.{sees, opens}
 
 -- that of production p, by tables of FIRST and FOLLOW
 abbrev pub startsBy : (ℕ → Bool) → List ℕ → List ℕ → List ℕ → ℕ → ℕ → Bool

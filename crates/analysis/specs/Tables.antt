@@ -11,8 +11,8 @@ use lib.Dec.{T}
 use lib.ListN.{length, getD, set, replicate, length-set}
 use lib.Seq.{getD-set-same, getD-set-other}
 use Rattle.meaning.specs.Grammar.{Symbol, terminal, nonterminal}
-use Rattle.analysis.specs.Views.{members, sees, Inside}
-use Rattle.analysis.specs.Growth.{or-left, or-right, or-members, none-in}
+use Rattle.set_words.specs.Views.{members, sees, Inside}
+use Rattle.set_words.specs.Growth.{or-left, or-right, or-members, none-in}
 
 -- r is t with `add` added to the set of a symbol's nonterminal
 pub record Added (t : List ℕ) (x : Symbol) (add : ℕ) (r : List ℕ) : Type 0 where

@@ -21,7 +21,7 @@ use Rattle.theory_sets.specs.TokenSets.{has-union, has-empty}
 use Rattle.theory_sets.specs.Widths.{same-set, starts-wide}
 use Rattle.token_set.specs.SetBits.{setOf, set-empty, setOf-wide}
 use Rattle.outline.specs.Images.{ImageOf, rightAt}
-use Rattle.analysis.specs.Views.{members, sees, WithinAll, fit, opens, FrontAt, Below}
+use Rattle.set_words.specs.Views.{members, sees, WithinAll, fit, opens, FrontAt, Below}
 use Rattle.analysis.specs.Tables.{SettledTable, zeros-none}
 use Rattle.analysis.specs.Follows.{FollowClosed, Followed}
 use Rattle.analysis.specs.Agreeing.{Marks, fits-empty, all-same, listed, counted}

@@ -2,7 +2,7 @@
 use nonterminal_set::NonterminalSet;
 ghost use mathlib.Core.Bool.{not, _&&_};
 ghost use Prim.Native.Nat.{_<_, _≤_};
-ghost use Rattle.analysis.specs.Views.{members};
+ghost use Rattle.set_words.specs.Views.{members};
 ghost use Rattle.analysis.specs.Numbers.{Found};
 
 // The lowest of the first n numbers that is not in both sets; n where there is none.

@@ -13,7 +13,7 @@ ghost use mathlib.Core.Bool.{true};
 ghost use Prim.Native.Nat.{ℕ, _≤_};
 ghost use lib.ListN.{replicate};
 ghost use Rattle.outline.specs.Images.{Image, rightAt};
-ghost use Rattle.analysis.specs.Views.{members, sees, WithinAll, opens, FrontAt, LeadAt, Below, Imaged};
+ghost use Rattle.set_words.specs.Views.{members, sees, WithinAll, opens, FrontAt, LeadAt, Below, Imaged};
 ghost use Rattle.analysis.specs.Tables.{SettledTable};
 ghost use Rattle.analysis.specs.Fronts.{FrontOf, Gathers, headsBy, leadingBy};
 

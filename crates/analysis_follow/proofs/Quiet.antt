@@ -7,7 +7,7 @@ use mathlib.Core.Bool.{Bool, true, false, cond}
 use mathlib.Core.List.{List}
 use Rattle.meaning.specs.Grammar.{Symbol}
 use Rattle.meaning.specs.Table.{symbolOf}
-use Rattle.analysis.specs.Views.{members, sees, turn, fit}
+use Rattle.set_words.specs.Views.{members, sees, turn, fit}
 use Rattle.analysis.specs.Tables.{Added}
 
 -- what is added once is there

@@ -14,7 +14,7 @@ ghost use Prim.Native.Nat.{ℕ, _<_, _≤_};
 ghost use lib.ListN.{length, replicate};
 ghost use Rattle.meaning.specs.Table.{symbolOf};
 ghost use Rattle.outline.specs.Images.{Image};
-ghost use Rattle.analysis.specs.Views.{members, sees, turn, fit, Below, Imaged};
+ghost use Rattle.set_words.specs.Views.{members, sees, turn, fit, Below, Imaged};
 ghost use Rattle.analysis.specs.Tables.{Added};
 ghost use Rattle.analysis.specs.Follows.{BaseFrom, BasesTo, EdgeFrom, EdgesTo, Behind, Followed};
 

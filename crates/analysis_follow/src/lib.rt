@@ -16,7 +16,7 @@ ghost use Rattle.meaning.specs.Derivation.{Listed};
 ghost use Rattle.meaning.specs.Sets.{nullable, starts};
 ghost use Rattle.token_set.specs.SetBits.{setOf};
 ghost use Rattle.outline.specs.Images.{Image, ImageOf};
-ghost use Rattle.analysis.specs.Views.{members, WithinAll, FrontAt, Below};
+ghost use Rattle.set_words.specs.Views.{members, WithinAll, FrontAt, Below};
 ghost use Rattle.analysis.specs.Tables.{SettledTable};
 ghost use Rattle.analysis.specs.Follows.{Followed};
 ghost use Rattle.analysis.specs.Agreeing.{Marks};

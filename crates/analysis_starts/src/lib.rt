@@ -9,8 +9,8 @@ use token_set::TokenSet;
 ghost use mathlib.Core.Path.{_≡_};
 ghost use lib.ListN.{length};
 ghost use Rattle.outline.specs.Images.{Image};
-ghost use Rattle.analysis.specs.Views.{members};
-ghost use Rattle.analysis.specs.Growth.{SetsTo};
+ghost use Rattle.set_words.specs.Views.{members};
+ghost use Rattle.set_words.specs.Growth.{SetsTo};
 ghost use Rattle.analysis.specs.Starts.{startsBy};
 
 pub fn all_starts(

@@ -11,8 +11,8 @@ ghost use mathlib.Core.Path.{_≡_};
 ghost use Prim.Native.Nat.{_<_, _≤_};
 ghost use Rattle.meaning.specs.Grammar.{Grammar, nonterminalCount};
 ghost use Rattle.outline.specs.Images.{Image, ImageOf};
-ghost use Rattle.analysis.specs.Views.{rightBy};
-ghost use Rattle.analysis.specs.Growth.{SetsTo};
+ghost use Rattle.set_words.specs.Views.{rightBy};
+ghost use Rattle.set_words.specs.Growth.{SetsTo};
 ghost use Rattle.analysis.specs.Finding.{Analysed};
 
 // The number of the refusal, or 0; its nonterminal.

@@ -12,8 +12,8 @@ use Rattle.table.specs.declared.Reading.{Reading}
 use Rattle.table.specs.declared.Reading.the-variants.{WellFormed, Malformed}
 use Rattle.outline.specs.Outline.{stateIn, Outline}
 use Rattle.table.specs.Answer.{Answers, Worded}
-use Rattle.analysis.specs.Views.{rightBy}
-use Rattle.analysis.specs.Growth.{SetsTo}
+use Rattle.set_words.specs.Views.{rightBy}
+use Rattle.set_words.specs.Growth.{SetsTo}
 use Rattle.checker_grammar.specs.Concludes.{Concludes}
 use Rattle.checker.specs.Judging.{Judges}
 use Rattle.checker_grammar.specs.declared.Judged.{Judged}

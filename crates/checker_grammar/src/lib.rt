@@ -1,8 +1,8 @@
 // Refusals 11 to 13: the analysis of the grammar, then the clash test.
 ghost use Rattle.meaning.specs.Decide.{judge};
 ghost use Rattle.outline.specs.Outline.{stateIn, grammarIn, NumbersOf, Productions};
-ghost use Rattle.analysis.specs.Views.{rightBy};
-ghost use Rattle.analysis.specs.Growth.{SetsTo};
+ghost use Rattle.set_words.specs.Views.{rightBy};
+ghost use Rattle.set_words.specs.Growth.{SetsTo};
 ghost use Rattle.checker_grammar.specs.Concludes.{Concludes};
 use limits::PRODUCTIONS;
 use limits::ROWS;

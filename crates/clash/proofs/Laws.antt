@@ -17,8 +17,8 @@ use Rattle.meaning.specs.Differences.{constrained, matrixOf, closed, noneNegati
 use Rattle.theory_sets.specs.Intervals.{entry}
 use Rattle.token_set.specs.SetBits.{setOf}
 use Rattle.outline.specs.Images.{leftAt}
-use Rattle.analysis.specs.Views.{members}
-use Rattle.analysis.specs.Growth.{none-in, single-is}
+use Rattle.set_words.specs.Views.{members}
+use Rattle.set_words.specs.Growth.{none-in, single-is}
 use Rattle.analysis.specs.Numbers.{Clear, clear-none}
 use Rattle.clash_conditions.specs.EntryConditions.{atEntry, rankBy, raised, lowered, Stretch}
 use Rattle.clash_intervals.specs.Intervals.{leaveValues}

@@ -22,8 +22,8 @@ use Rattle.theory_sets.specs.Clashes.{meet-cases, meet-at}
 use Rattle.token_set.specs.SetBits.{setOf}
 use Rattle.outline.specs.Images.{leftAt}
 use Rattle.outline.specs.Outline.{grammarIn, Starting, Productions}
-use Rattle.analysis.specs.Views.{members, sees}
-use Rattle.analysis.specs.Growth.{or-left, or-right, or-members}
+use Rattle.set_words.specs.Views.{members, sees}
+use Rattle.set_words.specs.Growth.{or-left, or-right, or-members}
 use Rattle.analysis.specs.Tables.{zeros-none}
 use Rattle.analysis.specs.Numbers.{Clear, clear-any, any-count, count-any}
 use Rattle.clash_conditions.specs.EntryConditions.{rankBy, raiseBy, lowerBy, lowest, highest}

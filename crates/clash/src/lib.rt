@@ -22,7 +22,7 @@ ghost use Rattle.meaning.specs.Decide as Decide;
 ghost use Rattle.meaning.specs.Decide.{meet};
 ghost use Rattle.token_set.specs.SetBits.{setOf};
 ghost use Rattle.outline.specs.Images.{Image};
-ghost use Rattle.analysis.specs.Views.{members};
+ghost use Rattle.set_words.specs.Views.{members};
 ghost use Rattle.analysis.specs.Numbers.{Found};
 ghost use Rattle.clash_rivals.specs.Rivals.{rival};
 ghost use Rattle.outline.specs.Outline.{grammarIn};

@@ -5,8 +5,8 @@ use mathlib.Core.List.{List, reverse}
 use Rattle.meaning.specs.Table.{Read, malformed, readTable}
 use Rattle.outline.specs.declared.Sizes.{Sizes}
 use Rattle.outline.specs.Outline.{Carries, Outline}
-use Rattle.analysis.specs.Views.{rightBy}
-use Rattle.analysis.specs.Growth.{SetsTo}
+use Rattle.set_words.specs.Views.{rightBy}
+use Rattle.set_words.specs.Growth.{SetsTo}
 use Rattle.table_fields.specs.Field.{rest}
 use Rattle.table.specs.declared.Reading.{Reading}
 use Rattle.table.specs.declared.Reading.the-variants.{WellFormed, Malformed}

@@ -12,9 +12,9 @@ use Rattle.table_fields.specs.Judge.{symbolKnown, symbolsKnown}
 use Rattle.table_fields.proofs.Walks.{all-pass, all-fail, all-none}
 use Rattle.outline.specs.Images.{rowStart}
 use Rattle.outline.specs.Counts.{countAt, synthesizedAt}
-use Rattle.analysis.specs.Views.{members, symbolBit}
-use Rattle.analysis.specs.Growth.{or-right}
-use Rattle.analysis.specs.Reaching.{Gathered, gathered-start, gathered-next, gathered-end}
+use Rattle.set_words.specs.Views.{members, symbolBit}
+use Rattle.set_words.specs.Growth.{or-right}
+use Rattle.set_words.specs.Reaching.{Gathered, gathered-start, gathered-next, gathered-end}
 use Rattle.table_rows.specs.RowWritten.{symbolByte, Copied}
 use Rattle.table_rows.proofs.Placing.{copying-at, symbols-from, symbols-none, gathered-again}
 use Rattle.table_occurrences.specs.OccurrenceBits.{inputWord, otherWord, Filled}

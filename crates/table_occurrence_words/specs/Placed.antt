@@ -7,7 +7,7 @@ use lib.ListN.{length}
 use Rattle.meaning.specs.Table.{symbolOf}
 use Rattle.table_fields.specs.Judge.{symbolKnown, symbolsKnown}
 use Rattle.outline.specs.Counts.{countAt, synthesizedAt}
-use Rattle.analysis.specs.Views.{members, symbolBit}
+use Rattle.set_words.specs.Views.{members, symbolBit}
 use Rattle.table_rows.specs.RowWritten.{symbolByte, Copied, RightWord}
 use Rattle.table_occurrences.specs.OccurrenceBits.{inputWord, otherWord, Filled}
 

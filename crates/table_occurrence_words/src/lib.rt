@@ -10,12 +10,12 @@ ghost use Rattle.table_fields.specs.Judge.{symbolKnown};
 ghost use Rattle.outline.specs.Counts.{countAt, synthesizedAt};
 ghost use Rattle.table_occurrences.specs.OccurrenceBits.{inputWord, Filled};
 ghost use Rattle.table_occurrence_words.specs.Placed.{inputAt, otherAt, KnownSmall, FoundAs, RightPlaced};
-use analysis_rights::symbol_bit;
 use limits::NONTERMINALS;
 use limits::POSITIONS;
 use limits::ROWS;
 use nonterminal_set::NonterminalSet;
 use outline::Sizes;
+use set_words::symbol_bit;
 use token_set::TokenSet;
 
 // A symbol on the right, whether it is known, its bit, and the words at its position: the inputs, and all but the outputs.

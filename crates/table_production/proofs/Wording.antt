@@ -9,8 +9,8 @@ use lib.Seq.{getD-drop}
 use Rattle.meaning.specs.Base.{any}
 use Rattle.meaning.specs.Table.{byte, symbolOf}
 use Rattle.outline.specs.Images.{rowStart, sizeAt, rightAt, right-length, right-at, right-is}
-use Rattle.analysis.specs.Views.{symbolBit, rightBy}
-use Rattle.analysis.specs.Growth.{SetsTo, sets-none, sets-next}
+use Rattle.set_words.specs.Views.{symbolBit, rightBy}
+use Rattle.set_words.specs.Growth.{SetsTo, sets-none, sets-next}
 use Rattle.table_fields.proofs.Rest.{body-length, body-byte}
 use Rattle.table_rows.specs.RowWritten.{Copied, RightWord}
 use Rattle.table_production.specs.Productions.{widthIn, bodyIn, ProductionKnown}

@@ -2,8 +2,8 @@
 use Prim.Native.Nat.{ℕ, _≤_, _<_}
 use mathlib.Core.List.{List}
 use Rattle.outline.specs.Images.{sizeAt}
-use Rattle.analysis.specs.Views.{rightBy}
-use Rattle.analysis.specs.Growth.{SetsTo}
+use Rattle.set_words.specs.Views.{rightBy}
+use Rattle.set_words.specs.Growth.{SetsTo}
 
 pub record RightsTo (rows : List ℕ) (k : ℕ) (words : List ℕ) : Type 0 where
   pub short : (p : ℕ) → p < k → sizeAt rows p ≤ 12

@@ -14,8 +14,8 @@ use Rattle.meaning.specs.Base.{any}
 use Rattle.meaning.specs.Grammar.{Symbol}
 use Rattle.meaning.specs.Table.{byte, symbolOf}
 use Rattle.outline.specs.Images.{rowStart}
-use Rattle.analysis.specs.Views.{members, symbolBit}
-use Rattle.analysis.specs.Reaching.{Gathered}
+use Rattle.set_words.specs.Views.{members, symbolBit}
+use Rattle.set_words.specs.Reaching.{Gathered}
 use Rattle.table_rows.specs.RowWritten.{symbolByte, Copied}
 use Rattle.table_fields.proofs.Cases.{lt-or-le}
 

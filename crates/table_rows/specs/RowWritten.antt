@@ -6,7 +6,7 @@ use lib.ListN.{getD, length, drop}
 use Rattle.meaning.specs.Base.{any}
 use Rattle.meaning.specs.Table.{byte, symbolOf}
 use Rattle.outline.specs.Images.{rowStart}
-use Rattle.analysis.specs.Views.{members, symbolBit}
+use Rattle.set_words.specs.Views.{members, symbolBit}
 
 -- the byte of the symbol at a position of a production, by its body
 abbrev pub symbolByte : List ℕ → ℕ → ℕ

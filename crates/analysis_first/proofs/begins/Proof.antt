@@ -5,7 +5,7 @@ use borrow.Author.Tests.{not-true, not-false}
 use lib.ListN.{drop}
 use mathlib.Core.Path.{sym, ap, _∙_}
 use Rattle.outline.specs.Images.{rightAt, sizeAt, row-inside, symbol-inside, right-end}
-use Rattle.analysis.specs.Views.{members, next-small, next-token, next-nonterminal}
+use Rattle.set_words.specs.Views.{members, next-small, next-token, next-nonterminal}
 use Rattle.analysis.specs.Fronts.{Scanned, scan-start, scan-token, scan-next, scan-stop, scan-end}
 use Rattle.analysis_first.proofs.begins.Statement.{statement}
 use Rattle.analysis_first.proofs.begins.Tie as tie

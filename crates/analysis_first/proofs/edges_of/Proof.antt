@@ -3,7 +3,7 @@ use native.Mathlib.Omega.{arith}
 use borrow.Author.Needs.{needs}
 use mathlib.Core.Path.{_≡_}
 use Rattle.outline.specs.Images.{row-inside}
-use Rattle.analysis.specs.Views.{members}
+use Rattle.set_words.specs.Views.{members}
 use Rattle.analysis.specs.Fronts.{Gathers, headsBy, leadingBy, gathers-start, gathers-next}
 use Rattle.analysis_first.proofs.edges_of.Statement.{statement}
 use Rattle.analysis_first.proofs.edges_of.Tie as tie

@@ -5,7 +5,7 @@ use borrow.Author.Tests.{not-true, not-false}
 use lib.ListN.{drop}
 use mathlib.Core.Path.{sym, _∙_}
 use Rattle.outline.specs.Images.{rightAt, sizeAt, row-inside, symbol-inside, right-end}
-use Rattle.analysis.specs.Views.{members, next-small, next-token, next-nonterminal}
+use Rattle.set_words.specs.Views.{members, next-small, next-token, next-nonterminal}
 use Rattle.analysis.specs.Fronts.{Heading, heading-start, heading-token, heading-next, heading-stop, heading-end}
 use Rattle.analysis_first.proofs.front_of.Statement.{statement}
 use Rattle.analysis_first.proofs.front_of.Tie as tie

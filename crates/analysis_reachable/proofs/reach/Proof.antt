@@ -2,7 +2,7 @@ use Prim.Native.Nat.{_-_, _^_}
 use borrow.Author.Needs.{needs}
 use denote.Ref.{now}
 use Rattle.nonterminal_set.specs.Same.{same-words, other-words}
-use Rattle.analysis.specs.Views.{Within, ReachAt}
+use Rattle.set_words.specs.Views.{Within, ReachAt}
 use Rattle.analysis.specs.Rounds.{Rising, rising-start, rising-on, settled, settled-soon, rounds-less}
 use Rattle.analysis_reachable.proofs.reach.Statement.{statement}
 use Rattle.analysis_reachable.proofs.reach.Tie as tie

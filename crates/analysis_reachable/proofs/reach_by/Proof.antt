@@ -3,7 +3,7 @@ use borrow.Author.Needs.{needs}
 use borrow.Author.Tests.{not-true, not-false}
 use mathlib.Core.Path.{sym, _∙_}
 use Rattle.outline.specs.Images.{row-inside}
-use Rattle.analysis.specs.Reaching.{reaches-not, reaches-new}
+use Rattle.set_words.specs.Reaching.{reaches-not, reaches-new}
 use Rattle.analysis_reachable.proofs.reach_by.Statement.{statement}
 use Rattle.analysis_reachable.proofs.reach_by.Tie as tie
 

@@ -1,6 +1,6 @@
 use Prim.Native.Nat.{_<_, _-_}
 use native.Mathlib.Omega.{arith}
-use Rattle.analysis.specs.Views.{ReachAt}
+use Rattle.set_words.specs.Views.{ReachAt}
 use Rattle.analysis.specs.Rounds.{Forward, forward-start, forward-turn, forward-end}
 use Rattle.analysis_reachable.proofs.reach_round.Statement.{statement}
 use Rattle.analysis_reachable.proofs.reach_round.Tie as tie

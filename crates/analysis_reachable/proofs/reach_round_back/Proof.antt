@@ -1,6 +1,6 @@
 use Prim.Native.Nat.{_<_, _-_}
 use native.Mathlib.Omega.{arith}
-use Rattle.analysis.specs.Views.{ReachAt}
+use Rattle.set_words.specs.Views.{ReachAt}
 use Rattle.analysis.specs.Rounds.{Backward, backward-start, backward-turn, backward-end}
 use Rattle.analysis_reachable.proofs.reach_round_back.Statement.{statement}
 use Rattle.analysis_reachable.proofs.reach_round_back.Tie as tie

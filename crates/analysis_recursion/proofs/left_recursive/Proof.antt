@@ -2,7 +2,7 @@ use Prim.Native.Nat.{_≤_, _-_}
 use native.Mathlib.Omega.{arith}
 use borrow.Author.Needs.{needs}
 use mathlib.Core.Path.{sym, _∙_}
-use Rattle.analysis.specs.Views.{sees}
+use Rattle.set_words.specs.Views.{sees}
 use Rattle.analysis.specs.Numbers.{Clear, clear-none, clear-more, found-here, found-none}
 use Rattle.analysis_recursion.proofs.left_recursive.Statement.{statement}
 use Rattle.analysis_recursion.proofs.left_recursive.Tie as tie

@@ -3,7 +3,7 @@ use native.Mathlib.Nat.{le-refl}
 use native.Mathlib.Omega.{arith}
 use borrow.Author.Tests.{not-true, not-false}
 use mathlib.Core.Path.{sym, ap, _∙_}
-use Rattle.analysis.specs.Views.{members}
+use Rattle.set_words.specs.Views.{members}
 use Rattle.analysis.specs.Spreading.{turned-skip, turned-next}
 use borrow.Author.Needs.{needs}
 use Rattle.analysis_spreading.proofs.give.Statement.{statement}

@@ -3,8 +3,8 @@ use native.Mathlib.Omega.{arith}
 use borrow.Author.Needs.{needs}
 use mathlib.Core.Path.{_≡_}
 use Rattle.outline.specs.Images.{row-inside}
-use Rattle.analysis.specs.Views.{members}
-use Rattle.analysis.specs.Growth.{SetsTo, sets-none, sets-next}
+use Rattle.set_words.specs.Views.{members}
+use Rattle.set_words.specs.Growth.{SetsTo, sets-none, sets-next}
 use Rattle.analysis.specs.Starts.{startsBy}
 use Rattle.analysis_starts.proofs.all_starts.Statement.{statement}
 use Rattle.analysis_starts.proofs.all_starts.Tie as tie

@@ -1,6 +1,6 @@
 use Prim.Native.Nat.{_<_, _-_}
 use native.Mathlib.Omega.{arith}
-use Rattle.analysis.specs.Views.{ClosedAt}
+use Rattle.set_words.specs.Views.{ClosedAt}
 use Rattle.analysis.specs.Rounds.{Backward, backward-start, backward-turn, backward-end}
 use Rattle.analysis.specs.Closing.{tokensIn, narrow-grown}
 use Rattle.analysis.proofs.closing.close_round.Statement.{statement}

@@ -2,7 +2,7 @@ use Prim.Native.Nat.{_-_, _^_}
 use native.Mathlib.Omega.{arith}
 use borrow.Author.Needs.{needs}
 use denote.Ref.{now}
-use Rattle.analysis.specs.Views.{Within, ClosedAt}
+use Rattle.set_words.specs.Views.{Within, ClosedAt}
 use Rattle.analysis.specs.Rounds.{Rising, rising-start, rising-on, settled, settled-soon, rounds-less}
 use Rattle.nonterminal_set.specs.Same.{same-words, other-words}
 use Rattle.analysis.specs.Closing.{tokensIn, narrow-grown, narrow-rising}

@@ -4,7 +4,7 @@ use borrow.Author.Needs.{needs}
 use borrow.Author.Tests.{not-true, not-false}
 use mathlib.Core.Path.{sym, _∙_}
 use mathlib.Core.Bool.{not, _&&_}
-use Rattle.analysis.specs.Views.{members}
+use Rattle.set_words.specs.Views.{members}
 use Rattle.analysis.specs.Numbers.{Clear, clear-none, clear-more, found-here, found-none, without-first, without-second, with-both}
 use Rattle.analysis.proofs.judging.lowest_useless.Statement.{statement}
 use Rattle.analysis.proofs.judging.lowest_useless.Tie as tie

@@ -1,7 +1,7 @@
 use borrow.Author.Needs.{needs}
 use Prim.Native.Nat.{ℕ}
 use mathlib.Core.Path.{sym, ap, _∙_}
-use Rattle.analysis.specs.Views.{members}
+use Rattle.set_words.specs.Views.{members}
 use Rattle.analysis.specs.Follows.{turn-token, turn-on, turn-stop}
 use Rattle.analysis_follow.proofs.follow.begin_with.Statement.{statement}
 use Rattle.analysis_follow.proofs.follow.begin_with.Tie as tie

@@ -4,7 +4,7 @@ use mathlib.Core.Path.{_≡_, refl, sym, ap, _∙_}
 use lib.ListN.{length}
 use Rattle.meaning.specs.Sets.{singleton}
 use Rattle.outline.specs.Images.{Image, sizeAt, row-inside, symbol-inside}
-use Rattle.analysis.specs.Views.{members, next-small}
+use Rattle.set_words.specs.Views.{members, next-small}
 use Rattle.analysis.specs.Follows.{BaseFrom, EdgeFrom, Behind, filled-none, filled-then, filled-join, Rest, rest-start, rest-step, base-fine, base-more, base-end, Upward, up-start, up-step, edge-fine, edge-more, edge-end}
 use Rattle.analysis_follow.proofs.Quiet.{Quiet, quiet-none, quiet-next}
 use Rattle.analysis_follow.proofs.follow.behind_by.Statement.{statement}

@@ -2,7 +2,7 @@ use Prim.Native.Nat.{_≤_, _-_}
 use native.Mathlib.Nat.{not-suc-le-zero}
 use native.Mathlib.Omega.{arith}
 use mathlib.Core.Path.{_≡_, _∙_}
-use Rattle.analysis.specs.Views.{members}
+use Rattle.set_words.specs.Views.{members}
 use Rattle.analysis.specs.Follows.{BasesTo, EdgesTo, Behind, filled-none, filled-then, bases-more, edges-more}
 use Rattle.analysis_follow.proofs.follow.behinds.Statement.{statement}
 use Rattle.analysis_follow.proofs.follow.behinds.Tie as tie

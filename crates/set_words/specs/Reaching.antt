@@ -13,8 +13,8 @@ use Rattle.meaning.specs.Table.{symbolOf}
 use Rattle.theory_base.specs.Members.{true→T}
 use Rattle.token_set.specs.SetBits.{setOf, set-end}
 use Rattle.outline.specs.Images.{leftAt, symbol-terminal, symbol-nonterminal}
-use Rattle.analysis.specs.Views.{members, Within, symbolBit, rightBy, ReachAt}
-use Rattle.analysis.specs.Growth.{Grown, grown-none, grown-or, or-is, or-assoc, none-in, single-is}
+use Rattle.set_words.specs.Views.{members, Within, symbolBit, rightBy, ReachAt}
+use Rattle.set_words.specs.Growth.{Grown, grown-none, grown-or, or-is, or-assoc, none-in, single-is}
 
 -- the word of one symbol
 pub token-bit : (s n : ℕ) → s < 128 → members (2 ^ 63) n ≡ symbolBit n (symbolOf s)

@@ -1,9 +1,9 @@
-// The symbols on the right of a production as one word: its nonterminals, and the bit of the tokens where it has one. Here: the word of one symbol.
+// Sets of nonterminals as words. The symbols on the right of a production are one word: its nonterminals, and the bit of the tokens where it has one. Here: the word of one symbol.
 use nonterminal_set::NonterminalSet;
 ghost use mathlib.Core.Path.{_≡_};
 ghost use Prim.Native.Nat.{ℕ, _<_};
 ghost use Rattle.meaning.specs.Table.{symbolOf};
-ghost use Rattle.analysis.specs.Views.{members, symbolBit};
+ghost use Rattle.set_words.specs.Views.{members, symbolBit};
 
 // The word of one symbol.
 pub fn symbol_bit(s: u8) -> NonterminalSet

@@ -15,7 +15,7 @@ use Rattle.meaning.specs.Sets.{has, singleton}
 use Rattle.theory_sets.specs.TokenSets.{has-union, has-empty, union-left, union-right, union-cases, single-has, single-only}
 use Rattle.token_set.specs.SetBits.{setOf, set-empty, set-or, or-grows}
 use Rattle.theory_base.specs.Members.{same-truth}
-use Rattle.analysis.specs.Views.{members, Inside}
+use Rattle.set_words.specs.Views.{members, Inside}
 
 pub or-left : (a b n : ℕ) → T (members a n) → T (members (bitOr a b) n)
 or-left a b n t = rw (set-or a b) (union-left (setOf a) (setOf b) n t)

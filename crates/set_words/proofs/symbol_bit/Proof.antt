@@ -1,7 +1,7 @@
 use native.Mathlib.Omega.{arith}
-use Rattle.analysis.specs.Reaching.{token-bit, nonterminal-bit}
-use Rattle.analysis_rights.proofs.symbol_bit.Statement.{statement}
-use Rattle.analysis_rights.proofs.symbol_bit.Tie as tie
+use Rattle.set_words.specs.Reaching.{token-bit, nonterminal-bit}
+use Rattle.set_words.proofs.symbol_bit.Statement.{statement}
+use Rattle.set_words.proofs.symbol_bit.Tie as tie
 
 returns : tie.Need-returns
 returns c = λ n. token-bit (c .before .args .s) n (c .if1 .taken)
